@@ -1,0 +1,17 @@
+pub mod Tokens
+pub mod Spelling
+pub mod Names
+pub mod Values
+pub mod Language
+pub mod System
+pub mod Services
+pub mod Wires
+pub mod Store
+pub mod Charts
+pub mod Wire
+pub mod Serving
+pub mod Ranges
+pub mod Certificates
+pub mod Devices
+pub mod Headline
+pub mod World
