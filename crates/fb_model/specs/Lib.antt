@@ -1,5 +1,8 @@
 pub mod Tokens
 pub mod Spelling
+pub mod Productions
+pub mod Trees
+pub mod Grammar
 pub mod Names
 pub mod Values
 pub mod Language

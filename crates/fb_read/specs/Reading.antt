@@ -1,0 +1,91 @@
+-- Reading tokens from left to right: what stands in front, and what is left.
+use Rattle.std.specs.Prelude.{◌≡◌, ℕ, zero, suc, List, [], ◌∷◌, length, Bool, true, false, Result, Ok, Err, if◌then◌else◌}
+use denote.Enum.Bare.{sameb}
+use Rattle.fb_words.specs.contracts.mark.Mark.{the_type}
+use Rattle.fb_words.specs.declared.mark.Mark.{Mark}
+use Rattle.fb_model.specs.Tokens.{Token, token, name, mark}
+use Rattle.fb_model.specs.Productions.{Word}
+
+pub data Wrong : Type 0 where
+  syntax : Wrong
+  too_deep : Wrong
+
+abbrev pub Answer : Type 0 → Type 0
+Answer A = Result (A × List Token) Wrong
+
+abbrev pub Read : Type 0 → Type 0
+Read A = List Token → Answer A
+
+infixl 10 ◌>>=◌
+abbrev pub ◌>>=◌ : {A B : Type 0} → Result A Wrong → (A → Result B Wrong) → Result B Wrong
+(Ok x) >>= f = f x
+(Err e) >>= f = Err e
+
+-- ---- one token
+
+abbrev pub is : Mark → Mark → Bool
+is a b = sameb the_type a b
+
+-- whether the next token is this mark
+abbrev pub next_is : Mark → List Token → Bool
+next_is k [] = false
+next_is k (token (mark l) s e ∷ ts) = is l k
+next_is k (token other s e ∷ ts) = false
+
+abbrev pub after : List Token → List Token
+after [] = []
+after (t ∷ ts) = ts
+
+abbrev pub expect : Mark → List Token → Result (List Token) Wrong
+expect k ts = if next_is k ts then Ok (after ts) else Err syntax
+
+-- the place of the next token
+abbrev pub place_at : List Token → ℕ
+place_at [] = 0
+place_at (token k s e ∷ ts) = s
+
+abbrev pub name_at : Read Word
+name_at [] = Err syntax
+name_at (token (name text) s e ∷ ts) = Ok (record { text = text; at = s }, ts)
+name_at (token other s e ∷ ts) = Err syntax
+
+-- ---- lists
+
+abbrev pub many_step : {A : Type 0} → Read A → Read (List A) → Bool → Read (List A)
+many_step item others true ts = Ok ([], ts)
+many_step item others false ts = do
+  x ← item ts
+  xs ← others x.1
+  Ok (x.0 ∷ xs.0, xs.1)
+
+-- items up to a mark, which is left; the number bounds the turns
+unfoldable pub many_at : {A : Type 0} → Mark → Read A → ℕ → Read (List A)
+many_at close item zero ts = Err syntax
+many_at close item (suc n) ts = many_step item (many_at close item n) (next_is close ts) ts
+
+abbrev pub separated_step : {A : Type 0} → Read (List A) → A → Bool → Read (List A)
+separated_step others x true ts = others (after ts) >>= λ xs. Ok (x ∷ xs.0, xs.1)
+separated_step others x false ts = Ok (x ∷ [], ts)
+
+-- an item, and another behind each separator; the number bounds the turns
+unfoldable pub separated_at : {A : Type 0} → Mark → Read A → ℕ → Read (List A)
+separated_at separator item zero ts = Err syntax
+separated_at separator item (suc n) ts = item ts >>= λ x. separated_step (separated_at separator item n) x.0 (next_is separator x.1) x.1
+
+-- as many items as there are tokens at the most
+abbrev pub items_at : {A : Type 0} → Mark → Read A → Read (List A)
+items_at close item ts = many_at close item (length ts) ts
+
+abbrev pub list_at : {A : Type 0} → Mark → Read A → Read (List A)
+list_at separator item ts = separated_at separator item (length ts) ts
+
+-- items and the mark behind them
+unfoldable pub closed_at : {A : Type 0} → Mark → Read A → Read (List A)
+closed_at close item ts = do
+  xs ← items_at close item ts
+  rest ← expect close xs.1
+  Ok (xs.0, rest)
+
+-- [opening {item} closing]
+unfoldable pub section_at : {A : Type 0} → Mark → Mark → Read A → Read (List A)
+section_at opening closing item ts = if next_is opening ts then closed_at closing item (after ts) else Ok ([], ts)

@@ -1,0 +1,10 @@
+//! Readers over tokens that all grammars share: one token, a name, lists, and optional sections.
+#![tactic(auto)]
+
+mod items;
+mod stop;
+mod token;
+
+pub use items::{Item, closed, many, section, separated};
+pub use stop::Stop;
+pub use token::{Name, expect, next_is, place, read_name};

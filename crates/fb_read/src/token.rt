@@ -1,0 +1,70 @@
+//! One token.
+
+ghost use Rattle.std.specs.Prelude.{◌≡◌, ◌<◌, length, OnOk};
+ghost use Rattle.fb_lex.specs.Views.{tokens_of};
+ghost use Rattle.fb_read.specs.Reading.{next_is, expect, name_at, place_at};
+ghost use Rattle.fb_read.specs.Answers.{Gives, word_of};
+
+use crate::stop::Stop;
+use fb_lex::{Kind, Token};
+use fb_words::Mark;
+
+/// A name and the place of its first byte.
+#[derive(Debug, Drop)]
+pub struct Name {
+    /// In upper case.
+    pub text: String,
+    pub at: usize,
+}
+
+/// Whether the next token is this mark.
+pub fn next_is(tokens: &[Token], mark: Mark) -> bool
+    ensures { result ≡ next_is mark (tokens_of tokens.now) }
+{
+    match tokens {
+        [] => false,
+        [token, ..] => match &token.kind {
+            Kind::Mark(found) => *found == mark,
+            _ => false,
+        },
+    }
+}
+
+/// What is left behind this mark, which has to stand next.
+pub fn expect(tokens: &[Token], mark: Mark) -> Result<&[Token], Stop>
+    ensures { Gives (λ x. tokens_of x.now) result (expect mark (tokens_of tokens.now)) }
+{
+    if !next_is(tokens, mark) {
+        return Err(Stop::Syntax(tokens.len()));
+    }
+    Ok(&tokens[1..])
+}
+
+/// The place of the next token, or 0 where there is none.
+pub fn place(tokens: &[Token]) -> usize
+    ensures { result ≡ place_at (tokens_of tokens.now) }
+{
+    match tokens {
+        [] => 0,
+        [token, ..] => token.start,
+    }
+}
+
+/// The name that has to stand next.
+pub fn read_name(tokens: &[Token]) -> Result<(Name, &[Token]), Stop>
+    ensures { Gives (λ x. (word_of x.0, tokens_of x.1.now)) result (name_at (tokens_of tokens.now)) }
+{
+    match tokens {
+        [token, rest @ ..] => match &token.kind {
+            Kind::Name(text) => Ok((
+                Name {
+                    text: text.clone()?,
+                    at: token.start,
+                },
+                rest,
+            )),
+            _ => Err(Stop::Syntax(tokens.len())),
+        },
+        [] => Err(Stop::Syntax(0)),
+    }
+}

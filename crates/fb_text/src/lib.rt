@@ -1,0 +1,14 @@
+//! Application texts to source trees.
+#![tactic(auto)]
+
+mod block;
+mod constant;
+mod system;
+mod text;
+mod tree;
+
+pub use text::parse_tokens;
+pub use tree::{
+    ActionTree, BlockTree, ConnectionTree, Constant, DeviceTree, EventTree, InstanceTree, Literal,
+    ParameterTree, PortTree, ResourceTree, Source, StateTree, SystemTree, TransitionTree,
+};

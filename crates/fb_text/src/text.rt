@@ -1,0 +1,49 @@
+//! Whole texts.
+
+ghost use Rattle.std.specs.Prelude.{◌≡◌, map};
+ghost use Rattle.fb_lex.specs.Views.{tokens_of};
+ghost use Rattle.fb_read.specs.Answers.{Gives};
+ghost use Rattle.fb_text.specs.Views.{source_of};
+ghost use Rattle.fb_text.specs.Reading.{file_at, whole_at};
+ghost use Rattle.fb_text.specs.Answers.{Reads};
+
+use crate::system::system;
+use crate::tree::{BlockTree, Source};
+use fb_lex::{TextFault, Token};
+use fb_read::{Stop, many};
+use fb_words::Mark;
+use std::alloc::Global;
+
+// Block types and the system, and what is left behind them.
+#[tactic(auto, unfolding(crate::specs::Reading::file_at))]
+fn file(alloc: Global, tokens: &[Token]) -> Result<(Source, &[Token]), Stop>
+    ensures { Gives (λ x. (source_of x.0, tokens_of x.1.now)) result (file_at (tokens_of tokens.now)) }
+{
+    let (blocks, rest) = many::<BlockTree>(alloc, tokens, Mark::System)?;
+    let (system, rest) = system(alloc, rest)?;
+    Ok((Source { blocks, system }, rest))
+}
+
+// All of the tokens.
+#[tactic(auto, unfolding(crate::specs::Reading::whole_at))]
+fn whole(alloc: Global, tokens: &[Token]) -> Result<Source, Stop>
+    ensures { Gives source_of result (whole_at (tokens_of tokens.now)) }
+{
+    let (source, rest) = file(alloc, tokens)?;
+    if !rest.is_empty() {
+        return Err(Stop::Syntax(rest.len()));
+    }
+    Ok(source)
+}
+
+/// The source tree of tokens, which are those of a text of so many bytes.
+///
+/// A `Syntax` names the first token that cannot stand there, or the text's length where the tokens end too soon.
+pub fn parse_tokens(alloc: Global, tokens: &[Token], length: usize) -> Result<Source, TextFault>
+    ensures { Reads result (whole_at (tokens_of tokens.now)) }
+{
+    match whole(alloc, tokens) {
+        Ok(source) => Ok(source),
+        Err(stop) => Err(stop.fault(tokens, length)),
+    }
+}
