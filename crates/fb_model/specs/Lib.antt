@@ -8,10 +8,11 @@ pub mod Values
 pub mod Language
 pub mod System
 pub mod Services
+pub mod Typing
 pub mod Wires
 pub mod Store
 pub mod Charts
-pub mod Wire
+pub mod Messages
 pub mod Serving
 pub mod Ranges
 pub mod Certificates
