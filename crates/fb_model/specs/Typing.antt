@@ -75,6 +75,7 @@ pub record IsTransitionTyped (states inputs : List Name) (t : TransitionTree) : 
 
 -- events share one name space, states another
 pub record IsBlockTyped (b : BlockTree) : Type 0 where
+  pub name : is_in b.name.text service_names ≡ false
   pub events : AreDistinct (event_texts b.event_inputs ++ event_texts b.event_outputs)
   pub states : AreDistinct (state_texts b.states)
   pub actions : AllByRecursion (λ s. AllByRecursion (IsActionTyped (event_texts b.event_outputs)) s.actions) b.states
@@ -113,7 +114,7 @@ abbrev pub block_texts : List BlockTree → List Name
 block_texts bs = map (λ b. b.name.text) bs
 
 pub record AreBlocksTyped (bs : List BlockTree) : Type 0 where
-  pub names : AreNew service_names (block_texts bs)
+  pub names : AreDistinct (block_texts bs)
   pub each : AllByRecursion IsBlockTyped bs
 
 -- the first declared type of a name

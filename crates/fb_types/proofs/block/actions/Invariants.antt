@@ -1,0 +1,15 @@
+use Rattle.std.proofs.Common.{◌≡◌, ◌++◌, map, drop}
+use Rattle.std.specs.List.{AllByRecursion}
+use Rattle.fb_model.specs.Typing.{IsActionTyped, typed_action}
+use Rattle.fb_text.specs.Views as tree
+use Rattle.fb_types.specs.Views.{names_of, action_of}
+use Rattle.fb_types.proofs.block.actions.Given as goal
+
+-- all are typed where those that are left are
+abbrev pub invariant-loop-source : goal.invariant-loop-source
+invariant-loop-source l =
+    let rest = map tree.action_of (drop l.source-index l.sources) in
+    record {
+      typed : AllByRecursion (IsActionTyped (names_of l.outputs)) rest → AllByRecursion (IsActionTyped (names_of l.outputs)) (map tree.action_of l.sources);
+      value : map action_of l.actions.items ++ map typed_action rest ≡ map typed_action (map tree.action_of l.sources);
+    }

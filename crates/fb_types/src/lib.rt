@@ -1,0 +1,18 @@
+//! Names, types and services: source trees to typed systems.
+#![tactic(auto)]
+
+mod block;
+//mod connection;
+mod fault;
+//mod instance;
+mod names;
+//mod resolve;
+mod service;
+mod typed;
+
+pub use fault::TypeFault;
+pub use names::contains;
+//pub use resolve::resolve;
+pub use typed::{
+    Action, Block, Body, Connection, Device, End, Instance, Resource, State, Transition, Typed,
+};

@@ -1,0 +1,141 @@
+//! Names and tables of names.
+
+ghost use Rattle.std.specs.Prelude.{◌≡◌, ◌≤◌, ◌++◌, [], ◌∷◌, List, ℕ, map, length, string_bytes, position, true, false, IfOk, OnOk, OnErr, IfSome, Bool};
+ghost use Rattle.std.specs.Str.{bytes_eq};
+ghost use Rattle.fb_model.specs.Names.{is_in};
+ghost use Rattle.fb_model.specs.Typing.{AreNew};
+ghost use Rattle.fb_types.specs.Views.{names_of, name_of};
+ghost use Rattle.fb_types.specs.Answers.{text_of, Extends};
+ghost use Rattle.indexmap.specs.IndexSet.{index_set_len};
+
+use crate::fault::TypeFault;
+use fb_read::Name;
+use fb_text::{BlockTree, DeviceTree, EventTree, InstanceTree, ResourceTree, StateTree, TransitionTree};
+use indexmap::IndexSet;
+use std::alloc::{AllocError, Global};
+
+/// What is declared under a name.
+pub trait Named {
+    /// The name.
+    ghost text: { Self → List ℕ };
+
+    /// The name and its place.
+    fn name(&self) -> &Name
+        ensures { string_bytes result.now.text ≡ text self.now };
+}
+
+impl Named for BlockTree {
+    ghost text = { λ x. string_bytes x.name.text };
+
+    fn name(&self) -> &Name {
+        &self.name
+    }
+}
+
+impl Named for EventTree {
+    ghost text = { λ x. string_bytes x.name.text };
+
+    fn name(&self) -> &Name {
+        &self.name
+    }
+}
+
+impl Named for StateTree {
+    ghost text = { λ x. string_bytes x.name.text };
+
+    fn name(&self) -> &Name {
+        &self.name
+    }
+}
+
+/// A transition goes by the name of the state that it leaves.
+impl Named for TransitionTree {
+    ghost text = { λ x. string_bytes x.source.text };
+
+    fn name(&self) -> &Name {
+        &self.source
+    }
+}
+
+impl Named for InstanceTree {
+    ghost text = { λ x. string_bytes x.name.text };
+
+    fn name(&self) -> &Name {
+        &self.name
+    }
+}
+
+impl Named for ResourceTree {
+    ghost text = { λ x. string_bytes x.name.text };
+
+    fn name(&self) -> &Name {
+        &self.name
+    }
+}
+
+impl Named for DeviceTree {
+    ghost text = { λ x. string_bytes x.name.text };
+
+    fn name(&self) -> &Name {
+        &self.name
+    }
+}
+
+/// Whether a table has a name.
+pub fn contains(names: &IndexSet<String>, name: &str) -> bool
+    ensures { result ≡ is_in name.now (names_of names.now) }
+{
+    names.contains(name)
+}
+
+// Adds a name at the end, and says whether it was new.
+fn insert(names: &mut IndexSet<String>, name: &String) -> Result<bool, AllocError>
+    ensures { IfOk result (λ added. Extends (names_of names.old) (string_bytes name.now) (names_of names.new) added) }
+{
+    Ok(names.insert(name.clone()?)?)
+}
+
+/// Adds the names of all items at the end. No name may be there before.
+pub fn declare<T: Named>(names: &mut IndexSet<String>, items: &[T]) -> Result<(), TypeFault>
+    ensures new { OnOk result (AreNew (names_of names.old) (map T.text items.now)) }
+    ensures added { OnOk result (names_of names.new ≡ names_of names.old ++ map T.text items.now) }
+{
+    for item in items {
+        let name = item.name();
+        if !insert(names, &name.text)? {
+            return Err(TypeFault::DuplicateName(name.at));
+        }
+    }
+    Ok(())
+}
+
+/// The names of the items, in order.
+pub fn texts<T: Named>(alloc: Global, items: &[T]) -> Result<Vec<String>, AllocError>
+    ensures { IfOk result (λ v. map string_bytes v.items ≡ map T.text items.now) }
+{
+    let mut texts = Vec::new(alloc);
+    for item in items {
+        texts.push(item.name().text.clone()?)?;
+    }
+    Ok(texts)
+}
+
+/// Refuses more items than `most`, at the name of the first one too many.
+pub fn at_most<T: Named>(items: &[T], most: usize) -> Result<(), TypeFault>
+    ensures { OnOk result (length items.now ≤ most) }
+{
+    match items.get(most) {
+        Some(item) => Err(TypeFault::Limit(item.name().at)),
+        None => Ok(()),
+    }
+}
+
+/// A copy of the text of a name that may be left out.
+pub fn optional(name: &Option<Name>) -> Result<Option<String>, AllocError>
+    ensures { IfOk result (λ t. name_of t ≡ text_of name.now) }
+{
+    match name {
+        Some(name) => Ok(Some(name.text.clone()?)),
+        None => Ok(None),
+    }
+}
