@@ -120,7 +120,7 @@ pub record AreBlocksTyped (bs : List BlockTree) : Type 0 where
 -- the first declared type of a name
 abbrev pub block_named : List BlockTree → Name → Option BlockTree
 block_named [] x = None
-block_named (b ∷ bs) x = if bytes_eq b.name.text x then Some b else block_named bs x
+block_named (b ∷ bs) x = if bytes_eq x b.name.text then Some b else block_named bs x
 
 -- ---- instances
 
@@ -165,7 +165,7 @@ event_outputs_of (Composite face inner events values) = names_of face.event_outp
 -- the body of the first instance of a name
 abbrev pub body_named : Instances → Name → Option Body
 body_named nothing x = None
-body_named (instance name parameters body rest) x = if bytes_eq name x then Some body else body_named rest x
+body_named (instance name parameters body rest) x = if bytes_eq x name then Some body else body_named rest x
 
 -- a port of an instance, among those that ports gives for a body
 pub record IsEnd (ports : Body → List Name) (inner : Instances) (p : PortTree) (e : End) : Type 0 where

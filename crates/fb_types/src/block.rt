@@ -1,20 +1,20 @@
 //! Basic blocks.
 
-ghost use Rattle.std.specs.Prelude.{◌≡◌, ◌≤◌, [], map, length, string_bytes, true, OnOk, IfOk};
+ghost use Rattle.std.specs.Prelude.{◌≡◌, ◌≤◌, ◌++◌, [], map, length, string_bytes, true, OnOk, IfOk};
 ghost use Rattle.std.specs.List.{AllByRecursion};
 ghost use Rattle.fb_model.specs.Names.{is_in};
 ghost use Rattle.fb_model.specs.Typing.{AreDistinct, IsKnown, IsActionTyped, IsTransitionTyped, IsBlockTyped, typed_event, typed_action, typed_state, typed_transition, typed_block, event_texts, state_texts};
 ghost use Rattle.fb_read.specs.Answers.{word_of};
 ghost use Rattle.fb_read.specs.Answers as read;
 ghost use Rattle.fb_text.specs.Views as tree;
-ghost use Rattle.fb_types.specs.Views.{names_of, name_of, action_of, state_of, transition_of, block_of};
+ghost use Rattle.fb_types.specs.Views.{names_of, name_of, event_of, action_of, state_of, transition_of, block_of};
 
 use crate::fault::TypeFault;
-use crate::names::{at_most, contains, declare, optional, texts};
+use crate::names::{at_most, contains, declare, optional, table, texts};
 use crate::service::is_service;
 use crate::typed::{Action, Block, State, Transition};
 use fb_read::Name;
-use fb_text::{ActionTree, BlockTree, StateTree, TransitionTree};
+use fb_text::{ActionTree, BlockTree, EventTree, StateTree, TransitionTree};
 use indexmap::IndexSet;
 use std::alloc::Global;
 
@@ -140,4 +140,60 @@ fn limits(source: &BlockTree) -> Result<(), TypeFault>
     at_most(&source.event_outputs, PORTS)?;
     at_most(&source.states, STATES)?;
     at_most(&source.transitions, TRANSITIONS)
+}
+
+// The table of events.
+fn event_table(alloc: Global, events: &[EventTree]) -> Result<IndexSet<String>, TypeFault>
+    ensures distinct { OnOk result (AreDistinct (event_texts (map tree.event_of events.now))) }
+    ensures names { IfOk result (λ t. names_of t ≡ event_texts (map tree.event_of events.now)) }
+{
+    table(alloc, events)
+}
+
+// Refuses an output that has the name of an input.
+fn apart(alloc: Global, inputs: &[EventTree], outputs: &[EventTree]) -> Result<(), TypeFault>
+    ensures { OnOk result (AreDistinct (event_texts (map tree.event_of inputs.now) ++ event_texts (map tree.event_of outputs.now))) }
+{
+    let mut both = event_table(alloc, inputs)?;
+    declare(&mut both, outputs)
+}
+
+// The table of states.
+fn state_table(alloc: Global, states: &[StateTree]) -> Result<IndexSet<String>, TypeFault>
+    ensures distinct { OnOk result (AreDistinct (state_texts (map tree.state_of states.now))) }
+    ensures names { IfOk result (λ t. names_of t ≡ state_texts (map tree.state_of states.now)) }
+{
+    table(alloc, states)
+}
+
+// The names of events, in order.
+fn event_names(alloc: Global, events: &[EventTree]) -> Result<Vec<String>, TypeFault>
+    ensures { IfOk result (λ v. map event_of v.items ≡ map typed_event (map tree.event_of events.now)) }
+{
+    Ok(texts(alloc, events)?)
+}
+
+/// A basic block, if its declaration is well typed.
+pub fn block(alloc: Global, source: &BlockTree) -> Result<Block, TypeFault>
+    ensures typed { OnOk result (IsBlockTyped (tree.block_of source.now)) }
+    ensures value { IfOk result (λ b. block_of b ≡ typed_block (tree.block_of source.now)) }
+{
+    if is_service(source.name.text.as_str()) {
+        return Err(TypeFault::DuplicateName(source.name.at));
+    }
+    limits(source)?;
+    apart(alloc, &source.event_inputs, &source.event_outputs)?;
+    let inputs = event_table(alloc, &source.event_inputs)?;
+    let outputs = event_table(alloc, &source.event_outputs)?;
+    let names = state_table(alloc, &source.states)?;
+    let states = states(alloc, &outputs, &source.states)?;
+    let transitions = transitions(alloc, &names, &inputs, &source.transitions)?;
+    let event_inputs = event_names(alloc, &source.event_inputs)?;
+    let event_outputs = event_names(alloc, &source.event_outputs)?;
+    Ok(Block {
+        event_inputs,
+        event_outputs,
+        states,
+        transitions,
+    })
 }

@@ -2,17 +2,17 @@
 #![tactic(auto)]
 
 mod block;
-//mod connection;
+mod connection;
 mod fault;
-//mod instance;
+mod instance;
 mod names;
-//mod resolve;
+mod system;
 mod service;
 mod typed;
 
 pub use fault::TypeFault;
 pub use names::contains;
-//pub use resolve::resolve;
+pub use system::resolve;
 pub use typed::{
     Action, Block, Body, Connection, Device, End, Instance, Resource, State, Transition, Typed,
 };

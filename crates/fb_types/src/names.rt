@@ -3,7 +3,7 @@
 ghost use Rattle.std.specs.Prelude.{◌≡◌, ◌≤◌, ◌++◌, [], ◌∷◌, List, ℕ, map, length, string_bytes, position, true, false, IfOk, OnOk, OnErr, IfSome, Bool};
 ghost use Rattle.std.specs.Str.{bytes_eq};
 ghost use Rattle.fb_model.specs.Names.{is_in};
-ghost use Rattle.fb_model.specs.Typing.{AreNew};
+ghost use Rattle.fb_model.specs.Typing.{AreNew, AreDistinct};
 ghost use Rattle.fb_types.specs.Views.{names_of, name_of};
 ghost use Rattle.fb_types.specs.Answers.{text_of, Extends};
 ghost use Rattle.indexmap.specs.IndexSet.{index_set_len};
@@ -107,6 +107,16 @@ pub fn declare<T: Named>(names: &mut IndexSet<String>, items: &[T]) -> Result<()
         }
     }
     Ok(())
+}
+
+/// The table of the names of all items, which are all different.
+pub fn table<T: Named>(alloc: Global, items: &[T]) -> Result<IndexSet<String>, TypeFault>
+    ensures distinct { OnOk result (AreDistinct (map T.text items.now)) }
+    ensures names { IfOk result (λ t. names_of t ≡ map T.text items.now) }
+{
+    let mut names = IndexSet::new(alloc);
+    declare(&mut names, items)?;
+    Ok(names)
 }
 
 /// The names of the items, in order.

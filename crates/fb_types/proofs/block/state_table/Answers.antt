@@ -1,0 +1,8 @@
+use Rattle.fb_types.proofs.Lists.{map_map}
+use Rattle.fb_types.proofs.block.state_table.Goals as goal
+
+pub returns-clause-distinct : goal.returns-clause-distinct
+returns-clause-distinct c = rw map_map c.table.ensures.distinct
+
+pub returns-clause-names : goal.returns-clause-names
+returns-clause-names c = rw map_map c.table.ensures.names
