@@ -3,7 +3,7 @@ use Rattle.std.proofs.Common.{◌≡◌, List, [], ◌∷◌, ◌++◌, Bool, tr
 use Rattle.std.specs.List.{list_any, prefix_len}
 use Rattle.std.proofs.lemmas.List.{map_push, append-nil, length-map, take_more}
 use Rattle.fb_model.specs.Names.{Name}
-use Rattle.fb_model.specs.System.{Instances, Connection}
+use Rattle.fb_model.specs.System.{Instances, Connection, Event, State, Transition, Block}
 use Rattle.fb_model.specs.Trees.{ConnectionTree, BlockTree, InstanceTree}
 use Rattle.fb_model.specs.Typing.{AreNew, typed_event, AreConnections, IsConnection, AreInstances, IsBody}
 use Rattle.fb_text.specs.declared.tree.EventTree.{EventTree}
@@ -89,3 +89,10 @@ more_instances sources (u ∷ ts) (j ∷ is) t i h n b = (h.0, h.1, h.2, more_in
 pub ok_two : {X E : Type 0} {P Q R : X → Type 0} → ((x : X) → P x → Q x → R x) → (r : Result X E) → IfOk r P → IfOk r Q → IfOk r R
 ok_two f (Ok x) h k = f x h k
 ok_two f (Err e) h k = tt
+
+abbrev pub plain_block : List Event → List Event → List State → List Transition → Block
+plain_block is os ss ts = record { event_inputs = is; event_outputs = os; inputs = []; outputs = []; internals = []; states = ss; transitions = ts; procedures = [] }
+
+-- a block by its parts
+pub same_block : {is is' os os' : List Event} {ss ss' : List State} {ts ts' : List Transition} → is ≡ is' → os ≡ os' → ss ≡ ss' → ts ≡ ts' → plain_block is os ss ts ≡ plain_block is' os' ss' ts'
+same_block {is} {is'} {os} {os'} {ss} {ss'} {ts} {ts'} a b c d = ap (λ x. plain_block x os ss ts) a ∙ ap (λ x. plain_block is' x ss ts) b ∙ ap (λ x. plain_block is' os' x ts) c ∙ ap (λ x. plain_block is' os' ss' x) d

@@ -41,8 +41,8 @@ transition_of t = record { source = string_bytes t.source; target = string_bytes
 abbrev pub block_of : Block → book.Block
 block_of x =
     record {
-      event_inputs = map event_of x.event_inputs.items;
-      event_outputs = map event_of x.event_outputs.items;
+      event_inputs = map event_of x.event_inputs.keys;
+      event_outputs = map event_of x.event_outputs.keys;
       inputs = [];
       outputs = [];
       internals = [];

@@ -10,7 +10,7 @@ ghost use Rattle.fb_text.specs.Views as tree;
 ghost use Rattle.fb_types.specs.Views.{names_of, name_of, event_of, action_of, state_of, transition_of, block_of};
 
 use crate::fault::TypeFault;
-use crate::names::{at_most, contains, declare, optional, table, texts};
+use crate::names::{at_most, contains, declare, optional, table};
 use crate::service::is_service;
 use crate::typed::{Action, Block, State, Transition};
 use fb_read::Name;
@@ -166,13 +166,6 @@ fn state_table(alloc: Global, states: &[StateTree]) -> Result<IndexSet<String>, 
     table(alloc, states)
 }
 
-// The names of events, in order.
-fn event_names(alloc: Global, events: &[EventTree]) -> Result<Vec<String>, TypeFault>
-    ensures { IfOk result (λ v. map event_of v.items ≡ map typed_event (map tree.event_of events.now)) }
-{
-    Ok(texts(alloc, events)?)
-}
-
 /// A basic block, if its declaration is well typed.
 pub fn block(alloc: Global, source: &BlockTree) -> Result<Block, TypeFault>
     ensures typed { OnOk result (IsBlockTyped (tree.block_of source.now)) }
@@ -188,11 +181,10 @@ pub fn block(alloc: Global, source: &BlockTree) -> Result<Block, TypeFault>
     let names = state_table(alloc, &source.states)?;
     let states = states(alloc, &outputs, &source.states)?;
     let transitions = transitions(alloc, &names, &inputs, &source.transitions)?;
-    let event_inputs = event_names(alloc, &source.event_inputs)?;
-    let event_outputs = event_names(alloc, &source.event_outputs)?;
     Ok(Block {
-        event_inputs,
-        event_outputs,
+        event_inputs: inputs,
+        event_outputs: outputs,
+        state_names: names,
         states,
         transitions,
     })

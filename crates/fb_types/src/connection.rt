@@ -9,30 +9,19 @@ ghost use Rattle.fb_types.specs.Views.{names_of, body_of, instances_of, end_of, 
 ghost use Rattle.fb_types.specs.Answers.{IsTable};
 
 use crate::fault::TypeFault;
+use crate::names::contains;
 use crate::typed::{Body, Connection, End, Instance};
 use fb_read::Name;
 use fb_text::{ConnectionTree, PortTree};
 use indexmap::IndexSet;
 use std::alloc::Global;
 
-// Whether a name is among these.
-fn is_listed(names: &[String], name: &str) -> bool
-    ensures { result ≡ is_in name.now (map string_bytes names.now) }
-{
-    for other in names {
-        if name == other.as_str() {
-            return true;
-        }
-    }
-    false
-}
-
 // Whether a body has an event input of this name.
 fn has_input(body: &Body, name: &str) -> bool
     ensures { result ≡ is_in name.now (event_inputs_of (body_of body.now)) }
 {
     match body {
-        Body::Basic(block) => is_listed(&block.event_inputs, name),
+        Body::Basic(block) => contains(&block.event_inputs, name),
         Body::Input(_) => false,
     }
 }
@@ -42,7 +31,7 @@ fn has_output(body: &Body, name: &str) -> bool
     ensures { result ≡ is_in name.now (event_outputs_of (body_of body.now)) }
 {
     match body {
-        Body::Basic(block) => is_listed(&block.event_outputs, name),
+        Body::Basic(block) => contains(&block.event_outputs, name),
         Body::Input(_) => name == "IND",
     }
 }

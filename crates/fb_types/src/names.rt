@@ -119,17 +119,6 @@ pub fn table<T: Named>(alloc: Global, items: &[T]) -> Result<IndexSet<String>, T
     Ok(names)
 }
 
-/// The names of the items, in order.
-pub fn texts<T: Named>(alloc: Global, items: &[T]) -> Result<Vec<String>, AllocError>
-    ensures { IfOk result (λ v. map string_bytes v.items ≡ map T.text items.now) }
-{
-    let mut texts = Vec::new(alloc);
-    for item in items {
-        texts.push(item.name().text.clone()?)?;
-    }
-    Ok(texts)
-}
-
 /// Refuses more items than `most`, at the name of the first one too many.
 pub fn at_most<T: Named>(items: &[T], most: usize) -> Result<(), TypeFault>
     ensures { OnOk result (length items.now ≤ most) }

@@ -1,5 +1,6 @@
 //! Typed systems, with names resolved.
 
+use indexmap::IndexSet;
 use std::rc::Rc;
 
 /// An action: the algorithm that it runs and the event output that it emits.
@@ -27,8 +28,10 @@ pub struct Transition {
 /// A basic block type: IEC 61499-1 edition 2, 5.2. Its first state is the initial one.
 #[derive(Debug, Drop)]
 pub struct Block {
-    pub event_inputs: Vec<String>,
-    pub event_outputs: Vec<String>,
+    pub event_inputs: IndexSet<String>,
+    pub event_outputs: IndexSet<String>,
+    /// The names of the states, in order.
+    pub state_names: IndexSet<String>,
     pub states: Vec<State>,
     pub transitions: Vec<Transition>,
 }

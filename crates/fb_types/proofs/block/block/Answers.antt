@@ -1,10 +1,11 @@
-use Rattle.std.proofs.Common.{◌≡◌, ◌≤◌, ◌++◌, false, true, sym, ◌∙◌, subst, map, length}
+use Rattle.std.proofs.Common.{◌≡◌, ◌≤◌, ◌++◌, false, true, sym, ap, ◌∙◌, subst, map, length, string_bytes}
 use Rattle.std.specs.List.{AllByRecursion}
 use Rattle.fb_model.specs.Names.{Name, is_in}
 use Rattle.fb_model.specs.Trees.{StateTree, TransitionTree}
-use Rattle.fb_model.specs.Typing.{IsActionTyped, IsTransitionTyped, service_names, AreDistinct, event_texts, state_texts}
+use Rattle.fb_model.specs.Typing.{IsActionTyped, IsTransitionTyped, typed_event, typed_state, typed_transition, service_names, AreDistinct, event_texts, state_texts}
 use Rattle.fb_text.specs.Views as tree
-use Rattle.fb_types.proofs.Lists.{same_length}
+use Rattle.fb_types.specs.Views.{event_of, state_of, transition_of}
+use Rattle.fb_types.proofs.Lists.{same_length, as_events, map_map, same_block}
 use Rattle.fb_types.proofs.block.block.Goals as goal
 
 pub returns-clause-typed : goal.returns-clause-typed
@@ -21,3 +22,14 @@ returns-clause-typed c =
       few_states = same_length tree.state_of x.states.items _ c.in_ok-limits.ensures.few_states;
       few_transitions = same_length tree.transition_of x.transitions.items _ c.in_ok-limits.ensures.few_transitions;
     }
+
+pub returns-clause-value : goal.returns-clause-value
+returns-clause-value c =
+    let x = c.args.source.now in
+    let ins : map event_of c.in_ok-inputs.inputs.keys ≡ map typed_event (map tree.event_of x.event_inputs.items) =
+        as_events c.in_ok-inputs.inputs.keys x.event_inputs.items (c.in_ok-inputs.ensures.names ∙ map_map (λ e. e.name.text) tree.event_of c.deref-3.result.now ∙ ap (map (λ e. string_bytes e.name.text)) c.deref-3.ensures.value) in
+    let outs : map event_of c.in_ok-outputs.outputs.keys ≡ map typed_event (map tree.event_of x.event_outputs.items) =
+        as_events c.in_ok-outputs.outputs.keys x.event_outputs.items (c.in_ok-outputs.ensures.names ∙ map_map (λ e. e.name.text) tree.event_of c.deref-4.result.now ∙ ap (map (λ e. string_bytes e.name.text)) c.deref-4.ensures.value) in
+    let states : map state_of c.in_ok-states.states.items ≡ map typed_state (map tree.state_of x.states.items) = rw c.deref-6.ensures.value at c.in_ok-states.ensures.value in
+    let transitions : map transition_of c.in_ok-transitions.transitions.items ≡ map typed_transition (map tree.transition_of x.transitions.items) = rw c.deref-7.ensures.value at c.in_ok-transitions.ensures.value in
+    same_block ins outs states transitions

@@ -3,7 +3,7 @@ use Rattle.fb_model.specs.Names.{Name, is_in}
 use Rattle.fb_model.specs.System.{Event}
 use Rattle.fb_model.specs.Typing.{event_outputs_of}
 use Rattle.fb_types.specs.declared.typed.Block.{Block}
-use Rattle.fb_types.specs.Views.{event_of, body_of}
+use Rattle.fb_types.specs.Views.{names_of, event_of, body_of}
 use Rattle.fb_types.proofs.Lists.{map_map}
 use Rattle.fb_types.proofs.connection.has_output.Goals as goal
 
@@ -11,5 +11,5 @@ pub returns-in-Basic : goal.returns-in-Basic
 returns-in-Basic c =
     let x = c.args.name.now in
     let block = c.in-Basic.block.value in
-    c.is_listed.ensures ∙ ap (λ ns. is_in x (map string_bytes ns)) (c.deref-in-Basic.ensures.value ∙ ap (λ (b : Block). b.event_outputs.items) c.deref.ensures)
-    ∙ ap (is_in x) (sym (map_map (λ (e : Event). e.name) event_of block.event_outputs.items)) ∙ ap (λ b. is_in x (event_outputs_of (body_of b))) (sym c.in-Basic.is)
+    c.contains.ensures ∙ ap (λ (b : Block). is_in x (names_of b.event_outputs)) c.deref.ensures
+    ∙ ap (is_in x) (sym (map_map (λ (e : Event). e.name) event_of block.event_outputs.keys)) ∙ ap (λ b. is_in x (event_outputs_of (body_of b))) (sym c.in-Basic.is)
