@@ -1,0 +1,59 @@
+-- What certificates are, without where they lie in memory.
+use Rattle.std.specs.Prelude.{◌≡◌, ℕ, Bool, true, false, not, cond, List, [], ◌∷◌, ◌++◌, map, string_bytes, Option, Some, None, if◌then◌else◌}
+use Rattle.std.specs.List.{list_any}
+use Rattle.std.specs.Str.{bytes_eq}
+use Rattle.std.specs.declared.string.String.{String}
+use Rattle.std.specs.declared.alloc.Global.{Global}
+use Rattle.indexmap.specs.IndexMap.{IndexMap}
+use Rattle.fb_cert.specs.declared.certificate.Amount.{Amount}
+use Rattle.fb_cert.specs.declared.certificate.Certificate.{Certificate}
+use denote.Ref.{Bor}
+use Rattle.fb_model.specs.Certificates as book
+use Rattle.fb_model.specs.CertificateText.{row_of, depth_row}
+
+-- the rows of a kind, each by its path
+abbrev pub Table : Type 0 → Type 0
+Table V = List ((List ℕ) × V)
+
+abbrev pub texts_of : {V S : Type 0} → IndexMap (String Global) V S → Table V
+texts_of m = map (λ e. (string_bytes e.0, e.1)) m.entries
+
+-- what the first row of a path says
+abbrev pub first_at : {V : Type 0} → List ℕ → Table V → Option V
+first_at path [] = None
+first_at path (r ∷ rs) = if bytes_eq path r.0 then Some r.1 else first_at path rs
+
+abbrev pub has_path : {V : Type 0} → List ℕ → Table V → Bool
+has_path path rows = list_any (λ r. bytes_eq path r.0) rows
+
+-- whether a path is new, and the rows with it at the end
+abbrev pub Adds : {V : Type 0} → Table V → List ℕ → V → Table V → Bool → Type 0
+Adds old path value new said = (said ≡ not (has_path path old)) × (new ≡ (if said then old ++ (path, value) ∷ [] else old))
+
+-- the rows of a text by their kinds
+pub record Rows : Type 0 where
+  pub charges : Table Amount
+  pub weights : Table Amount
+  pub depths : Table ℕ
+
+abbrev pub no_rows : Rows
+no_rows = record { charges = []; weights = []; depths = [] }
+
+abbrev pub rows_of : Certificate → Rows
+rows_of c = record { charges = texts_of c.charges; weights = texts_of c.weights; depths = texts_of c.depths }
+
+abbrev pub amount_rows : Table Amount → List book.Row
+amount_rows rows = map (λ r. row_of r.0 r.1.steps r.1.places) rows
+
+abbrev pub depth_rows : Table ℕ → List book.DepthRow
+depth_rows rows = map (λ r. depth_row r.0 r.1) rows
+
+abbrev pub book_of : Rows → book.Certificate
+book_of rows = record { ranges = []; charges = amount_rows rows.charges; weights = amount_rows rows.weights; depths = depth_rows rows.depths; repeats = None; fars = []; far_states = []; channels = [] }
+
+-- the certificate that the checker speaks of
+abbrev pub certificate_of : Certificate → book.Certificate
+certificate_of c = book_of (rows_of c)
+
+abbrev pub shown : {V : Type 0} → (Bor (List ℕ)) × V → (List ℕ) × V
+shown p = (p.0.now, p.1)

@@ -1,0 +1,11 @@
+//! Certificate texts.
+#![tactic(auto)]
+
+mod certificate;
+mod fault;
+mod reading;
+mod row;
+
+pub use certificate::{Amount, Certificate};
+pub use fault::CertFault;
+
