@@ -1,2 +1,4 @@
 pub mod Faults
 pub mod Views
+pub mod Reading
+pub mod Answers

@@ -9,7 +9,9 @@ use Rattle.fb_cert.specs.declared.certificate.Amount.{Amount}
 use Rattle.fb_cert.specs.declared.certificate.Certificate.{Certificate}
 use denote.Ref.{Bor}
 use Rattle.fb_model.specs.Certificates as book
-use Rattle.fb_model.specs.CertificateText.{row_of, depth_row}
+use Rattle.fb_model.specs.CertificateText.{row_of, depth_row, Entry, charge, weight, depth}
+use Rattle.fb_cert.specs.declared.row.Row.{Row}
+use Rattle.fb_cert.specs.declared.row.Row.TheVariants.{Charge, Weight, Depth}
 
 -- the rows of a kind, each by its path
 abbrev pub Table : Type 0 → Type 0
@@ -57,3 +59,33 @@ certificate_of c = book_of (rows_of c)
 
 abbrev pub shown : {V : Type 0} → (Bor (List ℕ)) × V → (List ℕ) × V
 shown p = (p.0.now, p.1)
+
+abbrev pub texts : List (Bor (List ℕ)) → List (List ℕ)
+texts words = map (λ w. w.now) words
+
+abbrev pub entry_of : Row → Entry
+entry_of (Charge path a) = charge path.now a.steps a.places
+entry_of (Weight path a) = weight path.now a.steps a.places
+entry_of (Depth path n) = depth path.now n
+
+abbrev pub row_seen : Option Row → Option Entry
+row_seen None = None
+row_seen (Some row) = Some (entry_of row)
+
+abbrev pub amount : ℕ → ℕ → Amount
+amount steps places = record { steps = steps; places = places }
+
+-- the row's path stands already in a row of its kind
+abbrev pub has_row : Entry → Rows → Bool
+has_row (charge p s k) rows = has_path p rows.charges
+has_row (weight p s k) rows = has_path p rows.weights
+has_row (depth p n) rows = has_path p rows.depths
+
+-- the rows with one more at the end
+abbrev pub with_row : Entry → Rows → Rows
+with_row (charge p s k) rows = record { charges = rows.charges ++ (p, amount s k) ∷ []; weights = rows.weights; depths = rows.depths }
+with_row (weight p s k) rows = record { charges = rows.charges; weights = rows.weights ++ (p, amount s k) ∷ []; depths = rows.depths }
+with_row (depth p n) rows = record { charges = rows.charges; weights = rows.weights; depths = rows.depths ++ (p, n) ∷ [] }
+
+abbrev pub AddsRow : Rows → Entry → Rows → Bool → Type 0
+AddsRow old e new said = (said ≡ not (has_row e old)) × (new ≡ (if said then with_row e old else old))
