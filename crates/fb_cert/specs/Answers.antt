@@ -13,3 +13,8 @@ Fails (DuplicateRow line) read = read ≡ Err (DuplicateRow line)
 abbrev pub Gives : {X Y : Type 0} → (X → Y) → Result X CertFault → Result Y CertFault → Type 0
 Gives view (Ok x) read = read ≡ Ok (view x)
 Gives view (Err e) read = Fails e read
+
+-- What a function made, if it returned `Ok`, is what reading gives, unless memory ran out.
+abbrev pub Makes : {X Y : Type 0} → Y → Result X CertFault → Result Y CertFault → Type 0
+Makes made (Ok x) read = read ≡ Ok made
+Makes made (Err e) read = Fails e read

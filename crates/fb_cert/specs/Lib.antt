@@ -2,3 +2,4 @@ pub mod Faults
 pub mod Views
 pub mod Reading
 pub mod Answers
+pub mod Progress

@@ -2,7 +2,7 @@
 
 ghost use Rattle.std.specs.Prelude.{◌≡◌, ◌<◌, length, slice_get, IfOk, OnOk, Some, None};
 ghost use Rattle.std.specs.Option.{option_map};
-ghost use Rattle.fb_cert.specs.Views.{rows_of, no_rows, texts_of, first_at, Adds, shown};
+ghost use Rattle.fb_cert.specs.Views.{rows_of, no_rows, texts_of, first_at, Adds, AddsRow, entry_of, shown};
 
 use crate::row::Row;
 use indexmap::IndexMap;
@@ -43,6 +43,17 @@ impl Certificate {
             charges: IndexMap::new(alloc),
             weights: IndexMap::new(alloc),
             depths: IndexMap::new(alloc),
+        }
+    }
+
+    /// Adds a row at the end, unless its path stands in an earlier one of its kind; says whether it is new.
+    pub(crate) fn add(&mut self, alloc: Global, row: Row) -> Result<bool, AllocError>
+        ensures { IfOk result (λ new. AddsRow (rows_of self.old) (entry_of row.entry) (rows_of self.new) new) }
+    {
+        match row {
+            Row::Charge(path, amount) => add(alloc, &mut self.charges, path, amount),
+            Row::Weight(path, amount) => add(alloc, &mut self.weights, path, amount),
+            Row::Depth(path, depth) => add(alloc, &mut self.depths, path, depth),
         }
     }
 

@@ -8,4 +8,5 @@ mod row;
 
 pub use certificate::{Amount, Certificate};
 pub use fault::CertFault;
+pub use reading::parse_cert;
 

@@ -1,1 +1,101 @@
-//! Reading.
+//! Certificate texts, line by line.
+
+ghost use Rattle.std.specs.Prelude.{◌≡◌, IfOk, false};
+ghost use Rattle.std.specs.Str.Lines.{lines};
+ghost use Rattle.fb_model.specs.CertificateText.{words};
+ghost use Rattle.fb_cert.specs.Views.{rows_of, no_rows, texts};
+ghost use Rattle.fb_cert.specs.Reading.{read, row_at, words_at, lines_at, whole, text_at};
+ghost use Rattle.fb_cert.specs.Answers.{Gives, Makes};
+
+use crate::certificate::Certificate;
+use crate::fault::CertFault;
+use crate::row::{begins_cert, is_head, read_row};
+use std::alloc::{AllocError, Global};
+
+/// The most bytes of a text.
+const MOST_BYTES: usize = 16_777_216;
+
+/// What is read so far: whether the first row has come, and the rows behind it.
+#[derive(Drop)]
+struct Reader {
+    headed: bool,
+    certificate: Certificate,
+}
+
+fn words_of(alloc: Global, line: &str) -> Result<Vec<&str>, AllocError>
+    ensures { IfOk result (λ v. texts v.items ≡ words line.now) }
+{
+    line.split(' ').filter(|word| !word.is_empty()).collect(alloc)
+}
+
+// Enters a row after the first.
+fn enter(alloc: Global, certificate: &mut Certificate, words: &[&str], line: usize) -> Result<(), CertFault>
+    ensures { Makes (rows_of certificate.new) result (row_at line (texts words.now) (rows_of certificate.old)) }
+{
+    if begins_cert(words) {
+        return Err(CertFault::DuplicateRow(line));
+    }
+    match read_row(words) {
+        None => Err(CertFault::Row(line)),
+        Some(row) => {
+            if certificate.add(alloc, row)? {
+                Ok(())
+            } else {
+                Err(CertFault::DuplicateRow(line))
+            }
+        }
+    }
+}
+
+impl Reader {
+    ghost use Rattle.fb_cert.specs.Progress.{read_of};
+
+    // Takes the words of the line with this number.
+    fn take(&mut self, alloc: Global, words: &[&str], line: usize) -> Result<(), CertFault>
+        ensures { Makes (read_of self.new) result (words_at line (texts words.now) (read_of self.old)) }
+    {
+        if words.is_empty() {
+            return Ok(());
+        }
+        if self.headed {
+            return enter(alloc, &mut self.certificate, words, line);
+        }
+        if !is_head(words) {
+            return Err(CertFault::Row(line));
+        }
+        self.headed = true;
+        Ok(())
+    }
+}
+
+// Reads a text in upper case.
+fn read_lines(alloc: Global, text: &str) -> Result<Certificate, CertFault>
+    ensures { Gives rows_of result (whole (lines_at 1 (lines text.now) (read false no_rows))) }
+{
+    let mut reader = Reader {
+        headed: false,
+        certificate: Certificate::new(alloc),
+    };
+    let mut number = 0;
+    for line in text.lines() {
+        number += 1;
+        let words = words_of(alloc, line)?;
+        reader.take(alloc, words.as_slice(), number)?;
+    }
+    if !reader.headed {
+        return Err(CertFault::Row(1));
+    }
+    Ok(reader.certificate)
+}
+
+/// The certificate that a text spells: `CERT 1`, and then a row a line, as `CHARGE D.R.C.START 0 0`, `WEIGHT D.R.C.EI 3 1` or
+/// `DEPTH D.R 1`. Letter case has no meaning.
+pub fn parse_cert(alloc: Global, text: &str) -> Result<Certificate, CertFault>
+    ensures { Gives rows_of result (text_at text.now) }
+{
+    if text.len() > MOST_BYTES {
+        return Err(CertFault::TooLong);
+    }
+    let upper = text.to_ascii_uppercase(alloc)?;
+    read_lines(alloc, upper.as_str())
+}
