@@ -89,10 +89,14 @@ abbrev pub words_at : ℕ → List (List ℕ) → Read → Result Read CertFault
 words_at n [] r = Ok r
 words_at n (w ∷ ws) r = if r.headed then behind (row_at n (w ∷ ws) r.rows) else (if is_head (w ∷ ws) then Ok (read true r.rows) else Err (Row n))
 
+abbrev pub chain : Result Read CertFault → (Read → Result Read CertFault) → Result Read CertFault
+chain (Ok r) next = next r
+chain (Err e) next = Err e
+
 -- the lines from a number on
 unfoldable pub lines_at : ℕ → List (List ℕ) → Read → Result Read CertFault
 lines_at n [] r = Ok r
-lines_at n (line ∷ rest) r = elim (words_at n (words line) r) [ Ok next ↦ lines_at (n + 1) rest next | Err e ↦ Err e ]
+lines_at n (line ∷ rest) r = chain (words_at n (words line) r) (λ next. lines_at (n + 1) rest next)
 
 abbrev pub whole : Result Read CertFault → Result Rows CertFault
 whole (Err e) = Err e

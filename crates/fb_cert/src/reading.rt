@@ -1,8 +1,8 @@
 //! Certificate texts, line by line.
 
-ghost use Rattle.std.specs.Prelude.{◌≡◌, IfOk, false};
+ghost use Rattle.std.specs.Prelude.{◌≡◌, ◌≤◌, length, IfOk, false};
 ghost use Rattle.std.specs.Str.Lines.{lines};
-ghost use Rattle.fb_model.specs.CertificateText.{words};
+ghost use Rattle.fb_model.specs.CertificateText.{words, most_characters};
 ghost use Rattle.fb_cert.specs.Views.{rows_of, no_rows, texts};
 ghost use Rattle.fb_cert.specs.Reading.{read, row_at, words_at, lines_at, whole, text_at};
 ghost use Rattle.fb_cert.specs.Answers.{Gives, Makes};
@@ -70,6 +70,7 @@ impl Reader {
 
 // Reads a text in upper case.
 fn read_lines(alloc: Global, text: &str) -> Result<Certificate, CertFault>
+    requires { length text.now ≤ most_characters }
     ensures { Gives rows_of result (whole (lines_at 1 (lines text.now) (read false no_rows))) }
 {
     let mut reader = Reader {
