@@ -24,7 +24,12 @@ pub struct Certificate {
 }
 
 // Adds a row at the end, unless its path stands in an earlier one; says whether it is new.
-fn add<V: Drop>(alloc: Global, rows: &mut IndexMap<String, V>, path: &str, value: V) -> Result<bool, AllocError>
+fn add<V: Drop>(
+    alloc: Global,
+    rows: &mut IndexMap<String, V>,
+    path: &str,
+    value: V,
+) -> Result<bool, AllocError>
     ensures { IfOk result (λ new. Adds (texts_of rows.old) path.now value (texts_of rows.new) new) }
 {
     if rows.contains_key(path) {

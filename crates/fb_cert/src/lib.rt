@@ -10,3 +10,5 @@ pub use certificate::{Amount, Certificate};
 pub use fault::CertFault;
 pub use reading::parse_cert;
 
+#[cfg(test)]
+mod tests;

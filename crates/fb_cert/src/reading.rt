@@ -25,11 +25,18 @@ struct Reader {
 fn words_of(alloc: Global, line: &str) -> Result<Vec<&str>, AllocError>
     ensures { IfOk result (λ v. texts v.items ≡ words line.now) }
 {
-    line.split(' ').filter(|word| !word.is_empty()).collect(alloc)
+    line.split(' ')
+        .filter(|word| !word.is_empty())
+        .collect(alloc)
 }
 
 // Enters a row after the first.
-fn enter(alloc: Global, certificate: &mut Certificate, words: &[&str], line: usize) -> Result<(), CertFault>
+fn enter(
+    alloc: Global,
+    certificate: &mut Certificate,
+    words: &[&str],
+    line: usize,
+) -> Result<(), CertFault>
     ensures { Makes (rows_of certificate.new) result (row_at line (texts words.now) (rows_of certificate.old)) }
 {
     if begins_cert(words) {
