@@ -1,5 +1,6 @@
 -- What the code's answers are in the words of the readers.
-use Rattle.std.specs.Prelude.{◌≡◌, ℕ, Result, Ok, Err}
+use Rattle.std.specs.Prelude.{◌≡◌, ◌<◌, ℕ, List, length, Result, Ok, Err}
+use Rattle.fb_model.specs.CertificateText.{IsWrong, IsRepeated, most_characters}
 use Rattle.fb_cert.specs.declared.fault.CertFault.{CertFault}
 use Rattle.fb_cert.specs.declared.fault.CertFault.TheVariants.{OutOfMemory, TooLong, Row, DuplicateRow}
 
@@ -18,3 +19,18 @@ Gives view (Err e) read = Fails e read
 abbrev pub Makes : {X Y : Type 0} → Y → Result X CertFault → Result Y CertFault → Type 0
 Makes made (Ok x) read = read ≡ Ok made
 Makes made (Err e) read = Fails e read
+
+-- it is found, or memory ran out
+abbrev pub Finds : {X Y : Type 0} → (X → Y) → Result X CertFault → Y → Type 0
+Finds view (Ok x) y = view x ≡ y
+Finds view (Err OutOfMemory) y = Unit {0}
+Finds view (Err TooLong) y = ⊥
+Finds view (Err (Row line)) y = ⊥
+Finds view (Err (DuplicateRow line)) y = ⊥
+
+-- what each refusal says of the text
+abbrev pub Refuses : List ℕ → CertFault → Type 0
+Refuses text OutOfMemory = Unit {0}
+Refuses text TooLong = most_characters < length text
+Refuses text (Row line) = IsWrong text line
+Refuses text (DuplicateRow line) = IsRepeated text line
