@@ -6,3 +6,4 @@ pub mod Paths
 pub mod Entries
 pub mod ByKind
 pub mod Texts
+pub mod Answered

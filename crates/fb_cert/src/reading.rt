@@ -1,11 +1,12 @@
 //! Certificate texts, line by line.
 
-ghost use Rattle.std.specs.Prelude.{◌≡◌, ◌≤◌, length, IfOk, false};
+ghost use Rattle.std.specs.Prelude.{◌≡◌, ◌≤◌, length, IfOk, IfErr, false};
 ghost use Rattle.std.specs.Str.Lines.{lines};
-ghost use Rattle.fb_model.specs.CertificateText.{words, most_characters};
-ghost use Rattle.fb_cert.specs.Views.{rows_of, no_rows, texts};
+ghost use Rattle.fb_model.specs.CertificateText.{words, most_characters, Spells};
+ghost use Rattle.fb_model.specs.Certificates as book;
+ghost use Rattle.fb_cert.specs.Views.{rows_of, no_rows, texts, certificate_of};
 ghost use Rattle.fb_cert.specs.Reading.{read, row_at, words_at, lines_at, whole, text_at};
-ghost use Rattle.fb_cert.specs.Answers.{Gives, Makes};
+ghost use Rattle.fb_cert.specs.Answers.{Gives, Makes, Finds, Refuses};
 
 use crate::certificate::Certificate;
 use crate::fault::CertFault;
@@ -96,9 +97,7 @@ fn read_lines(alloc: Global, text: &str) -> Result<Certificate, CertFault>
     Ok(reader.certificate)
 }
 
-/// The certificate that a text spells: `CERT 1`, and then a row a line, as `CHARGE D.R.C.START 0 0`, `WEIGHT D.R.C.EI 3 1` or
-/// `DEPTH D.R 1`. Letter case has no meaning.
-pub fn parse_cert(alloc: Global, text: &str) -> Result<Certificate, CertFault>
+fn read_text(alloc: Global, text: &str) -> Result<Certificate, CertFault>
     ensures { Gives rows_of result (text_at text.now) }
 {
     if text.len() > MOST_BYTES {
@@ -106,4 +105,21 @@ pub fn parse_cert(alloc: Global, text: &str) -> Result<Certificate, CertFault>
     }
     let upper = text.to_ascii_uppercase(alloc)?;
     read_lines(alloc, upper.as_str())
+}
+
+/// The certificate that a text spells: `CERT 1`, and then a row a line, as `CHARGE D.R.C.START 0 0`, `WEIGHT D.R.C.EI 3 1` or
+/// `DEPTH D.R 1`. Letter case has no meaning.
+///
+/// Steps are at most 1,000,000,000,000 and places at most 4096; a depth is 1 to 4096. Words stand between spaces, and lines without
+/// words have no meaning but are counted.
+pub fn parse_cert(alloc: Global, text: &str) -> Result<Certificate, CertFault>
+    // What is answered is what the text spells, and the text is not too long.
+    ensures found { IfOk result (λ c. Spells text.now (certificate_of c)) }
+    ensures within { IfOk result (λ c. length text.now ≤ most_characters) }
+    // What a text spells that is not too long is answered, unless memory runs out.
+    ensures only { (certificate : book.Certificate) → length text.now ≤ most_characters → Spells text.now certificate → Finds certificate_of result certificate }
+    // What is refused is wrong, at its line.
+    ensures refused { IfErr result (Refuses text.now) }
+{
+    read_text(alloc, text)
 }
