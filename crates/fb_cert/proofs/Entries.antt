@@ -32,7 +32,7 @@ amount_found w p (Some a) e h =
       | inr q ↦ elim (chosen (bytes_eq w (codes "WEIGHT")) (Some (weight p a.steps a.places)) None (Some e) q.1) [
         | inl r ↦ (let same : weight p a.steps a.places ≡ e = cc in (a, refl, inr (text_is w (codes "WEIGHT") r.0, same)))
         | inr r ↦ absurd (cc)
-        ]
+      ]
     ]
 
 -- ---- rows
@@ -41,7 +41,7 @@ three_found : (w p d : List ℕ) (e : Entry) → row_of_three w p d ≡ Some e �
 three_found w p d e h =
     elim (chosen (bytes_eq w (codes "DEPTH") && is_path p) (with_depth p (number_in 1 most_places d)) None (Some e) h) [
       | inl q ↦ (let t = both_true (bytes_eq w (codes "DEPTH")) (is_path p) q.0 in let n = depth_found p (number_in 1 most_places d) e q.1 in
-        subst (IsEntry (w ∷ p ∷ d ∷ [])) n.2 (subst (λ v. IsEntry (v ∷ p ∷ d ∷ []) (depth p n.0)) (sym (text_is w (codes "DEPTH") t.0)) (a_depth (dotted_found p t.1) (number_found 1 most_places n.0 d n.1))))
+          subst (IsEntry (w ∷ p ∷ d ∷ [])) n.2 (subst (λ v. IsEntry (v ∷ p ∷ d ∷ []) (depth p n.0)) (sym (text_is w (codes "DEPTH") t.0)) (a_depth (dotted_found p t.1) (number_found 1 most_places n.0 d n.1))))
       | inr q ↦ absurd (cc)
     ]
 
@@ -49,10 +49,10 @@ four_found : (w p s k : List ℕ) (e : Entry) → row_of_four w p s k ≡ Some e
 four_found w p s k e h =
     elim (chosen (is_path p) (with_amount w p (amount_in s k)) None (Some e) h) [
       | inl q ↦ (let f = amount_found w p (amount_in s k) e q.1 in let b = both_found (number_in 0 most_steps s) (number_in 0 most_places k) f.0 f.1 in
-        elim f.2 [
-          | inl r ↦ subst (IsEntry (w ∷ p ∷ s ∷ k ∷ [])) r.1 (subst (λ v. IsEntry (v ∷ p ∷ s ∷ k ∷ []) (charge p f.0.steps f.0.places)) (sym r.0) (a_charge (dotted_found p q.0) (number_found 0 most_steps f.0.steps s b.0) (number_found 0 most_places f.0.places k b.1)))
-          | inr r ↦ subst (IsEntry (w ∷ p ∷ s ∷ k ∷ [])) r.1 (subst (λ v. IsEntry (v ∷ p ∷ s ∷ k ∷ []) (weight p f.0.steps f.0.places)) (sym r.0) (a_weight (dotted_found p q.0) (number_found 0 most_steps f.0.steps s b.0) (number_found 0 most_places f.0.places k b.1)))
-        ])
+          elim f.2 [
+            | inl r ↦ subst (IsEntry (w ∷ p ∷ s ∷ k ∷ [])) r.1 (subst (λ v. IsEntry (v ∷ p ∷ s ∷ k ∷ []) (charge p f.0.steps f.0.places)) (sym r.0) (a_charge (dotted_found p q.0) (number_found 0 most_steps f.0.steps s b.0) (number_found 0 most_places f.0.places k b.1)))
+            | inr r ↦ subst (IsEntry (w ∷ p ∷ s ∷ k ∷ [])) r.1 (subst (λ v. IsEntry (v ∷ p ∷ s ∷ k ∷ []) (weight p f.0.steps f.0.places)) (sym r.0) (a_weight (dotted_found p q.0) (number_found 0 most_steps f.0.steps s b.0) (number_found 0 most_places f.0.places k b.1)))
+          ])
       | inr q ↦ absurd (cc)
     ]
 

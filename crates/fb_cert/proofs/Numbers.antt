@@ -18,7 +18,7 @@ digits_found high v n (c ∷ cs) h e =
       | inl p ↦ elim (chosen (nat_lt high (v * 10 + (c - 48))) None (digits_to high (v * 10 + (c - 48)) cs) (Some n) p.1) [
         | inl q ↦ absurd (cc)
         | inr q ↦ (let r = digits_found high (v * 10 + (c - 48)) n cs (ltb-false high (v * 10 + (c - 48)) q.0) q.1 in ((p.0, r.0), r.1, r.2))
-        ]
+      ]
       | inr p ↦ absurd (cc)
     ]
 

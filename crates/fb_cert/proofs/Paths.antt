@@ -69,11 +69,11 @@ path_found begins (c ∷ cs) h =
       | inl p ↦ elim (chosen begins false (path_from true cs) true p.1) [
         | inl q ↦ absurd (cc)
         | inr q ↦ subst (λ b. Goes b (names_in (c ∷ cs))) (sym q.0) (dot_goes c cs p.0 (path_found true cs q.1))
-        ]
+      ]
       | inr p ↦ elim (chosen (is_start c || (not begins && is_digit c)) (path_from false cs) false true p.1) [
         | inl q ↦ goes_on begins c cs p.0 q.0 (path_found false cs q.1)
         | inr q ↦ absurd (cc)
-        ]
+      ]
     ]
 
 pub dotted_found : (cs : List ℕ) → is_path cs ≡ true → IsDotted cs
@@ -112,11 +112,11 @@ path_read false [] g = refl
 path_read begins (c ∷ cs) g =
     elim (test_of (c == 46)) [
       | inl d ↦ (let h = dot_then begins (names_in cs) (names_some cs) (subst (Goes begins) (split_yes (λ b. b == 46) c cs d) g) in
-        ap (λ b. cond b (cond begins false (path_from true cs)) (cond (is_start c || (not begins && is_digit c)) (path_from false cs) false)) d
-        ∙ ap (λ b. cond b false (path_from true cs)) h.0 ∙ path_read true cs h.1)
+          ap (λ b. cond b (cond begins false (path_from true cs)) (cond (is_start c || (not begins && is_digit c)) (path_from false cs) false)) d
+          ∙ ap (λ b. cond b false (path_from true cs)) h.0 ∙ path_read true cs h.1)
       | inr d ↦ (let h = goes_first begins c (names_in cs) (names_some cs) (subst (Goes begins) (split_no (λ b. b == 46) c cs d) g) in
-        ap (λ b. cond b (cond begins false (path_from true cs)) (cond (is_start c || (not begins && is_digit c)) (path_from false cs) false)) d
-        ∙ ap (λ b. cond b (path_from false cs) false) h.0 ∙ path_read false cs h.1)
+          ap (λ b. cond b (cond begins false (path_from true cs)) (cond (is_start c || (not begins && is_digit c)) (path_from false cs) false)) d
+          ∙ ap (λ b. cond b (path_from false cs) false) h.0 ∙ path_read false cs h.1)
     ]
 
 pub dotted_read : (cs : List ℕ) → IsDotted cs → is_path cs ≡ true

@@ -86,7 +86,7 @@ row_found n ws done rs h =
     elim (chosen (begins_cert ws) (Err (DuplicateRow n)) (entered n (entry_at ws) (rows_in done)) (Ok rs) h) [
       | inl p ↦ absurd (cc)
       | inr p ↦ (let o = entered_ok n (entry_at ws) done rs p.1 in
-        record { e = o.0; is = entry_found ws o.0 o.1; new = sym (has_in o.0 done) ∙ o.2; rows_are = sym o.3 ∙ with_in o.0 done })
+          record { e = o.0; is = entry_found ws o.0 o.1; new = sym (has_in o.0 done) ∙ o.2; rows_are = sym o.3 ∙ with_in o.0 done })
     ]
 
 row_read : (n : ℕ) (ws : List (List ℕ)) (done : List Entry) (e : Entry) → IsEntry ws e → list_any (is_same e) done ≡ false → row_at n ws (rows_in done) ≡ Ok (rows_in (done ++ e ∷ []))
@@ -147,8 +147,16 @@ next_err (Err d) f e h = inl h
 
 later_stops : (w : Written) (ws : List Written) (done : List Entry) (f : CertFault) (x : Rows) (s : Says w.words done x) → Stops ws (done ++ s.e ∷ []) f → Stops (w ∷ ws) done f
 later_stops w ws done f x s r =
-    record { before = w ∷ r.before; after = r.after; here = r.here; es = s.e ∷ r.es; is = ap (λ v. w ∷ v) r.is; are = entry s.is r.are; new = (s.new, r.new);
-    cause = ap (λ d. row_at r.here.line r.here.words (rows_in d)) (sym (append_assoc done (s.e ∷ []) r.es)) ∙ r.cause }
+    record {
+      before = w ∷ r.before;
+      after = r.after;
+      here = r.here;
+      es = s.e ∷ r.es;
+      is = ap (λ v. w ∷ v) r.is;
+      are = entry s.is r.are;
+      new = (s.new, r.new);
+      cause = ap (λ d. row_at r.here.line r.here.words (rows_in d)) (sym (append_assoc done (s.e ∷ []) r.es)) ∙ r.cause;
+    }
 
 rest_stops : (ws : List Written) (done : List Entry) (f : CertFault) → rest_at ws (rows_in done) ≡ Err f → Stops ws done f
 unfolding rest_at
@@ -157,7 +165,7 @@ rest_stops (w ∷ ws) done f h =
     elim (next_err (row_at w.line w.words (rows_in done)) (λ k. rest_at ws k) f h) [
       | inl p ↦ record { before = []; after = ws; here = w; es = []; is = refl; are = no_entry; new = tt; cause = ap (λ d. row_at w.line w.words (rows_in d)) (append-nil done) ∙ p }
       | inr p ↦ (let s = row_found w.line w.words done p.0 p.1 in
-        later_stops w ws done f p.0 s (rest_stops ws (done ++ s.e ∷ []) f (ap (rest_at ws) (sym s.rows_are) ∙ p.2)))
+          later_stops w ws done f p.0 s (rest_stops ws (done ++ s.e ∷ []) f (ap (rest_at ws) (sym s.rows_are) ∙ p.2)))
     ]
 
 -- ---- whole texts
@@ -171,7 +179,7 @@ all_found text [] rs e h = absurd (cc)
 all_found text (w ∷ ws) rs e h =
     elim (chosen (is_head w.words) (rest_at ws no_rows) (Err (Row w.line)) (Ok rs) h) [
       | inl p ↦ (let r = rest_found ws [] rs p.1 in
-        record { first = w; others = ws; entries = r.es; rows_are = e; first_is = head_found w.words p.0; others_are = r.are; none_twice = none_twice r.es r.new; certificate_is = ap book_of r.rows_are ∙ book_in r.es })
+          record { first = w; others = ws; entries = r.es; rows_are = e; first_is = head_found w.words p.0; others_are = r.are; none_twice = none_twice r.es r.new; certificate_is = ap book_of r.rows_are ∙ book_in r.es })
       | inr p ↦ absurd (cc)
     ]
 
@@ -222,7 +230,7 @@ all_refused text [] f e h = let same : Row 1 ≡ f = cc in subst (Refuses text) 
 all_refused text (w ∷ ws) f e h =
     elim (chosen (is_head w.words) (rest_at ws no_rows) (Err (Row w.line)) (Err f) h) [
       | inl p ↦ (let s = rest_stops ws [] f p.1 in
-        refused_row text s.here s.es f (record { first = w; others = s.before; after = s.after; rows_are = e ∙ ap (λ v. w ∷ v) s.is; first_is = head_found w.words p.0; others_are = s.are; none_twice = none_twice s.es s.new }) s.cause)
+          refused_row text s.here s.es f (record { first = w; others = s.before; after = s.after; rows_are = e ∙ ap (λ v. w ∷ v) s.is; first_is = head_found w.words p.0; others_are = s.are; none_twice = none_twice s.es s.new }) s.cause)
       | inr p ↦ (let same : Row w.line ≡ f = cc in subst (Refuses text) same (no_head e (λ i. let t = head_read w.words i in absurd (cc))))
     ]
 
