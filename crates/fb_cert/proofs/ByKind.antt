@@ -1,12 +1,12 @@
 -- Rows by their kinds against rows in text order.
-use Rattle.std.proofs.Common.{◌≡◌, ℕ, Bool, true, false, cond, List, [], ◌∷◌, ◌++◌, map, refl, sym, ap, subst, ◌∙◌, append_assoc}
+use Rattle.std.proofs.Common.{◌≡◌, ℕ, false, List, [], ◌∷◌, ◌++◌, refl, sym, ap, subst, ◌∙◌, append_assoc}
 use Rattle.std.specs.Prelude.{◌||◌}
 use Rattle.std.specs.List.{list_any}
 use Rattle.std.specs.Str.{bytes_eq}
 use Rattle.std.proofs.lemmas.List.{append-nil}
 use Rattle.fb_model.specs.CertificateText.{Entry, charge, weight, depth, is_same, NoneTwice, charges_of, weights_of, depths_of, certificate_in, row_of, depth_row}
 use Rattle.fb_cert.specs.declared.certificate.Amount.{Amount}
-use Rattle.fb_cert.specs.Views.{Table, Rows, amount, has_path, has_row, with_row, book_of, amount_rows, depth_rows, no_rows}
+use Rattle.fb_cert.specs.Views.{Table, Rows, amount, has_path, has_row, with_row, book_of, amount_rows, depth_rows}
 
 -- ---- the tables that entries fill
 

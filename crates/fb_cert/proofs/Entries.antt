@@ -1,12 +1,12 @@
 -- What is read as a row is one, and each such is read.
-use Rattle.std.proofs.Common.{◌≡◌, ℕ, ◌⊎◌, Bool, true, false, cond, List, [], ◌∷◌, Option, Some, None, is_some, arith, refl, sym, ap, subst, ◌∙◌, inl, inr, codes}
+use Rattle.std.proofs.Common.{◌≡◌, ℕ, ◌⊎◌, true, false, cond, List, [], ◌∷◌, Option, Some, None, is_some, arith, refl, sym, ap, subst, ◌∙◌, inl, inr, codes}
 use Rattle.std.specs.Prelude.{◌&&◌}
 use Rattle.std.specs.Str.{bytes_eq}
 use Rattle.fb_model.specs.CertificateText.{IsNumberIn, IsDotted, Entry, charge, weight, depth, IsHead, head, IsEntry, a_charge, a_weight, a_depth, most_steps, most_places, begins_cert}
 use Rattle.fb_cert.specs.declared.certificate.Amount.{Amount}
 use Rattle.fb_cert.specs.Views.{amount}
 use Rattle.fb_cert.specs.Reading.{number_in, is_path, both, amount_in, with_depth, row_of_three, with_amount, row_of_four, entry_at, is_head}
-use Rattle.fb_cert.proofs.Tests.{chosen, both_true, true_both, text_is}
+use Rattle.fb_cert.proofs.Deciding.{chosen, both_true, text_is}
 use Rattle.fb_cert.proofs.Numbers.{number_found, number_read}
 use Rattle.fb_cert.proofs.Paths.{dotted_found, dotted_read}
 

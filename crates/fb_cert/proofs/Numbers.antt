@@ -1,12 +1,12 @@
 -- What is read as a number is one within the bounds, and each such is read.
-use Rattle.std.proofs.Common.{◌≡◌, ℕ, ◌+◌, ◌-◌, ◌*◌, ◌<◌, ◌≤◌, ◌⊎◌, Bool, true, false, cond, List, [], ◌∷◌, length, Option, Some, None, refl, sym, ap, subst, ◌∙◌, arith, inl, inr}
-use Rattle.std.specs.Prelude.{◌==◌, nat_lt}
+use Rattle.std.proofs.Common.{◌≡◌, ℕ, ◌+◌, ◌-◌, ◌*◌, ◌≤◌, true, cond, List, [], ◌∷◌, Option, Some, None, refl, sym, ap, ◌∙◌, arith, inl, inr}
+use Rattle.std.specs.Prelude.{nat_lt}
 use Rattle.std.specs.List.{AllByRecursion}
-use Rattle.std.proofs.lemmas.Bool.{ltb-false, le-ltb, ltb-true}
+use Rattle.std.proofs.lemmas.Bool.{ltb-false, le-ltb}
 use Rattle.fb_model.specs.Spelling.{is_digit}
 use Rattle.fb_model.specs.CertificateText.{decimal_from, IsNumberIn}
 use Rattle.fb_cert.specs.Reading.{digits_to, at_least, number_in}
-use Rattle.fb_cert.proofs.Tests.{chosen, some_length}
+use Rattle.fb_cert.proofs.Deciding.{chosen, some_length}
 
 abbrev Digits : List ℕ → Type 0
 Digits cs = AllByRecursion (λ c. is_digit c ≡ true) cs

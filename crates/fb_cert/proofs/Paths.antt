@@ -1,11 +1,11 @@
 -- What is read as a path is names joined by dots, and each such is read.
-use Rattle.std.proofs.Common.{◌≡◌, ℕ, ◌⊎◌, Bool, true, false, cond, ◌<◌, List, [], ◌∷◌, length, arith, refl, sym, ap, subst, ◌∙◌, inl, inr}
+use Rattle.std.proofs.Common.{◌≡◌, ℕ, Bool, true, false, cond, ◌<◌, List, [], ◌∷◌, length, arith, refl, sym, ap, subst, ◌∙◌, inl, inr}
 use Rattle.std.specs.Prelude.{◌==◌, ◌&&◌, ◌||◌, not}
 use Rattle.std.specs.List.{AllByRecursion, slice_split, onto_first}
 use Rattle.fb_model.specs.Spelling.{is_digit, is_start, is_part, IsParts, no_part, part, IsWord, word}
 use Rattle.fb_model.specs.CertificateText.{IsDotted, names_in}
 use Rattle.fb_cert.specs.Reading.{path_from, is_path}
-use Rattle.fb_cert.proofs.Tests.{chosen, test_of}
+use Rattle.fb_cert.proofs.Deciding.{chosen, test_of}
 use Rattle.std.proofs.lemmas.List.Splits.{slice_split-cons_yes, slice_split-cons_no, length-slice_split}
 
 -- the first name goes on, or begins

@@ -1,5 +1,5 @@
 -- What is read of a text is what it spells.
-use Rattle.std.proofs.Common.{◌≡◌, ℕ, ◌+◌, ◌<◌, ◌≤◌, ◌⊎◌, Bool, true, false, cond, List, [], ◌∷◌, ◌++◌, length, Option, Some, None, Result, Ok, Err, refl, sym, ap, subst, ◌∙◌, arith, inl, inr, append_assoc}
+use Rattle.std.proofs.Common.{◌≡◌, ℕ, ◌+◌, ◌≤◌, ◌⊎◌, Bool, true, false, cond, List, [], ◌∷◌, ◌++◌, length, Option, Some, None, Result, Ok, Err, refl, sym, ap, subst, ◌∙◌, inl, inr, append_assoc}
 use Rattle.std.specs.Prelude.{◌==◌, nat_lt}
 use Rattle.std.specs.List.{list_any}
 use Rattle.std.specs.Str.Lines.{lines}
@@ -7,28 +7,28 @@ use Rattle.std.proofs.lemmas.List.{append-nil}
 use Rattle.std.proofs.lemmas.Bool.{ltb-false, ltb-true, le-ltb}
 use Rattle.fb_model.specs.Certificates as book
 use Rattle.fb_model.specs.Spelling.{upper}
-use Rattle.fb_model.specs.CertificateText.{Written, written, words, rows_from, rows, begins_cert, Entry, is_same, IsHead, IsEntry, AreEntries, no_entry, entry, certificate_in, Spells, Reaches, IsWrong, no_row, no_head, no_row_word, IsRepeated, head_again, path_again, most_characters}
+use Rattle.fb_model.specs.CertificateText.{Written, written, words, rows_from, rows, begins_cert, Entry, is_same, IsEntry, AreEntries, no_entry, entry, Spells, Reaches, no_row, no_head, no_row_word, head_again, path_again, most_characters}
 use Rattle.fb_cert.specs.declared.fault.CertFault.{CertFault}
-use Rattle.fb_cert.specs.declared.fault.CertFault.TheVariants.{OutOfMemory, TooLong, Row, DuplicateRow}
+use Rattle.fb_cert.specs.declared.fault.CertFault.TheVariants.{TooLong, Row, DuplicateRow}
 use Rattle.fb_cert.specs.Views.{Rows, no_rows, has_row, with_row, book_of}
 use Rattle.fb_cert.specs.Reading.{Read, read, entry_at, is_head, entered, row_at, behind, words_at, chain, lines_at, whole, text_at}
 use Rattle.fb_cert.specs.Answers.{Refuses}
-use Rattle.fb_cert.proofs.Tests.{chosen, some_length, test_of}
+use Rattle.fb_cert.proofs.Deciding.{chosen, some_length}
 use Rattle.fb_cert.proofs.Entries.{entry_found, entry_read, entry_no_cert, head_found, head_read}
 use Rattle.fb_cert.proofs.ByKind.{rows_in, book_in, has_in, with_in, AreNew, none_twice, all_new}
 
 -- ---- rows in place of lines
 
-next_rows : Result Rows CertFault → (Rows → Result Rows CertFault) → Result Rows CertFault
+unfoldable pub next_rows : Result Rows CertFault → (Rows → Result Rows CertFault) → Result Rows CertFault
 next_rows (Ok rows) f = f rows
 next_rows (Err e) f = Err e
 
 -- the rows behind the first
-rest_at : List Written → Rows → Result Rows CertFault
+unfoldable pub rest_at : List Written → Rows → Result Rows CertFault
 rest_at [] rs = Ok rs
 rest_at (w ∷ ws) rs = next_rows (row_at w.line w.words rs) (λ n. rest_at ws n)
 
-all_at : List Written → Result Rows CertFault
+unfoldable pub all_at : List Written → Result Rows CertFault
 all_at [] = Err (Row 1)
 all_at (w ∷ ws) = cond (is_head w.words) (rest_at ws no_rows) (Err (Row w.line))
 
@@ -89,7 +89,7 @@ row_found n ws done rs h =
           record { e = o.0; is = entry_found ws o.0 o.1; new = sym (has_in o.0 done) ∙ o.2; rows_are = sym o.3 ∙ with_in o.0 done })
     ]
 
-row_read : (n : ℕ) (ws : List (List ℕ)) (done : List Entry) (e : Entry) → IsEntry ws e → list_any (is_same e) done ≡ false → row_at n ws (rows_in done) ≡ Ok (rows_in (done ++ e ∷ []))
+pub row_read : (n : ℕ) (ws : List (List ℕ)) (done : List Entry) (e : Entry) → IsEntry ws e → list_any (is_same e) done ≡ false → row_at n ws (rows_in done) ≡ Ok (rows_in (done ++ e ∷ []))
 row_read n ws done e h new =
     ap (λ b. cond b (Err (DuplicateRow n)) (entered n (entry_at ws) (rows_in done))) (entry_no_cert ws e h)
     ∙ ap (λ o. entered n o (rows_in done)) (entry_read ws e h)
@@ -170,7 +170,7 @@ rest_stops (w ∷ ws) done f h =
 
 -- ---- whole texts
 
-text_rows : (text : List ℕ) → length text ≤ most_characters → text_at text ≡ all_at (rows text)
+pub text_rows : (text : List ℕ) → length text ≤ most_characters → text_at text ≡ all_at (rows text)
 text_rows text l = ap (λ b. cond b (Err TooLong) (whole (lines_at 1 (lines (upper text)) (read false no_rows)))) (le-ltb most_characters (length text) l) ∙ all_lines 1 (lines (upper text))
 
 all_found : (text : List ℕ) (ws : List Written) (rs : Rows) → rows text ≡ ws → all_at ws ≡ Ok rs → Spells text (book_of rs)
@@ -209,34 +209,34 @@ spelled_once text c d s t =
 none_is : (o : Option Entry) → (e : Entry) → o ≡ None → o ≡ Some e → ⊥
 none_is o e h g = cc
 
-refused_row : (text : List ℕ) (w : Written) (es : List Entry) (f : CertFault) → Reaches text es w → row_at w.line w.words (rows_in es) ≡ Err f → Refuses text f
-refused_row text w es f r h =
+refused_row : (text : List ℕ) (w : Written) (es : List Entry) (f : CertFault) → length text ≤ most_characters → Reaches text es w → row_at w.line w.words (rows_in es) ≡ Err f → Refuses text f
+refused_row text w es f l r h =
     elim (chosen (begins_cert w.words) (Err (DuplicateRow w.line)) (entered w.line (entry_at w.words) (rows_in es)) (Err f) h) [
-      | inl p ↦ (let same : DuplicateRow w.line ≡ f = cc in subst (Refuses text) same (head_again r p.0))
+      | inl p ↦ (let same : DuplicateRow w.line ≡ f = cc in subst (Refuses text) same (l, head_again r p.0))
       | inr p ↦ by (entry_at w.words) refl p.0 p.1
     ]
   where
     by : (o : Option Entry) → entry_at w.words ≡ o → begins_cert w.words ≡ false → entered w.line o (rows_in es) ≡ Err f → Refuses text f
-    by None e b k = let same : Row w.line ≡ f = cc in subst (Refuses text) same (no_row_word r b (λ x i. none_is (entry_at w.words) x e (entry_read w.words x i)))
+    by None e b k = let same : Row w.line ≡ f = cc in subst (Refuses text) same (l, no_row_word r b (λ x i. none_is (entry_at w.words) x e (entry_read w.words x i)))
     by (Some x) e b k =
         elim (chosen (has_row x (rows_in es)) (Err (DuplicateRow w.line)) (Ok (with_row x (rows_in es))) (Err f) k) [
-          | inl q ↦ (let same : DuplicateRow w.line ≡ f = cc in subst (Refuses text) same (path_again r (entry_found w.words x e) (sym (has_in x es) ∙ q.0)))
+          | inl q ↦ (let same : DuplicateRow w.line ≡ f = cc in subst (Refuses text) same (l, path_again r (entry_found w.words x e) (sym (has_in x es) ∙ q.0)))
           | inr q ↦ absurd (cc)
         ]
 
-all_refused : (text : List ℕ) (ws : List Written) (f : CertFault) → rows text ≡ ws → all_at ws ≡ Err f → Refuses text f
+all_refused : (text : List ℕ) (ws : List Written) (f : CertFault) → length text ≤ most_characters → rows text ≡ ws → all_at ws ≡ Err f → Refuses text f
 unfolding all_at
-all_refused text [] f e h = let same : Row 1 ≡ f = cc in subst (Refuses text) same (no_row e)
-all_refused text (w ∷ ws) f e h =
+all_refused text [] f l e h = let same : Row 1 ≡ f = cc in subst (Refuses text) same (l, no_row e)
+all_refused text (w ∷ ws) f l e h =
     elim (chosen (is_head w.words) (rest_at ws no_rows) (Err (Row w.line)) (Err f) h) [
       | inl p ↦ (let s = rest_stops ws [] f p.1 in
-          refused_row text s.here s.es f (record { first = w; others = s.before; after = s.after; rows_are = e ∙ ap (λ v. w ∷ v) s.is; first_is = head_found w.words p.0; others_are = s.are; none_twice = none_twice s.es s.new }) s.cause)
-      | inr p ↦ (let same : Row w.line ≡ f = cc in subst (Refuses text) same (no_head e (λ i. let t = head_read w.words i in absurd (cc))))
+          refused_row text s.here s.es f l (record { first = w; others = s.before; after = s.after; rows_are = e ∙ ap (λ v. w ∷ v) s.is; first_is = head_found w.words p.0; others_are = s.are; none_twice = none_twice s.es s.new }) s.cause)
+      | inr p ↦ (let same : Row w.line ≡ f = cc in subst (Refuses text) same (l, no_head e (λ i. let t = head_read w.words i in absurd (cc))))
     ]
 
 pub text_refused : (text : List ℕ) (f : CertFault) → text_at text ≡ Err f → Refuses text f
 text_refused text f h =
     elim (chosen (nat_lt most_characters (length text)) (Err TooLong) (whole (lines_at 1 (lines (upper text)) (read false no_rows))) (Err f) h) [
       | inl p ↦ (let same : TooLong ≡ f = cc in subst (Refuses text) same (ltb-true most_characters (length text) p.0))
-      | inr p ↦ all_refused text (rows text) f refl (sym (all_lines 1 (lines (upper text))) ∙ p.1)
+      | inr p ↦ all_refused text (rows text) f (ltb-false most_characters (length text) p.0) refl (sym (all_lines 1 (lines (upper text))) ∙ p.1)
     ]

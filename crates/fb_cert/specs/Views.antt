@@ -1,5 +1,5 @@
 -- What certificates are, without where they lie in memory.
-use Rattle.std.specs.Prelude.{◌≡◌, ℕ, Bool, true, false, not, cond, List, [], ◌∷◌, ◌++◌, map, string_bytes, Option, Some, None, if◌then◌else◌}
+use Rattle.std.specs.Prelude.{◌≡◌, ℕ, Bool, not, List, [], ◌∷◌, ◌++◌, map, string_bytes, Option, Some, None, if◌then◌else◌}
 use Rattle.std.specs.List.{list_any}
 use Rattle.std.specs.Str.{bytes_eq}
 use Rattle.std.specs.declared.string.String.{String}
@@ -89,3 +89,24 @@ with_row (depth p n) rows = record { charges = rows.charges; weights = rows.weig
 
 abbrev pub AddsRow : Rows → Entry → Rows → Bool → Type 0
 AddsRow old e new said = (said ≡ not (has_row e old)) × (new ≡ (if said then with_row e old else old))
+
+-- ---- where there is no row, the book counts nothing
+
+abbrev pub steps_in : Option Amount → ℕ
+steps_in None = 0
+steps_in (Some a) = a.steps
+
+abbrev pub places_in : Option Amount → ℕ
+places_in None = 0
+places_in (Some a) = a.places
+
+abbrev pub depth_in : Option ℕ → ℕ
+depth_in None = 0
+depth_in (Some n) = n
+
+-- a row in the book's form
+abbrev pub row_shown : (Bor (List ℕ)) × Amount → book.Row
+row_shown p = row_of p.0.now p.1.steps p.1.places
+
+abbrev pub depth_shown : (Bor (List ℕ)) × ℕ → book.DepthRow
+depth_shown p = depth_row p.0.now p.1

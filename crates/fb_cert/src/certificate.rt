@@ -2,7 +2,9 @@
 
 ghost use Rattle.std.specs.Prelude.{◌≡◌, ◌<◌, length, slice_get, IfOk, OnOk, Some, None};
 ghost use Rattle.std.specs.Option.{option_map};
-ghost use Rattle.fb_cert.specs.Views.{rows_of, no_rows, texts_of, first_at, Adds, AddsRow, entry_of, shown};
+ghost use Rattle.fb_cert.specs.Views.{rows_of, no_rows, texts_of, first_at, Adds, AddsRow, entry_of, shown, row_shown, depth_shown, certificate_of, steps_in, places_in, depth_in};
+ghost use Rattle.fb_model.specs.Certificates as book;
+ghost use Rattle.fb_model.specs.CertificateText.{place_of, names_in};
 
 use crate::row::Row;
 use indexmap::IndexMap;
@@ -64,21 +66,26 @@ impl Certificate {
 
     /// The row `CHARGE` of a state.
     pub fn charge(&self, path: &str) -> Option<Amount>
-        ensures { result ≡ first_at path.now (rows_of self.now).charges }
+        ensures row { result ≡ first_at path.now (rows_of self.now).charges }
+        ensures steps { steps_in result ≡ book.amount (λ r. r.steps) (certificate_of self.now).charges (place_of path.now) }
+        ensures places { places_in result ≡ book.amount (λ r. r.places) (certificate_of self.now).charges (place_of path.now) }
     {
         self.charges.get(path).copied()
     }
 
     /// The row `WEIGHT` of an event input or an arrival.
     pub fn weight(&self, path: &str) -> Option<Amount>
-        ensures { result ≡ first_at path.now (rows_of self.now).weights }
+        ensures row { result ≡ first_at path.now (rows_of self.now).weights }
+        ensures steps { steps_in result ≡ book.amount (λ r. r.steps) (certificate_of self.now).weights (place_of path.now) }
+        ensures places { places_in result ≡ book.amount (λ r. r.places) (certificate_of self.now).weights (place_of path.now) }
     {
         self.weights.get(path).copied()
     }
 
     /// The row `DEPTH` of a resource.
     pub fn depth(&self, path: &str) -> Option<u64>
-        ensures { result ≡ first_at path.now (rows_of self.now).depths }
+        ensures row { result ≡ first_at path.now (rows_of self.now).depths }
+        ensures depth { depth_in result ≡ book.depth_at (certificate_of self.now).depths (names_in path.now) }
     {
         self.depths.get(path).copied()
     }
@@ -106,7 +113,8 @@ impl Certificate {
 
     /// The row `CHARGE` at an index in text order, with its path.
     pub fn charge_at(&self, index: usize) -> Option<(&str, Amount)>
-        ensures { option_map shown result ≡ slice_get (rows_of self.now).charges index }
+        ensures row { option_map shown result ≡ slice_get (rows_of self.now).charges index }
+        ensures book { option_map row_shown result ≡ slice_get (certificate_of self.now).charges index }
     {
         let (path, amount) = self.charges.get_index(index)?;
         Some((path.as_str(), *amount))
@@ -114,7 +122,8 @@ impl Certificate {
 
     /// The row `WEIGHT` at an index in text order, with its path.
     pub fn weight_at(&self, index: usize) -> Option<(&str, Amount)>
-        ensures { option_map shown result ≡ slice_get (rows_of self.now).weights index }
+        ensures row { option_map shown result ≡ slice_get (rows_of self.now).weights index }
+        ensures book { option_map row_shown result ≡ slice_get (certificate_of self.now).weights index }
     {
         let (path, amount) = self.weights.get_index(index)?;
         Some((path.as_str(), *amount))
@@ -122,7 +131,8 @@ impl Certificate {
 
     /// The row `DEPTH` at an index in text order, with its path.
     pub fn depth_at(&self, index: usize) -> Option<(&str, u64)>
-        ensures { option_map shown result ≡ slice_get (rows_of self.now).depths index }
+        ensures row { option_map shown result ≡ slice_get (rows_of self.now).depths index }
+        ensures book { option_map depth_shown result ≡ slice_get (certificate_of self.now).depths index }
     {
         let (path, depth) = self.depths.get_index(index)?;
         Some((path.as_str(), *depth))

@@ -6,7 +6,8 @@ ghost use Rattle.fb_model.specs.CertificateText.{words, most_characters, Spells}
 ghost use Rattle.fb_model.specs.Certificates as book;
 ghost use Rattle.fb_cert.specs.Views.{rows_of, no_rows, texts, certificate_of};
 ghost use Rattle.fb_cert.specs.Reading.{read, row_at, words_at, lines_at, whole, text_at};
-ghost use Rattle.fb_cert.specs.Answers.{Gives, Makes, Finds, Refuses};
+ghost use Rattle.fb_cert.specs.declared.fault.CertFault.{CertFault};
+ghost use Rattle.fb_cert.specs.Answers.{Gives, Makes, Finds, Faulty, Refuses, Tells};
 
 use crate::certificate::Certificate;
 use crate::fault::CertFault;
@@ -118,8 +119,10 @@ pub fn parse_cert(alloc: Global, text: &str) -> Result<Certificate, CertFault>
     ensures within { IfOk result (λ c. length text.now ≤ most_characters) }
     // What a text spells that is not too long is answered, unless memory runs out.
     ensures only { (certificate : book.Certificate) → length text.now ≤ most_characters → Spells text.now certificate → Finds certificate_of result certificate }
-    // What is refused is wrong, at its line.
+    // A refusal tells the first fault of the text, and its line.
     ensures refused { IfErr result (Refuses text.now) }
+    // The first fault of a text is told, unless memory runs out.
+    ensures told { (fault : CertFault) → Faulty text.now fault → Tells fault result }
 {
     read_text(alloc, text)
 }

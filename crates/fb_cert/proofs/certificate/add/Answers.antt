@@ -1,4 +1,4 @@
-use Rattle.std.proofs.Common.{◌≡◌, ◌∙◌, sym, ap, refl, not}
+use Rattle.std.proofs.Common.{◌∙◌, sym, ap, refl, not}
 use Rattle.fb_cert.proofs.Tables.{has_from_lookup, adds}
 use Rattle.fb_cert.proofs.certificate.add.Goals as goal
 

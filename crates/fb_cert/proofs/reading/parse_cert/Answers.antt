@@ -10,4 +10,5 @@ returns c =
       within = answered.within text r c.read_text.ensures;
       only = answered.only text r c.read_text.ensures;
       refused = answered.refused text r c.read_text.ensures;
+      told = answered.told text r c.read_text.ensures;
     }

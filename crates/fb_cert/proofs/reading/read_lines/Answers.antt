@@ -1,11 +1,11 @@
-use Rattle.std.proofs.Common.{◌≡◌, ◌+◌, ◌≤◌, length, false, Ok, sym, ap, subst, ◌∙◌, arith, refl, zero-add}
+use Rattle.std.proofs.Common.{◌≡◌, length, false, Ok, ap, ◌∙◌, arith, zero-add}
 use Rattle.std.proofs.lemmas.Iterator.Splits.{YieldsList-from_lines}
 use Rattle.std.proofs.lemmas.Result.{err_from_is_err_and}
 use Rattle.std.specs.Str.Lines.{lines}
 use Rattle.fb_model.specs.CertificateText.{words}
-use Rattle.fb_cert.specs.Views.{no_rows, rows_of, texts}
+use Rattle.fb_cert.specs.Views.{rows_of, texts}
 use Rattle.fb_cert.specs.Reading.{read, whole, lines_at}
-use Rattle.fb_cert.proofs.Lines.{Ahead, turn, next, failed, ended, lines_le}
+use Rattle.fb_cert.proofs.Lines.{turn, next, failed, ended, lines_le}
 use Rattle.fb_cert.proofs.reading.read_lines.Goals as goal
 
 pub loop-line-init : goal.loop-line-init

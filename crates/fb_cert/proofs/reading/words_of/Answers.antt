@@ -1,5 +1,4 @@
 use Rattle.std.proofs.Common.{ℕ, List, length, ◌==◌, not, lit<, rules, tests}
-use Rattle.std.proofs.lemmas.Iterator.{YieldsList}
 use Rattle.std.proofs.lemmas.Iterator.Consumers.{YieldsList-from_filter, map_from_collect, YieldsList-at}
 use Rattle.std.proofs.lemmas.Iterator.Splits.{YieldsList-from_str_split}
 use Rattle.fb_cert.proofs.reading.words_of.Goals as goal
