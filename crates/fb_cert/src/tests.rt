@@ -130,6 +130,30 @@ fn holds_the_bounds(rt: HostRuntime) {
     assert_eq!(rt; refusal(alloc, "CERT 1\nDEPTH D.R 4096"), OK);
 }
 
+fn line_feeds(alloc: std::alloc::Global, count: usize) -> Result<String, std::alloc::AllocError> {
+    "\n".repeat(alloc, count)
+}
+
+#[test]
+fn holds_the_bounds_of_a_depth(rt: HostRuntime) -> Result<(), Fail> {
+    let alloc = rt.alloc();
+    let front =
+        "CERT 1\nCHARGE D.R.C.START 0 0\nCHARGE D.R.C.DONE 1 0\nWEIGHT D.R.BUTTON.ARRIVE 4 1\nWEIGHT D.R.C.EI 3 1\n";
+    let deep = format!(in alloc; "{front}DEPTH D.R 5000\n")?;
+    assert_eq!(rt; refusal(alloc, deep.as_str()), (30, 6));
+    let flat = format!(in alloc; "{front}DEPTH D.R 0\n")?;
+    assert_eq!(rt; refusal(alloc, flat.as_str()), (30, 6));
+    Ok(())
+}
+
+#[test]
+fn refuses_a_long_text(rt: HostRuntime) -> Result<(), Fail> {
+    let alloc = rt.alloc();
+    let text = line_feeds(alloc, 16_777_217)?;
+    assert_eq!(rt; refusal(alloc, text.as_str()), (4, 0));
+    Ok(())
+}
+
 #[test]
 fn wants_the_first_row(rt: HostRuntime) {
     let alloc = rt.alloc();

@@ -18,6 +18,7 @@ pub record Written : Type 0 where
   pub line : ℕ
   pub words : List (List ℕ)
 
+-- such a line
 abbrev pub written : ℕ → List (List ℕ) → Written
 written line ws = record { line = line; words = ws }
 
@@ -37,7 +38,7 @@ abbrev pub decimal_from : ℕ → List ℕ → ℕ
 decimal_from v [] = v
 decimal_from v (c ∷ cs) = decimal_from (v * 10 + (c - 48)) cs
 
--- one digit or more, the first of which may be zeros, whose number lies within bounds
+-- one digit or more, the first ones perhaps zeros, whose number lies within bounds
 pub record IsNumberIn (low high : ℕ) (cs : List ℕ) (n : ℕ) : Type 0 where
   pub some : 0 < length cs
   pub digits : AllByRecursion (λ c. is_digit c ≡ true) cs
@@ -45,9 +46,11 @@ pub record IsNumberIn (low high : ℕ) (cs : List ℕ) (n : ℕ) : Type 0 where
   pub at_least : low ≤ n
   pub at_most : n ≤ high
 
+-- the most steps of a row
 abbrev pub most_steps : ℕ
 most_steps = 1000000000000
 
+-- the most places of a row, and the most that a queue is deep
 abbrev pub most_places : ℕ
 most_places = 4096
 
@@ -59,11 +62,13 @@ names_in cs = slice_split (λ c. c == 46) cs
 abbrev pub IsDotted : List ℕ → Type 0
 IsDotted cs = AllByRecursion IsWord (names_in cs)
 
+-- the names before the last
 abbrev pub all_but_last : Path → Path
 all_but_last [] = []
 all_but_last (n ∷ []) = []
 all_but_last (n ∷ m ∷ ns) = n ∷ all_but_last (m ∷ ns)
 
+-- the last name
 abbrev pub last_name : Path → Name
 last_name [] = []
 last_name (n ∷ []) = n
@@ -107,24 +112,29 @@ is_same e d = false
 abbrev pub NoneTwice : List Entry → Type 0
 NoneTwice es = (before after : List Entry) (e : Entry) → es ≡ before ++ e ∷ after → list_any (is_same e) before ≡ false
 
+-- a row in the certificate, by its place
 abbrev pub row_of : List ℕ → ℕ → ℕ → Row
 row_of path steps places = record { place = place_of path; steps = steps; places = places }
 
+-- a row of a depth in the certificate, by its path
 abbrev pub depth_row : List ℕ → ℕ → DepthRow
 depth_row path n = record { path = names_in path; depth = n }
 
+-- the rows CHARGE in text order
 abbrev pub charges_of : List Entry → List Row
 charges_of [] = []
 charges_of (charge p s k ∷ es) = row_of p s k ∷ charges_of es
 charges_of (weight p s k ∷ es) = charges_of es
 charges_of (depth p n ∷ es) = charges_of es
 
+-- the rows WEIGHT in text order
 abbrev pub weights_of : List Entry → List Row
 weights_of [] = []
 weights_of (charge p s k ∷ es) = weights_of es
 weights_of (weight p s k ∷ es) = row_of p s k ∷ weights_of es
 weights_of (depth p n ∷ es) = weights_of es
 
+-- the rows DEPTH in text order
 abbrev pub depths_of : List Entry → List DepthRow
 depths_of [] = []
 depths_of (charge p s k ∷ es) = depths_of es
@@ -158,6 +168,7 @@ pub record Reaches (text : List ℕ) (entries : List Entry) (here : Written) : T
   pub others_are : AreEntries others entries
   pub none_twice : NoneTwice entries
 
+-- the first word is CERT
 abbrev pub begins_cert : List (List ℕ) → Bool
 begins_cert [] = false
 begins_cert (w ∷ ws) = bytes_eq w (codes "CERT")
