@@ -19,3 +19,4 @@ pub mod Certificates
 pub mod Devices
 pub mod Headline
 pub mod World
+pub mod CertificateText

@@ -1,0 +1,11 @@
+pub mod Tables
+pub mod Lines
+pub mod Deciding
+pub mod Numbers
+pub mod Paths
+pub mod Entries
+pub mod ByKind
+pub mod Texts
+pub mod Answered
+pub mod Places
+pub mod Refusals

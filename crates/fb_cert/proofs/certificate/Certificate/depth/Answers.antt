@@ -1,0 +1,12 @@
+use Rattle.std.proofs.Common.{◌≡◌, ◌∙◌, sym, ap}
+use Rattle.fb_cert.specs.Views.{first_at, texts_of, depth_in}
+use Rattle.fb_cert.proofs.Tables.{first_from_lookup}
+use Rattle.fb_cert.proofs.Places.{depths_same}
+use Rattle.fb_cert.proofs.certificate.Certificate.depth.Goals as goal
+
+pub returns : goal.returns
+returns c =
+    let table = texts_of c.args.self.now.depths in
+    let path = c.args.path.now in
+    let e : c.copied.result ≡ first_at path table = c.copied.ensures ∙ c.get.ensures.value ∙ first_from_lookup path c.args.self.now.depths.entries in
+    record { row = e; depth = ap depth_in e ∙ sym (depths_same table path) }

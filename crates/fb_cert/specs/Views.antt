@@ -1,0 +1,112 @@
+-- What certificates are, without where they lie in memory.
+use Rattle.std.specs.Prelude.{◌≡◌, ℕ, Bool, not, List, [], ◌∷◌, ◌++◌, map, string_bytes, Option, Some, None, if◌then◌else◌}
+use Rattle.std.specs.List.{list_any}
+use Rattle.std.specs.Str.{bytes_eq}
+use Rattle.std.specs.declared.string.String.{String}
+use Rattle.std.specs.declared.alloc.Global.{Global}
+use Rattle.indexmap.specs.IndexMap.{IndexMap}
+use Rattle.fb_cert.specs.declared.certificate.Amount.{Amount}
+use Rattle.fb_cert.specs.declared.certificate.Certificate.{Certificate}
+use denote.Ref.{Bor}
+use Rattle.fb_model.specs.Certificates as book
+use Rattle.fb_model.specs.CertificateText.{row_of, depth_row, Entry, charge, weight, depth}
+use Rattle.fb_cert.specs.declared.row.Row.{Row}
+use Rattle.fb_cert.specs.declared.row.Row.TheVariants.{Charge, Weight, Depth}
+
+-- the rows of a kind, each by its path
+abbrev pub Table : Type 0 → Type 0
+Table V = List ((List ℕ) × V)
+
+abbrev pub texts_of : {V S : Type 0} → IndexMap (String Global) V S → Table V
+texts_of m = map (λ e. (string_bytes e.0, e.1)) m.entries
+
+-- what the first row of a path says
+abbrev pub first_at : {V : Type 0} → List ℕ → Table V → Option V
+first_at path [] = None
+first_at path (r ∷ rs) = if bytes_eq path r.0 then Some r.1 else first_at path rs
+
+abbrev pub has_path : {V : Type 0} → List ℕ → Table V → Bool
+has_path path rows = list_any (λ r. bytes_eq path r.0) rows
+
+-- whether a path is new, and the rows with it at the end
+abbrev pub Adds : {V : Type 0} → Table V → List ℕ → V → Table V → Bool → Type 0
+Adds old path value new said = (said ≡ not (has_path path old)) × (new ≡ (if said then old ++ (path, value) ∷ [] else old))
+
+-- the rows of a text by their kinds
+pub record Rows : Type 0 where
+  pub charges : Table Amount
+  pub weights : Table Amount
+  pub depths : Table ℕ
+
+abbrev pub no_rows : Rows
+no_rows = record { charges = []; weights = []; depths = [] }
+
+abbrev pub rows_of : Certificate → Rows
+rows_of c = record { charges = texts_of c.charges; weights = texts_of c.weights; depths = texts_of c.depths }
+
+abbrev pub amount_rows : Table Amount → List book.Row
+amount_rows rows = map (λ r. row_of r.0 r.1.steps r.1.places) rows
+
+abbrev pub depth_rows : Table ℕ → List book.DepthRow
+depth_rows rows = map (λ r. depth_row r.0 r.1) rows
+
+abbrev pub book_of : Rows → book.Certificate
+book_of rows = record { ranges = []; charges = amount_rows rows.charges; weights = amount_rows rows.weights; depths = depth_rows rows.depths; repeats = None; fars = []; far_states = []; channels = [] }
+
+-- the certificate that the checker speaks of
+abbrev pub certificate_of : Certificate → book.Certificate
+certificate_of c = book_of (rows_of c)
+
+abbrev pub shown : {V : Type 0} → (Bor (List ℕ)) × V → (List ℕ) × V
+shown p = (p.0.now, p.1)
+
+abbrev pub texts : List (Bor (List ℕ)) → List (List ℕ)
+texts words = map (λ w. w.now) words
+
+abbrev pub entry_of : Row → Entry
+entry_of (Charge path a) = charge path.now a.steps a.places
+entry_of (Weight path a) = weight path.now a.steps a.places
+entry_of (Depth path n) = depth path.now n
+
+abbrev pub row_seen : Option Row → Option Entry
+row_seen None = None
+row_seen (Some row) = Some (entry_of row)
+
+abbrev pub amount : ℕ → ℕ → Amount
+amount steps places = record { steps = steps; places = places }
+
+-- the row's path stands already in a row of its kind
+abbrev pub has_row : Entry → Rows → Bool
+has_row (charge p s k) rows = has_path p rows.charges
+has_row (weight p s k) rows = has_path p rows.weights
+has_row (depth p n) rows = has_path p rows.depths
+
+-- the rows with one more at the end
+abbrev pub with_row : Entry → Rows → Rows
+with_row (charge p s k) rows = record { charges = rows.charges ++ (p, amount s k) ∷ []; weights = rows.weights; depths = rows.depths }
+with_row (weight p s k) rows = record { charges = rows.charges; weights = rows.weights ++ (p, amount s k) ∷ []; depths = rows.depths }
+with_row (depth p n) rows = record { charges = rows.charges; weights = rows.weights; depths = rows.depths ++ (p, n) ∷ [] }
+
+abbrev pub AddsRow : Rows → Entry → Rows → Bool → Type 0
+AddsRow old e new said = (said ≡ not (has_row e old)) × (new ≡ (if said then with_row e old else old))
+
+-- ---- where there is no row, the book counts nothing
+
+abbrev pub steps_in : Option Amount → ℕ
+steps_in None = 0
+steps_in (Some a) = a.steps
+
+abbrev pub places_in : Option Amount → ℕ
+places_in None = 0
+places_in (Some a) = a.places
+
+abbrev pub depth_in : Option ℕ → ℕ
+depth_in None = 0
+depth_in (Some n) = n
+
+-- a row in the book's form
+abbrev pub row_shown : (Bor (List ℕ)) × Amount → book.Row
+row_shown p = row_of p.0.now p.1.steps p.1.places
+
+abbrev pub depth_shown : (Bor (List ℕ)) × ℕ → book.DepthRow
+depth_shown p = depth_row p.0.now p.1

@@ -1,0 +1,16 @@
+//! Certificate texts.
+#![tactic(auto)]
+
+mod certificate;
+mod fault;
+mod law;
+mod reading;
+mod row;
+
+pub use certificate::{Amount, Certificate};
+pub use fault::CertFault;
+pub use law::spelled_once;
+pub use reading::parse_cert;
+
+#[cfg(test)]
+mod tests;

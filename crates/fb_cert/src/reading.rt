@@ -1,0 +1,128 @@
+//! Certificate texts, line by line.
+
+ghost use Rattle.std.specs.Prelude.{◌≡◌, ◌≤◌, length, IfOk, IfErr, false};
+ghost use Rattle.std.specs.Str.Lines.{lines};
+ghost use Rattle.fb_model.specs.CertificateText.{words, most_characters, Spells};
+ghost use Rattle.fb_model.specs.Certificates as book;
+ghost use Rattle.fb_cert.specs.Views.{rows_of, no_rows, texts, certificate_of};
+ghost use Rattle.fb_cert.specs.Reading.{read, row_at, words_at, lines_at, whole, text_at};
+ghost use Rattle.fb_cert.specs.declared.fault.CertFault.{CertFault};
+ghost use Rattle.fb_cert.specs.Answers.{Gives, Makes, Finds, Faulty, Refuses, Tells};
+
+use crate::certificate::Certificate;
+use crate::fault::CertFault;
+use crate::row::{begins_cert, is_head, read_row};
+use std::alloc::{AllocError, Global};
+
+/// The most bytes of a text.
+const MOST_BYTES: usize = 16_777_216;
+
+/// What is read so far: whether the first row has come, and the rows behind it.
+#[derive(Drop)]
+struct Reader {
+    headed: bool,
+    certificate: Certificate,
+}
+
+fn words_of(alloc: Global, line: &str) -> Result<Vec<&str>, AllocError>
+    ensures { IfOk result (λ v. texts v.items ≡ words line.now) }
+{
+    line.split(' ')
+        .filter(|word| !word.is_empty())
+        .collect(alloc)
+}
+
+// Enters a row after the first.
+fn enter(
+    alloc: Global,
+    certificate: &mut Certificate,
+    words: &[&str],
+    line: usize,
+) -> Result<(), CertFault>
+    ensures { Makes (rows_of certificate.new) result (row_at line (texts words.now) (rows_of certificate.old)) }
+{
+    if begins_cert(words) {
+        return Err(CertFault::DuplicateRow(line));
+    }
+    match read_row(words) {
+        None => Err(CertFault::Row(line)),
+        Some(row) => {
+            if certificate.add(alloc, row)? {
+                Ok(())
+            } else {
+                Err(CertFault::DuplicateRow(line))
+            }
+        }
+    }
+}
+
+impl Reader {
+    ghost use Rattle.fb_cert.specs.Progress.{read_of};
+
+    // Takes the words of the line with this number.
+    fn take(&mut self, alloc: Global, words: &[&str], line: usize) -> Result<(), CertFault>
+        ensures { Makes (read_of self.new) result (words_at line (texts words.now) (read_of self.old)) }
+    {
+        if words.is_empty() {
+            return Ok(());
+        }
+        if self.headed {
+            return enter(alloc, &mut self.certificate, words, line);
+        }
+        if !is_head(words) {
+            return Err(CertFault::Row(line));
+        }
+        self.headed = true;
+        Ok(())
+    }
+}
+
+// Reads a text in upper case.
+fn read_lines(alloc: Global, text: &str) -> Result<Certificate, CertFault>
+    requires { length text.now ≤ most_characters }
+    ensures { Gives rows_of result (whole (lines_at 1 (lines text.now) (read false no_rows))) }
+{
+    let mut reader = Reader {
+        headed: false,
+        certificate: Certificate::new(alloc),
+    };
+    let mut number = 0;
+    for line in text.lines() {
+        number += 1;
+        let words = words_of(alloc, line)?;
+        reader.take(alloc, words.as_slice(), number)?;
+    }
+    if !reader.headed {
+        return Err(CertFault::Row(1));
+    }
+    Ok(reader.certificate)
+}
+
+fn read_text(alloc: Global, text: &str) -> Result<Certificate, CertFault>
+    ensures { Gives rows_of result (text_at text.now) }
+{
+    if text.len() > MOST_BYTES {
+        return Err(CertFault::TooLong);
+    }
+    let upper = text.to_ascii_uppercase(alloc)?;
+    read_lines(alloc, upper.as_str())
+}
+
+/// The certificate that a text spells: `CERT 1`, and then a row a line, as `CHARGE D.R.C.START 0 0`, `WEIGHT D.R.C.EI 3 1` or
+/// `DEPTH D.R 1`. Letter case has no meaning.
+///
+/// Steps are at most 1,000,000,000,000 and places at most 4096; a depth is 1 to 4096. Words stand between spaces, and lines without
+/// words have no meaning but are counted.
+pub fn parse_cert(alloc: Global, text: &str) -> Result<Certificate, CertFault>
+    // What is answered is what the text spells, and the text is not too long.
+    ensures found { IfOk result (λ c. Spells text.now (certificate_of c)) }
+    ensures within { IfOk result (λ c. length text.now ≤ most_characters) }
+    // What a text spells that is not too long is answered, unless memory runs out.
+    ensures only { (certificate : book.Certificate) → length text.now ≤ most_characters → Spells text.now certificate → Finds certificate_of result certificate }
+    // A refusal tells the first fault of the text, and its line.
+    ensures refused { IfErr result (Refuses text.now) }
+    // The first fault of a text is told, unless memory runs out.
+    ensures told { (fault : CertFault) → Faulty text.now fault → Tells fault result }
+{
+    read_text(alloc, text)
+}

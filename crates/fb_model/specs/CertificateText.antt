@@ -1,0 +1,189 @@
+-- How a certificate is written: this project's profile.
+use Rattle.std.specs.Prelude.{◌≡◌, ℕ, ◌+◌, ◌-◌, ◌*◌, ◌<◌, ◌≤◌, ◌==◌, Bool, true, false, not, List, [], ◌∷◌, ◌++◌, length, filter, codes, None, if◌then◌else◌}
+use Rattle.std.specs.List.{slice_split, list_any, AllByRecursion}
+use Rattle.std.specs.Str.{bytes_eq}
+use Rattle.std.specs.Str.Lines.{lines}
+use Rattle.fb_model.specs.Names.{Name, Path, Place, at_place}
+use Rattle.fb_model.specs.Spelling.{is_digit, upper, IsWord}
+use Rattle.fb_model.specs.Certificates.{Certificate, Row, DepthRow}
+
+-- ---- lines and words
+
+-- the words of a line stand between spaces
+abbrev pub words : List ℕ → List (List ℕ)
+words line = filter (λ w. not (length w == 0)) (slice_split (λ c. c == 32) line)
+
+-- a line that has words, and its number
+pub record Written : Type 0 where
+  pub line : ℕ
+  pub words : List (List ℕ)
+
+-- such a line
+abbrev pub written : ℕ → List (List ℕ) → Written
+written line ws = record { line = line; words = ws }
+
+-- the rows in these lines, whose first has this number; a line without words is counted
+abbrev pub rows_from : ℕ → List (List ℕ) → List Written
+rows_from n [] = []
+rows_from n (line ∷ rest) = if length (words line) == 0 then rows_from (n + 1) rest else written n (words line) ∷ rows_from (n + 1) rest
+
+-- letter case has no meaning, and a carriage return before a line feed belongs to it
+abbrev pub rows : List ℕ → List Written
+rows text = rows_from 1 (lines (upper text))
+
+-- ---- numbers and paths
+
+-- what digits count behind those that count v
+abbrev pub decimal_from : ℕ → List ℕ → ℕ
+decimal_from v [] = v
+decimal_from v (c ∷ cs) = decimal_from (v * 10 + (c - 48)) cs
+
+-- one digit or more, the first ones perhaps zeros, whose number lies within bounds
+pub record IsNumberIn (low high : ℕ) (cs : List ℕ) (n : ℕ) : Type 0 where
+  pub some : 0 < length cs
+  pub digits : AllByRecursion (λ c. is_digit c ≡ true) cs
+  pub value : decimal_from 0 cs ≡ n
+  pub at_least : low ≤ n
+  pub at_most : n ≤ high
+
+-- the most steps of a row
+abbrev pub most_steps : ℕ
+most_steps = 1000000000000
+
+-- the most places of a row, and the most that a queue is deep
+abbrev pub most_places : ℕ
+most_places = 4096
+
+-- what stands between the dots
+abbrev pub names_in : List ℕ → Path
+names_in cs = slice_split (λ c. c == 46) cs
+
+-- names joined by dots
+abbrev pub IsDotted : List ℕ → Type 0
+IsDotted cs = AllByRecursion IsWord (names_in cs)
+
+-- the names before the last
+abbrev pub all_but_last : Path → Path
+all_but_last [] = []
+all_but_last (n ∷ []) = []
+all_but_last (n ∷ m ∷ ns) = n ∷ all_but_last (m ∷ ns)
+
+-- the last name
+abbrev pub last_name : Path → Name
+last_name [] = []
+last_name (n ∷ []) = n
+last_name (n ∷ m ∷ ns) = last_name (m ∷ ns)
+
+-- the last name is the event's, those before it the block's
+abbrev pub place_of : List ℕ → Place
+place_of cs = at_place (all_but_last (names_in cs)) (last_name (names_in cs))
+
+-- ---- rows
+
+-- a row after the first, with its path as it is written
+pub data Entry : Type 0 where
+  charge : List ℕ → ℕ → ℕ → Entry
+  weight : List ℕ → ℕ → ℕ → Entry
+  depth : List ℕ → ℕ → Entry
+
+-- the first row
+pub data IsHead : List (List ℕ) → Type 0 where
+  head : {n : List ℕ} → IsNumberIn 1 1 n 1 → IsHead (codes "CERT" ∷ n ∷ [])
+
+-- the words of a row after the first
+pub data IsEntry : List (List ℕ) → Entry → Type 0 where
+  a_charge : {p s k : List ℕ} {steps places : ℕ} → IsDotted p → IsNumberIn 0 most_steps s steps → IsNumberIn 0 most_places k places → IsEntry (codes "CHARGE" ∷ p ∷ s ∷ k ∷ []) (charge p steps places)
+  a_weight : {p s k : List ℕ} {steps places : ℕ} → IsDotted p → IsNumberIn 0 most_steps s steps → IsNumberIn 0 most_places k places → IsEntry (codes "WEIGHT" ∷ p ∷ s ∷ k ∷ []) (weight p steps places)
+  a_depth : {p d : List ℕ} {n : ℕ} → IsDotted p → IsNumberIn 1 most_places d n → IsEntry (codes "DEPTH" ∷ p ∷ d ∷ []) (depth p n)
+
+-- these rows, one after another
+pub data AreEntries : List Written → List Entry → Type 0 where
+  no_entry : AreEntries [] []
+  entry : {w : Written} {e : Entry} {ws : List Written} {es : List Entry} → IsEntry w.words e → AreEntries ws es → AreEntries (w ∷ ws) (e ∷ es)
+
+-- two rows of one kind have one path
+abbrev pub is_same : Entry → Entry → Bool
+is_same (charge p s k) (charge q t l) = bytes_eq p q
+is_same (weight p s k) (weight q t l) = bytes_eq p q
+is_same (depth p n) (depth q m) = bytes_eq p q
+is_same e d = false
+
+-- no row repeats one before it
+abbrev pub NoneTwice : List Entry → Type 0
+NoneTwice es = (before after : List Entry) (e : Entry) → es ≡ before ++ e ∷ after → list_any (is_same e) before ≡ false
+
+-- a row in the certificate, by its place
+abbrev pub row_of : List ℕ → ℕ → ℕ → Row
+row_of path steps places = record { place = place_of path; steps = steps; places = places }
+
+-- a row of a depth in the certificate, by its path
+abbrev pub depth_row : List ℕ → ℕ → DepthRow
+depth_row path n = record { path = names_in path; depth = n }
+
+-- the rows CHARGE in text order
+abbrev pub charges_of : List Entry → List Row
+charges_of [] = []
+charges_of (charge p s k ∷ es) = row_of p s k ∷ charges_of es
+charges_of (weight p s k ∷ es) = charges_of es
+charges_of (depth p n ∷ es) = charges_of es
+
+-- the rows WEIGHT in text order
+abbrev pub weights_of : List Entry → List Row
+weights_of [] = []
+weights_of (charge p s k ∷ es) = weights_of es
+weights_of (weight p s k ∷ es) = row_of p s k ∷ weights_of es
+weights_of (depth p n ∷ es) = weights_of es
+
+-- the rows DEPTH in text order
+abbrev pub depths_of : List Entry → List DepthRow
+depths_of [] = []
+depths_of (charge p s k ∷ es) = depths_of es
+depths_of (weight p s k ∷ es) = depths_of es
+depths_of (depth p n ∷ es) = depth_row p n ∷ depths_of es
+
+-- rows of the same kind in text order
+abbrev pub certificate_in : List Entry → Certificate
+certificate_in es = record { ranges = []; charges = charges_of es; weights = weights_of es; depths = depths_of es; repeats = None; fars = []; far_states = []; channels = [] }
+
+-- ---- whole texts
+
+-- The text says `CERT 1` and then the rows of the certificate, in their order.
+pub record Spells (text : List ℕ) (certificate : Certificate) : Type 0 where
+  pub first : Written
+  pub others : List Written
+  pub entries : List Entry
+  pub rows_are : rows text ≡ first ∷ others
+  pub first_is : IsHead first.words
+  pub others_are : AreEntries others entries
+  pub none_twice : NoneTwice entries
+  pub certificate_is : certificate ≡ certificate_in entries
+
+-- Up to this row the text is right, and the rows after the first have said these.
+pub record Reaches (text : List ℕ) (entries : List Entry) (here : Written) : Type 0 where
+  pub first : Written
+  pub others : List Written
+  pub after : List Written
+  pub rows_are : rows text ≡ (first ∷ others) ++ here ∷ after
+  pub first_is : IsHead first.words
+  pub others_are : AreEntries others entries
+  pub none_twice : NoneTwice entries
+
+-- the first word is CERT
+abbrev pub begins_cert : List (List ℕ) → Bool
+begins_cert [] = false
+begins_cert (w ∷ ws) = bytes_eq w (codes "CERT")
+
+-- What comes first is a row that cannot stand at this line.
+pub data IsWrong (text : List ℕ) : ℕ → Type 0 where
+  no_row : rows text ≡ [] → IsWrong text 1
+  no_head : {w : Written} {others : List Written} → rows text ≡ w ∷ others → (IsHead w.words → ⊥) → IsWrong text w.line
+  no_row_word : {w : Written} {entries : List Entry} → Reaches text entries w → begins_cert w.words ≡ false → ((e : Entry) → IsEntry w.words e → ⊥) → IsWrong text w.line
+
+-- What comes first is a row that stands a second time at this line.
+pub data IsRepeated (text : List ℕ) : ℕ → Type 0 where
+  head_again : {w : Written} {entries : List Entry} → Reaches text entries w → begins_cert w.words ≡ true → IsRepeated text w.line
+  path_again : {w : Written} {entries : List Entry} {e : Entry} → Reaches text entries w → IsEntry w.words e → list_any (is_same e) entries ≡ true → IsRepeated text w.line
+
+-- a text has at most so many characters
+abbrev pub most_characters : ℕ
+most_characters = 16777216
