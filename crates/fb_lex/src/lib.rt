@@ -1,8 +1,21 @@
 //! Texts to tokens.
 #![tactic(auto)]
 
+mod characters;
 mod fault;
+mod gap;
+mod lexer;
+mod literal;
+mod number;
+mod scan;
+mod sign;
+mod span;
 mod token;
+mod word;
+
+#[cfg(test)]
+mod tests;
 
 pub use fault::TextFault;
+pub use lexer::lex;
 pub use token::{Kind, Token};

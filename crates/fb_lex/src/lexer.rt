@@ -1,0 +1,41 @@
+//! Whole texts.
+
+use crate::fault::TextFault;
+use crate::gap::gap_at;
+use crate::scan::scan;
+use crate::token::Token;
+use std::alloc::Global;
+
+/// The most bytes of a text.
+const LONGEST_TEXT: usize = 1_048_576;
+
+/// Steps over a gap or a token, which is added to the tokens. What is left.
+fn step<'a>(
+    alloc: Global,
+    total: usize,
+    rest: &'a [u8],
+    tokens: &mut Vec<Token>,
+) -> Result<&'a [u8], TextFault> {
+    let start = total - rest.len();
+    if let Some(behind) = gap_at(start, rest)? {
+        return Ok(behind);
+    }
+    let (kind, behind) = scan(alloc, start, rest)?;
+    let end = total - behind.len();
+    tokens.push(Token { kind, start, end })?;
+    Ok(behind)
+}
+
+/// The tokens of a text.
+pub fn lex(alloc: Global, text: &str) -> Result<Vec<Token>, TextFault> {
+    let bytes = text.as_bytes();
+    if bytes.len() > LONGEST_TEXT {
+        return Err(TextFault::TooLong);
+    }
+    let mut tokens = Vec::new(alloc);
+    let mut rest = bytes;
+    while !rest.is_empty() {
+        rest = step(alloc, bytes.len(), rest, &mut tokens)?;
+    }
+    Ok(tokens)
+}
