@@ -2,7 +2,7 @@
 
 ghost use Rattle.std.specs.Prelude.{◌≡◌};
 ghost use Rattle.fb_model.specs.Spelling.{is_layout, is_digit, is_start, is_part};
-ghost use Rattle.fb_lex.specs.Scanning.{digit_in};
+ghost use Rattle.fb_lex.specs.Scanning.{digit_below, digit_in};
 
 pub(crate) fn is_layout(byte: u8) -> bool
     ensures { result ≡ is_layout byte }

@@ -1,5 +1,9 @@
 //! Whole texts.
 
+ghost use Rattle.std.specs.Prelude.{◌≡◌, ◌≤◌, length};
+ghost use Rattle.fb_lex.specs.Lexing.{Steps};
+ghost use Rattle.fb_lex.specs.Views.{tokens_of};
+
 use crate::fault::TextFault;
 use crate::gap::gap_at;
 use crate::scan::scan;
@@ -15,7 +19,10 @@ fn step<'a>(
     total: usize,
     rest: &'a [u8],
     tokens: &mut Vec<Token>,
-) -> Result<&'a [u8], TextFault> {
+) -> Result<&'a [u8], TextFault>
+    requires { length rest.now ≤ total }
+    ensures { Steps total rest.now (tokens_of tokens.old.items) (tokens_of tokens.new.items) result }
+{
     let start = total - rest.len();
     if let Some(behind) = gap_at(start, rest)? {
         return Ok(behind);

@@ -1,8 +1,15 @@
 //! Signs.
 
+ghost use Rattle.std.specs.Prelude.{◌≡◌};
+ghost use Rattle.fb_lex.specs.Scanning.{find_sign, one_sign, two_signs, sign_at};
+ghost use Rattle.fb_lex.specs.Lexing.{Gives};
+
 use fb_words::{Mark, SIGNS};
 
-fn find_sign(bytes: &[u8]) -> Option<Mark> {
+#[tactic(auto, unfolding(crate::specs::Scanning::find_sign))]
+fn find_sign(bytes: &[u8]) -> Option<Mark>
+    ensures { result ≡ find_sign bytes.now }
+{
     for mark in SIGNS.iter() {
         if mark.sign().as_bytes() == bytes {
             return Some(*mark);
@@ -12,7 +19,9 @@ fn find_sign(bytes: &[u8]) -> Option<Mark> {
 }
 
 /// The sign of one character that stands there.
-fn one_sign(bytes: &[u8]) -> Option<(Mark, &[u8])> {
+fn one_sign(bytes: &[u8]) -> Option<(Mark, &[u8])>
+    ensures { Gives result (one_sign bytes.now) }
+{
     if bytes.is_empty() {
         return None;
     }
@@ -22,7 +31,9 @@ fn one_sign(bytes: &[u8]) -> Option<(Mark, &[u8])> {
     }
 }
 
-fn two_signs(bytes: &[u8]) -> Option<(Mark, &[u8])> {
+fn two_signs(bytes: &[u8]) -> Option<(Mark, &[u8])>
+    ensures { Gives result (two_signs bytes.now) }
+{
     if bytes.len() < 2 {
         return None;
     }
@@ -33,7 +44,10 @@ fn two_signs(bytes: &[u8]) -> Option<(Mark, &[u8])> {
 }
 
 /// The longest sign that stands there, and what is left.
-pub(crate) fn sign_at(bytes: &[u8]) -> Option<(Mark, &[u8])> {
+#[tactic(auto, unfolding(crate::specs::Scanning::sign_at))]
+pub(crate) fn sign_at(bytes: &[u8]) -> Option<(Mark, &[u8])>
+    ensures { Gives result (sign_at bytes.now) }
+{
     match two_signs(bytes) {
         Some(found) => Some(found),
         None => one_sign(bytes),
