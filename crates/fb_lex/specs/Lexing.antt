@@ -1,13 +1,17 @@
 -- How what the code gives stands for what is found on lists.
 use Rattle.std.specs.Prelude.{◌≡◌, ℕ, ◌-◌, ◌++◌, ◌≤◌, ◌<◌, ◌^◌, List, [], ◌∷◌, length, Bool, true, false, Option, Some, None, Result, Ok, Err}
 use Rattle.std.specs.Borrow.{Bor}
+use Rattle.std.specs.Prelude.{Vec}
+use Rattle.std.specs.Global.{Global}
 use Rattle.fb_model.specs.Tokens as book
+use Rattle.fb_model.specs.Spelling.{IsBad, IsBig, FirstAt}
+use Rattle.fb_lex.specs.declared.token.Token.{Token}
 use Rattle.fb_lex.specs.declared.token.Kind.{Kind}
 use Rattle.fb_lex.specs.declared.span.Unit.{Unit as TimeUnit}
 use Rattle.fb_lex.specs.declared.fault.TextFault.{TextFault}
 use Rattle.fb_lex.specs.declared.fault.TextFault.TheVariants.{OutOfMemory, BadCharacter, Syntax, TooDeep, TooLong, BigNumber}
 use Rattle.fb_lex.specs.Scanning.{is_fit, Between, past, unclosed, nothing, gap_at, scan}
-use Rattle.fb_lex.specs.Views.{kind_of}
+use Rattle.fb_lex.specs.Views.{kind_of, tokens_of}
 
 -- something, and what is left
 abbrev pub Gives : {A : Type 0} → Option (A × Bor (List ℕ)) → Option (A × List ℕ) → Type 0
@@ -95,3 +99,22 @@ Steps total bytes before after (Err (BigNumber a)) = (a ≡ total - length bytes
 Steps total bytes before after (Err (Syntax a)) = ⊥
 Steps total bytes before after (Err (TooDeep a)) = ⊥
 Steps total bytes before after (Err TooLong) = ⊥
+
+-- the tokens are found, or memory ran out
+abbrev pub Finds : Result (Vec Token Global) TextFault → List book.Token → Type 0
+Finds (Ok v) ts = tokens_of v.items ≡ ts
+Finds (Err OutOfMemory) ts = Unit {0}
+Finds (Err (BadCharacter a)) ts = ⊥
+Finds (Err (BigNumber a)) ts = ⊥
+Finds (Err (Syntax a)) ts = ⊥
+Finds (Err (TooDeep a)) ts = ⊥
+Finds (Err TooLong) ts = ⊥
+
+-- why a text is refused
+abbrev pub Refuses : TextFault → List ℕ → Type 0
+Refuses OutOfMemory text = Unit {0}
+Refuses (BadCharacter at) text = FirstAt IsBad text at
+Refuses (BigNumber at) text = FirstAt IsBig text at
+Refuses (Syntax at) text = ⊥
+Refuses (TooDeep at) text = ⊥
+Refuses TooLong text = 1048576 < length text

@@ -1,7 +1,10 @@
 //! Whole texts.
 
-ghost use Rattle.std.specs.Prelude.{◌≡◌, ◌≤◌, length};
-ghost use Rattle.fb_lex.specs.Lexing.{Steps};
+ghost use Rattle.std.specs.Prelude.{◌≡◌, ℕ, ◌≤◌, ◌<◌, List, length, IfOk, IfErr, Err};
+ghost use Rattle.fb_model.specs.Tokens as book;
+ghost use Rattle.fb_model.specs.Spelling.{Spells};
+ghost use Rattle.fb_lex.specs.declared.fault.TextFault.TheVariants.{TooLong};
+ghost use Rattle.fb_lex.specs.Lexing.{Steps, Finds, Refuses};
 ghost use Rattle.fb_lex.specs.Views.{tokens_of};
 
 use crate::fault::TextFault;
@@ -34,7 +37,12 @@ fn step<'a>(
 }
 
 /// The tokens of a text.
-pub fn lex(alloc: Global, text: &str) -> Result<Vec<Token>, TextFault> {
+pub fn lex(alloc: Global, text: &str) -> Result<Vec<Token>, TextFault>
+    ensures found { IfOk result (λ v. Spells 0 text.now (tokens_of v.items)) }
+    ensures only { (ts : List book.Token) → Spells 0 text.now ts → length text.now ≤ 1048576 → Finds result ts }
+    ensures refused { IfErr result (λ f. Refuses f text.now) }
+    ensures long { 1048576 < length text.now → result ≡ Err TooLong }
+{
     let bytes = text.as_bytes();
     if bytes.len() > LONGEST_TEXT {
         return Err(TextFault::TooLong);
@@ -46,3 +54,8 @@ pub fn lex(alloc: Global, text: &str) -> Result<Vec<Token>, TextFault> {
     }
     Ok(tokens)
 }
+
+/// The characters of a text spell one list of tokens.
+pub fn one_spelling()
+    ensures { (text : List ℕ) (ts us : List book.Token) → Spells 0 text ts → Spells 0 text us → ts ≡ us }
+{}

@@ -17,5 +17,5 @@ mod word;
 mod tests;
 
 pub use fault::TextFault;
-pub use lexer::lex;
+pub use lexer::{lex, one_spelling};
 pub use token::{Kind, Token};
