@@ -1,12 +1,12 @@
 -- What is found at the characters of a number is no less than the number.
-use Rattle.std.proofs.Common.{◌≡◌, ◌≢◌, ℕ, zero, suc, ◌+◌, ◌-◌, ◌*◌, ◌<◌, ◌≤◌, ◌⊎◌, Bool, true, false, cond, List, [], ◌∷◌, ◌++◌, length, Option, Some, None, refl, sym, ap, subst, ◌∙◌, arith, inl, inr, append_assoc, length-append}
+use Rattle.std.proofs.Common.{◌≡◌, ℕ, ◌+◌, ◌*◌, ◌<◌, ◌≤◌, Bool, true, false, cond, List, [], ◌∷◌, ◌++◌, length, Option, Some, None, refl, sym, ap, subst, ◌∙◌, arith, append_assoc, length-append}
 use Rattle.std.specs.Prelude.{◌==◌, ◌&&◌, not}
 use Rattle.std.proofs.lemmas.Bool.{eqb-true, false_from_ne_true}
 use Rattle.fb_model.specs.Spelling.{digit_value, is_digit_in, IsDigits, no_more, digit, joined, IsWhole, whole, IsBase, binary, octal, hexadecimal, IsNumber, decimal, based}
 use Rattle.fb_lex.specs.Scanning.{or_else, with_rest, digits_at, from_digit, whole_at, behind_hash, named_base, base_at, in_base, number_at}
 use Rattle.fb_lex.proofs.Digits.{digits_digit, digits_joined}
 use Rattle.fb_lex.proofs.Words.{both_true}
-use Rattle.fb_lex.proofs.Sound.{ReadsAs, ReadsDigits, digits_sound, whole_sound, ReadsBase, base_sound}
+use Rattle.fb_lex.proofs.Sound.{ReadsAs, digits_sound, whole_sound, ReadsBase, base_sound}
 
 -- What is found where something stands before a rest: no less, and that very thing where it is no more.
 pub record Covers {A : Type 0} (q : Option (A × List ℕ)) (k : A) (rest : List ℕ) : Type 0 where
@@ -79,6 +79,7 @@ whole_less : (base : ℕ) (bytes : List ℕ) (v : ℕ) (left : List ℕ) → who
 whole_less base bytes v left e = by_read (subst (λ q. ReadsAs (IsWhole base) bytes q) e (whole_sound base bytes)) where
   whole_some : {n : ℕ} {cs : List ℕ} → IsWhole base cs n → 0 < length cs
   whole_some (whole h t) = omega arith
+
   by_read : ReadsAs (IsWhole base) bytes (Some (v, left)) → length left < length bytes
   by_read r = let a = whole_some r.1 in let b = ap length r.2 in let d = length-append r.0 left in omega arith
 
@@ -88,6 +89,7 @@ base_less bytes base rest e = by_read (subst (λ q. ReadsBase bytes q) e (base_s
   base_some binary = omega arith
   base_some octal = omega arith
   base_some hexadecimal = omega arith
+
   by_read : ReadsBase bytes (Some (base, rest)) → length rest + 2 ≤ length bytes
   by_read r = let a = base_some r.1 in let b = ap length r.2 in let d = length-append r.0 rest in omega arith
 
@@ -124,12 +126,12 @@ digits_longer : (c : ℕ) (rest : List ℕ) (v : ℕ) (left : List ℕ) {w n : �
 digits_longer c rest v left no_more e = let a = based_less (c ∷ rest) v left e in omega arith
 digits_longer c rest v left (digit {c = d} {cs = cs} g t) e =
     by_base (base_at (c ∷ d ∷ (cs ++ rest))) (sym (ap (λ b. cond b (named_base c (cs ++ rest)) (cond ((c == 49) && (d == 54)) (behind_hash (cs ++ rest)) None)) (digit_is_not 10 d 35 refl g))) e where
-  by_base : (q : Option (ℕ × List ℕ)) → cond ((c == 49) && (d == 54)) (behind_hash (cs ++ rest)) None ≡ q → in_base q ≡ Some (v, left) → length left < length rest
-  by_base None f k = absurd cc
-  by_base (Some (base, more)) f k = by_test ((c == 49) && (d == 54)) f where
-    by_test : (b : Bool) → cond b (behind_hash (cs ++ rest)) None ≡ Some (base, more) → length left < length rest
-    by_test true x = let a = hash_less cs rest base more (digits_no_hash t) x in let b = whole_less base more v left k in omega arith
-    by_test false x = absurd cc
+      by_base : (q : Option (ℕ × List ℕ)) → cond ((c == 49) && (d == 54)) (behind_hash (cs ++ rest)) None ≡ q → in_base q ≡ Some (v, left) → length left < length rest
+      by_base None f k = absurd cc
+      by_base (Some (base, more)) f k = by_test ((c == 49) && (d == 54)) f where
+        by_test : (b : Bool) → cond b (behind_hash (cs ++ rest)) None ≡ Some (base, more) → length left < length rest
+        by_test true x = let a = hash_less cs rest base more (digits_no_hash t) x in let b = whole_less base more v left k in omega arith
+        by_test false x = absurd cc
 digits_longer c rest v left (joined {c = d} {cs = cs} g t) e = by_test (c == 49) e where
   by_test : (b : Bool) → in_base (cond (b && false) (behind_hash (d ∷ (cs ++ rest))) None) ≡ Some (v, left) → length left < length rest
   by_test true f = absurd cc

@@ -1,10 +1,10 @@
 -- What is found at the characters of a TIME's parts is no less than those parts.
-use Rattle.std.proofs.Common.{◌≡◌, ◌≢◌, ℕ, zero, suc, ◌+◌, ◌-◌, ◌*◌, ◌<◌, ◌≤◌, ◌⊎◌, Bool, true, false, cond, List, [], ◌∷◌, ◌++◌, length, map, Option, Some, None, refl, sym, ap, subst, ◌∙◌, arith, inl, inr, append_assoc, length-append}
-use Rattle.std.specs.Prelude.{◌==◌, ◌&&◌, not, nat_lt, codes}
+use Rattle.std.proofs.Common.{◌≡◌, ℕ, zero, suc, ◌+◌, ◌*◌, ◌<◌, ◌≤◌, ◌⊎◌, Bool, true, false, cond, List, [], ◌∷◌, ◌++◌, length, Option, Some, None, refl, sym, ap, subst, ◌∙◌, arith, inl, inr, append_assoc, length-append}
+use Rattle.std.specs.Prelude.{◌==◌, ◌&&◌, not}
 use Rattle.std.specs.Char.{to_ascii_uppercase}
-use Rattle.std.proofs.lemmas.Bool.{eqb-true, eq-eqb}
+use Rattle.std.proofs.lemmas.Bool.{eq-eqb}
 use Rattle.std.proofs.lemmas.Bool.Decides.{nat_tests}
-use Rattle.fb_model.specs.Spelling.{upper, digit_value, is_digit_in, IsWhole, whole, IsUnit, days, hours, minutes, seconds, milliseconds, IsJoint, none, joint, IsAmount, IsSpan, last_part, more_parts}
+use Rattle.fb_model.specs.Spelling.{upper, is_digit_in, IsWhole, whole, IsUnit, days, hours, minutes, seconds, milliseconds, IsJoint, none, joint, IsAmount, IsSpan, last_part, more_parts}
 use Rattle.fb_lex.specs.declared.span.Unit.{Unit as TimeUnit}
 use Rattle.fb_lex.specs.declared.span.Unit.TheVariants as units
 use Rattle.fb_lex.specs.Scanning.{whole_at, rank_of, size_of, behind_m, unit_of, unit_at, counted, with_unit, amount_at, behind_joint, and_more, from_amount, span_at}
@@ -199,7 +199,7 @@ span_covers (more_parts {least = least} {rank = rank} {n = n} {m = k} {cs = cs} 
     let behind : behind_joint (front ++ (ds ++ rest)) ≡ ds ++ rest = ap behind_joint tail ∙ shows.1 ∙ sym (ap (λ l. l ++ rest) head.2) in
     let c = span_covers t m (omega arith) rest in
     let whole_is = ap (span_at (suc m) least) regroup ∙ from_unit m least (cs ++ (front ++ (ds ++ rest))) x.0 n (front ++ (ds ++ rest)) x.1 (omega arith)
-        ∙ ap (λ r. and_more n (front ++ (ds ++ rest)) (span_at m (r + 1) (behind_joint (front ++ (ds ++ rest))))) x.2
-        ∙ ap (λ l. and_more n (front ++ (ds ++ rest)) (span_at m (rank + 1) l)) behind
-        ∙ ap (and_more n (front ++ (ds ++ rest))) c.is in
+    ∙ ap (λ r. and_more n (front ++ (ds ++ rest)) (span_at m (r + 1) (behind_joint (front ++ (ds ++ rest))))) x.2
+    ∙ ap (λ l. and_more n (front ++ (ds ++ rest)) (span_at m (rank + 1) l)) behind
+    ∙ ap (and_more n (front ++ (ds ++ rest))) c.is in
     record { found = n + c.found; left = c.left; is = whole_is; no_less = c.no_less; same = λ f. ap (λ z. n + z) (c.same f) }

@@ -1,10 +1,10 @@
 -- What is found at the characters of a token is no less than the token.
-use Rattle.std.proofs.Common.{◌≡◌, ◌≢◌, ℕ, zero, suc, ◌+◌, ◌-◌, ◌*◌, ◌<◌, ◌≤◌, ◌⊎◌, Bool, true, false, cond, List, [], ◌∷◌, ◌++◌, length, map, Option, Some, None, refl, sym, ap, subst, ◌∙◌, arith, inl, inr, append_assoc, length-append}
+use Rattle.std.proofs.Common.{◌≡◌, ℕ, ◌<◌, ◌≤◌, Bool, true, false, cond, List, [], ◌∷◌, ◌++◌, length, Option, Some, None, refl, sym, ap, subst, ◌∙◌, arith, length-append}
 use Rattle.std.specs.Prelude.{◌==◌, ◌&&◌, ◌||◌, not, nat_le, codes}
 use Rattle.std.specs.Char.{to_ascii_uppercase}
 use Rattle.std.specs.Str.{bytes_eq}
 use Rattle.std.proofs.lemmas.List.{append-nil}
-use Rattle.std.proofs.lemmas.Bool.{leb-true, false_from_ne_true}
+use Rattle.std.proofs.lemmas.Bool.{leb-true}
 use Rattle.std.proofs.lemmas.Bool.Decides.{nat_tests}
 use Rattle.fb_words.specs.declared.mark.TheConstants.{WORDS, SIGNS}
 use Rattle.fb_words.specs.declared.mark.Mark.{Mark}
@@ -12,9 +12,9 @@ use Rattle.fb_words.specs.declared.mark.Mark.TheVariants as m
 use Rattle.fb_words.specs.declared.elem_type.ElemType.{ElemType}
 use Rattle.fb_words.specs.Writing.{sign_text, word_text, type_of}
 use Rattle.fb_model.specs.Tokens.{Kind, name, number, typed, duration, mark}
-use Rattle.fb_model.specs.Spelling.{is_layout, is_digit, is_start, is_part, upper, digit_value, is_digit_in, IsParts, no_part, part, IsWord, word, IsWhole, whole, IsBase, binary, octal, hexadecimal, IsNumber, decimal, based, IsSign, plus, minus, is_integer, IsSpan, is_time_word, IsLexeme, a_word, a_name, a_number, a_typed, a_duration, a_sign}
-use Rattle.fb_lex.specs.Scanning.{or_else, with_rest, first_digit, from_digit, whole_at, behind_hash, named_base, base_at, in_base, number_at, span_at, minus_at, integer_of, integer_type, typed_by, lasting, literal_of, literal_at, find, find_word, find_sign, named, parts_at, or_named, word_of, word_at, one_sign, two_signs, sign_at, marked, plain, plain_at, begins_word, scan}
-use Rattle.fb_lex.proofs.Words.{both_true, start_part, parts_at_part, parts_more, parts_left, text_is, word_listed, sign_listed, find_none}
+use Rattle.fb_model.specs.Spelling.{is_layout, is_digit, is_start, is_part, upper, digit_value, is_digit_in, IsParts, no_part, part, IsWord, word, whole, binary, octal, hexadecimal, IsNumber, decimal, based, IsSign, plus, minus, is_integer, IsSpan, is_time_word, IsLexeme, a_word, a_name, a_number, a_typed, a_duration, a_sign}
+use Rattle.fb_lex.specs.Scanning.{or_else, with_rest, from_digit, whole_at, behind_hash, base_at, in_base, number_at, span_at, minus_at, integer_of, integer_type, typed_by, lasting, literal_of, literal_at, find, find_word, find_sign, named, parts_at, or_named, word_of, word_at, one_sign, sign_at, marked, plain, plain_at, begins_word, scan}
+use Rattle.fb_lex.proofs.Words.{both_true, start_part, parts_more, parts_left, text_is, word_listed, sign_listed, find_none}
 use Rattle.fb_lex.proofs.Sound.{ReadsAs, number_sound, literal_parts}
 use Rattle.fb_lex.proofs.Steps.{number_long}
 use Rattle.fb_lex.proofs.CoversNumbers.{Covers, empty, digit_is_not, not_true, number_covers}
@@ -54,10 +54,12 @@ literal_of_less t q (negative, bytes) k left e = by_time (is_time_word t) e wher
   by_span : (s : Option (ℕ × List ℕ)) → span_at 5 0 bytes ≡ s → lasting negative s ≡ Some (k, left) → length left < length bytes
   by_span None f g = absurd cc
   by_span (Some (n, more)) f g = let a = span_less 5 0 bytes n more f in let b = same_left (duration negative n) k more left (Some (duration negative n, more)) refl g in omega arith
+
   by_number : (o : Option ElemType) (s : Option (ℕ × List ℕ)) → number_at bytes ≡ s → typed_by o negative s ≡ Some (k, left) → length left < length bytes
   by_number None s f g = absurd cc
   by_number (Some t) None f g = absurd cc
   by_number (Some t) (Some (n, more)) f g = let a = number_less bytes n more f in let b = same_left (typed t negative n) k more left (Some (typed t negative n, more)) refl g in omega arith
+
   by_time : (b : Bool) → cond b (lasting negative (span_at 5 0 bytes)) (typed_by (integer_type q) negative (number_at bytes)) ≡ Some (k, left) → length left < length bytes
   by_time true f = by_span (span_at 5 0 bytes) refl f
   by_time false f = by_number (integer_type q) (number_at bytes) refl f
@@ -75,8 +77,10 @@ unfolding find_word
 name_covers {cs = cs} w k e rest = by_literal (literal_at t (find word_text WORDS t) r.1) refl where
   r : List ℕ × List ℕ
   r = parts_at rest
+
   t : List ℕ
   t = upper (cs ++ r.0)
+
   by_literal : (o : Option (Kind × List ℕ)) → literal_at t (find word_text WORDS t) r.1 ≡ o → Covers (scan (cs ++ rest)) k rest
   by_literal None f =
       let n = parts_left rest in
@@ -186,10 +190,10 @@ typed_covers k {t = t} {negative = negative} cs sign ds e f h s x rest =
     let c = number_covers x rest in
     let front : minus_at (sign ++ (ds ++ rest)) ≡ (negative, ds ++ rest) = ap (λ l. minus_at (sign ++ (l ++ rest))) head.2 ∙ minus_shows s head.0 (head.1 ++ rest) head.3 ∙ ap (λ l. (negative, l ++ rest)) (sym head.2) in
     let found : literal_of (upper cs) (find word_text WORDS (upper cs)) (minus_at (sign ++ (ds ++ rest))) ≡ Some (typed t negative c.found, c.left) =
-        ap (literal_of (upper cs) (find word_text WORDS (upper cs))) front
-        ∙ ap (λ b. cond b (lasting negative (span_at 5 0 (ds ++ rest))) (typed_by (integer_type (find word_text WORDS (upper cs))) negative (number_at (ds ++ rest)))) shape.1
-        ∙ ap (λ o. typed_by o negative (number_at (ds ++ rest))) (integer_listed k t cs w e f h)
-        ∙ ap (typed_by (Some t) negative) c.is in
+    ap (literal_of (upper cs) (find word_text WORDS (upper cs))) front
+    ∙ ap (λ b. cond b (lasting negative (span_at 5 0 (ds ++ rest))) (typed_by (integer_type (find word_text WORDS (upper cs))) negative (number_at (ds ++ rest)))) shape.1
+    ∙ ap (λ o. typed_by o negative (number_at (ds ++ rest))) (integer_listed k t cs w e f h)
+    ∙ ap (typed_by (Some t) negative) c.is in
     record {
       found = typed t negative c.found;
       left = c.left;
@@ -205,9 +209,9 @@ duration_covers {negative = negative} cs sign ds h s x rest =
     let c = span_covers x 5 (omega arith) rest in
     let front : minus_at (sign ++ (ds ++ rest)) ≡ (negative, ds ++ rest) = ap (λ l. minus_at (sign ++ (l ++ rest))) head.2 ∙ minus_shows s head.0 (head.1 ++ rest) (digit_is_not 10 head.0 45 refl head.3) ∙ ap (λ l. (negative, l ++ rest)) (sym head.2) in
     let found : literal_of (upper cs) (find word_text WORDS (upper cs)) (minus_at (sign ++ (ds ++ rest))) ≡ Some (duration negative c.found, c.left) =
-        ap (literal_of (upper cs) (find word_text WORDS (upper cs))) front
-        ∙ ap (λ b. cond b (lasting negative (span_at 5 0 (ds ++ rest))) (typed_by (integer_type (find word_text WORDS (upper cs))) negative (number_at (ds ++ rest)))) h
-        ∙ ap (lasting negative) c.is in
+    ap (literal_of (upper cs) (find word_text WORDS (upper cs))) front
+    ∙ ap (λ b. cond b (lasting negative (span_at 5 0 (ds ++ rest))) (typed_by (integer_type (find word_text WORDS (upper cs))) negative (number_at (ds ++ rest)))) h
+    ∙ ap (lasting negative) c.is in
     record {
       found = duration negative c.found;
       left = c.left;

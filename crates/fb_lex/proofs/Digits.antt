@@ -1,8 +1,8 @@
 -- Digits one after the other.
-use Rattle.std.proofs.Common.{◌≡◌, ℕ, ◌+◌, ◌*◌, ◌≤◌, ◌<◌, Bool, true, false, cond, List, [], ◌∷◌, ◌++◌, length, Option, Some, None, refl, sym, ap, ◌∙◌, arith}
+use Rattle.std.proofs.Common.{◌≡◌, ℕ, ◌+◌, ◌*◌, Bool, true, false, cond, List, [], ◌∷◌, Option, Some, None, refl, ap, ◌∙◌}
 use Rattle.std.specs.Prelude.{◌==◌, ◌&&◌}
 use Rattle.fb_model.specs.Spelling.{digit_value, is_digit_in}
-use Rattle.fb_lex.specs.Scanning.{or_else, with_rest, digit_in, first_digit, joined_digit, next_digit, digits_at}
+use Rattle.fb_lex.specs.Scanning.{or_else, with_rest, joined_digit, next_digit, digits_at}
 
 pub digits_digit : (base v c : ℕ) (bytes : List ℕ) → is_digit_in base c ≡ true → digits_at base v (c ∷ bytes) ≡ digits_at base (v * base + digit_value c) bytes
 unfolding digits_at
@@ -22,10 +22,10 @@ digits_over base v c [] h g = ap (λ b. cond b (v * base + digit_value c, []) (v
 digits_over base v c (d ∷ cs) h g =
     ap (λ b. cond b (digits_at base (v * base + digit_value c) (d ∷ cs)) (cond ((c == 95) && is_digit_in base d) (digits_at base (v * base + digit_value d) cs) (v, c ∷ d ∷ cs))) h
     ∙ by_joint (c == 95) (is_digit_in base d) g where
-  by_joint : (a b : Bool) → cond a (with_rest cs (cond b (Some (digit_value d)) None)) None ≡ None → cond {A = ℕ × List ℕ} (a && b) (digits_at base (v * base + digit_value d) cs) (v, c ∷ d ∷ cs) ≡ (v, c ∷ d ∷ cs)
-  by_joint true true f = absurd cc
-  by_joint true false f = refl
-  by_joint false b f = refl
+      by_joint : (a b : Bool) → cond a (with_rest cs (cond b (Some (digit_value d)) None)) None ≡ None → cond {A = ℕ × List ℕ} (a && b) (digits_at base (v * base + digit_value d) cs) (v, c ∷ d ∷ cs) ≡ (v, c ∷ d ∷ cs)
+      by_joint true true f = absurd cc
+      by_joint true false f = refl
+      by_joint false b f = refl
 
 pub digits_next : (base v : ℕ) (bytes rest : List ℕ) (n : ℕ) → next_digit base bytes ≡ Some (n, rest) → digits_at base v bytes ≡ digits_at base (v * base + n) rest
 digits_next base v [] rest n e = absurd cc

@@ -1,5 +1,5 @@
 -- The search for a mark in a list of marks.
-use Rattle.std.proofs.Common.{◌≡◌, ◌<◌, ◌+◌, List, [], ◌∷◌, ℕ, zero, suc, Bool, true, false, cond, Option, Some, get_or, drop, length, arith, ap}
+use Rattle.std.proofs.Common.{◌≡◌, ◌<◌, List, [], ◌∷◌, ℕ, zero, suc, true, false, cond, Some, get_or, drop, length, arith, ap}
 use Rattle.std.specs.Str.{bytes_eq}
 use Rattle.fb_words.specs.declared.mark.Mark.{Mark}
 use Rattle.fb_lex.specs.Scanning.{find}

@@ -1,19 +1,18 @@
 -- What is found at the front is what the definition says.
-use Rattle.std.proofs.Common.{◌≡◌, ◌≢◌, ℕ, zero, suc, ◌+◌, ◌-◌, ◌*◌, ◌<◌, ◌≤◌, ◌⊎◌, Bool, true, false, cond, List, [], ◌∷◌, ◌++◌, length, map, Option, Some, None, refl, sym, ap, subst, ◌∙◌, arith, inl, inr, append_assoc, length-append}
+use Rattle.std.proofs.Common.{◌≡◌, ◌≢◌, ℕ, zero, suc, ◌+◌, ◌*◌, ◌≤◌, Bool, true, false, cond, List, [], ◌∷◌, ◌++◌, length, Option, Some, None, refl, sym, ap, subst, ◌∙◌, arith, append_assoc}
 use Rattle.std.specs.Prelude.{◌==◌, ◌&&◌, nat_lt, codes}
 use Rattle.std.specs.Char.{to_ascii_uppercase}
 use Rattle.std.proofs.lemmas.Bool.{eqb-true}
-use Rattle.std.proofs.lemmas.List.{append-nil}
 use Rattle.std.proofs.lemmas.Bool.Decides.{nat_tests}
 use Rattle.fb_words.specs.declared.mark.TheConstants.{WORDS, SIGNS}
 use Rattle.fb_words.specs.declared.mark.Mark.{Mark}
 use Rattle.fb_words.specs.declared.elem_type.ElemType.{ElemType}
 use Rattle.fb_words.specs.Writing.{sign_text, word_text, type_of}
-use Rattle.fb_model.specs.Tokens.{Kind, name, number, typed, duration, mark}
-use Rattle.fb_model.specs.Spelling.{is_digit, is_start, is_part, upper, digit_value, is_digit_in, IsParts, IsWord, word, IsDigits, no_more, digit, joined, IsWhole, whole, IsBase, binary, octal, hexadecimal, IsNumber, decimal, based, IsSign, plus, minus, is_integer, IsUnit, days, hours, minutes, seconds, milliseconds, IsJoint, none, joint, IsAmount, IsSpan, last_part, more_parts, is_time_word, IsLexeme, a_word, a_name, a_number, a_typed, a_duration, a_sign}
+use Rattle.fb_model.specs.Tokens.{Kind, mark}
+use Rattle.fb_model.specs.Spelling.{is_start, upper, digit_value, is_digit_in, IsWord, word, IsDigits, no_more, digit, joined, IsWhole, whole, IsBase, binary, octal, hexadecimal, IsNumber, decimal, based, IsSign, plus, minus, is_integer, IsUnit, days, hours, minutes, seconds, milliseconds, IsJoint, none, joint, IsAmount, IsSpan, last_part, more_parts, is_time_word, IsLexeme, a_word, a_name, a_number, a_typed, a_duration, a_sign}
 use Rattle.fb_lex.specs.declared.span.Unit.{Unit as TimeUnit}
 use Rattle.fb_lex.specs.declared.span.Unit.TheVariants as units
-use Rattle.fb_lex.specs.Scanning.{or_else, with_rest, digits_at, from_digit, whole_at, behind_hash, named_base, base_at, in_base, number_at, rank_of, size_of, behind_m, unit_of, unit_at, counted, with_unit, amount_at, behind_joint, and_more, from_amount, span_at, minus_at, integer_of, integer_type, typed_by, lasting, literal_of, literal_at, find, find_word, find_sign, named, parts_at, or_named, word_of, word_at, one_sign, two_signs, sign_at, marked, plain, plain_at, begins_word, scan}
+use Rattle.fb_lex.specs.Scanning.{or_else, with_rest, digits_at, from_digit, whole_at, behind_hash, named_base, base_at, in_base, number_at, rank_of, size_of, behind_m, unit_at, counted, with_unit, amount_at, behind_joint, and_more, from_amount, span_at, minus_at, integer_of, integer_type, typed_by, lasting, literal_of, literal_at, find, find_word, find_sign, named, parts_at, or_named, word_of, word_at, sign_at, marked, plain, plain_at, begins_word, scan}
 use Rattle.fb_lex.proofs.Words.{pick, both_true, start_part, parts_at_part, parts_sound, find_sound, word_listed}
 
 -- something is spelled at the front, and this is left
@@ -152,12 +151,14 @@ span_sound (suc m) least bytes = by_amount (span_sound m) (amount_at bytes) (amo
   by_amount again (Some (u, n, rest)) r =
       pick (ReadsAs (IsSpan least) bytes) (nat_lt (rank_of u) least) None (and_more n rest (span_at m (rank_of u + 1) (behind_joint rest))) (λ _. tt)
       (λ h. by_more (not_less (rank_of u) least h) (span_at m (rank_of u + 1) (behind_joint rest)) (again (rank_of u + 1) (behind_joint rest))) where
-    by_more : least ≤ rank_of u → (p : Option (ℕ × List ℕ)) → ReadsAs (IsSpan (rank_of u + 1)) (behind_joint rest) p → ReadsAs (IsSpan least) bytes (and_more n rest p)
-    by_more le None s = (r.0, last_part le r.1, r.2)
-    by_more le (Some (k, left)) s =
-        let j = joint_sound rest in
-        (r.0 ++ j.0 ++ s.0, more_parts le r.1 j.1 s.1,
-        r.2 ∙ ap (λ l. r.0 ++ l) (j.2 ∙ ap (λ l. j.0 ++ l) s.2) ∙ sym (append_assoc (r.0 ++ j.0) s.0 left ∙ append_assoc r.0 j.0 (s.0 ++ left)))
+        by_more : least ≤ rank_of u → (p : Option (ℕ × List ℕ)) → ReadsAs (IsSpan (rank_of u + 1)) (behind_joint rest) p → ReadsAs (IsSpan least) bytes (and_more n rest p)
+        by_more le None s = (r.0, last_part le r.1, r.2)
+        by_more le (Some (k, left)) s =
+            let j = joint_sound rest in (
+              r.0 ++ j.0 ++ s.0,
+              more_parts le r.1 j.1 s.1,
+              r.2 ∙ ap (λ l. r.0 ++ l) (j.2 ∙ ap (λ l. j.0 ++ l) s.2) ∙ sym (append_assoc (r.0 ++ j.0) s.0 left ∙ append_assoc r.0 j.0 (s.0 ++ left)),
+            )
 
 -- ---- literals
 
@@ -182,18 +183,18 @@ typed_sound : (cs sign left : List ℕ) (negative : Bool) (k : Mark) → word_te
 typed_sound cs sign left negative k e s None f q r = tt
 typed_sound cs sign left negative k e s (Some t) f q r =
     pick (λ i. ReadsKind (cs ++ 35 ∷ (sign ++ left)) (typed_by i negative q)) (is_integer t) (Some t) None (λ h. by_number q r h) (λ _. tt) where
-  by_number : (q : Option (ℕ × List ℕ)) → ReadsAs IsNumber left q → is_integer t ≡ true → ReadsKind (cs ++ 35 ∷ (sign ++ left)) (typed_by (Some t) negative q)
-  by_number None r h = tt
-  by_number (Some (n, more)) r h = (cs ++ 35 ∷ (sign ++ r.0), a_typed k cs sign r.0 e f h s r.1, ap (λ l. cs ++ 35 ∷ (sign ++ l)) r.2 ∙ sym (literal_parts cs sign r.0 more))
+      by_number : (q : Option (ℕ × List ℕ)) → ReadsAs IsNumber left q → is_integer t ≡ true → ReadsKind (cs ++ 35 ∷ (sign ++ left)) (typed_by (Some t) negative q)
+      by_number None r h = tt
+      by_number (Some (n, more)) r h = (cs ++ 35 ∷ (sign ++ r.0), a_typed k cs sign r.0 e f h s r.1, ap (λ l. cs ++ 35 ∷ (sign ++ l)) r.2 ∙ sym (literal_parts cs sign r.0 more))
 
 literal_by : (cs sign left : List ℕ) (negative : Bool) → IsSign sign negative → (q : Option Mark) → find word_text WORDS (upper cs) ≡ q → ReadsKind (cs ++ 35 ∷ (sign ++ left)) (literal_of (upper cs) q (negative, left))
 literal_by cs sign left negative s q e =
     pick (ReadsKind (cs ++ 35 ∷ (sign ++ left))) (is_time_word (upper cs)) (lasting negative (span_at 5 0 left)) (typed_by (integer_type q) negative (number_at left))
     (λ h. lasting_sound cs sign left negative h s (span_at 5 0 left) (span_sound 5 0 left))
     (λ _. by_mark q e) where
-  by_mark : (q : Option Mark) → find word_text WORDS (upper cs) ≡ q → ReadsKind (cs ++ 35 ∷ (sign ++ left)) (typed_by (integer_type q) negative (number_at left))
-  by_mark None f = tt
-  by_mark (Some k) f = typed_sound cs sign left negative k (find_sound word_text WORDS (upper cs) k f) s (type_of k) refl (number_at left) (number_sound left)
+      by_mark : (q : Option Mark) → find word_text WORDS (upper cs) ≡ q → ReadsKind (cs ++ 35 ∷ (sign ++ left)) (typed_by (integer_type q) negative (number_at left))
+      by_mark None f = tt
+      by_mark (Some k) f = typed_sound cs sign left negative k (find_sound word_text WORDS (upper cs) k f) s (type_of k) refl (number_at left) (number_sound left)
 
 pub literal_sound : (cs rest : List ℕ) (q : Option Mark) → find word_text WORDS (upper cs) ≡ q → ReadsKind (cs ++ rest) (literal_at (upper cs) q rest)
 unfolding literal_at
@@ -202,8 +203,8 @@ literal_sound cs (c ∷ rest) q e =
     pick (ReadsKind (cs ++ c ∷ rest)) (c == 35) (literal_of (upper cs) q (minus_at rest)) None
     (λ h. subst (λ l. ReadsKind (cs ++ l) (literal_of (upper cs) q (minus_at rest))) (sym (ap (λ z. z ∷ rest) (eqb-true c 35 h) ∙ ap (λ l. 35 ∷ l) s.2)) (literal_by cs s.0 (minus_at rest).1 (minus_at rest).0 s.1 q e))
     (λ _. tt) where
-  s : (sign : List ℕ) × IsSign sign (minus_at rest).0 × (rest ≡ sign ++ (minus_at rest).1)
-  s = minus_sound rest
+      s : (sign : List ℕ) × IsSign sign (minus_at rest).0 × (rest ≡ sign ++ (minus_at rest).1)
+      s = minus_sound rest
 
 -- ---- tokens
 
@@ -225,9 +226,9 @@ word_sound c cs h =
     let split : c ∷ cs ≡ front ++ r.1 = ap (λ xs. c ∷ xs) p.1 in
     let found : Reads (front ++ r.1) (word_of (upper front) r.1) = by_literal front r.1 (word h p.0) (find word_text WORDS (upper front)) refl (literal_at (upper front) (find word_text WORDS (upper front)) r.1) (literal_sound front r.1 (find word_text WORDS (upper front)) refl) in
     subst (λ l. Reads l (word_at (c ∷ cs))) (sym split) (subst (λ (x : List ℕ × List ℕ). Reads (front ++ r.1) (word_of (upper x.0) x.1)) (sym e) found) where
-  by_literal : (front rest : List ℕ) → IsWord front → (q : Option Mark) → find word_text WORDS (upper front) ≡ q → (l : Option (Kind × List ℕ)) → ReadsKind (front ++ rest) l → Reads (front ++ rest) (or_named (upper front) q rest l)
-  by_literal front rest w q f None s = (front, named_sound front w q f, refl)
-  by_literal front rest w q f (Some x) s = s
+      by_literal : (front rest : List ℕ) → IsWord front → (q : Option Mark) → find word_text WORDS (upper front) ≡ q → (l : Option (Kind × List ℕ)) → ReadsKind (front ++ rest) l → Reads (front ++ rest) (or_named (upper front) q rest l)
+      by_literal front rest w q f None s = (front, named_sound front w q f, refl)
+      by_literal front rest w q f (Some x) s = s
 
 with_mark_sound : (front rest : List ℕ) → (q : Option Mark) → find sign_text SIGNS front ≡ q → length front ≢ 0 → ReadsAs (λ cs k. IsLexeme cs (mark k)) (front ++ rest) (with_rest rest q)
 with_mark_sound front rest None e n = tt
@@ -248,6 +249,7 @@ plain_sound bytes = by_number (number_at bytes) (number_sound bytes) where
   by_sign : (q : Option (Mark × List ℕ)) → ReadsAs (λ cs k. IsLexeme cs (mark k)) bytes q → ReadsKind bytes (marked q)
   by_sign None r = tt
   by_sign (Some (k, rest)) r = r
+
   by_number : (q : Option (ℕ × List ℕ)) → ReadsAs IsNumber bytes q → ReadsKind bytes (plain q (marked (sign_at bytes)))
   by_number None r = by_sign (sign_at bytes) (sign_sound bytes)
   by_number (Some (n, rest)) r = (r.0, a_number r.1, r.2)

@@ -1,10 +1,10 @@
 -- The end of a comment, and that each step leaves less.
-use Rattle.std.proofs.Common.{◌≡◌, ◌≢◌, ℕ, ◌+◌, ◌<◌, ◌≤◌, Bool, true, false, cond, List, [], ◌∷◌, ◌++◌, length, get_or, Option, Some, None, refl, sym, ap, subst, ◌∙◌, arith, inl, inr, length-append}
-use Rattle.std.specs.Prelude.{◌==◌, ◌&&◌, codes}
+use Rattle.std.proofs.Common.{◌≡◌, ◌≢◌, ℕ, ◌<◌, Bool, true, false, cond, List, [], ◌∷◌, ◌++◌, length, Option, Some, None, refl, sym, ap, subst, ◌∙◌, arith, inl, inr, length-append}
+use Rattle.std.specs.Prelude.{◌==◌, ◌&&◌}
 use Rattle.std.proofs.lemmas.Bool.{eqb-true}
 use Rattle.fb_model.specs.Tokens.{Kind, Token}
-use Rattle.fb_model.specs.Spelling.{is_layout, IsDigits, IsWhole, whole, IsBase, binary, octal, hexadecimal, IsNumber, decimal, based, IsWord, word, IsLexeme, a_word, a_name, a_number, a_typed, a_duration, a_sign, Closes, closed, inside, IsGap, layout, comment, OpensNone}
-use Rattle.fb_lex.specs.Scanning.{closes_at, is_fit, Between, past, unclosed, nothing, closed_or, comment_at, gap_at, scan}
+use Rattle.fb_model.specs.Spelling.{is_layout, IsWhole, whole, IsNumber, decimal, based, IsWord, word, IsLexeme, a_word, a_name, a_number, a_typed, a_duration, a_sign, Closes, closed, inside, IsGap, layout, comment, OpensNone}
+use Rattle.fb_lex.specs.Scanning.{closes_at, Between, past, unclosed, nothing, closed_or, comment_at, gap_at, scan}
 use Rattle.fb_lex.specs.Lexing.{Passes}
 use Rattle.fb_lex.proofs.Words.{chosen, both_true}
 use Rattle.fb_lex.proofs.Sound.{ReadsKind, scan_sound}
@@ -59,17 +59,17 @@ gap_sound (c ∷ d ∷ cs) rest e =
     elim (chosen (is_layout c) (past (d ∷ cs)) (cond ((c == 40) && (d == 42)) (closed_or (closes_at cs)) nothing) (past rest) e) [
       | inl p ↦ subst (λ r. IsGap (c ∷ d ∷ cs) r) (let q : d ∷ cs ≡ rest = cc in q) (layout p.0)
       | inr p ↦ elim (chosen ((c == 40) && (d == 42)) (closed_or (closes_at cs)) nothing (past rest) p.1) [
-          | inl q ↦ in_comment (closes_at cs) refl q.0 q.1
-          | inr q ↦ absurd cc
-        ]
+        | inl q ↦ in_comment (closes_at cs) refl q.0 q.1
+        | inr q ↦ absurd cc
+      ]
     ] where
-  in_comment : (o : Option (List ℕ)) → closes_at cs ≡ o → (c == 40) && (d == 42) ≡ true → closed_or o ≡ past rest → IsGap (c ∷ d ∷ cs) rest
-  in_comment None f h g = absurd cc
-  in_comment (Some r) f h g =
-      let p = both_true (c == 40) (d == 42) h in
-      let q : r ≡ rest = cc in
-      let found = subst (λ x. IsGap (40 ∷ 42 ∷ cs) x) q (comment (closes_sound cs r f)) in
-      subst (λ x. IsGap (x ∷ d ∷ cs) rest) (sym (eqb-true c 40 p.0)) (subst (λ x. IsGap (40 ∷ x ∷ cs) rest) (sym (eqb-true d 42 p.1)) found)
+      in_comment : (o : Option (List ℕ)) → closes_at cs ≡ o → (c == 40) && (d == 42) ≡ true → closed_or o ≡ past rest → IsGap (c ∷ d ∷ cs) rest
+      in_comment None f h g = absurd cc
+      in_comment (Some r) f h g =
+          let p = both_true (c == 40) (d == 42) h in
+          let q : r ≡ rest = cc in
+          let found = subst (λ x. IsGap (40 ∷ 42 ∷ cs) x) q (comment (closes_sound cs r f)) in
+          subst (λ x. IsGap (x ∷ d ∷ cs) rest) (sym (eqb-true c 40 p.0)) (subst (λ x. IsGap (40 ∷ x ∷ cs) rest) (sym (eqb-true d 42 p.1)) found)
 
 pub gap_found : {bytes rest : List ℕ} → IsGap bytes rest → gap_at bytes ≡ past rest
 unfolding gap_at

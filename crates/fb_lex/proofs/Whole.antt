@@ -1,11 +1,11 @@
 -- From the front of a text to what is left, and what that says of the whole text.
-use Rattle.std.proofs.Common.{◌≡◌, ◌≢◌, ℕ, zero, suc, ◌+◌, ◌-◌, ◌<◌, ◌≤◌, ◌^◌, ◌⊎◌, Bool, true, false, cond, List, [], ◌∷◌, ◌++◌, length, Option, Some, None, Err, refl, sym, ap, subst, ◌∙◌, arith, inl, inr, append_assoc, length-append}
-use Rattle.std.specs.Prelude.{◌==◌, ◌&&◌, nat_lt, not}
+use Rattle.std.proofs.Common.{◌≡◌, ◌≢◌, ℕ, ◌+◌, ◌-◌, ◌<◌, ◌≤◌, ◌^◌, ◌⊎◌, true, cond, List, [], ◌∷◌, ◌++◌, length, Option, Some, Err, refl, sym, ap, subst, ◌∙◌, arith, inl, inr, append_assoc, length-append}
+use Rattle.std.specs.Prelude.{◌==◌, ◌&&◌}
 use Rattle.std.proofs.lemmas.Bool.{false_from_ne_true, eqb-true, ltb-true, lt-ltb}
 use Rattle.std.proofs.lemmas.List.{append-nil}
 use Rattle.fb_model.specs.Tokens.{Kind, name, number, typed, duration, mark, Token, token}
-use Rattle.fb_model.specs.Spelling.{is_layout, IsLexeme, IsLongest, Fits, IsGap, layout, comment, OpensNone, Stands, Spells, end, gap, next, Leads, here, over_gap, over_token, IsBad, IsBig, FirstAt}
-use Rattle.fb_lex.specs.Scanning.{scan, closes_at, Between, past, unclosed, nothing, closed_or, comment_at, gap_at, is_fit}
+use Rattle.fb_model.specs.Spelling.{is_layout, IsLexeme, IsLongest, Fits, IsGap, OpensNone, Stands, Spells, end, gap, next, Leads, here, over_gap, over_token, IsBad, IsBig}
+use Rattle.fb_lex.specs.Scanning.{scan, closes_at, Between, past, unclosed, nothing, closed_or, gap_at, is_fit}
 use Rattle.fb_lex.specs.declared.fault.TextFault.{TextFault}
 use Rattle.fb_lex.specs.declared.fault.TextFault.TheVariants.{OutOfMemory, BadCharacter, Syntax, TooDeep, TooLong, BigNumber}
 use Rattle.fb_lex.specs.Lexing.{Passes, Sticks, Exceeds, Steps, Finds, Refuses}
@@ -49,9 +49,9 @@ scan_found lexeme rest k h long =
     let r : ReadsKind (lexeme ++ rest) (Some (v.found, v.left)) = subst (λ q. ReadsKind (lexeme ++ rest) q) v.is (scan_sound (lexeme ++ rest)) in
     let p = cut lexeme rest r.0 v.left r.2 v.no_less in
     by_more p.0 v p.1 p.2 r.1 where
-  by_more : (more : List ℕ) (v : Covers (scan (lexeme ++ rest)) k rest) {front : List ℕ} → front ≡ lexeme ++ more → rest ≡ more ++ v.left → IsLexeme front v.found → scan (lexeme ++ rest) ≡ Some (k, rest)
-  by_more [] v e f g = v.is ∙ ap (λ l. Some (v.found, l)) (sym f) ∙ ap (λ j. Some (j, rest)) (v.same (ap length (sym f)))
-  by_more (c ∷ more) v e f g = absurd (long c more v.left v.found f (subst (λ l. IsLexeme l v.found) e g))
+      by_more : (more : List ℕ) (v : Covers (scan (lexeme ++ rest)) k rest) {front : List ℕ} → front ≡ lexeme ++ more → rest ≡ more ++ v.left → IsLexeme front v.found → scan (lexeme ++ rest) ≡ Some (k, rest)
+      by_more [] v e f g = v.is ∙ ap (λ l. Some (v.found, l)) (sym f) ∙ ap (λ j. Some (j, rest)) (v.same (ap length (sym f)))
+      by_more (c ∷ more) v e f g = absurd (long c more v.left v.found f (subst (λ l. IsLexeme l v.found) e g))
 
 fit_is : (k : Kind) → is_fit k ≡ true → Fits k
 fit_is (name x) h = tt
@@ -160,9 +160,9 @@ over_a_token bytes rest left at ts k r g e f =
       leads = subst (λ n. Leads 0 bytes n left) place (leads_token r.leads s.1 fits);
       whole = λ us t. subst (λ xs. Spells 0 bytes xs) (ap (λ n. ts ++ token k at n ∷ us) place ∙ sym (append_assoc ts (token k at to ∷ []) us)) (r.whole (token k at (at + length s.0) ∷ us) (next s.1 fits (subst (λ n. Spells n left us) (sym place) t)));
       only = λ us t.
-        let o = r.only us t in
-        let a = after_token o.1 left k g e in
-        (a.0, a.1, o.2 ∙ ap (λ xs. ts ++ xs) a.2 ∙ sym (append_assoc ts (token k at to ∷ []) a.0));
+          let o = r.only us t in
+          let a = after_token o.1 left k g e in
+          (a.0, a.1, o.2 ∙ ap (λ xs. ts ++ xs) a.2 ∙ sym (append_assoc ts (token k at to ∷ []) a.0));
     }
 
 pub steps_on : (total : ℕ) (bytes rest left : List ℕ) (before after : List Token) → length rest ≤ total → Reached bytes (total - length rest) rest before → Passes total rest left before after (gap_at rest)

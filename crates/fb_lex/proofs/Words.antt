@@ -1,6 +1,6 @@
 -- Words, and the marks that are written so.
-use Rattle.std.proofs.Common.{◌≡◌, ◌≢◌, ℕ, zero, suc, ◌+◌, ◌≤◌, ◌⊎◌, Bool, true, false, cond, List, [], ◌∷◌, ◌++◌, length, map, Option, Some, None, refl, sym, ap, subst, ◌∙◌, inl, inr, length-append}
-use Rattle.std.specs.Prelude.{◌==◌, ◌&&◌, ◌||◌}
+use Rattle.std.proofs.Common.{◌≡◌, ◌≢◌, ℕ, ◌+◌, ◌⊎◌, Bool, true, false, cond, List, [], ◌∷◌, ◌++◌, length, Option, Some, None, refl, sym, ap, subst, ◌∙◌, inl, inr, length-append}
+use Rattle.std.specs.Prelude.{◌&&◌, ◌||◌}
 use Rattle.std.specs.Str.{bytes_eq}
 use Rattle.std.proofs.lemmas.Bool.{false_from_ne_true}
 use Rattle.std.proofs.lemmas.Slice.Eq.{bytes_eq-Decides}
@@ -42,10 +42,10 @@ parts_sound [] = (no_part, refl)
 parts_sound (c ∷ cs) =
     let again = parts_sound cs in
     by_test (is_part c) refl again where
-  by_test : (b : Bool) → is_part c ≡ b → IsParts (parts_at cs).0 × (cs ≡ (parts_at cs).0 ++ (parts_at cs).1)
-      → (let r : List ℕ × List ℕ = cond b (c ∷ (parts_at cs).0, (parts_at cs).1) ([], c ∷ cs) in IsParts r.0 × (c ∷ cs ≡ r.0 ++ r.1))
-  by_test true h again = (part h again.0, ap (λ xs. c ∷ xs) again.1)
-  by_test false h again = (no_part, refl)
+      by_test : (b : Bool) → is_part c ≡ b → IsParts (parts_at cs).0 × (cs ≡ (parts_at cs).0 ++ (parts_at cs).1)
+          → (let r : List ℕ × List ℕ = cond b (c ∷ (parts_at cs).0, (parts_at cs).1) ([], c ∷ cs) in IsParts r.0 × (c ∷ cs ≡ r.0 ++ r.1))
+      by_test true h again = (part h again.0, ap (λ xs. c ∷ xs) again.1)
+      by_test false h again = (no_part, refl)
 
 pub parts_left : (bytes : List ℕ) → length bytes ≡ length (parts_at bytes).0 + length (parts_at bytes).1
 parts_left bytes = ap length (parts_sound bytes).1 ∙ length-append (parts_at bytes).0 (parts_at bytes).1

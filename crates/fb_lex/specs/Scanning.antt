@@ -1,6 +1,5 @@
 -- What the lexer finds at the front of a list of characters, part by part.
-use Rattle.std.specs.Prelude.{◌≡◌, ℕ, zero, suc, ◌+◌, ◌-◌, ◌*◌, ◌<◌, ◌≤◌, ◌^◌, List, [], ◌∷◌, length, take, drop, map, Bool, true, false, ◌==◌, ◌&&◌, ◌||◌, nat_lt, nat_le, Option, Some, None, option_map, Result, Ok, Err, if◌then◌else◌, string_bytes, codes}
-use Rattle.std.specs.Borrow.{Bor}
+use Rattle.std.specs.Prelude.{ℕ, zero, suc, ◌+◌, ◌*◌, ◌^◌, List, [], ◌∷◌, Bool, true, false, ◌==◌, ◌&&◌, nat_lt, Option, Some, None, if◌then◌else◌}
 use Rattle.std.specs.Str.{bytes_eq}
 use Rattle.std.specs.Char.{to_ascii_uppercase}
 use Rattle.fb_words.specs.declared.mark.TheConstants.{WORDS, SIGNS}
@@ -8,7 +7,7 @@ use Rattle.fb_words.specs.declared.mark.Mark.{Mark}
 use Rattle.fb_words.specs.declared.elem_type.ElemType.{ElemType}
 use Rattle.fb_words.specs.Writing.{sign_text, word_text, type_of}
 use Rattle.fb_model.specs.Tokens.{Kind, name, number, typed, duration, mark}
-use Rattle.fb_model.specs.Spelling.{is_layout, is_digit, is_start, is_part, upper, digit_value, is_digit_in, is_integer, is_time_word}
+use Rattle.fb_model.specs.Spelling.{is_layout, is_start, is_part, upper, digit_value, is_digit_in, is_integer, is_time_word}
 use Rattle.fb_lex.specs.declared.span.Unit.{Unit}
 use Rattle.fb_lex.specs.declared.span.Unit.TheVariants as units
 

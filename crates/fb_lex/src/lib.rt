@@ -10,11 +10,10 @@ mod number;
 mod scan;
 mod sign;
 mod span;
-mod token;
-mod word;
-
 #[cfg(test)]
 mod tests;
+mod token;
+mod word;
 
 pub use fault::TextFault;
 pub use lexer::{lex, one_spelling};

@@ -80,11 +80,7 @@ fn begins_word(bytes: &[u8]) -> bool
 
 /// The longest token at the front, and what is left.
 #[tactic(auto, unfolding(crate::specs::Scanning::scan))]
-pub(crate) fn scan(
-    alloc: Global,
-    start: usize,
-    bytes: &[u8],
-) -> Result<(Kind, &[u8]), TextFault>
+pub(crate) fn scan(alloc: Global, start: usize, bytes: &[u8]) -> Result<(Kind, &[u8]), TextFault>
     ensures { Scans start result (scan bytes.now) }
 {
     if begins_word(bytes) {

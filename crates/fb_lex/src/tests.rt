@@ -22,10 +22,19 @@ fn words_and_signs(rt: HostRuntime) -> Result<(), Fail> {
     let cases = [
         ("", ""),
         (" \t\r\n", ""),
-        ("if If2 _x", "Mark(If) 0 2;Name(\"IF2\") 3 6;Name(\"_X\") 7 9;"),
+        (
+            "if If2 _x",
+            "Mark(If) 0 2;Name(\"IF2\") 3 6;Name(\"_X\") 7 9;",
+        ),
         ("end_if;", "Mark(EndIf) 0 6;Mark(Semicolon) 6 7;"),
-        ("a:=b:c", "Name(\"A\") 0 1;Mark(Assign) 1 3;Name(\"B\") 3 4;Mark(Colon) 4 5;Name(\"C\") 5 6;"),
-        ("<><=<", "Mark(NotEqual) 0 2;Mark(LessEqual) 2 4;Mark(Less) 4 5;"),
+        (
+            "a:=b:c",
+            "Name(\"A\") 0 1;Mark(Assign) 1 3;Name(\"B\") 3 4;Mark(Colon) 4 5;Name(\"C\") 5 6;",
+        ),
+        (
+            "<><=<",
+            "Mark(NotEqual) 0 2;Mark(LessEqual) 2 4;Mark(Less) 4 5;",
+        ),
         ("->-", "Mark(Arrow) 0 2;Mark(Minus) 2 3;"),
         ("5X", "Number(5) 0 1;Name(\"X\") 1 2;"),
         ("1..3", "Number(1) 0 1;Mark(DotDot) 1 3;Number(3) 3 4;"),
@@ -57,7 +66,10 @@ fn numbers(rt: HostRuntime) -> Result<(), Fail> {
         ("16#_7", "fault 1 2"),
         ("18446744073709551615", "Number(18446744073709551615) 0 20;"),
         (" 18446744073709551616", "fault 5 1"),
-        ("16#FFFF_FFFF_FFFF_FFFF", "Number(18446744073709551615) 0 22;"),
+        (
+            "16#FFFF_FFFF_FFFF_FFFF",
+            "Number(18446744073709551615) 0 22;",
+        ),
         ("16#1_0000_0000_0000_0000", "fault 5 0"),
     ];
     for (text, want) in cases {
@@ -71,7 +83,10 @@ fn typed_literals(rt: HostRuntime) -> Result<(), Fail> {
     let cases = [
         ("INT#-5", "Typed(Int, true, 5) 0 6;"),
         ("int#16#7F", "Typed(Int, false, 127) 0 9;"),
-        ("UDINT#1_0x", "Typed(Udint, false, 10) 0 9;Name(\"X\") 9 10;"),
+        (
+            "UDINT#1_0x",
+            "Typed(Udint, false, 10) 0 9;Name(\"X\") 9 10;",
+        ),
         ("INT#x", "fault 1 3"),
         ("INT #5", "fault 1 4"),
         ("BOOL#1", "fault 1 4"),
@@ -91,13 +106,25 @@ fn times(rt: HostRuntime) -> Result<(), Fail> {
         ("T#5ms", "Duration(false, 5) 0 5;"),
         ("t#-1m30s", "Duration(true, 90000) 0 8;"),
         ("TIME#1d_2h_3m_4s_5ms", "Duration(false, 93784005) 0 20;"),
-        ("T#1d5x", "Duration(false, 86400000) 0 4;Number(5) 4 5;Name(\"X\") 5 6;"),
+        (
+            "T#1d5x",
+            "Duration(false, 86400000) 0 4;Number(5) 4 5;Name(\"X\") 5 6;",
+        ),
         ("T#1m_5", "Duration(false, 60000) 0 4;Name(\"_5\") 4 6;"),
-        ("T#1s2m", "Duration(false, 1000) 0 4;Number(2) 4 5;Name(\"M\") 5 6;"),
-        ("T#1m2m", "Duration(false, 60000) 0 4;Number(2) 4 5;Name(\"M\") 5 6;"),
+        (
+            "T#1s2m",
+            "Duration(false, 1000) 0 4;Number(2) 4 5;Name(\"M\") 5 6;",
+        ),
+        (
+            "T#1m2m",
+            "Duration(false, 60000) 0 4;Number(2) 4 5;Name(\"M\") 5 6;",
+        ),
         ("T#1__m", "fault 1 1"),
         ("T#5", "fault 1 1"),
-        ("T#9223372036854775807ms", "Duration(false, 9223372036854775807) 0 23;"),
+        (
+            "T#9223372036854775807ms",
+            "Duration(false, 9223372036854775807) 0 23;",
+        ),
         ("T#9223372036854775808ms", "fault 5 0"),
         ("T#99999999999999999999d", "fault 5 0"),
         ("T#106751991168d", "fault 5 0"),

@@ -1,4 +1,4 @@
-use Rattle.std.proofs.Common.{◌≡◌, sym, ◌∙◌}
+use Rattle.std.proofs.Common.{sym, ◌∙◌}
 use Rattle.fb_lex.proofs.Steps.{closes_short}
 use Rattle.fb_lex.proofs.gap.closes_at.Goals as goal
 

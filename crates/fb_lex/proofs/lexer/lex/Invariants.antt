@@ -1,4 +1,4 @@
-use Rattle.std.proofs.Common.{◌≡◌, ◌-◌, ◌≤◌, length}
+use Rattle.std.proofs.Common.{◌-◌, ◌≤◌, length}
 use Rattle.fb_lex.specs.Views.{tokens_of}
 use Rattle.fb_lex.proofs.Whole.{Reached}
 use Rattle.fb_lex.proofs.lexer.lex.Given as goal

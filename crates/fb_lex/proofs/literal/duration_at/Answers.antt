@@ -1,4 +1,4 @@
-use Rattle.std.proofs.Common.{◌≡◌, ap, arith}
+use Rattle.std.proofs.Common.{ap, arith}
 use Rattle.fb_model.specs.Tokens as book
 use Rattle.fb_lex.specs.Scanning.{lasting}
 use Rattle.fb_lex.proofs.literal.duration_at.Goals as goal

@@ -1,4 +1,4 @@
-use Rattle.std.proofs.Common.{◌≡◌, sym, ◌∙◌}
+use Rattle.std.proofs.Common.{sym, ◌∙◌}
 use Rattle.fb_lex.proofs.Digits.{digits_next, digits_none}
 use Rattle.fb_lex.proofs.number.digits_at.Goals as goal
 

@@ -1,9 +1,9 @@
-use Rattle.std.proofs.Common.{◌≡◌, ◌<◌, ◌+◌, true, false, get_or, length, sym, ap, ◌∙◌, add-one}
+use Rattle.std.proofs.Common.{◌≡◌, ◌<◌, true, false, get_or, length, sym, ap, ◌∙◌, add-one}
 use Rattle.std.specs.Str.{bytes_eq}
 use Rattle.fb_words.specs.declared.mark.Mark.TheVariants as m
 use Rattle.fb_words.specs.declared.mark.TheConstants.{SIGNS}
 use Rattle.fb_words.specs.Writing.{sign_text}
-use Rattle.fb_lex.specs.Scanning.{find, find_sign}
+use Rattle.fb_lex.specs.Scanning.{find_sign}
 use Rattle.fb_lex.proofs.Marks.{find_step, find_here}
 use Rattle.fb_lex.proofs.sign.find_sign.Goals as goal
 

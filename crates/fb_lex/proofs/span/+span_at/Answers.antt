@@ -1,4 +1,4 @@
-use Rattle.std.proofs.Common.{◌≡◌, ◌∙◌, ap, sym, arith}
+use Rattle.std.proofs.Common.{◌∙◌, ap, arith}
 use Rattle.fb_lex.specs.Scanning.{and_more}
 use Rattle.fb_lex.proofs.Spans.{span_is}
 use Rattle.fb_lex.proofs.span.+span_at.Goals as goal
