@@ -219,10 +219,6 @@ no_spelling_big b (gap h t) = let f = gap_found h in let n = stands_no_gap b.sta
 no_spelling_big {bytes = bytes} b (next {rest = rest} {k = k} s f t) =
     b.beyond (subst (λ j. Fits j) (left_is (scan bytes) k b.kind rest b.rest (stands_scan s) (stands_scan b.stands)).0 f)
 
-pub refused_unspelled : (bytes rest : List ℕ) (at : ℕ) (ts us : List Token) → Reached bytes at rest ts → IsBad rest ⊎ IsBig rest → Spells 0 bytes us → ⊥
-refused_unspelled bytes rest at ts us r (inl b) s = no_spelling_bad b (r.only us s).1
-refused_unspelled bytes rest at ts us r (inr b) s = no_spelling_big b (r.only us s).1
-
 -- The characters spell one list of tokens.
 pub spelled_once : {at : ℕ} {bytes : List ℕ} {ts us : List Token} → Spells at bytes ts → Spells at bytes us → ts ≡ us
 spelled_once end t = sym (after_all t refl)
@@ -233,6 +229,58 @@ spelled_once {at = at} {bytes = bytes} (next {lexeme = lexeme} {rest = rest} {k 
     let place : at + length lexeme ≡ at + (length bytes - length rest) = omega (arith, l.0) in
     let same = spelled_once s (subst (λ n. Spells n rest a.0) (sym place) a.1) in
     ap (λ n. token k at n ∷ vs) place ∙ ap (λ xs. token k at (at + (length bytes - length rest)) ∷ xs) same ∙ sym a.2
+
+-- ---- one fault
+
+abbrev pub IsWrong : List ℕ → Type 0
+IsWrong bytes = IsBad bytes ⊎ IsBig bytes
+
+wrong_no_gap : {bytes rest : List ℕ} → IsWrong bytes → IsGap bytes rest → ⊥
+wrong_no_gap {rest = rest} (inl b) h = b.no_gap rest h
+wrong_no_gap (inr b) h = let f = gap_found h in let n = stands_no_gap b.stands in absurd cc
+
+wrong_no_token : {bytes lexeme rest : List ℕ} {k : Kind} → IsWrong bytes → Stands bytes lexeme rest k → Fits k → ⊥
+wrong_no_token {lexeme = lexeme} {rest = rest} {k = k} (inl b) s f = b.no_token lexeme rest k s
+wrong_no_token {bytes = bytes} {rest = rest} {k = k} (inr b) s f = b.beyond (subst (λ j. Fits j) (left_is (scan bytes) k b.kind rest b.rest (stands_scan s) (stands_scan b.stands)).0 f)
+
+gap_no_token : {bytes lexeme rest left : List ℕ} {k : Kind} → IsGap bytes left → Stands bytes lexeme rest k → ⊥
+gap_no_token h s = let f = gap_found h in let n = stands_no_gap s in absurd cc
+
+after_lead_gap : {at to : ℕ} {bytes left : List ℕ} → Leads at bytes to left → IsWrong left → (rest : List ℕ) → IsGap bytes rest → Leads (at + (length bytes - length rest)) rest to left
+after_lead_gap here w rest h = absurd (wrong_no_gap w h)
+after_lead_gap {at = at} {to = to} {bytes = bytes} {left = left} (over_gap {rest = more} g l) w rest h = subst (λ r. Leads (at + (length bytes - length r)) r to left) (gap_left bytes more rest (gap_found g) (gap_found h)) l
+after_lead_gap (over_token s f l) w rest h = absurd (gap_no_token h s)
+
+after_lead_token : {at to : ℕ} {bytes left lexeme rest : List ℕ} {k : Kind} → Leads at bytes to left → IsWrong left → Stands bytes lexeme rest k → Fits k → Leads (at + length lexeme) rest to left
+after_lead_token here w s f = absurd (wrong_no_token w s f)
+after_lead_token (over_gap g l) w s f = absurd (gap_no_token g s)
+after_lead_token {at = at} {to = to} {bytes = bytes} {left = left} {lexeme = lexeme} {rest = rest} {k = k} (over_token {lexeme = other} {rest = more} {k = j} t g l) w s f =
+    let same = left_is (scan bytes) j k more rest (stands_scan t) (stands_scan s) in
+    let m = ap length same.1 in
+    let a = stands_length t in
+    let b = stands_length s in
+    let place : at + length other ≡ at + length lexeme = omega (arith, a.0, b.0) in
+    subst (λ n. Leads n rest to left) place (subst (λ r. Leads (at + length other) r to left) same.1 l)
+
+pub one_place : {at x y : ℕ} {bytes l m : List ℕ} → Leads at bytes x l → IsWrong l → Leads at bytes y m → IsWrong m → (x ≡ y) × (l ≡ m)
+one_place here w here v = (refl, refl)
+one_place here w (over_gap g k) v = absurd (wrong_no_gap w g)
+one_place here w (over_token s f k) v = absurd (wrong_no_token w s f)
+one_place (over_gap {rest = rest} g l) w k v = one_place l w (after_lead_gap k v rest g) v
+one_place (over_token s f l) w k v = one_place l w (after_lead_token k v s f) v
+
+pub not_both : {bytes : List ℕ} → IsBad bytes → IsBig bytes → ⊥
+not_both b g = b.no_token g.lexeme g.rest g.kind g.stands
+
+pub fault_unspelled : {at to : ℕ} {bytes left : List ℕ} {ts : List Token} → Leads at bytes to left → IsWrong left → Spells at bytes ts → ⊥
+fault_unspelled here (inl b) s = no_spelling_bad b s
+fault_unspelled here (inr b) s = no_spelling_big b s
+fault_unspelled (over_gap {rest = rest} g l) w s = fault_unspelled l w (after_gap s rest (gap_found g))
+fault_unspelled {at = at} {bytes = bytes} (over_token {lexeme = lexeme} {rest = rest} {k = k} st f l) w s =
+    let a = after_token s rest k (stands_no_gap st) (stands_scan st) in
+    let n = stands_length st in
+    let place : at + (length bytes - length rest) ≡ at + length lexeme = omega (arith, n.0) in
+    fault_unspelled l w (subst (λ p. Spells p rest a.0) place a.1)
 
 -- ---- a step that fails
 
@@ -246,8 +294,8 @@ refuse text rest before after TooLong lt r s = absurd s
 
 pub unfound : (text rest : List ℕ) (before after ts : List Token) (f : TextFault) → 0 < length rest → Reached text (length text - length rest) rest before → Steps (length text) rest before after (Err f) → Spells 0 text ts → Finds (Err f) ts
 unfound text rest before after ts OutOfMemory lt r s t = tt
-unfound text rest before after ts (BadCharacter a) lt r s t = refused_unspelled text rest _ before ts r (inl (sticks_bad rest lt s.1)) t
-unfound text rest before after ts (BigNumber a) lt r s t = refused_unspelled text rest _ before ts r (inr (exceeds_big rest s.1)) t
+unfound text rest before after ts (BadCharacter a) lt r s t = fault_unspelled r.leads (inl (sticks_bad rest lt s.1)) t
+unfound text rest before after ts (BigNumber a) lt r s t = fault_unspelled r.leads (inr (exceeds_big rest s.1)) t
 unfound text rest before after ts (Syntax a) lt r s t = absurd s
 unfound text rest before after ts (TooDeep a) lt r s t = absurd s
 unfound text rest before after ts TooLong lt r s t = absurd s

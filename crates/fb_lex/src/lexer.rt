@@ -2,7 +2,7 @@
 
 ghost use Rattle.std.specs.Prelude.{◌≡◌, ℕ, ◌≤◌, ◌<◌, List, length, IfOk, IfErr, Err};
 ghost use Rattle.fb_model.specs.Tokens as book;
-ghost use Rattle.fb_model.specs.Spelling.{Spells};
+ghost use Rattle.fb_model.specs.Spelling.{Spells, FirstAt, IsBad, IsBig};
 ghost use Rattle.fb_lex.specs.declared.fault.TextFault.TheVariants.{TooLong};
 ghost use Rattle.fb_lex.specs.Lexing.{Steps, Finds, Refuses};
 ghost use Rattle.fb_lex.specs.Views.{tokens_of};
@@ -36,7 +36,9 @@ fn step<'a>(
     Ok(behind)
 }
 
-/// The tokens of a text.
+/// The tokens of a text, each the longest that fits, with the places of its bytes: IEC 61131-3 edition 3, 6.1 and 6.3, in this project's profile.
+///
+/// Refused are a text of more than 1,048,576 bytes, and else the first place where no token and no layout stands, or a number beyond its limit.
 pub fn lex(alloc: Global, text: &str) -> Result<Vec<Token>, TextFault>
     ensures found { IfOk result (λ v. Spells 0 text.now (tokens_of v.items)) }
     ensures only { (ts : List book.Token) → Spells 0 text.now ts → length text.now ≤ 1048576 → Finds result ts }
@@ -55,7 +57,16 @@ pub fn lex(alloc: Global, text: &str) -> Result<Vec<Token>, TextFault>
     Ok(tokens)
 }
 
-/// The characters of a text spell one list of tokens.
+/// The characters of a text spell one list of tokens at most.
 pub fn one_spelling()
     ensures { (text : List ℕ) (ts us : List book.Token) → Spells 0 text ts → Spells 0 text us → ts ≡ us }
+{}
+
+/// A text has one first fault at most, at one place, and one that has a fault spells no tokens.
+pub fn one_fault()
+    ensures character { (text : List ℕ) (at other : ℕ) → FirstAt IsBad text at → FirstAt IsBad text other → at ≡ other }
+    ensures number { (text : List ℕ) (at other : ℕ) → FirstAt IsBig text at → FirstAt IsBig text other → at ≡ other }
+    ensures either { (text : List ℕ) (at other : ℕ) → FirstAt IsBad text at → FirstAt IsBig text other → ⊥ }
+    ensures no_character { (text : List ℕ) (at : ℕ) (ts : List book.Token) → FirstAt IsBad text at → Spells 0 text ts → ⊥ }
+    ensures no_number { (text : List ℕ) (at : ℕ) (ts : List book.Token) → FirstAt IsBig text at → Spells 0 text ts → ⊥ }
 {}

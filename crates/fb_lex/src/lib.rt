@@ -16,5 +16,5 @@ mod token;
 mod word;
 
 pub use fault::TextFault;
-pub use lexer::{lex, one_spelling};
+pub use lexer::{lex, one_fault, one_spelling};
 pub use token::{Kind, Token};
