@@ -1,2 +1,4 @@
 pub mod Faults
+pub mod Lexing
+pub mod Scanning
 pub mod Views

@@ -1,0 +1,10 @@
+pub mod CoversNumbers
+pub mod CoversSpans
+pub mod CoversTokens
+pub mod Digits
+pub mod Marks
+pub mod Sound
+pub mod Spans
+pub mod Steps
+pub mod Whole
+pub mod Words
