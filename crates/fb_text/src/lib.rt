@@ -7,7 +7,7 @@ mod system;
 mod text;
 mod tree;
 
-pub use text::parse_tokens;
+pub use text::{parse, parse_tokens};
 pub use tree::{
     ActionTree, BlockTree, ConnectionTree, Constant, DeviceTree, EventTree, InstanceTree, Literal,
     ParameterTree, PortTree, ResourceTree, Source, StateTree, SystemTree, TransitionTree,

@@ -5,11 +5,11 @@ ghost use Rattle.fb_lex.specs.Views.{tokens_of};
 ghost use Rattle.fb_read.specs.Answers.{Gives};
 ghost use Rattle.fb_text.specs.Views.{source_of};
 ghost use Rattle.fb_text.specs.Reading.{file_at, whole_at};
-ghost use Rattle.fb_text.specs.Answers.{Reads};
+ghost use Rattle.fb_text.specs.Answers.{Reads, ReadsText};
 
 use crate::system::system;
 use crate::tree::{BlockTree, Source};
-use fb_lex::{TextFault, Token};
+use fb_lex::{TextFault, Token, lex};
 use fb_read::{Stop, many};
 use fb_words::Mark;
 use std::alloc::Global;
@@ -46,4 +46,15 @@ pub fn parse_tokens(alloc: Global, tokens: &[Token], length: usize) -> Result<So
         Ok(source) => Ok(source),
         Err(stop) => Err(stop.fault(tokens, length)),
     }
+}
+
+/// The source tree of a text.
+///
+/// The lexer's refusals come first: `TooLong`, `BadCharacter`, `BigNumber`. A text whose tokens are no application is refused
+/// with `Syntax`, at the first token that cannot stand where it does, or at the text's length where the tokens end too soon.
+pub fn parse(alloc: Global, text: &str) -> Result<Source, TextFault>
+    ensures { ReadsText text.now result }
+{
+    let tokens = lex(alloc, text)?;
+    parse_tokens(alloc, &tokens, text.len())
 }
