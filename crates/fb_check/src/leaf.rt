@@ -1,0 +1,115 @@
+//! When the rows of a leaf fit in a column.
+
+ghost use Rattle.std.specs.Prelude.{◌≡◌, length, IfOk};
+
+use crate::chart::chart_fits;
+use crate::column::{Column, is_within, plus};
+use crate::refusal::Refusal;
+use fb_cert::{Amount, Certificate};
+use fb_flat::{Leaf, Output, Target, joined};
+use fb_types::Body;
+use std::alloc::Global;
+
+/// The number of a row in a column, 0 where there is no row.
+pub fn number(row: Option<Amount>, column: Column) -> u64 {
+    match row {
+        Some(amount) => column.number(amount),
+        None => 0,
+    }
+}
+
+/// The weight of an event input or arrival.
+pub fn weight(
+    alloc: Global,
+    certificate: &Certificate,
+    column: Column,
+    path: &str,
+    event: &str,
+) -> Result<u64, Refusal> {
+    let row = joined(alloc, path, event)?;
+    Ok(number(certificate.weight(row.as_str()), column))
+}
+
+/// The charge of a state.
+pub fn charge(
+    alloc: Global,
+    certificate: &Certificate,
+    column: Column,
+    path: &str,
+    state: &str,
+) -> Result<u64, Refusal> {
+    let row = joined(alloc, path, state)?;
+    Ok(number(certificate.charge(row.as_str()), column))
+}
+
+// The weights of all targets of an output.
+fn load(
+    alloc: Global,
+    certificate: &Certificate,
+    column: Column,
+    targets: &[Target],
+) -> Result<Option<u64>, Refusal> {
+    let mut sum = Some(0);
+    for target in targets {
+        let next = weight(
+            alloc,
+            certificate,
+            column,
+            target.path.as_str(),
+            target.event.as_str(),
+        )?;
+        sum = plus(sum, Some(next));
+    }
+    Ok(sum)
+}
+
+/// The loads of the outputs of a leaf: of each, the weights of all its targets.
+pub fn loads(
+    alloc: Global,
+    certificate: &Certificate,
+    column: Column,
+    outputs: &[Output],
+) -> Result<Vec<Option<u64>>, Refusal>
+    ensures { IfOk result (λ v. length v.items ≡ length outputs.now) }
+{
+    let mut loads = Vec::new(alloc);
+    for output in outputs {
+        loads.push(load(alloc, certificate, column, &output.targets)?)?;
+    }
+    Ok(loads)
+}
+
+// The rows of an INPUT: its arrival is a dispatch, and emits its one output.
+fn input_fits(
+    alloc: Global,
+    certificate: &Certificate,
+    column: Column,
+    path: &str,
+    loads: &[Option<u64>],
+) -> Result<(), Refusal> {
+    let row = weight(alloc, certificate, column, path, "ARRIVE")?;
+    let mut need = Some(column.unit());
+    for load in loads {
+        need = plus(need, *load);
+    }
+    if row >= 1 && is_within(need, row) {
+        Ok(())
+    } else {
+        Err(Refusal::Weight(joined(alloc, path, "ARRIVE")?))
+    }
+}
+
+/// The rows of a leaf fit in a column.
+pub fn leaf_fits(
+    alloc: Global,
+    certificate: &Certificate,
+    column: Column,
+    leaf: &Leaf,
+) -> Result<(), Refusal> {
+    let loads = loads(alloc, certificate, column, &leaf.outputs)?;
+    let path = leaf.path.as_str();
+    match &leaf.body {
+        Body::Basic(block) => chart_fits(alloc, certificate, column, path, block, &loads),
+        Body::Input(_) => input_fits(alloc, certificate, column, path, &loads),
+    }
+}

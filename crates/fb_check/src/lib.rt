@@ -1,0 +1,18 @@
+//! The checker: whether a certificate fits a system.
+#![tactic(auto)]
+
+mod chart;
+mod column;
+mod leaf;
+mod refusal;
+mod rows;
+mod verdict;
+mod verified;
+
+pub use column::Column;
+pub use refusal::Refusal;
+pub use verdict::{check, check_text};
+pub use verified::Verified;
+
+#[cfg(test)]
+mod tests;

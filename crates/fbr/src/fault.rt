@@ -1,0 +1,81 @@
+//! The faults of the program, and how each is told.
+
+ghost use Rattle.std.specs.Prelude.{◌≡◌, ◌≤◌};
+ghost use Rattle.fbr.specs.Statuses.{status_of_code};
+
+use fb_check::Refusal;
+use std::alloc::AllocError;
+use std::fmt;
+
+/// Why a command was refused.
+#[derive(Debug, Drop)]
+pub enum Fault<'a> {
+    /// Memory ran out. Code 9, status 4.
+    Memory,
+    /// Standard input could not be read, is no UTF-8, or has more than 33,554,432 bytes. Code 61, status 3.
+    Input,
+    /// The same of the file of this name. Code 61, status 3.
+    File(&'a str),
+    /// The words are no command. Code 63, status 2.
+    Usage,
+    /// The checker refused. Status 1 where the certificate does not fit, status 2 where a text is at fault.
+    Refused(Refusal),
+}
+
+impl Fault<'_> {
+    ghost use Rattle.fbr.specs.Outcomes.{status_of};
+
+    /// The status that the program ends with.
+    pub fn status(&self) -> u8
+        ensures said { result ≡ status_of self.now }
+        ensures most { result ≤ 4 }
+    {
+        match self {
+            Fault::Memory => 4,
+            Fault::Input | Fault::File(_) => 3,
+            Fault::Usage => 2,
+            Fault::Refused(refusal) => status_of_code(refusal.code()),
+        }
+    }
+}
+
+// A certificate that does not fit is 1, want of memory is 4, and a text that is at fault is 2.
+fn status_of_code(code: u8) -> u8
+    ensures said { result ≡ status_of_code code }
+    ensures most { result ≤ 4 }
+{
+    if code >= 32 && code <= 44 {
+        1
+    } else if code == 9 {
+        4
+    } else {
+        2
+    }
+}
+
+/// The line that tells the fault: `refused`, its code, and its place where there is one.
+impl fmt::Display for Fault<'_> {
+    ghost use Rattle.std.specs.Prelude.{Some};
+    ghost use Rattle.fbr.specs.Outcomes.{line_of};
+
+    ghost output = { λ f. Some (line_of f) };
+
+    fn fmt<W: fmt::Write>(&self, f: &mut fmt::Formatter<W>) -> fmt::Result {
+        match self {
+            Fault::Memory => write!(f, "refused 9"),
+            Fault::Input => write!(f, "refused 61 -"),
+            Fault::File(name) => {
+                let name: &str = name;
+                write!(f, "refused 61 {name}")
+            }
+            Fault::Usage => write!(f, "refused 63"),
+            Fault::Refused(refusal) => write!(f, "refused {refusal}"),
+        }
+    }
+}
+
+impl From<AllocError> for Fault<'_> {
+    fn from(_: AllocError) -> Self {
+        Fault::Memory
+    }
+}

@@ -1,0 +1,14 @@
+//! The commands of `fbr`, over the runtime, the words, a source of files, a reader and a writer.
+#![tactic(auto)]
+
+mod check;
+mod fault;
+mod sources;
+mod words;
+
+pub use fault::Fault;
+pub use sources::{Disk, ReadFault, Sources};
+pub use words::command;
+
+#[cfg(test)]
+mod tests;
