@@ -1,3 +1,4 @@
 pub mod Refusals
 pub mod Sums
 pub mod Columns
+pub mod Reckoning

@@ -3,6 +3,12 @@ use Rattle.std.specs.Prelude.{ℕ, List, ◌++◌, codes, string_bytes}
 use Rattle.fb_lex.specs.Faults as text
 use Rattle.fb_types.specs.Faults as types
 use Rattle.fb_cert.specs.Faults as cert
+use Rattle.fb_lex.specs.declared.fault.TextFault.{TextFault}
+use Rattle.fb_lex.specs.declared.fault.TextFault.TheVariants as texts
+use Rattle.fb_types.specs.declared.fault.TypeFault.{TypeFault}
+use Rattle.fb_types.specs.declared.fault.TypeFault.TheVariants as faults
+use Rattle.fb_cert.specs.declared.fault.CertFault.{CertFault}
+use Rattle.fb_cert.specs.declared.fault.CertFault.TheVariants as certs
 use Rattle.fb_check.specs.declared.refusal.Refusal.{Refusal}
 use Rattle.fb_check.specs.declared.refusal.Refusal.TheVariants.{OutOfMemory, Text, Typing, Certificate, UnknownRow, MissingRow, Charge, Weight, Depth}
 
@@ -28,3 +34,46 @@ line_of (MissingRow path) = codes "33 " ++ string_bytes path
 line_of (Charge path) = codes "38 " ++ string_bytes path
 line_of (Weight path) = codes "39 " ++ string_bytes path
 line_of (Depth path) = codes "40 " ++ string_bytes path
+
+-- which refusals a part of the checker gives
+abbrev pub IsRowRefusal : Refusal → Type 0
+IsRowRefusal OutOfMemory = Unit {0}
+IsRowRefusal (UnknownRow path) = Unit {0}
+IsRowRefusal (MissingRow path) = Unit {0}
+IsRowRefusal other = ⊥
+
+abbrev pub IsSizeRefusal : Refusal → Type 0
+IsSizeRefusal OutOfMemory = Unit {0}
+IsSizeRefusal (Charge path) = Unit {0}
+IsSizeRefusal (Weight path) = Unit {0}
+IsSizeRefusal other = ⊥
+
+abbrev pub IsDepthRefusal : Refusal → Type 0
+IsDepthRefusal OutOfMemory = Unit {0}
+IsDepthRefusal (Depth path) = Unit {0}
+IsDepthRefusal other = ⊥
+
+abbrev pub IsMemory : Refusal → Type 0
+IsMemory OutOfMemory = Unit {0}
+IsMemory other = ⊥
+
+-- the refusals over a system and a certificate; of the type faults, Limit alone
+abbrev pub IsVerdict : Refusal → Type 0
+IsVerdict (Text fault) = ⊥
+IsVerdict (Certificate fault) = ⊥
+IsVerdict (Typing (faults.Limit offset)) = Unit {0}
+IsVerdict (Typing other) = ⊥
+IsVerdict other = Unit {0}
+
+-- how the faults of the layers below are told: want of memory is one refusal
+abbrev pub of_text : TextFault → Refusal
+of_text texts.OutOfMemory = OutOfMemory
+of_text other = Text other
+
+abbrev pub of_type : TypeFault → Refusal
+of_type faults.OutOfMemory = OutOfMemory
+of_type other = Typing other
+
+abbrev pub of_certificate : CertFault → Refusal
+of_certificate certs.OutOfMemory = OutOfMemory
+of_certificate other = Certificate other

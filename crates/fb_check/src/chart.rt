@@ -1,6 +1,10 @@
 //! When the rows of a basic block fit in a column.
 
-ghost use Rattle.std.specs.Prelude.{◌≡◌, length, IfOk};
+ghost use Rattle.std.specs.Prelude.{◌≡◌, ℕ, List, map, length, string_bytes, Some, IfOk, IfErr};
+ghost use Rattle.std.specs.List.{sum_by};
+ghost use Rattle.fb_types.specs.Views.{names_of};
+ghost use Rattle.fb_check.specs.Reckoning.{charge_of, value_at, AreSums, emitted};
+ghost use Rattle.fb_check.specs.Refusals.{IsMemory, IsSizeRefusal};
 ghost use Rattle.fb_check.specs.Sums.{IsSum, greater};
 ghost use Rattle.fb_check.specs.Columns.{crossing_need};
 
@@ -14,7 +18,9 @@ use indexmap::IndexSet;
 use std::alloc::Global;
 
 // The sum at the place of a name, 0 where the name has none.
-fn at(names: &IndexSet<String>, sums: &[Option<u64>], name: &str) -> Option<u64> {
+fn at(names: &IndexSet<String>, sums: &[Option<u64>], name: &str) -> Option<u64>
+    ensures { result ≡ value_at (names_of names.now) sums.now (Some 0) name.now }
+{
     match names.get_index_of(name) {
         Some(index) => match sums.get(index) {
             Some(sum) => *sum,
@@ -25,7 +31,9 @@ fn at(names: &IndexSet<String>, sums: &[Option<u64>], name: &str) -> Option<u64>
 }
 
 // The number at the place of a name, 0 where the name has none.
-fn number_at(names: &IndexSet<String>, numbers: &[u64], name: &str) -> u64 {
+fn number_at(names: &IndexSet<String>, numbers: &[u64], name: &str) -> u64
+    ensures { result ≡ value_at (names_of names.now) numbers.now 0 name.now }
+{
     match names.get_index_of(name) {
         Some(index) => match numbers.get(index) {
             Some(number) => *number,
@@ -35,24 +43,40 @@ fn number_at(names: &IndexSet<String>, numbers: &[u64], name: &str) -> u64 {
     }
 }
 
+// The load of the output that an action emits, if it emits one.
+fn emitted(outputs: &IndexSet<String>, loads: &[Option<u64>], action: &Action) -> Option<u64>
+    ensures { (ns : List ℕ) → AreSums loads.now ns → IsSum result (emitted (names_of outputs.now) ns action.now) }
+{
+    match &action.output {
+        Some(output) => at(outputs, loads, output.as_str()),
+        None => Some(0),
+    }
+}
+
 // What the actions of a state cost by themselves: the loads of all outputs that they emit.
-fn own(block: &Block, loads: &[Option<u64>], actions: &[Action]) -> Option<u64> {
+fn own(outputs: &IndexSet<String>, loads: &[Option<u64>], actions: &[Action]) -> Option<u64>
+    ensures { (ns : List ℕ) → AreSums loads.now ns → IsSum result (sum_by (emitted (names_of outputs.now) ns) actions.now) }
+{
     let mut sum = Some(0);
     for action in actions {
-        if let Some(output) = &action.output {
-            sum = plus(sum, at(&block.event_outputs, loads, output.as_str()));
-        }
+        sum = plus(sum, emitted(outputs, loads, action));
     }
     sum
 }
 
 // The same of each state, in order.
-fn owns(alloc: Global, block: &Block, loads: &[Option<u64>]) -> Result<Vec<Option<u64>>, Refusal>
-    ensures { IfOk result (λ v. length v.items ≡ length block.now.states.items) }
+fn owns(
+    alloc: Global,
+    outputs: &IndexSet<String>,
+    loads: &[Option<u64>],
+    states: &[State],
+) -> Result<Vec<Option<u64>>, Refusal>
+    ensures values { (ns : List ℕ) → AreSums loads.now ns → IfOk result (λ v. AreSums v.items (map (λ s. sum_by (emitted (names_of outputs.now) ns) s.actions.items) states.now)) }
+    ensures refused { IfErr result IsMemory }
 {
     let mut owns = Vec::new(alloc);
-    for state in &block.states {
-        owns.push(own(block, loads, &state.actions))?;
+    for state in states {
+        owns.push(own(outputs, loads, &state.actions))?;
     }
     Ok(owns)
 }
@@ -65,7 +89,8 @@ fn charges(
     path: &str,
     states: &[State],
 ) -> Result<Vec<u64>, Refusal>
-    ensures { IfOk result (λ v. length v.items ≡ length states.now) }
+    ensures values { IfOk result (λ v. v.items ≡ map (λ s. charge_of column certificate.now path.now (string_bytes s.name)) states.now) }
+    ensures refused { IfErr result IsMemory }
 {
     let mut charges = Vec::new(alloc);
     for state in states {
@@ -81,7 +106,9 @@ fn states_fit(
     states: &[State],
     charges: &[u64],
     owns: &[Option<u64>],
-) -> Result<(), Refusal> {
+) -> Result<(), Refusal>
+    ensures { IfErr result IsSizeRefusal }
+{
     for ((state, charge), own) in states.iter().zip(charges.iter()).zip(owns.iter()) {
         if !is_within(*own, *charge) {
             return Err(Refusal::Charge(joined(alloc, path, state.name.as_str())?));
@@ -98,7 +125,9 @@ fn free_fit(
     block: &Block,
     charges: &[u64],
     owns: &[Option<u64>],
-) -> Result<(), Refusal> {
+) -> Result<(), Refusal>
+    ensures { IfErr result IsSizeRefusal }
+{
     for transition in &block.transitions {
         if transition.event.is_none() {
             let source = transition.source.as_str();
@@ -139,11 +168,10 @@ fn free_charge(block: &Block, charges: &[u64]) -> Option<u64> {
 }
 
 // Of each event input, the greatest charge of a state that a transition on it leads to.
-fn event_charges(
-    alloc: Global,
-    block: &Block,
-    charges: &[u64],
-) -> Result<Vec<Option<u64>>, Refusal> {
+fn event_charges(alloc: Global, block: &Block, charges: &[u64]) -> Result<Vec<Option<u64>>, Refusal>
+    ensures length { IfOk result (λ v. length v.items ≡ length block.now.event_inputs.keys) }
+    ensures refused { IfErr result IsMemory }
+{
     let mut most = Vec::new(alloc);
     for _ in 0..block.event_inputs.len() {
         most.push(None)?;
@@ -155,7 +183,9 @@ fn event_charges(
 }
 
 // Takes a transition on an event into account.
-fn raise(most: &mut Vec<Option<u64>>, block: &Block, charges: &[u64], transition: &Transition) {
+fn raise(most: &mut Vec<Option<u64>>, block: &Block, charges: &[u64], transition: &Transition)
+    ensures { length most.new.items ≡ length most.old.items }
+{
     if let Some(event) = &transition.event {
         if let Some(index) = block.event_inputs.get_index_of(event.as_str()) {
             if index < most.len() {
@@ -174,7 +204,9 @@ fn inputs_fit(
     path: &str,
     block: &Block,
     charges: &[u64],
-) -> Result<(), Refusal> {
+) -> Result<(), Refusal>
+    ensures { IfErr result IsSizeRefusal }
+{
     let free = free_charge(block, charges);
     let on_event = event_charges(alloc, block, charges)?;
     for index in 0..block.event_inputs.len() {
@@ -212,7 +244,9 @@ fn input_fits(
     path: &str,
     event: &str,
     next: Option<u64>,
-) -> Result<(), Refusal> {
+) -> Result<(), Refusal>
+    ensures { IfErr result IsSizeRefusal }
+{
     let row = weight(alloc, certificate, column, path, event)?;
     if row >= 1 && is_within(crossing(column, next), row) {
         Ok(())
@@ -229,9 +263,11 @@ pub fn chart_fits(
     path: &str,
     block: &Block,
     loads: &[Option<u64>],
-) -> Result<(), Refusal> {
+) -> Result<(), Refusal>
+    ensures { IfErr result IsSizeRefusal }
+{
     let charges = charges(alloc, certificate, column, path, &block.states)?;
-    let owns = owns(alloc, block, loads)?;
+    let owns = owns(alloc, &block.event_outputs, loads, &block.states)?;
     states_fit(alloc, path, &block.states, &charges, &owns)?;
     free_fit(alloc, column, path, block, &charges, &owns)?;
     inputs_fit(alloc, certificate, column, path, block, &charges)

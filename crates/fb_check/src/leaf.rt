@@ -1,6 +1,9 @@
 //! When the rows of a leaf fit in a column.
 
-ghost use Rattle.std.specs.Prelude.{◌≡◌, length, IfOk};
+ghost use Rattle.std.specs.Prelude.{◌≡◌, map, IfOk, IfErr};
+ghost use Rattle.fb_check.specs.Sums.{IsSum};
+ghost use Rattle.fb_check.specs.Reckoning.{number_of, weight_of, charge_of, load_of, AreSums};
+ghost use Rattle.fb_check.specs.Refusals.{IsMemory, IsSizeRefusal};
 
 use crate::chart::chart_fits;
 use crate::column::{Column, is_within, plus};
@@ -11,7 +14,9 @@ use fb_types::Body;
 use std::alloc::Global;
 
 /// The number of a row in a column, 0 where there is no row.
-pub fn number(row: Option<Amount>, column: Column) -> u64 {
+pub fn number(row: Option<Amount>, column: Column) -> u64
+    ensures { result ≡ number_of column row }
+{
     match row {
         Some(amount) => column.number(amount),
         None => 0,
@@ -25,7 +30,10 @@ pub fn weight(
     column: Column,
     path: &str,
     event: &str,
-) -> Result<u64, Refusal> {
+) -> Result<u64, Refusal>
+    ensures value { IfOk result (λ n. n ≡ weight_of column certificate.now path.now event.now) }
+    ensures refused { IfErr result IsMemory }
+{
     let row = joined(alloc, path, event)?;
     Ok(number(certificate.weight(row.as_str()), column))
 }
@@ -37,7 +45,10 @@ pub fn charge(
     column: Column,
     path: &str,
     state: &str,
-) -> Result<u64, Refusal> {
+) -> Result<u64, Refusal>
+    ensures value { IfOk result (λ n. n ≡ charge_of column certificate.now path.now state.now) }
+    ensures refused { IfErr result IsMemory }
+{
     let row = joined(alloc, path, state)?;
     Ok(number(certificate.charge(row.as_str()), column))
 }
@@ -48,7 +59,10 @@ fn load(
     certificate: &Certificate,
     column: Column,
     targets: &[Target],
-) -> Result<Option<u64>, Refusal> {
+) -> Result<Option<u64>, Refusal>
+    ensures value { IfOk result (λ s. IsSum s (load_of column certificate.now targets.now)) }
+    ensures refused { IfErr result IsMemory }
+{
     let mut sum = Some(0);
     for target in targets {
         let next = weight(
@@ -70,7 +84,8 @@ pub fn loads(
     column: Column,
     outputs: &[Output],
 ) -> Result<Vec<Option<u64>>, Refusal>
-    ensures { IfOk result (λ v. length v.items ≡ length outputs.now) }
+    ensures values { IfOk result (λ v. AreSums v.items (map (λ o. load_of column certificate.now o.targets.items) outputs.now)) }
+    ensures refused { IfErr result IsMemory }
 {
     let mut loads = Vec::new(alloc);
     for output in outputs {
@@ -86,7 +101,9 @@ fn input_fits(
     column: Column,
     path: &str,
     loads: &[Option<u64>],
-) -> Result<(), Refusal> {
+) -> Result<(), Refusal>
+    ensures { IfErr result IsSizeRefusal }
+{
     let row = weight(alloc, certificate, column, path, "ARRIVE")?;
     let mut need = Some(column.unit());
     for load in loads {
@@ -105,7 +122,9 @@ pub fn leaf_fits(
     certificate: &Certificate,
     column: Column,
     leaf: &Leaf,
-) -> Result<(), Refusal> {
+) -> Result<(), Refusal>
+    ensures { IfErr result IsSizeRefusal }
+{
     let loads = loads(alloc, certificate, column, &leaf.outputs)?;
     let path = leaf.path.as_str();
     match &leaf.body {

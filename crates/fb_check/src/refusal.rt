@@ -93,6 +93,11 @@ impl<T: Drop> From<AllocFailed<T>> for Refusal {
 
 /// Want of memory is one refusal, wherever it was met.
 impl From<TextFault> for Refusal {
+    ghost use Rattle.std.specs.Prelude.{◌≡◌};
+    ghost use Rattle.fb_check.specs.Refusals.{of_text};
+
+    ghost from_gives = { λ f r. r ≡ of_text f };
+
     fn from(fault: TextFault) -> Refusal {
         match fault {
             TextFault::OutOfMemory => Refusal::OutOfMemory,
@@ -103,6 +108,11 @@ impl From<TextFault> for Refusal {
 
 /// Want of memory is one refusal, wherever it was met.
 impl From<TypeFault> for Refusal {
+    ghost use Rattle.std.specs.Prelude.{◌≡◌};
+    ghost use Rattle.fb_check.specs.Refusals.{of_type};
+
+    ghost from_gives = { λ f r. r ≡ of_type f };
+
     fn from(fault: TypeFault) -> Refusal {
         match fault {
             TypeFault::OutOfMemory => Refusal::OutOfMemory,
@@ -113,6 +123,11 @@ impl From<TypeFault> for Refusal {
 
 /// Want of memory is one refusal, wherever it was met.
 impl From<CertFault> for Refusal {
+    ghost use Rattle.std.specs.Prelude.{◌≡◌};
+    ghost use Rattle.fb_check.specs.Refusals.{of_certificate};
+
+    ghost from_gives = { λ f r. r ≡ of_certificate f };
+
     fn from(fault: CertFault) -> Refusal {
         match fault {
             CertFault::OutOfMemory => Refusal::OutOfMemory,

@@ -1,5 +1,8 @@
 //! The rows that a system must have.
 
+ghost use Rattle.std.specs.Prelude.{IfErr};
+ghost use Rattle.fb_check.specs.Refusals.{IsMemory, IsRowRefusal};
+
 use crate::refusal::Refusal;
 use fb_cert::Certificate;
 use fb_flat::{Flat, FlatResource, Leaf, joined};
@@ -21,7 +24,9 @@ fn require(
     rows: &mut IndexSet<String>,
     path: &str,
     names: &IndexSet<String>,
-) -> Result<(), Refusal> {
+) -> Result<(), Refusal>
+    ensures { IfErr result IsMemory }
+{
     for index in 0..names.len() {
         if let Some(name) = names.get_index(index) {
             let _ = rows.insert(joined(alloc, path, name.as_str())?)?;
@@ -36,13 +41,17 @@ fn require_block(
     required: &mut Required,
     path: &str,
     block: &Block,
-) -> Result<(), Refusal> {
+) -> Result<(), Refusal>
+    ensures { IfErr result IsMemory }
+{
     require(alloc, &mut required.charges, path, &block.state_names)?;
     require(alloc, &mut required.weights, path, &block.event_inputs)
 }
 
 // The rows of a leaf.
-fn require_leaf(alloc: Global, required: &mut Required, leaf: &Leaf) -> Result<(), Refusal> {
+fn require_leaf(alloc: Global, required: &mut Required, leaf: &Leaf) -> Result<(), Refusal>
+    ensures { IfErr result IsMemory }
+{
     match &leaf.body {
         Body::Basic(block) => require_block(alloc, required, leaf.path.as_str(), block),
         Body::Input(_) => {
@@ -58,7 +67,9 @@ fn require_resource(
     alloc: Global,
     required: &mut Required,
     resource: &FlatResource,
-) -> Result<(), Refusal> {
+) -> Result<(), Refusal>
+    ensures { IfErr result IsMemory }
+{
     let _ = required.depths.insert(resource.path.clone()?)?;
     for leaf in &resource.leaves {
         require_leaf(alloc, required, leaf)?;
@@ -67,7 +78,9 @@ fn require_resource(
 }
 
 // The rows of a system.
-fn required_rows(alloc: Global, flat: &Flat) -> Result<Required, Refusal> {
+fn required_rows(alloc: Global, flat: &Flat) -> Result<Required, Refusal>
+    ensures { IfErr result IsMemory }
+{
     let mut required = Required {
         charges: IndexSet::new(alloc),
         weights: IndexSet::new(alloc),
@@ -84,6 +97,7 @@ fn required_rows(alloc: Global, flat: &Flat) -> Result<Required, Refusal> {
 // Each required row of a kind is there.
 fn all_there<F: Fn(&str) -> bool>(rows: &IndexSet<String>, is_there: &F) -> Result<(), Refusal>
     requires { F.IsAlwaysCallable is_there.now }
+    ensures { IfErr result IsRowRefusal }
 {
     for index in 0..rows.len() {
         if let Some(row) = rows.get_index(index) {
@@ -100,7 +114,9 @@ fn no_other_charge(
     alloc: Global,
     rows: &IndexSet<String>,
     certificate: &Certificate,
-) -> Result<(), Refusal> {
+) -> Result<(), Refusal>
+    ensures { IfErr result IsRowRefusal }
+{
     for index in 0..certificate.charge_count() {
         if let Some((path, _)) = certificate.charge_at(index) {
             if !rows.contains(path) {
@@ -116,7 +132,9 @@ fn no_other_weight(
     alloc: Global,
     rows: &IndexSet<String>,
     certificate: &Certificate,
-) -> Result<(), Refusal> {
+) -> Result<(), Refusal>
+    ensures { IfErr result IsRowRefusal }
+{
     for index in 0..certificate.weight_count() {
         if let Some((path, _)) = certificate.weight_at(index) {
             if !rows.contains(path) {
@@ -132,7 +150,9 @@ fn no_other_depth(
     alloc: Global,
     rows: &IndexSet<String>,
     certificate: &Certificate,
-) -> Result<(), Refusal> {
+) -> Result<(), Refusal>
+    ensures { IfErr result IsRowRefusal }
+{
     for index in 0..certificate.depth_count() {
         if let Some((path, _)) = certificate.depth_at(index) {
             if !rows.contains(path) {
@@ -144,7 +164,9 @@ fn no_other_depth(
 }
 
 /// The certificate has each row that the system must have, and no other.
-pub fn rows_match(alloc: Global, flat: &Flat, certificate: &Certificate) -> Result<(), Refusal> {
+pub fn rows_match(alloc: Global, flat: &Flat, certificate: &Certificate) -> Result<(), Refusal>
+    ensures { IfErr result IsRowRefusal }
+{
     let required = required_rows(alloc, flat)?;
     all_there(
         &required.charges,

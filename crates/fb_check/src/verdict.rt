@@ -1,6 +1,7 @@
 //! The verdict over a system and a certificate.
 
-ghost use Rattle.std.specs.Prelude.{◌≡◌, IfErr};
+ghost use Rattle.std.specs.Prelude.{IfErr};
+ghost use Rattle.fb_check.specs.Refusals.{IsMemory, IsSizeRefusal, IsDepthRefusal, IsVerdict};
 
 use crate::column::Column;
 use crate::leaf::leaf_fits;
@@ -19,7 +20,9 @@ fn column_fits(
     flat: &Flat,
     certificate: &Certificate,
     column: Column,
-) -> Result<(), Refusal> {
+) -> Result<(), Refusal>
+    ensures { IfErr result IsSizeRefusal }
+{
     for device in &flat.devices {
         for resource in &device.resources {
             for leaf in &resource.leaves {
@@ -31,7 +34,9 @@ fn column_fits(
 }
 
 // The places of a leaf's arrival, 0 where it has none.
-fn arrival_places(alloc: Global, certificate: &Certificate, leaf: &Leaf) -> Result<u64, Refusal> {
+fn arrival_places(alloc: Global, certificate: &Certificate, leaf: &Leaf) -> Result<u64, Refusal>
+    ensures { IfErr result IsMemory }
+{
     match &leaf.body {
         Body::Basic(_) => Ok(0),
         Body::Input(_) => {
@@ -50,7 +55,9 @@ fn depth_fits(
     alloc: Global,
     certificate: &Certificate,
     resource: &FlatResource,
-) -> Result<(), Refusal> {
+) -> Result<(), Refusal>
+    ensures { IfErr result IsDepthRefusal }
+{
     let depth = certificate.depth(resource.path.as_str()).unwrap_or(0);
     for leaf in &resource.leaves {
         if arrival_places(alloc, certificate, leaf)? > depth {
@@ -61,7 +68,9 @@ fn depth_fits(
 }
 
 // The depths of all resources fit.
-fn depths_fit(alloc: Global, flat: &Flat, certificate: &Certificate) -> Result<(), Refusal> {
+fn depths_fit(alloc: Global, flat: &Flat, certificate: &Certificate) -> Result<(), Refusal>
+    ensures { IfErr result IsDepthRefusal }
+{
     for device in &flat.devices {
         for resource in &device.resources {
             depth_fits(alloc, certificate, resource)?;
@@ -74,7 +83,9 @@ fn depths_fit(alloc: Global, flat: &Flat, certificate: &Certificate) -> Result<(
 /// over whole numbers, in the steps column and in the places column, and for each depth.
 ///
 /// Refused with `UnknownRow`, `MissingRow`, `Charge`, `Weight`, `Depth`, or with `Limit` where too many connections are followed.
-pub fn check(alloc: Global, typed: Typed, certificate: Certificate) -> Result<Verified, Refusal> {
+pub fn check(alloc: Global, typed: Typed, certificate: Certificate) -> Result<Verified, Refusal>
+    ensures { IfErr result IsVerdict }
+{
     let flat = flatten(alloc, &typed)?;
     rows_match(alloc, &flat, &certificate)?;
     column_fits(alloc, &flat, &certificate, Column::Steps)?;

@@ -2,7 +2,8 @@
 
 ghost use Rattle.std.specs.Prelude.{◌≡◌, length, map, string_bytes, IfOk};
 ghost use Rattle.fb_flat.specs.Views.{dotted};
-ghost use Rattle.fb_types.specs.Views.{body_of};
+ghost use Rattle.fb_types.specs.Views.{names_of, body_of};
+ghost use Rattle.fb_model.specs.Typing.{event_outputs_of};
 
 use crate::flat::{Leaf, Output};
 use fb_types::{Body, Instance};
@@ -40,18 +41,23 @@ fn output(alloc: Global, name: &str) -> Result<Output, AllocError>
 }
 
 // The outputs of a set of names, in order.
-fn named(alloc: Global, names: &IndexSet<String>) -> Result<Vec<Output>, AllocError> {
+fn named(alloc: Global, names: &IndexSet<String>) -> Result<Vec<Output>, AllocError>
+    ensures { IfOk result (λ v. map (λ o. string_bytes o.name) v.items ≡ names_of names.now) }
+{
     let mut outputs = Vec::new(alloc);
     for index in 0..names.len() {
-        if let Some(name) = names.get_index(index) {
-            outputs.push(output(alloc, name.as_str())?)?;
-        }
+        let Some(name) = names.get_index(index) else {
+            return Ok(outputs);
+        };
+        outputs.push(output(alloc, name.as_str())?)?;
     }
     Ok(outputs)
 }
 
 // The event outputs of a body, in order.
-fn outputs(alloc: Global, body: &Body) -> Result<Vec<Output>, AllocError> {
+fn outputs(alloc: Global, body: &Body) -> Result<Vec<Output>, AllocError>
+    ensures { IfOk result (λ v. map (λ o. string_bytes o.name) v.items ≡ event_outputs_of (body_of body.now)) }
+{
     match body {
         Body::Basic(block) => named(alloc, &block.event_outputs),
         Body::Input(_) => {
@@ -66,6 +72,7 @@ fn outputs(alloc: Global, body: &Body) -> Result<Vec<Output>, AllocError> {
 fn leaf(alloc: Global, path: &str, instance: &Instance) -> Result<Leaf, AllocError>
     ensures path { IfOk result (λ l. string_bytes l.path ≡ dotted path.now (string_bytes instance.now.name)) }
     ensures body { IfOk result (λ l. body_of l.body ≡ body_of instance.now.body) }
+    ensures outputs { IfOk result (λ l. map (λ o. string_bytes o.name) l.outputs.items ≡ event_outputs_of (body_of instance.now.body)) }
 {
     Ok(Leaf {
         path: joined(alloc, path, instance.name.as_str())?,

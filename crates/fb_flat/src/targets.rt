@@ -1,7 +1,8 @@
 //! Where event outputs lead.
 
-ghost use Rattle.std.specs.Prelude.{◌≡◌, ◌<◌, length, map, string_bytes, IfOk};
-ghost use Rattle.fb_flat.specs.Views.{dotted};
+ghost use Rattle.std.specs.Prelude.{◌≡◌, ◌≤◌, length, map, string_bytes, IfOk, IfErr};
+ghost use Rattle.indexmap.specs.IndexSet.{index_set_len};
+ghost use Rattle.fb_flat.specs.Views.{dotted, IsLimit};
 
 use crate::CONNECTIONS;
 use crate::flat::{Flat, FlatDevice, FlatResource, Leaf, Output, Target};
@@ -11,7 +12,9 @@ use indexmap::IndexSet;
 use std::alloc::{AllocError, Global};
 
 // The place of each instance, by its name.
-fn places(alloc: Global, instances: &[Instance]) -> Result<IndexSet<String>, AllocError> {
+fn places(alloc: Global, instances: &[Instance]) -> Result<IndexSet<String>, AllocError>
+    ensures { IfOk result (λ t. index_set_len t ≤ length instances.now) }
+{
     let mut names = IndexSet::new(alloc);
     for instance in instances {
         let _ = names.insert(instance.name.clone()?)?;
@@ -62,7 +65,8 @@ fn follow(
 
 // A resource: its leaves, whose outputs lead where the connections do.
 fn resource(alloc: Global, device: &str, source: &Resource) -> Result<FlatResource, TypeFault>
-    ensures { IfOk result (λ r. string_bytes r.path ≡ dotted device.now (string_bytes source.now.name)) }
+    ensures path { IfOk result (λ r. string_bytes r.path ≡ dotted device.now (string_bytes source.now.name)) }
+    ensures refused { IfErr result IsLimit }
 {
     if source.events.len() > CONNECTIONS {
         return Err(TypeFault::Limit(source.at));
@@ -78,7 +82,8 @@ fn resource(alloc: Global, device: &str, source: &Resource) -> Result<FlatResour
 
 // A device: its resources in order.
 fn device(alloc: Global, source: &Device) -> Result<FlatDevice, TypeFault>
-    ensures { IfOk result (λ d. string_bytes d.name ≡ string_bytes source.now.name) }
+    ensures name { IfOk result (λ d. string_bytes d.name ≡ string_bytes source.now.name) }
+    ensures refused { IfErr result IsLimit }
 {
     let mut resources = Vec::new(alloc);
     for resource_source in &source.resources {
@@ -92,7 +97,8 @@ fn device(alloc: Global, source: &Device) -> Result<FlatDevice, TypeFault>
 ///
 /// More than [`CONNECTIONS`] followed connections in a resource are refused with `Limit` at its name.
 pub fn flatten(alloc: Global, typed: &Typed) -> Result<Flat, TypeFault>
-    ensures { IfOk result (λ f. map (λ d. string_bytes d.name) f.devices.items ≡ map (λ d. string_bytes d.name) typed.now.devices.items) }
+    ensures devices { IfOk result (λ f. map (λ d. string_bytes d.name) f.devices.items ≡ map (λ d. string_bytes d.name) typed.now.devices.items) }
+    ensures refused { IfErr result IsLimit }
 {
     let mut devices = Vec::new(alloc);
     for source in &typed.devices {

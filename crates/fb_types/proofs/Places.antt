@@ -14,7 +14,7 @@ use Rattle.fb_types.specs.Views.{instances_of, body_of}
 use Rattle.fb_types.specs.Answers.{IsDeclared}
 
 -- the place of the first element that passes
-pub place : {X : Type 0} → (X → Bool) → List X → Option ℕ
+unfoldable pub place : {X : Type 0} → (X → Bool) → List X → Option ℕ
 place p [] = None
 place p (x ∷ xs) = cond (p x) (Some 0) (option_map suc (place p xs))
 
