@@ -2,4 +2,4 @@ use Rattle.fbr.proofs.Told.{tells_one}
 use Rattle.fbr.proofs.check.check_files.Goals as goal
 
 pub returns-clause-told : goal.returns-clause-told
-returns-clause-told g c = tells_one _ _ _ c.print_outcome.result c.print_outcome.ensures.told
+returns-clause-told g c = tells_one c.files_outcome-outcome.result (g.W.Write.contents c.args.output.now) (g.W.Write.contents c.print_outcome.new.output) c.print_outcome.result c.print_outcome.ensures.told
