@@ -4,6 +4,8 @@
 mod block;
 mod constant;
 mod system;
+#[cfg(test)]
+mod tests;
 mod text;
 mod tree;
 
