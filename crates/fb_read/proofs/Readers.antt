@@ -98,15 +98,18 @@ expect_then P Q f k ts p g = by (next_is k ts) refl where
 pub opens : {B : Type 0} (G : List Token → B → List Token → Type 0) (f : List Token → Answer B) (k : Mark) (ts : List Token) → ((s e : ℕ) (rest : List Token) → Meets (G (token (mark k) s e ∷ rest)) (f rest)) → Meets (G ts) (expect k ts >>= f)
 opens G f k ts g = by (next_is k ts) refl where
   by : (b : Bool) → next_is k ts ≡ b → Meets (G ts) (cond b (Ok (after ts)) (Err syntax) >>= f)
-  by true e =
-      let q = seen (λ l. ts ≡ l) k ts e refl in subst (λ l. Meets (G l) (f (after ts))) (sym q.2) (g q.0 q.1 (after ts))
+  by true e = let q = seen (λ l. ts ≡ l) k ts e refl in subst (λ l. Meets (G l) (f (after ts))) (sym q.2) (g q.0 q.1 (after ts))
   by false e = tt
 
--- a mark that may stand next, and what is done behind it or without it
-pub if_next : {B : Type 0} (P : List Token → Type 0) (Q : B → List Token → Type 0) (k : Mark) (ts : List Token) (with without : Answer B) → P ts → ((s e : ℕ) → P (token (mark k) s e ∷ after ts) → Meets Q with) → (next_is k ts ≡ false → Meets Q without) → Meets Q (cond (next_is k ts) with without)
-if_next P Q k ts with without p g h = by (next_is k ts) refl where
-  by : (b : Bool) → next_is k ts ≡ b → Meets Q (cond b with without)
-  by true e = let q = seen P k ts e p in g q.0 q.1 q.2
+-- what stands behind a mark that a test has seen
+pub opened : {A : Type 0} (G : List Token → A → List Token → Type 0) (k : Mark) (ts : List Token) → next_is k ts ≡ true → (r : Answer A) → ((s e : ℕ) → Meets (G (token (mark k) s e ∷ after ts)) r) → Meets (G ts) r
+opened G k ts e r g = let q = seen (λ l. ts ≡ l) k ts e refl in subst (λ l. Meets (G l) r) (sym q.2) (g q.0 q.1)
+
+-- a mark that may stand next, with what stands behind it, or else
+pub may_open : {A : Type 0} (G : List Token → A → List Token → Type 0) (k : Mark) (ts : List Token) (with without : Answer A) → ((s e : ℕ) → Meets (G (token (mark k) s e ∷ after ts)) with) → (next_is k ts ≡ false → Meets (G ts) without) → Meets (G ts) (cond (next_is k ts) with without)
+may_open G k ts with without g h = by (next_is k ts) refl where
+  by : (b : Bool) → next_is k ts ≡ b → Meets (G ts) (cond b with without)
+  by true e = opened G k ts e with g
   by false e = h e
 
 pub shallow_expect : (k : Mark) (ts : List Token) → NotDeep (expect k ts)

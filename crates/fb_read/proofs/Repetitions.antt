@@ -1,10 +1,10 @@
 -- The laws of lists of items, once for all productions.
-use Rattle.std.proofs.Common.{◌≡◌, ℕ, zero, suc, ◌<◌, ◌≤◌, Bool, true, false, cond, List, [], ◌∷◌, length, Ok, Err, refl, sym, ap, subst, ◌∙◌, arith, inl, inr}
+use Rattle.std.proofs.Common.{◌≡◌, ℕ, zero, suc, ◌<◌, ◌≤◌, Bool, true, false, cond, List, [], ◌∷◌, length, Option, Some, None, Ok, Err, refl, sym, ap, subst, ◌∙◌, arith, inl, inr}
 use Rattle.fb_words.specs.declared.mark.Mark.{Mark}
 use Rattle.fb_model.specs.Tokens.{Token, token, mark}
 use Rattle.fb_model.specs.Productions.{Gram, IsMany, none, more, IsSeparated, last, before, IsSection, absent, present}
 use Rattle.fb_read.specs.Reading.{Answer, Read, ◌>>=◌, is, next_is, after, expect, many_step, many_at, separated_step, separated_at, closed_at, section_at}
-use Rattle.fb_read.proofs.Readers.{Meets, Sound, Gets, Complete, never, Shorter, Avoids, NotDeep, Shallow, meets_then, meets_as, gets_then, shallow_then, seen, some_left, expect_then, shallow_expect, shallow_if}
+use Rattle.fb_read.proofs.Readers.{Meets, Sound, Gets, Complete, never, Shorter, Avoids, NotDeep, Shallow, meets_then, meets_as, gets_then, shallow_then, seen, some_left, expect_then, may_open, shallow_expect, shallow_if}
 
 -- items up to a mark, which is left
 abbrev pub UpTo : {A : Type 0} → Mark → Gram A → Gram (List A)
@@ -13,6 +13,11 @@ UpTo close G ts xs rest = IsMany G ts xs rest × (next_is close rest ≡ true)
 -- items and the mark behind them
 pub data IsClosed {A : Type 0} (close : Mark) (G : Gram A) : List Token → List A → List Token → Type 0 where
   a_closed : {ts rest : List Token} {s e : ℕ} {xs : List A} → IsMany G ts xs (token (mark close) s e ∷ rest) → IsClosed close G ts xs rest
+
+-- [mark item]
+pub data IsOptional {A : Type 0} (k : Mark) (G : Gram A) : List Token → Option A → List Token → Type 0 where
+  missing : {ts : List Token} → next_is k ts ≡ false → IsOptional k G ts None ts
+  given : {ts rest : List Token} {s e : ℕ} {x : A} → G ts x rest → IsOptional k G (token (mark k) s e ∷ ts) (Some x) rest
 
 -- ---- sound
 
@@ -41,15 +46,15 @@ module _ {A : Type 0} (G : Gram A) (item : Read A) (sound : Sound G item) where
   unfolding closed_at
   closed_sound close ts = meets_then _ _ (many_at close item (length ts) ts) (many_sound close (length ts) ts) (λ xs mid p. expect_then (λ l. IsMany G ts xs l) _ _ close mid p.0 (λ s e rest q. a_closed q))
 
-  section_turn : (opening closing : Mark) (ts : List Token) (b : Bool) → next_is opening ts ≡ b → Meets (IsSection opening closing G ts) (cond b (closed_at closing item (after ts)) (Ok ([], ts)))
-  section_turn opening closing ts true e = meets_as _ (closed_at closing item (after ts)) (closed_sound closing (after ts)) found where
-    found : (xs : List A) (rest : List Token) → IsClosed closing G (after ts) xs rest → IsSection opening closing G ts xs rest
-    found xs rest (a_closed p) = let q = seen (λ l. ts ≡ l) opening ts e refl in subst (λ l. IsSection opening closing G l xs rest) (sym q.2) (present p)
-  section_turn opening closing ts false e = absent
+  section_of : (opening closing : Mark) (ts : List Token) (s e : ℕ) (xs : List A) (rest : List Token) → IsClosed closing G ts xs rest → IsSection opening closing G (token (mark opening) s e ∷ ts) xs rest
+  section_of opening closing ts s e xs rest (a_closed p) = present p
 
   pub section_sound : (opening closing : Mark) → Sound (IsSection opening closing G) (section_at opening closing item)
   unfolding section_at
-  section_sound opening closing ts = section_turn opening closing ts (next_is opening ts) refl
+  section_sound opening closing ts = may_open (IsSection opening closing G) opening ts _ _ (λ s e. meets_as _ (closed_at closing item (after ts)) (closed_sound closing (after ts)) (section_of opening closing (after ts) s e)) (λ e. absent)
+
+  pub optional_sound : (k : Mark) (ts : List Token) → Meets (IsOptional k G ts) (cond (next_is k ts) (item (after ts) >>= λ x. Ok (Some x.0, x.1)) (Ok (None, ts)))
+  optional_sound k ts = may_open (IsOptional k G) k ts _ _ (λ s e. meets_then _ _ (item (after ts)) (sound (after ts)) (λ x rest p. given p)) missing
 
 -- ---- how long the rest is
 
@@ -68,6 +73,12 @@ module _ {A : Type 0} (G : Gram A) (short : Shorter G) where
   pub section_shrinks : {opening closing : Mark} {ts rest : List Token} {xs : List A} → IsSection opening closing G ts xs rest → length rest ≤ length ts
   section_shrinks absent = omega arith
   section_shrinks (present p) = let a = many_shrinks p in omega arith
+
+-- ---- what they begin with
+
+pub section_avoids : {A : Type 0} {G : Gram A} {opening closing : Mark} (k : Mark) {ts rest : List Token} {xs : List A} → is opening k ≡ false → next_is k rest ≡ false → IsSection opening closing G ts xs rest → next_is k ts ≡ false
+section_avoids k f g absent = g
+section_avoids k f g (present p) = f
 
 -- ---- complete
 
