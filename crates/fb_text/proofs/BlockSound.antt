@@ -1,5 +1,5 @@
 -- What is read of constants and block types is in the grammar.
-use Rattle.std.proofs.Common.{◌≡◌, ℕ, Bool, true, false, cond, List, [], ◌∷◌, Option, Some, None, Result, Ok, Err, refl, sym, subst, codes}
+use Rattle.std.proofs.Common.{◌≡◌, ℕ, Bool, true, false, cond, List, [], ◌∷◌, length, Option, Some, None, Result, Ok, Err, refl, sym, subst, codes}
 use Rattle.std.specs.Prelude.{◌==◌}
 use Rattle.std.specs.Str.{bytes_eq}
 use Rattle.std.proofs.lemmas.Bool.{eqb-true}
@@ -50,7 +50,7 @@ word_then P Q f text (token (duration b n) s e ∷ ts) p g = tt
 word_then P Q f text (token (mark k) s e ∷ ts) p g = tt
 word_then P Q f text (token (name x) s e ∷ ts) p g = by (bytes_eq x text) refl where
   by : (b : Bool) → bytes_eq x text ≡ b → Meets Q (cond b (Ok ts) (Err syntax) >>= f)
-  by true h = let same : x ≡ text = (bytes_eq-Decides x text).true h in g s e ts (subst (λ l. P (token (name l) s e ∷ ts)) same p)
+  by true h = let same : x ≡ text = (bytes_eq-Decides x text).0 h in g s e ts (subst (λ l. P (token (name l) s e ∷ ts)) same p)
   by false h = tt
 
 kind_then : {B : Type 0} (P : List Token → Type 0) (Q : B → List Token → Type 0) (f : List Token → Answer B) (ts : List Token) → P ts → Meets Q (f ts) → ((s e s' e' : ℕ) (rest : List Token) → P (token (mark m.Colon) s e ∷ token (name (codes "EVENT")) s' e' ∷ rest) → Meets Q (f rest)) → Meets Q (kind_at ts >>= f)

@@ -1,1 +1,2 @@
 pub mod BlockSound
+pub mod SystemSound
