@@ -3,10 +3,10 @@ use Rattle.std.proofs.Common.{◌≡◌, ℕ, Bool, true, false, cond, List, [],
 use Rattle.fb_words.specs.declared.mark.Mark.{Mark}
 use Rattle.fb_words.specs.declared.mark.Mark.TheVariants as m
 use Rattle.fb_model.specs.Tokens.{Token, token, mark}
-use Rattle.fb_model.specs.Productions.{IsName, a_name, IsMany, more, IsSection}
-use Rattle.fb_model.specs.Trees.{StateTree, SystemTree, SourceTree}
+use Rattle.fb_model.specs.Productions.{IsName, a_name, IsMany, more, IsSeparated, IsSection}
+use Rattle.fb_model.specs.Trees.{StateTree, ParameterTree, SystemTree, SourceTree}
 use Rattle.fb_model.specs.Grammar.{IsConstant, negative, plain, with_type, time, yes, no, IsEvent, short, long, IsAction, runs, runs_and_emits, emits, IsState, bare, acting, IsCondition, always, on_event, IsTransition, a_transition, IsStates, some_states, IsTransitions, some_transitions, IsBlock, a_block, IsParameter, a_parameter, IsInstance, without, with_parameters, IsPort, own, inner, IsConnection, a_connection, IsResource, a_resource, IsDevice, a_device, IsSystem, a_system, IsFile, a_file}
-use Rattle.fb_read.specs.Reading.{next_is, after, items_at, list_at, closed_at, section_at}
+use Rattle.fb_read.specs.Reading.{syntax, next_is, after, items_at, list_at, closed_at, section_at}
 use Rattle.fb_read.proofs.Readers.{Gets, Complete, never, gets_then}
 use Rattle.fb_read.proofs.Repetitions.{IsClosed, a_closed, section_avoids, many_complete, separated_complete, closed_complete, section_complete}
 use Rattle.fb_text.specs.Reading.{constant_at, event_at, output_at, emitting_at, running_at, action_at, actions_at, state_at, condition_at, transition_at, states_at, transitions_at, block_at, parameter_at, parameters_at, instance_at, second_at, port_at, connection_at, resource_at, device_at, system_at, file_at, whole_at}
@@ -58,7 +58,7 @@ module _ (Deep : Type 0) where
   pub states_complete : Complete Deep never IsStates states_at
   unfolding states_at
   states_complete ts xs rest (some_states {ts = on} {mid = mid} {x = x} p q) st =
-      subst (λ b. Gets Deep (cond b (Err _) (closed_at m.EndStates state_at on)) (xs, rest)) (sym (state_avoids on x mid p))
+      subst (λ b. Gets Deep (cond b (Err syntax) (closed_at m.EndStates state_at on)) (xs, rest)) (sym (state_avoids on x mid p))
       (closed_complete Deep IsState state_at state_shorter m.EndStates state_avoids state_complete refl on xs rest (a_closed (more p q)) refl)
 
   pub transitions_complete : Complete Deep never IsTransitions transitions_at
@@ -81,13 +81,18 @@ module _ (Deep : Type 0) where
   unfolding parameter_at
   parameter_complete ts x rest (a_parameter {mid = mid} {c = c} a_name h) st = gets_then _ _ (constant_at mid) (c, rest) (constant_complete mid c rest h refl) (inl refl)
 
+  parameters_complete : (s e s' e' : ℕ) (ts rest : List Token) (xs : List ParameterTree) → IsSeparated m.Comma IsParameter ts xs (token (mark m.RParen) s' e' ∷ rest) → Gets Deep (parameters_at (token (mark m.LParen) s e ∷ ts)) (xs, rest)
+  unfolding parameters_at
+  parameters_complete s e s' e' ts rest xs h =
+      let end = token (mark m.RParen) s' e' ∷ rest in
+      gets_then _ _ (list_at m.Comma parameter_at ts) (xs, end) (separated_complete Deep m.Comma IsParameter parameter_at parameter_shorter never parameter_complete refl (λ s e ts. refl) (length ts) ts end xs (omega arith) h refl refl) (inl refl)
+
   pub instance_complete : Complete Deep never IsInstance instance_at
   unfolding instance_at parameters_at
   instance_complete ts x rest (without a_name a_name) st = inl refl
-  instance_complete ts x rest (with_parameters {s'' = s} {e'' = e} {s₃ = s₃} {e₃ = e₃} {on = on} {ps = ps} a_name a_name h) st =
-      let end = token (mark m.RParen) s e ∷ token (mark m.Semicolon) s₃ e₃ ∷ rest in
-      let listed = separated_complete Deep m.Comma IsParameter parameter_at parameter_shorter never parameter_complete refl (λ s e ts. refl) (length on) on end ps (omega arith) h refl refl in
-      gets_then _ _ (parameters_at _) (ps, token (mark m.Semicolon) s₃ e₃ ∷ rest) (gets_then _ _ (list_at m.Comma parameter_at on) (ps, end) listed (inl refl)) (inl refl)
+  instance_complete ts x rest (with_parameters {s' = s'} {e' = e'} {s'' = s} {e'' = e} {s₃ = s₃} {e₃ = e₃} {on = on} {ps = ps} a_name a_name h) st =
+      let end = token (mark m.Semicolon) s₃ e₃ ∷ rest in
+      gets_then _ _ (parameters_at (token (mark m.LParen) s' e' ∷ on)) (ps, end) (parameters_complete s' e' s e on end ps h) (inl refl)
 
   pub port_complete : Complete Deep (next_is m.Dot) IsPort port_at
   unfolding port_at second_at

@@ -1,2 +1,4 @@
 pub mod BlockSound
 pub mod SystemSound
+pub mod Shorter
+pub mod Complete

@@ -51,7 +51,7 @@ pub transitions_shorter : Shorter IsTransitions
 transitions_shorter ts xs rest (some_transitions p) = let a = many_shrinks IsTransition transition_shorter p in omega arith
 
 pub block_shorter : Shorter IsBlock
-block_shorter ts x rest (a_block {s' = s'} {e' = e'} {ts₃ = ts₃} {ts₄ = ts₄} {rest = rest} {ss = ss} {cs = cs} a_name is os states transitions) =
+block_shorter ts x rest (a_block {ts₃ = ts₃} {ts₄ = ts₄} {ss = ss} {cs = cs} a_name is os states transitions) =
     let a = section_shrinks IsEvent event_shorter is in
     let b = section_shrinks IsEvent event_shorter os in
     let c = states_shorter ts₃ ss ts₄ states in
