@@ -1,2 +1,4 @@
 pub mod Lists
 pub mod Fronts
+pub mod Readers
+pub mod Repetitions

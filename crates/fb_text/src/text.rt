@@ -1,11 +1,14 @@
 //! Whole texts.
 
-ghost use Rattle.std.specs.Prelude.{◌≡◌, map};
+ghost use Rattle.std.specs.Prelude.{◌≡◌, ◌≤◌, ℕ, List, length, map, IfOk};
 ghost use Rattle.fb_lex.specs.Views.{tokens_of};
 ghost use Rattle.fb_read.specs.Answers.{Gives};
 ghost use Rattle.fb_text.specs.Views.{source_of};
 ghost use Rattle.fb_text.specs.Reading.{file_at, whole_at};
-ghost use Rattle.fb_text.specs.Answers.{Reads, ReadsText};
+ghost use Rattle.fb_text.specs.Answers.{Reads, ReadsText, IsSource, FindsTree, IfSyntax, IsNotDeep, IsNoSource};
+ghost use Rattle.fb_model.specs.Tokens as book;
+ghost use Rattle.fb_model.specs.Trees.{SourceTree};
+ghost use Rattle.fb_model.specs.Grammar.{IsFile};
 
 use crate::system::system;
 use crate::tree::{BlockTree, Source};
@@ -40,7 +43,11 @@ fn whole(alloc: Global, tokens: &[Token]) -> Result<Source, Stop>
 ///
 /// A `Syntax` names the first token that cannot stand there, or the text's length where the tokens end too soon.
 pub fn parse_tokens(alloc: Global, tokens: &[Token], length: usize) -> Result<Source, TextFault>
-    ensures { Reads result (whole_at (tokens_of tokens.now)) }
+    ensures reads { Reads result (whole_at (tokens_of tokens.now)) }
+    ensures found { IfOk result (λ source. IsFile (tokens_of tokens.now) (source_of source)) }
+    ensures only { (x : SourceTree) → IsFile (tokens_of tokens.now) x → FindsTree result x }
+    ensures syntax { IfSyntax result ((x : SourceTree) → IsFile (tokens_of tokens.now) x → ⊥) }
+    ensures shallow { IsNotDeep result }
 {
     match whole(alloc, tokens) {
         Ok(source) => Ok(source),
@@ -53,8 +60,22 @@ pub fn parse_tokens(alloc: Global, tokens: &[Token], length: usize) -> Result<So
 /// The lexer's refusals come first: `TooLong`, `BadCharacter`, `BigNumber`. A text whose tokens are no application is refused
 /// with `Syntax`, at the first token that cannot stand where it does, or at the text's length where the tokens end too soon.
 pub fn parse(alloc: Global, text: &str) -> Result<Source, TextFault>
-    ensures { ReadsText text.now result }
+    ensures reads { ReadsText text.now result }
+    ensures found { IfOk result (λ source. IsSource text.now (source_of source)) }
+    ensures only { (x : SourceTree) → IsSource text.now x → length text.now ≤ 1048576 → FindsTree result x }
+    ensures syntax { IfSyntax result (IsNoSource text.now) }
+    ensures shallow { IsNotDeep result }
 {
     let tokens = lex(alloc, text)?;
     parse_tokens(alloc, &tokens, text.len())
 }
+
+/// No tokens are two trees.
+pub fn one_tree()
+    ensures { (ts : List book.Token) (x y : SourceTree) → IsFile ts x → IsFile ts y → x ≡ y }
+{}
+
+/// No text is two trees.
+pub fn one_source()
+    ensures { (text : List ℕ) (x y : SourceTree) → IsSource text x → IsSource text y → x ≡ y }
+{}

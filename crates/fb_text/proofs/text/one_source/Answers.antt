@@ -1,0 +1,5 @@
+use Rattle.fb_text.proofs.Laws.{source_once}
+use Rattle.fb_text.proofs.text.one_source.Goals as goal
+
+pub returns : goal.returns
+returns c = λ text x y h g. source_once h g
