@@ -49,7 +49,11 @@ fn known_if_some(names: &IndexSet<String>, name: &Option<Name>) -> Result<(), Ty
 }
 
 // An action. It may emit an output of the block, and runs no algorithm, since none are declared.
-fn action(outputs: &IndexSet<String>, none: &IndexSet<String>, source: &ActionTree) -> Result<Action, TypeFault>
+fn action(
+    outputs: &IndexSet<String>,
+    none: &IndexSet<String>,
+    source: &ActionTree,
+) -> Result<Action, TypeFault>
     requires { names_of none.now ≡ [] }
     ensures typed { OnOk result (IsActionTyped (names_of outputs.now) (tree.action_of source.now)) }
     ensures value { IfOk result (λ a. action_of a ≡ typed_action (tree.action_of source.now)) }
@@ -63,7 +67,11 @@ fn action(outputs: &IndexSet<String>, none: &IndexSet<String>, source: &ActionTr
 }
 
 // The actions of a state, in order.
-fn actions(alloc: Global, outputs: &IndexSet<String>, sources: &[ActionTree]) -> Result<Vec<Action>, TypeFault>
+fn actions(
+    alloc: Global,
+    outputs: &IndexSet<String>,
+    sources: &[ActionTree],
+) -> Result<Vec<Action>, TypeFault>
     ensures typed { OnOk result (AllByRecursion (IsActionTyped (names_of outputs.now)) (map tree.action_of sources.now)) }
     ensures value { IfOk result (λ v. map action_of v.items ≡ map typed_action (map tree.action_of sources.now)) }
 {
@@ -86,7 +94,11 @@ fn state(alloc: Global, outputs: &IndexSet<String>, source: &StateTree) -> Resul
 }
 
 // The states of a block, in order.
-fn states(alloc: Global, outputs: &IndexSet<String>, sources: &[StateTree]) -> Result<Vec<State>, TypeFault>
+fn states(
+    alloc: Global,
+    outputs: &IndexSet<String>,
+    sources: &[StateTree],
+) -> Result<Vec<State>, TypeFault>
     ensures typed { OnOk result (AllByRecursion (λ s. AllByRecursion (IsActionTyped (names_of outputs.now)) s.actions) (map tree.state_of sources.now)) }
     ensures value { IfOk result (λ v. map state_of v.items ≡ map typed_state (map tree.state_of sources.now)) }
 {
@@ -98,7 +110,11 @@ fn states(alloc: Global, outputs: &IndexSet<String>, sources: &[StateTree]) -> R
 }
 
 // A transition between states of the block, on an event input or on none.
-fn transition(states: &IndexSet<String>, inputs: &IndexSet<String>, source: &TransitionTree) -> Result<Transition, TypeFault>
+fn transition(
+    states: &IndexSet<String>,
+    inputs: &IndexSet<String>,
+    source: &TransitionTree,
+) -> Result<Transition, TypeFault>
     ensures typed { OnOk result (IsTransitionTyped (names_of states.now) (names_of inputs.now) (tree.transition_of source.now)) }
     ensures value { IfOk result (λ t. transition_of t ≡ typed_transition (tree.transition_of source.now)) }
 {

@@ -10,7 +10,9 @@ ghost use Rattle.indexmap.specs.IndexSet.{index_set_len};
 
 use crate::fault::TypeFault;
 use fb_read::Name;
-use fb_text::{BlockTree, DeviceTree, EventTree, InstanceTree, ResourceTree, StateTree, TransitionTree};
+use fb_text::{
+    BlockTree, DeviceTree, EventTree, InstanceTree, ResourceTree, StateTree, TransitionTree,
+};
 use indexmap::IndexSet;
 use std::alloc::{AllocError, Global};
 

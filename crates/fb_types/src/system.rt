@@ -91,8 +91,7 @@ fn resource(
     blocks: &[Rc<Block>],
     numbers: &mut IndexSet<u16>,
     tree: &ResourceTree,
-) -> Result<Resource, TypeFault>
-{
+) -> Result<Resource, TypeFault> {
     at_most(&tree.instances, INSTANCES)?;
     let locals = table(alloc, &tree.instances)?;
     let instances = instances(alloc, names, blocks, numbers, &tree.instances)?;
@@ -112,8 +111,7 @@ fn device(
     names: &IndexSet<String>,
     blocks: &[Rc<Block>],
     tree: &DeviceTree,
-) -> Result<Device, TypeFault>
-{
+) -> Result<Device, TypeFault> {
     at_most(&tree.resources, RESOURCES)?;
     let _ = table(alloc, &tree.resources)?;
     let mut numbers = IndexSet::new(alloc);
@@ -126,8 +124,7 @@ fn device(
 }
 
 /// The typed system of a source tree.
-pub fn resolve(alloc: Global, source: Source) -> Result<Typed, TypeFault>
-{
+pub fn resolve(alloc: Global, source: Source) -> Result<Typed, TypeFault> {
     let names = table(alloc, &source.blocks)?;
     let blocks = blocks(alloc, &source.blocks)?;
     at_most(&source.system.devices, DEVICES)?;
