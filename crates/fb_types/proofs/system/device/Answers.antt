@@ -11,7 +11,7 @@ returns c =
     record {
       name = c.in_ok-name.ensures.cases;
       names = rw (map_map, ← c.deref-2.ensures.value) c.in_ok-table.ensures.distinct;
-      few = same_length trees_of.resource_of x.resources.items _ (rw c.deref.ensures.value at c.in_ok-at_most.ensures);
+      few = same_length trees_of.resource_of x.resources.items _ (rw c.deref.ensures.value at c.in_ok-at_most.ensures.few);
       resources = made sources d;
       numbers = rw c.new-numbers.ensures.empty at c.in_ok-resources.ensures.numbers.fresh;
     }

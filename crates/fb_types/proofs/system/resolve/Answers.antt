@@ -20,7 +20,7 @@ returns c =
           each = rw c.deref-2.ensures.value at c.in_ok-blocks.ensures.typed;
         };
         names = rw (map_map, ← c.deref-4.ensures.value) c.in_ok-table.ensures.distinct;
-        few = same_length trees_of.device_of x.system.devices.items _ (rw c.deref-3.ensures.value at c.in_ok-at_most.ensures);
+        few = same_length trees_of.device_of x.system.devices.items _ (rw c.deref-3.ensures.value at c.in_ok-at_most.ensures.few);
         devices = made sources (record { names_are = named; blocks_are = values });
       };
     }

@@ -18,7 +18,7 @@ returns-clause-typed c =
     record {
       name = c.in_ok-name.ensures.cases;
       names = rw (map_map, ← c.deref-2.ensures.value) c.in_ok-locals.ensures.distinct;
-      few = same_length trees_of.instance_of x.instances.items _ (rw c.deref.ensures.value at c.in_ok-at_most.ensures);
+      few = same_length trees_of.instance_of x.instances.items _ (rw c.deref.ensures.value at c.in_ok-at_most.ensures.few);
       instances = typed;
       events = joined (record { names_are = table });
       values = refl;
