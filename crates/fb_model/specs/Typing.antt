@@ -203,11 +203,15 @@ AreResources bs (r ∷ rs) (q ∷ qs) = IsResource bs r q × AreResources bs rs 
 AreResources bs [] (q ∷ qs) = ⊥
 AreResources bs (r ∷ rs) [] = ⊥
 
+-- the number of an INPUT, and of another body none
+abbrev pub body_numbers : Body → List ℕ
+body_numbers (Served (Input number types)) = number ∷ []
+body_numbers body = []
+
 -- the numbers of the INPUT instances, in text order
 abbrev pub input_numbers : Instances → List ℕ
 input_numbers nothing = []
-input_numbers (instance name parameters (Served (Input number types)) rest) = number ∷ input_numbers rest
-input_numbers (instance name parameters body rest) = input_numbers rest
+input_numbers (instance name parameters body rest) = body_numbers body ++ input_numbers rest
 
 abbrev pub numbers_in : List Resource → List ℕ
 numbers_in [] = []
@@ -216,7 +220,7 @@ numbers_in (q ∷ qs) = input_numbers q.inner ++ numbers_in qs
 -- no number is among those before it
 abbrev pub AreNewNumbers : List ℕ → List ℕ → Type 0
 AreNewNumbers before [] = Unit {0}
-AreNewNumbers before (n ∷ ns) = (list_any (λ m. nat_eq m n) before ≡ false) × AreNewNumbers (before ++ n ∷ []) ns
+AreNewNumbers before (n ∷ ns) = (list_any (nat_eq n) before ≡ false) × AreNewNumbers (before ++ n ∷ []) ns
 
 pub record IsDevice (bs : List BlockTree) (d : DeviceTree) (e : Device) : Type 0 where
   pub name : e.name ≡ d.name.text

@@ -3,9 +3,9 @@ use Rattle.std.proofs.Common.{◌≡◌, List, [], ◌∷◌, ◌++◌, Bool, tr
 use Rattle.std.specs.List.{list_any, prefix_len}
 use Rattle.std.proofs.lemmas.List.{map_push, append-nil, length-map, take_more}
 use Rattle.fb_model.specs.Names.{Name}
-use Rattle.fb_model.specs.System.{Instances, Connection, Event, State, Transition, Block}
-use Rattle.fb_model.specs.Trees.{ConnectionTree, BlockTree, InstanceTree}
-use Rattle.fb_model.specs.Typing.{AreNew, typed_event, AreConnections, IsConnection, AreInstances, IsBody}
+use Rattle.fb_model.specs.System.{Instances, Connection, Event, State, Transition, Block, Resource, Device}
+use Rattle.fb_model.specs.Trees.{ConnectionTree, BlockTree, InstanceTree, ResourceTree, DeviceTree}
+use Rattle.fb_model.specs.Typing.{AreNew, typed_event, AreConnections, IsConnection, AreInstances, IsBody, AreResources, IsResource, AreDevices, IsDevice, instance_texts}
 use Rattle.fb_text.specs.declared.tree.EventTree.{EventTree}
 use Rattle.fb_text.specs.Views as tree
 use Rattle.fb_types.specs.declared.typed.Instance.{Instance}
@@ -96,3 +96,22 @@ plain_block is os ss ts = record { event_inputs = is; event_outputs = os; inputs
 -- a block by its parts
 pub same_block : {is is' os os' : List Event} {ss ss' : List State} {ts ts' : List Transition} → is ≡ is' → os ≡ os' → ss ≡ ss' → ts ≡ ts' → plain_block is os ss ts ≡ plain_block is' os' ss' ts'
 same_block {is} {is'} {os} {os'} {ss} {ss'} {ts} {ts'} a b c d = ap (λ x. plain_block x os ss ts) a ∙ ap (λ x. plain_block is' x ss ts) b ∙ ap (λ x. plain_block is' os' x ts) c ∙ ap (λ x. plain_block is' os' ss' x) d
+
+pub more_resources : (sources : List BlockTree) (rs : List ResourceTree) (qs : List Resource) (r : ResourceTree) (q : Resource) → AreResources sources rs qs → IsResource sources r q → AreResources sources (rs ++ r ∷ []) (qs ++ q ∷ [])
+more_resources sources [] [] r q h k = (k, tt)
+more_resources sources [] (p ∷ qs) r q h k = absurd h
+more_resources sources (p ∷ rs) [] r q h k = absurd h
+more_resources sources (p ∷ rs) (o ∷ qs) r q h k = (h.0, more_resources sources rs qs r q h.1 k)
+
+pub more_devices : (sources : List BlockTree) (ds : List DeviceTree) (es : List Device) (d : DeviceTree) (e : Device) → AreDevices sources ds es → IsDevice sources d e → AreDevices sources (ds ++ d ∷ []) (es ++ e ∷ [])
+more_devices sources [] [] d e h k = (k, tt)
+more_devices sources [] (f ∷ es) d e h k = absurd h
+more_devices sources (f ∷ ds) [] d e h k = absurd h
+more_devices sources (f ∷ ds) (g ∷ es) d e h k = (h.0, more_devices sources ds es d e h.1 k)
+
+-- instances have the names of their trees, in order
+pub names_kept : (sources : List BlockTree) (ts : List InstanceTree) (is : List Instance) → AreInstances sources ts (instances_of is) → map (λ i. string_bytes i.name) is ≡ instance_texts ts
+names_kept sources [] [] h = refl
+names_kept sources [] (i ∷ is) h = absurd h
+names_kept sources (t ∷ ts) [] h = absurd h
+names_kept sources (t ∷ ts) (i ∷ is) h = ap (λ n. n ∷ map (λ i. string_bytes i.name) is) h.0 ∙ ap (λ ns. t.name.text ∷ ns) (names_kept sources ts is h.3)

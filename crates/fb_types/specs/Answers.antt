@@ -6,7 +6,7 @@ use Rattle.std.specs.declared.rc.Rc.{Rc}
 use Rattle.std.specs.declared.alloc.Global.{Global}
 use Rattle.fb_model.specs.Trees.{BlockTree}
 use Rattle.fb_model.specs.System as book
-use Rattle.fb_model.specs.Typing.{block_texts, block_named, typed_block}
+use Rattle.fb_model.specs.Typing.{block_texts, block_named, typed_block, AreNewNumbers}
 use Rattle.fb_types.specs.declared.typed.Block.{Block}
 use Rattle.fb_types.specs.declared.typed.Instance.{Instance}
 use Rattle.fb_types.specs.Views.{block_of}
@@ -34,3 +34,8 @@ pub record IsDeclared (sources : List BlockTree) (name : Name) (block : book.Blo
 -- a table has the names of these instances, in order
 pub record IsTable (names : List Name) (instances : List Instance) : Type 0 where
   pub names_are : names ≡ map (λ i. string_bytes i.name) instances
+
+-- these numbers are new and all different, and they stand behind the old ones
+pub record Adds (old added new : List ℕ) : Type 0 where
+  pub fresh : AreNewNumbers old added
+  pub new_is : new ≡ old ++ added

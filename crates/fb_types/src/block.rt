@@ -1,12 +1,13 @@
 //! Basic blocks.
 
-ghost use Rattle.std.specs.Prelude.{◌≡◌, ◌≤◌, ◌++◌, [], map, length, string_bytes, true, OnOk, IfOk};
+ghost use Rattle.std.specs.Prelude.{◌≡◌, ◌≤◌, ◌++◌, [], map, length, string_bytes, true, OnOk, IfOk, IfErr};
 ghost use Rattle.std.specs.List.{AllByRecursion};
 ghost use Rattle.fb_model.specs.Names.{is_in};
 ghost use Rattle.fb_model.specs.Typing.{AreDistinct, IsKnown, IsActionTyped, IsTransitionTyped, IsBlockTyped, typed_event, typed_action, typed_state, typed_transition, typed_block, event_texts, state_texts};
 ghost use Rattle.fb_read.specs.Answers.{word_of};
 ghost use Rattle.fb_read.specs.Answers as read;
 ghost use Rattle.fb_text.specs.Views as tree;
+ghost use Rattle.fb_types.specs.Refusals.{IsUnknown, IsUnknownIfSome, IsActionFault, IsTransitionFault};
 ghost use Rattle.fb_types.specs.Views.{names_of, name_of, event_of, action_of, state_of, transition_of, block_of};
 
 use crate::fault::TypeFault;
@@ -29,7 +30,8 @@ pub const TRANSITIONS: usize = 1024;
 
 // Refuses a name that is not in the table.
 fn known(names: &IndexSet<String>, name: &Name) -> Result<(), TypeFault>
-    ensures { OnOk result (is_in (word_of name.now).text (names_of names.now) ≡ true) }
+    ensures known { OnOk result (is_in (word_of name.now).text (names_of names.now) ≡ true) }
+    ensures refused { IfErr result (IsUnknown (names_of names.now) (word_of name.now)) }
 {
     if contains(names, name.text.as_str()) {
         Ok(())
@@ -40,7 +42,8 @@ fn known(names: &IndexSet<String>, name: &Name) -> Result<(), TypeFault>
 
 // The same of a name that may be left out.
 fn known_if_some(names: &IndexSet<String>, name: &Option<Name>) -> Result<(), TypeFault>
-    ensures { OnOk result (IsKnown (names_of names.now) (read.optional word_of name.now)) }
+    ensures known { OnOk result (IsKnown (names_of names.now) (read.optional word_of name.now)) }
+    ensures refused { IfErr result (IsUnknownIfSome (names_of names.now) (read.optional word_of name.now)) }
 {
     match name {
         Some(name) => known(names, name),
@@ -49,10 +52,15 @@ fn known_if_some(names: &IndexSet<String>, name: &Option<Name>) -> Result<(), Ty
 }
 
 // An action. It may emit an output of the block, and runs no algorithm, since none are declared.
-fn action(outputs: &IndexSet<String>, none: &IndexSet<String>, source: &ActionTree) -> Result<Action, TypeFault>
+fn action(
+    outputs: &IndexSet<String>,
+    none: &IndexSet<String>,
+    source: &ActionTree,
+) -> Result<Action, TypeFault>
     requires { names_of none.now ≡ [] }
     ensures typed { OnOk result (IsActionTyped (names_of outputs.now) (tree.action_of source.now)) }
     ensures value { IfOk result (λ a. action_of a ≡ typed_action (tree.action_of source.now)) }
+    ensures refused { IfErr result (IsActionFault (names_of outputs.now) (tree.action_of source.now)) }
 {
     known_if_some(none, &source.algorithm)?;
     known_if_some(outputs, &source.output)?;
@@ -63,7 +71,11 @@ fn action(outputs: &IndexSet<String>, none: &IndexSet<String>, source: &ActionTr
 }
 
 // The actions of a state, in order.
-fn actions(alloc: Global, outputs: &IndexSet<String>, sources: &[ActionTree]) -> Result<Vec<Action>, TypeFault>
+fn actions(
+    alloc: Global,
+    outputs: &IndexSet<String>,
+    sources: &[ActionTree],
+) -> Result<Vec<Action>, TypeFault>
     ensures typed { OnOk result (AllByRecursion (IsActionTyped (names_of outputs.now)) (map tree.action_of sources.now)) }
     ensures value { IfOk result (λ v. map action_of v.items ≡ map typed_action (map tree.action_of sources.now)) }
 {
@@ -86,7 +98,11 @@ fn state(alloc: Global, outputs: &IndexSet<String>, source: &StateTree) -> Resul
 }
 
 // The states of a block, in order.
-fn states(alloc: Global, outputs: &IndexSet<String>, sources: &[StateTree]) -> Result<Vec<State>, TypeFault>
+fn states(
+    alloc: Global,
+    outputs: &IndexSet<String>,
+    sources: &[StateTree],
+) -> Result<Vec<State>, TypeFault>
     ensures typed { OnOk result (AllByRecursion (λ s. AllByRecursion (IsActionTyped (names_of outputs.now)) s.actions) (map tree.state_of sources.now)) }
     ensures value { IfOk result (λ v. map state_of v.items ≡ map typed_state (map tree.state_of sources.now)) }
 {
@@ -98,9 +114,14 @@ fn states(alloc: Global, outputs: &IndexSet<String>, sources: &[StateTree]) -> R
 }
 
 // A transition between states of the block, on an event input or on none.
-fn transition(states: &IndexSet<String>, inputs: &IndexSet<String>, source: &TransitionTree) -> Result<Transition, TypeFault>
+fn transition(
+    states: &IndexSet<String>,
+    inputs: &IndexSet<String>,
+    source: &TransitionTree,
+) -> Result<Transition, TypeFault>
     ensures typed { OnOk result (IsTransitionTyped (names_of states.now) (names_of inputs.now) (tree.transition_of source.now)) }
     ensures value { IfOk result (λ t. transition_of t ≡ typed_transition (tree.transition_of source.now)) }
+    ensures refused { IfErr result (IsTransitionFault (names_of states.now) (names_of inputs.now) (tree.transition_of source.now)) }
 {
     known(states, &source.source)?;
     known(states, &source.target)?;

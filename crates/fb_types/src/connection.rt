@@ -37,7 +37,11 @@ fn has_output(body: &Body, name: &str) -> bool
 }
 
 // The instance of a name, by the table of the instances' names.
-fn instance<'a>(names: &IndexSet<String>, instances: &'a [Instance], name: &Name) -> Result<&'a Instance, TypeFault>
+fn instance<'a>(
+    names: &IndexSet<String>,
+    instances: &'a [Instance],
+    name: &Name,
+) -> Result<&'a Instance, TypeFault>
     ensures { IsTable (names_of names.now) instances.now → IfOk result (λ i. body_named (instances_of instances.now) (string_bytes name.now.text) ≡ Some (body_of i.now.body)) }
 {
     match names.get_index_of(name.text.as_str()) {
@@ -60,7 +64,11 @@ fn port(source: &PortTree) -> Result<&Name, TypeFault>
 }
 
 // The end that a port is, where its instance has it as an output.
-fn source(names: &IndexSet<String>, instances: &[Instance], tree: &ConnectionTree) -> Result<End, TypeFault>
+fn source(
+    names: &IndexSet<String>,
+    instances: &[Instance],
+    tree: &ConnectionTree,
+) -> Result<End, TypeFault>
     ensures { IsTable (names_of names.now) instances.now → IfOk result (λ e. IsEnd event_outputs_of (instances_of instances.now) (trees_of.connection_of tree.now).source (end_of e)) }
 {
     let name = port(&tree.source)?;
@@ -73,7 +81,11 @@ fn source(names: &IndexSet<String>, instances: &[Instance], tree: &ConnectionTre
 }
 
 // The end that a port is, where its instance has it as an input.
-fn target(names: &IndexSet<String>, instances: &[Instance], tree: &ConnectionTree) -> Result<End, TypeFault>
+fn target(
+    names: &IndexSet<String>,
+    instances: &[Instance],
+    tree: &ConnectionTree,
+) -> Result<End, TypeFault>
     ensures { IsTable (names_of names.now) instances.now → IfOk result (λ e. IsEnd event_inputs_of (instances_of instances.now) (trees_of.connection_of tree.now).target (end_of e)) }
 {
     let name = port(&tree.target)?;
@@ -81,7 +93,11 @@ fn target(names: &IndexSet<String>, instances: &[Instance], tree: &ConnectionTre
     if has_input(&instance.body, name.text.as_str()) {
         Ok(end(&tree.target.first, name)?)
     } else {
-        Err(wrong(has_output(&instance.body, name.text.as_str()), tree.at, name))
+        Err(wrong(
+            has_output(&instance.body, name.text.as_str()),
+            tree.at,
+            name,
+        ))
     }
 }
 
@@ -105,7 +121,11 @@ fn wrong(is_other: bool, at: usize, port: &Name) -> TypeFault {
 }
 
 // A connection from an event output to an event input.
-fn connection(names: &IndexSet<String>, instances: &[Instance], tree: &ConnectionTree) -> Result<Connection, TypeFault>
+fn connection(
+    names: &IndexSet<String>,
+    instances: &[Instance],
+    tree: &ConnectionTree,
+) -> Result<Connection, TypeFault>
     ensures { IsTable (names_of names.now) instances.now → IfOk result (λ c. IsConnection (instances_of instances.now) (trees_of.connection_of tree.now) (connection_of c)) }
 {
     let source = source(names, instances, tree)?;

@@ -57,7 +57,11 @@ fn whole(value: Literal) -> Option<u64>
 fn unsigned(negative: bool, size: u64) -> Option<u64>
     ensures { IfSome result (λ n. (n ≡ size) × (signed negative size ≡ pos n)) }
 {
-    if negative && size > 0 { None } else { Some(size) }
+    if negative && size > 0 {
+        None
+    } else {
+        Some(size)
+    }
 }
 
 // Whether a parameter is ID.
@@ -126,7 +130,11 @@ fn is_input(source: &InstanceTree) -> bool
 }
 
 /// What an instance is, by the declared types: their names, and the blocks in the same order.
-pub fn body(names: &IndexSet<String>, blocks: &[Rc<Block>], source: &InstanceTree) -> Result<Body, TypeFault>
+pub fn body(
+    names: &IndexSet<String>,
+    blocks: &[Rc<Block>],
+    source: &InstanceTree,
+) -> Result<Body, TypeFault>
     ensures { (sources : List book.BlockTree) → Declares sources (names_of names.now) blocks.now → IfOk result (λ b. IsBody sources (tree.instance_of source.now) (body_of b)) }
 {
     if is_input(source) {
@@ -139,7 +147,11 @@ pub fn body(names: &IndexSet<String>, blocks: &[Rc<Block>], source: &InstanceTre
 }
 
 // The block of a name.
-fn declared<'a>(names: &IndexSet<String>, blocks: &'a [Rc<Block>], name: &str) -> Option<&'a Rc<Block>>
+fn declared<'a>(
+    names: &IndexSet<String>,
+    blocks: &'a [Rc<Block>],
+    name: &str,
+) -> Option<&'a Rc<Block>>
     ensures { (sources : List book.BlockTree) → Declares sources (names_of names.now) blocks.now → IfSome result (λ b. IsDeclared sources name.now (block_of b.now.value)) }
 {
     blocks.get(names.get_index_of(name)?)

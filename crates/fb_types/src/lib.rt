@@ -6,8 +6,10 @@ mod connection;
 mod fault;
 mod instance;
 mod names;
-mod system;
 mod service;
+mod system;
+#[cfg(test)]
+mod tests;
 mod typed;
 
 pub use fault::TypeFault;

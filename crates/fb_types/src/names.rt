@@ -1,16 +1,19 @@
 //! Names and tables of names.
 
-ghost use Rattle.std.specs.Prelude.{◌≡◌, ◌≤◌, ◌++◌, [], ◌∷◌, List, ℕ, map, length, string_bytes, position, true, false, IfOk, OnOk, OnErr, IfSome, Bool};
+ghost use Rattle.std.specs.Prelude.{◌≡◌, ◌≤◌, ◌++◌, [], ◌∷◌, List, ℕ, map, length, string_bytes, position, true, false, IfOk, IfErr, OnOk, OnErr, IfSome, Bool};
 ghost use Rattle.std.specs.Str.{bytes_eq};
 ghost use Rattle.fb_model.specs.Names.{is_in};
 ghost use Rattle.fb_model.specs.Typing.{AreNew, AreDistinct};
 ghost use Rattle.fb_types.specs.Views.{names_of, name_of};
 ghost use Rattle.fb_types.specs.Answers.{text_of, Extends};
+ghost use Rattle.fb_types.specs.Refusals.{IsRepetition, IsExcess};
 ghost use Rattle.indexmap.specs.IndexSet.{index_set_len};
 
 use crate::fault::TypeFault;
 use fb_read::Name;
-use fb_text::{BlockTree, DeviceTree, EventTree, InstanceTree, ResourceTree, StateTree, TransitionTree};
+use fb_text::{
+    BlockTree, DeviceTree, EventTree, InstanceTree, ResourceTree, StateTree, TransitionTree,
+};
 use indexmap::IndexSet;
 use std::alloc::{AllocError, Global};
 
@@ -19,13 +22,19 @@ pub trait Named {
     /// The name.
     ghost text: { Self → List ℕ };
 
+    /// The name's place.
+    ghost at: { Self → ℕ };
+
     /// The name and its place.
     fn name(&self) -> &Name
-        ensures { string_bytes result.now.text ≡ text self.now };
+        ensures text { string_bytes result.now.text ≡ text self.now }
+        ensures at { result.now.at ≡ at self.now };
 }
 
 impl Named for BlockTree {
     ghost text = { λ x. string_bytes x.name.text };
+
+    ghost at = { λ x. x.name.at };
 
     fn name(&self) -> &Name {
         &self.name
@@ -35,6 +44,8 @@ impl Named for BlockTree {
 impl Named for EventTree {
     ghost text = { λ x. string_bytes x.name.text };
 
+    ghost at = { λ x. x.name.at };
+
     fn name(&self) -> &Name {
         &self.name
     }
@@ -42,6 +53,8 @@ impl Named for EventTree {
 
 impl Named for StateTree {
     ghost text = { λ x. string_bytes x.name.text };
+
+    ghost at = { λ x. x.name.at };
 
     fn name(&self) -> &Name {
         &self.name
@@ -52,6 +65,8 @@ impl Named for StateTree {
 impl Named for TransitionTree {
     ghost text = { λ x. string_bytes x.source.text };
 
+    ghost at = { λ x. x.source.at };
+
     fn name(&self) -> &Name {
         &self.source
     }
@@ -59,6 +74,8 @@ impl Named for TransitionTree {
 
 impl Named for InstanceTree {
     ghost text = { λ x. string_bytes x.name.text };
+
+    ghost at = { λ x. x.name.at };
 
     fn name(&self) -> &Name {
         &self.name
@@ -68,6 +85,8 @@ impl Named for InstanceTree {
 impl Named for ResourceTree {
     ghost text = { λ x. string_bytes x.name.text };
 
+    ghost at = { λ x. x.name.at };
+
     fn name(&self) -> &Name {
         &self.name
     }
@@ -75,6 +94,8 @@ impl Named for ResourceTree {
 
 impl Named for DeviceTree {
     ghost text = { λ x. string_bytes x.name.text };
+
+    ghost at = { λ x. x.name.at };
 
     fn name(&self) -> &Name {
         &self.name
@@ -99,6 +120,7 @@ fn insert(names: &mut IndexSet<String>, name: &String) -> Result<bool, AllocErro
 pub fn declare<T: Named>(names: &mut IndexSet<String>, items: &[T]) -> Result<(), TypeFault>
     ensures new { OnOk result (AreNew (names_of names.old) (map T.text items.now)) }
     ensures added { OnOk result (names_of names.new ≡ names_of names.old ++ map T.text items.now) }
+    ensures refused { IfErr result (IsRepetition (names_of names.old) (map (λ x. record { text = T.text x; at = T.at x }) items.now)) }
 {
     for item in items {
         let name = item.name();
@@ -113,6 +135,7 @@ pub fn declare<T: Named>(names: &mut IndexSet<String>, items: &[T]) -> Result<()
 pub fn table<T: Named>(alloc: Global, items: &[T]) -> Result<IndexSet<String>, TypeFault>
     ensures distinct { OnOk result (AreDistinct (map T.text items.now)) }
     ensures names { IfOk result (λ t. names_of t ≡ map T.text items.now) }
+    ensures refused { IfErr result (IsRepetition [] (map (λ x. record { text = T.text x; at = T.at x }) items.now)) }
 {
     let mut names = IndexSet::new(alloc);
     declare(&mut names, items)?;
@@ -121,7 +144,8 @@ pub fn table<T: Named>(alloc: Global, items: &[T]) -> Result<IndexSet<String>, T
 
 /// Refuses more items than `most`, at the name of the first one too many.
 pub fn at_most<T: Named>(items: &[T], most: usize) -> Result<(), TypeFault>
-    ensures { OnOk result (length items.now ≤ most) }
+    ensures few { OnOk result (length items.now ≤ most) }
+    ensures refused { IfErr result (IsExcess most (map (λ x. record { text = T.text x; at = T.at x }) items.now)) }
 {
     match items.get(most) {
         Some(item) => Err(TypeFault::Limit(item.name().at)),

@@ -3,10 +3,10 @@
 ghost use Rattle.std.specs.Prelude.{◌≡◌, ◌≤◌, [], List, map, length, string_bytes, IfOk, OnOk};
 ghost use Rattle.std.specs.List.{AllByRecursion};
 ghost use Rattle.fb_model.specs.Trees as book;
-ghost use Rattle.fb_model.specs.Typing.{IsBlockTyped, AreBlocksTyped, AreInstances, AreResources, AreDevices, IsResource, IsDevice, IsBody, Elaborates, AreNewNumbers, AreDistinct, block_texts, typed_block, instance_texts, input_numbers, numbers_in};
+ghost use Rattle.fb_model.specs.Typing.{IsBlockTyped, AreInstances, AreResources, AreDevices, IsResource, IsDevice, IsBody, Elaborates, body_numbers, input_numbers, numbers_in, typed_block};
 ghost use Rattle.fb_text.specs.Views as trees_of;
 ghost use Rattle.fb_types.specs.Views.{names_of, block_of, body_of, instances_of, resource_of, device_of, system_of};
-ghost use Rattle.fb_types.specs.Answers.{Declares, IsTable};
+ghost use Rattle.fb_types.specs.Answers.{Declares, Adds};
 
 use crate::block::block;
 use crate::connection::connections;
@@ -14,6 +14,7 @@ use crate::fault::TypeFault;
 use crate::instance::body;
 use crate::names::{at_most, table};
 use crate::typed::{Block, Body, Device, Instance, Resource, Typed};
+use fb_read::Name;
 use fb_text::{BlockTree, DeviceTree, InstanceTree, ResourceTree, Source};
 use indexmap::IndexSet;
 use std::alloc::Global;
@@ -47,6 +48,22 @@ fn shared(alloc: Global, block: Block) -> Result<Rc<Block>, TypeFault>
     Ok(Rc::new(alloc, block)?)
 }
 
+// Adds the number of an INPUT, which has to be new. At a refusal `name` is the instance's.
+fn number(numbers: &mut IndexSet<u16>, body: &Body, name: &Name) -> Result<(), TypeFault>
+    ensures { OnOk result (Adds numbers.old.keys (body_numbers (body_of body.now)) numbers.new.keys) }
+{
+    match body {
+        Body::Basic(_) => Ok(()),
+        Body::Input(number) => {
+            if numbers.insert(*number)? {
+                Ok(())
+            } else {
+                Err(TypeFault::BadService(name.at))
+            }
+        }
+    }
+}
+
 // An instance. The number of an INPUT has to be new.
 fn instance(
     names: &IndexSet<String>,
@@ -56,13 +73,10 @@ fn instance(
 ) -> Result<Instance, TypeFault>
     ensures name { IfOk result (λ i. string_bytes i.name ≡ string_bytes tree.now.name.text) }
     ensures body { (sources : List book.BlockTree) → Declares sources (names_of names.now) blocks.now → IfOk result (λ i. IsBody sources (trees_of.instance_of tree.now) (body_of i.body)) }
+    ensures numbers { IfOk result (λ i. Adds numbers.old.keys (body_numbers (body_of i.body)) numbers.new.keys) }
 {
     let body = body(names, blocks, tree)?;
-    if let Body::Input(number) = &body {
-        if !numbers.insert(*number)? {
-            return Err(TypeFault::BadService(tree.name.at));
-        }
-    }
+    number(numbers, &body, &tree.name)?;
     let name = tree.name.text.clone()?;
     Ok(Instance { name, body })
 }
@@ -75,7 +89,8 @@ fn instances(
     numbers: &mut IndexSet<u16>,
     trees: &[InstanceTree],
 ) -> Result<Vec<Instance>, TypeFault>
-    ensures { (sources : List book.BlockTree) → Declares sources (names_of names.now) blocks.now → IfOk result (λ v. AreInstances sources (map trees_of.instance_of trees.now) (instances_of v.items)) }
+    ensures typed { (sources : List book.BlockTree) → Declares sources (names_of names.now) blocks.now → IfOk result (λ v. AreInstances sources (map trees_of.instance_of trees.now) (instances_of v.items)) }
+    ensures numbers { IfOk result (λ v. Adds numbers.old.keys (input_numbers (instances_of v.items)) numbers.new.keys) }
 {
     let mut instances = Vec::new(alloc);
     for tree in trees {
@@ -92,6 +107,8 @@ fn resource(
     numbers: &mut IndexSet<u16>,
     tree: &ResourceTree,
 ) -> Result<Resource, TypeFault>
+    ensures typed { (sources : List book.BlockTree) → Declares sources (names_of names.now) blocks.now → IfOk result (λ r. IsResource sources (trees_of.resource_of tree.now) (resource_of r)) }
+    ensures numbers { IfOk result (λ r. Adds numbers.old.keys (input_numbers (instances_of r.instances.items)) numbers.new.keys) }
 {
     at_most(&tree.instances, INSTANCES)?;
     let locals = table(alloc, &tree.instances)?;
@@ -106,35 +123,60 @@ fn resource(
     })
 }
 
-// A device: its resources, and no two INPUT instances of one number.
-fn device(
+// The resources of a device, in text order.
+fn resources(
     alloc: Global,
     names: &IndexSet<String>,
     blocks: &[Rc<Block>],
-    tree: &DeviceTree,
-) -> Result<Device, TypeFault>
+    numbers: &mut IndexSet<u16>,
+    trees: &[ResourceTree],
+) -> Result<Vec<Resource>, TypeFault>
+    ensures typed { (sources : List book.BlockTree) → Declares sources (names_of names.now) blocks.now → IfOk result (λ v. AreResources sources (map trees_of.resource_of trees.now) (map resource_of v.items)) }
+    ensures numbers { IfOk result (λ v. Adds numbers.old.keys (numbers_in (map resource_of v.items)) numbers.new.keys) }
+{
+    let mut resources = Vec::new(alloc);
+    for tree in trees {
+        resources.push(resource(alloc, names, blocks, numbers, tree)?)?;
+    }
+    Ok(resources)
+}
+
+// A device: its resources, and no two INPUT instances of one number.
+fn device(alloc: Global, names: &IndexSet<String>, blocks: &[Rc<Block>], tree: &DeviceTree) -> Result<Device, TypeFault>
+    ensures { (sources : List book.BlockTree) → Declares sources (names_of names.now) blocks.now → IfOk result (λ d. IsDevice sources (trees_of.device_of tree.now) (device_of d)) }
 {
     at_most(&tree.resources, RESOURCES)?;
     let _ = table(alloc, &tree.resources)?;
     let mut numbers = IndexSet::new(alloc);
-    let mut resources = Vec::new(alloc);
-    for source in &tree.resources {
-        resources.push(resource(alloc, names, blocks, &mut numbers, source)?)?;
-    }
+    let resources = resources(alloc, names, blocks, &mut numbers, &tree.resources)?;
     let name = tree.name.text.clone()?;
     Ok(Device { name, resources })
 }
 
+// The devices of a system, in text order.
+fn devices(
+    alloc: Global,
+    names: &IndexSet<String>,
+    blocks: &[Rc<Block>],
+    trees: &[DeviceTree],
+) -> Result<Vec<Device>, TypeFault>
+    ensures { (sources : List book.BlockTree) → Declares sources (names_of names.now) blocks.now → IfOk result (λ v. AreDevices sources (map trees_of.device_of trees.now) (map device_of v.items)) }
+{
+    let mut devices = Vec::new(alloc);
+    for tree in trees {
+        devices.push(device(alloc, names, blocks, tree)?)?;
+    }
+    Ok(devices)
+}
+
 /// The typed system of a source tree.
 pub fn resolve(alloc: Global, source: Source) -> Result<Typed, TypeFault>
+    ensures typed { IfOk result (λ t. Elaborates (trees_of.source_of source) (system_of t)) }
 {
     let names = table(alloc, &source.blocks)?;
     let blocks = blocks(alloc, &source.blocks)?;
     at_most(&source.system.devices, DEVICES)?;
     let _ = table(alloc, &source.system.devices)?;
-    let mut devices = Vec::new(alloc);
-    for tree in &source.system.devices {
-        devices.push(device(alloc, &names, &blocks, tree)?)?;
-    }
+    let devices = devices(alloc, &names, &blocks, &source.system.devices)?;
     Ok(Typed { devices })
 }

@@ -27,9 +27,9 @@ pub returns-clause-value : goal.returns-clause-value
 returns-clause-value c =
     let x = c.args.source.now in
     let ins : map event_of c.in_ok-inputs.inputs.keys ≡ map typed_event (map tree.event_of x.event_inputs.items) =
-        as_events c.in_ok-inputs.inputs.keys x.event_inputs.items (c.in_ok-inputs.ensures.names ∙ map_map (λ e. e.name.text) tree.event_of c.deref-3.result.now ∙ ap (map (λ e. string_bytes e.name.text)) c.deref-3.ensures.value) in
+    as_events c.in_ok-inputs.inputs.keys x.event_inputs.items (c.in_ok-inputs.ensures.names ∙ map_map (λ e. e.name.text) tree.event_of c.deref-3.result.now ∙ ap (map (λ e. string_bytes e.name.text)) c.deref-3.ensures.value) in
     let outs : map event_of c.in_ok-outputs.outputs.keys ≡ map typed_event (map tree.event_of x.event_outputs.items) =
-        as_events c.in_ok-outputs.outputs.keys x.event_outputs.items (c.in_ok-outputs.ensures.names ∙ map_map (λ e. e.name.text) tree.event_of c.deref-4.result.now ∙ ap (map (λ e. string_bytes e.name.text)) c.deref-4.ensures.value) in
+    as_events c.in_ok-outputs.outputs.keys x.event_outputs.items (c.in_ok-outputs.ensures.names ∙ map_map (λ e. e.name.text) tree.event_of c.deref-4.result.now ∙ ap (map (λ e. string_bytes e.name.text)) c.deref-4.ensures.value) in
     let states : map state_of c.in_ok-states.states.items ≡ map typed_state (map tree.state_of x.states.items) = rw c.deref-6.ensures.value at c.in_ok-states.ensures.value in
     let transitions : map transition_of c.in_ok-transitions.transitions.items ≡ map typed_transition (map tree.transition_of x.transitions.items) = rw c.deref-7.ensures.value at c.in_ok-transitions.ensures.value in
     same_block ins outs states transitions

@@ -1,0 +1,47 @@
+-- What a refusal says of the source: this project's profile, for names and limits of IEC 61499-1 edition 2, 5.2 and 5.3.
+-- Each says what is at fault and where it stands. Memory that ran out says nothing.
+use Rattle.std.specs.Prelude.{ℕ, ◌≡◌, List, [], ◌∷◌, ◌++◌, Option, None, Some, true, false, slice_get, if◌then◌else◌}
+use Rattle.fb_model.specs.Names.{Name, is_in}
+use Rattle.fb_model.specs.Productions.{Word}
+use Rattle.fb_model.specs.Trees.{ActionTree, TransitionTree}
+use Rattle.fb_types.specs.declared.fault.TypeFault.{TypeFault}
+use Rattle.fb_types.specs.declared.fault.TypeFault.TheVariants.{OutOfMemory, UnknownName, DuplicateName, Limit}
+
+-- the place of the first name that is among those before it
+abbrev pub repeated : List Name → List Word → Option ℕ
+repeated before [] = None
+repeated before (w ∷ ws) = if is_in w.text before then Some w.at else repeated (before ++ w.text ∷ []) ws
+
+-- a name is declared again, at the place of the later one
+abbrev pub IsRepetition : List Name → List Word → TypeFault → Type 0
+IsRepetition before ws OutOfMemory = Unit {0}
+IsRepetition before ws (DuplicateName at) = repeated before ws ≡ Some at
+IsRepetition before ws f = ⊥
+
+-- there is a declaration behind as many as are allowed, and this is its place
+abbrev pub IsExcess : ℕ → List Word → TypeFault → Type 0
+IsExcess most ws (Limit at) = (w : Word) × (slice_get ws most ≡ Some w) × (at ≡ w.at)
+IsExcess most ws f = ⊥
+
+-- a name that is none of these, at its place
+abbrev pub IsUnknown : List Name → Word → TypeFault → Type 0
+IsUnknown names w (UnknownName at) = (at ≡ w.at) × (is_in w.text names ≡ false)
+IsUnknown names w f = ⊥
+
+-- the same of a name that may be left out
+abbrev pub IsUnknownIfSome : List Name → Option Word → TypeFault → Type 0
+IsUnknownIfSome names None f = ⊥
+IsUnknownIfSome names (Some w) f = IsUnknown names w f
+
+-- what is at fault in an action
+pub data IsActionFault (outputs : List Name) (a : ActionTree) (f : TypeFault) : Type 0 where
+  no_memory : f ≡ OutOfMemory → IsActionFault outputs a f
+  unknown_algorithm : IsUnknownIfSome [] a.algorithm f → IsActionFault outputs a f
+  unknown_output : IsUnknownIfSome outputs a.output f → IsActionFault outputs a f
+
+-- what is at fault in a transition
+pub data IsTransitionFault (states inputs : List Name) (t : TransitionTree) (f : TypeFault) : Type 0 where
+  no_memory : f ≡ OutOfMemory → IsTransitionFault states inputs t f
+  unknown_source : IsUnknown states t.source f → IsTransitionFault states inputs t f
+  unknown_target : IsUnknown states t.target f → IsTransitionFault states inputs t f
+  unknown_event : IsUnknownIfSome inputs t.event f → IsTransitionFault states inputs t f
