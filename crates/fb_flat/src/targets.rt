@@ -54,7 +54,11 @@ fn follow(
     match names.get_index_of(connection.source.instance.as_str()) {
         Some(index) => {
             if index < leaves.len() {
-                lead(&mut leaves[index].outputs, connection.source.port.as_str(), target)
+                lead(
+                    &mut leaves[index].outputs,
+                    connection.source.port.as_str(),
+                    target,
+                )
             } else {
                 Ok(())
             }

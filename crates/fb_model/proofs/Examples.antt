@@ -41,8 +41,8 @@ cell =
       internals = [];
       states = record { name = codes "START"; actions = [] } ∷ record { name = codes "DONE"; actions = [] } ∷ [];
       transitions =
-        record { source = codes "START"; target = codes "DONE"; event = Some (codes "EI"); guard = None }
-        ∷ record { source = codes "DONE"; target = codes "START"; event = None; guard = None } ∷ [];
+          record { source = codes "START"; target = codes "DONE"; event = Some (codes "EI"); guard = None }
+          ∷ record { source = codes "DONE"; target = codes "START"; event = None; guard = None } ∷ [];
       procedures = [];
     }
 
@@ -55,11 +55,11 @@ fork =
       outputs = [];
       internals = [];
       states =
-        record { name = codes "START"; actions = [] }
-        ∷ record { name = codes "ACT"; actions = record { algorithm = None; output = Some (codes "EO1") } ∷ record { algorithm = None; output = Some (codes "EO2") } ∷ [] } ∷ [];
+          record { name = codes "START"; actions = [] }
+          ∷ record { name = codes "ACT"; actions = record { algorithm = None; output = Some (codes "EO1") } ∷ record { algorithm = None; output = Some (codes "EO2") } ∷ [] } ∷ [];
       transitions =
-        record { source = codes "START"; target = codes "ACT"; event = Some (codes "EI"); guard = None }
-        ∷ record { source = codes "ACT"; target = codes "START"; event = None; guard = None } ∷ [];
+          record { source = codes "START"; target = codes "ACT"; event = Some (codes "EI"); guard = None }
+          ∷ record { source = codes "ACT"; target = codes "START"; event = None; guard = None } ∷ [];
       procedures = [];
     }
 
@@ -89,14 +89,14 @@ cert =
     record {
       ranges = [];
       charges =
-        record { place = at (codes "F") (codes "START"); steps = 0; places = 0 }
-        ∷ record { place = at (codes "F") (codes "ACT"); steps = 7; places = 2 }
-        ∷ record { place = at (codes "C1") (codes "DONE"); steps = 1; places = 0 } ∷ [];
+          record { place = at (codes "F") (codes "START"); steps = 0; places = 0 }
+          ∷ record { place = at (codes "F") (codes "ACT"); steps = 7; places = 2 }
+          ∷ record { place = at (codes "C1") (codes "DONE"); steps = 1; places = 0 } ∷ [];
       weights =
-        record { place = at (codes "BUTTON") arrive; steps = 10; places = 2 }
-        ∷ record { place = at (codes "F") (codes "EI"); steps = 9; places = 2 }
-        ∷ record { place = at (codes "C1") (codes "EI"); steps = 3; places = 1 }
-        ∷ record { place = at (codes "C2") (codes "EI"); steps = 3; places = 1 } ∷ [];
+          record { place = at (codes "BUTTON") arrive; steps = 10; places = 2 }
+          ∷ record { place = at (codes "F") (codes "EI"); steps = 9; places = 2 }
+          ∷ record { place = at (codes "C1") (codes "EI"); steps = 3; places = 1 }
+          ∷ record { place = at (codes "C2") (codes "EI"); steps = 3; places = 1 } ∷ [];
       depths = record { path = codes "D" ∷ codes "R" ∷ []; depth = 3 } ∷ [];
       repeats = None;
       fars = [];

@@ -23,7 +23,7 @@ module _ {A : Type 0} (close : Mark) (item : Read A) (front : List A) (n i : ℕ
   many_goes_on x mid lt b h =
       let k : n - i ≡ suc (n - (i + 1)) = omega arith in
       let one : with_front (λ xs. front ++ xs) (many_at close item (n - i) ts) ≡ with_front (λ xs. (front ++ x ∷ []) ++ xs) (many_at close item (n - (i + 1)) mid) =
-          rw (k, b, h) (regroup front x (many_at close item (n - (i + 1)) mid)) in
+      rw (k, b, h) (regroup front x (many_at close item (n - (i + 1)) mid)) in
       sym one ∙ so_far
 
   pub many_fails : (e : Stop) → i < n → next_is close ts ≡ false → Fails e (item ts) → Fails e total
@@ -59,7 +59,7 @@ module _ {A : Type 0} (separator : Mark) (item : Read A) (front : List A) (n i :
   separated_goes_on x mid lt h b =
       let k : n - i ≡ suc (n - (i + 1)) = omega arith in
       let one : with_front (λ xs. front ++ xs) (separated_at separator item (n - i) ts) ≡ with_front (λ xs. (front ++ x ∷ []) ++ xs) (separated_at separator item (n - (i + 1)) (after mid)) =
-          rw (k, h, b) (regroup front x (separated_at separator item (n - (i + 1)) (after mid))) in
+      rw (k, h, b) (regroup front x (separated_at separator item (n - (i + 1)) (after mid))) in
       sym one ∙ so_far
 
   pub separated_stops : (x : A) (mid : List Token) → i < n → item ts ≡ Ok (x, mid) → next_is separator mid ≡ false → total ≡ Ok (front ++ x ∷ [], mid)

@@ -91,7 +91,7 @@ module _ {A : Type 0} (Deep : Type 0) (G : Gram A) (item : Read A) (short : Shor
   many_complete (suc n) ts rest xs le (more {mid = mid} {x = x} {xs = ys} h t) e =
       let a = short ts x mid h in
       let turn : Gets Deep (many_step item (many_at close item n) false ts) (x ∷ ys, rest) =
-          gets_then _ _ (item ts) (x, mid) (whole ts x mid h refl) (gets_then _ _ (many_at close item n mid) (ys, rest) (many_complete n mid rest ys (omega arith) t e) (inl refl)) in
+      gets_then _ _ (item ts) (x, mid) (whole ts x mid h refl) (gets_then _ _ (many_at close item n mid) (ys, rest) (many_complete n mid rest ys (omega arith) t e) (inl refl)) in
       subst (λ b. Gets Deep (many_step item (many_at close item n) b ts) (x ∷ ys, rest)) (sym (avoids ts x mid h)) turn
 
   pub closed_complete : is close close ≡ true → Complete Deep never (IsClosed close G) (closed_at close item)
@@ -115,7 +115,7 @@ module _ {A : Type 0} (Deep : Type 0) (k : Mark) (G : Gram A) (item : Read A) (s
   separated_complete (suc n) ts rest xs le (before {mid = mid} {s = s} {e = e} {x = x} {xs = ys} h t) st fin =
       let a = short ts x (token (mark k) s e ∷ mid) h in
       let turn : Gets Deep (separated_step (separated_at k item n) x true (token (mark k) s e ∷ mid)) (x ∷ ys, rest) =
-          gets_then _ _ (separated_at k item n mid) (ys, rest) (separated_complete n mid rest ys (omega arith) t st fin) (inl refl) in
+      gets_then _ _ (separated_at k item n mid) (ys, rest) (separated_complete n mid rest ys (omega arith) t st fin) (inl refl) in
       gets_then _ _ (item ts) (x, token (mark k) s e ∷ mid) (whole ts x (token (mark k) s e ∷ mid) h (between s e mid))
       (subst (λ b. Gets Deep (separated_step (separated_at k item n) x b (token (mark k) s e ∷ mid)) (x ∷ ys, rest)) (sym same) turn)
 

@@ -63,8 +63,8 @@ pub event_sound : Sound IsEvent event_at
 unfolding event_at
 event_sound ts = meets_then _ _ (name_at ts) (name_sound ts) (λ x mid p.
     kind_then (λ l. IsName ts x l) _ _ mid p
-      (expect_then (λ l. IsName ts x l) _ _ m.Semicolon mid p (λ s e rest q. short q))
-      (λ s e s' e' on r. expect_then (λ l. IsName ts x (token (mark m.Colon) s e ∷ token (name (codes "EVENT")) s' e' ∷ l)) _ _ m.Semicolon on r (λ s'' e'' rest q. long q)))
+    (expect_then (λ l. IsName ts x l) _ _ m.Semicolon mid p (λ s e rest q. short q))
+    (λ s e s' e' on r. expect_then (λ l. IsName ts x (token (mark m.Colon) s e ∷ token (name (codes "EVENT")) s' e' ∷ l)) _ _ m.Semicolon on r (λ s'' e'' rest q. long q)))
 
 -- ---- states
 

@@ -15,13 +15,7 @@ fn status(rt: &HostRuntime) -> io::Result<u8> {
     }
     let mut input = rt.reader();
     let mut output = io::writer(rt);
-    Ok(command(
-        rt,
-        texts.as_slice(),
-        &Disk { rt },
-        &mut input,
-        &mut output,
-    ))
+    Ok(command(rt, texts.as_slice(), &Disk { rt }, &mut input, &mut output))
 }
 
 fn main(rt: HostRuntime) -> ExitCode {

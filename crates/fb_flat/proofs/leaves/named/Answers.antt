@@ -11,6 +11,6 @@ loop-index-preserved c =
     let o = c.in_ok-output.field-0 in
     let named : string_bytes o.name ≡ string_bytes x = c.in_ok-output.ensures ∙ c.as_str.ensures.value in
     let pushed : map (λ (p : Output). string_bytes p.name) c.push.new.self.items ≡ map (λ (p : Output). string_bytes p.name) c.loop-index.outputs.items ++ string_bytes o.name ∷ [] =
-        rw c.in_ok-push.ensures.items (map_push (λ (p : Output). string_bytes p.name) c.loop-index.outputs.items o) in
+    rw c.in_ok-push.ensures.items (map_push (λ (p : Output). string_bytes p.name) c.loop-index.outputs.items o) in
     pushed ∙ ap (λ ns. ns ++ string_bytes o.name ∷ []) c.loop-index.invariant ∙ ap (λ n. map string_bytes (Rattle.std.proofs.Common.take c.loop-index.index keys) ++ n ∷ []) named
     ∙ sym (got_more string_bytes keys c.loop-index.index x (sym c.in-Some.ensures.key))

@@ -28,7 +28,6 @@ loop-preserved g c =
     let within : c.loop.counter < length ts = omega (arith, length-map c.args.tokens.now token_of) in
     let x = c.in_ok-item.item in
     let e : map i.view c.push.new.self.items ≡ map i.view c.loop.items.items ++ i.view x ∷ [] = rw c.in_ok-push.ensures.items (map_push _ c.loop.items.items x) in
-
     rw e (many_goes_on c.args.close i.reads (map i.view c.loop.items.items) (length ts) c.loop.counter (tokens_of c.loop.rest.now) (items_at c.args.close i.reads ts) c.loop.invariant (i.view x) (tokens_of c.in_ok-item.after.now) within (sym c.next_is.ensures ∙ c.if-next_is.false) c.in_ok-item.ensures)
 
 pub returns : goal.returns
