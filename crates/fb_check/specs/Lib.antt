@@ -2,3 +2,4 @@ pub mod Refusals
 pub mod Sums
 pub mod Columns
 pub mod Reckoning
+pub mod Verdicts

@@ -11,7 +11,8 @@ use Rattle.fb_flat.specs.Views.{dotted}
 use Rattle.fb_types.specs.declared.typed.Action.{Action}
 use Rattle.fb_check.specs.declared.column.Column.{Column}
 use Rattle.fb_check.specs.Columns.{number_in}
-use Rattle.fb_check.specs.Sums.{IsSum}
+use Rattle.fb_types.specs.declared.typed.Transition.{Transition}
+use Rattle.fb_check.specs.Sums.{IsSum, greater}
 
 -- the number of a row, 0 where there is no row
 abbrev pub number_of : Column → Option Amount → ℕ
@@ -48,3 +49,12 @@ AreSums (s ∷ ss) [] = ⊥
 -- the load of what an action emits
 abbrev pub emitted : List Name → List ℕ → Action → ℕ
 emitted outputs loads a = elim a.output [ None ↦ 0 | Some o ↦ value_at outputs loads 0 (string_bytes o) ]
+
+-- the charge of the state that a transition leads to, where it is free
+abbrev pub free_next : List Name → List ℕ → Transition → Option ℕ
+free_next states charges t = elim t.event [ None ↦ Some (value_at states charges 0 (string_bytes t.target)) | Some e ↦ None ]
+
+-- the greatest of them, and of one that is there
+abbrev pub most_free : List Name → List ℕ → Option ℕ → List Transition → Option ℕ
+most_free states charges most [] = most
+most_free states charges most (t ∷ ts) = most_free states charges (greater most (free_next states charges t)) ts

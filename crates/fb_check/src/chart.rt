@@ -1,9 +1,9 @@
 //! When the rows of a basic block fit in a column.
 
-ghost use Rattle.std.specs.Prelude.{◌≡◌, ℕ, List, map, length, string_bytes, Some, IfOk, IfErr};
+ghost use Rattle.std.specs.Prelude.{◌≡◌, ℕ, List, map, length, string_bytes, None, Some, IfOk, IfErr};
 ghost use Rattle.std.specs.List.{sum_by};
 ghost use Rattle.fb_types.specs.Views.{names_of};
-ghost use Rattle.fb_check.specs.Reckoning.{charge_of, value_at, AreSums, emitted};
+ghost use Rattle.fb_check.specs.Reckoning.{charge_of, value_at, AreSums, emitted, free_next, most_free};
 ghost use Rattle.fb_check.specs.Refusals.{IsMemory, IsSizeRefusal};
 ghost use Rattle.fb_check.specs.Sums.{IsSum, greater};
 ghost use Rattle.fb_check.specs.Columns.{crossing_need};
@@ -155,14 +155,23 @@ fn greater(a: Option<u64>, b: Option<u64>) -> Option<u64>
     }
 }
 
+// The charge of the state that a transition leads to, where it is free.
+fn free_next(states: &IndexSet<String>, charges: &[u64], transition: &Transition) -> Option<u64>
+    ensures { result ≡ free_next (names_of states.now) charges.now transition.now }
+{
+    match &transition.event {
+        Some(_) => None,
+        None => Some(number_at(states, charges, transition.target.as_str())),
+    }
+}
+
 // The greatest charge of a state that a free transition leads to.
-fn free_charge(block: &Block, charges: &[u64]) -> Option<u64> {
+fn free_charge(states: &IndexSet<String>, charges: &[u64], transitions: &[Transition]) -> Option<u64>
+    ensures { result ≡ most_free (names_of states.now) charges.now None transitions.now }
+{
     let mut most = None;
-    for transition in &block.transitions {
-        if transition.event.is_none() {
-            let next = number_at(&block.state_names, charges, transition.target.as_str());
-            most = greater(most, Some(next));
-        }
+    for transition in transitions {
+        most = greater(most, free_next(states, charges, transition));
     }
     most
 }
@@ -207,7 +216,7 @@ fn inputs_fit(
 ) -> Result<(), Refusal>
     ensures { IfErr result IsSizeRefusal }
 {
-    let free = free_charge(block, charges);
+    let free = free_charge(&block.state_names, charges, &block.transitions);
     let on_event = event_charges(alloc, block, charges)?;
     for index in 0..block.event_inputs.len() {
         if let Some(event) = block.event_inputs.get_index(index) {

@@ -1,6 +1,9 @@
 //! The verdict over a system and a certificate.
 
-ghost use Rattle.std.specs.Prelude.{IfErr};
+ghost use Rattle.std.specs.Prelude.{◌≡◌, IfOk, IfErr};
+ghost use Rattle.fb_cert.specs.Views.{certificate_of};
+ghost use Rattle.fb_types.specs.Views.{system_of};
+ghost use Rattle.fb_check.specs.Verdicts.{system_in, certificate_in, IsOfTexts, IsFaultOf};
 ghost use Rattle.fb_check.specs.Refusals.{IsMemory, IsSizeRefusal, IsDepthRefusal, IsVerdict};
 
 use crate::column::Column;
@@ -84,7 +87,8 @@ fn depths_fit(alloc: Global, flat: &Flat, certificate: &Certificate) -> Result<(
 ///
 /// Refused with `UnknownRow`, `MissingRow`, `Charge`, `Weight`, `Depth`, or with `Limit` where too many connections are followed.
 pub fn check(alloc: Global, typed: Typed, certificate: Certificate) -> Result<Verified, Refusal>
-    ensures { IfErr result IsVerdict }
+    ensures same { IfOk result (λ v. (system_in v ≡ system_of typed) × (certificate_in v ≡ certificate_of certificate)) }
+    ensures refused { IfErr result IsVerdict }
 {
     let flat = flatten(alloc, &typed)?;
     rows_match(alloc, &flat, &certificate)?;
@@ -99,7 +103,12 @@ pub fn check(alloc: Global, typed: Typed, certificate: Certificate) -> Result<Ve
 }
 
 /// The verdict over the text of an application and the text of a certificate.
-pub fn check_text(alloc: Global, text: &str, certificate: &str) -> Result<Verified, Refusal> {
+///
+/// What is accepted is spelled and well typed, and its certificate is spelled; a fault of a text is one that the text has.
+pub fn check_text(alloc: Global, text: &str, certificate: &str) -> Result<Verified, Refusal>
+    ensures accepted { IfOk result (IsOfTexts text.now certificate.now) }
+    ensures refused { IfErr result (IsFaultOf text.now certificate.now) }
+{
     let source = parse(alloc, text)?;
     let typed = resolve(alloc, source)?;
     let rows = parse_cert(alloc, certificate)?;

@@ -21,6 +21,13 @@ line_of (File name) = codes "refused 61 " ++ name.now
 line_of Usage = codes "refused 63"
 line_of (Refused refusal) = codes "refused " ++ refusals.line_of refusal
 
+abbrev pub code_of : Fault → ℕ
+code_of Memory = 9
+code_of Input = 61
+code_of (File name) = 61
+code_of Usage = 63
+code_of (Refused refusal) = refusals.code_of refusal
+
 abbrev pub status_of : Fault → ℕ
 status_of Memory = 4
 status_of Input = 3
@@ -47,3 +54,17 @@ Tells o old new status = (status ≡ o.status) × Appends old new (o.line ++ 10 
 -- one outcome is told
 abbrev pub TellsOne : Option (List ℕ) → Option (List ℕ) → ℕ → Type 0
 TellsOne old new status = (o : Outcome) × IsOutcome o × Tells o old new status
+
+-- which faults come of two texts, of standard input, and of two files
+abbrev pub IsOfTexts : Fault → Type 0
+IsOfTexts Memory = Unit {0}
+IsOfTexts (Refused refusal) = Unit {0}
+IsOfTexts other = ⊥
+
+abbrev pub IsOfInput : Fault → Type 0
+IsOfInput Input = Unit {0}
+IsOfInput other = IsOfTexts other
+
+abbrev pub IsOfFiles : List ℕ → List ℕ → Fault → Type 0
+IsOfFiles one two (File name) = (name.now ≡ one) ⊎ (name.now ≡ two)
+IsOfFiles one two other = IsOfTexts other

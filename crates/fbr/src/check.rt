@@ -3,7 +3,7 @@
 ghost use Rattle.std.specs.Prelude.{◌≡◌, ◌≤◌, ◌∷◌, [], ◌++◌, take, length, IfOk, IfErr, IfSome, option_map, MatchResult, true, false};
 ghost use Rattle.std.specs.Str.{is_utf8};
 ghost use Rattle.fbr.specs.Halves.{fence, fence_here, divide};
-ghost use Rattle.fbr.specs.Outcomes.{Tells, TellsOne, outcome_said};
+ghost use Rattle.fbr.specs.Outcomes.{Tells, TellsOne, outcome_said, IsOfTexts, IsOfInput, IsOfFiles};
 
 use crate::fault::Fault;
 use crate::sources::{ReadFault, Sources};
@@ -77,7 +77,9 @@ fn as_text<'a, 'b>(bytes: &'a [u8]) -> Result<&'a str, Fault<'b>>
 }
 
 // The verdict over two texts.
-fn check_texts<'a>(alloc: Global, app: &str, cert: &str) -> Result<(), Fault<'a>> {
+fn check_texts<'a>(alloc: Global, app: &str, cert: &str) -> Result<(), Fault<'a>>
+    ensures { IfErr result IsOfTexts }
+{
     match check_text(alloc, app, cert) {
         Ok(_) => Ok(()),
         Err(Refusal::OutOfMemory) => Err(Fault::Memory),
@@ -104,7 +106,9 @@ pub fn print_outcome<W: Write>(outcome: Result<(), Fault<'_>>, output: &mut W) -
 }
 
 // The verdict over the two halves of an input.
-fn check_bytes<'a>(alloc: Global, bytes: &[u8]) -> Result<(), Fault<'a>> {
+fn check_bytes<'a>(alloc: Global, bytes: &[u8]) -> Result<(), Fault<'a>>
+    ensures { IfErr result IsOfInput }
+{
     if bytes.len() > LIMIT {
         return Err(Fault::Input);
     }
@@ -115,7 +119,9 @@ fn check_bytes<'a>(alloc: Global, bytes: &[u8]) -> Result<(), Fault<'a>> {
 }
 
 // The verdict over what standard input holds.
-fn input_outcome<'a, I: Read>(alloc: Global, input: &mut I) -> Result<(), Fault<'a>> {
+fn input_outcome<'a, I: Read>(alloc: Global, input: &mut I) -> Result<(), Fault<'a>>
+    ensures { IfErr result IsOfInput }
+{
     match read_whole(alloc, input) {
         Ok(bytes) => check_bytes(alloc, &bytes),
         Err(ReadFault::Memory) => Err(Fault::Memory),
@@ -137,7 +143,9 @@ pub fn check_input<I: Read, W: Write>(
 }
 
 /// Reads a file that is a text.
-fn read_text<'a, S: Sources>(alloc: Global, files: &S, name: &'a str) -> Result<String, Fault<'a>> {
+fn read_text<'a, S: Sources>(alloc: Global, files: &S, name: &'a str) -> Result<String, Fault<'a>>
+    ensures { IfErr result (IsOfFiles name.now name.now) }
+{
     let bytes = match files.read(alloc, name) {
         Ok(bytes) => bytes,
         Err(ReadFault::Memory) => return Err(Fault::Memory),
@@ -155,7 +163,9 @@ fn files_outcome<'a, S: Sources>(
     files: &S,
     app: &'a str,
     cert: &'a str,
-) -> Result<(), Fault<'a>> {
+) -> Result<(), Fault<'a>>
+    ensures { IfErr result (IsOfFiles app.now cert.now) }
+{
     let app = read_text(alloc, files, app)?;
     let cert = read_text(alloc, files, cert)?;
     check_texts(alloc, app.as_str(), cert.as_str())

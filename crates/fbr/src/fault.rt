@@ -23,7 +23,19 @@ pub enum Fault<'a> {
 }
 
 impl Fault<'_> {
-    ghost use Rattle.fbr.specs.Outcomes.{status_of};
+    ghost use Rattle.fbr.specs.Outcomes.{code_of, status_of};
+
+    /// The number of the fault.
+    pub fn code(&self) -> u8
+        ensures { result ≡ code_of self.now }
+    {
+        match self {
+            Fault::Memory => 9,
+            Fault::Input | Fault::File(_) => 61,
+            Fault::Usage => 63,
+            Fault::Refused(refusal) => refusal.code(),
+        }
+    }
 
     /// The status that the program ends with.
     pub fn status(&self) -> u8
