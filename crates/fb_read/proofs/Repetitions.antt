@@ -1,9 +1,9 @@
 -- The laws of lists of items, once for all productions.
-use Rattle.std.proofs.Common.{◌≡◌, ℕ, zero, suc, ◌<◌, ◌≤◌, Bool, true, false, cond, List, [], ◌∷◌, length, Option, Some, None, Ok, Err, refl, sym, ap, subst, ◌∙◌, arith, inl, inr}
+use Rattle.std.proofs.Common.{◌≡◌, ℕ, zero, suc, ◌<◌, ◌≤◌, Bool, true, false, cond, List, [], ◌∷◌, length, Option, Some, None, Ok, refl, sym, ap, subst, arith, inl}
 use Rattle.fb_words.specs.declared.mark.Mark.{Mark}
 use Rattle.fb_model.specs.Tokens.{Token, token, mark}
 use Rattle.fb_model.specs.Productions.{Gram, IsMany, none, more, IsSeparated, last, before, IsSection, absent, present}
-use Rattle.fb_read.specs.Reading.{Answer, Read, ◌>>=◌, is, next_is, after, expect, many_step, many_at, separated_step, separated_at, closed_at, section_at}
+use Rattle.fb_read.specs.Reading.{Read, ◌>>=◌, is, next_is, after, expect, many_step, many_at, separated_step, separated_at, closed_at, section_at}
 use Rattle.fb_read.proofs.Readers.{Meets, Sound, Gets, Complete, never, Shorter, Avoids, NotDeep, Shallow, meets_then, meets_as, gets_then, shallow_then, seen, some_left, expect_then, may_open, shallow_expect, shallow_if}
 
 -- items up to a mark, which is left
@@ -91,7 +91,7 @@ module _ {A : Type 0} (Deep : Type 0) (G : Gram A) (item : Read A) (short : Shor
   many_complete (suc n) ts rest xs le (more {mid = mid} {x = x} {xs = ys} h t) e =
       let a = short ts x mid h in
       let turn : Gets Deep (many_step item (many_at close item n) false ts) (x ∷ ys, rest) =
-          gets_then _ _ (item ts) (x, mid) (whole ts x mid h refl) (gets_then _ _ (many_at close item n mid) (ys, rest) (many_complete n mid rest ys (omega arith) t e) (inl refl)) in
+      gets_then _ _ (item ts) (x, mid) (whole ts x mid h refl) (gets_then _ _ (many_at close item n mid) (ys, rest) (many_complete n mid rest ys (omega arith) t e) (inl refl)) in
       subst (λ b. Gets Deep (many_step item (many_at close item n) b ts) (x ∷ ys, rest)) (sym (avoids ts x mid h)) turn
 
   pub closed_complete : is close close ≡ true → Complete Deep never (IsClosed close G) (closed_at close item)
@@ -115,7 +115,7 @@ module _ {A : Type 0} (Deep : Type 0) (k : Mark) (G : Gram A) (item : Read A) (s
   separated_complete (suc n) ts rest xs le (before {mid = mid} {s = s} {e = e} {x = x} {xs = ys} h t) st fin =
       let a = short ts x (token (mark k) s e ∷ mid) h in
       let turn : Gets Deep (separated_step (separated_at k item n) x true (token (mark k) s e ∷ mid)) (x ∷ ys, rest) =
-          gets_then _ _ (separated_at k item n mid) (ys, rest) (separated_complete n mid rest ys (omega arith) t st fin) (inl refl) in
+      gets_then _ _ (separated_at k item n mid) (ys, rest) (separated_complete n mid rest ys (omega arith) t st fin) (inl refl) in
       gets_then _ _ (item ts) (x, token (mark k) s e ∷ mid) (whole ts x (token (mark k) s e ∷ mid) h (between s e mid))
       (subst (λ b. Gets Deep (separated_step (separated_at k item n) x b (token (mark k) s e ∷ mid)) (x ∷ ys, rest)) (sym same) turn)
 

@@ -27,7 +27,11 @@ pub trait Item: Drop {
 }
 
 /// The items up to a mark, which is left.
-pub fn many<I: Item>(alloc: Global, tokens: &[Token], close: Mark) -> Result<(Vec<I>, &[Token]), Stop>
+pub fn many<I: Item>(
+    alloc: Global,
+    tokens: &[Token],
+    close: Mark,
+) -> Result<(Vec<I>, &[Token]), Stop>
     ensures { Gives (λ x. (map I.view x.0.items, tokens_of x.1.now)) result (items_at close I.reads (tokens_of tokens.now)) }
 {
     let mut items = Vec::new(alloc);
@@ -44,7 +48,11 @@ pub fn many<I: Item>(alloc: Global, tokens: &[Token], close: Mark) -> Result<(Ve
 }
 
 /// An item, and another behind each separator.
-pub fn separated<I: Item>(alloc: Global, tokens: &[Token], separator: Mark) -> Result<(Vec<I>, &[Token]), Stop>
+pub fn separated<I: Item>(
+    alloc: Global,
+    tokens: &[Token],
+    separator: Mark,
+) -> Result<(Vec<I>, &[Token]), Stop>
     ensures { Gives (λ x. (map I.view x.0.items, tokens_of x.1.now)) result (list_at separator I.reads (tokens_of tokens.now)) }
 {
     let mut items = Vec::new(alloc);
@@ -62,7 +70,11 @@ pub fn separated<I: Item>(alloc: Global, tokens: &[Token], separator: Mark) -> R
 
 /// The items up to a mark, and what is left behind it.
 #[tactic(auto, unfolding(crate::specs::Reading::closed_at))]
-pub fn closed<I: Item>(alloc: Global, tokens: &[Token], close: Mark) -> Result<(Vec<I>, &[Token]), Stop>
+pub fn closed<I: Item>(
+    alloc: Global,
+    tokens: &[Token],
+    close: Mark,
+) -> Result<(Vec<I>, &[Token]), Stop>
     ensures { Gives (λ x. (map I.view x.0.items, tokens_of x.1.now)) result (closed_at close I.reads (tokens_of tokens.now)) }
 {
     let (items, rest) = many::<I>(alloc, tokens, close)?;
@@ -72,7 +84,12 @@ pub fn closed<I: Item>(alloc: Global, tokens: &[Token], close: Mark) -> Result<(
 
 /// The items of a section between two marks, none where it is absent.
 #[tactic(auto, unfolding(crate::specs::Reading::section_at))]
-pub fn section<I: Item>(alloc: Global, tokens: &[Token], opening: Mark, closing: Mark) -> Result<(Vec<I>, &[Token]), Stop>
+pub fn section<I: Item>(
+    alloc: Global,
+    tokens: &[Token],
+    opening: Mark,
+    closing: Mark,
+) -> Result<(Vec<I>, &[Token]), Stop>
     ensures { Gives (λ x. (map I.view x.0.items, tokens_of x.1.now)) result (section_at opening closing I.reads (tokens_of tokens.now)) }
 {
     if !next_is(tokens, opening) {

@@ -43,7 +43,7 @@ fn whole(alloc: Global, tokens: &[Token]) -> Result<Source, Stop>
 ///
 /// A `Syntax` names the first token that cannot stand there, or the text's length where the tokens end too soon.
 pub fn parse_tokens(alloc: Global, tokens: &[Token], length: usize) -> Result<Source, TextFault>
-    ensures reads { Reads result (whole_at (tokens_of tokens.now)) }
+    ensures reads { Reads length (tokens_of tokens.now) result }
     ensures found { IfOk result (λ source. IsFile (tokens_of tokens.now) (source_of source)) }
     ensures only { (x : SourceTree) → IsFile (tokens_of tokens.now) x → FindsTree result x }
     ensures syntax { IfSyntax result ((x : SourceTree) → IsFile (tokens_of tokens.now) x → ⊥) }

@@ -1,8 +1,8 @@
-use Rattle.std.proofs.Common.{◌≡◌, ◌<◌, ◌≤◌, ◌++◌, ◌∷◌, [], length, map, sym, ◌∙◌, arith}
+use Rattle.std.proofs.Common.{◌≡◌, ◌<◌, ◌≤◌, ◌++◌, ◌∷◌, [], length, map, Err, sym, ap, ◌∙◌, arith}
 use Rattle.std.proofs.lemmas.Result.{err_from_is_err_and}
 use Rattle.std.proofs.lemmas.List.{map_push, length-map}
 use Rattle.fb_lex.specs.Views.{token_of, tokens_of}
-use Rattle.fb_read.specs.Reading.{items_at}
+use Rattle.fb_read.specs.Reading.{syntax, items_at}
 use Rattle.fb_read.proofs.Lists.{many_goes_on, many_fails, many_stops, many_done}
 use Rattle.fb_read.proofs.items.many.Goals as goal
 
@@ -28,7 +28,6 @@ loop-preserved g c =
     let within : c.loop.counter < length ts = omega (arith, length-map c.args.tokens.now token_of) in
     let x = c.in_ok-item.item in
     let e : map i.view c.push.new.self.items ≡ map i.view c.loop.items.items ++ i.view x ∷ [] = rw c.in_ok-push.ensures.items (map_push _ c.loop.items.items x) in
-
     rw e (many_goes_on c.args.close i.reads (map i.view c.loop.items.items) (length ts) c.loop.counter (tokens_of c.loop.rest.now) (items_at c.args.close i.reads ts) c.loop.invariant (i.view x) (tokens_of c.in_ok-item.after.now) within (sym c.next_is.ensures ∙ c.if-next_is.false) c.in_ok-item.ensures)
 
 pub returns : goal.returns
@@ -36,4 +35,4 @@ returns g c =
     let i = g.I.Item in
     let ts = tokens_of c.args.tokens.now in
     let past : length ts ≤ c.loop.counter = omega (arith, length-map c.args.tokens.now token_of) in
-    many_done c.args.close i.reads (map i.view c.loop.items.items) (length ts) c.loop.counter (tokens_of c.loop.rest.now) (items_at c.args.close i.reads ts) c.loop.invariant past
+    many_done c.args.close i.reads (map i.view c.loop.items.items) (length ts) c.loop.counter (tokens_of c.loop.rest.now) (items_at c.args.close i.reads ts) c.loop.invariant past ∙ ap (λ n. Err (syntax n)) (length-map c.loop.rest.now token_of)
