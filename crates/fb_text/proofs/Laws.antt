@@ -1,13 +1,17 @@
 -- What reading tells of trees.
-use Rattle.std.proofs.Common.{◌≡◌, ℕ, List, Ok, Err, sym, subst, ◌∙◌, inl, inr}
-use Rattle.fb_model.specs.Tokens.{Token}
+use Rattle.std.proofs.Common.{◌≡◌, ◌⊎◌, ◌-◌, ℕ, zero, suc, List, [], ◌∷◌, ◌++◌, drop, length, Ok, Err, refl, sym, ap, subst, ◌∙◌, arith, inl, inr}
+use Rattle.std.proofs.lemmas.List.{length-drop}
+use Rattle.fb_model.specs.Tokens.{Token, token}
+use Rattle.fb_read.specs.Faults.{start_or, offset_of}
+use Rattle.fb_read.proofs.Steady.{Same, here, there, IsRefused}
+use Rattle.fb_text.proofs.Steady.{whole_steady}
 use Rattle.fb_model.specs.Trees.{SourceTree}
 use Rattle.fb_model.specs.Grammar.{IsFile}
 use Rattle.fb_lex.proofs.Whole.{spelled_once}
 use Rattle.fb_read.specs.Reading.{Wrong, syntax, too_deep}
 use Rattle.fb_read.proofs.Readers.{NotDeep}
 use Rattle.fb_text.specs.Reading.{whole_at}
-use Rattle.fb_text.specs.Answers.{Reads, IsSource, FindsTree, IfSyntax, IsNotDeep}
+use Rattle.fb_text.specs.Answers.{Reads, IsSource, FindsTree, IfSyntax, CannotStand, SyntaxAt, IsNotDeep}
 use Rattle.fb_lex.specs.declared.fault.TextFault.{TextFault}
 use Rattle.fb_lex.specs.declared.fault.TextFault.TheVariants as faults
 use Rattle.fb_read.specs.declared.stop.Stop.{Stop}
@@ -61,6 +65,41 @@ reads_syntax end ts fault e = tt
 pub reads_shallow : (end : ℕ) (ts : List Token) (fault : TextFault) → Reads end ts (Err fault) → IsNotDeep (Err fault)
 reads_shallow end ts (faults.TooDeep offset) e = never_deep ts e.0 e.1
 reads_shallow end ts fault e = tt
+
+-- ---- where reading stopped
+
+same_front : (p : List Token) {t : Token} {q q' : List Token} → Same t q q' (p ++ t ∷ q) (p ++ t ∷ q')
+same_front [] = here
+same_front (u ∷ p) = there (same_front p)
+
+front : (n : ℕ) (ts : List Token) → (p : List Token) × (ts ≡ p ++ drop n ts)
+front zero ts = ([], refl)
+front (suc n) [] = ([], refl)
+front (suc n) (u ∷ ts) = let f = front n ts in (u ∷ f.0, ap (λ l. u ∷ l) f.1)
+
+not_read : {ts : List Token} {x : SourceTree} → IsRefused (whole_at ts) → IsFile ts x → ⊥
+not_read r h = subst (λ z. IsRefused z) (tree_read h) r
+
+pub cannot_stand : (end : ℕ) (ts : List Token) (left offset : ℕ) → whole_at ts ≡ Err (syntax left) → offset ≡ offset_of end ts left → (offset ≡ end) ⊎ CannotStand ts offset
+cannot_stand end ts left offset e o = by (drop (length ts - left) ts) refl o where
+  by : (l : List Token) → drop (length ts - left) ts ≡ l → offset ≡ start_or end l → (offset ≡ end) ⊎ CannotStand ts offset
+  by [] d f = inl f
+  by (token k s e' ∷ q) d f =
+      let p = front (length ts - left) ts in
+      let whole : ts ≡ p.0 ++ token k s e' ∷ q = subst (λ l. ts ≡ p.0 ++ l) d p.1 in
+      let long : suc (length q) ≡ length ts - (length ts - left) = ap length (sym d) ∙ length-drop (length ts - left) ts in
+      inr (record {
+        before = p.0;
+        wrong = token k s e';
+        behind = q;
+        tokens_are = whole;
+        begins = f;
+        never = λ others x h. not_read (whole_steady (token k s e') q others (p.0 ++ token k s e' ∷ q) (p.0 ++ token k s e' ∷ others) (same_front p.0) left (subst (λ l. whole_at l ≡ Err (syntax left)) whole e) (omega arith)) h;
+      })
+
+pub reads_place : (end : ℕ) (ts : List Token) (fault : TextFault) → Reads end ts (Err fault) → SyntaxAt end ts (Err fault)
+reads_place end ts (faults.Syntax offset) e = cannot_stand end ts e.0 offset e.1 e.2
+reads_place end ts fault e = tt
 
 -- ---- of texts
 

@@ -1,9 +1,9 @@
 -- What the parser's answers say.
-use Rattle.std.specs.Prelude.{◌≡◌, ℕ, List, length, Result, Ok, Err}
+use Rattle.std.specs.Prelude.{◌≡◌, ◌⊎◌, ℕ, List, ◌∷◌, ◌++◌, length, Result, Ok, Err}
 use Rattle.fb_lex.specs.declared.fault.TextFault.{TextFault}
 use Rattle.fb_lex.specs.declared.fault.TextFault.TheVariants as faults
 use Rattle.fb_lex.specs.Lexing.{Refuses}
-use Rattle.fb_model.specs.Tokens.{Token}
+use Rattle.fb_model.specs.Tokens.{Token, token}
 use Rattle.fb_model.specs.Spelling.{Spells}
 use Rattle.fb_model.specs.Trees.{SourceTree}
 use Rattle.fb_model.specs.Grammar.{IsFile}
@@ -59,3 +59,25 @@ IsNotDeep other = Unit {0}
 -- the text is spelled by tokens, and by those of no tree
 abbrev pub IsNoSource : List ℕ → Type 0
 IsNoSource text = ((ts : List Token) × Spells 0 text ts) × ((x : SourceTree) → IsSource text x → ⊥)
+
+abbrev pub start_of : Token → ℕ
+start_of (token k s e) = s
+
+-- the token of the tokens that begins there cannot stand there: no tree begins with the tokens before it and with it
+pub record CannotStand (ts : List Token) (offset : ℕ) : Type 0 where
+  pub before : List Token
+  pub wrong : Token
+  pub behind : List Token
+  pub tokens_are : ts ≡ before ++ wrong ∷ behind
+  pub begins : offset ≡ start_of wrong
+  pub never : (others : List Token) (x : SourceTree) → IsFile (before ++ wrong ∷ others) x → ⊥
+
+-- where the answer is Syntax, it is at the end, or at a token that cannot stand there
+abbrev pub SyntaxAt : ℕ → List Token → Result Source TextFault → Type 0
+SyntaxAt end ts (Err (faults.Syntax offset)) = (offset ≡ end) ⊎ CannotStand ts offset
+SyntaxAt end ts other = Unit {0}
+
+-- the same of the tokens that the text spells
+abbrev pub SyntaxIn : List ℕ → Result Source TextFault → Type 0
+SyntaxIn text (Err (faults.Syntax offset)) = (ts : List Token) × Spells 0 text ts × SyntaxAt (length text) ts (Err (faults.Syntax offset))
+SyntaxIn text other = Unit {0}

@@ -1,5 +1,5 @@
 use Rattle.fb_lex.specs.Views.{tokens_of}
-use Rattle.fb_text.proofs.Laws.{tree_spelled, tree_same, reads_of, reads_only, reads_syntax, reads_shallow}
+use Rattle.fb_text.proofs.Laws.{tree_spelled, tree_same, reads_of, reads_only, reads_syntax, reads_place, reads_shallow}
 use Rattle.fb_text.proofs.text.parse_tokens.Goals as goal
 
 pub returns-in-Ok-clause-found : goal.returns-in-Ok-clause-found
@@ -16,3 +16,6 @@ returns-in-Err-clause-syntax c = reads_syntax c.args.length (tokens_of c.args.to
 
 pub returns-in-Err-clause-shallow : goal.returns-in-Err-clause-shallow
 returns-in-Err-clause-shallow c = reads_shallow c.args.length (tokens_of c.args.tokens.now) c.fault.result (reads_of c.args.length (tokens_of c.args.tokens.now) c.in-Err.stop c.fault.result c.fault.ensures c.in-Err.ensures)
+
+pub returns-in-Err-clause-place : goal.returns-in-Err-clause-place
+returns-in-Err-clause-place c = reads_place c.args.length (tokens_of c.args.tokens.now) c.fault.result (reads_of c.args.length (tokens_of c.args.tokens.now) c.in-Err.stop c.fault.result c.fault.ensures c.in-Err.ensures)
