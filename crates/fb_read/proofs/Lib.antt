@@ -2,3 +2,5 @@ pub mod Lists
 pub mod Fronts
 pub mod Readers
 pub mod Repetitions
+pub mod Steady
+pub mod SteadyLists

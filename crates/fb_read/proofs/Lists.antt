@@ -1,12 +1,12 @@
 -- A turn of a loop that reads items, after the items that were read before.
-use Rattle.std.proofs.Common.{◌≡◌, ℕ, zero, suc, ◌+◌, ◌-◌, ◌<◌, ◌≤◌, Bool, true, false, List, [], ◌∷◌, ◌++◌, length, Result, Ok, Err, refl, sym, ap, ◌∙◌, arith, append_assoc}
+use Rattle.std.proofs.Common.{◌≡◌, ℕ, suc, ◌+◌, ◌-◌, ◌<◌, ◌≤◌, true, false, List, [], ◌∷◌, ◌++◌, length, Ok, Err, refl, sym, ap, ◌∙◌, arith, append_assoc}
 use Rattle.std.proofs.lemmas.List.{append-nil}
 use Rattle.fb_words.specs.declared.mark.Mark.{Mark}
 use Rattle.fb_read.specs.declared.stop.Stop.{Stop}
 use Rattle.fb_read.specs.declared.stop.Stop.TheVariants.{Memory, Syntax, TooDeep}
 use Rattle.fb_read.specs.Answers.{Fails}
 use Rattle.fb_model.specs.Tokens.{Token}
-use Rattle.fb_read.specs.Reading.{Wrong, syntax, too_deep, Answer, Read, ◌>>=◌, next_is, after, many_step, many_at, separated_step, separated_at}
+use Rattle.fb_read.specs.Reading.{syntax, too_deep, Answer, Read, ◌>>=◌, next_is, after, many_at, separated_at}
 
 -- what was read before, and what is still read
 abbrev pub with_front : {A B : Type 0} → (A → B) → Answer A → Answer B
@@ -31,11 +31,11 @@ module _ {A : Type 0} (close : Mark) (item : Read A) (front : List A) (n i : ℕ
   many_fails Memory lt b h = tt
   many_fails (Syntax left) lt b h =
       let k : n - i ≡ suc (n - (i + 1)) = omega arith in
-      let one : with_front (λ xs. front ++ xs) (many_at close item (n - i) ts) ≡ Err syntax = rw (k, b, h) refl in
+      let one : with_front (λ xs. front ++ xs) (many_at close item (n - i) ts) ≡ Err (syntax left) = rw (k, b, h) refl in
       sym so_far ∙ one
   many_fails (TooDeep left) lt b h =
       let k : n - i ≡ suc (n - (i + 1)) = omega arith in
-      let one : with_front (λ xs. front ++ xs) (many_at close item (n - i) ts) ≡ Err too_deep = rw (k, b, h) refl in
+      let one : with_front (λ xs. front ++ xs) (many_at close item (n - i) ts) ≡ Err (too_deep left) = rw (k, b, h) refl in
       sym so_far ∙ one
 
   pub many_stops : i < n → next_is close ts ≡ true → total ≡ Ok (front, ts)
@@ -45,11 +45,11 @@ module _ {A : Type 0} (close : Mark) (item : Read A) (front : List A) (n i : ℕ
       let one : with_front (λ xs. front ++ xs) (many_at close item (n - i) ts) ≡ Ok (front, ts) = rw (k, b) (ap (λ xs. Ok (xs, ts)) (append-nil front)) in
       sym so_far ∙ one
 
-  pub many_done : n ≤ i → total ≡ Err syntax
+  pub many_done : n ≤ i → total ≡ Err (syntax (length ts))
   unfolding many_at
   many_done le =
       let k : n - i ≡ 0 = omega arith in
-      let one : with_front (λ xs. front ++ xs) (many_at close item (n - i) ts) ≡ Err syntax = rw k refl in
+      let one : with_front (λ xs. front ++ xs) (many_at close item (n - i) ts) ≡ Err (syntax (length ts)) = rw k refl in
       sym so_far ∙ one
 
 module _ {A : Type 0} (separator : Mark) (item : Read A) (front : List A) (n i : ℕ) (ts : List Token) (total : Answer (List A))
@@ -74,16 +74,16 @@ module _ {A : Type 0} (separator : Mark) (item : Read A) (front : List A) (n i :
   separated_fails Memory lt h = tt
   separated_fails (Syntax left) lt h =
       let k : n - i ≡ suc (n - (i + 1)) = omega arith in
-      let one : with_front (λ xs. front ++ xs) (separated_at separator item (n - i) ts) ≡ Err syntax = rw (k, h) refl in
+      let one : with_front (λ xs. front ++ xs) (separated_at separator item (n - i) ts) ≡ Err (syntax left) = rw (k, h) refl in
       sym so_far ∙ one
   separated_fails (TooDeep left) lt h =
       let k : n - i ≡ suc (n - (i + 1)) = omega arith in
-      let one : with_front (λ xs. front ++ xs) (separated_at separator item (n - i) ts) ≡ Err too_deep = rw (k, h) refl in
+      let one : with_front (λ xs. front ++ xs) (separated_at separator item (n - i) ts) ≡ Err (too_deep left) = rw (k, h) refl in
       sym so_far ∙ one
 
-  pub separated_done : n ≤ i → total ≡ Err syntax
+  pub separated_done : n ≤ i → total ≡ Err (syntax (length ts))
   unfolding separated_at
   separated_done le =
       let k : n - i ≡ 0 = omega arith in
-      let one : with_front (λ xs. front ++ xs) (separated_at separator item (n - i) ts) ≡ Err syntax = rw k refl in
+      let one : with_front (λ xs. front ++ xs) (separated_at separator item (n - i) ts) ≡ Err (syntax (length ts)) = rw k refl in
       sym so_far ∙ one

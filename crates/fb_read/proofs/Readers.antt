@@ -1,11 +1,11 @@
 -- What it is for a reader to be sound and complete, and the readers of single tokens.
-use Rattle.std.proofs.Common.{◌≡◌, ℕ, suc, ◌<◌, ◌≤◌, ◌⊎◌, Bool, true, false, cond, List, [], ◌∷◌, length, Option, Some, None, Result, Ok, Err, refl, sym, ap, subst, ◌∙◌, arith, inl, inr}
+use Rattle.std.proofs.Common.{◌≡◌, ℕ, ◌<◌, ◌⊎◌, Bool, true, false, cond, List, [], ◌∷◌, length, Result, Ok, Err, refl, sym, ap, subst, arith, inl, inr}
 use denote.Enum.Bare.{same_true}
 use Rattle.fb_words.specs.contracts.mark.Mark.{the_type}
 use Rattle.fb_words.specs.declared.mark.Mark.{Mark}
 use Rattle.fb_model.specs.Tokens.{Token, token, name, number, typed, duration, mark}
-use Rattle.fb_model.specs.Productions.{Gram, Word, IsName, a_name}
-use Rattle.fb_read.specs.Reading.{Wrong, syntax, too_deep, Answer, Read, ◌>>=◌, is, next_is, after, expect, name_at}
+use Rattle.fb_model.specs.Productions.{Gram, IsName, a_name}
+use Rattle.fb_read.specs.Reading.{Wrong, syntax, too_deep, stuck, Answer, Read, ◌>>=◌, is, next_is, after, expect, name_at}
 
 -- ---- what is proved of readers
 
@@ -20,7 +20,7 @@ Sound {A} G r = (ts : List Token) → Meets (G ts) (r ts)
 
 -- The value is found, or the nesting is at its end, which the fact says that it may be.
 abbrev pub Gets : {A : Type 0} → Type 0 → Result A Wrong → A → Type 0
-Gets Deep r v = (r ≡ Ok v) ⊎ (Deep × (r ≡ Err too_deep))
+Gets Deep r v = (r ≡ Ok v) ⊎ ((left : ℕ) × Deep × (r ≡ Err (too_deep left)))
 
 -- What is in the grammar is read, where the rest does not go on.
 abbrev pub Complete : {A : Type 0} → Type 0 → (List Token → Bool) → Gram A → Read A → Type 0
@@ -41,8 +41,8 @@ Avoids {A} k G = (ts : List Token) (x : A) (rest : List Token) → G ts x rest �
 -- the nesting is never at its end
 abbrev pub NotDeep : {A : Type 0} → Result A Wrong → Type 0
 NotDeep (Ok x) = Unit {0}
-NotDeep (Err syntax) = Unit {0}
-NotDeep (Err too_deep) = ⊥
+NotDeep (Err (syntax left)) = Unit {0}
+NotDeep (Err (too_deep left)) = ⊥
 
 abbrev pub Shallow : {A : Type 0} → Read A → Type 0
 Shallow r = (ts : List Token) → NotDeep (r ts)
@@ -61,12 +61,12 @@ meets_as Q (Err e) h g = tt
 
 pub gets_then : {A B : Type 0} {Deep : Type 0} (f : A → Result B Wrong) (w : B) (r : Result A Wrong) (v : A) → Gets Deep r v → Gets Deep (f v) w → Gets Deep (r >>= f) w
 gets_then {Deep = Deep} f w r v (inl e) g = subst (λ q. Gets Deep (q >>= f) w) (sym e) g
-gets_then f w r v (inr p) g = inr (p.0, ap (λ q. q >>= f) p.1)
+gets_then f w r v (inr p) g = inr (p.0, p.1, ap (λ q. q >>= f) p.2)
 
 pub shallow_then : {A B : Type 0} (f : A → Result B Wrong) (r : Result A Wrong) → NotDeep r → ((x : A) → NotDeep (f x)) → NotDeep (r >>= f)
 shallow_then f (Ok x) h g = g x
-shallow_then f (Err syntax) h g = tt
-shallow_then f (Err too_deep) h g = h
+shallow_then f (Err (syntax left)) h g = tt
+shallow_then f (Err (too_deep left)) h g = h
 
 -- ---- marks
 
@@ -90,14 +90,14 @@ some_left k (t ∷ ts) h = omega arith
 -- this mark, and what is done behind it
 pub expect_then : {B : Type 0} (P : List Token → Type 0) (Q : B → List Token → Type 0) (f : List Token → Answer B) (k : Mark) (ts : List Token) → P ts → ((s e : ℕ) (rest : List Token) → P (token (mark k) s e ∷ rest) → Meets Q (f rest)) → Meets Q (expect k ts >>= f)
 expect_then P Q f k ts p g = by (next_is k ts) refl where
-  by : (b : Bool) → next_is k ts ≡ b → Meets Q (cond b (Ok (after ts)) (Err syntax) >>= f)
+  by : (b : Bool) → next_is k ts ≡ b → Meets Q (cond b (Ok (after ts)) (stuck ts) >>= f)
   by true e = let q = seen P k ts e p in g q.0 q.1 (after ts) q.2
   by false e = tt
 
 -- a production that this mark opens
 pub opens : {B : Type 0} (G : List Token → B → List Token → Type 0) (f : List Token → Answer B) (k : Mark) (ts : List Token) → ((s e : ℕ) (rest : List Token) → Meets (G (token (mark k) s e ∷ rest)) (f rest)) → Meets (G ts) (expect k ts >>= f)
 opens G f k ts g = by (next_is k ts) refl where
-  by : (b : Bool) → next_is k ts ≡ b → Meets (G ts) (cond b (Ok (after ts)) (Err syntax) >>= f)
+  by : (b : Bool) → next_is k ts ≡ b → Meets (G ts) (cond b (Ok (after ts)) (stuck ts) >>= f)
   by true e = let q = seen (λ l. ts ≡ l) k ts e refl in subst (λ l. Meets (G l) (f (after ts))) (sym q.2) (g q.0 q.1 (after ts))
   by false e = tt
 
@@ -114,7 +114,7 @@ may_open G k ts with without g h = by (next_is k ts) refl where
 
 pub shallow_expect : (k : Mark) (ts : List Token) → NotDeep (expect k ts)
 shallow_expect k ts = by (next_is k ts) where
-  by : (b : Bool) → NotDeep (cond b (Ok (after ts)) (Err syntax))
+  by : (b : Bool) → NotDeep (cond b (Ok (after ts)) (stuck ts))
   by true = tt
   by false = tt
 

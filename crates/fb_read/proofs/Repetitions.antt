@@ -1,9 +1,9 @@
 -- The laws of lists of items, once for all productions.
-use Rattle.std.proofs.Common.{◌≡◌, ℕ, zero, suc, ◌<◌, ◌≤◌, Bool, true, false, cond, List, [], ◌∷◌, length, Option, Some, None, Ok, Err, refl, sym, ap, subst, ◌∙◌, arith, inl, inr}
+use Rattle.std.proofs.Common.{◌≡◌, ℕ, zero, suc, ◌<◌, ◌≤◌, Bool, true, false, cond, List, [], ◌∷◌, length, Option, Some, None, Ok, refl, sym, ap, subst, arith, inl}
 use Rattle.fb_words.specs.declared.mark.Mark.{Mark}
 use Rattle.fb_model.specs.Tokens.{Token, token, mark}
 use Rattle.fb_model.specs.Productions.{Gram, IsMany, none, more, IsSeparated, last, before, IsSection, absent, present}
-use Rattle.fb_read.specs.Reading.{Answer, Read, ◌>>=◌, is, next_is, after, expect, many_step, many_at, separated_step, separated_at, closed_at, section_at}
+use Rattle.fb_read.specs.Reading.{Read, ◌>>=◌, is, next_is, after, expect, many_step, many_at, separated_step, separated_at, closed_at, section_at}
 use Rattle.fb_read.proofs.Readers.{Meets, Sound, Gets, Complete, never, Shorter, Avoids, NotDeep, Shallow, meets_then, meets_as, gets_then, shallow_then, seen, some_left, expect_then, may_open, shallow_expect, shallow_if}
 
 -- items up to a mark, which is left

@@ -1,14 +1,19 @@
 -- Reading tokens from left to right: what stands in front, and what is left.
-use Rattle.std.specs.Prelude.{◌≡◌, ℕ, zero, suc, List, [], ◌∷◌, length, Bool, true, false, Result, Ok, Err, if◌then◌else◌}
+use Rattle.std.specs.Prelude.{ℕ, zero, suc, List, [], ◌∷◌, length, Bool, true, false, Result, Ok, Err, if◌then◌else◌}
 use denote.Enum.Bare.{sameb}
 use Rattle.fb_words.specs.contracts.mark.Mark.{the_type}
 use Rattle.fb_words.specs.declared.mark.Mark.{Mark}
 use Rattle.fb_model.specs.Tokens.{Token, token, name, mark}
 use Rattle.fb_model.specs.Productions.{Word}
 
+-- why reading stops, and how many tokens are left then
 pub data Wrong : Type 0 where
-  syntax : Wrong
-  too_deep : Wrong
+  syntax : (left : ℕ) → Wrong
+  too_deep : (left : ℕ) → Wrong
+
+-- reading stops before these tokens
+abbrev pub stuck : {A : Type 0} → List Token → Result A Wrong
+stuck ts = Err (syntax (length ts))
 
 abbrev pub Answer : Type 0 → Type 0
 Answer A = Result (A × List Token) Wrong
@@ -37,7 +42,7 @@ after [] = []
 after (t ∷ ts) = ts
 
 abbrev pub expect : Mark → List Token → Result (List Token) Wrong
-expect k ts = if next_is k ts then Ok (after ts) else Err syntax
+expect k ts = if next_is k ts then Ok (after ts) else stuck ts
 
 -- the place of the next token
 abbrev pub place_at : List Token → ℕ
@@ -45,9 +50,9 @@ place_at [] = 0
 place_at (token k s e ∷ ts) = s
 
 abbrev pub name_at : Read Word
-name_at [] = Err syntax
+name_at [] = stuck []
 name_at (token (name text) s e ∷ ts) = Ok (record { text = text; at = s }, ts)
-name_at (token other s e ∷ ts) = Err syntax
+name_at (token other s e ∷ ts) = stuck (token other s e ∷ ts)
 
 -- ---- lists
 
@@ -60,7 +65,7 @@ many_step item others false ts = do
 
 -- items up to a mark, which is left; the number bounds the turns
 unfoldable pub many_at : {A : Type 0} → Mark → Read A → ℕ → Read (List A)
-many_at close item zero ts = Err syntax
+many_at close item zero ts = stuck ts
 many_at close item (suc n) ts = many_step item (many_at close item n) (next_is close ts) ts
 
 abbrev pub separated_step : {A : Type 0} → Read (List A) → A → Bool → Read (List A)
@@ -69,7 +74,7 @@ separated_step others x false ts = Ok (x ∷ [], ts)
 
 -- an item, and another behind each separator; the number bounds the turns
 unfoldable pub separated_at : {A : Type 0} → Mark → Read A → ℕ → Read (List A)
-separated_at separator item zero ts = Err syntax
+separated_at separator item zero ts = stuck ts
 separated_at separator item (suc n) ts = item ts >>= λ x. separated_step (separated_at separator item n) x.0 (next_is separator x.1) x.1
 
 -- as many items as there are tokens at the most

@@ -1,6 +1,8 @@
 //! Where reading stopped.
 
 ghost use Rattle.std.specs.Prelude.{◌≡◌};
+ghost use Rattle.fb_lex.specs.Views.{tokens_of};
+ghost use Rattle.fb_read.specs.Faults.{offset_of};
 ghost use Rattle.fb_read.specs.declared.stop.Stop.TheVariants.{Memory};
 
 use fb_lex::{TextFault, Token};
@@ -22,7 +24,7 @@ impl Stop {
 
     /// The fault of a text that has these tokens and so many bytes.
     pub fn fault(self, tokens: &[Token], length: usize) -> TextFault
-        ensures { Says self result }
+        ensures { Says length (tokens_of tokens.now) self result }
     {
         match self {
             Stop::Memory => TextFault::OutOfMemory,
@@ -33,7 +35,9 @@ impl Stop {
 }
 
 // Where the tokens begin that are left, or the length where there are none.
-fn offset(tokens: &[Token], left: usize, length: usize) -> usize {
+fn offset(tokens: &[Token], left: usize, length: usize) -> usize
+    ensures { result ≡ offset_of length (tokens_of tokens.now) left }
+{
     match tokens.get(tokens.len().saturating_sub(left)) {
         Some(token) => token.start,
         None => length,

@@ -1,5 +1,5 @@
 -- What is read of constants and block types is in the grammar.
-use Rattle.std.proofs.Common.{◌≡◌, ℕ, Bool, true, false, cond, List, [], ◌∷◌, length, Option, Some, None, Result, Ok, Err, refl, sym, subst, codes}
+use Rattle.std.proofs.Common.{◌≡◌, ℕ, Bool, true, false, cond, List, [], ◌∷◌, length, Option, Some, None, Ok, refl, sym, subst, codes}
 use Rattle.std.specs.Prelude.{◌==◌}
 use Rattle.std.specs.Str.{bytes_eq}
 use Rattle.std.proofs.lemmas.Bool.{eqb-true}
@@ -7,13 +7,13 @@ use Rattle.std.proofs.lemmas.Slice.Eq.{bytes_eq-Decides}
 use Rattle.fb_words.specs.declared.mark.Mark.{Mark}
 use Rattle.fb_words.specs.declared.mark.Mark.TheVariants as m
 use Rattle.fb_model.specs.Tokens.{Token, token, name, number, typed, duration, mark}
-use Rattle.fb_model.specs.Productions.{Word, IsName, a_name, IsMany, none, more, IsSeparated}
-use Rattle.fb_model.specs.Trees.{Constant, EventTree, ActionTree, StateTree, TransitionTree, BlockTree}
+use Rattle.fb_model.specs.Productions.{Word, IsName, a_name, none, more, IsSeparated}
+use Rattle.fb_model.specs.Trees.{ActionTree, StateTree, TransitionTree}
 use Rattle.fb_model.specs.Grammar.{IsConstant, negative, plain, with_type, time, yes, no, IsEvent, short, long, IsAction, runs, runs_and_emits, emits, IsState, bare, acting, IsCondition, always, on_event, IsTransition, a_transition, IsStates, some_states, IsTransitions, some_transitions, IsBlock, a_block}
-use Rattle.fb_read.specs.Reading.{syntax, Answer, Read, ◌>>=◌, next_is, after, expect, name_at, list_at, closed_at, section_at}
-use Rattle.fb_read.proofs.Readers.{Meets, Sound, meets_then, meets_as, seen, expect_then, opens, opened, may_open, name_sound}
+use Rattle.fb_read.specs.Reading.{stuck, Answer, ◌>>=◌, next_is, after, name_at, list_at, closed_at, section_at}
+use Rattle.fb_read.proofs.Readers.{Meets, Sound, meets_then, meets_as, seen, expect_then, opens, may_open, name_sound}
 use Rattle.fb_read.proofs.Repetitions.{IsClosed, a_closed, IsOptional, missing, given, separated_sound, closed_sound, section_sound, optional_sound}
-use Rattle.fb_text.specs.Reading.{negative_at, marked_at, constant_at, word_at, kind_at, event_at, output_at, emitting_at, running_at, action_at, actions_at, state_at, is_always, condition_at, transition_at, states_at, transitions_at, block_at}
+use Rattle.fb_text.specs.Reading.{negative_at, marked_at, constant_at, word_at, kind_at, event_at, output_at, emitting_at, running_at, action_at, actions_at, state_at, condition_at, transition_at, states_at, transitions_at, block_at}
 
 -- ---- constants
 
@@ -49,7 +49,7 @@ word_then P Q f text (token (typed t b n) s e ∷ ts) p g = tt
 word_then P Q f text (token (duration b n) s e ∷ ts) p g = tt
 word_then P Q f text (token (mark k) s e ∷ ts) p g = tt
 word_then P Q f text (token (name x) s e ∷ ts) p g = by (bytes_eq x text) refl where
-  by : (b : Bool) → bytes_eq x text ≡ b → Meets Q (cond b (Ok ts) (Err syntax) >>= f)
+  by : (b : Bool) → bytes_eq x text ≡ b → Meets Q (cond b (Ok ts) (stuck (token (name x) s e ∷ ts)) >>= f)
   by true h = let same : x ≡ text = (bytes_eq-Decides x text).0 h in g s e ts (subst (λ l. P (token (name l) s e ∷ ts)) same p)
   by false h = tt
 
@@ -124,7 +124,7 @@ condition_sound (token (typed t b n) s e ∷ ts) = tt
 condition_sound (token (duration b n) s e ∷ ts) = tt
 condition_sound (token (mark k) s e ∷ ts) = tt
 condition_sound (token (number n) s e ∷ ts) = by (n == 1) refl where
-  by : (b : Bool) → (n == 1) ≡ b → Meets (IsCondition (token (number n) s e ∷ ts)) (cond b (Ok (None, ts)) (Err syntax))
+  by : (b : Bool) → (n == 1) ≡ b → Meets (IsCondition (token (number n) s e ∷ ts)) (cond b (Ok (None, ts)) (stuck (token (number n) s e ∷ ts)))
   by true h = subst (λ k. IsCondition (token (number k) s e ∷ ts) None ts) (sym (eqb-true n 1 h)) always
   by false h = tt
 
@@ -146,7 +146,7 @@ states_of s e ts h xs rest (a_closed (more p q)) = some_states p q
 pub states_sound : Sound IsStates states_at
 unfolding states_at
 states_sound ts = opens IsStates _ m.EcStates ts (λ s e on. by s e on (next_is m.EndStates on) refl) where
-  by : (s e : ℕ) (on : List Token) (b : Bool) → next_is m.EndStates on ≡ b → Meets (IsStates (token (mark m.EcStates) s e ∷ on)) (cond b (Err syntax) (closed_at m.EndStates state_at on))
+  by : (s e : ℕ) (on : List Token) (b : Bool) → next_is m.EndStates on ≡ b → Meets (IsStates (token (mark m.EcStates) s e ∷ on)) (cond b (stuck on) (closed_at m.EndStates state_at on))
   by s e on true h = tt
   by s e on false h = meets_as _ (closed_at m.EndStates state_at on) (closed_sound IsState state_at state_sound m.EndStates on) (states_of s e on h)
 

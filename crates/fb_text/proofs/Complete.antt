@@ -1,14 +1,13 @@
 -- What is in the grammar is read.
-use Rattle.std.proofs.Common.{◌≡◌, ℕ, Bool, true, false, cond, List, [], ◌∷◌, length, Result, Ok, Err, refl, sym, ap, subst, arith, inl, inr}
-use Rattle.fb_words.specs.declared.mark.Mark.{Mark}
+use Rattle.std.proofs.Common.{◌≡◌, ℕ, true, false, cond, List, [], ◌∷◌, length, refl, sym, subst, arith, inl}
 use Rattle.fb_words.specs.declared.mark.Mark.TheVariants as m
 use Rattle.fb_model.specs.Tokens.{Token, token, mark}
-use Rattle.fb_model.specs.Productions.{IsName, a_name, IsMany, more, IsSeparated, IsSection}
+use Rattle.fb_model.specs.Productions.{a_name, more, IsSeparated}
 use Rattle.fb_model.specs.Trees.{StateTree, ParameterTree, SystemTree, SourceTree}
-use Rattle.fb_model.specs.Grammar.{IsConstant, negative, plain, with_type, time, yes, no, IsEvent, short, long, IsAction, runs, runs_and_emits, emits, IsState, bare, acting, IsCondition, always, on_event, IsTransition, a_transition, IsStates, some_states, IsTransitions, some_transitions, IsBlock, a_block, IsParameter, a_parameter, IsInstance, without, with_parameters, IsPort, own, inner, IsConnection, a_connection, IsResource, a_resource, IsDevice, a_device, IsSystem, a_system, IsFile, a_file}
-use Rattle.fb_read.specs.Reading.{syntax, next_is, after, items_at, list_at, closed_at, section_at}
+use Rattle.fb_model.specs.Grammar.{IsConstant, negative, plain, with_type, time, yes, no, IsEvent, short, long, IsAction, runs, runs_and_emits, emits, IsState, bare, acting, always, on_event, IsTransition, a_transition, IsStates, some_states, IsTransitions, some_transitions, IsBlock, a_block, IsParameter, a_parameter, IsInstance, without, with_parameters, IsPort, own, inner, IsConnection, a_connection, IsResource, a_resource, IsDevice, a_device, IsSystem, a_system, IsFile, a_file}
+use Rattle.fb_read.specs.Reading.{stuck, next_is, items_at, list_at, closed_at, section_at}
 use Rattle.fb_read.proofs.Readers.{Gets, Complete, never, gets_then}
-use Rattle.fb_read.proofs.Repetitions.{IsClosed, a_closed, section_avoids, many_complete, separated_complete, closed_complete, section_complete}
+use Rattle.fb_read.proofs.Repetitions.{a_closed, section_avoids, many_complete, separated_complete, closed_complete, section_complete}
 use Rattle.fb_text.specs.Reading.{constant_at, event_at, output_at, emitting_at, running_at, action_at, actions_at, state_at, condition_at, transition_at, states_at, transitions_at, block_at, parameter_at, parameters_at, instance_at, second_at, port_at, connection_at, resource_at, device_at, system_at, file_at, whole_at}
 use Rattle.fb_text.proofs.Shorter.{event_shorter, event_avoids, action_shorter, state_shorter, state_avoids, transition_shorter, transition_avoids, block_shorter, block_avoids, parameter_shorter, instance_shorter, instance_avoids, connection_shorter, connection_avoids, resource_shorter, resource_avoids, device_shorter, device_avoids}
 
@@ -58,7 +57,7 @@ module _ (Deep : Type 0) where
   pub states_complete : Complete Deep never IsStates states_at
   unfolding states_at
   states_complete ts xs rest (some_states {ts = on} {mid = mid} {x = x} p q) st =
-      subst (λ b. Gets Deep (cond b (Err syntax) (closed_at m.EndStates state_at on)) (xs, rest)) (sym (state_avoids on x mid p))
+      subst (λ b. Gets Deep (cond b (stuck on) (closed_at m.EndStates state_at on)) (xs, rest)) (sym (state_avoids on x mid p))
       (closed_complete Deep IsState state_at state_shorter m.EndStates state_avoids state_complete refl on xs rest (a_closed (more p q)) refl)
 
   pub transitions_complete : Complete Deep never IsTransitions transitions_at

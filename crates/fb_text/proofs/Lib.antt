@@ -4,3 +4,4 @@ pub mod Shorter
 pub mod Complete
 pub mod Shallow
 pub mod Laws
+pub mod Steady

@@ -1,12 +1,12 @@
 -- Nothing that is read so far nests, so no reader is ever too deep.
-use Rattle.std.proofs.Common.{ℕ, Bool, true, false, cond, List, [], ◌∷◌, length, Option, None, Some, Result, Ok, Err}
-use Rattle.std.specs.Prelude.{◌==◌, codes}
+use Rattle.std.proofs.Common.{ℕ, List, [], ◌∷◌, length, Ok}
+use Rattle.std.specs.Prelude.{codes}
 use Rattle.std.specs.Str.{bytes_eq}
 use Rattle.fb_words.specs.declared.mark.Mark.{Mark}
 use Rattle.fb_words.specs.declared.mark.Mark.TheVariants as m
 use Rattle.fb_model.specs.Tokens.{Token, token, name, number, typed, duration, mark}
 use Rattle.fb_model.specs.Trees.{SourceTree}
-use Rattle.fb_read.specs.Reading.{syntax, ◌>>=◌, next_is, after, expect, name_at, items_at, list_at, closed_at, section_at}
+use Rattle.fb_read.specs.Reading.{stuck, next_is, after, expect, name_at, items_at, list_at, closed_at, section_at}
 use Rattle.fb_read.proofs.Readers.{NotDeep, Shallow, shallow_then, shallow_if, shallow_expect, shallow_name}
 use Rattle.fb_read.proofs.Repetitions.{many_shallow, separated_shallow, closed_shallow, section_shallow}
 use Rattle.fb_text.specs.Reading.{negative_at, marked_at, constant_at, word_at, kind_at, event_at, output_at, emitting_at, running_at, action_at, actions_at, state_at, is_always, condition_at, transition_at, states_at, transitions_at, block_at, parameter_at, parameters_at, instance_at, second_at, port_at, connection_at, resource_at, device_at, system_at, file_at, ended, whole_at}
@@ -40,7 +40,7 @@ constant_shallow (token (mark k) s e ∷ ts) = marked_shallow k s ts
 
 word_shallow : (text : List ℕ) (ts : List Token) → NotDeep (word_at text ts)
 word_shallow text [] = tt
-word_shallow text (token (name x) s e ∷ ts) = shallow_if (bytes_eq x text) (Ok ts) (Err syntax) tt tt
+word_shallow text (token (name x) s e ∷ ts) = shallow_if (bytes_eq x text) (Ok ts) (stuck (token (name x) s e ∷ ts)) tt tt
 word_shallow text (token (number n) s e ∷ ts) = tt
 word_shallow text (token (typed t b n) s e ∷ ts) = tt
 word_shallow text (token (duration b n) s e ∷ ts) = tt

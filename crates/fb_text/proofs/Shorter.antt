@@ -1,10 +1,8 @@
 -- Each production takes tokens, and begins with marks of its own.
-use Rattle.std.proofs.Common.{◌≡◌, ◌<◌, ◌≤◌, Bool, false, List, ◌∷◌, length, refl, arith}
-use Rattle.fb_words.specs.declared.mark.Mark.{Mark}
+use Rattle.std.proofs.Common.{refl, arith}
 use Rattle.fb_words.specs.declared.mark.Mark.TheVariants as m
-use Rattle.fb_model.specs.Tokens.{Token}
 use Rattle.fb_model.specs.Productions.{a_name}
-use Rattle.fb_model.specs.Grammar.{IsConstant, negative, plain, with_type, time, yes, no, IsEvent, short, long, IsAction, runs, runs_and_emits, emits, IsState, bare, acting, IsCondition, always, on_event, IsTransition, a_transition, IsStates, some_states, IsTransitions, some_transitions, IsBlock, a_block, IsParameter, a_parameter, IsInstance, without, with_parameters, IsPort, own, inner, IsConnection, a_connection, IsResource, a_resource, IsDevice, a_device}
+use Rattle.fb_model.specs.Grammar.{IsConstant, negative, plain, with_type, time, yes, no, IsEvent, short, long, IsAction, runs, runs_and_emits, emits, IsState, bare, acting, always, on_event, IsTransition, a_transition, IsStates, some_states, IsTransitions, some_transitions, IsBlock, a_block, IsParameter, a_parameter, IsInstance, without, with_parameters, own, inner, IsConnection, a_connection, IsResource, a_resource, IsDevice, a_device}
 use Rattle.fb_read.proofs.Readers.{Shorter, Avoids}
 use Rattle.fb_read.proofs.Repetitions.{many_shrinks, separated_shorter, section_shrinks}
 

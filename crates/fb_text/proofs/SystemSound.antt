@@ -1,13 +1,12 @@
 -- What is read of systems and whole texts is in the grammar.
-use Rattle.std.proofs.Common.{◌≡◌, ℕ, Bool, true, false, cond, List, [], ◌∷◌, length, Option, Some, None, Result, Ok, Err, refl, sym, subst}
-use Rattle.fb_words.specs.declared.mark.Mark.{Mark}
+use Rattle.std.proofs.Common.{◌≡◌, ℕ, List, [], ◌∷◌, length, Option, Result, Ok, Err, refl, sym, subst}
 use Rattle.fb_words.specs.declared.mark.Mark.TheVariants as m
 use Rattle.fb_model.specs.Tokens.{Token, token, mark}
 use Rattle.fb_model.specs.Productions.{Word, IsName, IsMany, IsSeparated, IsSection}
-use Rattle.fb_model.specs.Trees.{Constant, BlockTree, ParameterTree, InstanceTree, PortTree, ConnectionTree, ResourceTree, DeviceTree, SystemTree, SourceTree}
+use Rattle.fb_model.specs.Trees.{Constant, BlockTree, ParameterTree, PortTree, ResourceTree, DeviceTree, SystemTree, SourceTree}
 use Rattle.fb_model.specs.Grammar.{IsConstant, IsBlock, IsParameter, a_parameter, IsInstance, without, with_parameters, IsPort, own, inner, IsConnection, a_connection, IsResource, a_resource, IsDevice, a_device, IsSystem, a_system, IsFile, a_file}
-use Rattle.fb_read.specs.Reading.{Wrong, Answer, Read, ◌>>=◌, after, expect, place_at, name_at, items_at, list_at, closed_at, section_at}
-use Rattle.fb_read.proofs.Readers.{Meets, Sound, meets_then, meets_as, expect_then, opens, may_open, name_sound}
+use Rattle.fb_read.specs.Reading.{Wrong, Answer, ◌>>=◌, after, place_at, name_at, items_at, list_at, closed_at, section_at}
+use Rattle.fb_read.proofs.Readers.{Meets, Sound, meets_then, expect_then, opens, may_open, name_sound}
 use Rattle.fb_read.proofs.Repetitions.{IsClosed, a_closed, IsOptional, missing, given, many_sound, separated_sound, closed_sound, section_sound, optional_sound}
 use Rattle.fb_text.specs.Reading.{constant_at, block_at, parameter_at, parameters_at, instance_at, second_at, port_at, connection_at, resource_at, device_at, system_at, file_at, ended, whole_at}
 use Rattle.fb_text.proofs.BlockSound.{constant_sound, block_sound}

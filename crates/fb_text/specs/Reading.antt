@@ -1,30 +1,30 @@
 -- Reading texts from left to right, production by production.
-use Rattle.std.specs.Prelude.{ℕ, List, [], ◌∷◌, Bool, true, false, ◌==◌, Option, None, Some, Result, Ok, Err, if◌then◌else◌, codes}
+use Rattle.std.specs.Prelude.{ℕ, ◌+◌, List, [], ◌∷◌, length, Bool, true, false, ◌==◌, Option, None, Some, Result, Ok, Err, if◌then◌else◌, codes}
 use Rattle.std.specs.Str.{bytes_eq}
 use Rattle.fb_words.specs.declared.mark.Mark.{Mark}
 use Rattle.fb_words.specs.declared.mark.Mark.TheVariants as m
 use Rattle.fb_model.specs.Tokens.{Token, token, name, number, typed, duration, mark}
 use Rattle.fb_model.specs.Productions.{Word}
-use Rattle.fb_model.specs.Trees.{Literal, Whole, Typed, Duration, Truth, Constant, EventTree, ActionTree, StateTree, TransitionTree, BlockTree, ParameterTree, InstanceTree, PortTree, ConnectionTree, ResourceTree, DeviceTree, SystemTree, SourceTree}
-use Rattle.fb_read.specs.Reading.{Wrong, syntax, Read, ◌>>=◌, next_is, after, expect, place_at, name_at, items_at, list_at, closed_at, section_at}
+use Rattle.fb_model.specs.Trees.{Whole, Typed, Duration, Truth, Constant, EventTree, ActionTree, StateTree, TransitionTree, BlockTree, ParameterTree, InstanceTree, PortTree, ConnectionTree, ResourceTree, DeviceTree, SystemTree, SourceTree}
+use Rattle.fb_read.specs.Reading.{Wrong, syntax, stuck, Read, ◌>>=◌, next_is, after, expect, place_at, name_at, items_at, list_at, closed_at, section_at}
 
 -- ---- constants
 
 -- the number behind a `-`
 abbrev pub negative_at : Read Constant
-negative_at [] = Err syntax
+negative_at [] = stuck []
 negative_at (token (number n) s e ∷ ts) = Ok (record { value = Whole true n; at = s }, ts)
-negative_at (token other s e ∷ ts) = Err syntax
+negative_at (token other s e ∷ ts) = stuck (token other s e ∷ ts)
 
 abbrev pub marked_at : Mark → ℕ → Read Constant
 marked_at m.Minus s ts = negative_at ts
 marked_at m.True s ts = Ok (record { value = Truth true; at = s }, ts)
 marked_at m.False s ts = Ok (record { value = Truth false; at = s }, ts)
-marked_at other s ts = Err syntax
+marked_at other s ts = Err (syntax (length ts + 1))
 
 unfoldable pub constant_at : Read Constant
-constant_at [] = Err syntax
-constant_at (token (name x) s e ∷ ts) = Err syntax
+constant_at [] = stuck []
+constant_at (token (name x) s e ∷ ts) = stuck (token (name x) s e ∷ ts)
 constant_at (token (number n) s e ∷ ts) = Ok (record { value = Whole false n; at = s }, ts)
 constant_at (token (typed t b n) s e ∷ ts) = Ok (record { value = Typed t b n; at = s }, ts)
 constant_at (token (duration b n) s e ∷ ts) = Ok (record { value = Duration b n; at = s }, ts)
@@ -34,9 +34,9 @@ constant_at (token (mark k) s e ∷ ts) = marked_at k s ts
 
 -- the name of these characters
 abbrev pub word_at : List ℕ → List Token → Result (List Token) Wrong
-word_at text [] = Err syntax
-word_at text (token (name x) s e ∷ ts) = if bytes_eq x text then Ok ts else Err syntax
-word_at text (token other s e ∷ ts) = Err syntax
+word_at text [] = stuck []
+word_at text (token (name x) s e ∷ ts) = if bytes_eq x text then Ok ts else stuck (token (name x) s e ∷ ts)
+word_at text (token other s e ∷ ts) = stuck (token other s e ∷ ts)
 
 -- [':' EVENT]
 abbrev pub kind_at : List Token → Result (List Token) Wrong
@@ -98,7 +98,7 @@ transition_at ts = do
 unfoldable pub states_at : Read (List StateTree)
 states_at ts = do
   rest ← expect m.EcStates ts
-  if next_is m.EndStates rest then Err syntax else closed_at m.EndStates state_at rest
+  if next_is m.EndStates rest then stuck rest else closed_at m.EndStates state_at rest
 
 unfoldable pub transitions_at : Read (List TransitionTree)
 transitions_at ts = do
@@ -190,7 +190,7 @@ file_at ts = do
 
 abbrev pub ended : {A : Type 0} → A → List Token → Result A Wrong
 ended x [] = Ok x
-ended x (t ∷ ts) = Err syntax
+ended x (t ∷ ts) = stuck (t ∷ ts)
 
 -- all of the tokens
 unfoldable pub whole_at : List Token → Result SourceTree Wrong

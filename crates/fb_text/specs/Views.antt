@@ -1,5 +1,5 @@
 -- What source trees are, without where they lie in memory.
-use Rattle.std.specs.Prelude.{List, map}
+use Rattle.std.specs.Prelude.{map}
 use Rattle.fb_read.specs.Answers.{word_of, optional}
 use Rattle.fb_text.specs.declared.tree.Literal.{Literal}
 use Rattle.fb_text.specs.declared.tree.Literal.TheVariants as l

@@ -5,7 +5,7 @@ ghost use Rattle.fb_lex.specs.Views.{tokens_of};
 ghost use Rattle.fb_read.specs.Answers.{Gives};
 ghost use Rattle.fb_text.specs.Views.{source_of};
 ghost use Rattle.fb_text.specs.Reading.{file_at, whole_at};
-ghost use Rattle.fb_text.specs.Answers.{Reads, ReadsText, IsSource, FindsTree, IfSyntax, IsNotDeep, IsNoSource};
+ghost use Rattle.fb_text.specs.Answers.{Reads, ReadsText, IsSource, FindsTree, IfSyntax, SyntaxAt, SyntaxIn, IsNotDeep, IsNoSource};
 ghost use Rattle.fb_model.specs.Tokens as book;
 ghost use Rattle.fb_model.specs.Trees.{SourceTree};
 ghost use Rattle.fb_model.specs.Grammar.{IsFile};
@@ -43,10 +43,11 @@ fn whole(alloc: Global, tokens: &[Token]) -> Result<Source, Stop>
 ///
 /// A `Syntax` names the first token that cannot stand there, or the text's length where the tokens end too soon.
 pub fn parse_tokens(alloc: Global, tokens: &[Token], length: usize) -> Result<Source, TextFault>
-    ensures reads { Reads result (whole_at (tokens_of tokens.now)) }
+    ensures reads { Reads length (tokens_of tokens.now) result }
     ensures found { IfOk result (λ source. IsFile (tokens_of tokens.now) (source_of source)) }
     ensures only { (x : SourceTree) → IsFile (tokens_of tokens.now) x → FindsTree result x }
     ensures syntax { IfSyntax result ((x : SourceTree) → IsFile (tokens_of tokens.now) x → ⊥) }
+    ensures place { SyntaxAt length (tokens_of tokens.now) result }
     ensures shallow { IsNotDeep result }
 {
     match whole(alloc, tokens) {
@@ -64,6 +65,7 @@ pub fn parse(alloc: Global, text: &str) -> Result<Source, TextFault>
     ensures found { IfOk result (λ source. IsSource text.now (source_of source)) }
     ensures only { (x : SourceTree) → IsSource text.now x → length text.now ≤ 1048576 → FindsTree result x }
     ensures syntax { IfSyntax result (IsNoSource text.now) }
+    ensures place { SyntaxIn text.now result }
     ensures shallow { IsNotDeep result }
 {
     let tokens = lex(alloc, text)?;

@@ -1,8 +1,8 @@
-use Rattle.std.proofs.Common.{◌≡◌, ◌<◌, ◌≤◌, ◌++◌, ◌∷◌, [], length, map, sym, ◌∙◌, arith}
+use Rattle.std.proofs.Common.{◌≡◌, ◌<◌, ◌≤◌, ◌++◌, ◌∷◌, [], length, map, Err, sym, ap, ◌∙◌, arith}
 use Rattle.std.proofs.lemmas.Result.{err_from_is_err_and}
 use Rattle.std.proofs.lemmas.List.{map_push, length-map}
 use Rattle.fb_lex.specs.Views.{token_of, tokens_of}
-use Rattle.fb_read.specs.Reading.{items_at}
+use Rattle.fb_read.specs.Reading.{syntax, items_at}
 use Rattle.fb_read.proofs.Lists.{many_goes_on, many_fails, many_stops, many_done}
 use Rattle.fb_read.proofs.items.many.Goals as goal
 
@@ -35,4 +35,4 @@ returns g c =
     let i = g.I.Item in
     let ts = tokens_of c.args.tokens.now in
     let past : length ts ≤ c.loop.counter = omega (arith, length-map c.args.tokens.now token_of) in
-    many_done c.args.close i.reads (map i.view c.loop.items.items) (length ts) c.loop.counter (tokens_of c.loop.rest.now) (items_at c.args.close i.reads ts) c.loop.invariant past
+    many_done c.args.close i.reads (map i.view c.loop.items.items) (length ts) c.loop.counter (tokens_of c.loop.rest.now) (items_at c.args.close i.reads ts) c.loop.invariant past ∙ ap (λ n. Err (syntax n)) (length-map c.loop.rest.now token_of)

@@ -1,8 +1,8 @@
-use Rattle.std.proofs.Common.{◌≡◌, ◌<◌, ◌≤◌, ◌++◌, ◌∷◌, [], length, map, sym, ◌∙◌, arith}
+use Rattle.std.proofs.Common.{◌≡◌, ◌<◌, ◌≤◌, ◌++◌, ◌∷◌, [], length, map, Err, sym, ap, ◌∙◌, arith}
 use Rattle.std.proofs.lemmas.Result.{err_from_is_err_and}
 use Rattle.std.proofs.lemmas.List.{map_push, length-map}
 use Rattle.fb_lex.specs.Views.{token_of, tokens_of}
-use Rattle.fb_read.specs.Reading.{list_at}
+use Rattle.fb_read.specs.Reading.{syntax, list_at}
 use Rattle.fb_read.proofs.Lists.{separated_goes_on, separated_stops, separated_fails, separated_done}
 use Rattle.fb_read.proofs.Fronts.{skipped}
 use Rattle.fb_read.proofs.items.separated.Goals as goal
@@ -39,4 +39,4 @@ returns g c =
     let i = g.I.Item in
     let ts = tokens_of c.args.tokens.now in
     let past : length ts ≤ c.loop.counter = omega (arith, length-map c.args.tokens.now token_of) in
-    separated_done c.args.separator i.reads (map i.view c.loop.items.items) (length ts) c.loop.counter (tokens_of c.loop.rest.now) (list_at c.args.separator i.reads ts) c.loop.invariant past
+    separated_done c.args.separator i.reads (map i.view c.loop.items.items) (length ts) c.loop.counter (tokens_of c.loop.rest.now) (list_at c.args.separator i.reads ts) c.loop.invariant past ∙ ap (λ n. Err (syntax n)) (length-map c.loop.rest.now token_of)
