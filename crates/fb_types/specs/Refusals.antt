@@ -1,13 +1,14 @@
 -- What a refusal says of the source: this project's profile, for names and limits of IEC 61499-1 edition 2, 5.2 and 5.3.
 -- Each says what is at fault and where it stands. Memory that ran out says nothing.
-use Rattle.std.specs.Prelude.{ℕ, ◌≡◌, List, [], ◌∷◌, ◌++◌, Option, None, Some, true, false, map, slice_get, if◌then◌else◌}
+use Rattle.std.specs.Prelude.{ℕ, ◌≡◌, List, [], ◌∷◌, ◌++◌, Option, None, Some, true, false, map, slice_get, nat_eq, if◌then◌else◌}
 use Rattle.fb_model.specs.Names.{Name, is_in}
 use Rattle.fb_model.specs.Productions.{Word}
 use Rattle.fb_model.specs.Trees.{ActionTree, TransitionTree, BlockTree}
-use Rattle.fb_model.specs.Typing.{service_names, most_ports, most_states, most_transitions, event_texts, state_texts}
-use Rattle.std.specs.List.{Any}
+use Rattle.fb_model.specs.Typing.{service_names, most_ports, most_states, most_transitions, event_texts, state_texts, body_numbers}
+use Rattle.fb_model.specs.System.{Body}
+use Rattle.std.specs.List.{Any, list_any}
 use Rattle.fb_types.specs.declared.fault.TypeFault.{TypeFault}
-use Rattle.fb_types.specs.declared.fault.TypeFault.TheVariants.{OutOfMemory, UnknownName, DuplicateName, Limit}
+use Rattle.fb_types.specs.declared.fault.TypeFault.TheVariants.{OutOfMemory, UnknownName, DuplicateName, BadService, Limit}
 
 -- the place of the first name that is among those before it
 abbrev pub repeated : List Name → List Word → Option ℕ
@@ -62,3 +63,9 @@ pub data IsBlockFault (b : BlockTree) (f : TypeFault) : Type 0 where
   repeated_state : IsRepetition [] (map (λ s. s.name) b.states) f → IsBlockFault b f
   faulty_action : Any (λ s. Any (λ a. IsActionFault (event_texts b.event_outputs) a f) s.actions) b.states → IsBlockFault b f
   faulty_transition : Any (λ t. IsTransitionFault (state_texts b.states) (event_texts b.event_inputs) t f) b.transitions → IsBlockFault b f
+
+-- the number of an INPUT is among those before it, at the name of its instance
+abbrev pub IsTaken : List ℕ → Body → ℕ → TypeFault → Type 0
+IsTaken taken body at OutOfMemory = Unit {0}
+IsTaken taken body at (BadService place) = (n : ℕ) × (body_numbers body ≡ n ∷ []) × (list_any (nat_eq n) taken ≡ true) × (place ≡ at)
+IsTaken taken body at f = ⊥
