@@ -147,7 +147,12 @@ fn resources(
 }
 
 // A device: its resources, and no two INPUT instances of one number.
-fn device(alloc: Global, names: &IndexSet<String>, blocks: &[Rc<Block>], tree: &DeviceTree) -> Result<Device, TypeFault>
+fn device(
+    alloc: Global,
+    names: &IndexSet<String>,
+    blocks: &[Rc<Block>],
+    tree: &DeviceTree,
+) -> Result<Device, TypeFault>
     ensures { (sources : List book.BlockTree) → Declares sources (names_of names.now) blocks.now → IfOk result (λ d. IsDevice sources (trees_of.device_of tree.now) (device_of d)) }
 {
     at_most(&tree.resources, RESOURCES)?;

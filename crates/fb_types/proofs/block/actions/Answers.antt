@@ -1,6 +1,5 @@
 use Rattle.std.proofs.lemmas.Result.{err_from_is_err_and}
-use Rattle.std.proofs.Common.{◌≡◌, ◌⊎◌, inl, inr}
-use Rattle.std.specs.List.{Any}
+use Rattle.std.proofs.Common.{inr}
 use Rattle.fb_text.specs.Views as tree
 use Rattle.fb_types.specs.Refusals.{IsActionFault}
 use Rattle.fb_types.specs.Views.{names_of}

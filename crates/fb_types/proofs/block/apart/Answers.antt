@@ -1,8 +1,7 @@
-use Rattle.std.proofs.Common.{◌≡◌, [], map, OnOk, sym, subst, inl, inr, ◌∙◌}
+use Rattle.std.proofs.Common.{[], map, sym, subst, inl, inr}
 use Rattle.std.proofs.lemmas.Result.{IfErr-weaker}
 use Rattle.fb_types.specs.Refusals.{IsRepetition}
 use Rattle.std.proofs.lemmas.Result.{err_from_is_err_and}
-use Rattle.fb_model.specs.Names.{Name}
 use Rattle.fb_model.specs.Typing.{AreNew, event_texts}
 use Rattle.fb_text.specs.Views as tree
 use Rattle.fb_types.proofs.Lists.{map_map, new_append, on_ok}

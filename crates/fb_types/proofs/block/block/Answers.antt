@@ -1,8 +1,6 @@
-use Rattle.std.proofs.Common.{◌≡◌, ◌≤◌, ◌++◌, false, true, sym, ap, ◌∙◌, subst, map, length, string_bytes}
-use Rattle.std.specs.List.{AllByRecursion}
-use Rattle.fb_model.specs.Names.{Name, is_in}
-use Rattle.fb_model.specs.Trees.{StateTree, TransitionTree}
-use Rattle.fb_model.specs.Typing.{IsActionTyped, IsTransitionTyped, typed_event, typed_state, typed_transition, service_names, AreDistinct, event_texts, state_texts}
+use Rattle.std.proofs.Common.{◌≡◌, false, sym, ap, ◌∙◌, subst, map, string_bytes}
+use Rattle.fb_model.specs.Names.{is_in}
+use Rattle.fb_model.specs.Typing.{typed_event, typed_state, typed_transition, service_names}
 use Rattle.fb_text.specs.Views as tree
 use Rattle.fb_types.specs.Views.{event_of, state_of, transition_of}
 use Rattle.fb_types.proofs.Lists.{same_length, as_events, map_map, same_block}

@@ -1,4 +1,4 @@
-use Rattle.std.proofs.Common.{◌≡◌, sym, subst}
+use Rattle.std.proofs.Common.{sym, subst}
 use Rattle.std.proofs.lemmas.Result.{IfErr-weaker}
 use Rattle.fb_text.specs.Views as tree
 use Rattle.fb_types.specs.Refusals.{IsBlockFault, excess_input, excess_output, excess_state, excess_transition, IsExcess}

@@ -1,4 +1,3 @@
-use Rattle.std.proofs.Common.{refl}
 use Rattle.fb_types.proofs.Refused.{read_at}
 use Rattle.fb_types.proofs.names.at_most.Goals as goal
 
