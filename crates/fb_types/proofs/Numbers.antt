@@ -1,5 +1,5 @@
 -- Whole numbers of literals.
-use Rattle.std.proofs.Common.{◌≡◌, ℕ, zero, suc, ◌≤◌, ◌<◌, Bool, true, false, Option, Some, None, refl, sym, subst, ◌∙◌, ap, arith, pos, negsuc, ◌≤ℤ◌, IfSome}
+use Rattle.std.proofs.Common.{◌≡◌, ℕ, ◌≤◌, Bool, true, false, Option, Some, None, refl, sym, subst, arith, pos, IfSome}
 use Rattle.std.specs.Prelude.{int_le, nat_le}
 use Rattle.std.proofs.lemmas.Bool.{le-leb}
 use Rattle.fb_words.specs.declared.elem_type.ElemType.{ElemType}

@@ -1,5 +1,5 @@
 -- The place of a name in a list, and what stands at that place of another.
-use Rattle.std.proofs.Common.{◌≡◌, ℕ, zero, suc, ◌+◌, ◌<◌, ◌≤◌, List, [], ◌∷◌, Bool, true, false, not, cond, map, length, get_or, Option, Some, None, option_map, refl, sym, ap, subst, ◌∙◌, arith, position, IfSome, string_bytes}
+use Rattle.std.proofs.Common.{◌≡◌, ℕ, zero, suc, ◌+◌, ◌<◌, List, [], ◌∷◌, Bool, true, false, not, cond, map, length, get_or, Option, Some, None, option_map, refl, sym, ap, subst, ◌∙◌, arith, position, IfSome, string_bytes}
 use Rattle.std.specs.Prelude.{nat_lt, MatchOption}
 use Rattle.std.specs.List.{prefix_len}
 use Rattle.std.specs.Str.{bytes_eq}

@@ -1,11 +1,14 @@
 -- What a refusal says of the source: this project's profile, for names and limits of IEC 61499-1 edition 2, 5.2 and 5.3.
 -- Each says what is at fault and where it stands. Memory that ran out says nothing.
-use Rattle.std.specs.Prelude.{ℕ, ◌≡◌, List, [], ◌∷◌, ◌++◌, Option, None, Some, true, false, slice_get, if◌then◌else◌}
+use Rattle.std.specs.Prelude.{ℕ, ◌≡◌, List, [], ◌∷◌, ◌++◌, Option, None, Some, true, false, map, slice_get, nat_eq, if◌then◌else◌}
 use Rattle.fb_model.specs.Names.{Name, is_in}
 use Rattle.fb_model.specs.Productions.{Word}
-use Rattle.fb_model.specs.Trees.{ActionTree, TransitionTree}
+use Rattle.fb_model.specs.Trees.{ActionTree, TransitionTree, BlockTree}
+use Rattle.fb_model.specs.Typing.{service_names, most_ports, most_states, most_transitions, event_texts, state_texts, body_numbers}
+use Rattle.fb_model.specs.System.{Body}
+use Rattle.std.specs.List.{Any, list_any}
 use Rattle.fb_types.specs.declared.fault.TypeFault.{TypeFault}
-use Rattle.fb_types.specs.declared.fault.TypeFault.TheVariants.{OutOfMemory, UnknownName, DuplicateName, Limit}
+use Rattle.fb_types.specs.declared.fault.TypeFault.TheVariants.{OutOfMemory, UnknownName, DuplicateName, BadService, Limit}
 
 -- the place of the first name that is among those before it
 abbrev pub repeated : List Name → List Word → Option ℕ
@@ -35,13 +38,34 @@ IsUnknownIfSome names (Some w) f = IsUnknown names w f
 
 -- what is at fault in an action
 pub data IsActionFault (outputs : List Name) (a : ActionTree) (f : TypeFault) : Type 0 where
-  no_memory : f ≡ OutOfMemory → IsActionFault outputs a f
+  no_memory_for_action : f ≡ OutOfMemory → IsActionFault outputs a f
   unknown_algorithm : IsUnknownIfSome [] a.algorithm f → IsActionFault outputs a f
   unknown_output : IsUnknownIfSome outputs a.output f → IsActionFault outputs a f
 
 -- what is at fault in a transition
 pub data IsTransitionFault (states inputs : List Name) (t : TransitionTree) (f : TypeFault) : Type 0 where
-  no_memory : f ≡ OutOfMemory → IsTransitionFault states inputs t f
+  no_memory_for_transition : f ≡ OutOfMemory → IsTransitionFault states inputs t f
   unknown_source : IsUnknown states t.source f → IsTransitionFault states inputs t f
   unknown_target : IsUnknown states t.target f → IsTransitionFault states inputs t f
   unknown_event : IsUnknownIfSome inputs t.event f → IsTransitionFault states inputs t f
+
+-- what is at fault in a basic block. Its events share one name space, its states another
+pub data IsBlockFault (b : BlockTree) (f : TypeFault) : Type 0 where
+  no_memory_for_block : f ≡ OutOfMemory → IsBlockFault b f
+  name_of_a_service : is_in b.name.text service_names ≡ true → f ≡ DuplicateName b.name.at → IsBlockFault b f
+  excess_input : IsExcess most_ports (map (λ e. e.name) b.event_inputs) f → IsBlockFault b f
+  excess_output : IsExcess most_ports (map (λ e. e.name) b.event_outputs) f → IsBlockFault b f
+  excess_state : IsExcess most_states (map (λ s. s.name) b.states) f → IsBlockFault b f
+  excess_transition : IsExcess most_transitions (map (λ t. t.source) b.transitions) f → IsBlockFault b f
+  repeated_input : IsRepetition [] (map (λ e. e.name) b.event_inputs) f → IsBlockFault b f
+  repeated_output : IsRepetition [] (map (λ e. e.name) b.event_outputs) f → IsBlockFault b f
+  output_named_as_an_input : IsRepetition (event_texts b.event_inputs) (map (λ e. e.name) b.event_outputs) f → IsBlockFault b f
+  repeated_state : IsRepetition [] (map (λ s. s.name) b.states) f → IsBlockFault b f
+  faulty_action : Any (λ s. Any (λ a. IsActionFault (event_texts b.event_outputs) a f) s.actions) b.states → IsBlockFault b f
+  faulty_transition : Any (λ t. IsTransitionFault (state_texts b.states) (event_texts b.event_inputs) t f) b.transitions → IsBlockFault b f
+
+-- the number of an INPUT is among those before it, at the name of its instance
+abbrev pub IsTaken : List ℕ → Body → ℕ → TypeFault → Type 0
+IsTaken taken body at OutOfMemory = Unit {0}
+IsTaken taken body at (BadService place) = (n : ℕ) × (body_numbers body ≡ n ∷ []) × (list_any (nat_eq n) taken ≡ true) × (place ≡ at)
+IsTaken taken body at f = ⊥

@@ -1,13 +1,14 @@
 //! Basic blocks.
 
-ghost use Rattle.std.specs.Prelude.{◌≡◌, ◌≤◌, ◌++◌, [], map, length, string_bytes, true, OnOk, IfOk, IfErr};
-ghost use Rattle.std.specs.List.{AllByRecursion};
+ghost use Rattle.std.specs.Prelude.{◌≡◌, ◌≤◌, ◌⊎◌, ◌++◌, [], map, length, string_bytes, true, OnOk, IfOk, IfErr};
+ghost use Rattle.std.specs.List.{AllByRecursion, Any};
 ghost use Rattle.fb_model.specs.Names.{is_in};
 ghost use Rattle.fb_model.specs.Typing.{AreDistinct, IsKnown, IsActionTyped, IsTransitionTyped, IsBlockTyped, typed_event, typed_action, typed_state, typed_transition, typed_block, event_texts, state_texts};
 ghost use Rattle.fb_read.specs.Answers.{word_of};
 ghost use Rattle.fb_read.specs.Answers as read;
 ghost use Rattle.fb_text.specs.Views as tree;
-ghost use Rattle.fb_types.specs.Refusals.{IsUnknown, IsUnknownIfSome, IsActionFault, IsTransitionFault};
+ghost use Rattle.fb_types.specs.Refusals.{IsUnknown, IsUnknownIfSome, IsRepetition, IsActionFault, IsTransitionFault, IsBlockFault};
+ghost use Rattle.fb_types.specs.declared.fault.TypeFault.TheVariants.{OutOfMemory};
 ghost use Rattle.fb_types.specs.Views.{names_of, name_of, event_of, action_of, state_of, transition_of, block_of};
 
 use crate::fault::TypeFault;
@@ -78,6 +79,7 @@ fn actions(
 ) -> Result<Vec<Action>, TypeFault>
     ensures typed { OnOk result (AllByRecursion (IsActionTyped (names_of outputs.now)) (map tree.action_of sources.now)) }
     ensures value { IfOk result (λ v. map action_of v.items ≡ map typed_action (map tree.action_of sources.now)) }
+    ensures refused { IfErr result (λ f. (f ≡ OutOfMemory) ⊎ Any (λ a. IsActionFault (names_of outputs.now) a f) (map tree.action_of sources.now)) }
 {
     let none = IndexSet::new(alloc);
     let mut actions = Vec::new(alloc);
@@ -91,6 +93,7 @@ fn actions(
 fn state(alloc: Global, outputs: &IndexSet<String>, source: &StateTree) -> Result<State, TypeFault>
     ensures typed { OnOk result (AllByRecursion (IsActionTyped (names_of outputs.now)) (tree.state_of source.now).actions) }
     ensures value { IfOk result (λ s. state_of s ≡ typed_state (tree.state_of source.now)) }
+    ensures refused { IfErr result (λ f. (f ≡ OutOfMemory) ⊎ Any (λ a. IsActionFault (names_of outputs.now) a f) (tree.state_of source.now).actions) }
 {
     let actions = actions(alloc, outputs, &source.actions)?;
     let name = source.name.text.clone()?;
@@ -105,6 +108,7 @@ fn states(
 ) -> Result<Vec<State>, TypeFault>
     ensures typed { OnOk result (AllByRecursion (λ s. AllByRecursion (IsActionTyped (names_of outputs.now)) s.actions) (map tree.state_of sources.now)) }
     ensures value { IfOk result (λ v. map state_of v.items ≡ map typed_state (map tree.state_of sources.now)) }
+    ensures refused { IfErr result (λ f. (f ≡ OutOfMemory) ⊎ Any (λ s. Any (λ a. IsActionFault (names_of outputs.now) a f) s.actions) (map tree.state_of sources.now)) }
 {
     let mut states = Vec::new(alloc);
     for source in sources {
@@ -142,6 +146,7 @@ fn transitions(
 ) -> Result<Vec<Transition>, TypeFault>
     ensures typed { OnOk result (AllByRecursion (IsTransitionTyped (names_of states.now) (names_of inputs.now)) (map tree.transition_of sources.now)) }
     ensures value { IfOk result (λ v. map transition_of v.items ≡ map typed_transition (map tree.transition_of sources.now)) }
+    ensures refused { IfErr result (λ f. (f ≡ OutOfMemory) ⊎ Any (λ t. IsTransitionFault (names_of states.now) (names_of inputs.now) t f) (map tree.transition_of sources.now)) }
 {
     let mut transitions = Vec::new(alloc);
     for source in sources {
@@ -156,6 +161,7 @@ fn limits(source: &BlockTree) -> Result<(), TypeFault>
     ensures few_outputs { OnOk result (length source.now.event_outputs.items ≤ PORTS) }
     ensures few_states { OnOk result (length source.now.states.items ≤ STATES) }
     ensures few_transitions { OnOk result (length source.now.transitions.items ≤ TRANSITIONS) }
+    ensures refused { IfErr result (IsBlockFault (tree.block_of source.now)) }
 {
     at_most(&source.event_inputs, PORTS)?;
     at_most(&source.event_outputs, PORTS)?;
@@ -167,13 +173,15 @@ fn limits(source: &BlockTree) -> Result<(), TypeFault>
 fn event_table(alloc: Global, events: &[EventTree]) -> Result<IndexSet<String>, TypeFault>
     ensures distinct { OnOk result (AreDistinct (event_texts (map tree.event_of events.now))) }
     ensures names { IfOk result (λ t. names_of t ≡ event_texts (map tree.event_of events.now)) }
+    ensures refused { IfErr result (IsRepetition [] (map (λ e. e.name) (map tree.event_of events.now))) }
 {
     table(alloc, events)
 }
 
 // Refuses an output that has the name of an input.
 fn apart(alloc: Global, inputs: &[EventTree], outputs: &[EventTree]) -> Result<(), TypeFault>
-    ensures { OnOk result (AreDistinct (event_texts (map tree.event_of inputs.now) ++ event_texts (map tree.event_of outputs.now))) }
+    ensures distinct { OnOk result (AreDistinct (event_texts (map tree.event_of inputs.now) ++ event_texts (map tree.event_of outputs.now))) }
+    ensures refused { IfErr result (λ f. IsRepetition [] (map (λ e. e.name) (map tree.event_of inputs.now)) f ⊎ IsRepetition (event_texts (map tree.event_of inputs.now)) (map (λ e. e.name) (map tree.event_of outputs.now)) f) }
 {
     let mut both = event_table(alloc, inputs)?;
     declare(&mut both, outputs)
@@ -183,6 +191,7 @@ fn apart(alloc: Global, inputs: &[EventTree], outputs: &[EventTree]) -> Result<(
 fn state_table(alloc: Global, states: &[StateTree]) -> Result<IndexSet<String>, TypeFault>
     ensures distinct { OnOk result (AreDistinct (state_texts (map tree.state_of states.now))) }
     ensures names { IfOk result (λ t. names_of t ≡ state_texts (map tree.state_of states.now)) }
+    ensures refused { IfErr result (IsRepetition [] (map (λ s. s.name) (map tree.state_of states.now))) }
 {
     table(alloc, states)
 }
@@ -191,6 +200,7 @@ fn state_table(alloc: Global, states: &[StateTree]) -> Result<IndexSet<String>, 
 pub fn block(alloc: Global, source: &BlockTree) -> Result<Block, TypeFault>
     ensures typed { OnOk result (IsBlockTyped (tree.block_of source.now)) }
     ensures value { IfOk result (λ b. block_of b ≡ typed_block (tree.block_of source.now)) }
+    ensures refused { IfErr result (IsBlockFault (tree.block_of source.now)) }
 {
     if is_service(source.name.text.as_str()) {
         return Err(TypeFault::DuplicateName(source.name.at));

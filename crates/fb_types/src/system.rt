@@ -1,7 +1,9 @@
 //! Source trees to typed systems.
 
-ghost use Rattle.std.specs.Prelude.{◌≡◌, ◌≤◌, [], List, map, length, string_bytes, IfOk, OnOk};
-ghost use Rattle.std.specs.List.{AllByRecursion};
+ghost use Rattle.std.specs.Prelude.{◌≡◌, ◌≤◌, [], List, map, length, string_bytes, IfOk, IfErr, OnOk, ◌⊎◌};
+ghost use Rattle.std.specs.List.{AllByRecursion, Any};
+ghost use Rattle.fb_types.specs.Refusals.{IsBlockFault, IsTaken};
+ghost use Rattle.fb_types.specs.declared.fault.TypeFault.TheVariants.{OutOfMemory};
 ghost use Rattle.fb_model.specs.Trees as book;
 ghost use Rattle.fb_model.specs.Typing.{IsBlockTyped, AreInstances, AreResources, AreDevices, IsResource, IsDevice, IsBody, Elaborates, body_numbers, input_numbers, numbers_in, typed_block};
 ghost use Rattle.fb_text.specs.Views as trees_of;
@@ -33,6 +35,7 @@ pub const INSTANCES: usize = 1024;
 fn blocks(alloc: Global, sources: &[BlockTree]) -> Result<Vec<Rc<Block>>, TypeFault>
     ensures typed { OnOk result (AllByRecursion IsBlockTyped (map trees_of.block_of sources.now)) }
     ensures values { IfOk result (λ v. map (λ b. block_of b.value) v.items ≡ map typed_block (map trees_of.block_of sources.now)) }
+    ensures refused { IfErr result (λ f. (f ≡ OutOfMemory) ⊎ Any (λ b. IsBlockFault b f) (map trees_of.block_of sources.now)) }
 {
     let mut blocks = Vec::new(alloc);
     for source in sources {
@@ -43,14 +46,16 @@ fn blocks(alloc: Global, sources: &[BlockTree]) -> Result<Vec<Rc<Block>>, TypeFa
 
 // A block that instances share.
 fn shared(alloc: Global, block: Block) -> Result<Rc<Block>, TypeFault>
-    ensures { IfOk result (λ b. b.value ≡ block) }
+    ensures value { IfOk result (λ b. b.value ≡ block) }
+    ensures refused { IfErr result (λ f. f ≡ OutOfMemory) }
 {
     Ok(Rc::new(alloc, block)?)
 }
 
 // Adds the number of an INPUT, which has to be new. At a refusal `name` is the instance's.
 fn number(numbers: &mut IndexSet<u16>, body: &Body, name: &Name) -> Result<(), TypeFault>
-    ensures { OnOk result (Adds numbers.old.keys (body_numbers (body_of body.now)) numbers.new.keys) }
+    ensures added { OnOk result (Adds numbers.old.keys (body_numbers (body_of body.now)) numbers.new.keys) }
+    ensures refused { IfErr result (IsTaken numbers.old.keys (body_of body.now) name.now.at) }
 {
     match body {
         Body::Basic(_) => Ok(()),

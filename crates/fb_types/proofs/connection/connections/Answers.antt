@@ -1,6 +1,5 @@
-use Rattle.std.proofs.Common.{◌≡◌, ◌++◌, ◌∷◌, [], map, take, sym, ap, ◌∙◌, subst}
+use Rattle.std.proofs.Common.{◌≡◌, ◌++◌, ◌∷◌, [], map}
 use Rattle.std.proofs.lemmas.List.{map_push}
-use Rattle.fb_model.specs.Typing.{AreConnections}
 use Rattle.fb_text.specs.Views as trees_of
 use Rattle.fb_types.specs.Views.{instances_of, connection_of}
 use Rattle.fb_types.proofs.Lists.{more_connections, mapped_more}

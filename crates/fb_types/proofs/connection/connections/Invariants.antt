@@ -1,4 +1,4 @@
-use Rattle.std.proofs.Common.{◌≡◌, ◌++◌, map, take}
+use Rattle.std.proofs.Common.{map, take}
 use Rattle.fb_model.specs.Typing.{AreConnections}
 use Rattle.fb_text.specs.Views as trees_of
 use Rattle.fb_types.specs.Views.{names_of, instances_of, connection_of}

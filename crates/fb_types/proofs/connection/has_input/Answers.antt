@@ -1,5 +1,5 @@
-use Rattle.std.proofs.Common.{◌≡◌, ap, sym, ◌∙◌, map, string_bytes}
-use Rattle.fb_model.specs.Names.{Name, is_in}
+use Rattle.std.proofs.Common.{ap, sym, ◌∙◌}
+use Rattle.fb_model.specs.Names.{is_in}
 use Rattle.fb_model.specs.System.{Event}
 use Rattle.fb_model.specs.Typing.{event_inputs_of}
 use Rattle.fb_types.specs.declared.typed.Block.{Block}

@@ -1,4 +1,4 @@
-use Rattle.std.proofs.Common.{◌≡◌, ◌≤◌, sym, subst, pos, arith}
+use Rattle.std.proofs.Common.{sym, subst, pos, arith}
 use Rattle.fb_model.specs.Typing.{IsWhole}
 use Rattle.fb_text.specs.Views as tree
 use Rattle.fb_types.proofs.Numbers.{some_so, untyped_is, typed_is}

@@ -1,4 +1,3 @@
-use Rattle.std.proofs.Common.{◌≡◌, map}
 use Rattle.fb_text.specs.Views as trees_of
 use Rattle.fb_types.proofs.Lists.{map_map, same_length}
 use Rattle.fb_types.proofs.system.device.Goals as goal

@@ -1,6 +1,4 @@
-use Rattle.std.proofs.Common.{◌≡◌, ◌++◌, ◌∷◌, [], map, take}
 use Rattle.fb_text.specs.Views as trees_of
-use Rattle.fb_types.specs.Views.{instances_of}
 use Rattle.fb_types.proofs.Lists.{more_instances, mapped_more}
 use Rattle.fb_types.proofs.Taken.{adds_both, more_inputs}
 use Rattle.fb_types.proofs.system.instances.Goals as goal
