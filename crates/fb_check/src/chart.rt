@@ -166,7 +166,11 @@ fn free_next(states: &IndexSet<String>, charges: &[u64], transition: &Transition
 }
 
 // The greatest charge of a state that a free transition leads to.
-fn free_charge(states: &IndexSet<String>, charges: &[u64], transitions: &[Transition]) -> Option<u64>
+fn free_charge(
+    states: &IndexSet<String>,
+    charges: &[u64],
+    transitions: &[Transition],
+) -> Option<u64>
     ensures { result ≡ most_free (names_of states.now) charges.now None transitions.now }
 {
     let mut most = None;
