@@ -9,6 +9,7 @@ pub mod Language
 pub mod System
 pub mod Services
 pub mod Typing
+pub mod Plain
 pub mod Wires
 pub mod Store
 pub mod Charts
