@@ -1,18 +1,17 @@
 -- The definitions compute: worked examples, by their numbers.
-use Rattle.std.proofs.Common.{◌≡◌, ℕ, true, false, [], ◌∷◌, ◌++◌, List, map, Option, Some, None, refl, pos, length}
+use Rattle.std.proofs.Common.{◌≡◌, true, false, [], ◌∷◌, List, map, Some, None, refl, pos}
 use Rattle.std.specs.Prelude.{codes}
 use Rattle.fb_words.specs.declared.elem_type.ElemType.TheVariants as t
 use Rattle.fb_model.specs.Names.{Name, Path, Place, at_place}
-use Rattle.fb_model.specs.Tokens.{Token, token, name, number, mark}
-use Rattle.fb_model.specs.Spelling.{IsWhole, whole, digit, joined, no_more, IsNumber, based, decimal, binary, hexadecimal, IsSpan, more_parts, last_part, minutes, seconds, none, joint}
-use Rattle.fb_model.specs.Messages.{Message, To_channel, spelling}
-use Rattle.fb_model.specs.System.{Block, Input, Output, Restart, Connection, Face, Body, Basic, Served, Composite, nothing, instance, Device}
+use Rattle.fb_model.specs.Spelling.{whole, digit, joined, no_more, IsNumber, based, decimal, hexadecimal}
+use Rattle.fb_model.specs.Messages.{To_channel, spelling}
+use Rattle.fb_model.specs.System.{Block, Input, Connection, Basic, Served, nothing, instance, Device}
 use Rattle.fb_model.specs.Services.{ind, arrive}
 use Rattle.fb_model.specs.Wires.{Leaf, leaves}
-use Rattle.fb_model.specs.Certificates.{Certificate, steps_of, places_of, sent_weight, own, is_input, begin_places, depth_at}
+use Rattle.fb_model.specs.Certificates.{Certificate, steps_of, places_of, sent_weight, is_input, depth_at}
 use Rattle.fb_model.specs.CertificateText.{place_of, names_in}
 use Rattle.fb_model.specs.Devices.{held}
-use Rattle.fb_model.specs.Typing.{input_numbers, event_outputs_of, body_named}
+use Rattle.fb_model.specs.Typing.{input_numbers, event_outputs_of}
 
 -- ---- numbers
 

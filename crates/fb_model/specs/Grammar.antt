@@ -1,11 +1,10 @@
 -- The grammar of texts, one case a production. IEC 61499-1 edition 2, annex B (textual syntax), this project's profile.
 use Rattle.std.specs.Prelude.{ℕ, List, [], ◌∷◌, Bool, true, false, Option, None, Some, codes}
-use Rattle.fb_words.specs.declared.mark.Mark.{Mark}
 use Rattle.fb_words.specs.declared.mark.Mark.TheVariants as m
 use Rattle.fb_words.specs.declared.elem_type.ElemType.{ElemType}
 use Rattle.fb_model.specs.Tokens.{Token, token, name, number, typed, duration, mark}
-use Rattle.fb_model.specs.Productions.{Gram, Word, IsName, IsMany, IsSeparated, IsSection}
-use Rattle.fb_model.specs.Trees.{Literal, Whole, Typed, Duration, Truth, Constant, EventTree, ActionTree, StateTree, TransitionTree, BlockTree, ParameterTree, InstanceTree, PortTree, ConnectionTree, ResourceTree, DeviceTree, SystemTree, SourceTree}
+use Rattle.fb_model.specs.Productions.{Word, IsName, IsMany, IsSeparated, IsSection}
+use Rattle.fb_model.specs.Trees.{Whole, Typed, Duration, Truth, Constant, EventTree, ActionTree, StateTree, TransitionTree, BlockTree, ParameterTree, InstanceTree, PortTree, ConnectionTree, ResourceTree, DeviceTree, SystemTree, SourceTree}
 
 -- const = '-' untyped number | literal
 pub data IsConstant : List Token → Constant → List Token → Type 0 where

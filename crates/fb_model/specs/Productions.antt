@@ -1,6 +1,6 @@
 -- What productions of a grammar are made of. In each relation the first list is the tokens, and the second is what is left of them.
 -- The notation of IEC 61131-3 edition 3, annex A: sequence, option, repetition.
-use Rattle.std.specs.Prelude.{ℕ, List, [], ◌∷◌, Option, None, Some}
+use Rattle.std.specs.Prelude.{ℕ, List, [], ◌∷◌}
 use Rattle.fb_words.specs.declared.mark.Mark.{Mark}
 use Rattle.fb_model.specs.Tokens.{Token, token, name, mark}
 

@@ -1,6 +1,6 @@
 -- When a source tree is well typed, and the system that it elaborates to.
 -- IEC 61499-1 edition 2, 5.2 and 5.3 (basic and composite types) and 6.1 (service interfaces), this project's profile and its limits.
-use Rattle.std.specs.Prelude.{ℕ, ◌≡◌, ◌≤◌, ◌+◌, ℤ, pos, Bool, true, false, List, [], ◌∷◌, ◌++◌, map, length, nat_eq, Option, None, Some, codes, if◌then◌else◌}
+use Rattle.std.specs.Prelude.{ℕ, ◌≡◌, ◌≤◌, ℤ, pos, Bool, true, false, List, [], ◌∷◌, ◌++◌, map, length, nat_eq, Option, None, Some, codes, if◌then◌else◌}
 use Rattle.std.specs.List.{list_any, AllByRecursion}
 use Rattle.std.specs.Option.{option_map}
 use Rattle.std.specs.Str.{bytes_eq}
@@ -8,8 +8,8 @@ use Rattle.fb_words.specs.declared.elem_type.ElemType.{ElemType}
 use Rattle.fb_model.specs.Names.{Name, is_in}
 use Rattle.fb_model.specs.Values.{in_type, signed}
 use Rattle.fb_model.specs.Productions.{Word}
-use Rattle.fb_model.specs.Trees.{Literal, Whole, Typed, Duration, Truth, EventTree, ActionTree, StateTree, TransitionTree, BlockTree, ParameterTree, InstanceTree, PortTree, ConnectionTree, ResourceTree, DeviceTree, SystemTree, SourceTree}
-use Rattle.fb_model.specs.System.{Event, Action, State, Transition, Block, Service, Input, Output, Publish, Subscribe, Delay, Cycle, Restart, End, Connection, Body, Basic, Served, Composite, Instances, nothing, instance, Resource, Device, System}
+use Rattle.fb_model.specs.Trees.{Literal, Whole, Typed, EventTree, ActionTree, StateTree, TransitionTree, BlockTree, ParameterTree, InstanceTree, PortTree, ConnectionTree, ResourceTree, DeviceTree, SourceTree}
+use Rattle.fb_model.specs.System.{Event, Action, State, Transition, Block, Input, End, Connection, Body, Basic, Served, Composite, Instances, nothing, instance, Resource, Device, System}
 use Rattle.fb_model.specs.Services.{service_event_inputs, service_event_outputs}
 
 -- ---- names
