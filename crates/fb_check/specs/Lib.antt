@@ -3,3 +3,4 @@ pub mod Sums
 pub mod Columns
 pub mod Reckoning
 pub mod Verdicts
+pub mod Lookups

@@ -1,12 +1,13 @@
--- Each outcome accepts, or tells one fault.
-use Rattle.std.proofs.Common.{◌≡◌, ◌⊎◌, inl, inr, refl, List, ℕ, Option, Result, Ok, Err, IfOk}
+-- What is told of an outcome.
+use Rattle.std.proofs.Common.{◌≡◌, ℕ, List, Option, Result, Ok, Err, IfOk}
 use Rattle.fbr.specs.declared.fault.Fault.{Fault}
-use Rattle.fbr.specs.Outcomes.{Outcome, IsOutcome, outcome_said, Tells, TellsOne}
+use Rattle.fbr.specs.Outcomes.{outcome_said, Tells, TellsInput, TellsFiles, IsInputOutcome, IsFilesOutcome}
 
-pub is_outcome : {A : Type 0} (r : Result A Fault) → IsOutcome (outcome_said r)
-is_outcome (Ok a) = inl refl
-is_outcome (Err f) = inr (f, refl)
+pub tells_input : {E : Type 0} (held : Option (List ℕ)) (said : Result (Unit {0}) Fault) (old new : Option (List ℕ)) (r : Result ℕ E) → IsInputOutcome held said → IfOk r (λ status. Tells (outcome_said said) old new status) → IfOk r (λ status. TellsInput held old new status)
+tells_input held said old new (Ok status) is h = (said, is, h)
+tells_input held said old new (Err e) is h = tt
 
-pub tells_one : {A E : Type 0} (said : Result A Fault) (old new : Option (List ℕ)) (r : Result ℕ E) → IfOk r (λ status. Tells (outcome_said said) old new status) → IfOk r (λ status. TellsOne old new status)
-tells_one said old new (Ok status) h = (outcome_said said, is_outcome said, h)
-tells_one said old new (Err e) h = tt
+pub tells_files : {E : Type 0} (one two : List ℕ) (held_one held_two : Option (List ℕ)) (said : Result (Unit {0}) Fault) (old new : Option (List ℕ)) (r : Result ℕ E)
+    → IsFilesOutcome one two held_one held_two said → IfOk r (λ status. Tells (outcome_said said) old new status) → IfOk r (λ status. TellsFiles one two held_one held_two old new status)
+tells_files one two held_one held_two said old new (Ok status) is h = (said, is, h)
+tells_files one two held_one held_two said old new (Err e) is h = tt

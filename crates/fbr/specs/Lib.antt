@@ -1,3 +1,4 @@
 pub mod Statuses
 pub mod Halves
 pub mod Outcomes
+pub mod Program

@@ -1,7 +1,11 @@
 -- The line and the status of an outcome: this project's profile.
-use Rattle.std.specs.Prelude.{◌≡◌, ℕ, ◌⊎◌, List, [], ◌∷◌, ◌++◌, Option, Result, Ok, Err, codes}
+use Rattle.std.specs.Prelude.{◌≡◌, ◌≤◌, ℕ, true, ◌⊎◌, List, [], ◌∷◌, ◌++◌, length, Option, Some, None, Result, Ok, Err, codes}
 use Rattle.std.specs.Io.KnownBytes.{Appends}
+use Rattle.std.specs.Str.{is_utf8}
 use Rattle.fb_check.specs.Refusals as refusals
+use Rattle.fb_check.specs.Verdicts as verdicts
+use Rattle.fb_check.specs.declared.verified.Verified.{Verified}
+use Rattle.fbr.specs.Halves.{divide}
 use Rattle.fbr.specs.declared.fault.Fault.{Fault}
 use Rattle.fbr.specs.declared.fault.Fault.TheVariants.{Memory, Input, File, Usage, Refused}
 use Rattle.fbr.specs.Statuses.{status_of_code}
@@ -43,28 +47,57 @@ abbrev pub outcome_said : {A : Type 0} → Result A Fault → Outcome
 outcome_said (Ok a) = accepted
 outcome_said (Err f) = refusal f
 
--- the outcome accepts, or tells one fault
-abbrev pub IsOutcome : Outcome → Type 0
-IsOutcome o = (o ≡ accepted) ⊎ ((f : Fault) × (o ≡ refusal f))
-
 -- the writer took this line, and the program ends with its status
 abbrev pub Tells : Outcome → Option (List ℕ) → Option (List ℕ) → ℕ → Type 0
 Tells o old new status = (status ≡ o.status) × Appends old new (o.line ++ 10 ∷ [])
 
--- one outcome is told
-abbrev pub TellsOne : Option (List ℕ) → Option (List ℕ) → ℕ → Type 0
-TellsOne old new status = (o : Outcome) × IsOutcome o × Tells o old new status
+-- two texts are accepted only where what was verified is theirs, and a fault of a text is one that the text has
+abbrev pub IsVerdict : {A : Type 0} → List ℕ → List ℕ → Result A Fault → Type 0
+IsVerdict app cert (Ok a) = (v : Verified) × verdicts.IsOfTexts app cert v
+IsVerdict app cert (Err Memory) = Unit {0}
+IsVerdict app cert (Err (Refused refusal)) = verdicts.IsFaultOf app cert refusal
+IsVerdict app cert (Err other) = ⊥
 
--- which faults come of two texts, of standard input, and of two files
-abbrev pub IsOfTexts : Fault → Type 0
-IsOfTexts Memory = Unit {0}
-IsOfTexts (Refused refusal) = Unit {0}
-IsOfTexts other = ⊥
+-- bytes hold two texts: they are within the limit, and both halves are UTF-8
+abbrev pub HoldsTexts : List ℕ → Type 0
+HoldsTexts bytes = (length bytes ≤ 33554432) × ((is_utf8 (divide true bytes).0 ≡ true) × (is_utf8 (divide true bytes).1 ≡ true))
 
-abbrev pub IsOfInput : Fault → Type 0
-IsOfInput Input = Unit {0}
-IsOfInput other = IsOfTexts other
+-- the verdict over the bytes of standard input
+abbrev pub IsInputVerdict : {A : Type 0} → List ℕ → Result A Fault → Type 0
+IsInputVerdict bytes (Err Input) = HoldsTexts bytes → ⊥
+IsInputVerdict bytes (Err Memory) = Unit {0}
+IsInputVerdict bytes other = HoldsTexts bytes × IsVerdict (divide true bytes).0 (divide true bytes).1 other
 
-abbrev pub IsOfFiles : List ℕ → List ℕ → Fault → Type 0
-IsOfFiles one two (File name) = (name.now ≡ one) ⊎ (name.now ≡ two)
-IsOfFiles one two other = IsOfTexts other
+-- what is read, where that is known
+abbrev pub IsContents : Option (List ℕ) → List ℕ → Type 0
+IsContents (Some known) bytes = bytes ≡ known
+IsContents None bytes = Unit {0}
+
+-- a file that was not read or is no text, or want of memory
+abbrev pub IsReadFault : List ℕ → Fault → Type 0
+IsReadFault one Memory = Unit {0}
+IsReadFault one (File name) = name.now ≡ one
+IsReadFault one other = ⊥
+
+-- standard input was not read, or this is the verdict over what it held
+abbrev pub IsInputOutcome : {A : Type 0} → Option (List ℕ) → Result A Fault → Type 0
+IsInputOutcome held outcome = (outcome ≡ Err Input) ⊎ ((bytes : List ℕ) × IsContents held bytes × IsInputVerdict bytes outcome)
+
+-- one of two files was not read or is no text, or this is the verdict over what they held
+abbrev pub IsFilesOutcome : {A : Type 0} → List ℕ → List ℕ → Option (List ℕ) → Option (List ℕ) → Result A Fault → Type 0
+IsFilesOutcome one two held_one held_two (Err (File name)) = (name.now ≡ one) ⊎ (name.now ≡ two)
+IsFilesOutcome one two held_one held_two outcome =
+    (app : List ℕ) × (cert : List ℕ) × IsContents held_one app × IsContents held_two cert × IsVerdict app cert outcome
+
+-- the outcome over standard input is told, and nothing else
+abbrev pub TellsInput : Option (List ℕ) → Option (List ℕ) → Option (List ℕ) → ℕ → Type 0
+TellsInput held old new status = (outcome : Result (Unit {0}) Fault) × IsInputOutcome held outcome × Tells (outcome_said outcome) old new status
+
+-- the outcome over two files is told, and nothing else
+abbrev pub TellsFiles : List ℕ → List ℕ → Option (List ℕ) → Option (List ℕ) → Option (List ℕ) → Option (List ℕ) → ℕ → Type 0
+TellsFiles one two held_one held_two old new status =
+    (outcome : Result (Unit {0}) Fault) × IsFilesOutcome one two held_one held_two outcome × Tells (outcome_said outcome) old new status
+
+-- words are refused, for what they are or for want of memory, and nothing else is told
+abbrev pub TellsUsage : Option (List ℕ) → Option (List ℕ) → ℕ → Type 0
+TellsUsage old new status = Tells (refusal Usage) old new status ⊎ Tells (refusal Memory) old new status

@@ -1,9 +1,9 @@
 //! Reads an application and a certificate, and checks them.
 
-ghost use Rattle.std.specs.Prelude.{◌≡◌, ◌≤◌, ◌∷◌, [], ◌++◌, take, length, IfOk, IfErr, IfSome, option_map, MatchResult, true, false};
+ghost use Rattle.std.specs.Prelude.{◌≡◌, ◌≤◌, ◌∷◌, [], ◌++◌, take, length, IfOk, IfErr, IfSome, option_map, MatchResult, string_bytes, true, false};
 ghost use Rattle.std.specs.Str.{is_utf8};
 ghost use Rattle.fbr.specs.Halves.{fence, fence_here, divide};
-ghost use Rattle.fbr.specs.Outcomes.{Tells, TellsOne, outcome_said, IsOfTexts, IsOfInput, IsOfFiles};
+ghost use Rattle.fbr.specs.Outcomes.{Tells, TellsInput, TellsFiles, outcome_said, IsVerdict, IsReadFault, IsInputVerdict, IsInputOutcome, IsFilesOutcome, IsContents};
 
 use crate::fault::Fault;
 use crate::sources::{ReadFault, Sources};
@@ -78,7 +78,7 @@ fn as_text<'a, 'b>(bytes: &'a [u8]) -> Result<&'a str, Fault<'b>>
 
 // The verdict over two texts.
 fn check_texts<'a>(alloc: Global, app: &str, cert: &str) -> Result<(), Fault<'a>>
-    ensures { IfErr result IsOfTexts }
+    ensures { IsVerdict app.now cert.now result }
 {
     match check_text(alloc, app, cert) {
         Ok(_) => Ok(()),
@@ -107,20 +107,24 @@ pub fn print_outcome<W: Write>(outcome: Result<(), Fault<'_>>, output: &mut W) -
 
 // The verdict over the two halves of an input.
 fn check_bytes<'a>(alloc: Global, bytes: &[u8]) -> Result<(), Fault<'a>>
-    ensures { IfErr result IsOfInput }
+    ensures { IsInputVerdict bytes.now result }
 {
     if bytes.len() > LIMIT {
         return Err(Fault::Input);
     }
     let (app, cert) = halves(bytes);
-    let app = as_text(app)?;
-    let cert = as_text(cert)?;
-    check_texts(alloc, app, cert)
+    match as_text(app) {
+        Ok(app) => match as_text(cert) {
+            Ok(cert) => check_texts(alloc, app, cert),
+            Err(fault) => Err(fault),
+        },
+        Err(fault) => Err(fault),
+    }
 }
 
 // The verdict over what standard input holds.
 fn input_outcome<'a, I: Read>(alloc: Global, input: &mut I) -> Result<(), Fault<'a>>
-    ensures { IfErr result IsOfInput }
+    ensures { IsInputOutcome (I.remaining input.old) result }
 {
     match read_whole(alloc, input) {
         Ok(bytes) => check_bytes(alloc, &bytes),
@@ -135,7 +139,7 @@ pub fn check_input<I: Read, W: Write>(
     input: &mut I,
     output: &mut W,
 ) -> io::Result<u8>
-    ensures told { IfOk result (λ status. TellsOne (W.contents output.old) (W.contents output.new) status) }
+    ensures told { IfOk result (λ status. TellsInput (I.remaining input.old) (W.contents output.old) (W.contents output.new) status) }
     ensures status { IfOk result (λ status. status ≤ 4) }
 {
     let outcome = input_outcome(alloc, input);
@@ -144,7 +148,7 @@ pub fn check_input<I: Read, W: Write>(
 
 /// Reads a file that is a text.
 fn read_text<'a, S: Sources>(alloc: Global, files: &S, name: &'a str) -> Result<String, Fault<'a>>
-    ensures { IfErr result (IsOfFiles name.now name.now) }
+    ensures { MatchResult result (λ text. IsContents (S.contents files.now name.now) (string_bytes text)) (IsReadFault name.now) }
 {
     let bytes = match files.read(alloc, name) {
         Ok(bytes) => bytes,
@@ -154,7 +158,10 @@ fn read_text<'a, S: Sources>(alloc: Global, files: &S, name: &'a str) -> Result<
     if bytes.len() > LIMIT {
         return Err(Fault::File(name));
     }
-    String::from_utf8(bytes).map_err(|_| Fault::File(name))
+    match String::from_utf8(bytes) {
+        Ok(text) => Ok(text),
+        Err(_) => Err(Fault::File(name)),
+    }
 }
 
 // The verdict over two files.
@@ -164,11 +171,15 @@ fn files_outcome<'a, S: Sources>(
     app: &'a str,
     cert: &'a str,
 ) -> Result<(), Fault<'a>>
-    ensures { IfErr result (IsOfFiles app.now cert.now) }
+    ensures { IsFilesOutcome app.now cert.now (S.contents files.now app.now) (S.contents files.now cert.now) result }
 {
-    let app = read_text(alloc, files, app)?;
-    let cert = read_text(alloc, files, cert)?;
-    check_texts(alloc, app.as_str(), cert.as_str())
+    match read_text(alloc, files, app) {
+        Ok(app) => match read_text(alloc, files, cert) {
+            Ok(cert) => check_texts(alloc, app.as_str(), cert.as_str()),
+            Err(fault) => Err(fault),
+        },
+        Err(fault) => Err(fault),
+    }
 }
 
 /// Checks two files, and writes the outcome and nothing else.
@@ -179,7 +190,7 @@ pub fn check_files<'a, S: Sources, W: Write>(
     cert: &'a str,
     output: &mut W,
 ) -> io::Result<u8>
-    ensures told { IfOk result (λ status. TellsOne (W.contents output.old) (W.contents output.new) status) }
+    ensures told { IfOk result (λ status. TellsFiles app.now cert.now (S.contents files.now app.now) (S.contents files.now cert.now) (W.contents output.old) (W.contents output.new) status) }
     ensures status { IfOk result (λ status. status ≤ 4) }
 {
     let outcome = files_outcome(alloc, files, app, cert);

@@ -1,5 +1,7 @@
 //! Where the files of a command come from.
 
+ghost use Rattle.std.specs.Prelude.{◌≡◌, IfOk, IfSome, take, Option, None, List, ℕ};
+
 use crate::check::read_whole;
 use std::alloc::Global;
 use std::fs;
@@ -14,8 +16,12 @@ pub enum ReadFault {
 
 /// A source of files, by name.
 pub trait Sources {
+    /// What a file of this name holds, where that is known.
+    ghost contents: { Self → List ℕ → Option (List ℕ) };
+
     /// All bytes of a file, or one byte more than the limit of the longest ones.
-    fn read(&self, alloc: Global, name: &str) -> Result<Vec<u8>, ReadFault>;
+    fn read(&self, alloc: Global, name: &str) -> Result<Vec<u8>, ReadFault>
+        ensures { IfOk result (λ bytes. IfSome (contents self.now name.now) (λ held. bytes.items ≡ take 33554433 held)) };
 }
 
 /// The files of the system.
@@ -25,6 +31,8 @@ pub struct Disk<'a, R: Files> {
 }
 
 impl<R: Files> Sources for Disk<'_, R> {
+    ghost contents = { λ _ _. None };
+
     fn read(&self, alloc: Global, name: &str) -> Result<Vec<u8>, ReadFault> {
         match fs::open(self.rt, name) {
             Ok(mut file) => read_whole(alloc, &mut file),

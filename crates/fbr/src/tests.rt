@@ -28,6 +28,10 @@ struct Held<'a> {
 }
 
 impl Sources for Held<'_> {
+    ghost use Rattle.std.specs.Prelude.{None};
+
+    ghost contents = { λ _ _. None };
+
     fn read(&self, alloc: Global, name: &str) -> Result<Vec<u8>, ReadFault> {
         for file in self.files {
             let (held, bytes) = *file;

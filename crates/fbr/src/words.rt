@@ -1,7 +1,11 @@
 //! The words of the program.
 
-ghost use Rattle.std.specs.Prelude.{◌≡◌, ◌⊎◌, ◌<◌, ◌≤◌, length, IfOk};
-ghost use Rattle.fbr.specs.Outcomes.{TellsOne};
+ghost use Rattle.std.specs.Prelude.{◌≡◌, ◌≢◌, ◌⊎◌, ◌<◌, ◌≤◌, length, map, option_map, option_and_then, codes, false, IfOk};
+ghost use Rattle.clap.specs.Words.{Text, app_of, rule_of, subcommand_rows_of, rows_of, found_of, first_of};
+ghost use Rattle.clap.specs.Values.{kind_of};
+ghost use Rattle.fbr.specs.Outcomes.{Tells, TellsInput, TellsFiles, TellsUsage, refusal};
+ghost use Rattle.fbr.specs.Program.{IsCheck, IsMisuse};
+ghost use Rattle.fbr.specs.Program as program;
 
 use crate::check::{check_files, check_input, print_outcome};
 use crate::fault::Fault;
@@ -16,12 +20,17 @@ use std::io::{Read, Write};
 pub const VERSION: &str = "0.1.0";
 
 // A file that has to be named.
-fn file<'a>(alloc: Global, id: &'a str, help: &'a str) -> Arg<'a> {
+fn file<'a>(alloc: Global, id: &'a str, help: &'a str) -> Arg<'a>
+    ensures rule { rule_of result ≡ program.file id.now }
+    ensures local { result.global ≡ false }
+{
     Arg::new(alloc, id).required(true).help(help)
 }
 
 // The words that the program knows.
-fn commands<'a>(alloc: Global) -> Result<Command<'a>, AllocError> {
+fn commands<'a>(alloc: Global) -> Result<Command<'a>, AllocError>
+    ensures { IfOk result (λ c. app_of c ≡ program.program) }
+{
     let check = Command::new(alloc, "check")
         .about("Checks that a certificate fits an application")
         .arg(file(alloc, "APP", "The application's text"))?
@@ -33,18 +42,61 @@ fn commands<'a>(alloc: Global) -> Result<Command<'a>, AllocError> {
         .subcommand(check)
 }
 
-// The two files of `check`, where that is the command.
-fn files_named<'a>(matches: &ArgMatches<'a>) -> Option<(&'a str, &'a str)> {
-    let (name, words) = matches.subcommand()?;
-    if name != "check" {
-        return None;
+// The subcommand that the words name, with what they give to it.
+fn entered<'a, 'b>(matches: &'b ArgMatches<'a>) -> Option<(&'a str, &'b ArgMatches<'a>)>
+    ensures { option_map (λ sub. (sub.0.now, rows_of (found_of sub.1.now))) result ≡ subcommand_rows_of matches.now }
+{
+    matches.subcommand()
+}
+
+// The text that is given under a name.
+fn given<'a>(words: &ArgMatches<'a>, id: &str) -> Option<&'a str>
+    ensures { option_map (λ text. text.now) result ≡ first_of id.now (rows_of (found_of words.now)) }
+{
+    words.get_str(id)
+}
+
+// Two texts, where both are given.
+fn both<'a>(one: Option<&'a str>, two: Option<&'a str>) -> Option<(&'a str, &'a str)>
+    ensures { option_map (λ texts. (texts.0.now, texts.1.now)) result ≡ program.both (option_map (λ text. text.now) one.entry) (option_map (λ text. text.now) two.entry) }
+{
+    match one {
+        Some(one) => match two {
+            Some(two) => Some((one, two)),
+            None => None,
+        },
+        None => None,
     }
-    Some((words.get_str("APP")?, words.get_str("CERT")?))
+}
+
+// The two files that are given to `check`.
+fn files_in<'a>(words: &ArgMatches<'a>) -> Option<(&'a str, &'a str)>
+    ensures { option_map (λ files. (files.0.now, files.1.now)) result ≡ program.both (first_of (codes "APP") (rows_of (found_of words.now))) (first_of (codes "CERT") (rows_of (found_of words.now))) }
+{
+    both(given(words, "APP"), given(words, "CERT"))
+}
+
+// The two files of `check`, where that is the command.
+fn files_named<'a>(matches: &ArgMatches<'a>) -> Option<(&'a str, &'a str)>
+    ensures { option_map (λ files. (files.0.now, files.1.now)) result ≡ option_and_then program.files_in (subcommand_rows_of matches.now) }
+{
+    match entered(matches) {
+        Some((name, words)) => {
+            if name == "check" {
+                files_in(words)
+            } else {
+                None
+            }
+        }
+        None => None,
+    }
 }
 
 // What clap refused, or was asked to print.
 fn refused<W: Write>(error: &Error, output: &mut W) -> io::Result<u8>
-    ensures { IfOk result (λ status. status ≤ 4) }
+    ensures memory { kind_of error.now ≡ ErrorKind.OutOfMemory → IfOk result (λ status. Tells (refusal Fault.Memory) (W.contents output.old) (W.contents output.new) status) }
+    ensures usage { (kind_of error.now ≢ ErrorKind.DisplayHelp) → (kind_of error.now ≢ ErrorKind.DisplayVersion) → IfOk result (λ status. TellsUsage (W.contents output.old) (W.contents output.new) status) }
+    ensures status { IfOk result (λ status. status ≤ 4) }
 {
     match error.kind() {
         ErrorKind::DisplayHelp | ErrorKind::DisplayVersion => {
@@ -63,7 +115,11 @@ fn run_words<S: Sources, W: Write>(
     files: &S,
     output: &mut W,
 ) -> io::Result<u8>
-    ensures { IfOk result (λ status. status ≤ 4) }
+    ensures checks { (app cert : Text) → IsCheck (map (λ word. word.now) words.now) app cert
+        → IfOk result (λ status. TellsFiles app cert (S.contents files.now app) (S.contents files.now cert) (W.contents output.old) (W.contents output.new) status) }
+    ensures usage { IsMisuse (map (λ word. word.now) words.now)
+        → IfOk result (λ status. TellsUsage (W.contents output.old) (W.contents output.new) status) }
+    ensures status { IfOk result (λ status. status ≤ 4) }
 {
     let command = match commands(alloc) {
         Ok(command) => command,
@@ -92,8 +148,14 @@ pub fn command<R: AllocGlobal, S: Sources, I: Read, W: Write>(
     output: &mut W,
 ) -> u8
     ensures status { result ≤ 4 }
-    // Without words one outcome is told and nothing else, unless the writer fails.
-    ensures told { length words.now < 2 → TellsOne (W.contents output.old) (W.contents output.new) result ⊎ (result ≡ 3) }
+    // Unless the writer fails, one outcome is told and nothing else: without words that of the input,
+    ensures input { length words.now < 2 → TellsInput (I.remaining input.old) (W.contents output.old) (W.contents output.new) result ⊎ (result ≡ 3) }
+    // with the words of a check that of the two files that they name,
+    ensures checks { (app cert : Text) → 2 ≤ length words.now → IsCheck (map (λ word. word.now) words.now) app cert
+        → TellsFiles app cert (S.contents files.now app) (S.contents files.now cert) (W.contents output.old) (W.contents output.new) result ⊎ (result ≡ 3) }
+    // and that they are at fault where they are no words of the program, and ask for neither help nor the version.
+    ensures usage { 2 ≤ length words.now → IsMisuse (map (λ word. word.now) words.now)
+        → TellsUsage (W.contents output.old) (W.contents output.new) result ⊎ (result ≡ 3) }
 {
     let alloc = rt.alloc();
     if words.len() < 2 {

@@ -1,0 +1,57 @@
+-- What the program takes as words.
+use Rattle.std.proofs.Common.{codes, ◌≡◌, ◌≢◌, ◌⊎◌, inl, inr, ℕ, refl, sym, ◌∙◌, ap, subst, true, List, [], ◌∷◌, Option, None, Some, Result, Ok, Err, IfOk, IfErr, Bor}
+use Rattle.std.specs.Option.{option_map}
+use Rattle.std.specs.Result.{result_unwrap_or}
+use Rattle.clap.specs.Words.{App, Text, Row, Kinds, HasKind, IsAmong, FailsBy, fault_of, is_simple, is_simple_and_free, subcommand_of}
+use Rattle.clap.specs.Values.{kind_of}
+use Rattle.clap.specs.declared.error.Error.{Error}
+use Rattle.clap.specs.declared.error.kind.ErrorKind.{ErrorKind}
+use Rattle.clap.specs.declared.error.kind.ErrorKind.TheVariants.{OutOfMemory, DisplayHelp, DisplayVersion}
+use Rattle.clap.proofs.OnLiterals.{clap_on_literals}
+use Rattle.fbr.specs.declared.fault.Fault.{Fault}
+use Rattle.fbr.specs.declared.fault.Fault.TheVariants.{Memory}
+use Rattle.fbr.specs.Outcomes.{Tells, TellsFiles, refusal}
+use Rattle.fbr.specs.Program.{program, files_in, files_of, IsCheck, IsMisuse}
+use Rattle.fbr.proofs.Told.{tells_files}
+use Rattle.fbr.proofs.Verdicts.{files_memory}
+
+is_free : is_simple_and_free program ≡ true
+unfolding clap_on_literals
+is_free = refl
+
+pub free_app : (a : App) → a ≡ program → is_simple_and_free a ≡ true
+free_app a e = ap is_simple_and_free e ∙ is_free
+
+-- words that are taken are refused for want of memory alone
+pub taken_memory : (words : List Text) (app cert : Text) (e : Error) → IsCheck words app cert → HasKind (fault_of program words) e → kind_of e ≡ OutOfMemory
+taken_memory words app cert e is (inl h) = h
+taken_memory words app cert e is (inr h) = absurd (subst (IsAmong (kind_of e)) is.taken h)
+
+among : (k : ErrorKind) (kinds : Kinds) (e : Error) → k ≢ OutOfMemory → (IsAmong k kinds → ⊥) → HasKind kinds e → kind_of e ≢ k
+among k kinds e n h (inl m) = λ same. n (sym same ∙ m)
+among k kinds e n h (inr m) = λ same. h (subst (λ x. IsAmong x kinds) same m)
+
+pub no_help : (words : List Text) (e : Error) → IsMisuse words → HasKind (fault_of program words) e → kind_of e ≢ DisplayHelp
+no_help words e is h = among DisplayHelp (fault_of program words) e (λ same. absurd cc) is.no_help h
+
+pub no_version : (words : List Text) (e : Error) → IsMisuse words → HasKind (fault_of program words) e → kind_of e ≢ DisplayVersion
+no_version words e is h = among DisplayVersion (fault_of program words) e (λ same. absurd cc) is.no_version h
+
+pub memory_told : {E : Type 0} (one two : List ℕ) (held_one held_two : Option (List ℕ)) (old new : Option (List ℕ)) (r : Result ℕ E)
+    → IfOk r (λ status. Tells (refusal Memory) old new status) → IfOk r (λ status. TellsFiles one two held_one held_two old new status)
+memory_told one two held_one held_two old new r h = tells_files one two held_one held_two (Err Memory) old new r (files_memory (Unit {0}) one two held_one held_two) h
+
+-- a status, or 3 where there is none
+pub or_three : {E : Type 0} (r : Result ℕ E) (n : ℕ) (P : ℕ → Type 0) → n ≡ result_unwrap_or r 3 → IfOk r P → P n ⊎ (n ≡ 3)
+or_three (Ok status) n P e h = inl (subst P (sym e) h)
+or_three (Err x) n P e h = inr e
+
+-- such words are a check of these files
+is_taken : IsCheck (codes "fbr" ∷ codes "check" ∷ codes "cell.fb" ∷ codes "cell.cert" ∷ []) (codes "cell.fb") (codes "cell.cert")
+unfolding clap_on_literals
+is_taken = record { taken = refl; files = refl }
+
+-- these are none
+is_misused : IsMisuse (codes "fbr" ∷ codes "check" ∷ codes "cell.fb" ∷ [])
+unfolding clap_on_literals
+is_misused = record { fault = λ e. absurd cc; no_help = λ h. elim h [ | inl e ↦ absurd cc | inr e ↦ e ]; no_version = λ h. elim h [ | inl e ↦ absurd cc | inr e ↦ e ] }

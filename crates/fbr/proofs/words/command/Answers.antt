@@ -1,0 +1,10 @@
+use Rattle.std.proofs.Common.{◌≡◌, rules}
+use Rattle.fbr.specs.Outcomes.{TellsFiles}
+use Rattle.fbr.proofs.Taken.{or_three}
+use Rattle.fbr.proofs.words.command.Goals as goal
+
+pub returns-clause-checks : goal.returns-clause-checks
+returns-clause-checks g c = λ app cert two is.
+    or_three c.run_words.result c.unwrap_or-2.result
+    (λ status. TellsFiles app cert (g.S.Sources.contents c.args.files.now app) (g.S.Sources.contents c.args.files.now cert) (g.W.Write.contents c.args.output.now) (g.W.Write.contents c.run_words.new.output) status)
+    c.unwrap_or-2.ensures (c.run_words.ensures.checks app cert is)
