@@ -1,12 +1,13 @@
 -- What a refusal says of the source: this project's profile, for names and limits of IEC 61499-1 edition 2, 5.2 and 5.3.
 -- Each says what is at fault and where it stands. Memory that ran out says nothing.
-use Rattle.std.specs.Prelude.{ℕ, ◌≡◌, List, [], ◌∷◌, ◌++◌, Option, None, Some, true, false, map, slice_get, nat_eq, if◌then◌else◌}
+use Rattle.std.specs.Prelude.{ℕ, ◌≡◌, ◌<◌, ◌≤◌, pos, List, [], ◌∷◌, ◌++◌, Option, None, Some, true, false, map, length, slice_get, nat_eq, codes, if◌then◌else◌}
 use Rattle.fb_model.specs.Names.{Name, is_in}
 use Rattle.fb_model.specs.Productions.{Word}
-use Rattle.fb_model.specs.Trees.{ActionTree, TransitionTree, BlockTree}
-use Rattle.fb_model.specs.Typing.{service_names, most_ports, most_states, most_transitions, event_texts, state_texts, body_numbers}
-use Rattle.fb_model.specs.System.{Body}
+use Rattle.fb_model.specs.Trees.{ActionTree, TransitionTree, BlockTree, ParameterTree, InstanceTree}
+use Rattle.fb_model.specs.Typing.{service_names, most_ports, most_states, most_transitions, event_texts, state_texts, body_numbers, input_numbers, block_named, IsWhole, IsBody, AreInstances}
+use Rattle.fb_model.specs.System.{Body, Instances}
 use Rattle.std.specs.List.{Any, list_any}
+use Rattle.std.specs.Str.{bytes_eq}
 use Rattle.fb_types.specs.declared.fault.TypeFault.{TypeFault}
 use Rattle.fb_types.specs.declared.fault.TypeFault.TheVariants.{OutOfMemory, UnknownName, DuplicateName, BadService, Limit}
 
@@ -64,8 +65,47 @@ pub data IsBlockFault (b : BlockTree) (f : TypeFault) : Type 0 where
   faulty_action : Any (λ s. Any (λ a. IsActionFault (event_texts b.event_outputs) a f) s.actions) b.states → IsBlockFault b f
   faulty_transition : Any (λ t. IsTransitionFault (state_texts b.states) (event_texts b.event_inputs) t f) b.transitions → IsBlockFault b f
 
+-- ---- instances
+
+-- a parameter where none may be, at the name of the first
+abbrev pub IsSuperfluous : List ParameterTree → TypeFault → Type 0
+IsSuperfluous (p ∷ ps) (UnknownName at) = at ≡ p.name.at
+IsSuperfluous ps f = ⊥
+
+-- the first parameter that is not named ID
+abbrev pub first_other : List ParameterTree → Option ParameterTree
+first_other [] = None
+first_other (p ∷ ps) = if bytes_eq p.name.text (codes "ID") then first_other ps else Some p
+
+-- what is at fault in the parameters of an INPUT, whose instance's name stands at this place.
+-- It has one parameter ID, which is a whole number from 0 to 65535
+pub data IsInputFault (at : ℕ) (ps : List ParameterTree) (f : TypeFault) : Type 0 where
+  other_parameter : {p : ParameterTree} → first_other ps ≡ Some p → f ≡ UnknownName p.name.at → IsInputFault at ps f
+  no_id : ps ≡ [] → f ≡ BadService at → IsInputFault at ps f
+  wrong_id : {p : ParameterTree} → ps ≡ p ∷ [] → first_other ps ≡ None → ((n : ℕ) → IsWhole p.value.value (pos n) → n ≤ 65535 → ⊥) → f ≡ BadService at → IsInputFault at ps f
+  many_ids : first_other ps ≡ None → 1 < length ps → f ≡ BadService at → IsInputFault at ps f
+
+-- what is at fault in an instance, by the declared types
+pub data IsInstanceFault (bs : List BlockTree) (i : InstanceTree) (f : TypeFault) : Type 0 where
+  no_memory_for_instance : f ≡ OutOfMemory → IsInstanceFault bs i f
+  unknown_type : (i.type.text ≡ codes "INPUT" → ⊥) → block_named bs i.type.text ≡ None → f ≡ UnknownName i.type.at → IsInstanceFault bs i f
+  parameter_of_a_block : {b : BlockTree} → (i.type.text ≡ codes "INPUT" → ⊥) → block_named bs i.type.text ≡ Some b → IsSuperfluous i.parameters f → IsInstanceFault bs i f
+  faulty_input : i.type.text ≡ codes "INPUT" → IsInputFault i.name.at i.parameters f → IsInstanceFault bs i f
+
 -- the number of an INPUT is among those before it, at the name of its instance
 abbrev pub IsTaken : List ℕ → Body → ℕ → TypeFault → Type 0
 IsTaken taken body at OutOfMemory = Unit {0}
 IsTaken taken body at (BadService place) = (n : ℕ) × (body_numbers body ≡ n ∷ []) × (list_any (nat_eq n) taken ≡ true) × (place ≡ at)
 IsTaken taken body at f = ⊥
+
+-- an instance is an INPUT, and its number is taken
+pub record IsTakenBy (bs : List BlockTree) (taken : List ℕ) (i : InstanceTree) (f : TypeFault) : Type 0 where
+  pub body : Body
+  pub is_body : IsBody bs i body
+  pub is_taken : IsTaken taken body i.name.at f
+
+-- what is at fault in instances, where these numbers are taken: one of them by itself, or its number, which is taken or that of an instance before it
+pub data IsInstancesFault (bs : List BlockTree) (taken : List ℕ) (is : List InstanceTree) (f : TypeFault) : Type 0 where
+  no_memory_for_instances : f ≡ OutOfMemory → IsInstancesFault bs taken is f
+  faulty_instance : Any (λ i. IsInstanceFault bs i f) is → IsInstancesFault bs taken is f
+  taken_number : (before after : List InstanceTree) (i : InstanceTree) (inner : Instances) → is ≡ before ++ i ∷ after → AreInstances bs before inner → IsTakenBy bs (taken ++ input_numbers inner) i f → IsInstancesFault bs taken is f

@@ -2,7 +2,7 @@
 
 ghost use Rattle.std.specs.Prelude.{◌≡◌, ◌≤◌, [], List, map, length, string_bytes, IfOk, IfErr, OnOk, ◌⊎◌};
 ghost use Rattle.std.specs.List.{AllByRecursion, Any};
-ghost use Rattle.fb_types.specs.Refusals.{IsBlockFault, IsTaken};
+ghost use Rattle.fb_types.specs.Refusals.{IsBlockFault, IsInstanceFault, IsTaken, IsTakenBy, IsInstancesFault};
 ghost use Rattle.fb_types.specs.declared.fault.TypeFault.TheVariants.{OutOfMemory};
 ghost use Rattle.fb_model.specs.Trees as book;
 ghost use Rattle.fb_model.specs.Typing.{IsBlockTyped, AreInstances, AreResources, AreDevices, IsResource, IsDevice, IsBody, Elaborates, body_numbers, input_numbers, numbers_in, typed_block};
@@ -79,6 +79,7 @@ fn instance(
     ensures name { IfOk result (λ i. string_bytes i.name ≡ string_bytes tree.now.name.text) }
     ensures body { (sources : List book.BlockTree) → Declares sources (names_of names.now) blocks.now → IfOk result (λ i. IsBody sources (trees_of.instance_of tree.now) (body_of i.body)) }
     ensures numbers { IfOk result (λ i. Adds numbers.old.keys (body_numbers (body_of i.body)) numbers.new.keys) }
+    ensures refused { (sources : List book.BlockTree) → Declares sources (names_of names.now) blocks.now → IfErr result (λ f. IsInstanceFault sources (trees_of.instance_of tree.now) f ⊎ IsTakenBy sources numbers.old.keys (trees_of.instance_of tree.now) f) }
 {
     let body = body(names, blocks, tree)?;
     number(numbers, &body, &tree.name)?;
@@ -96,6 +97,7 @@ fn instances(
 ) -> Result<Vec<Instance>, TypeFault>
     ensures typed { (sources : List book.BlockTree) → Declares sources (names_of names.now) blocks.now → IfOk result (λ v. AreInstances sources (map trees_of.instance_of trees.now) (instances_of v.items)) }
     ensures numbers { IfOk result (λ v. Adds numbers.old.keys (input_numbers (instances_of v.items)) numbers.new.keys) }
+    ensures refused { (sources : List book.BlockTree) → Declares sources (names_of names.now) blocks.now → IfErr result (IsInstancesFault sources numbers.old.keys (map trees_of.instance_of trees.now)) }
 {
     let mut instances = Vec::new(alloc);
     for tree in trees {
