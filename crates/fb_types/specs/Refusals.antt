@@ -3,13 +3,13 @@
 use Rattle.std.specs.Prelude.{ℕ, ◌≡◌, ◌<◌, ◌≤◌, pos, List, [], ◌∷◌, ◌++◌, Option, None, Some, true, false, map, length, slice_get, nat_eq, codes, if◌then◌else◌}
 use Rattle.fb_model.specs.Names.{Name, is_in}
 use Rattle.fb_model.specs.Productions.{Word}
-use Rattle.fb_model.specs.Trees.{ActionTree, TransitionTree, BlockTree, ParameterTree, InstanceTree}
-use Rattle.fb_model.specs.Typing.{service_names, most_ports, most_states, most_transitions, event_texts, state_texts, body_numbers, input_numbers, block_named, IsWhole, IsBody, AreInstances}
+use Rattle.fb_model.specs.Trees.{ActionTree, TransitionTree, BlockTree, ParameterTree, InstanceTree, PortTree, ConnectionTree}
+use Rattle.fb_model.specs.Typing.{service_names, most_ports, most_states, most_transitions, event_texts, state_texts, body_numbers, input_numbers, block_named, IsWhole, IsBody, AreInstances, body_named, event_inputs_of, event_outputs_of}
 use Rattle.fb_model.specs.System.{Body, Instances}
 use Rattle.std.specs.List.{Any, list_any}
 use Rattle.std.specs.Str.{bytes_eq}
 use Rattle.fb_types.specs.declared.fault.TypeFault.{TypeFault}
-use Rattle.fb_types.specs.declared.fault.TypeFault.TheVariants.{OutOfMemory, UnknownName, DuplicateName, BadService, Limit}
+use Rattle.fb_types.specs.declared.fault.TypeFault.TheVariants.{OutOfMemory, UnknownName, DuplicateName, BadConnection, BadService, Limit}
 
 -- the place of the first name that is among those before it
 abbrev pub repeated : List Name → List Word → Option ℕ
@@ -109,3 +109,19 @@ pub data IsInstancesFault (bs : List BlockTree) (taken : List ℕ) (is : List In
   no_memory_for_instances : f ≡ OutOfMemory → IsInstancesFault bs taken is f
   faulty_instance : Any (λ i. IsInstanceFault bs i f) is → IsInstancesFault bs taken is f
   taken_number : (before after : List InstanceTree) (i : InstanceTree) (inner : Instances) → is ≡ before ++ i ∷ after → AreInstances bs before inner → IsTakenBy bs (taken ++ input_numbers inner) i f → IsInstancesFault bs taken is f
+
+-- ---- connections
+
+-- what is at fault in an end of a connection, whose TO stands at this place: a port of an instance, among those of its way. A resource has no ports of its own
+pub data IsEndFault (ports others : Body → List Name) (inner : Instances) (at : ℕ) (p : PortTree) (f : TypeFault) : Type 0 where
+  no_memory_for_end : f ≡ OutOfMemory → IsEndFault ports others inner at p f
+  own_port : p.second ≡ None → f ≡ UnknownName p.first.at → IsEndFault ports others inner at p f
+  unknown_instance : body_named inner p.first.text ≡ None → f ≡ UnknownName p.first.at → IsEndFault ports others inner at p f
+  unknown_port : {port : Word} {body : Body} → p.second ≡ Some port → body_named inner p.first.text ≡ Some body → is_in port.text (ports body) ≡ false → is_in port.text (others body) ≡ false → f ≡ UnknownName port.at → IsEndFault ports others inner at p f
+  other_way : {port : Word} {body : Body} → p.second ≡ Some port → body_named inner p.first.text ≡ Some body → is_in port.text (ports body) ≡ false → is_in port.text (others body) ≡ true → f ≡ BadConnection at → IsEndFault ports others inner at p f
+
+-- what is at fault in a connection between instances
+pub data IsConnectionFault (inner : Instances) (c : ConnectionTree) (f : TypeFault) : Type 0 where
+  no_memory_for_connection : f ≡ OutOfMemory → IsConnectionFault inner c f
+  faulty_source : IsEndFault event_outputs_of event_inputs_of inner c.at c.source f → IsConnectionFault inner c f
+  faulty_target : IsEndFault event_inputs_of event_outputs_of inner c.at c.target f → IsConnectionFault inner c f

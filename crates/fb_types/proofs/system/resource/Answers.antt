@@ -14,7 +14,7 @@ returns-clause-typed c =
     let texts : names_of c.in_ok-locals.locals ≡ map (λ i. string_bytes i.name.text) x.instances.items = c.in_ok-locals.ensures.names ∙ ap (map (λ i. string_bytes i.name.text)) c.deref-2.ensures.value in
     let table : names_of c.in_ok-locals.locals ≡ map (λ i. string_bytes i.name) is =
     texts ∙ sym (map_map (λ i. i.name.text) trees_of.instance_of x.instances.items) ∙ sym (names_kept sources (map trees_of.instance_of x.instances.items) is typed) in
-    let joined = rw (c.deref-4.ensures.value, c.deref-5.ensures.value) at c.in_ok-events.ensures in
+    let joined = rw (c.deref-4.ensures.value, c.deref-5.ensures.value) at c.in_ok-events.ensures.typed in
     record {
       name = c.in_ok-name.ensures.cases;
       names = rw (map_map, ← c.deref-2.ensures.value) c.in_ok-locals.ensures.distinct;
