@@ -3,9 +3,9 @@
 use Rattle.std.specs.Prelude.{ℕ, ◌≡◌, ◌<◌, ◌≤◌, pos, List, [], ◌∷◌, ◌++◌, Option, None, Some, true, false, map, length, slice_get, nat_eq, codes, if◌then◌else◌}
 use Rattle.fb_model.specs.Names.{Name, is_in}
 use Rattle.fb_model.specs.Productions.{Word}
-use Rattle.fb_model.specs.Trees.{ActionTree, TransitionTree, BlockTree, ParameterTree, InstanceTree, PortTree, ConnectionTree}
-use Rattle.fb_model.specs.Typing.{service_names, most_ports, most_states, most_transitions, event_texts, state_texts, body_numbers, input_numbers, block_named, IsWhole, IsBody, AreInstances, body_named, event_inputs_of, event_outputs_of}
-use Rattle.fb_model.specs.System.{Body, Instances}
+use Rattle.fb_model.specs.Trees.{ActionTree, TransitionTree, BlockTree, ParameterTree, InstanceTree, PortTree, ConnectionTree, ResourceTree, DeviceTree, SourceTree}
+use Rattle.fb_model.specs.Typing.{service_names, most_ports, most_states, most_transitions, most_instances, most_resources, most_devices, event_texts, state_texts, body_numbers, input_numbers, numbers_in, block_named, IsWhole, IsBody, AreInstances, AreResources, body_named, event_inputs_of, event_outputs_of}
+use Rattle.fb_model.specs.System.{Body, Instances, Resource}
 use Rattle.std.specs.List.{Any, list_any}
 use Rattle.std.specs.Str.{bytes_eq}
 use Rattle.fb_types.specs.declared.fault.TypeFault.{TypeFault}
@@ -125,3 +125,34 @@ pub data IsConnectionFault (inner : Instances) (c : ConnectionTree) (f : TypeFau
   no_memory_for_connection : f ≡ OutOfMemory → IsConnectionFault inner c f
   faulty_source : IsEndFault event_outputs_of event_inputs_of inner c.at c.source f → IsConnectionFault inner c f
   faulty_target : IsEndFault event_inputs_of event_outputs_of inner c.at c.target f → IsConnectionFault inner c f
+
+-- ---- resources, devices and sources
+
+-- what is at fault in a resource, where these numbers are taken
+pub data IsResourceFault (bs : List BlockTree) (taken : List ℕ) (r : ResourceTree) (f : TypeFault) : Type 0 where
+  no_memory_for_resource : f ≡ OutOfMemory → IsResourceFault bs taken r f
+  excess_instance : IsExcess most_instances (map (λ i. i.name) r.instances) f → IsResourceFault bs taken r f
+  repeated_instance : IsRepetition [] (map (λ i. i.name) r.instances) f → IsResourceFault bs taken r f
+  faulty_instances : IsInstancesFault bs taken r.instances f → IsResourceFault bs taken r f
+  faulty_connection : (inner : Instances) → AreInstances bs r.instances inner → Any (λ c. IsConnectionFault inner c f) r.events → IsResourceFault bs taken r f
+
+-- what is at fault in resources: one of them, where the numbers of those before it are taken too
+pub data IsResourcesFault (bs : List BlockTree) (taken : List ℕ) (rs : List ResourceTree) (f : TypeFault) : Type 0 where
+  no_memory_for_resources : f ≡ OutOfMemory → IsResourcesFault bs taken rs f
+  faulty_resource : (before after : List ResourceTree) (r : ResourceTree) (made : List Resource) → rs ≡ before ++ r ∷ after → AreResources bs before made → IsResourceFault bs (taken ++ numbers_in made) r f → IsResourcesFault bs taken rs f
+
+-- what is at fault in a device
+pub data IsDeviceFault (bs : List BlockTree) (d : DeviceTree) (f : TypeFault) : Type 0 where
+  no_memory_for_device : f ≡ OutOfMemory → IsDeviceFault bs d f
+  excess_resource : IsExcess most_resources (map (λ r. r.name) d.resources) f → IsDeviceFault bs d f
+  repeated_resource : IsRepetition [] (map (λ r. r.name) d.resources) f → IsDeviceFault bs d f
+  faulty_resources : IsResourcesFault bs [] d.resources f → IsDeviceFault bs d f
+
+-- what is at fault in a source: in a block, in a device, or in the names and the number of these
+pub data IsSourceFault (source : SourceTree) (f : TypeFault) : Type 0 where
+  no_memory_for_source : f ≡ OutOfMemory → IsSourceFault source f
+  repeated_block : IsRepetition [] (map (λ b. b.name) source.blocks) f → IsSourceFault source f
+  faulty_block : Any (λ b. IsBlockFault b f) source.blocks → IsSourceFault source f
+  excess_device : IsExcess most_devices (map (λ d. d.name) source.system.devices) f → IsSourceFault source f
+  repeated_device : IsRepetition [] (map (λ d. d.name) source.system.devices) f → IsSourceFault source f
+  faulty_device : Any (λ d. IsDeviceFault source.blocks d f) source.system.devices → IsSourceFault source f

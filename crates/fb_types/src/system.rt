@@ -2,7 +2,7 @@
 
 ghost use Rattle.std.specs.Prelude.{◌≡◌, ◌≤◌, [], List, map, length, string_bytes, IfOk, IfErr, OnOk, ◌⊎◌};
 ghost use Rattle.std.specs.List.{AllByRecursion, Any};
-ghost use Rattle.fb_types.specs.Refusals.{IsBlockFault, IsInstanceFault, IsTaken, IsTakenBy, IsInstancesFault};
+ghost use Rattle.fb_types.specs.Refusals.{IsBlockFault, IsInstanceFault, IsTaken, IsTakenBy, IsInstancesFault, IsResourceFault, IsResourcesFault, IsDeviceFault, IsSourceFault};
 ghost use Rattle.fb_types.specs.declared.fault.TypeFault.TheVariants.{OutOfMemory};
 ghost use Rattle.fb_model.specs.Trees as book;
 ghost use Rattle.fb_model.specs.Typing.{IsBlockTyped, AreInstances, AreResources, AreDevices, IsResource, IsDevice, IsBody, Elaborates, body_numbers, input_numbers, numbers_in, typed_block};
@@ -116,6 +116,7 @@ fn resource(
 ) -> Result<Resource, TypeFault>
     ensures typed { (sources : List book.BlockTree) → Declares sources (names_of names.now) blocks.now → IfOk result (λ r. IsResource sources (trees_of.resource_of tree.now) (resource_of r)) }
     ensures numbers { IfOk result (λ r. Adds numbers.old.keys (input_numbers (instances_of r.instances.items)) numbers.new.keys) }
+    ensures refused { (sources : List book.BlockTree) → Declares sources (names_of names.now) blocks.now → IfErr result (IsResourceFault sources numbers.old.keys (trees_of.resource_of tree.now)) }
 {
     at_most(&tree.instances, INSTANCES)?;
     let locals = table(alloc, &tree.instances)?;
@@ -140,6 +141,7 @@ fn resources(
 ) -> Result<Vec<Resource>, TypeFault>
     ensures typed { (sources : List book.BlockTree) → Declares sources (names_of names.now) blocks.now → IfOk result (λ v. AreResources sources (map trees_of.resource_of trees.now) (map resource_of v.items)) }
     ensures numbers { IfOk result (λ v. Adds numbers.old.keys (numbers_in (map resource_of v.items)) numbers.new.keys) }
+    ensures refused { (sources : List book.BlockTree) → Declares sources (names_of names.now) blocks.now → IfErr result (IsResourcesFault sources numbers.old.keys (map trees_of.resource_of trees.now)) }
 {
     let mut resources = Vec::new(alloc);
     for tree in trees {
@@ -155,7 +157,8 @@ fn device(
     blocks: &[Rc<Block>],
     tree: &DeviceTree,
 ) -> Result<Device, TypeFault>
-    ensures { (sources : List book.BlockTree) → Declares sources (names_of names.now) blocks.now → IfOk result (λ d. IsDevice sources (trees_of.device_of tree.now) (device_of d)) }
+    ensures typed { (sources : List book.BlockTree) → Declares sources (names_of names.now) blocks.now → IfOk result (λ d. IsDevice sources (trees_of.device_of tree.now) (device_of d)) }
+    ensures refused { (sources : List book.BlockTree) → Declares sources (names_of names.now) blocks.now → IfErr result (IsDeviceFault sources (trees_of.device_of tree.now)) }
 {
     at_most(&tree.resources, RESOURCES)?;
     let _ = table(alloc, &tree.resources)?;
@@ -172,7 +175,8 @@ fn devices(
     blocks: &[Rc<Block>],
     trees: &[DeviceTree],
 ) -> Result<Vec<Device>, TypeFault>
-    ensures { (sources : List book.BlockTree) → Declares sources (names_of names.now) blocks.now → IfOk result (λ v. AreDevices sources (map trees_of.device_of trees.now) (map device_of v.items)) }
+    ensures typed { (sources : List book.BlockTree) → Declares sources (names_of names.now) blocks.now → IfOk result (λ v. AreDevices sources (map trees_of.device_of trees.now) (map device_of v.items)) }
+    ensures refused { (sources : List book.BlockTree) → Declares sources (names_of names.now) blocks.now → IfErr result (λ f. (f ≡ OutOfMemory) ⊎ Any (λ d. IsDeviceFault sources d f) (map trees_of.device_of trees.now)) }
 {
     let mut devices = Vec::new(alloc);
     for tree in trees {
@@ -184,6 +188,7 @@ fn devices(
 /// The typed system of a source tree.
 pub fn resolve(alloc: Global, source: Source) -> Result<Typed, TypeFault>
     ensures typed { IfOk result (λ t. Elaborates (trees_of.source_of source) (system_of t)) }
+    ensures refused { IfErr result (IsSourceFault (trees_of.source_of source)) }
 {
     let names = table(alloc, &source.blocks)?;
     let blocks = blocks(alloc, &source.blocks)?;
