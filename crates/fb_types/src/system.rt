@@ -1,9 +1,10 @@
 //! Source trees to typed systems.
 
-ghost use Rattle.std.specs.Prelude.{◌≡◌, ◌≤◌, [], List, map, length, string_bytes, IfOk, IfErr, OnOk, ◌⊎◌};
+ghost use Rattle.std.specs.Prelude.{◌≡◌, ◌≤◌, [], List, map, length, string_bytes, IfOk, IfErr, OnOk, MatchResult, ◌⊎◌};
 ghost use Rattle.std.specs.List.{AllByRecursion, Any};
 ghost use Rattle.fb_types.specs.Refusals.{IsBlockFault, IsInstanceFault, IsTaken, IsTakenBy, IsInstancesFault, IsResourceFault, IsResourcesFault, IsDeviceFault, IsSourceFault};
 ghost use Rattle.fb_types.specs.declared.fault.TypeFault.TheVariants.{OutOfMemory};
+ghost use Rattle.fb_model.specs.System.{System};
 ghost use Rattle.fb_model.specs.Trees as book;
 ghost use Rattle.fb_model.specs.Typing.{IsBlockTyped, AreInstances, AreResources, AreDevices, IsResource, IsDevice, IsBody, Elaborates, body_numbers, input_numbers, numbers_in, typed_block};
 ghost use Rattle.fb_text.specs.Views as trees_of;
@@ -189,6 +190,7 @@ fn devices(
 pub fn resolve(alloc: Global, source: Source) -> Result<Typed, TypeFault>
     ensures typed { IfOk result (λ t. Elaborates (trees_of.source_of source) (system_of t)) }
     ensures refused { IfErr result (IsSourceFault (trees_of.source_of source)) }
+    ensures accepts { (system : System) → Elaborates (trees_of.source_of source) system → MatchResult result (λ t. system_of t ≡ system) (λ f. f ≡ OutOfMemory) }
 {
     let names = table(alloc, &source.blocks)?;
     let blocks = blocks(alloc, &source.blocks)?;

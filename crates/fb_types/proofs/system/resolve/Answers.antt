@@ -3,9 +3,10 @@ use Rattle.fb_model.specs.Typing.{block_texts, typed_block}
 use Rattle.fb_text.specs.Views as trees_of
 use Rattle.fb_types.specs.Views.{names_of, block_of}
 use Rattle.std.proofs.lemmas.Result.{err_from_is_err_and}
-use Rattle.fb_types.specs.Refusals.{IsExcess, IsRepetition, no_memory_for_source, repeated_block, excess_device, repeated_device, faulty_device}
+use Rattle.fb_types.specs.Refusals.{IsExcess, IsRepetition, no_memory_for_source, repeated_block, faulty_block, excess_device, repeated_device, faulty_device}
 use Rattle.fb_types.proofs.Refused.{either_of}
 use Rattle.fb_types.proofs.Lists.{map_map, same_length}
+use Rattle.fb_types.proofs.FaultlessSystems.{only_memory, one_system}
 use Rattle.fb_types.proofs.system.resolve.Goals as goal
 
 pub returns-clause-typed : goal.returns-clause-typed
@@ -57,3 +58,30 @@ returns-in_err-devices-clause-refused c =
     let refused = rw (c.deref-5.ensures.value, c.deref-6.ensures.value) at c.in_err-devices.ensures.refused in
     let p = err_from_is_err_and c.from_residual-in_err-devices.result c.from_residual-in_err-devices.ensures.1 in
     rw (p.1, p.2) (either_of no_memory_for_source faulty_device (refused sources (record { names_are = named; blocks_are = values })))
+
+pub returns-clause-accepts : goal.returns-clause-accepts
+returns-clause-accepts c = λ system e. one_system (trees_of.source_of c.args.source) _ system (returns-clause-typed c) e
+
+pub returns-in_err-names-clause-accepts : goal.returns-in_err-names-clause-accepts
+returns-in_err-names-clause-accepts c = λ system e. only_memory (trees_of.source_of c.args.source) system c.from_residual.result _ c.from_residual.ensures.0 (returns-in_err-names-clause-refused c) e
+
+pub returns-in_err-at_most-clause-accepts : goal.returns-in_err-at_most-clause-accepts
+returns-in_err-at_most-clause-accepts c =
+    λ system e. only_memory (trees_of.source_of c.args.source) system c.from_residual-in_err-at_most.result _ c.from_residual-in_err-at_most.ensures.0 (returns-in_err-at_most-clause-refused c) e
+
+pub returns-in_err-table-clause-accepts : goal.returns-in_err-table-clause-accepts
+returns-in_err-table-clause-accepts c =
+    λ system e. only_memory (trees_of.source_of c.args.source) system c.from_residual-in_err-table.result _ c.from_residual-in_err-table.ensures.0 (returns-in_err-table-clause-refused c) e
+
+pub returns-in_err-devices-clause-accepts : goal.returns-in_err-devices-clause-accepts
+returns-in_err-devices-clause-accepts c =
+    λ system e. only_memory (trees_of.source_of c.args.source) system c.from_residual-in_err-devices.result _ c.from_residual-in_err-devices.ensures.0 (returns-in_err-devices-clause-refused c) e
+
+pub returns-in_err-blocks-clause-refused : goal.returns-in_err-blocks-clause-refused
+returns-in_err-blocks-clause-refused c =
+    let p = err_from_is_err_and c.from_residual-in_err-blocks.result c.from_residual-in_err-blocks.ensures.1 in
+    rw (p.1, p.2) (either_of no_memory_for_source faulty_block (rw c.deref-2.ensures.value at c.in_err-blocks.ensures.refused))
+
+pub returns-in_err-blocks-clause-accepts : goal.returns-in_err-blocks-clause-accepts
+returns-in_err-blocks-clause-accepts c =
+    λ system e. only_memory (trees_of.source_of c.args.source) system c.from_residual-in_err-blocks.result _ c.from_residual-in_err-blocks.ensures.0 (returns-in_err-blocks-clause-refused c) e
