@@ -1,9 +1,10 @@
 -- The place of a name in a list, and what stands at that place of another.
 use Rattle.std.proofs.Common.{◌≡◌, ℕ, zero, suc, ◌+◌, ◌<◌, List, [], ◌∷◌, Bool, true, false, not, cond, map, length, get_or, Option, Some, None, option_map, refl, sym, ap, subst, ◌∙◌, arith, position, IfSome, string_bytes}
-use Rattle.std.specs.Prelude.{nat_lt, MatchOption}
+use Rattle.std.specs.Prelude.{nat_lt, MatchOption, IfNone}
 use Rattle.std.specs.List.{prefix_len}
 use Rattle.std.specs.Str.{bytes_eq}
 use Rattle.std.proofs.lemmas.Bool.{lt-ltb}
+use Rattle.std.proofs.lemmas.List.{length-map}
 use Rattle.std.proofs.lemmas.Bool.Decides.{nat_tests}
 use Rattle.fb_model.specs.Names.{Name}
 use Rattle.fb_model.specs.Trees.{BlockTree}
@@ -93,3 +94,44 @@ body_found x (i ∷ is) n b e g l =
 -- the instance at the place of a name is the one of that name
 pub body_at : (x : Name) (names : List Name) (is : List Instance) (n : ℕ) (b : Instance) → place (bytes_eq x) names ≡ Some n → names ≡ map (λ k. string_bytes k.name) is → b ≡ get_or is n b → n < length is → body_named (instances_of is) x ≡ Some (body_of b.body)
 body_at x names is n b e m g l = body_found x is n b (ap (place (bytes_eq x)) (sym m) ∙ e) g l
+
+some_is : {X : Type 0} {x : X} → Some x ≡ None → ⊥
+some_is e = cc
+
+none_of : (o : Option ℕ) → option_map suc o ≡ None → o ≡ None
+none_of None e = refl
+none_of (Some n) e = absurd (some_is e)
+
+-- one turn: where a name has no place, nothing is found by it
+turn_none : {Y : Type 0} (t : Bool) (o : Option ℕ) (y : Y) (q : Option Y) → (o ≡ None → q ≡ None) → cond t (Some 0) (option_map suc o) ≡ None → cond t (Some y) q ≡ None
+turn_none true o y q again e = absurd (some_is e)
+turn_none false o y q again e = again (none_of o e)
+
+pub undeclared : (x : Name) (sources : List BlockTree) → place (bytes_eq x) (block_texts sources) ≡ None → block_named sources x ≡ None
+unfolding place
+undeclared x [] e = refl
+undeclared x (s ∷ ss) e = turn_none (bytes_eq x s.name.text) (place (bytes_eq x) (block_texts ss)) s (block_named ss x) (undeclared x ss) e
+
+pub no_body : (x : Name) (is : List Instance) → place (bytes_eq x) (map (λ k. string_bytes k.name) is) ≡ None → body_named (instances_of is) x ≡ None
+unfolding place
+no_body x [] e = refl
+no_body x (i ∷ is) e = turn_none (bytes_eq x (string_bytes i.name)) (place (bytes_eq x) (map (λ k. string_bytes k.name) is)) (body_of i.body) (body_named (instances_of is) x) (no_body x is) e
+
+turn_below : (t : Bool) (o : Option ℕ) (n m : ℕ) → ((j : ℕ) → o ≡ Some j → j < m) → cond t (Some 0) (option_map suc o) ≡ Some n → n < suc m
+turn_below true o n m again e = let z : 0 ≡ n = cc in omega (arith, z)
+turn_below false o n m again e = let j = suc_of o n e in let l = again j.0 j.1 in omega (arith, l, j.2)
+
+-- a place lies within the list
+pub place_below : {X : Type 0} (p : X → Bool) (xs : List X) (n : ℕ) → place p xs ≡ Some n → n < length xs
+unfolding place
+place_below p [] n e = absurd (some_is (sym e))
+place_below p (x ∷ xs) n e = turn_below (p x) (place p xs) n (length xs) (λ j f. place_below p xs j f) e
+
+-- what is beyond the end at no place within it
+pub always_some : {X A : Type 0} (P : Type 0) (Q : X → Type 0) → (A → ⊥) → (o : Option X) → MatchOption o A Q → IfNone o P
+always_some P Q f None k = absurd (f k)
+always_some P Q f (Some x) k = tt
+
+-- a table's names are as many as what they stand for
+pub as_many : {X Y : Type 0} (f : X → Name) (g : X → Y) {R : Type 0} (h : R → Y) (names : List Name) (xs : List X) (rs : List R) → names ≡ map f xs → map h rs ≡ map g xs → length names ≡ length rs
+as_many f g h names xs rs a b = ap length a ∙ length-map xs f ∙ sym (length-map xs g) ∙ sym (ap length b) ∙ length-map rs h

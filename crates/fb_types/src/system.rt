@@ -1,9 +1,10 @@
 //! Source trees to typed systems.
 
-ghost use Rattle.std.specs.Prelude.{◌≡◌, ◌≤◌, [], List, map, length, string_bytes, IfOk, IfErr, OnOk, ◌⊎◌};
+ghost use Rattle.std.specs.Prelude.{◌≡◌, ◌≤◌, [], List, map, length, string_bytes, IfOk, IfErr, OnOk, MatchResult, ◌⊎◌};
 ghost use Rattle.std.specs.List.{AllByRecursion, Any};
-ghost use Rattle.fb_types.specs.Refusals.{IsBlockFault, IsTaken};
+ghost use Rattle.fb_types.specs.Refusals.{IsBlockFault, IsInstanceFault, IsTaken, IsTakenBy, IsInstancesFault, IsResourceFault, IsResourcesFault, IsDeviceFault, IsSourceFault};
 ghost use Rattle.fb_types.specs.declared.fault.TypeFault.TheVariants.{OutOfMemory};
+ghost use Rattle.fb_model.specs.System.{System};
 ghost use Rattle.fb_model.specs.Trees as book;
 ghost use Rattle.fb_model.specs.Typing.{IsBlockTyped, AreInstances, AreResources, AreDevices, IsResource, IsDevice, IsBody, Elaborates, body_numbers, input_numbers, numbers_in, typed_block};
 ghost use Rattle.fb_text.specs.Views as trees_of;
@@ -79,6 +80,7 @@ fn instance(
     ensures name { IfOk result (λ i. string_bytes i.name ≡ string_bytes tree.now.name.text) }
     ensures body { (sources : List book.BlockTree) → Declares sources (names_of names.now) blocks.now → IfOk result (λ i. IsBody sources (trees_of.instance_of tree.now) (body_of i.body)) }
     ensures numbers { IfOk result (λ i. Adds numbers.old.keys (body_numbers (body_of i.body)) numbers.new.keys) }
+    ensures refused { (sources : List book.BlockTree) → Declares sources (names_of names.now) blocks.now → IfErr result (λ f. IsInstanceFault sources (trees_of.instance_of tree.now) f ⊎ IsTakenBy sources numbers.old.keys (trees_of.instance_of tree.now) f) }
 {
     let body = body(names, blocks, tree)?;
     number(numbers, &body, &tree.name)?;
@@ -96,6 +98,7 @@ fn instances(
 ) -> Result<Vec<Instance>, TypeFault>
     ensures typed { (sources : List book.BlockTree) → Declares sources (names_of names.now) blocks.now → IfOk result (λ v. AreInstances sources (map trees_of.instance_of trees.now) (instances_of v.items)) }
     ensures numbers { IfOk result (λ v. Adds numbers.old.keys (input_numbers (instances_of v.items)) numbers.new.keys) }
+    ensures refused { (sources : List book.BlockTree) → Declares sources (names_of names.now) blocks.now → IfErr result (IsInstancesFault sources numbers.old.keys (map trees_of.instance_of trees.now)) }
 {
     let mut instances = Vec::new(alloc);
     for tree in trees {
@@ -114,6 +117,7 @@ fn resource(
 ) -> Result<Resource, TypeFault>
     ensures typed { (sources : List book.BlockTree) → Declares sources (names_of names.now) blocks.now → IfOk result (λ r. IsResource sources (trees_of.resource_of tree.now) (resource_of r)) }
     ensures numbers { IfOk result (λ r. Adds numbers.old.keys (input_numbers (instances_of r.instances.items)) numbers.new.keys) }
+    ensures refused { (sources : List book.BlockTree) → Declares sources (names_of names.now) blocks.now → IfErr result (IsResourceFault sources numbers.old.keys (trees_of.resource_of tree.now)) }
 {
     at_most(&tree.instances, INSTANCES)?;
     let locals = table(alloc, &tree.instances)?;
@@ -138,6 +142,7 @@ fn resources(
 ) -> Result<Vec<Resource>, TypeFault>
     ensures typed { (sources : List book.BlockTree) → Declares sources (names_of names.now) blocks.now → IfOk result (λ v. AreResources sources (map trees_of.resource_of trees.now) (map resource_of v.items)) }
     ensures numbers { IfOk result (λ v. Adds numbers.old.keys (numbers_in (map resource_of v.items)) numbers.new.keys) }
+    ensures refused { (sources : List book.BlockTree) → Declares sources (names_of names.now) blocks.now → IfErr result (IsResourcesFault sources numbers.old.keys (map trees_of.resource_of trees.now)) }
 {
     let mut resources = Vec::new(alloc);
     for tree in trees {
@@ -153,7 +158,8 @@ fn device(
     blocks: &[Rc<Block>],
     tree: &DeviceTree,
 ) -> Result<Device, TypeFault>
-    ensures { (sources : List book.BlockTree) → Declares sources (names_of names.now) blocks.now → IfOk result (λ d. IsDevice sources (trees_of.device_of tree.now) (device_of d)) }
+    ensures typed { (sources : List book.BlockTree) → Declares sources (names_of names.now) blocks.now → IfOk result (λ d. IsDevice sources (trees_of.device_of tree.now) (device_of d)) }
+    ensures refused { (sources : List book.BlockTree) → Declares sources (names_of names.now) blocks.now → IfErr result (IsDeviceFault sources (trees_of.device_of tree.now)) }
 {
     at_most(&tree.resources, RESOURCES)?;
     let _ = table(alloc, &tree.resources)?;
@@ -170,7 +176,8 @@ fn devices(
     blocks: &[Rc<Block>],
     trees: &[DeviceTree],
 ) -> Result<Vec<Device>, TypeFault>
-    ensures { (sources : List book.BlockTree) → Declares sources (names_of names.now) blocks.now → IfOk result (λ v. AreDevices sources (map trees_of.device_of trees.now) (map device_of v.items)) }
+    ensures typed { (sources : List book.BlockTree) → Declares sources (names_of names.now) blocks.now → IfOk result (λ v. AreDevices sources (map trees_of.device_of trees.now) (map device_of v.items)) }
+    ensures refused { (sources : List book.BlockTree) → Declares sources (names_of names.now) blocks.now → IfErr result (λ f. (f ≡ OutOfMemory) ⊎ Any (λ d. IsDeviceFault sources d f) (map trees_of.device_of trees.now)) }
 {
     let mut devices = Vec::new(alloc);
     for tree in trees {
@@ -182,6 +189,8 @@ fn devices(
 /// The typed system of a source tree.
 pub fn resolve(alloc: Global, source: Source) -> Result<Typed, TypeFault>
     ensures typed { IfOk result (λ t. Elaborates (trees_of.source_of source) (system_of t)) }
+    ensures refused { IfErr result (IsSourceFault (trees_of.source_of source)) }
+    ensures accepts { (system : System) → Elaborates (trees_of.source_of source) system → MatchResult result (λ t. system_of t ≡ system) (λ f. f ≡ OutOfMemory) }
 {
     let names = table(alloc, &source.blocks)?;
     let blocks = blocks(alloc, &source.blocks)?;

@@ -1,7 +1,10 @@
-use Rattle.std.proofs.Common.{◌≡◌, map, sym, ap, ◌∙◌, refl, string_bytes}
+use Rattle.std.proofs.Common.{◌≡◌, [], map, sym, ap, subst, ◌∙◌, refl, string_bytes}
 use Rattle.fb_model.specs.Typing.{AreInstances}
 use Rattle.fb_text.specs.Views as trees_of
 use Rattle.fb_types.specs.Views.{names_of, instances_of}
+use Rattle.std.proofs.lemmas.Result.{err_from_is_err_and}
+use Rattle.fb_types.specs.Refusals.{IsExcess, IsRepetition, no_memory_for_resource, excess_instance, repeated_instance, faulty_instances, faulty_connection}
+use Rattle.fb_types.proofs.Refused.{either_of}
 use Rattle.fb_types.proofs.Lists.{map_map, same_length, names_kept}
 use Rattle.fb_types.proofs.system.resource.Goals as goal
 
@@ -14,7 +17,7 @@ returns-clause-typed c =
     let texts : names_of c.in_ok-locals.locals ≡ map (λ i. string_bytes i.name.text) x.instances.items = c.in_ok-locals.ensures.names ∙ ap (map (λ i. string_bytes i.name.text)) c.deref-2.ensures.value in
     let table : names_of c.in_ok-locals.locals ≡ map (λ i. string_bytes i.name) is =
     texts ∙ sym (map_map (λ i. i.name.text) trees_of.instance_of x.instances.items) ∙ sym (names_kept sources (map trees_of.instance_of x.instances.items) is typed) in
-    let joined = rw (c.deref-4.ensures.value, c.deref-5.ensures.value) at c.in_ok-events.ensures in
+    let joined = rw (c.deref-4.ensures.value, c.deref-5.ensures.value) at c.in_ok-events.ensures.typed in
     record {
       name = c.in_ok-name.ensures.cases;
       names = rw (map_map, ← c.deref-2.ensures.value) c.in_ok-locals.ensures.distinct;
@@ -23,3 +26,35 @@ returns-clause-typed c =
       events = joined (record { names_are = table });
       values = refl;
     }
+
+pub returns-in_err-at_most-clause-refused : goal.returns-in_err-at_most-clause-refused
+returns-in_err-at_most-clause-refused c =
+    let xs = c.args.tree.now.instances.items in
+    let f = c.in_err-at_most.field-0.0 in
+    let p = err_from_is_err_and c.from_residual.result c.from_residual.ensures.1 in
+    λ sources d. rw (p.1, p.2) (excess_instance (subst (λ ws. IsExcess 1024 ws f) (sym (map_map (λ i. i.name) trees_of.instance_of xs)) (rw c.deref.ensures.value at c.in_err-at_most.ensures.refused)))
+
+pub returns-in_err-locals-clause-refused : goal.returns-in_err-locals-clause-refused
+returns-in_err-locals-clause-refused c =
+    let xs = c.args.tree.now.instances.items in
+    let f = c.in_err-locals.field-0.0 in
+    let p = err_from_is_err_and c.from_residual-in_err-locals.result c.from_residual-in_err-locals.ensures.1 in
+    λ sources d. rw (p.1, p.2) (repeated_instance (subst (λ ws. IsRepetition [] ws f) (sym (map_map (λ i. i.name) trees_of.instance_of xs)) (rw c.deref-2.ensures.value at c.in_err-locals.ensures.refused)))
+
+pub returns-in_err-instances-clause-refused : goal.returns-in_err-instances-clause-refused
+returns-in_err-instances-clause-refused c =
+    let p = err_from_is_err_and c.from_residual-in_err-instances.result c.from_residual-in_err-instances.ensures.1 in
+    λ sources d. rw (p.1, p.2) (faulty_instances (rw c.deref-3.ensures.value at (c.in_err-instances.ensures.refused sources d)))
+
+pub returns-in_err-events-clause-refused : goal.returns-in_err-events-clause-refused
+returns-in_err-events-clause-refused c =
+    let x = c.args.tree.now in
+    let is = c.in_ok-instances.instances.items in
+    let p = err_from_is_err_and c.from_residual-in_err-events.result c.from_residual-in_err-events.ensures.1 in
+    let refused = rw (c.deref-4.ensures.value, c.deref-5.ensures.value) at c.in_err-events.ensures.refused in
+    λ sources d.
+    let typed : AreInstances sources (map trees_of.instance_of x.instances.items) (instances_of is) = rw c.deref-3.ensures.value at (c.in_ok-instances.ensures.typed sources d) in
+    let texts : names_of c.in_ok-locals.locals ≡ map (λ i. string_bytes i.name.text) x.instances.items = c.in_ok-locals.ensures.names ∙ ap (map (λ i. string_bytes i.name.text)) c.deref-2.ensures.value in
+    let table : names_of c.in_ok-locals.locals ≡ map (λ i. string_bytes i.name) is =
+    texts ∙ sym (map_map (λ i. i.name.text) trees_of.instance_of x.instances.items) ∙ sym (names_kept sources (map trees_of.instance_of x.instances.items) is typed) in
+    rw (p.1, p.2) (either_of no_memory_for_resource (faulty_connection (instances_of is) typed) (refused (record { names_are = table })))
