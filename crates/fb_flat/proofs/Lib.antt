@@ -1,1 +1,5 @@
+pub mod Dotted
+pub mod Filled
+pub mod Leading
 pub mod Names
+pub mod Systems

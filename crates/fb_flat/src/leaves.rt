@@ -1,7 +1,9 @@
 //! The leaves of a resource.
 
-ghost use Rattle.std.specs.Prelude.{◌≡◌, length, map, string_bytes, IfOk};
+ghost use Rattle.std.specs.Prelude.{◌≡◌, [], string_bytes, IfOk};
 ghost use Rattle.fb_flat.specs.Views.{dotted};
+ghost use Rattle.fb_flat.specs.Leaves.{output_names};
+ghost use Rattle.fb_flat.specs.Filling.{AreUnled, IsFilled, AreFilled};
 ghost use Rattle.fb_types.specs.Views.{names_of, body_of};
 ghost use Rattle.fb_model.specs.Typing.{event_outputs_of};
 
@@ -32,7 +34,8 @@ fn shared(body: &Body) -> Result<Body, AllocError>
 
 // An output that leads nowhere yet.
 fn output(alloc: Global, name: &str) -> Result<Output, AllocError>
-    ensures { IfOk result (λ o. string_bytes o.name ≡ name.now) }
+    ensures name { IfOk result (λ o. string_bytes o.name ≡ name.now) }
+    ensures unled { IfOk result (λ o. o.targets.items ≡ []) }
 {
     Ok(Output {
         name: String::from_str(alloc, name)?,
@@ -42,7 +45,8 @@ fn output(alloc: Global, name: &str) -> Result<Output, AllocError>
 
 // The outputs of a set of names, in order.
 fn named(alloc: Global, names: &IndexSet<String>) -> Result<Vec<Output>, AllocError>
-    ensures { IfOk result (λ v. map (λ o. string_bytes o.name) v.items ≡ names_of names.now) }
+    ensures names { IfOk result (λ v. output_names v.items ≡ names_of names.now) }
+    ensures unled { IfOk result (λ v. AreUnled v.items) }
 {
     let mut outputs = Vec::new(alloc);
     for index in 0..names.len() {
@@ -56,7 +60,8 @@ fn named(alloc: Global, names: &IndexSet<String>) -> Result<Vec<Output>, AllocEr
 
 // The event outputs of a body, in order.
 fn outputs(alloc: Global, body: &Body) -> Result<Vec<Output>, AllocError>
-    ensures { IfOk result (λ v. map (λ o. string_bytes o.name) v.items ≡ event_outputs_of (body_of body.now)) }
+    ensures names { IfOk result (λ v. output_names v.items ≡ event_outputs_of (body_of body.now)) }
+    ensures unled { IfOk result (λ v. AreUnled v.items) }
 {
     match body {
         Body::Basic(block) => named(alloc, &block.event_outputs),
@@ -70,9 +75,7 @@ fn outputs(alloc: Global, body: &Body) -> Result<Vec<Output>, AllocError>
 
 // The leaf of an instance.
 fn leaf(alloc: Global, path: &str, instance: &Instance) -> Result<Leaf, AllocError>
-    ensures path { IfOk result (λ l. string_bytes l.path ≡ dotted path.now (string_bytes instance.now.name)) }
-    ensures body { IfOk result (λ l. body_of l.body ≡ body_of instance.now.body) }
-    ensures outputs { IfOk result (λ l. map (λ o. string_bytes o.name) l.outputs.items ≡ event_outputs_of (body_of instance.now.body)) }
+    ensures { IfOk result (λ l. IsFilled path.now instance.now (λ o. []) l) }
 {
     Ok(Leaf {
         path: joined(alloc, path, instance.name.as_str())?,
@@ -83,7 +86,7 @@ fn leaf(alloc: Global, path: &str, instance: &Instance) -> Result<Leaf, AllocErr
 
 /// The leaves of a resource's instances, in text order. No output leads anywhere yet.
 pub fn leaves(alloc: Global, path: &str, instances: &[Instance]) -> Result<Vec<Leaf>, AllocError>
-    ensures { IfOk result (λ v. map (λ l. string_bytes l.path) v.items ≡ map (λ i. dotted path.now (string_bytes i.name)) instances.now) }
+    ensures { IfOk result (λ v. AreFilled path.now (λ i o. []) instances.now v.items) }
 {
     let mut leaves = Vec::new(alloc);
     for instance in instances {

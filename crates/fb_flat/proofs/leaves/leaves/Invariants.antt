@@ -1,7 +1,7 @@
-use Rattle.std.proofs.Common.{◌≡◌, ◌++◌, map, drop, string_bytes}
-use Rattle.fb_flat.specs.Views.{dotted}
+use Rattle.std.proofs.Common.{take, []}
+use Rattle.fb_flat.specs.Filling.{AreFilled}
 use Rattle.fb_flat.proofs.leaves.leaves.Given as goal
 
--- the paths so far and those that are left are all of them
+-- the leaves so far are those of the instances so far
 abbrev pub invariant-loop-instance : goal.invariant-loop-instance
-invariant-loop-instance l = map (λ x. string_bytes x.path) l.leaves.items ++ map (λ i. dotted l.path (string_bytes i.name)) (drop l.instance-index l.instances) ≡ map (λ i. dotted l.path (string_bytes i.name)) l.instances
+invariant-loop-instance l = AreFilled l.path (λ i o. []) (take l.instance-index l.instances) l.leaves.items
