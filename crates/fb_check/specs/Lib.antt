@@ -4,3 +4,4 @@ pub mod Columns
 pub mod Reckoning
 pub mod Verdicts
 pub mod Lookups
+pub mod Fitting

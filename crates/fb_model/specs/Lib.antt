@@ -9,8 +9,8 @@ pub mod Language
 pub mod System
 pub mod Services
 pub mod Typing
-pub mod Plain
 pub mod Wires
+pub mod Plain
 pub mod Store
 pub mod Charts
 pub mod Messages

@@ -1,11 +1,13 @@
 -- What every system has that stands in a text: its names are words, and they tell instances, resources and devices apart.
 -- IEC 61499-1 edition 2, 4.5 (instances and their names); IEC 61131-3 edition 3, 6.1.2 (identifiers).
-use Rattle.std.specs.Prelude.{List, [], ◌∷◌, map}
+use Rattle.std.specs.Prelude.{◌≡◌, List, [], ◌∷◌, map}
 use Rattle.std.specs.List.{AllByRecursion}
-use Rattle.fb_model.specs.Names.{Name}
+use Rattle.fb_model.specs.Names.{Name, Place}
 use Rattle.fb_model.specs.Spelling.{IsWord}
 use Rattle.fb_model.specs.System.{Event, State, Block, Body, Basic, Served, Composite, Instances, nothing, instance, Resource, Device, System}
-use Rattle.fb_model.specs.Typing.{AreDistinct}
+use Rattle.fb_model.specs.Trees.{BlockTree, SourceTree}
+use Rattle.fb_model.specs.Typing.{AreDistinct, IsBlockTyped, typed_block, Elaborates}
+use Rattle.fb_model.specs.Wires.{Kind, Charted, Serviced, Leaf}
 
 abbrev pub AreWords : List Name → Type 0
 AreWords names = AllByRecursion IsWord names
@@ -45,3 +47,21 @@ pub record IsPlainDevice (d : Device) : Type 0 where
 pub record IsPlainSystem (s : System) : Type 0 where
   pub apart : AreDistinct (map (λ (d : Device). d.name) s.devices)
   pub devices : AllByRecursion IsPlainDevice s.devices
+
+-- ---- leaves
+
+-- a block is a well typed one, with words for names
+abbrev pub IsPlainKind : Kind → Type 0
+IsPlainKind (Charted block) = ((b : BlockTree) × IsBlockTyped b × (block ≡ typed_block b)) × IsPlainBlock block
+IsPlainKind (Serviced service) = Unit {0}
+
+-- what every leaf has of a system that stands in a text: it is well typed, and its outputs lead to events whose names are words
+pub record IsPlainLeaf (leaf : Leaf) : Type 0 where
+  pub kind : IsPlainKind leaf.kind
+  pub targets : (o : Name) → AllByRecursion (λ (p : Place). IsWord p.event) (leaf.targets o)
+
+-- a system that a well typed source elaborates to, and whose names are words
+pub record IsWritten (system : System) : Type 0 where
+  pub source : SourceTree
+  pub typed : Elaborates source system
+  pub plain : IsPlainSystem system
