@@ -1,4 +1,4 @@
-use Rattle.std.proofs.Common.{◌≡◌, ◌++◌, ◌∷◌, [], sym, ap, subst, ◌∙◌, map, take, string_bytes}
+use Rattle.std.proofs.Common.{List, ◌≡◌, ◌++◌, ◌∷◌, [], sym, ap, subst, ◌∙◌, map, take, string_bytes}
 use Rattle.std.proofs.lemmas.List.{map_push}
 use Rattle.fb_model.proofs.Lists.{all_append}
 use Rattle.fb_flat.specs.declared.flat.Output.{Output}
@@ -20,5 +20,5 @@ loop-index-preserved c =
           pushed ∙ ap (λ ns. ns ++ string_bytes o.name ∷ []) c.loop-index.invariant.names ∙ ap (λ n. map string_bytes (take c.loop-index.index keys) ++ n ∷ []) named
           ∙ sym (got_more string_bytes keys c.loop-index.index x (sym c.in-Some.ensures.key));
       unled =
-          subst AreUnled (sym c.in_ok-push.ensures.items) (all_append (λ (x : Output). x.targets.items ≡ []) c.loop-index.outputs.items (o ∷ []) c.loop-index.invariant.unled (c.in_ok-output.ensures.unled, tt));
+          subst AreUnled (sym {A = List Output} c.in_ok-push.ensures.items) (all_append (λ (x : Output). x.targets.items ≡ []) c.loop-index.outputs.items (o ∷ []) c.loop-index.invariant.unled (c.in_ok-output.ensures.unled, tt));
     }
