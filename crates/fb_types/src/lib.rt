@@ -5,6 +5,7 @@ mod block;
 mod connection;
 mod fault;
 mod instance;
+mod laws;
 mod names;
 mod service;
 mod system;
@@ -13,6 +14,7 @@ mod tests;
 mod typed;
 
 pub use fault::TypeFault;
+pub use laws::refusals_are_true;
 pub use names::contains;
 pub use system::resolve;
 pub use typed::{
