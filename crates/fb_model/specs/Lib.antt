@@ -10,13 +10,13 @@ pub mod System
 pub mod Services
 pub mod Typing
 pub mod Wires
-pub mod Plain
 pub mod Store
 pub mod Charts
 pub mod Messages
 pub mod Serving
 pub mod Ranges
 pub mod Certificates
+pub mod Plain
 pub mod Devices
 pub mod Headline
 pub mod World

@@ -7,7 +7,8 @@ use Rattle.fb_model.specs.Spelling.{IsWord}
 use Rattle.fb_model.specs.System.{Event, State, Block, Body, Basic, Served, Composite, Instances, nothing, instance, Resource, Device, System}
 use Rattle.fb_model.specs.Trees.{BlockTree, SourceTree}
 use Rattle.fb_model.specs.Typing.{AreDistinct, IsBlockTyped, typed_block, Elaborates}
-use Rattle.fb_model.specs.Wires.{Kind, Charted, Serviced, Leaf}
+use Rattle.fb_model.specs.Wires.{Kind, Charted, Serviced, Leaf, leaves}
+use Rattle.fb_model.specs.Certificates.{Certificate, steps_of, places_of, ColumnFits, all_ranges, ArrivalsFit}
 
 abbrev pub AreWords : List Name → Type 0
 AreWords names = AllByRecursion IsWord names
@@ -65,3 +66,9 @@ pub record IsWritten (system : System) : Type 0 where
   pub source : SourceTree
   pub typed : Elaborates source system
   pub plain : IsPlainSystem system
+
+-- what a certificate has to pay on a device: all costs in both columns, and each arrival at its queue
+pub record Pays (cert : Certificate) (device : Device) : Type 0 where
+  pub steps : ColumnFits (steps_of cert) (all_ranges cert device) (leaves device)
+  pub places : ColumnFits (places_of cert) (all_ranges cert device) (leaves device)
+  pub arrivals : AllByRecursion (ArrivalsFit cert device) (leaves device)

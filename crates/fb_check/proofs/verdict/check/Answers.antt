@@ -5,4 +5,4 @@ use Rattle.fb_check.proofs.verdict.check.Goals as goal
 pub returns-in_err-flat : goal.returns-in_err-flat
 returns-in_err-flat c =
     let p = err_from_is_err_and c.from_residual.result c.from_residual.ensures.1 in
-    record { same = rw p.1 tt; refused = rw (p.1, p.2) (limit_is c.in_err-flat.field-0.0 c.in_err-flat.ensures.refused) }
+    record { same = rw p.1 tt; refused = rw (p.1, p.2) (limit_is _ c.in_err-flat.field-0.0 c.in_err-flat.ensures.refused) }
