@@ -5,3 +5,6 @@ pub mod Reckoning
 pub mod Verdicts
 pub mod Lookups
 pub mod Fitting
+pub mod Depths
+pub mod Paying
+pub mod Faults

@@ -9,6 +9,8 @@ use Rattle.fb_types.specs.declared.fault.TypeFault.{TypeFault}
 use Rattle.fb_types.specs.declared.fault.TypeFault.TheVariants as faults
 use Rattle.fb_cert.specs.declared.fault.CertFault.{CertFault}
 use Rattle.fb_cert.specs.declared.fault.CertFault.TheVariants as certs
+use Rattle.fb_rows.specs.declared.fault.RowFault.{RowFault}
+use Rattle.fb_rows.specs.declared.fault.RowFault.TheVariants as rows
 use Rattle.fb_check.specs.declared.refusal.Refusal.{Refusal}
 use Rattle.fb_check.specs.declared.refusal.Refusal.TheVariants.{OutOfMemory, Text, Typing, Certificate, UnknownRow, MissingRow, Charge, Weight, Depth}
 
@@ -77,3 +79,8 @@ of_type other = Typing other
 abbrev pub of_certificate : CertFault → Refusal
 of_certificate certs.OutOfMemory = OutOfMemory
 of_certificate other = Certificate other
+
+abbrev pub of_row : RowFault → Refusal
+of_row rows.OutOfMemory = OutOfMemory
+of_row (rows.Unknown path) = UnknownRow path
+of_row (rows.Missing path) = MissingRow path

@@ -3,7 +3,9 @@
 
 mod chart;
 mod column;
+mod depth;
 mod leaf;
+mod pays;
 mod refusal;
 mod rows;
 mod verdict;

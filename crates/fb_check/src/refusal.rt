@@ -5,6 +5,7 @@ ghost use Rattle.fb_check.specs.declared.refusal.Refusal.TheVariants.{OutOfMemor
 
 use fb_cert::CertFault;
 use fb_lex::TextFault;
+use fb_rows::RowFault;
 use fb_types::TypeFault;
 use std::alloc::{AllocError, AllocFailed};
 use std::fmt;
@@ -132,6 +133,22 @@ impl From<CertFault> for Refusal {
         match fault {
             CertFault::OutOfMemory => Refusal::OutOfMemory,
             other => Refusal::Certificate(other),
+        }
+    }
+}
+
+/// A row that is not known, or that is missing, is told with its path.
+impl From<RowFault> for Refusal {
+    ghost use Rattle.std.specs.Prelude.{◌≡◌};
+    ghost use Rattle.fb_check.specs.Refusals.{of_row};
+
+    ghost from_gives = { λ f r. r ≡ of_row f };
+
+    fn from(fault: RowFault) -> Refusal {
+        match fault {
+            RowFault::OutOfMemory => Refusal::OutOfMemory,
+            RowFault::Unknown(path) => Refusal::UnknownRow(path),
+            RowFault::Missing(path) => Refusal::MissingRow(path),
         }
     }
 }

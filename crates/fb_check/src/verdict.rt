@@ -7,80 +7,16 @@ ghost use Rattle.fb_check.specs.Verdicts.{system_in, certificate_in, IsOfTexts, 
 ghost use Rattle.fb_check.specs.Refusals.{IsMemory, IsSizeRefusal, IsDepthRefusal, IsVerdict};
 
 use crate::column::Column;
-use crate::leaf::leaf_fits;
+use crate::depth::depths_fit;
+use crate::pays::column_pays;
 use crate::refusal::Refusal;
 use crate::rows::rows_match;
 use crate::verified::Verified;
 use fb_cert::{Certificate, parse_cert};
-use fb_flat::{Flat, FlatResource, Leaf, flatten, joined};
+use fb_flat::flatten;
 use fb_text::parse;
-use fb_types::{Body, Typed, resolve};
+use fb_types::{Typed, resolve};
 use std::alloc::Global;
-
-// All rows fit in a column.
-fn column_fits(
-    alloc: Global,
-    flat: &Flat,
-    certificate: &Certificate,
-    column: Column,
-) -> Result<(), Refusal>
-    ensures { IfErr result IsSizeRefusal }
-{
-    for device in &flat.devices {
-        for resource in &device.resources {
-            for leaf in &resource.leaves {
-                leaf_fits(alloc, certificate, column, leaf)?;
-            }
-        }
-    }
-    Ok(())
-}
-
-// The places of a leaf's arrival, 0 where it has none.
-fn arrival_places(alloc: Global, certificate: &Certificate, leaf: &Leaf) -> Result<u64, Refusal>
-    ensures { IfErr result IsMemory }
-{
-    match &leaf.body {
-        Body::Basic(_) => Ok(0),
-        Body::Input(_) => {
-            let row = joined(alloc, leaf.path.as_str(), "ARRIVE")?;
-            Ok(
-                certificate
-                    .weight(row.as_str())
-                    .map_or(0, |amount| amount.places),
-            )
-        }
-    }
-}
-
-// The places of each arrival of a resource are at most its depth.
-fn depth_fits(
-    alloc: Global,
-    certificate: &Certificate,
-    resource: &FlatResource,
-) -> Result<(), Refusal>
-    ensures { IfErr result IsDepthRefusal }
-{
-    let depth = certificate.depth(resource.path.as_str()).unwrap_or(0);
-    for leaf in &resource.leaves {
-        if arrival_places(alloc, certificate, leaf)? > depth {
-            return Err(Refusal::Depth(resource.path.clone()?));
-        }
-    }
-    Ok(())
-}
-
-// The depths of all resources fit.
-fn depths_fit(alloc: Global, flat: &Flat, certificate: &Certificate) -> Result<(), Refusal>
-    ensures { IfErr result IsDepthRefusal }
-{
-    for device in &flat.devices {
-        for resource in &device.resources {
-            depth_fits(alloc, certificate, resource)?;
-        }
-    }
-    Ok(())
-}
 
 /// Whether a certificate fits a system: its rows are exactly those that the system must have, and all inequalities hold,
 /// over whole numbers, in the steps column and in the places column, and for each depth.
@@ -92,8 +28,8 @@ pub fn check(alloc: Global, typed: Typed, certificate: Certificate) -> Result<Ve
 {
     let flat = flatten(alloc, &typed)?;
     rows_match(alloc, &flat, &certificate)?;
-    column_fits(alloc, &flat, &certificate, Column::Steps)?;
-    column_fits(alloc, &flat, &certificate, Column::Places)?;
+    column_pays(alloc, &flat, &certificate, Column::Steps)?;
+    column_pays(alloc, &flat, &certificate, Column::Places)?;
     depths_fit(alloc, &flat, &certificate)?;
     Ok(Verified {
         typed,

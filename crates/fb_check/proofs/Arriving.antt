@@ -1,0 +1,45 @@
+-- The places of arrivals, in the book's terms.
+use Rattle.std.proofs.Common.{◌≡◌, ◌≤◌, ◌↔◌, ℕ, sym, ap, ap₂, subst, ◌∙◌, List, [], ◌∷◌, ◌++◌, codes, string_bytes, refl}
+use Rattle.std.specs.List.{AllByRecursion}
+use Rattle.fb_model.specs.Names.{Name, Path, Place, at_place}
+use Rattle.fb_model.specs.Spelling.{IsWord, word, part, no_part}
+use Rattle.fb_model.specs.System as system
+use Rattle.fb_model.specs.Wires as wires
+use Rattle.fb_model.specs.Certificates as book
+use Rattle.fb_model.specs.CertificateText.{names_in, place_of, all_but_last, last_name}
+use Rattle.fb_cert.specs.declared.certificate.Certificate.{Certificate}
+use Rattle.fb_cert.specs.Views.{certificate_of}
+use Rattle.fb_types.specs.declared.typed.Body.TheVariants as b
+use Rattle.fb_flat.specs.declared.flat.Leaf.{Leaf}
+use Rattle.fb_flat.specs.Views.{dotted}
+use Rattle.fb_flat.specs.Leaves.{IsLeaf, kind_of}
+use Rattle.fb_flat.proofs.Dotted.{names_dotted}
+use Rattle.fb_check.specs.Depths.{Arrives, IsMost}
+
+front : (ns : Path) (n : Name) → all_but_last (ns ++ n ∷ []) ≡ ns
+front [] n = refl
+front (m ∷ []) n = refl
+front (m ∷ o ∷ ns) n = ap (λ z. m ∷ z) (front (o ∷ ns) n)
+
+back : (ns : Path) (n : Name) → last_name (ns ++ n ∷ []) ≡ n
+back [] n = refl
+back (m ∷ []) n = refl
+back (m ∷ o ∷ ns) n = back (o ∷ ns) n
+
+-- the place of a word behind a path
+pub placed_at : (p n : Name) → IsWord n → place_of (dotted p n) ≡ at_place (names_in p) n
+placed_at p n h =
+    let e = names_dotted p n h in
+    ap (λ ns. at_place (all_but_last ns) (last_name ns)) e ∙ ap (λ ns. at_place ns (last_name (names_in p ++ n ∷ []))) (front (names_in p) n) ∙ ap (at_place (names_in p)) (back (names_in p) n)
+
+arrive_word : IsWord (codes "ARRIVE")
+arrive_word = word refl (part refl (part refl (part refl (part refl (part refl no_part)))))
+
+pub arrives : (cert : Certificate) (l : Leaf) (row : List ℕ) (n number : ℕ) → l.body ≡ b.Input number → row ≡ dotted (string_bytes l.path) (codes "ARRIVE") → n ≡ book.amount (λ r. r.places) (certificate_of cert).weights (place_of row) → IsMost cert l n
+arrives cert l row n number e r a = λ leaf is most.
+    let kind : leaf.kind ≡ wires.Serviced (system.Input number []) = sym is.kind ∙ ap kind_of e in
+    let place : place_of row ≡ at_place leaf.path (codes "ARRIVE") = ap place_of r ∙ placed_at (string_bytes l.path) (codes "ARRIVE") arrive_word ∙ ap (λ p. at_place p (codes "ARRIVE")) is.path in
+    let same : n ≡ book.amount (λ r. r.places) (certificate_of cert).weights (at_place leaf.path (codes "ARRIVE")) = a ∙ ap (book.amount (λ r. r.places) (certificate_of cert).weights) place in
+    let P : Name → Type 0 = λ x. (book.places_of (certificate_of cert)).weight (at_place leaf.path x) ≤ most in
+    (λ h. subst (λ k. AllByRecursion P (book.kind_arrivals k)) (sym kind) (subst (λ m. m ≤ most) same h, tt),
+    λ h. subst (λ m. m ≤ most) (sym same) (subst (λ k. AllByRecursion P (book.kind_arrivals k)) kind h).0)
