@@ -20,7 +20,7 @@ use Rattle.fb_flat.specs.declared.flat.Target.{Target}
 use Rattle.fb_flat.specs.declared.flat.Output.{Output}
 use Rattle.fb_flat.specs.declared.flat.Leaf.{Leaf}
 use Rattle.fb_flat.specs.Leaves.{target_place, output_names, targets_of}
-use Rattle.fb_flat.specs.Filling.{IsFilled, AreFilled, names_in_order, AreUnled, IsFirst, for_end}
+use Rattle.fb_flat.specs.Filling.{IsFilled, AreFilled, names_in_order, AreUnled, IsFirst, LeadOn, for_end}
 
 -- ---- names that are equal
 
@@ -177,7 +177,7 @@ pub record IsLed (l m : Leaf) (y : Name) (ps : List Place) : Type 0 where
   pub path : string_bytes m.path ≡ string_bytes l.path
   pub body : body_of m.body ≡ body_of l.body
   pub outputs : output_names m.outputs.items ≡ output_names l.outputs.items
-  pub targets : (o : Name) → is_in o (output_names l.outputs.items) ≡ true → targets_of m.outputs.items o ≡ targets_of l.outputs.items o ++ cond (bytes_eq o y) ps []
+  pub targets : LeadOn l.outputs.items y ps m.outputs.items
 
 filled_here : (text : Name) (i : Instance) (given : Name → List Place) (l m : Leaf) (x y : Name) (ps : List Place)
     → bytes_eq x (string_bytes i.name) ≡ true → IsLed l m y ps → IsFilled text i given l → IsFilled text i (λ o. given o ++ for_end x y ps (string_bytes i.name) o) m

@@ -15,7 +15,7 @@ use Rattle.fb_flat.specs.declared.flat.FlatResource.{FlatResource}
 use Rattle.fb_flat.specs.declared.flat.FlatDevice.{FlatDevice}
 use Rattle.fb_flat.specs.Views.{dotted, IsLimit}
 use Rattle.fb_flat.specs.Leaves.{IsResource, AreResources, IsDevice, AreDevices, IsLimitAt}
-use Rattle.fb_flat.specs.Filling.{AreFilled, ArePlain, names_in_order, led}
+use Rattle.fb_flat.specs.Filling.{AreLed, names_in_order, led}
 use Rattle.fb_flat.proofs.Dotted.{names_dotted, word_alone}
 use Rattle.fb_flat.proofs.Leading.{leaves_are, names_are}
 
@@ -65,7 +65,7 @@ limit_alone P (ChannelShape offset) h = absurd h
 
 -- tables of a resource on its path, filled as its connections lead, are those of the book
 pub resource_is : (n : ℕ) (device : Name) (r : Resource) (f : FlatResource) → string_bytes f.path ≡ dotted device (string_bytes r.name) → IsWord device → IsPlainResource (resource_of r)
-    → ((p : Path) → ArePlain (string_bytes f.path) p r.instances.items → AreFilled (string_bytes f.path) (led p r.instances.items r.events.items) r.instances.items f.leaves.items)
+    → AreLed (string_bytes f.path) r.instances.items r.events.items f.leaves.items
     → IsResource n (device ∷ []) f (resource_of r)
 resource_is n device r f e w plain h =
     let p = device ∷ string_bytes r.name ∷ [] in

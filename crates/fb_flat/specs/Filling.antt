@@ -1,5 +1,5 @@
 -- Leaf tables while connections are followed: each leaf is its instance's, and its targets are those given so far.
-use Rattle.std.specs.Prelude.{◌≡◌, ℕ, true, false, List, [], ◌∷◌, map, string_bytes, Some, Option, None, slice_get, take, ◌&&◌, if◌then◌else◌}
+use Rattle.std.specs.Prelude.{◌++◌, ◌≡◌, ℕ, true, false, List, [], ◌∷◌, map, string_bytes, Some, Option, None, slice_get, take, ◌&&◌, if◌then◌else◌}
 use Rattle.std.specs.List.{AllByRecursion}
 use Rattle.std.specs.Str.{bytes_eq}
 use Rattle.fb_model.specs.Names.{Name, Path, Place, is_in}
@@ -63,3 +63,29 @@ places_of (Some t) = target_place t ∷ []
 -- these places for one output of one instance, and nothing for others
 abbrev pub for_end : Name → Name → List Place → Name → Name → List Place
 for_end x y ps i o = if bytes_eq i x && bytes_eq o y then ps else []
+
+-- ---- what one function does for the tables
+
+-- outputs of this name lead to these places more, and others do not
+abbrev pub LeadOn : List Output → Name → List Place → List Output → Type 0
+LeadOn old name ps new = (o : Name) → is_in o (output_names old) ≡ true → targets_of new o ≡ targets_of old o ++ (if bytes_eq o name then ps else [])
+
+-- tables of instances of these names stay filled, with these places more for one output
+abbrev pub AreAdded : List Name → Name → Name → List Place → List Leaf → List Leaf → Type 0
+AreAdded names x y ps old new =
+    (text : Name) (given : Name → Name → List Place) (is : List Instance) → names ≡ names_in_order is → AreDistinct (names_in_order is)
+    → AreFilled text given is old → AreFilled text (λ i o. given i o ++ for_end x y ps i o) is new
+
+-- these places are where the event input of an instance is, on a path with instances of these names
+abbrev pub AreEntered : Name → List Name → Name → Name → List Place → Type 0
+AreEntered text names j port ps = (path : Path) (is : List Instance) → ArePlain text path is → names ≡ names_in_order is → ps ≡ entered_in (instances_of is) path j port
+
+-- tables of instances of these names stay filled, with the places more where this connection leads
+abbrev pub IsFollowed : Name → List Name → Connection → List Leaf → List Leaf → Type 0
+IsFollowed text names c old new =
+    (path : Path) (is : List Instance) (given : Name → Name → List Place) → ArePlain text path is → names ≡ names_in_order is
+    → AreFilled text given is old → AreFilled text (λ i o. given i o ++ led path is (c ∷ []) i o) is new
+
+-- tables of instances, filled as these connections lead
+abbrev pub AreLed : Name → List Instance → List Connection → List Leaf → Type 0
+AreLed text is cs ls = (path : Path) → ArePlain text path is → AreFilled text (led path is cs) is ls

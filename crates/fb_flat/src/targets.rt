@@ -1,20 +1,17 @@
 //! Where event outputs lead.
 
-ghost use Rattle.std.specs.Prelude.{◌≡◌, ◌≤◌, ◌<◌, ◌+◌, ◌++◌, ◌∷◌, [], ℕ, List, true, false, length, map, string_bytes, if◌then◌else◌, IfOk, IfErr, IfSome, OnOk, MatchOption};
+ghost use Rattle.std.specs.Prelude.{◌≡◌, ◌≤◌, ◌<◌, ◌+◌, ◌∷◌, [], ℕ, false, length, map, string_bytes, IfOk, IfErr, IfSome, OnOk, MatchOption};
 ghost use Rattle.std.specs.List.{AllByRecursion, Any};
-ghost use Rattle.std.specs.Str.{bytes_eq};
 ghost use Rattle.indexmap.specs.IndexSet.{index_set_len};
-ghost use Rattle.fb_model.specs.Names.{Name, Path, Place, is_in};
+ghost use Rattle.fb_model.specs.Names.{is_in};
 ghost use Rattle.fb_model.specs.Spelling.{IsWord};
 ghost use Rattle.fb_model.specs.Typing.{AreDistinct};
-ghost use Rattle.fb_model.specs.Wires.{entered_in};
 ghost use Rattle.fb_model.specs.Plain.{IsPlainResource, IsPlainDevice, IsPlainSystem};
 ghost use Rattle.fb_types.specs.Answers.{Extends};
-ghost use Rattle.fb_types.specs.Views.{names_of, instances_of, resource_of, device_of, system_of};
-ghost use Rattle.fb_types.specs.declared.typed.Instance as typed;
+ghost use Rattle.fb_types.specs.Views.{names_of, resource_of, device_of, system_of};
 ghost use Rattle.fb_flat.specs.Views.{dotted};
-ghost use Rattle.fb_flat.specs.Leaves.{output_names, targets_of, target_place, IsResource, IsDevice, AreDevices, most_connections, IsFull, IsLimitAt};
-ghost use Rattle.fb_flat.specs.Filling.{AreFilled, ArePlain, IsFirst, names_in_order, places_of, for_end, led};
+ghost use Rattle.fb_flat.specs.Leaves.{output_names, target_place, IsResource, IsDevice, AreDevices, most_connections, IsFull, IsLimitAt};
+ghost use Rattle.fb_flat.specs.Filling.{IsFirst, LeadOn, AreAdded, AreEntered, IsFollowed, AreLed, names_in_order, places_of};
 
 use crate::CONNECTIONS;
 use crate::flat::{Flat, FlatDevice, FlatResource, Leaf, Output, Target};
@@ -59,7 +56,7 @@ fn find(outputs: &[Output], name: &str) -> Option<usize>
 // Adds a target to the first output of a name.
 fn lead(outputs: &mut Vec<Output>, name: &str, target: Target) -> Result<(), AllocError>
     ensures names { output_names outputs.new.items ≡ output_names outputs.old.items }
-    ensures targets { OnOk result ((o : Name) → is_in o (output_names outputs.old.items) ≡ true → targets_of outputs.new.items o ≡ targets_of outputs.old.items o ++ (if bytes_eq o name.now then target_place target ∷ [] else [])) }
+    ensures targets { OnOk result (LeadOn outputs.old.items name.now (target_place target ∷ []) outputs.new.items) }
 {
     match find(outputs, name) {
         Some(index) => Ok(outputs[index].targets.push(target)?),
@@ -67,14 +64,14 @@ fn lead(outputs: &mut Vec<Output>, name: &str, target: Target) -> Result<(), All
     }
 }
 
-// Adds a target to an output of an instance's leaf. The source is no leaf: nothing is added.
+// Adds a target to the output at an end, where an instance has its name.
 fn add(
     names: &IndexSet<String>,
     leaves: &mut Vec<Leaf>,
     source: &End,
     target: Target,
 ) -> Result<(), AllocError>
-    ensures { (text : Name) (given : Name → Name → List Place) (is : List typed.Instance) → names_of names.now ≡ names_in_order is → AreDistinct (names_in_order is) → AreFilled text given is leaves.old.items → OnOk result (AreFilled text (λ i o. given i o ++ for_end (string_bytes source.now.instance) (string_bytes source.now.port) (target_place target ∷ []) i o) is leaves.new.items) }
+    ensures { OnOk result (AreAdded (names_of names.now) (string_bytes source.now.instance) (string_bytes source.now.port) (target_place target ∷ []) leaves.old.items leaves.new.items) }
 {
     match names.get_index_of(source.instance.as_str()) {
         Some(index) => {
@@ -95,7 +92,7 @@ fn target(
     names: &IndexSet<String>,
     end: &End,
 ) -> Result<Option<Target>, AllocError>
-    ensures { (p : Path) (is : List typed.Instance) → ArePlain path.now p is → names_of names.now ≡ names_in_order is → IfOk result (λ t. places_of t ≡ entered_in (instances_of is) p (string_bytes end.now.instance) (string_bytes end.now.port)) }
+    ensures { IfOk result (λ t. AreEntered path.now (names_of names.now) (string_bytes end.now.instance) (string_bytes end.now.port) (places_of t)) }
 {
     if !names.contains(end.instance.as_str()) {
         return Ok(None);
@@ -114,7 +111,7 @@ fn follow(
     leaves: &mut Vec<Leaf>,
     connection: &Connection,
 ) -> Result<(), AllocError>
-    ensures { (p : Path) (is : List typed.Instance) (given : Name → Name → List Place) → ArePlain path.now p is → names_of names.now ≡ names_in_order is → AreFilled path.now given is leaves.old.items → OnOk result (AreFilled path.now (λ i o. given i o ++ led p is (connection.now ∷ []) i o) is leaves.new.items) }
+    ensures { OnOk result (IsFollowed path.now (names_of names.now) connection.now leaves.old.items leaves.new.items) }
 {
     match target(alloc, path, names, &connection.target)? {
         Some(target) => add(names, leaves, &connection.source, target),
@@ -124,7 +121,7 @@ fn follow(
 
 // The leaves of a resource, whose outputs lead where its connections do.
 fn filled(alloc: Global, path: &str, source: &Resource) -> Result<Vec<Leaf>, AllocError>
-    ensures { (p : Path) → ArePlain path.now p source.now.instances.items → IfOk result (λ v. AreFilled path.now (led p source.now.instances.items source.now.events.items) source.now.instances.items v.items) }
+    ensures { IfOk result (λ v. AreLed path.now source.now.instances.items source.now.events.items v.items) }
 {
     let names = places(alloc, &source.instances)?;
     let mut leaves = leaves(alloc, path, &source.instances)?;
@@ -166,7 +163,8 @@ fn device(alloc: Global, source: &Device) -> Result<FlatDevice, TypeFault>
 
 /// The leaves of a system and their target lists, in text order.
 ///
-/// More than [`CONNECTIONS`] followed connections in a resource are refused with `Limit` at its name.
+/// They are the book's leaves where names are words and tell instances apart.
+/// More than [`CONNECTIONS`] connections in a resource are refused with `Limit` at its name.
 pub fn flatten(alloc: Global, typed: &Typed) -> Result<Flat, TypeFault>
     ensures devices { IfOk result (λ f. map (λ d. string_bytes d.name) f.devices.items ≡ map (λ d. string_bytes d.name) typed.now.devices.items) }
     ensures leaves { IsPlainSystem (system_of typed.now) → IfOk result (λ f. AreDevices f.devices.items (system_of typed.now).devices) }

@@ -1,11 +1,10 @@
-use Rattle.std.proofs.Common.{◌≡◌, ◌∷◌, ◌++◌, [], cond, length, refl, ap, ◌∙◌, string_bytes, arith, Some}
+use Rattle.std.proofs.Common.{◌≡◌, ◌∷◌, [], length, refl, ap, subst, string_bytes, arith, Some}
 use Rattle.std.specs.Prelude.{slice_get}
-use Rattle.std.specs.Str.{bytes_eq}
 use Rattle.std.proofs.lemmas.List.{length-map}
 use Rattle.std.proofs.lemmas.Option.{slice_get_read}
 use Rattle.fb_types.proofs.Lists.{on_ok}
-use Rattle.fb_flat.specs.Leaves.{target_place, targets_of}
-use Rattle.fb_flat.specs.Filling.{names_in_order}
+use Rattle.fb_flat.specs.Leaves.{target_place}
+use Rattle.fb_flat.specs.Filling.{names_in_order, LeadOn}
 use Rattle.fb_flat.proofs.Filled.{filled_set, filled_nowhere, filled_long, placed}
 use Rattle.fb_flat.proofs.targets.add.Goals as goal
 
@@ -18,10 +17,9 @@ returns-then-index-len c =
     let k = c.in-Some.index in
     let port = c.as_str-then-index-len.ensures.value in
     let stands : slice_get ls k ≡ Some l = slice_get_read ls (length ls) k l refl (omega arith) c.index_mut.ensures.value in
-    λ text given is n d h.
     on_ok
-    (λ t. filled_set text given [] is ls x y (target_place c.args.target ∷ []) l _ k (placed c.as_str.result.now x c.args.names.now.keys (names_in_order is) (Some k) c.as_str.ensures.value n c.in-Some.ensures.index) stands d
-    (record { path = refl; body = refl; outputs = c.lead.ensures.names; targets = λ o e. t o e ∙ ap (λ z. targets_of l.outputs.items o ++ cond (bytes_eq o z) (target_place c.args.target ∷ []) []) port }) h)
+    (λ t text given is n d h. filled_set text given [] is ls x y (target_place c.args.target ∷ []) l _ k (placed c.as_str.result.now x c.args.names.now.keys (names_in_order is) (Some k) c.as_str.ensures.value n c.in-Some.ensures.index) stands d
+    (record { path = refl; body = refl; outputs = c.lead.ensures.names; targets = subst (λ z. LeadOn l.outputs.items z (target_place c.args.target ∷ []) c.lead.new.outputs.items) port t }) h)
     c.lead.result c.lead.ensures.targets
 
 pub returns-else-index-len : goal.returns-else-index-len

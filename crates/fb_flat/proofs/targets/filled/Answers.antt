@@ -2,7 +2,7 @@ use Rattle.std.proofs.Common.{◌≡◌, ◌+◌, ◌++◌, ◌∷◌, [], take,
 use Rattle.std.proofs.lemmas.List.{take_all}
 use Rattle.fb_model.specs.Typing.{AreDistinct}
 use Rattle.fb_types.specs.Views.{names_of}
-use Rattle.fb_flat.specs.Filling.{AreFilled, names_in_order, led}
+use Rattle.fb_flat.specs.Filling.{AreLed, names_in_order, led}
 use Rattle.fb_flat.proofs.Filled.{filled_same}
 use Rattle.fb_flat.proofs.Leading.{led_turn}
 use Rattle.fb_flat.proofs.targets.filled.Goals as goal
@@ -25,4 +25,4 @@ returns c =
     let is = c.args.source.now.instances.items in
     let cs = c.args.source.now.events.items in
     let k = c.loop-connection.connection-index in
-    λ p plain. subst (λ ds. AreFilled c.args.path.now (led p is ds) is c.loop-connection.leaves.items) (take_all k cs (omega arith)) (c.loop-connection.invariant p plain)
+    subst (λ ds. AreLed c.args.path.now is ds c.loop-connection.leaves.items) (take_all k cs (omega arith)) c.loop-connection.invariant
