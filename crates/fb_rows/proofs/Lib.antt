@@ -1,0 +1,5 @@
+pub mod Members
+pub mod Places
+pub mod Tables
+pub mod Systems
+pub mod Matches
