@@ -6,31 +6,15 @@ use Rattle.fb_model.specs.Spelling.{IsWord, word, part, no_part}
 use Rattle.fb_model.specs.System as system
 use Rattle.fb_model.specs.Wires as wires
 use Rattle.fb_model.specs.Certificates as book
-use Rattle.fb_model.specs.CertificateText.{names_in, place_of, all_but_last, last_name}
+use Rattle.fb_model.specs.CertificateText.{place_of}
 use Rattle.fb_cert.specs.declared.certificate.Certificate.{Certificate}
 use Rattle.fb_cert.specs.Views.{certificate_of}
 use Rattle.fb_types.specs.declared.typed.Body.TheVariants as b
 use Rattle.fb_flat.specs.declared.flat.Leaf.{Leaf}
 use Rattle.fb_flat.specs.Views.{dotted}
 use Rattle.fb_flat.specs.Leaves.{IsLeaf, kind_of}
-use Rattle.fb_flat.proofs.Dotted.{names_dotted}
+use Rattle.fb_rows.proofs.Places.{placed_at}
 use Rattle.fb_check.specs.Depths.{Arrives, IsMost}
-
-front : (ns : Path) (n : Name) → all_but_last (ns ++ n ∷ []) ≡ ns
-front [] n = refl
-front (m ∷ []) n = refl
-front (m ∷ o ∷ ns) n = ap (λ z. m ∷ z) (front (o ∷ ns) n)
-
-back : (ns : Path) (n : Name) → last_name (ns ++ n ∷ []) ≡ n
-back [] n = refl
-back (m ∷ []) n = refl
-back (m ∷ o ∷ ns) n = back (o ∷ ns) n
-
--- the place of a word behind a path
-pub placed_at : (p n : Name) → IsWord n → place_of (dotted p n) ≡ at_place (names_in p) n
-placed_at p n h =
-    let e = names_dotted p n h in
-    ap (λ ns. at_place (all_but_last ns) (last_name ns)) e ∙ ap (λ ns. at_place ns (last_name (names_in p ++ n ∷ []))) (front (names_in p) n) ∙ ap (at_place (names_in p)) (back (names_in p) n)
 
 arrive_word : IsWord (codes "ARRIVE")
 arrive_word = word refl (part refl (part refl (part refl (part refl (part refl no_part)))))

@@ -9,7 +9,9 @@ use Rattle.fb_model.specs.Ranges.{Range}
 use Rattle.fb_model.specs.Certificates as book
 use Rattle.fb_model.specs.Certificates.{ColumnFits, ArrivalsFit, name_at, depth_at}
 use Rattle.fb_model.specs.CertificateText.{names_in}
-use Rattle.fb_model.specs.Plain.{IsPlainLeaf, Pays}
+use Rattle.fb_model.specs.Plain.{IsPlainLeaf, Pays, IsWritten}
+use Rattle.fb_model.specs.Certificates.{FollowsFew, AllRows, Fits}
+use Rattle.fb_model.proofs.Fitted.{fits_where, leaves_plain}
 use Rattle.fb_model.proofs.Lists.{all_append, all_both}
 use Rattle.fb_model.proofs.Placed.{all_left, all_right}
 use Rattle.fb_model.proofs.Homes.{resource_homes}
@@ -88,3 +90,8 @@ devices_pay cert [] [] s p a is plain = tt
 devices_pay cert (f ∷ fs) (d ∷ ds) s p a is plain = (device_pays cert f d s.0 p.0 a.0 is.0 plain.0, devices_pay cert fs ds s.1 p.1 a.1 is.1 plain.1)
 devices_pay cert [] (d ∷ ds) s p a is plain = absurd is
 devices_pay cert (f ∷ fs) [] s p a is plain = absurd is
+
+-- the tables pay, so the certificate fits
+pub fits_by : (s : system.System) (cert : Certificate) (fs : List FlatDevice) → IsWritten s → AreDevices fs s.devices → AllByRecursion FollowsFew s.devices → AllRows s (certificate_of cert)
+    → AllByRecursion (DevicePays Steps cert) fs → AllByRecursion (DevicePays Places cert) fs → AllByRecursion (DeviceArrives cert) fs → Fits s (certificate_of cert)
+fits_by s cert fs w a few rows steps places arrive = fits_where s (certificate_of cert) w refl few rows (devices_pay cert fs s.devices steps places arrive a (leaves_plain s w))

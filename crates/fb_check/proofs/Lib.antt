@@ -5,3 +5,4 @@ pub mod Loops
 pub mod Arriving
 pub mod Composed
 pub mod Denied
+pub mod Once

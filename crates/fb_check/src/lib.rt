@@ -7,7 +7,6 @@ mod depth;
 mod leaf;
 mod pays;
 mod refusal;
-mod rows;
 mod verdict;
 mod verified;
 
