@@ -1,4 +1,4 @@
--- What a refusal says of the source: this project's profile, for names and limits of IEC 61499-1 edition 2, 5.2 and 5.3.
+-- What a refusal says of the source: this project's profile, for names, limits, services and connections of IEC 61499-1 edition 2, 5.2, 5.3 and 6.1.
 -- Each says what is at fault and where it stands. Memory that ran out says nothing.
 use Rattle.std.specs.Prelude.{ℕ, ◌≡◌, ◌<◌, ◌≤◌, pos, List, [], ◌∷◌, ◌++◌, Option, None, Some, true, false, map, length, slice_get, nat_eq, codes, if◌then◌else◌}
 use Rattle.fb_model.specs.Names.{Name, is_in}
@@ -80,15 +80,21 @@ first_other (p ∷ ps) = if bytes_eq p.name.text (codes "ID") then first_other p
 -- what is at fault in the parameters of an INPUT, whose instance's name stands at this place.
 -- It has one parameter ID, which is a whole number from 0 to 65535
 pub data IsInputFault (at : ℕ) (ps : List ParameterTree) (f : TypeFault) : Type 0 where
+  -- a parameter is not named ID: the first such, at its name
   other_parameter : {p : ParameterTree} → first_other ps ≡ Some p → f ≡ UnknownName p.name.at → IsInputFault at ps f
+  -- there is none, at the instance's name
   no_id : ps ≡ [] → f ≡ BadService at → IsInputFault at ps f
+  -- it is ID, and no such number, at the instance's name
   wrong_id : {p : ParameterTree} → ps ≡ p ∷ [] → first_other ps ≡ None → ((n : ℕ) → IsWhole p.value.value (pos n) → n ≤ 65535 → ⊥) → f ≡ BadService at → IsInputFault at ps f
+  -- it is given more than once, at the instance's name
   many_ids : first_other ps ≡ None → 1 < length ps → f ≡ BadService at → IsInputFault at ps f
 
 -- what is at fault in an instance, by the declared types
 pub data IsInstanceFault (bs : List BlockTree) (i : InstanceTree) (f : TypeFault) : Type 0 where
   no_memory_for_instance : f ≡ OutOfMemory → IsInstanceFault bs i f
+  -- the type's name stands for no declared block and for no service here, at that name
   unknown_type : (i.type.text ≡ codes "INPUT" → ⊥) → block_named bs i.type.text ≡ None → f ≡ UnknownName i.type.at → IsInstanceFault bs i f
+  -- a declared block has no parameters, at the first one's name
   parameter_of_a_block : {b : BlockTree} → (i.type.text ≡ codes "INPUT" → ⊥) → block_named bs i.type.text ≡ Some b → IsSuperfluous i.parameters f → IsInstanceFault bs i f
   faulty_input : i.type.text ≡ codes "INPUT" → IsInputFault i.name.at i.parameters f → IsInstanceFault bs i f
 
@@ -112,12 +118,16 @@ pub data IsInstancesFault (bs : List BlockTree) (taken : List ℕ) (is : List In
 
 -- ---- connections
 
--- what is at fault in an end of a connection, whose TO stands at this place: a port of an instance, among those of its way. A resource has no ports of its own
+-- what is at fault in an end of a connection, whose TO stands at this place: it is a port of an instance, among those of its way
 pub data IsEndFault (ports others : Body → List Name) (inner : Instances) (at : ℕ) (p : PortTree) (f : TypeFault) : Type 0 where
   no_memory_for_end : f ≡ OutOfMemory → IsEndFault ports others inner at p f
+  -- a name alone, at it: a resource has no ports of its own
   own_port : p.second ≡ None → f ≡ UnknownName p.first.at → IsEndFault ports others inner at p f
+  -- a name that no instance has, at it
   unknown_instance : body_named inner p.first.text ≡ None → f ≡ UnknownName p.first.at → IsEndFault ports others inner at p f
+  -- a name that no port of the instance has, at it
   unknown_port : {port : Word} {body : Body} → p.second ≡ Some port → body_named inner p.first.text ≡ Some body → is_in port.text (ports body) ≡ false → is_in port.text (others body) ≡ false → f ≡ UnknownName port.at → IsEndFault ports others inner at p f
+  -- a port that goes the other way, at the TO
   other_way : {port : Word} {body : Body} → p.second ≡ Some port → body_named inner p.first.text ≡ Some body → is_in port.text (ports body) ≡ false → is_in port.text (others body) ≡ true → f ≡ BadConnection at → IsEndFault ports others inner at p f
 
 -- what is at fault in a connection between instances

@@ -1,11 +1,11 @@
-use Rattle.std.proofs.Common.{◌≡◌, [], map, sym, ap, subst, ◌∙◌, string_bytes}
-use Rattle.fb_model.specs.Typing.{block_texts, typed_block}
+use Rattle.std.proofs.Common.{[], map, sym, subst}
 use Rattle.fb_text.specs.Views as trees_of
-use Rattle.fb_types.specs.Views.{names_of, block_of}
+use Rattle.fb_types.specs.Views.{names_of}
 use Rattle.std.proofs.lemmas.Result.{err_from_is_err_and}
 use Rattle.fb_types.specs.Refusals.{IsExcess, IsRepetition, no_memory_for_source, repeated_block, faulty_block, excess_device, repeated_device, faulty_device}
 use Rattle.fb_types.proofs.Refused.{either_of}
 use Rattle.fb_types.proofs.Lists.{map_map, same_length}
+use Rattle.fb_types.proofs.Tables.{declares}
 use Rattle.fb_types.proofs.FaultlessSystems.{only_memory, one_system}
 use Rattle.fb_types.proofs.system.resolve.Goals as goal
 
@@ -13,9 +13,7 @@ pub returns-clause-typed : goal.returns-clause-typed
 returns-clause-typed c =
     let x = c.args.source in
     let sources = map trees_of.block_of x.blocks.items in
-    let texts : names_of c.in_ok-names.names ≡ map (λ i. string_bytes i.name.text) x.blocks.items = c.in_ok-names.ensures.names ∙ ap (map (λ i. string_bytes i.name.text)) c.deref.ensures.value in
-    let named : names_of c.in_ok-names.names ≡ block_texts sources = texts ∙ sym (map_map (λ i. i.name.text) trees_of.block_of x.blocks.items) in
-    let values : map (λ b. block_of b.value) c.in_ok-blocks.blocks.items ≡ map typed_block sources = rw c.deref-2.ensures.value at c.in_ok-blocks.ensures.values in
+    let table = declares (names_of c.in_ok-names.names) x.blocks.items _ (rw c.deref.ensures.value at c.in_ok-names.ensures.names) (rw c.deref-2.ensures.value at c.in_ok-blocks.ensures.values) in
     let made = rw (c.deref-5.ensures.value, c.deref-6.ensures.value) at c.in_ok-devices.ensures.typed in
     record {
       blocks = record {
@@ -24,7 +22,7 @@ returns-clause-typed c =
       };
       names = rw (map_map, ← c.deref-4.ensures.value) c.in_ok-table.ensures.distinct;
       few = same_length trees_of.device_of x.system.devices.items _ (rw c.deref-3.ensures.value at c.in_ok-at_most.ensures.few);
-      devices = made sources (record { names_are = named; blocks_are = values });
+      devices = made sources table;
     }
 
 pub returns-in_err-names-clause-refused : goal.returns-in_err-names-clause-refused
@@ -52,12 +50,10 @@ pub returns-in_err-devices-clause-refused : goal.returns-in_err-devices-clause-r
 returns-in_err-devices-clause-refused c =
     let x = c.args.source in
     let sources = map trees_of.block_of x.blocks.items in
-    let texts : names_of c.in_ok-names.names ≡ map (λ i. string_bytes i.name.text) x.blocks.items = c.in_ok-names.ensures.names ∙ ap (map (λ i. string_bytes i.name.text)) c.deref.ensures.value in
-    let named : names_of c.in_ok-names.names ≡ block_texts sources = texts ∙ sym (map_map (λ i. i.name.text) trees_of.block_of x.blocks.items) in
-    let values : map (λ b. block_of b.value) c.in_ok-blocks.blocks.items ≡ map typed_block sources = rw c.deref-2.ensures.value at c.in_ok-blocks.ensures.values in
+    let table = declares (names_of c.in_ok-names.names) x.blocks.items _ (rw c.deref.ensures.value at c.in_ok-names.ensures.names) (rw c.deref-2.ensures.value at c.in_ok-blocks.ensures.values) in
     let refused = rw (c.deref-5.ensures.value, c.deref-6.ensures.value) at c.in_err-devices.ensures.refused in
     let p = err_from_is_err_and c.from_residual-in_err-devices.result c.from_residual-in_err-devices.ensures.1 in
-    rw (p.1, p.2) (either_of no_memory_for_source faulty_device (refused sources (record { names_are = named; blocks_are = values })))
+    rw (p.1, p.2) (either_of no_memory_for_source faulty_device (refused sources table))
 
 pub returns-clause-accepts : goal.returns-clause-accepts
 returns-clause-accepts c = λ system e. one_system (trees_of.source_of c.args.source) _ system (returns-clause-typed c) e

@@ -1,11 +1,12 @@
-use Rattle.std.proofs.Common.{◌≡◌, [], map, sym, ap, subst, ◌∙◌, refl, string_bytes}
+use Rattle.std.proofs.Common.{[], map, sym, subst, refl}
 use Rattle.fb_model.specs.Typing.{AreInstances}
 use Rattle.fb_text.specs.Views as trees_of
 use Rattle.fb_types.specs.Views.{names_of, instances_of}
 use Rattle.std.proofs.lemmas.Result.{err_from_is_err_and}
 use Rattle.fb_types.specs.Refusals.{IsExcess, IsRepetition, no_memory_for_resource, excess_instance, repeated_instance, faulty_instances, faulty_connection}
 use Rattle.fb_types.proofs.Refused.{either_of}
-use Rattle.fb_types.proofs.Lists.{map_map, same_length, names_kept}
+use Rattle.fb_types.proofs.Lists.{map_map, same_length}
+use Rattle.fb_types.proofs.Tables.{table_of}
 use Rattle.fb_types.proofs.system.resource.Goals as goal
 
 pub returns-clause-typed : goal.returns-clause-typed
@@ -14,16 +15,14 @@ returns-clause-typed c =
     let is = c.in_ok-instances.instances.items in
     λ sources d.
     let typed : AreInstances sources (map trees_of.instance_of x.instances.items) (instances_of is) = rw c.deref-3.ensures.value at (c.in_ok-instances.ensures.typed sources d) in
-    let texts : names_of c.in_ok-locals.locals ≡ map (λ i. string_bytes i.name.text) x.instances.items = c.in_ok-locals.ensures.names ∙ ap (map (λ i. string_bytes i.name.text)) c.deref-2.ensures.value in
-    let table : names_of c.in_ok-locals.locals ≡ map (λ i. string_bytes i.name) is =
-    texts ∙ sym (map_map (λ i. i.name.text) trees_of.instance_of x.instances.items) ∙ sym (names_kept sources (map trees_of.instance_of x.instances.items) is typed) in
+    let table = table_of sources (names_of c.in_ok-locals.locals) x.instances.items is (rw c.deref-2.ensures.value at c.in_ok-locals.ensures.names) typed in
     let joined = rw (c.deref-4.ensures.value, c.deref-5.ensures.value) at c.in_ok-events.ensures.typed in
     record {
       name = c.in_ok-name.ensures.cases;
       names = rw (map_map, ← c.deref-2.ensures.value) c.in_ok-locals.ensures.distinct;
       few = same_length trees_of.instance_of x.instances.items _ (rw c.deref.ensures.value at c.in_ok-at_most.ensures.few);
       instances = typed;
-      events = joined (record { names_are = table });
+      events = joined table;
       values = refl;
     }
 
@@ -54,7 +53,5 @@ returns-in_err-events-clause-refused c =
     let refused = rw (c.deref-4.ensures.value, c.deref-5.ensures.value) at c.in_err-events.ensures.refused in
     λ sources d.
     let typed : AreInstances sources (map trees_of.instance_of x.instances.items) (instances_of is) = rw c.deref-3.ensures.value at (c.in_ok-instances.ensures.typed sources d) in
-    let texts : names_of c.in_ok-locals.locals ≡ map (λ i. string_bytes i.name.text) x.instances.items = c.in_ok-locals.ensures.names ∙ ap (map (λ i. string_bytes i.name.text)) c.deref-2.ensures.value in
-    let table : names_of c.in_ok-locals.locals ≡ map (λ i. string_bytes i.name) is =
-    texts ∙ sym (map_map (λ i. i.name.text) trees_of.instance_of x.instances.items) ∙ sym (names_kept sources (map trees_of.instance_of x.instances.items) is typed) in
-    rw (p.1, p.2) (either_of no_memory_for_resource (faulty_connection (instances_of is) typed) (refused (record { names_are = table })))
+    let table = table_of sources (names_of c.in_ok-locals.locals) x.instances.items is (rw c.deref-2.ensures.value at c.in_ok-locals.ensures.names) typed in
+    rw (p.1, p.2) (either_of no_memory_for_resource (faulty_connection (instances_of is) typed) (refused table))
