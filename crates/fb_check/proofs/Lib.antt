@@ -6,3 +6,4 @@ pub mod Arriving
 pub mod Composed
 pub mod Denied
 pub mod Once
+pub mod Reading

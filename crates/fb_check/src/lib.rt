@@ -7,6 +7,7 @@ mod depth;
 mod leaf;
 mod pays;
 mod refusal;
+mod texts;
 mod verdict;
 mod verified;
 

@@ -1,6 +1,6 @@
 //! The verdict over a system and a certificate.
 
-ghost use Rattle.std.specs.Prelude.{◌≡◌, IfOk, IfErr, OnOk, MatchResult};
+ghost use Rattle.std.specs.Prelude.{◌≡◌, ◌≤◌, length, IfOk, IfErr, OnOk};
 ghost use Rattle.fb_cert.specs.Views.{certificate_of};
 ghost use Rattle.fb_types.specs.Views.{system_of};
 ghost use Rattle.fb_types.specs.declared.typed.Typed as types;
@@ -8,6 +8,11 @@ ghost use Rattle.fb_flat.specs.Leaves.{AreDevices};
 ghost use Rattle.fb_check.specs.Verdicts.{system_in, certificate_in, IsOfTexts, IsFaultOf};
 ghost use Rattle.std.specs.List.{AllByRecursion};
 ghost use Rattle.fb_model.specs.System.{System};
+ghost use Rattle.fb_model.specs.Trees.{SourceTree};
+ghost use Rattle.fb_model.specs.Typing.{Elaborates};
+ghost use Rattle.fb_model.specs.Certificates as book;
+ghost use Rattle.fb_model.specs.CertificateText.{Spells, most_characters};
+ghost use Rattle.fb_text.specs.Answers.{IsSource};
 ghost use Rattle.fb_model.specs.Certificates.{FollowsFew, Fits};
 ghost use Rattle.fb_model.specs.Plain.{IsWritten};
 ghost use Rattle.fb_rows.specs.Faults.{HasNoRowTwice};
@@ -18,12 +23,12 @@ use crate::column::Column;
 use crate::depth::depths_fit;
 use crate::pays::column_pays;
 use crate::refusal::Refusal;
+use crate::texts::{read_certificate, read_system};
 use crate::verified::Verified;
-use fb_cert::{Certificate, parse_cert};
+use fb_cert::Certificate;
 use fb_flat::{Flat, flatten};
 use fb_rows::rows_match;
-use fb_text::parse;
-use fb_types::{Typed, resolve};
+use fb_types::Typed;
 use std::alloc::Global;
 
 // The rows are those that the system must have, and pay in both columns and at each queue.
@@ -68,13 +73,19 @@ pub fn check(alloc: Global, typed: Typed, certificate: Certificate) -> Result<Ve
 
 /// The verdict over the text of an application and the text of a certificate.
 ///
-/// What is accepted is spelled and well typed, and its certificate is spelled; a fault of a text is one that the text has.
+/// It accepts just where the first is spelled and well typed, the second is spelled, and the certificate fits, unless memory runs out or a text
+/// is too long. What a refusal says is so.
 pub fn check_text(alloc: Global, text: &str, certificate: &str) -> Result<Verified, Refusal>
     ensures accepted { IfOk result (IsOfTexts text.now certificate.now) }
     ensures refused { IfErr result (IsFaultOf text.now certificate.now) }
+    ensures accepts { (source : SourceTree) (system : System) (rows : book.Certificate) → length text.now ≤ 1048576 → length certificate.now ≤ most_characters
+        → IsSource text.now source → Elaborates source system → Spells certificate.now rows → Fits system rows → IfErr result (λ f. f ≡ OutOfMemory) }
 {
-    let source = parse(alloc, text)?;
-    let typed = resolve(alloc, source)?;
-    let rows = parse_cert(alloc, certificate)?;
-    check(alloc, typed, rows)
+    match read_system(alloc, text) {
+        Ok(typed) => match read_certificate(alloc, certificate) {
+            Ok(rows) => check(alloc, typed, rows),
+            Err(refusal) => Err(refusal),
+        },
+        Err(refusal) => Err(refusal),
+    }
 }
