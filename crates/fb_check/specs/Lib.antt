@@ -5,3 +5,4 @@ pub mod Reckoning
 pub mod Verdicts
 pub mod Lookups
 pub mod Fitting
+pub mod Paying
