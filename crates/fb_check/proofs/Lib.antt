@@ -4,3 +4,8 @@ pub mod Lookups
 pub mod Each
 pub mod Costs
 pub mod Owing
+pub mod Amounts
+pub mod Typed
+pub mod Crossings
+pub mod Weighing
+pub mod Leaves

@@ -156,6 +156,8 @@ pub fn leaf_fits(
     leaf: &Leaf,
 ) -> Result<(), Refusal>
     ensures kinds { IfErr result IsSizeRefusal }
+    ensures fits { (b : book.Leaf) (limits : Limits) → IsLeaf leaf.now b → IsPlainLeaf b → OnOk result (KindWeighs (column_of column (certificate_of certificate.now)) limits b.targets b.path b.kind) }
+    ensures refused { (b : book.Leaf) (limits : Limits) → IsLeaf leaf.now b → IsPlainLeaf b → IfErr result (IsLeafFault (column_of column (certificate_of certificate.now)) limits b) }
 {
     let loads = loads(alloc, certificate, column, &leaf.outputs)?;
     let path = leaf.path.as_str();
