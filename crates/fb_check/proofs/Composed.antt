@@ -25,7 +25,7 @@ use Rattle.fb_check.specs.declared.column.Column.{Column}
 use Rattle.fb_check.specs.declared.column.Column.TheVariants.{Steps, Places}
 use Rattle.fb_check.specs.Columns.{column_of}
 use Rattle.fb_check.specs.Depths.{Arrives, LeafArrives, ResourceArrives, DeviceArrives, depth_of}
-use Rattle.fb_check.specs.Paying.{LeafPays, ResourcePays, DevicePays}
+use Rattle.fb_check.specs.Tables.{LeafPays, ResourcePays, DevicePays}
 
 -- ---- columns
 

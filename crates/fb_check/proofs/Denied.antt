@@ -41,7 +41,7 @@ use Rattle.fb_check.specs.Columns.{column_of}
 use Rattle.fb_check.specs.Fitting.{IsLeafFault, ChargeFails, WeightFails}
 use Rattle.fb_check.specs.Faults.{Some, IsUnpaid, IsShallow, IsCrowded, IsFitFault}
 use Rattle.fb_check.specs.Depths.{Arrives, IsDepthFault, depth_of}
-use Rattle.fb_check.specs.Paying.{LeafFails, ResourceFails, DeviceFails}
+use Rattle.fb_check.specs.Tables.{LeafFails, ResourceFails, DeviceFails}
 
 -- ---- one of a list
 

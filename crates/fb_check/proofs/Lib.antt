@@ -7,3 +7,11 @@ pub mod Composed
 pub mod Denied
 pub mod Once
 pub mod Reading
+pub mod Each
+pub mod Costs
+pub mod Owing
+pub mod Amounts
+pub mod Typed
+pub mod Crossings
+pub mod Weighing
+pub mod Leaves

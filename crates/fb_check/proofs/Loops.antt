@@ -1,5 +1,6 @@
 -- What holds of each element, one after another.
 use Rattle.std.proofs.Common.{◌≡◌, ℕ, zero, suc, ◌+◌, ◌<◌, List, [], ◌∷◌, length, get_or, drop, sym, ap, subst, ◌∙◌, arith}
+use Rattle.std.specs.Prelude.{Result, Ok, Err, OnOk}
 use Rattle.std.specs.List.{Any, AllByRecursion}
 use Rattle.std.proofs.Math.Seq.{drop-cons}
 
@@ -19,3 +20,7 @@ all_in P xs ys i x same l e = all_on P xs i x (subst (λ zs. i < length zs) same
 
 pub any_in : {X : Type 0} (P : X → Type 0) (xs ys : List X) (i : ℕ) (x : X) → ys ≡ xs → i < length ys → x ≡ get_or ys i x → P x → Any P xs
 any_in P xs ys i x same l e = any_at P xs i x (subst (λ zs. i < length zs) same l) (subst (λ zs. x ≡ get_or zs i x) same e)
+
+pub on_ok : {A E : Type 0} {P Q : Type 0} (r : Result A E) → (P → Q) → OnOk r P → OnOk r Q
+on_ok (Ok a) f h = f h
+on_ok (Err e) f h = tt

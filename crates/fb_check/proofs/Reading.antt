@@ -1,6 +1,10 @@
 -- Faults of texts as refusals.
 use Rattle.std.proofs.Common.{◌≡◌, ◌≤◌, ℕ, List, length, ap, subst, sym, ◌∙◌, refl, Result, Ok, Err}
-use Rattle.std.specs.Prelude.{MatchResult}
+use Rattle.std.specs.Prelude.{IfOk, OnOk}
+use Rattle.fb_model.specs.Certificates as book
+use Rattle.fb_model.specs.Certificates.{Fits}
+use Rattle.fb_model.specs.CertificateText.{Spells}
+use Rattle.fb_check.specs.declared.verified.Verified.{Verified}
 use Rattle.fb_model.specs.Trees.{SourceTree}
 use Rattle.fb_model.specs.System.{System}
 use Rattle.fb_model.specs.Typing.{Elaborates}
@@ -13,12 +17,12 @@ use Rattle.fb_types.specs.declared.fault.TypeFault.TheVariants as faults
 use Rattle.fb_types.specs.Refusals.{IsSourceFault}
 use Rattle.fb_cert.specs.declared.fault.CertFault.{CertFault}
 use Rattle.fb_cert.specs.declared.fault.CertFault.TheVariants as certs
-use Rattle.fb_cert.specs.Answers.{Refuses}
+use Rattle.fb_cert.specs.Answers.{Refuses, Finds}
 use Rattle.fb_text.specs.Answers.{IsSource, ReadsText, FindsTree}
 use Rattle.fb_check.specs.declared.refusal.Refusal.{Refusal}
 use Rattle.fb_check.specs.declared.refusal.Refusal.TheVariants.{OutOfMemory, Text, Typing, Certificate as Spelling, UnknownRow, MissingRow, Charge, Weight, Depth}
 use Rattle.fb_check.specs.Refusals.{of_text, of_type, of_certificate}
-use Rattle.fb_check.specs.Verdicts.{IsSystemOf, IsTypingFault, IsTextFault, IsCertificateFault}
+use Rattle.fb_check.specs.Verdicts.{IsSystemOf, IsTypingFault, IsTextFault, IsCertificateFault, IsOfTexts, system_in, certificate_in}
 
 pub typing_fault : (source : SourceTree) (f : TypeFault) → IsSourceFault source f → IsTypingFault source (of_type f)
 typing_fault source faults.OutOfMemory h = tt
@@ -62,3 +66,30 @@ tree_fault text source (Depth x) s h = absurd h
 
 pub written : (text : List ℕ) (system : System) → IsSystemOf text system → IsWritten system
 written text system s = record { source = s.source; typed = s.typed; plain = plain s.source_is.1 s.source_is.2 s.typed }
+
+-- where the tree is found unless memory runs out, a fault is that memory ran out
+pub no_memory : (f : TextFault) (source : SourceTree) → FindsTree (Err f) source → of_text f ≡ OutOfMemory
+no_memory texts.OutOfMemory source h = refl
+no_memory (texts.BadCharacter at) source h = absurd h
+no_memory (texts.BigNumber at) source h = absurd h
+no_memory texts.TooLong source h = absurd h
+no_memory (texts.Syntax at) source h = absurd h
+no_memory (texts.TooDeep at) source h = absurd h
+
+-- the same of a certificate's text
+pub no_room : {X Y : Type 0} (view : X → Y) (f : CertFault) (y : Y) → Finds view (Err f) y → of_certificate f ≡ OutOfMemory
+no_room view certs.OutOfMemory y h = refl
+no_room view certs.TooLong y h = absurd h
+no_room view (certs.Row line) y h = absurd h
+no_room view (certs.DuplicateRow line) y h = absurd h
+
+-- what is verified of a system and a certificate that stand in texts
+pub accepted_by : (text certificate : List ℕ) (system : System) (rows : book.Certificate) (r : Result Verified Refusal) → IsSystemOf text system → Spells certificate rows
+    → IfOk r (λ v. (system_in v ≡ system) × (certificate_in v ≡ rows)) → OnOk r (Fits system rows) → IfOk r (IsOfTexts text certificate)
+accepted_by text certificate system rows (Ok v) s c same fits =
+    record {
+      system_is = subst (IsSystemOf text) (sym same.0) s;
+      certificate_is = subst (Spells certificate) (sym same.1) c;
+      fits = subst (λ x. Fits x (certificate_in v)) (sym same.0) (subst (Fits system) (sym same.1) fits);
+    }
+accepted_by text certificate system rows (Err f) s c same fits = tt

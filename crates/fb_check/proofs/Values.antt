@@ -1,8 +1,8 @@
 -- Look-ups by the place of a name.
-use Rattle.std.proofs.Common.{◌≡◌, ℕ, zero, suc, ◌+◌, ◌<◌, ◌≤◌, drop, List, [], ◌∷◌, ◌++◌, Bool, true, false, cond, length, get_or, Option, Some, None, option_map, refl, sym, ap, subst, ◌∙◌, arith}
+use Rattle.std.proofs.Common.{◌≡◌, ℕ, zero, suc, ◌+◌, ◌<◌, ◌≤◌, drop, List, [], ◌∷◌, ◌++◌, Bool, true, false, cond, length, get_or, Option, Some, None, option_map, refl, sym, ap, subst, ◌∙◌, arith, add-one, sum}
 use Rattle.std.specs.Str.{bytes_eq}
 use Rattle.std.specs.List.{sum_by}
-use Rattle.std.proofs.lemmas.List.Sums.{sum_by-drop_more}
+use Rattle.std.proofs.lemmas.List.Sums.{sum_by-drop_more, sum_by-cons}
 use Rattle.fb_model.specs.Names.{Name}
 use Rattle.fb_types.proofs.Places.{place}
 use Rattle.fb_check.specs.Sums.{IsSum}
@@ -66,3 +66,21 @@ pub sum_step : {X : Type 0} (f : X → ℕ) (xs : List X) (i : ℕ) (x : X) → 
 sum_step f xs i x h e v n total m k =
     let s : sum_by f (drop i xs) ≡ f x + sum_by f (drop (i + 1) xs) = sum_by-drop_more f xs i x h ∙ ap (λ y. f y + sum_by f (drop (i + 1) xs)) (sym e) in
     omega (arith, s, k, m)
+
+turn_suc : (ss : List (Option ℕ)) (ns : List ℕ) (i : ℕ) → AreSums ss ns → i < length ss → (n : ℕ) × ((other : Option ℕ) → IsSum (get_or ss i other) n) × (sum (drop i ns) ≡ n + sum (drop (suc i) ns))
+turn_suc [] ns i h l = absurd (omega arith)
+turn_suc (t ∷ ss) [] i h l = absurd h
+turn_suc (t ∷ ss) (n ∷ ns) zero h l = (n, λ other. h.0, sum_by-cons (λ (x : ℕ). x) n ns)
+turn_suc (t ∷ ss) (n ∷ ns) (suc i) h l = turn_suc ss ns i h.1 (omega arith)
+
+-- one sum of many, and its number
+pub sums_turn : (ss : List (Option ℕ)) (ns : List ℕ) (i : ℕ) → AreSums ss ns → i < length ss → (n : ℕ) × ((other : Option ℕ) → IsSum (get_or ss i other) n) × (sum (drop i ns) ≡ n + sum (drop (i + 1) ns))
+sums_turn ss ns i h l = rw add-one (turn_suc ss ns i h l)
+
+pub sums_end : (ss : List (Option ℕ)) (ns : List ℕ) (i : ℕ) → AreSums ss ns → length ss ≤ i → sum (drop i ns) ≡ 0
+sums_end [] [] zero h l = refl
+sums_end [] [] (suc i) h l = refl
+sums_end [] (n ∷ ns) i h l = absurd h
+sums_end (s ∷ ss) [] i h l = absurd h
+sums_end (s ∷ ss) (n ∷ ns) zero h l = absurd (omega arith)
+sums_end (s ∷ ss) (n ∷ ns) (suc i) h l = sums_end ss ns i h.1 (omega arith)

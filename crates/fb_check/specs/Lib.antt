@@ -7,4 +7,5 @@ pub mod Lookups
 pub mod Fitting
 pub mod Depths
 pub mod Paying
+pub mod Tables
 pub mod Faults

@@ -1,37 +1,97 @@
--- Columns of the tables, in the book's terms.
-use Rattle.std.specs.Prelude.{◌≡◌, ℕ}
-use Rattle.std.specs.List.{Any, AllByRecursion}
-use Rattle.fb_model.specs.Language.{Limits}
-use Rattle.fb_model.specs.Wires as wires
-use Rattle.fb_model.specs.Certificates.{KindWeighs}
-use Rattle.fb_model.specs.Plain.{IsPlainLeaf}
+-- When the rows of a leaf's tables pay for what they have to, in one column, and what a refusal names.
+use Rattle.std.specs.Prelude.{◌≡◌, ◌≤◌, ◌⊎◌, ℕ, ◌+◌, List, [], ◌∷◌, Option, None, Some, Result, MatchResult, string_bytes}
+use Rattle.std.specs.List.{AllByRecursion, Any}
+use Rattle.fb_model.specs.Names.{Name}
 use Rattle.fb_cert.specs.declared.certificate.Certificate.{Certificate}
-use Rattle.fb_cert.specs.Views.{certificate_of}
-use Rattle.fb_flat.specs.declared.flat.Leaf.{Leaf}
-use Rattle.fb_flat.specs.declared.flat.FlatResource.{FlatResource}
-use Rattle.fb_flat.specs.declared.flat.FlatDevice.{FlatDevice}
-use Rattle.fb_flat.specs.Leaves.{IsLeaf}
+use Rattle.fb_flat.specs.Views.{dotted}
+use Rattle.fb_types.specs.declared.typed.State.{State}
+use Rattle.fb_types.specs.declared.typed.Transition.{Transition}
+use Rattle.fb_types.specs.declared.typed.Block.{Block}
+use Rattle.fb_types.specs.Views.{names_of}
 use Rattle.fb_check.specs.declared.column.Column.{Column}
 use Rattle.fb_check.specs.declared.refusal.Refusal.{Refusal}
-use Rattle.fb_check.specs.Columns.{column_of}
-use Rattle.fb_check.specs.Fitting.{IsLeafFault}
+use Rattle.fb_check.specs.declared.refusal.Refusal.TheVariants.{OutOfMemory, Charge, Weight}
+use Rattle.fb_check.specs.Columns.{unit_of, crossing_need}
+use Rattle.fb_check.specs.Reckoning.{weight_of, charge_of, own_of, cost_at, most_free}
 
--- the rows of a leaf of the tables pay in a column, whichever leaf of the book it is
-abbrev pub LeafPays : Column → Certificate → Leaf → Type 0
-LeafPays column cert l = (leaf : wires.Leaf) (limits : Limits) → IsLeaf l leaf → IsPlainLeaf leaf → KindWeighs (column_of column (certificate_of cert)) limits leaf.targets leaf.path leaf.kind
+-- ---- refusals
 
--- one of them does not
-abbrev pub LeafFails : Column → Certificate → Refusal → Leaf → Type 0
-LeafFails column cert f l = (leaf : wires.Leaf) (limits : Limits) → IsLeaf l leaf → IsPlainLeaf leaf → IsLeafFault (column_of column (certificate_of cert)) limits leaf f
+-- want of memory, or the charge of such a state
+abbrev pub IsCharge : Name → (Name → Type 0) → Refusal → Type 0
+IsCharge path P OutOfMemory = Unit {0}
+IsCharge path P (Charge row) = (x : Name) × (string_bytes row ≡ dotted path x) × P x
+IsCharge path P other = ⊥
 
-abbrev pub ResourcePays : Column → Certificate → FlatResource → Type 0
-ResourcePays column cert r = AllByRecursion (LeafPays column cert) r.leaves.items
+-- want of memory, or the weight of such an event
+abbrev pub IsWeight : Name → (Name → Type 0) → Refusal → Type 0
+IsWeight path P OutOfMemory = Unit {0}
+IsWeight path P (Weight row) = (e : Name) × (string_bytes row ≡ dotted path e) × P e
+IsWeight path P other = ⊥
 
-abbrev pub DevicePays : Column → Certificate → FlatDevice → Type 0
-DevicePays column cert d = AllByRecursion (ResourcePays column cert) d.resources.items
+-- it accepts where this is so, and otherwise names this state or event
+abbrev pub Names : ((Name → Type 0) → Refusal → Type 0) → Name → Type 0 → Result (Unit {0}) Refusal → Type 0
+Names Says x P r = MatchResult r (λ u. P) (Says (λ y. (x ≡ y) × (P → ⊥)))
 
-abbrev pub ResourceFails : Column → Certificate → Refusal → FlatResource → Type 0
-ResourceFails column cert f r = Any (LeafFails column cert f) r.leaves.items
+-- it accepts where this is so of each, and otherwise names one of which it is not
+abbrev pub NamesOne : {X : Type 0} → ((Name → Type 0) → Refusal → Type 0) → (X → Name) → (X → Type 0) → List X → Result (Unit {0}) Refusal → Type 0
+NamesOne Says name P xs r = MatchResult r (λ u. AllByRecursion P xs) (Says (λ y. Any (λ x. (name x ≡ y) × (P x → ⊥)) xs))
 
-abbrev pub DeviceFails : Column → Certificate → Refusal → FlatDevice → Type 0
-DeviceFails column cert f d = Any (ResourceFails column cert f) d.resources.items
+-- ---- what has to be paid
+
+-- the charge of a state pays for its actions
+abbrev pub StatePays : Column → Certificate → Name → List Name → List ℕ → State → Type 0
+StatePays c cert path outputs loads s = own_of outputs loads s ≤ charge_of c cert path (string_bytes s.name)
+
+-- the charge of a state pays for a free transition that leaves it
+abbrev pub SourcePays : Column → Certificate → Name → (Name → ℕ) → Transition → Type 0
+SourcePays c cert path cost t = t.event ≡ None → cost (string_bytes t.source) + unit_of c + charge_of c cert path (string_bytes t.target) ≤ charge_of c cert path (string_bytes t.source)
+
+-- a weight pays for a dispatch, and for so much
+abbrev pub Pays : ℕ → ℕ → Type 0
+Pays weight need = (1 ≤ weight) × (need ≤ weight)
+
+-- the weight of an event input pays for each crossing without an event
+abbrev pub InputPays : Column → Certificate → Name → Option ℕ → Name → Type 0
+InputPays c cert path most e = Pays (weight_of c cert path e) (crossing_need c most)
+
+-- the weight of the event that a transition names pays for its crossing
+abbrev pub EventPays : Column → Certificate → Name → Transition → Type 0
+EventPays c cert path t = elim t.event [ None ↦ Unit {0} | Some e ↦ Pays (weight_of c cert path (string_bytes e)) (crossing_need c (Some (charge_of c cert path (string_bytes t.target)))) ]
+
+-- the event that a transition names
+abbrev pub event_named : Transition → Name
+event_named t = elim t.event [ None ↦ [] | Some e ↦ string_bytes e ]
+
+-- ---- a block
+
+abbrev pub costs_in : Block → List ℕ → Name → ℕ
+costs_in block loads = cost_at (names_of block.event_outputs) loads block.states.items
+
+abbrev pub most_in : Column → Certificate → Name → Block → Option ℕ
+most_in c cert path block = most_free (charge_of c cert path) None block.transitions.items
+
+-- the rows of a block pay, where its outputs have these loads
+pub record ChartPays (c : Column) (cert : Certificate) (path : Name) (block : Block) (loads : List ℕ) : Type 0 where
+  pub states : AllByRecursion (StatePays c cert path (names_of block.event_outputs) loads) block.states.items
+  pub sources : AllByRecursion (SourcePays c cert path (costs_in block loads)) block.transitions.items
+  pub inputs : AllByRecursion (InputPays c cert path (most_in c cert path block)) (names_of block.event_inputs)
+  pub events : AllByRecursion (EventPays c cert path) block.transitions.items
+
+-- the charge of a state of this name does not pay
+abbrev pub StateOwes : Column → Certificate → Name → Block → List ℕ → Name → Type 0
+StateOwes c cert path block loads x =
+    Any (λ s. (string_bytes s.name ≡ x) × (StatePays c cert path (names_of block.event_outputs) loads s → ⊥)) block.states.items
+    ⊎ Any (λ t. (string_bytes t.source ≡ x) × (SourcePays c cert path (costs_in block loads) t → ⊥)) block.transitions.items
+
+-- the weight of an event of this name does not pay
+abbrev pub EventOwes : Column → Certificate → Name → Block → Name → Type 0
+EventOwes c cert path block e =
+    Any (λ x. (x ≡ e) × (InputPays c cert path (most_in c cert path block) x → ⊥)) (names_of block.event_inputs)
+    ⊎ Any (λ t. (event_named t ≡ e) × (EventPays c cert path t → ⊥)) block.transitions.items
+
+-- a row of the block that is named does not pay
+abbrev pub IsOwing : Column → Certificate → Name → Block → List ℕ → Refusal → Type 0
+IsOwing c cert path block loads OutOfMemory = Unit {0}
+IsOwing c cert path block loads (Charge row) = IsCharge path (StateOwes c cert path block loads) (Charge row)
+IsOwing c cert path block loads (Weight row) = IsWeight path (EventOwes c cert path block) (Weight row)
+IsOwing c cert path block loads other = ⊥

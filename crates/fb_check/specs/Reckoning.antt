@@ -1,16 +1,17 @@
 -- What the checker reckons with, in one column of a certificate.
-use Rattle.std.specs.Prelude.{ℕ, ◌+◌, List, [], ◌∷◌, Option, None, Some, string_bytes, if◌then◌else◌}
+use Rattle.std.specs.Prelude.{ℕ, ◌+◌, List, [], ◌∷◌, ◌++◌, Option, None, Some, string_bytes, if◌then◌else◌}
 use Rattle.std.specs.List.{sum_by}
 use Rattle.std.specs.Str.{bytes_eq}
 use Rattle.fb_model.specs.Names.{Name}
 use Rattle.fb_cert.specs.declared.certificate.Amount.{Amount}
 use Rattle.fb_cert.specs.declared.certificate.Certificate.{Certificate}
-use Rattle.fb_cert.specs.Views.{first_at, rows_of}
+use Rattle.fb_cert.specs.Views.{Table, first_at, has_path, rows_of}
 use Rattle.fb_flat.specs.declared.flat.Target.{Target}
 use Rattle.fb_flat.specs.Views.{dotted}
 use Rattle.fb_types.specs.declared.typed.Action.{Action}
 use Rattle.fb_check.specs.declared.column.Column.{Column}
 use Rattle.fb_check.specs.Columns.{number_in}
+use Rattle.fb_types.specs.declared.typed.State.{State}
 use Rattle.fb_types.specs.declared.typed.Transition.{Transition}
 use Rattle.fb_check.specs.Sums.{IsSum, greater}
 
@@ -50,11 +51,33 @@ AreSums (s ∷ ss) [] = ⊥
 abbrev pub emitted : List Name → List ℕ → Action → ℕ
 emitted outputs loads a = elim a.output [ None ↦ 0 | Some o ↦ value_at outputs loads 0 (string_bytes o) ]
 
+-- what the actions of a state cost by themselves: the loads of all outputs that they emit
+abbrev pub own_of : List Name → List ℕ → State → ℕ
+own_of outputs loads s = sum_by (emitted outputs loads) s.actions.items
+
+-- the same of the first state of a name, 0 where there is none
+abbrev pub cost_at : List Name → List ℕ → List State → Name → ℕ
+cost_at outputs loads [] x = 0
+cost_at outputs loads (s ∷ ss) x = if bytes_eq x (string_bytes s.name) then own_of outputs loads s else cost_at outputs loads ss x
+
+-- the costs of states by their names, each with the first state of its name
+abbrev pub with_cost : Table (Option ℕ) → Name → Option ℕ → Table (Option ℕ)
+with_cost costs x cost = if has_path x costs then costs else costs ++ (x, cost) ∷ []
+
+-- a cost that is there, or 0
+abbrev pub sum_in : Option (Option ℕ) → Option ℕ
+sum_in None = Some 0
+sum_in (Some sum) = sum
+
+-- each name has this cost in the table
+abbrev pub AreCosts : Table (Option ℕ) → (Name → ℕ) → Type 0
+AreCosts table cost = (x : Name) → IsSum (sum_in (first_at x table)) (cost x)
+
 -- the charge of the state that a transition leads to, where it is free
-abbrev pub free_next : List Name → List ℕ → Transition → Option ℕ
-free_next states charges t = elim t.event [ None ↦ Some (value_at states charges 0 (string_bytes t.target)) | Some e ↦ None ]
+abbrev pub free_next : (Name → ℕ) → Transition → Option ℕ
+free_next charge t = elim t.event [ None ↦ Some (charge (string_bytes t.target)) | Some e ↦ None ]
 
 -- the greatest of them, and of one that is there
-abbrev pub most_free : List Name → List ℕ → Option ℕ → List Transition → Option ℕ
-most_free states charges most [] = most
-most_free states charges most (t ∷ ts) = most_free states charges (greater most (free_next states charges t)) ts
+abbrev pub most_free : (Name → ℕ) → Option ℕ → List Transition → Option ℕ
+most_free charge most [] = most
+most_free charge most (t ∷ ts) = most_free charge (greater most (free_next charge t)) ts

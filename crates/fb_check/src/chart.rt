@@ -1,20 +1,23 @@
 //! When the rows of a basic block fit in a column.
 
-ghost use Rattle.std.specs.Prelude.{◌≡◌, ℕ, List, map, length, string_bytes, None, Some, IfOk, IfErr};
+ghost use Rattle.std.specs.Prelude.{◌≡◌, ◌≤◌, ◌+◌, ℕ, List, None, Some, IfOk, IfErr, OnOk, MatchResult, string_bytes};
 ghost use Rattle.std.specs.List.{sum_by};
+ghost use Rattle.fb_model.specs.Names.{Name};
+ghost use Rattle.fb_cert.specs.Views.{first_at, texts_of};
 ghost use Rattle.fb_types.specs.Views.{names_of};
-ghost use Rattle.fb_check.specs.Reckoning.{charge_of, value_at, AreSums, emitted, free_next, most_free};
+ghost use Rattle.fb_check.specs.Reckoning.{charge_of, value_at, AreSums, emitted, cost_at, with_cost, sum_in, AreCosts, free_next, most_free};
 ghost use Rattle.fb_check.specs.Refusals.{IsMemory, IsSizeRefusal};
 ghost use Rattle.fb_check.specs.Sums.{IsSum, greater};
 ghost use Rattle.fb_check.specs.Columns.{crossing_need};
+ghost use Rattle.fb_check.specs.Paying.{IsCharge, IsWeight, Names, NamesOne, StatePays, SourcePays, InputPays, EventPays, event_named, ChartPays, IsOwing};
 
 use crate::column::{Column, is_within, plus};
-use crate::leaf::{charge, weight};
+use crate::leaf::{charge, weighed, weight};
 use crate::refusal::Refusal;
 use fb_cert::Certificate;
 use fb_flat::joined;
 use fb_types::{Action, Block, State, Transition};
-use indexmap::IndexSet;
+use indexmap::{IndexMap, IndexSet};
 use std::alloc::Global;
 
 // The sum at the place of a name, 0 where the name has none.
@@ -27,19 +30,6 @@ fn at(names: &IndexSet<String>, sums: &[Option<u64>], name: &str) -> Option<u64>
             None => Some(0),
         },
         None => Some(0),
-    }
-}
-
-// The number at the place of a name, 0 where the name has none.
-fn number_at(names: &IndexSet<String>, numbers: &[u64], name: &str) -> u64
-    ensures { result ≡ value_at (names_of names.now) numbers.now 0 name.now }
-{
-    match names.get_index_of(name) {
-        Some(index) => match numbers.get(index) {
-            Some(number) => *number,
-            None => 0,
-        },
-        None => 0,
     }
 }
 
@@ -64,80 +54,150 @@ fn own(outputs: &IndexSet<String>, loads: &[Option<u64>], actions: &[Action]) ->
     sum
 }
 
-// The same of each state, in order.
-fn owns(
+// Adds what a state costs, unless an earlier state has its name.
+fn add(
+    alloc: Global,
+    costs: &mut IndexMap<String, Option<u64>>,
+    state: &str,
+    cost: Option<u64>,
+) -> Result<(), Refusal>
+    ensures value { OnOk result (texts_of costs.new ≡ with_cost (texts_of costs.old) state.now cost) }
+    ensures refused { IfErr result IsMemory }
+{
+    if costs.contains_key(state) {
+        return Ok(());
+    }
+    costs.insert(String::from_str(alloc, state)?, cost)?;
+    Ok(())
+}
+
+// What each state costs by itself, by its name.
+fn costs(
     alloc: Global,
     outputs: &IndexSet<String>,
     loads: &[Option<u64>],
     states: &[State],
-) -> Result<Vec<Option<u64>>, Refusal>
-    ensures values { (ns : List ℕ) → AreSums loads.now ns → IfOk result (λ v. AreSums v.items (map (λ s. sum_by (emitted (names_of outputs.now) ns) s.actions.items) states.now)) }
+) -> Result<IndexMap<String, Option<u64>>, Refusal>
+    ensures values { (ns : List ℕ) → AreSums loads.now ns → IfOk result (λ m. AreCosts (texts_of m) (cost_at (names_of outputs.now) ns states.now)) }
     ensures refused { IfErr result IsMemory }
 {
-    let mut owns = Vec::new(alloc);
+    let mut costs = IndexMap::new(alloc);
     for state in states {
-        owns.push(own(outputs, loads, &state.actions))?;
+        let cost = own(outputs, loads, &state.actions);
+        add(alloc, &mut costs, state.name.as_str(), cost)?;
     }
-    Ok(owns)
+    Ok(costs)
 }
 
-// The charge of each state, in order.
-fn charges(
+// What a state costs by itself.
+fn cost(costs: &IndexMap<String, Option<u64>>, state: &str) -> Option<u64>
+    ensures { result ≡ sum_in (first_at state.now (texts_of costs.now)) }
+{
+    match costs.get(state) {
+        Some(cost) => *cost,
+        None => Some(0),
+    }
+}
+
+// The charge of a state is at least what it has to pay.
+fn paid(
+    alloc: Global,
+    path: &str,
+    state: &str,
+    need: Option<u64>,
+    charge: u64,
+) -> Result<(), Refusal>
+    ensures kinds { IfErr result IsSizeRefusal }
+    ensures exact { (v : ℕ) → IsSum need v → Names (IsCharge path.now) state.now (v ≤ charge) result }
+{
+    if is_within(need, charge) {
+        Ok(())
+    } else {
+        Err(Refusal::Charge(joined(alloc, path, state)?))
+    }
+}
+
+// A state's charge is at least what its actions cost.
+fn state_fits(
     alloc: Global,
     certificate: &Certificate,
     column: Column,
     path: &str,
-    states: &[State],
-) -> Result<Vec<u64>, Refusal>
-    ensures values { IfOk result (λ v. v.items ≡ map (λ s. charge_of column certificate.now path.now (string_bytes s.name)) states.now) }
-    ensures refused { IfErr result IsMemory }
+    outputs: &IndexSet<String>,
+    loads: &[Option<u64>],
+    state: &State,
+) -> Result<(), Refusal>
+    ensures kinds { IfErr result IsSizeRefusal }
+    ensures exact { (ns : List ℕ) → AreSums loads.now ns → Names (IsCharge path.now) (string_bytes state.now.name) (StatePays column certificate.now path.now (names_of outputs.now) ns state.now) result }
 {
-    let mut charges = Vec::new(alloc);
-    for state in states {
-        charges.push(charge(alloc, certificate, column, path, state.name.as_str())?)?;
-    }
-    Ok(charges)
+    let name = state.name.as_str();
+    let charge = charge(alloc, certificate, column, path, name)?;
+    paid(
+        alloc,
+        path,
+        name,
+        own(outputs, loads, &state.actions),
+        charge,
+    )
 }
 
-// Each state's charge is at least what its actions cost.
+// The same of each state.
 fn states_fit(
     alloc: Global,
+    certificate: &Certificate,
+    column: Column,
     path: &str,
+    outputs: &IndexSet<String>,
+    loads: &[Option<u64>],
     states: &[State],
-    charges: &[u64],
-    owns: &[Option<u64>],
 ) -> Result<(), Refusal>
-    ensures { IfErr result IsSizeRefusal }
+    ensures kinds { IfErr result IsSizeRefusal }
+    ensures exact { (ns : List ℕ) → AreSums loads.now ns → NamesOne (IsCharge path.now) (λ s. string_bytes s.name) (StatePays column certificate.now path.now (names_of outputs.now) ns) states.now result }
 {
-    for ((state, charge), own) in states.iter().zip(charges.iter()).zip(owns.iter()) {
-        if !is_within(*own, *charge) {
-            return Err(Refusal::Charge(joined(alloc, path, state.name.as_str())?));
-        }
+    for state in states {
+        state_fits(alloc, certificate, column, path, outputs, loads, state)?;
     }
     Ok(())
 }
 
-// Each free transition is paid for by the charge of the state that it leaves.
-fn free_fit(
+// A free transition is paid for by the charge of the state that it leaves.
+fn source_fits(
     alloc: Global,
+    certificate: &Certificate,
     column: Column,
     path: &str,
-    block: &Block,
-    charges: &[u64],
-    owns: &[Option<u64>],
+    costs: &IndexMap<String, Option<u64>>,
+    transition: &Transition,
 ) -> Result<(), Refusal>
-    ensures { IfErr result IsSizeRefusal }
+    ensures kinds { IfErr result IsSizeRefusal }
+    ensures exact { (own : Name → ℕ) → AreCosts (texts_of costs.now) own → Names (IsCharge path.now) (string_bytes transition.now.source) (SourcePays column certificate.now path.now own transition.now) result }
 {
-    for transition in &block.transitions {
-        if transition.event.is_none() {
+    match &transition.event {
+        Some(_) => Ok(()),
+        None => {
             let source = transition.source.as_str();
-            let own = at(&block.state_names, owns, source);
-            let next = number_at(&block.state_names, charges, transition.target.as_str());
-            let need = plus(plus(own, Some(column.unit())), Some(next));
-            if !is_within(need, number_at(&block.state_names, charges, source)) {
-                return Err(Refusal::Charge(joined(alloc, path, source)?));
-            }
+            let next = charge(alloc, certificate, column, path, transition.target.as_str())?;
+            let most = charge(alloc, certificate, column, path, source)?;
+            let own = plus(cost(costs, source), Some(column.unit()));
+            paid(alloc, path, source, plus(own, Some(next)), most)
         }
+    }
+}
+
+// The same of each transition.
+fn sources_fit(
+    alloc: Global,
+    certificate: &Certificate,
+    column: Column,
+    path: &str,
+    costs: &IndexMap<String, Option<u64>>,
+    transitions: &[Transition],
+) -> Result<(), Refusal>
+    ensures kinds { IfErr result IsSizeRefusal }
+    ensures exact { (own : Name → ℕ) → AreCosts (texts_of costs.now) own → NamesOne (IsCharge path.now) (λ t. string_bytes t.source) (SourcePays column certificate.now path.now own) transitions.now result }
+{
+    for transition in transitions {
+        source_fits(alloc, certificate, column, path, costs, transition)?;
     }
     Ok(())
 }
@@ -156,86 +216,42 @@ fn greater(a: Option<u64>, b: Option<u64>) -> Option<u64>
 }
 
 // The charge of the state that a transition leads to, where it is free.
-fn free_next(states: &IndexSet<String>, charges: &[u64], transition: &Transition) -> Option<u64>
-    ensures { result ≡ free_next (names_of states.now) charges.now transition.now }
+fn free_next(
+    alloc: Global,
+    certificate: &Certificate,
+    column: Column,
+    path: &str,
+    transition: &Transition,
+) -> Result<Option<u64>, Refusal>
+    ensures value { IfOk result (λ next. next ≡ free_next (charge_of column certificate.now path.now) transition.now) }
+    ensures refused { IfErr result IsMemory }
 {
     match &transition.event {
-        Some(_) => None,
-        None => Some(number_at(states, charges, transition.target.as_str())),
+        Some(_) => Ok(None),
+        None => {
+            let target = transition.target.as_str();
+            Ok(Some(charge(alloc, certificate, column, path, target)?))
+        }
     }
 }
 
 // The greatest charge of a state that a free transition leads to.
 fn free_charge(
-    states: &IndexSet<String>,
-    charges: &[u64],
-    transitions: &[Transition],
-) -> Option<u64>
-    ensures { result ≡ most_free (names_of states.now) charges.now None transitions.now }
-{
-    let mut most = None;
-    for transition in transitions {
-        most = greater(most, free_next(states, charges, transition));
-    }
-    most
-}
-
-// Of each event input, the greatest charge of a state that a transition on it leads to.
-fn event_charges(alloc: Global, block: &Block, charges: &[u64]) -> Result<Vec<Option<u64>>, Refusal>
-    ensures length { IfOk result (λ v. length v.items ≡ length block.now.event_inputs.keys) }
-    ensures refused { IfErr result IsMemory }
-{
-    let mut most = Vec::new(alloc);
-    for _ in 0..block.event_inputs.len() {
-        most.push(None)?;
-    }
-    for transition in &block.transitions {
-        raise(&mut most, block, charges, transition);
-    }
-    Ok(most)
-}
-
-// Takes a transition on an event into account.
-fn raise(most: &mut Vec<Option<u64>>, block: &Block, charges: &[u64], transition: &Transition)
-    ensures { length most.new.items ≡ length most.old.items }
-{
-    if let Some(event) = &transition.event {
-        if let Some(index) = block.event_inputs.get_index_of(event.as_str()) {
-            if index < most.len() {
-                let next = number_at(&block.state_names, charges, transition.target.as_str());
-                most[index] = greater(most[index], Some(next));
-            }
-        }
-    }
-}
-
-// Each event input's weight pays for its dispatch and for each crossing that it can begin.
-fn inputs_fit(
     alloc: Global,
     certificate: &Certificate,
     column: Column,
     path: &str,
-    block: &Block,
-    charges: &[u64],
-) -> Result<(), Refusal>
-    ensures { IfErr result IsSizeRefusal }
+    transitions: &[Transition],
+) -> Result<Option<u64>, Refusal>
+    ensures value { IfOk result (λ most. most ≡ most_free (charge_of column certificate.now path.now) None transitions.now) }
+    ensures refused { IfErr result IsMemory }
 {
-    let free = free_charge(&block.state_names, charges, &block.transitions);
-    let on_event = event_charges(alloc, block, charges)?;
-    for index in 0..block.event_inputs.len() {
-        if let Some(event) = block.event_inputs.get_index(index) {
-            let named = on_event.get(index).copied().unwrap_or(None);
-            input_fits(
-                alloc,
-                certificate,
-                column,
-                path,
-                event.as_str(),
-                greater(named, free),
-            )?;
-        }
+    let mut most = None;
+    for transition in transitions {
+        let next = free_next(alloc, certificate, column, path, transition)?;
+        most = greater(most, next);
     }
-    Ok(())
+    Ok(most)
 }
 
 // What a crossing to a state of this charge needs, after the dispatch; nothing where nothing is crossed.
@@ -249,7 +265,7 @@ fn crossing(column: Column, next: Option<u64>) -> Option<u64>
     }
 }
 
-// One event input's weight pays for its dispatch, and for a crossing to a state of this charge.
+// An event input's weight pays for its dispatch, and for a crossing to a state of this charge.
 fn input_fits(
     alloc: Global,
     certificate: &Certificate,
@@ -258,14 +274,70 @@ fn input_fits(
     event: &str,
     next: Option<u64>,
 ) -> Result<(), Refusal>
-    ensures { IfErr result IsSizeRefusal }
+    ensures kinds { IfErr result IsSizeRefusal }
+    ensures exact { Names (IsWeight path.now) event.now (InputPays column certificate.now path.now next event.now) result }
 {
     let row = weight(alloc, certificate, column, path, event)?;
-    if row >= 1 && is_within(crossing(column, next), row) {
-        Ok(())
-    } else {
-        Err(Refusal::Weight(joined(alloc, path, event)?))
+    weighed(alloc, path, event, crossing(column, next), row)
+}
+
+// Each event input's weight pays for its dispatch, and for a crossing to a state of this charge.
+fn inputs_fit(
+    alloc: Global,
+    certificate: &Certificate,
+    column: Column,
+    path: &str,
+    inputs: &IndexSet<String>,
+    next: Option<u64>,
+) -> Result<(), Refusal>
+    ensures kinds { IfErr result IsSizeRefusal }
+    ensures exact { NamesOne (IsWeight path.now) (λ e. e) (InputPays column certificate.now path.now next) (names_of inputs.now) result }
+{
+    for index in 0..inputs.len() {
+        let Some(event) = inputs.get_index(index) else {
+            return Ok(());
+        };
+        input_fits(alloc, certificate, column, path, event.as_str(), next)?;
     }
+    Ok(())
+}
+
+// The weight of the event that a transition names pays for its crossing.
+fn event_fits(
+    alloc: Global,
+    certificate: &Certificate,
+    column: Column,
+    path: &str,
+    transition: &Transition,
+) -> Result<(), Refusal>
+    ensures kinds { IfErr result IsSizeRefusal }
+    ensures exact { Names (IsWeight path.now) (event_named transition.now) (EventPays column certificate.now path.now transition.now) result }
+{
+    match &transition.event {
+        Some(event) => {
+            let target = transition.target.as_str();
+            let next = charge(alloc, certificate, column, path, target)?;
+            input_fits(alloc, certificate, column, path, event.as_str(), Some(next))
+        }
+        None => Ok(()),
+    }
+}
+
+// The same of each transition.
+fn events_fit(
+    alloc: Global,
+    certificate: &Certificate,
+    column: Column,
+    path: &str,
+    transitions: &[Transition],
+) -> Result<(), Refusal>
+    ensures kinds { IfErr result IsSizeRefusal }
+    ensures exact { NamesOne (IsWeight path.now) event_named (EventPays column certificate.now path.now) transitions.now result }
+{
+    for transition in transitions {
+        event_fits(alloc, certificate, column, path, transition)?;
+    }
+    Ok(())
 }
 
 /// The rows of a basic block fit in a column, where its outputs have these loads.
@@ -277,11 +349,23 @@ pub fn chart_fits(
     block: &Block,
     loads: &[Option<u64>],
 ) -> Result<(), Refusal>
-    ensures { IfErr result IsSizeRefusal }
+    ensures kinds { IfErr result IsSizeRefusal }
+    ensures exact { (ns : List ℕ) → AreSums loads.now ns → MatchResult result (λ u. ChartPays column certificate.now path.now block.now ns) (IsOwing column certificate.now path.now block.now ns) }
 {
-    let charges = charges(alloc, certificate, column, path, &block.states)?;
-    let owns = owns(alloc, &block.event_outputs, loads, &block.states)?;
-    states_fit(alloc, path, &block.states, &charges, &owns)?;
-    free_fit(alloc, column, path, block, &charges, &owns)?;
-    inputs_fit(alloc, certificate, column, path, block, &charges)
+    let outputs = &block.event_outputs;
+    let transitions = &block.transitions;
+    states_fit(
+        alloc,
+        certificate,
+        column,
+        path,
+        outputs,
+        loads,
+        &block.states,
+    )?;
+    let costs = costs(alloc, outputs, loads, &block.states)?;
+    sources_fit(alloc, certificate, column, path, &costs, transitions)?;
+    let next = free_charge(alloc, certificate, column, path, transitions)?;
+    inputs_fit(alloc, certificate, column, path, &block.event_inputs, next)?;
+    events_fit(alloc, certificate, column, path, transitions)
 }

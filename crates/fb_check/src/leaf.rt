@@ -1,9 +1,19 @@
 //! When the rows of a leaf fit in a column.
 
-ghost use Rattle.std.specs.Prelude.{◌≡◌, map, IfOk, IfErr};
+ghost use Rattle.std.specs.Prelude.{◌≡◌, ◌+◌, ℕ, List, map, sum, OnOk, IfOk, IfErr};
+ghost use Rattle.fb_model.specs.Language.{Limits};
+ghost use Rattle.fb_model.specs.Services.{arrive};
+ghost use Rattle.fb_model.specs.Wires as book;
+ghost use Rattle.fb_model.specs.Certificates.{KindWeighs};
+ghost use Rattle.fb_model.specs.Plain.{IsPlainLeaf};
+ghost use Rattle.fb_cert.specs.Views.{certificate_of};
+ghost use Rattle.fb_flat.specs.Leaves.{IsLeaf};
 ghost use Rattle.fb_check.specs.Sums.{IsSum};
+ghost use Rattle.fb_check.specs.Columns.{unit_of, column_of};
 ghost use Rattle.fb_check.specs.Reckoning.{number_of, weight_of, charge_of, load_of, AreSums};
 ghost use Rattle.fb_check.specs.Refusals.{IsMemory, IsSizeRefusal};
+ghost use Rattle.fb_check.specs.Paying.{IsWeight, Names, Pays};
+ghost use Rattle.fb_check.specs.Fitting.{IsLeafFault};
 
 use crate::chart::chart_fits;
 use crate::column::{Column, is_within, plus};
@@ -94,6 +104,35 @@ pub fn loads(
     Ok(loads)
 }
 
+/// The weight of an event is at least 1, and what it has to pay.
+pub fn weighed(
+    alloc: Global,
+    path: &str,
+    event: &str,
+    need: Option<u64>,
+    weight: u64,
+) -> Result<(), Refusal>
+    ensures kinds { IfErr result IsSizeRefusal }
+    ensures exact { (v : ℕ) → IsSum need v → Names (IsWeight path.now) event.now (Pays weight v) result }
+{
+    if weight >= 1 && is_within(need, weight) {
+        Ok(())
+    } else {
+        Err(Refusal::Weight(joined(alloc, path, event)?))
+    }
+}
+
+// What the arrival of an INPUT has to pay: a dispatch, and the load of each output.
+fn arrival(column: Column, loads: &[Option<u64>]) -> Option<u64>
+    ensures { (ns : List ℕ) → AreSums loads.now ns → IsSum result (unit_of column + sum ns) }
+{
+    let mut need = Some(column.unit());
+    for load in loads {
+        need = plus(need, *load);
+    }
+    need
+}
+
 // The rows of an INPUT: its arrival is a dispatch, and emits its one output.
 fn input_fits(
     alloc: Global,
@@ -102,18 +141,11 @@ fn input_fits(
     path: &str,
     loads: &[Option<u64>],
 ) -> Result<(), Refusal>
-    ensures { IfErr result IsSizeRefusal }
+    ensures kinds { IfErr result IsSizeRefusal }
+    ensures exact { (ns : List ℕ) → AreSums loads.now ns → Names (IsWeight path.now) arrive (Pays (weight_of column certificate.now path.now arrive) (unit_of column + sum ns)) result }
 {
     let row = weight(alloc, certificate, column, path, "ARRIVE")?;
-    let mut need = Some(column.unit());
-    for load in loads {
-        need = plus(need, *load);
-    }
-    if row >= 1 && is_within(need, row) {
-        Ok(())
-    } else {
-        Err(Refusal::Weight(joined(alloc, path, "ARRIVE")?))
-    }
+    weighed(alloc, path, "ARRIVE", arrival(column, loads), row)
 }
 
 /// The rows of a leaf fit in a column.
@@ -123,7 +155,9 @@ pub fn leaf_fits(
     column: Column,
     leaf: &Leaf,
 ) -> Result<(), Refusal>
-    ensures { IfErr result IsSizeRefusal }
+    ensures kinds { IfErr result IsSizeRefusal }
+    ensures fits { (b : book.Leaf) (limits : Limits) → IsLeaf leaf.now b → IsPlainLeaf b → OnOk result (KindWeighs (column_of column (certificate_of certificate.now)) limits b.targets b.path b.kind) }
+    ensures refused { (b : book.Leaf) (limits : Limits) → IsLeaf leaf.now b → IsPlainLeaf b → IfErr result (IsLeafFault (column_of column (certificate_of certificate.now)) limits b) }
 {
     let loads = loads(alloc, certificate, column, &leaf.outputs)?;
     let path = leaf.path.as_str();

@@ -2,7 +2,7 @@
 
 ghost use Rattle.std.specs.Prelude.{IfErr, OnOk};
 ghost use Rattle.std.specs.List.{AllByRecursion, Any};
-ghost use Rattle.fb_check.specs.Paying.{ResourcePays, DevicePays, ResourceFails, DeviceFails};
+ghost use Rattle.fb_check.specs.Tables.{ResourcePays, DevicePays, ResourceFails, DeviceFails};
 ghost use Rattle.fb_check.specs.Refusals.{IsSizeRefusal};
 
 use crate::column::Column;

@@ -183,7 +183,10 @@ fn the_longest_text(rt: HostRuntime) -> Result<(), Fail> {
     for _ in text.len()..1_048_576 {
         text.push(' ')?;
     }
-    assert_eq!(rt; said(alloc, text.as_str(), CERTIFICATE)?.as_str(), "accepted");
+    assert_eq!(rt;
+        said(alloc, text.as_str(), CERTIFICATE)?.as_str(),
+        "accepted"
+    );
     text.push(' ')?;
     assert_eq!(rt; said(alloc, text.as_str(), CERTIFICATE)?.as_str(), "4");
     Ok(())

@@ -1,5 +1,5 @@
 use Rattle.std.proofs.lemmas.Result.{err_from_is_err_and}
-use Rattle.fb_check.specs.Paying.{DeviceFails}
+use Rattle.fb_check.specs.Tables.{DeviceFails}
 use Rattle.fb_check.proofs.Loops.{any_in}
 use Rattle.fb_check.proofs.pays.column_pays.Goals as goal
 

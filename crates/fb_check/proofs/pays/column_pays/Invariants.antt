@@ -1,6 +1,6 @@
 use Rattle.std.proofs.Common.{drop}
 use Rattle.std.specs.List.{AllByRecursion}
-use Rattle.fb_check.specs.Paying.{DevicePays}
+use Rattle.fb_check.specs.Tables.{DevicePays}
 use Rattle.fb_check.proofs.pays.column_pays.Given as goal
 
 abbrev pub invariant-loop-device : goal.invariant-loop-device

@@ -1,5 +1,5 @@
 use Rattle.std.proofs.lemmas.Result.{err_from_is_err_and}
-use Rattle.fb_check.specs.Paying.{ResourceFails}
+use Rattle.fb_check.specs.Tables.{ResourceFails}
 use Rattle.fb_check.proofs.Loops.{any_in}
 use Rattle.fb_check.proofs.pays.device_pays.Goals as goal
 

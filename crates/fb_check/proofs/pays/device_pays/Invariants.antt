@@ -1,6 +1,6 @@
 use Rattle.std.proofs.Common.{drop}
 use Rattle.std.specs.List.{AllByRecursion}
-use Rattle.fb_check.specs.Paying.{ResourcePays}
+use Rattle.fb_check.specs.Tables.{ResourcePays}
 use Rattle.fb_check.proofs.pays.device_pays.Given as goal
 
 abbrev pub invariant-loop-resource : goal.invariant-loop-resource

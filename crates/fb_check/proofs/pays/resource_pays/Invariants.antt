@@ -1,6 +1,6 @@
 use Rattle.std.proofs.Common.{drop}
 use Rattle.std.specs.List.{AllByRecursion}
-use Rattle.fb_check.specs.Paying.{LeafPays}
+use Rattle.fb_check.specs.Tables.{LeafPays}
 use Rattle.fb_check.proofs.pays.resource_pays.Given as goal
 
 abbrev pub invariant-loop-leaf : goal.invariant-loop-leaf

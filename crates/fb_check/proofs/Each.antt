@@ -1,0 +1,64 @@
+-- What is so of each element, and refusals that name one.
+use Rattle.std.proofs.Common.{◌≡◌, ℕ, zero, suc, ◌+◌, ◌<◌, ◌≤◌, ◌++◌, List, [], ◌∷◌, map, take, length, get_or, slice_get, Some, Result, Ok, Err, refl, sym, ap, subst, ◌∙◌, arith, string_bytes}
+use Rattle.std.specs.List.{AllByRecursion, Any}
+use Rattle.std.proofs.lemmas.List.{take_more}
+use Rattle.fb_model.specs.Names.{Name}
+use Rattle.fb_model.proofs.Lists.{all_append}
+use Rattle.fb_flat.specs.Views.{dotted}
+use Rattle.fb_check.specs.declared.refusal.Refusal.{Refusal}
+use Rattle.fb_check.specs.declared.refusal.Refusal.TheVariants.{OutOfMemory, Text, Typing, Certificate, UnknownRow, MissingRow, Charge, Weight, Depth}
+use Rattle.fb_check.specs.Paying.{IsCharge, IsWeight, Names}
+
+pub all_more : {X : Type 0} (P : X → Type 0) (xs : List X) (i : ℕ) (x : X) → i < length xs → x ≡ get_or xs i x → AllByRecursion P (take i xs) → P x → AllByRecursion P (take (i + 1) xs)
+all_more P xs i x h e all p = subst (AllByRecursion P) (sym (take_more xs i x h ∙ ap (λ y. take i xs ++ y ∷ []) (sym e))) (all_append P (take i xs) (x ∷ []) all (p, tt))
+
+pub all_done : {X : Type 0} (P : X → Type 0) (xs : List X) (i : ℕ) → length xs ≤ i → AllByRecursion P (take i xs) → AllByRecursion P xs
+all_done P [] i h all = tt
+all_done P (x ∷ xs) zero h all = absurd (omega arith)
+all_done P (x ∷ xs) (suc i) h all = (all.0, all_done P xs i (omega arith) all.1)
+
+pub charge_weaker : (path : Name) (P Q : Name → Type 0) (e : Refusal) → ((y : Name) → P y → Q y) → IsCharge path P e → IsCharge path Q e
+charge_weaker path P Q OutOfMemory f h = tt
+charge_weaker path P Q (Charge row) f h = (h.0, h.1, f h.0 h.2)
+charge_weaker path P Q (Text x) f h = absurd h
+charge_weaker path P Q (Typing x) f h = absurd h
+charge_weaker path P Q (Certificate x) f h = absurd h
+charge_weaker path P Q (UnknownRow x) f h = absurd h
+charge_weaker path P Q (MissingRow x) f h = absurd h
+charge_weaker path P Q (Weight x) f h = absurd h
+charge_weaker path P Q (Depth x) f h = absurd h
+
+pub weight_weaker : (path : Name) (P Q : Name → Type 0) (e : Refusal) → ((y : Name) → P y → Q y) → IsWeight path P e → IsWeight path Q e
+weight_weaker path P Q OutOfMemory f h = tt
+weight_weaker path P Q (Weight row) f h = (h.0, h.1, f h.0 h.2)
+weight_weaker path P Q (Text x) f h = absurd h
+weight_weaker path P Q (Typing x) f h = absurd h
+weight_weaker path P Q (Certificate x) f h = absurd h
+weight_weaker path P Q (UnknownRow x) f h = absurd h
+weight_weaker path P Q (MissingRow x) f h = absurd h
+weight_weaker path P Q (Charge x) f h = absurd h
+weight_weaker path P Q (Depth x) f h = absurd h
+
+pub one_charge : {X : Type 0} (path : Name) (name : X → Name) (P : X → Type 0) (xs : List X) (i : ℕ) (x : X) (e : Refusal) → i < length xs → x ≡ get_or xs i x
+    → IsCharge path (λ y. (name x ≡ y) × (P x → ⊥)) e → IsCharge path (λ y. Any (λ z. (name z ≡ y) × (P z → ⊥)) xs) e
+one_charge path name P xs i x e h g k = charge_weaker path _ _ e (λ y p. (i, x, h, sym g, p)) k
+
+pub one_weight : {X : Type 0} (path : Name) (name : X → Name) (P : X → Type 0) (xs : List X) (i : ℕ) (x : X) (e : Refusal) → i < length xs → x ≡ get_or xs i x
+    → IsWeight path (λ y. (name x ≡ y) × (P x → ⊥)) e → IsWeight path (λ y. Any (λ z. (name z ≡ y) × (P z → ⊥)) xs) e
+one_weight path name P xs i x e h g k = weight_weaker path _ _ e (λ y p. (i, x, h, sym g, p)) k
+
+pub took : {X : Type 0} (xs : List X) (i : ℕ) → length xs ≤ i → take i xs ≡ xs
+took [] zero h = refl
+took [] (suc i) h = refl
+took (x ∷ xs) zero h = absurd (omega arith)
+took (x ∷ xs) (suc i) h = ap (λ ys. x ∷ ys) (took xs i (omega arith))
+
+-- the item at an index, among images
+pub got_at : {X Y : Type 0} (f : X → Y) (xs : List X) (i : ℕ) (x : X) → Some x ≡ slice_get xs i → (i < length (map f xs)) × (f x ≡ get_or (map f xs) i (f x))
+got_at f [] i x h = absurd cc
+got_at f (y ∷ ys) zero x h = let e : x ≡ y = cc in (omega arith, ap f e)
+got_at f (y ∷ ys) (suc i) x h = let k = got_at f ys i x h in (omega (arith, k.0), k.1)
+
+pub names_charge : (path x y : Name) (P Q : Type 0) (r : Result (Unit {0}) Refusal) → x ≡ y → (P → Q) → (Q → P) → Names (IsCharge path) x P r → Names (IsCharge path) y Q r
+names_charge path x y P Q (Ok u) e f g h = f h
+names_charge path x y P Q (Err d) e f g h = charge_weaker path _ _ d (λ z p. (sym e ∙ p.0, λ q. p.1 (g q))) h
