@@ -3,3 +3,4 @@ pub mod Places
 pub mod Tables
 pub mod Systems
 pub mod Matches
+pub mod Spelled

@@ -1,6 +1,5 @@
 -- Lists of names by what is in them, one name or one list of names more.
 use Rattle.std.proofs.Common.{◌≡◌, ℕ, zero, suc, ◌+◌, ◌<◌, Bool, true, false, not, cond, ◌||◌, List, [], ◌∷◌, ◌++◌, map, drop, length, get_or, slice_get, Some, refl, sym, ap, subst, ◌∙◌, add-one, string_bytes}
-use Rattle.std.specs.List.{flat_map}
 use Rattle.std.specs.Str.{bytes_eq}
 use Rattle.std.proofs.lemmas.List.Folds.{list_any-append}
 use Rattle.std.proofs.lemmas.Option.{slice_get_read}
@@ -11,7 +10,7 @@ use Rattle.fb_flat.proofs.Filled.{bytes_same}
 use Rattle.fb_rows.specs.declared.fault.RowFault.{RowFault}
 use Rattle.fb_rows.specs.declared.fault.RowFault.TheVariants.{OutOfMemory, Unknown, Missing}
 use Rattle.fb_rows.specs.Members.{HasSame, AreAmong}
-use Rattle.fb_rows.specs.Faults.{IsMemory, IsDifference}
+use Rattle.fb_rows.specs.Faults.{IsDifference}
 
 -- ---- tests
 
@@ -90,11 +89,6 @@ same_step a r old new goal h k = record { same = λ x. by x } where
       ∙ sym (list_any-append (bytes_eq x) (a ++ r) old)
       ∙ k.same x
 
--- one item more of a list whose items each have some names
-pub next_items : {X : Type 0} (f : X → List Name) (xs : List X) (i : ℕ) (x : X) (old new goal : List Name)
-    → drop i xs ≡ x ∷ drop (i + 1) xs → HasSame new (f x ++ old) → HasSame (flat_map f (drop i xs) ++ old) goal → HasSame (flat_map f (drop (i + 1) xs) ++ new) goal
-next_items f xs i x old new goal e h k = same_step (f x) (flat_map f (drop (i + 1) xs)) old new goal h (subst (λ ys. HasSame (flat_map f ys ++ old) goal) e k)
-
 -- one item more of a list whose items each have one name
 pub next_item : {X : Type 0} (g : Name → Name) (f : X → Name) (xs : List X) (i : ℕ) (x : X) (old new goal : List Name)
     → drop i xs ≡ x ∷ drop (i + 1) xs → HasSame new (g (f x) ∷ old) → HasSame (map g (map f (drop i xs)) ++ old) goal → HasSame (map g (map f (drop (i + 1) xs)) ++ new) goal
@@ -120,8 +114,3 @@ pub other_names : (xs ys ps : List Name) (f : RowFault) → HasSame xs ys → Is
 other_names xs ys ps OutOfMemory s h = tt
 other_names xs ys ps (Unknown path) s h = (h.0, sym (s.same (string_bytes path)) ∙ h.1)
 other_names xs ys ps (Missing path) s h = (h.0, sym (s.same (string_bytes path)) ∙ h.1)
-
-pub by_memory : (xs ps : List Name) (f : RowFault) → IsMemory f → IsDifference xs ps f
-by_memory xs ps OutOfMemory h = tt
-by_memory xs ps (Unknown path) h = absurd h
-by_memory xs ps (Missing path) h = absurd h

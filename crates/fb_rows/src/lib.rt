@@ -3,8 +3,10 @@
 
 mod fault;
 mod kind;
+mod law;
 mod matching;
 mod required;
 
 pub use fault::RowFault;
+pub use law::no_row_is_spelled_twice;
 pub use matching::rows_match;
