@@ -1,4 +1,4 @@
-use Rattle.std.proofs.Common.{◌≡◌, Some, None, sym, ◌∙◌, ap, subst, string_bytes}
+use Rattle.std.proofs.Common.{Some, sym, ◌∙◌, string_bytes}
 use Rattle.std.specs.Str.{bytes_eq}
 use Rattle.fb_types.specs.Views.{names_of}
 use Rattle.fb_types.proofs.Lists.{position_map}

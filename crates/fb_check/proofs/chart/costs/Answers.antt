@@ -1,4 +1,4 @@
-use Rattle.std.proofs.Common.{◌≡◌, ℕ, ◌+◌, ◌++◌, ◌∷◌, [], List, take, sym, ap, subst, ◌∙◌, string_bytes, arith}
+use Rattle.std.proofs.Common.{◌≡◌, ◌+◌, ◌++◌, ◌∷◌, [], List, take, sym, ap, subst, ◌∙◌, string_bytes, arith}
 use Rattle.std.proofs.lemmas.List.{take_more}
 use Rattle.fb_cert.specs.Views.{first_at, texts_of}
 use Rattle.fb_types.specs.declared.typed.State.{State}

@@ -1,7 +1,7 @@
 use Rattle.std.proofs.Common.{◌≡◌, Some, sym, ap, subst, string_bytes}
 use Rattle.fb_types.specs.Views.{names_of}
 use Rattle.fb_check.specs.Sums.{IsSum}
-use Rattle.fb_check.specs.Reckoning.{emitted, value_at}
+use Rattle.fb_check.specs.Reckoning.{value_at}
 use Rattle.fb_check.proofs.Values.{sum_at}
 use Rattle.fb_check.proofs.chart.emitted.Goals as goal
 

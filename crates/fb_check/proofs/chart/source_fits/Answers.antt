@@ -1,4 +1,4 @@
-use Rattle.std.proofs.Common.{◌≡◌, ◌≤◌, ◌+◌, ℕ, ap, sym, subst, ◌∙◌, string_bytes}
+use Rattle.std.proofs.Common.{◌≡◌, ◌≤◌, ◌+◌, ap, sym, subst, ◌∙◌, string_bytes}
 use Rattle.fb_cert.specs.Views.{first_at, texts_of}
 use Rattle.fb_check.specs.Sums.{IsSum}
 use Rattle.fb_check.specs.Columns.{unit_of}

@@ -1,6 +1,5 @@
 use Rattle.std.proofs.Common.{string_bytes}
 use Rattle.std.proofs.lemmas.Result.{err_from_is_err_and}
-use Rattle.fb_model.specs.Names.{Name}
 use Rattle.fb_types.specs.declared.typed.Transition.{Transition}
 use Rattle.fb_check.specs.Paying.{SourcePays}
 use Rattle.fb_check.proofs.Each.{all_more, one_charge}

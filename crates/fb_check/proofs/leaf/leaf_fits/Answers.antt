@@ -1,7 +1,6 @@
-use Rattle.std.proofs.Common.{◌≡◌, ◌∷◌, [], sym, ap, ◌∙◌, subst, string_bytes, List, ℕ, map}
-use Rattle.fb_model.specs.Names.{Name, is_in}
+use Rattle.std.proofs.Common.{sym, ap, ◌∙◌, string_bytes, map}
+use Rattle.fb_model.specs.Names.{is_in}
 use Rattle.fb_model.specs.Services.{ind}
-use Rattle.fb_model.specs.Wires as wires
 use Rattle.fb_model.specs.Typing.{event_outputs_of}
 use Rattle.fb_types.specs.declared.typed.Body.{Body}
 use Rattle.fb_types.specs.Views.{body_of}

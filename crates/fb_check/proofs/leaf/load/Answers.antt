@@ -1,5 +1,5 @@
 use Rattle.std.proofs.Common.{◌≡◌, refl, ap, ◌∙◌}
-use Rattle.fb_check.specs.Reckoning.{weight_of, target_weight, load_of}
+use Rattle.fb_check.specs.Reckoning.{weight_of, target_weight}
 use Rattle.fb_check.proofs.Values.{sum_step}
 use Rattle.fb_check.proofs.leaf.load.Goals as goal
 
