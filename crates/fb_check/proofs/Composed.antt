@@ -10,7 +10,7 @@ use Rattle.fb_model.specs.Certificates as book
 use Rattle.fb_model.specs.Certificates.{ColumnFits, ArrivalsFit, name_at, depth_at}
 use Rattle.fb_model.specs.CertificateText.{names_in}
 use Rattle.fb_model.specs.Plain.{IsPlainLeaf, Pays, IsWritten}
-use Rattle.fb_model.specs.Certificates.{FollowsFew, AllRows, Fits}
+use Rattle.fb_model.specs.Certificates.{FollowsFew, AllRows, Fits, all_leaves}
 use Rattle.fb_model.proofs.Fitted.{fits_where, leaves_plain}
 use Rattle.fb_model.proofs.Lists.{all_append, all_both}
 use Rattle.fb_model.proofs.Placed.{all_left, all_right}
@@ -95,3 +95,8 @@ devices_pay cert (f ∷ fs) [] s p a is plain = absurd is
 pub fits_by : (s : system.System) (cert : Certificate) (fs : List FlatDevice) → IsWritten s → AreDevices fs s.devices → AllByRecursion FollowsFew s.devices → AllRows s (certificate_of cert)
     → AllByRecursion (DevicePays Steps cert) fs → AllByRecursion (DevicePays Places cert) fs → AllByRecursion (DeviceArrives cert) fs → Fits s (certificate_of cert)
 fits_by s cert fs w a few rows steps places arrive = fits_where s (certificate_of cert) w refl few rows (devices_pay cert fs s.devices steps places arrive a (leaves_plain s w))
+
+-- the leaves of all devices
+pub all_plain : (ds : List system.Device) → AllByRecursion (λ (d : system.Device). AllByRecursion IsPlainLeaf (leaves d)) ds → AllByRecursion IsPlainLeaf (all_leaves ds)
+all_plain [] h = tt
+all_plain (d ∷ ds) h = all_append IsPlainLeaf (leaves d) (all_leaves ds) h.0 (all_plain ds h.1)

@@ -5,7 +5,6 @@ pub mod Loops
 pub mod Arriving
 pub mod Composed
 pub mod Denied
-pub mod Once
 pub mod Reading
 pub mod Each
 pub mod Costs

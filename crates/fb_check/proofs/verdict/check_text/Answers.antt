@@ -4,7 +4,7 @@ use Rattle.fb_model.specs.Certificates.{Fits}
 use Rattle.fb_cert.specs.Views.{certificate_of}
 use Rattle.fb_types.specs.Views.{system_of}
 use Rattle.fb_check.specs.Verdicts.{of_both}
-use Rattle.fb_check.proofs.Once.{spelled_once}
+use Rattle.fb_rows.proofs.Spelled.{spelled}
 use Rattle.fb_check.proofs.Reading.{written, accepted_by}
 use Rattle.fb_check.proofs.verdict.check_text.Goals as goal
 
@@ -13,7 +13,7 @@ returns-in-Ok-read_certificate-clause-accepted c =
     let system = system_of c.in-Ok.typed in
     let rows = certificate_of c.in-Ok-read_certificate.rows in
     accepted_by c.args.text.now c.args.certificate.now system rows c.check.result c.in-Ok.ensures.typed c.in-Ok-read_certificate.ensures.spelled c.check.ensures.same
-    (c.check.ensures.fits (written c.args.text.now system c.in-Ok.ensures.typed) (spelled_once c.args.certificate.now rows c.in-Ok-read_certificate.ensures.spelled))
+    (c.check.ensures.fits (written c.args.text.now system c.in-Ok.ensures.typed) (spelled c.args.certificate.now rows c.in-Ok-read_certificate.ensures.spelled))
 
 pub returns-in-Ok-read_certificate-clause-refused : goal.returns-in-Ok-read_certificate-clause-refused
 returns-in-Ok-read_certificate-clause-refused c =
@@ -22,10 +22,10 @@ returns-in-Ok-read_certificate-clause-refused c =
     (c.check.ensures.refused (written c.args.text.now (system_of c.in-Ok.typed) c.in-Ok.ensures.typed))
 
 pub returns-in-Ok-read_certificate-clause-accepts : goal.returns-in-Ok-read_certificate-clause-accepts
-returns-in-Ok-read_certificate-clause-accepts c = λ source system rows short few is e spelled fits.
+returns-in-Ok-read_certificate-clause-accepts c = λ source system rows short few is e written_is fits.
     let s : system_of c.in-Ok.typed ≡ system = c.in-Ok.ensures.accepts source system short is e in
-    let r : certificate_of c.in-Ok-read_certificate.rows ≡ rows = c.in-Ok-read_certificate.ensures.accepts rows few spelled in
+    let r : certificate_of c.in-Ok-read_certificate.rows ≡ rows = c.in-Ok-read_certificate.ensures.accepts rows few written_is in
     c.check.ensures.accepts (written c.args.text.now (system_of c.in-Ok.typed) c.in-Ok.ensures.typed) (subst (λ x. Fits x (certificate_of c.in-Ok-read_certificate.rows)) (sym s) (subst (Fits system) (sym r) fits))
 
 pub returns-in-Err-read_certificate-clause-accepts : goal.returns-in-Err-read_certificate-clause-accepts
-returns-in-Err-read_certificate-clause-accepts c = λ source system rows short few is e spelled fits. c.in-Err-read_certificate.ensures.accepts rows few spelled
+returns-in-Err-read_certificate-clause-accepts c = λ source system rows short few is e written_is fits. c.in-Err-read_certificate.ensures.accepts rows few written_is

@@ -2,9 +2,8 @@ use Rattle.std.proofs.lemmas.Result.{err_from_is_err_and, IfErr-weaker}
 use Rattle.fb_types.specs.Views.{system_of}
 use Rattle.fb_model.proofs.Fitted.{leaves_plain}
 use Rattle.fb_check.specs.declared.column.Column.TheVariants.{Steps, Places}
-use Rattle.fb_check.proofs.Composed.{fits_by}
+use Rattle.fb_check.proofs.Composed.{all_plain, fits_by}
 use Rattle.fb_check.proofs.Loops.{on_ok}
-use Rattle.fb_check.proofs.Once.{all_plain}
 use Rattle.fb_check.proofs.Denied.{of_rows, of_column, of_depth}
 use Rattle.fb_check.proofs.verdict.tables_fit.Goals as goal
 
