@@ -1,7 +1,7 @@
 -- What is so of the tables is so of the system's leaves in the book.
-use Rattle.std.proofs.Common.{◌≡◌, ◌≤◌, ◌+◌, ℕ, zero, suc, sym, ap, subst, refl, ◌∙◌, arith, List, [], ◌∷◌, ◌++◌, string_bytes}
+use Rattle.std.proofs.Common.{◌≡◌, ◌+◌, ℕ, suc, sym, ap, subst, refl, ◌∙◌, arith, List, [], ◌∷◌, string_bytes}
 use Rattle.std.specs.List.{AllByRecursion}
-use Rattle.fb_model.specs.Names.{Name, Path, at_place}
+use Rattle.fb_model.specs.Names.{Name, Path}
 use Rattle.fb_model.specs.System as system
 use Rattle.fb_model.specs.Wires as wires
 use Rattle.fb_model.specs.Wires.{resource_leaves, leaves_from, leaves}
@@ -20,7 +20,7 @@ use Rattle.fb_cert.specs.Views.{certificate_of}
 use Rattle.fb_flat.specs.declared.flat.Leaf.{Leaf}
 use Rattle.fb_flat.specs.declared.flat.FlatResource.{FlatResource}
 use Rattle.fb_flat.specs.declared.flat.FlatDevice.{FlatDevice}
-use Rattle.fb_flat.specs.Leaves.{IsLeaf, AreLeaves, AreResources, IsDevice, AreDevices}
+use Rattle.fb_flat.specs.Leaves.{AreLeaves, AreResources, IsDevice, AreDevices}
 use Rattle.fb_check.specs.declared.column.Column.{Column}
 use Rattle.fb_check.specs.declared.column.Column.TheVariants.{Steps, Places}
 use Rattle.fb_check.specs.Columns.{column_of}

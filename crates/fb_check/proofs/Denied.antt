@@ -1,7 +1,7 @@
 -- A refusal that is true of the tables is true of the system, and denies that the certificate fits.
-use Rattle.std.proofs.Common.{◌≡◌, ◌≤◌, ◌<◌, ◌+◌, ℕ, zero, suc, sym, ap, subst, refl, ◌∙◌, arith, inl, inr, ◌⊎◌, Bool, true, false, List, [], ◌∷◌, ◌++◌, map, length, get_or, string_bytes}
-use Rattle.std.specs.List.{Any, AllByRecursion, list_any}
-use Rattle.fb_model.specs.Names.{Name, Path, Place, at_place, is_in}
+use Rattle.std.proofs.Common.{◌≡◌, ◌≤◌, ◌<◌, ◌+◌, ℕ, zero, suc, sym, ap, subst, refl, ◌∙◌, arith, inl, inr, List, [], ◌∷◌, ◌++◌, map, length, get_or, string_bytes}
+use Rattle.std.specs.List.{Any, AllByRecursion}
+use Rattle.fb_model.specs.Names.{Name, Path}
 use Rattle.fb_model.specs.Language.{Limits}
 use Rattle.fb_model.specs.System as system
 use Rattle.fb_model.specs.Wires as wires
@@ -25,7 +25,7 @@ use Rattle.fb_types.specs.Views.{system_of, device_of, resource_of, connection_o
 use Rattle.fb_flat.specs.declared.flat.Leaf.{Leaf}
 use Rattle.fb_flat.specs.declared.flat.FlatResource.{FlatResource}
 use Rattle.fb_flat.specs.declared.flat.FlatDevice.{FlatDevice}
-use Rattle.fb_flat.specs.Leaves.{IsLeaf, AreLeaves, AreResources, IsDevice, AreDevices, IsFull}
+use Rattle.fb_flat.specs.Leaves.{IsLeaf, AreLeaves, AreResources, AreDevices, IsFull}
 use Rattle.fb_rows.specs.Faults.{IsUnknown, IsMissing, unknown_charge, unknown_weight, unknown_depth, missing_charge, missing_weight, missing_depth}
 use Rattle.fb_rows.specs.Faults.{IsRowFault}
 use Rattle.fb_rows.specs.declared.fault.RowFault.{RowFault}
@@ -116,12 +116,14 @@ resources_lack cert device path n [] rs at s a = absurd s
 resources_lack cert device path n (x ∷ fs) [] at s a = absurd a
 resources_lack cert device path n (x ∷ fs) (r ∷ rs) at (inl p) a =
     let here : name_at device.resources n ≡ r.name = subst (λ m. name_at device.resources m ≡ r.name) (let e : n + 0 ≡ n = omega arith in e) (at 0) in
-    let names : names_in (string_bytes path) ≡ device.name ∷ name_at device.resources n ∷ [] = ap names_in p.0 ∙ (a.0.path_is ∙ ap (λ (y : Name). device.name ∷ y ∷ []) (sym here)) in
-    (n, names,
-    some_left _ (resource_leaves n (device.name ∷ []) r) (leaves_from (n + 1) (device.name ∷ []) rs)
-    (some_weaker (λ (b : wires.Leaf). (b.home ≡ n) × (Arrives cert (depth_of cert x) b → ⊥)) (λ (b : wires.Leaf). (b.home ≡ n) × (ArrivalsFit (certificate_of cert) device b → ⊥)) (resource_leaves n (device.name ∷ []) r)
-    (λ b h. (h.0, λ fit. h.1 (subst (λ m. Arrives cert m b) (sym (depth_same cert device n x r a.0.path_is here b h.0)) fit)))
-    (leaves_lack cert (depth_of cert x) n x.leaves.items (resource_leaves n (device.name ∷ []) r) (some_of (λ l. (leaf : wires.Leaf) → IsLeaf l leaf → Arrives cert (depth_of cert x) leaf → ⊥) x.leaves.items p.1) a.0.leaves (resource_homes n (device.name ∷ []) r))))
+    let names : names_in (string_bytes path) ≡ device.name ∷ name_at device.resources n ∷ [] = ap names_in p.0 ∙ (a.0.path_is ∙ ap (λ (y : Name). device.name ∷ y ∷ []) (sym here)) in (
+      n,
+      names,
+      some_left _ (resource_leaves n (device.name ∷ []) r) (leaves_from (n + 1) (device.name ∷ []) rs)
+          (some_weaker (λ (b : wires.Leaf). (b.home ≡ n) × (Arrives cert (depth_of cert x) b → ⊥)) (λ (b : wires.Leaf). (b.home ≡ n) × (ArrivalsFit (certificate_of cert) device b → ⊥)) (resource_leaves n (device.name ∷ []) r)
+          (λ b h. (h.0, λ fit. h.1 (subst (λ m. Arrives cert m b) (sym (depth_same cert device n x r a.0.path_is here b h.0)) fit)))
+          (leaves_lack cert (depth_of cert x) n x.leaves.items (resource_leaves n (device.name ∷ []) r) (some_of (λ l. (leaf : wires.Leaf) → IsLeaf l leaf → Arrives cert (depth_of cert x) leaf → ⊥) x.leaves.items p.1) a.0.leaves (resource_homes n (device.name ∷ []) r))),
+    )
 resources_lack cert device path n (x ∷ fs) (r ∷ rs) at (inr s) a =
     let found = resources_lack cert device path (n + 1) fs rs (λ k. subst (λ m. name_at device.resources m ≡ name_at rs k) (let e : n + suc k ≡ (n + 1) + k = omega arith in e) (at (suc k))) s a.1 in
     (found.0, found.1, some_right _ (resource_leaves n (device.name ∷ []) r) (leaves_from (n + 1) (device.name ∷ []) rs) found.2)

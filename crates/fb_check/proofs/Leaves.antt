@@ -6,14 +6,13 @@ use Rattle.std.specs.Str.{bytes_eq}
 use Rattle.std.proofs.lemmas.List.{append-nil}
 use Rattle.std.proofs.lemmas.List.Sums.{sum_by-cons}
 use Rattle.std.proofs.lemmas.Slice.Eq.{bytes_eq-Decides}
-use Rattle.fb_model.specs.Names.{Name, Path, Place, at_place, is_in}
+use Rattle.fb_model.specs.Names.{Name, Path, Place, is_in}
 use Rattle.fb_model.specs.Spelling.{IsWord, word, part, no_part}
 use Rattle.fb_model.specs.Language.{Limits}
 use Rattle.fb_model.specs.System as book
 use Rattle.fb_model.specs.Services.{arrive, ind}
 use Rattle.fb_model.specs.Wires as wires
 use Rattle.fb_model.specs.Wires.{Kind, Charted, Serviced}
-use Rattle.fb_model.specs.Certificates as cert
 use Rattle.fb_model.specs.Certificates.{EventFits, KindWeighs, sent_weight}
 use Rattle.fb_model.specs.CertificateText.{names_in}
 use Rattle.fb_model.specs.Plain.{IsPlainLeaf, IsPlainKind}
@@ -31,7 +30,7 @@ use Rattle.fb_check.specs.declared.refusal.Refusal.{Refusal}
 use Rattle.fb_check.specs.declared.refusal.Refusal.TheVariants.{OutOfMemory, Text, Typing, Certificate, UnknownRow, MissingRow, Charge, Weight, Depth}
 use Rattle.fb_check.specs.Columns.{unit_of, column_of}
 use Rattle.fb_check.specs.Reckoning.{weight_of, load_of, value_at}
-use Rattle.fb_check.specs.Paying.{IsWeight, Names, Pays, ChartPays, IsOwing}
+use Rattle.fb_check.specs.Paying.{IsWeight, Pays, ChartPays, IsOwing}
 use Rattle.fb_check.specs.Fitting.{ChargeFails, WeightFails, IsLeafFault}
 use Rattle.fb_check.proofs.Amounts.{charge_is, weight_is, unit_is, load_is}
 use Rattle.fb_check.proofs.Typed.{IsTabled, tabled}

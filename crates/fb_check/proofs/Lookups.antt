@@ -1,9 +1,7 @@
 -- Looking a row up, from an index on.
-use Rattle.std.proofs.Common.{◌≡◌, ◌≤◌, ◌+◌, ℕ, zero, suc, true, false, Bool, List, [], ◌∷◌, drop, length, Option, None, Some, slice_get, ap, cond, add-one, refl, arith, subst, sym, ◌∙◌}
-use Rattle.std.specs.Option.{option_map}
+use Rattle.std.proofs.Common.{◌≡◌, ◌+◌, ℕ, zero, suc, true, false, List, [], ◌∷◌, drop, None, Some, slice_get, ap, add-one, refl, ◌∙◌}
 use Rattle.std.specs.Prelude.{if◌then◌else◌}
-use denote.Ref.{Bor}
-use Rattle.fb_cert.specs.Views.{Table, shown}
+use Rattle.fb_cert.specs.Views.{Table}
 use Rattle.fb_check.specs.Lookups.{is_same_path, row_at}
 
 at_some : {V : Type 0} (path : List ℕ) (rows : Table V) (i : ℕ) (r : (List ℕ) × V) → slice_get rows i ≡ Some r → row_at path (drop i rows) ≡ (if is_same_path r.0 path then Some r.1 else row_at path (drop (suc i) rows))

@@ -1,11 +1,9 @@
 -- Refusals of a block.
-use Rattle.std.proofs.Common.{◌≡◌, Result, Ok, Err, List, ℕ, inl, inr, string_bytes}
+use Rattle.std.proofs.Common.{Result, Ok, Err, List, ℕ, inl, inr, string_bytes}
 use Rattle.std.specs.Prelude.{MatchResult}
 use Rattle.std.specs.List.{AllByRecursion}
 use Rattle.fb_model.specs.Names.{Name}
 use Rattle.fb_cert.specs.declared.certificate.Certificate as cert
-use Rattle.fb_types.specs.declared.typed.State.{State}
-use Rattle.fb_types.specs.declared.typed.Transition.{Transition}
 use Rattle.fb_types.specs.declared.typed.Block.{Block}
 use Rattle.fb_types.specs.Views.{names_of}
 use Rattle.fb_check.specs.declared.column.Column.{Column}

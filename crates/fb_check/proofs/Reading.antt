@@ -1,5 +1,5 @@
 -- Faults of texts as refusals.
-use Rattle.std.proofs.Common.{◌≡◌, ◌≤◌, ℕ, List, length, ap, subst, sym, ◌∙◌, refl, Result, Ok, Err}
+use Rattle.std.proofs.Common.{◌≡◌, ℕ, List, subst, sym, refl, Result, Ok, Err}
 use Rattle.std.specs.Prelude.{IfOk, OnOk}
 use Rattle.fb_model.specs.Certificates as book
 use Rattle.fb_model.specs.Certificates.{Fits}
@@ -7,7 +7,6 @@ use Rattle.fb_model.specs.CertificateText.{Spells}
 use Rattle.fb_check.specs.declared.verified.Verified.{Verified}
 use Rattle.fb_model.specs.Trees.{SourceTree}
 use Rattle.fb_model.specs.System.{System}
-use Rattle.fb_model.specs.Typing.{Elaborates}
 use Rattle.fb_model.specs.Plain.{IsWritten}
 use Rattle.fb_model.proofs.Naming.{plain}
 use Rattle.fb_lex.specs.declared.fault.TextFault.{TextFault}

@@ -1,14 +1,12 @@
 -- What a well typed block is in its tables.
-use Rattle.std.proofs.Common.{◌≡◌, ◌<◌, ℕ, zero, suc, true, false, List, [], ◌∷◌, ◌++◌, map, length, get_or, Option, None, Some, option_map, refl, sym, ap, subst, ◌∙◌, string_bytes, arith}
+use Rattle.std.proofs.Common.{◌≡◌, ◌<◌, ℕ, zero, suc, true, List, [], ◌∷◌, map, length, get_or, Option, None, Some, option_map, refl, sym, ap, subst, ◌∙◌, string_bytes, arith}
 use Rattle.std.specs.List.{AllByRecursion, Any}
-use Rattle.std.specs.Str.{bytes_eq}
 use Rattle.fb_model.specs.Names.{Name, is_in}
-use Rattle.fb_model.specs.Spelling.{IsWord}
 use Rattle.fb_model.specs.Productions.{Word}
-use Rattle.fb_model.specs.Trees.{EventTree, ActionTree, StateTree, TransitionTree, BlockTree}
+use Rattle.fb_model.specs.Trees.{ActionTree, StateTree, TransitionTree, BlockTree}
 use Rattle.fb_model.specs.System as book
-use Rattle.fb_model.specs.Typing.{IsKnown, IsActionTyped, IsTransitionTyped, IsBlockTyped, typed_event, typed_action, typed_state, typed_transition, typed_block, event_texts, state_texts}
-use Rattle.fb_model.specs.Plain.{AreWords, IsPlainBlock, IsPlainKind}
+use Rattle.fb_model.specs.Typing.{IsKnown, IsActionTyped, IsTransitionTyped, typed_event, typed_action, typed_state, typed_transition, typed_block, event_texts, state_texts}
+use Rattle.fb_model.specs.Plain.{AreWords, IsPlainKind}
 use Rattle.fb_model.specs.Wires.{Charted}
 use Rattle.fb_model.specs.Certificates.{event_names}
 use Rattle.fb_types.specs.declared.typed.State.{State}

@@ -1,6 +1,6 @@
 -- What pays in the tables fits in the book, and what owes does not.
 use Rattle.std.proofs.Common.{◌≡◌, ◌≤◌, ◌+◌, ◌*◌, ◌<◌, ◌⊎◌, inl, inr, ℕ, Bool, true, false, cond, List, [], ◌∷◌, ◌++◌, map, length, get_or, Option, None, Some, refl, sym, ap, subst, ◌∙◌, string_bytes, arith}
-use Rattle.std.specs.List.{sum_by, AllByRecursion, Any, list_any}
+use Rattle.std.specs.List.{sum_by, AllByRecursion}
 use Rattle.std.specs.Str.{bytes_eq}
 use Rattle.std.proofs.lemmas.List.{append-nil}
 use Rattle.std.proofs.lemmas.List.Sums.{sum_by-cons}
@@ -8,7 +8,7 @@ use Rattle.std.proofs.lemmas.List.Folds.{list_any_at}
 use Rattle.std.proofs.lemmas.Slice.Eq.{bytes_eq-Decides}
 use Rattle.std.specs.declared.string.String.{String}
 use Rattle.std.specs.declared.alloc.Global.{Global}
-use Rattle.fb_model.specs.Names.{Name, Path, Place, at_place, is_in}
+use Rattle.fb_model.specs.Names.{Name, Place, at_place, is_in}
 use Rattle.fb_model.specs.Spelling.{IsWord}
 use Rattle.fb_model.specs.Language.{Limits}
 use Rattle.fb_model.specs.System as book
@@ -30,8 +30,8 @@ use Rattle.fb_flat.proofs.Filled.{bytes_turned}
 use Rattle.fb_flat.proofs.Systems.{all_at}
 use Rattle.fb_check.specs.declared.column.Column.{Column}
 use Rattle.fb_check.specs.Columns.{unit_of, crossing_need}
-use Rattle.fb_check.specs.Reckoning.{weight_of, charge_of, value_at, emitted, own_of, cost_at, most_free}
-use Rattle.fb_check.specs.Paying.{StatePays, SourcePays, Pays, InputPays, EventPays, event_named, costs_in, most_in, ChartPays, StateOwes, EventOwes}
+use Rattle.fb_check.specs.Reckoning.{weight_of, charge_of, value_at, emitted, own_of, cost_at}
+use Rattle.fb_check.specs.Paying.{StatePays, SourcePays, Pays, InputPays, EventPays, costs_in, most_in, ChartPays, StateOwes, EventOwes}
 use Rattle.fb_check.specs.Fitting.{ChargeFails, WeightFails}
 use Rattle.fb_check.proofs.Typed.{all_image, all_source, all_here, any_image, IsListed, IsActionPlain, IsTransitionPlain, names_in_states, IsTabled, event_names_are}
 use Rattle.fb_check.proofs.Crossings.{IsWithin, each_within, most_within}

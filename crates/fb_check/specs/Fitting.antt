@@ -3,7 +3,7 @@ use Rattle.std.specs.Prelude.{◌≡◌, ◌⊎◌, true, List, [], ◌∷◌, �
 use Rattle.std.specs.List.{Any}
 use Rattle.fb_model.specs.Names.{Name, Path, Place, is_in}
 use Rattle.fb_model.specs.Language.{Limits}
-use Rattle.fb_model.specs.System.{State, Transition, Block}
+use Rattle.fb_model.specs.System.{State, Transition}
 use Rattle.fb_model.specs.Services.{service_events}
 use Rattle.fb_model.specs.Wires.{Kind, Charted, Serviced, Leaf}
 use Rattle.fb_model.specs.Certificates.{Column, StateFits, FreeFits, InputFits, EventFits, event_names}

@@ -1,5 +1,5 @@
 -- When the rows of a leaf's tables pay for what they have to, in one column, and what a refusal names.
-use Rattle.std.specs.Prelude.{◌≡◌, ◌≤◌, ◌⊎◌, ℕ, ◌+◌, List, [], ◌∷◌, Option, None, Some, Result, MatchResult, string_bytes}
+use Rattle.std.specs.Prelude.{◌≡◌, ◌≤◌, ◌⊎◌, ℕ, ◌+◌, List, [], Option, None, Some, Result, MatchResult, string_bytes}
 use Rattle.std.specs.List.{AllByRecursion, Any}
 use Rattle.fb_model.specs.Names.{Name}
 use Rattle.fb_cert.specs.declared.certificate.Certificate.{Certificate}

@@ -1,5 +1,4 @@
 -- Columns of the tables, in the book's terms.
-use Rattle.std.specs.Prelude.{◌≡◌, ℕ}
 use Rattle.std.specs.List.{Any, AllByRecursion}
 use Rattle.fb_model.specs.Language.{Limits}
 use Rattle.fb_model.specs.Wires as wires

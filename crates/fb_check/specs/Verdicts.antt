@@ -1,5 +1,5 @@
 -- What a verdict says of the two texts.
-use Rattle.std.specs.Prelude.{◌≡◌, ℕ, List, Err}
+use Rattle.std.specs.Prelude.{ℕ, List, Err}
 use Rattle.fb_model.specs.Trees.{SourceTree}
 use Rattle.fb_model.specs.System.{System}
 use Rattle.fb_model.specs.Typing.{Elaborates}

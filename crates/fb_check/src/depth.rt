@@ -64,11 +64,7 @@ fn resource_fits(
 }
 
 // The depths of all resources of a device fit.
-fn device_fits(
-    alloc: Global,
-    certificate: &Certificate,
-    device: &FlatDevice,
-) -> Result<(), Refusal>
+fn device_fits(alloc: Global, certificate: &Certificate, device: &FlatDevice) -> Result<(), Refusal>
     ensures fits { OnOk result (DeviceArrives certificate.now device.now) }
     ensures refused { IfErr result (λ f. Any (λ r. IsDepthFault certificate.now r f) device.now.resources.items) }
 {

@@ -54,4 +54,4 @@ is_taken = record { taken = refl; files = refl }
 -- these are none
 is_misused : IsMisuse (codes "fbr" ∷ codes "check" ∷ codes "cell.fb" ∷ [])
 unfolding clap_on_literals
-is_misused = record { fault = λ e. absurd cc; no_help = λ h. elim h [ | inl e ↦ absurd cc | inr e ↦ e ]; no_version = λ h. elim h [ | inl e ↦ absurd cc | inr e ↦ e ] }
+is_misused = record { fault = λ e. absurd cc; no_help = λ h. elim h [ inl e ↦ absurd cc | inr e ↦ e ]; no_version = λ h. elim h [ inl e ↦ absurd cc | inr e ↦ e ] }

@@ -1,15 +1,16 @@
-use Rattle.std.proofs.Common.{◌≡◌, ◌≤◌, ◌<◌, arith, rules, string_bytes, sym, subst}
+use Rattle.std.proofs.Common.{arith, rules}
 use Rattle.fb_flat.specs.Leaves.{IsLeaf}
 use Rattle.fb_check.specs.Depths.{depth_of, Arrives, LeafArrives}
 use Rattle.fb_check.proofs.Loops.{all_in, any_in}
 use Rattle.fb_check.proofs.depth.resource_fits.Goals as goal
 
 pub returns-then-branch-depth-clause-refused : goal.returns-then-branch-depth-clause-refused
-returns-then-branch-depth-clause-refused c =
-    (search rules,
-    any_in (λ l. (leaf : Rattle.fb_model.specs.Wires.Leaf) → IsLeaf l leaf → Arrives c.args.certificate.now (depth_of c.args.certificate.now c.args.resource.now) leaf → ⊥)
-    c.args.resource.now.leaves.items c.deref-leaf-items.result.now c.loop-leaf.leaf-index c.leaf-item.result c.deref-leaf-items.ensures.value c.loop-leaf-test.true c.leaf-item.is
-    (λ leaf is a. let most = (c.in_ok-arrival_places.ensures.value leaf is (depth_of c.args.certificate.now c.args.resource.now)).1 a in absurd (omega (arith, most, c.if-branch-depth.true, c.depth-depth.ensures))))
+returns-then-branch-depth-clause-refused c = (
+  search rules,
+  any_in (λ l. (leaf : Rattle.fb_model.specs.Wires.Leaf) → IsLeaf l leaf → Arrives c.args.certificate.now (depth_of c.args.certificate.now c.args.resource.now) leaf → ⊥)
+      c.args.resource.now.leaves.items c.deref-leaf-items.result.now c.loop-leaf.leaf-index c.leaf-item.result c.deref-leaf-items.ensures.value c.loop-leaf-test.true c.leaf-item.is
+      (λ leaf is a. let most = (c.in_ok-arrival_places.ensures.value leaf is (depth_of c.args.certificate.now c.args.resource.now)).1 a in absurd (omega (arith, most, c.if-branch-depth.true, c.depth-depth.ensures))),
+)
 
 pub loop-leaf-preserved : goal.loop-leaf-preserved
 loop-leaf-preserved c =

@@ -1,6 +1,5 @@
-use Rattle.std.proofs.Common.{◌≡◌, ◌∙◌, rules, subst, sym, ap}
+use Rattle.std.proofs.Common.{◌∙◌, subst, sym}
 use Rattle.fb_model.specs.Typing.{Elaborates}
-use Rattle.fb_check.specs.Refusals.{of_text}
 use Rattle.fb_check.proofs.Reading.{no_memory}
 use Rattle.fb_check.proofs.texts.read_system.Goals as goal
 
