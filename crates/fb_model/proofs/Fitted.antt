@@ -115,7 +115,7 @@ module _ (bs : List BlockTree) (blocks : AllByRecursion IsBlockTyped bs) (path :
   plain_leaves n r m =
       let s = simple_of r m in
       let words : (j o : Name) → AllByRecursion (λ (p : Place). IsWord p.event) (given r j o) =
-        λ j o. led_holds (λ p. IsWord p.event) (path ++ r.name ∷ []) r.inner s (port_word r.inner s) m.tree.events r.events m.is.events (Some j) o in
+      λ j o. led_holds (λ p. IsWord p.event) (path ++ r.name ∷ []) r.inner s (port_word r.inner s) m.tree.events r.events m.is.events (Some j) o in
       each_in IsPlainLeaf (λ x. Unit {0}) n (path ++ r.name ∷ []) (given r) (from r) r.inner s (anything (instance_names r.inner))
       (λ name parameters block q k. record { kind = k; targets = words name }) (λ name parameters number q. record { kind = tt; targets = words name })
 
@@ -134,7 +134,7 @@ module _ (bs : List BlockTree) (blocks : AllByRecursion IsBlockTyped bs) (path :
   wired_leaves all n r m f =
       let s = simple_of r m in
       let led : (j o : Name) → AllByRecursion (λ p. is_input all p ≡ true) (given r j o) =
-        λ j o. led_holds (λ p. is_input all p ≡ true) (path ++ r.name ∷ []) r.inner s (port_taken all n (path ++ r.name ∷ []) (given r) (from r) r.inner s f) m.tree.events r.events m.is.events (Some j) o in
+      λ j o. led_holds (λ p. is_input all p ≡ true) (path ++ r.name ∷ []) r.inner s (port_taken all n (path ++ r.name ∷ []) (given r) (from r) r.inner s f) m.tree.events r.events m.is.events (Some j) o in
       all_both (λ (l : Leaf). leaf_at all l.path ≡ Some l) (λ (l : Leaf). (o : Name) → AllByRecursion (λ p. is_input all p ≡ true) (l.targets o)) (IsWired all) (resource_leaves n path r)
       (λ l a b. record { found = a; targets = b }) f
       (each_in (λ (l : Leaf). (o : Name) → AllByRecursion (λ p. is_input all p ≡ true) (l.targets o)) (λ x. Unit {0}) n (path ++ r.name ∷ []) (given r) (from r) r.inner s (anything (instance_names r.inner))

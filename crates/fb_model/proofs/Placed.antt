@@ -59,9 +59,9 @@ pub distinct_from : (before xs : List Name) → AreNew before xs → Apart xs
 distinct_from before [] h = tt
 distinct_from before (x ∷ xs) h =
     (new_apart x (before ++ x ∷ []) xs (in_append x before (x ∷ []) ∙ (ap (λ b. is_in x before || (b || false)) (name_same x) ∙ last (is_in x before))) h.1, distinct_from (before ++ x ∷ []) xs h.1) where
-  last : (b : Bool) → (b || true) ≡ true
-  last true = refl
-  last false = refl
+      last : (b : Bool) → (b || true) ≡ true
+      last true = refl
+      last false = refl
 
 pub apart : (xs : List Name) → AreDistinct xs → Apart xs
 apart xs h = distinct_from [] xs h
@@ -133,9 +133,10 @@ fresh_in home path targets source (instance name parameters body rest) s a =
 -- each leaf is found by its path
 pub all_found : (ls : List Leaf) → Fresh ls → AllByRecursion (λ (l : Leaf). leaf_at ls l.path ≡ Some l) ls
 all_found [] f = tt
-all_found (l ∷ ls) f =
-    (ap (λ b. if b then Some l else leaf_at ls l.path) (path_same l.path),
-    all_both (λ (m : Leaf). path_eq l.path m.path ≡ false) (λ (m : Leaf). leaf_at ls m.path ≡ Some m) (λ (m : Leaf). leaf_at (l ∷ ls) m.path ≡ Some m) ls (λ m a e. ap (λ b. if b then Some l else leaf_at ls m.path) a ∙ e) f.0 (all_found ls f.1))
+all_found (l ∷ ls) f = (
+  ap (λ b. if b then Some l else leaf_at ls l.path) (path_same l.path),
+  all_both (λ (m : Leaf). path_eq l.path m.path ≡ false) (λ (m : Leaf). leaf_at ls m.path ≡ Some m) (λ (m : Leaf). leaf_at (l ∷ ls) m.path ≡ Some m) ls (λ m a e. ap (λ b. if b then Some l else leaf_at ls m.path) a ∙ e) f.0 (all_found ls f.1),
+)
 
 -- ---- outputs lead to event inputs
 
@@ -168,12 +169,12 @@ home_in : (all : List Leaf) (home : ℕ) (path : Path) (targets : Name → Name 
 home_in all home path targets source nothing j body s f e = absurd cc
 home_in all home path targets source (instance name parameters here rest) j body s f e =
     by (bytes_eq j name) refl e (λ g. home_in all home path targets source rest j body s.1 (all_right _ _ _ f) g) where
-  by : (b : Bool) → bytes_eq j name ≡ b → (if b then Some here else body_named rest j) ≡ Some body → (body_named rest j ≡ Some body → IsHome all (path ++ j ∷ []) body) → IsHome all (path ++ j ∷ []) body
-  by true t g next =
-      let same : here ≡ body = cc in
-      subst (λ (x : Body). IsHome all (path ++ j ∷ []) x) same (subst (λ n. IsHome all (path ++ n ∷ []) here) (sym (same_name j name t))
-      (one_home all home (path ++ name ∷ []) (targets name) (λ port. source name port (Constant (constant parameters (inputs_of here) port))) here (leaves_in rest home path targets source) s.0 f))
-  by false t g next = next g
+      by : (b : Bool) → bytes_eq j name ≡ b → (if b then Some here else body_named rest j) ≡ Some body → (body_named rest j ≡ Some body → IsHome all (path ++ j ∷ []) body) → IsHome all (path ++ j ∷ []) body
+      by true t g next =
+          let same : here ≡ body = cc in
+          subst (λ (x : Body). IsHome all (path ++ j ∷ []) x) same (subst (λ n. IsHome all (path ++ n ∷ []) here) (sym (same_name j name t))
+          (one_home all home (path ++ name ∷ []) (targets name) (λ port. source name port (Constant (constant parameters (inputs_of here) port))) here (leaves_in rest home path targets source) s.0 f))
+      by false t g next = next g
 
 pub port_taken : (all : List Leaf) (home : ℕ) (path : Path) (targets : Name → Name → List Place) (source : Name → Name → Source → Source) (inner : Instances) → AreSimple inner
     → AllByRecursion (λ (l : Leaf). leaf_at all l.path ≡ Some l) (leaves_in inner home path targets source) → (j port : Name) → IsPort inner j port → is_input all (at_place (path ++ j ∷ []) port) ≡ true

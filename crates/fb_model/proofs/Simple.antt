@@ -72,6 +72,6 @@ led_holds P path inner s h (c ∷ cs) [] e i o = absurd e
 led_holds P path inner s h (c ∷ cs) (d ∷ ds) e i o =
     let next = led_holds P path inner s h cs ds e.1 i o in
     either P _ _ _ (all_append P _ _ (one d.target e.0.target) next) next where
-  one : (t : End) → IsEnd event_inputs_of inner c.target t → AllByRecursion P (elim t.instance [ None ↦ [] | Some j ↦ entered_in inner path j t.port ])
-  one t is = subst (λ (x : End). AllByRecursion P (elim x.instance [ None ↦ [] | Some j ↦ entered_in inner path j x.port ])) (sym is.end_is)
-      (entered_holds P path inner c.target.first.text is.port.text s (h c.target.first.text is.port.text (is.body, is.found, is.listed)))
+      one : (t : End) → IsEnd event_inputs_of inner c.target t → AllByRecursion P (elim t.instance [ None ↦ [] | Some j ↦ entered_in inner path j t.port ])
+      one t is = subst (λ (x : End). AllByRecursion P (elim x.instance [ None ↦ [] | Some j ↦ entered_in inner path j x.port ])) (sym is.end_is)
+          (entered_holds P path inner c.target.first.text is.port.text s (h c.target.first.text is.port.text (is.body, is.found, is.listed)))
