@@ -5,9 +5,9 @@ The largest: 1,024 instances in one resource, 8,192 connections, and one block o
 leads to one fork and to an instance of the large block; each fork leads to sixteen or seventeen cells. The certificate is the
 least one, so that each inequality is tested at its bound. The least of nine runs is told.
 """
-import subprocess
 import sys
-import time
+
+from timing import least
 
 CELL = """FUNCTION_BLOCK CELL
 EVENT_INPUT EI; END_EVENT
@@ -62,22 +62,11 @@ def system(part):
     return "\n".join(text), instances, 2 + led, states
 
 
-def least(program, source):
-    best = None
-    for _ in range(9):
-        began = time.perf_counter()
-        done = subprocess.run([program], input=source.encode(), capture_output=True)
-        took = time.perf_counter() - began
-        assert done.stdout == b"accepted\n", done.stdout
-        best = took if best is None else min(best, took)
-    return best
-
-
 def main():
     program = sys.argv[1]
     for part in (8, 4, 2, 1):
         source, instances, connections, states = system(part)
-        took = least(program, source)
+        took = least(program, source, "accepted\n")
         print("%4d instances, %4d connections, %3d states, %4d transitions, %6d bytes: %.1f ms" % (instances, connections, states, 4 * states, len(source), took * 1000))
 
 

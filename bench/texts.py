@@ -5,9 +5,9 @@ Each text is one block after another and then a system whose last word is cut sh
 text, refuses it as a syntax fault at that word, and does nothing else. The least of nine runs is told, and the least of
 nine runs on a text of one line beside it, which is what starting the program costs.
 """
-import subprocess
 import sys
-import time
+
+from timing import least
 
 BLOCK = """FUNCTION_BLOCK CELL%d
 EVENT_INPUT EI; STOP : EVENT; END_EVENT
@@ -31,25 +31,16 @@ def text(size):
     return "".join(parts) + " " * (size - length) + END
 
 
-def least(program, source):
-    best = None
-    for _ in range(9):
-        began = time.perf_counter()
-        done = subprocess.run([program], input=source.encode(), capture_output=True)
-        took = time.perf_counter() - began
-        said = done.stdout.decode()
-        offset = len(source) - len("END_SYSTE")
-        assert said == "refused 2 %d\n" % offset, said
-        best = took if best is None else min(best, took)
-    return best
+def refusal(source):
+    return "refused 2 %d\n" % (len(source) - len("END_SYSTE"))
 
 
 def main():
     program = sys.argv[1]
-    start = least(program, END)
+    start = least(program, END, refusal(END))
     print("start %.1f ms" % (start * 1000))
     for size in (65536, 262144, 1048576):
-        took = least(program, text(size))
+        took = least(program, text(size), refusal(text(size)))
         print("%8d bytes %.1f ms, %.1f ns a byte" % (size, took * 1000, (took - start) / size * 1e9))
 
 
