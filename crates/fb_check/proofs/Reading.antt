@@ -21,7 +21,8 @@ use Rattle.fb_text.specs.Answers.{IsSource, ReadsText, FindsTree}
 use Rattle.fb_check.specs.declared.refusal.Refusal.{Refusal}
 use Rattle.fb_check.specs.declared.refusal.Refusal.TheVariants.{OutOfMemory, Text, Typing, Certificate as Spelling, UnknownRow, MissingRow, Charge, Weight, Depth}
 use Rattle.fb_check.specs.Refusals.{of_text, of_type, of_certificate}
-use Rattle.fb_check.specs.Verdicts.{IsSystemOf, IsTypingFault, IsTextFault, IsCertificateFault, IsOfTexts, system_in, certificate_in}
+use Rattle.fb_check.specs.Verdicts.{IsSystemOf, IsTypingFault, IsTextFault, IsCertificateFault, IsOfTexts, IsChecked, system_in, certificate_in}
+use Rattle.fb_flat.specs.Leaves.{AreDevices}
 
 pub typing_fault : (source : SourceTree) (f : TypeFault) → IsSourceFault source f → IsTypingFault source (of_type f)
 typing_fault source faults.OutOfMemory h = tt
@@ -84,11 +85,16 @@ no_room view (certs.DuplicateRow line) y h = absurd h
 
 -- what is verified of a system and a certificate that stand in texts
 pub accepted_by : (text certificate : List ℕ) (system : System) (rows : book.Certificate) (r : Result Verified Refusal) → IsSystemOf text system → Spells certificate rows
-    → IfOk r (λ v. (system_in v ≡ system) × (certificate_in v ≡ rows)) → OnOk r (Fits system rows) → IfOk r (IsOfTexts text certificate)
-accepted_by text certificate system rows (Ok v) s c same fits =
+    → IfOk r (λ v. (system_in v ≡ system) × (certificate_in v ≡ rows)) → IfOk r (λ v. AreDevices v.flat.devices.items system.devices) → OnOk r (Fits system rows) → IfOk r (IsOfTexts text certificate)
+accepted_by text certificate system rows (Ok v) s c same tables fits =
     record {
       system_is = subst (IsSystemOf text) (sym same.0) s;
       certificate_is = subst (Spells certificate) (sym same.1) c;
       fits = subst (λ x. Fits x (certificate_in v)) (sym same.0) (subst (Fits system) (sym same.1) fits);
+      tables = subst (λ (x : System). AreDevices v.flat.devices.items x.devices) (sym same.0) tables;
     }
-accepted_by text certificate system rows (Err f) s c same fits = tt
+accepted_by text certificate system rows (Err f) s c same tables fits = tt
+
+-- whoever runs what was accepted relies on it
+pub checked : (text certificate : List ℕ) (v : Verified) → IsOfTexts text certificate v → IsChecked v
+checked text certificate v h = record { written = written text (system_in v) h.system_is; fits = h.fits; tables = h.tables }

@@ -16,6 +16,8 @@ use Rattle.fb_model.specs.Certificates.{Fits}
 use Rattle.fb_types.specs.declared.typed.Typed.{Typed}
 use Rattle.fb_types.specs.Refusals.{IsSourceFault}
 use Rattle.fb_check.specs.Faults.{IsFitFault}
+use Rattle.fb_model.specs.Plain.{IsWritten}
+use Rattle.fb_flat.specs.Leaves.{AreDevices}
 
 -- the system and the certificate that were verified
 abbrev pub system_in : Verified → System
@@ -30,11 +32,18 @@ pub record IsSystemOf (text : List ℕ) (system : System) : Type 0 where
   pub source_is : IsSource text source
   pub typed : Elaborates source system
 
--- the system is that of the application's text, the certificate is that of the other, and it fits
+-- the system is that of the application's text, the certificate is that of the other, it fits, and the tables are the system's
 pub record IsOfTexts (text certificate : List ℕ) (v : Verified) : Type 0 where
   pub system_is : IsSystemOf text (system_in v)
   pub certificate_is : Spells certificate (certificate_in v)
   pub fits : Fits (system_in v) (certificate_in v)
+  pub tables : AreDevices v.flat.devices.items (system_in v).devices
+
+-- what whoever runs a system relies on: it stands in a text, its certificate fits, and its tables are its own
+pub record IsChecked (v : Verified) : Type 0 where
+  pub written : IsWritten (system_in v)
+  pub fits : Fits (system_in v) (certificate_in v)
+  pub tables : AreDevices v.flat.devices.items (system_in v).devices
 
 -- what is at fault in a source tree
 abbrev pub IsTypingFault : SourceTree → Refusal → Type 0

@@ -45,6 +45,7 @@ fn tables_fit(alloc: Global, flat: &Flat, certificate: &Certificate) -> Result<(
 // A system with a certificate that fits it.
 fn verified(alloc: Global, typed: Typed, certificate: Certificate) -> Result<Verified, Refusal>
     ensures same { IfOk result (λ v. (system_in v ≡ system_of typed) × (certificate_in v ≡ certificate_of certificate)) }
+    ensures tables { IsWritten (system_of typed) → IfOk result (λ v. AreDevices v.flat.devices.items (system_of typed).devices) }
     ensures fits { IsWritten (system_of typed) → HasNoRowTwice (certificate_of certificate) → OnOk result (Fits (system_of typed) (certificate_of certificate)) }
     ensures refused { IsWritten (system_of typed) → IfErr result (IsFitFault typed (certificate_of certificate)) }
 {
@@ -64,6 +65,7 @@ fn verified(alloc: Global, typed: Typed, certificate: Certificate) -> Result<Ver
 /// and none, unless memory runs out, where the certificate fits.
 pub fn check(alloc: Global, typed: Typed, certificate: Certificate) -> Result<Verified, Refusal>
     ensures same { IfOk result (λ v. (system_in v ≡ system_of typed) × (certificate_in v ≡ certificate_of certificate)) }
+    ensures tables { IsWritten (system_of typed) → IfOk result (λ v. AreDevices v.flat.devices.items (system_of typed).devices) }
     ensures fits { IsWritten (system_of typed) → HasNoRowTwice (certificate_of certificate) → OnOk result (Fits (system_of typed) (certificate_of certificate)) }
     ensures refused { IsWritten (system_of typed) → IfErr result (IsFitFault typed (certificate_of certificate)) }
     ensures accepts { IsWritten (system_of typed) → Fits (system_of typed) (certificate_of certificate) → IfErr result (λ f. f ≡ OutOfMemory) }

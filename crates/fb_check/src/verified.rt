@@ -59,6 +59,27 @@ fn depth_of(certificate: &Certificate, path: &str) -> Option<u64>
 }
 
 impl Verified {
+    /// The system, well typed.
+    pub fn typed(&self) -> &Typed
+        ensures { result.now ≡ self.now.typed }
+    {
+        &self.typed
+    }
+
+    /// Its leaves, and where their event outputs lead.
+    pub fn flat(&self) -> &Flat
+        ensures { result.now ≡ self.now.flat }
+    {
+        &self.flat
+    }
+
+    /// The certificate that fits it.
+    pub fn certificate(&self) -> &Certificate
+        ensures { result.now ≡ self.now.certificate }
+    {
+        &self.certificate
+    }
+
     /// The steps that one event at this event input or arrival can cause at most: those of its WEIGHT row. `None` where it has none.
     pub fn steps_of(&self, path: &str) -> Option<u64>
         ensures { result ≡ option_map (λ amount. amount.steps) (row_at path.now (rows_of self.now.certificate).weights) }

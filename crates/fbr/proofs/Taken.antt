@@ -1,19 +1,24 @@
 -- What the program takes as words.
-use Rattle.std.proofs.Common.{codes, ◌≡◌, ◌≢◌, ◌⊎◌, inl, inr, ℕ, refl, sym, ◌∙◌, ap, subst, true, List, [], ◌∷◌, Option, None, Some, Result, Ok, Err, IfOk, IfErr, Bor}
-use Rattle.std.specs.Option.{option_map}
+use Rattle.std.proofs.Common.{codes, ◌≡◌, ◌≢◌, ◌⊎◌, inl, inr, ℕ, refl, sym, ◌∙◌, ap, subst, true, false, Bool, not, ◌&&◌, List, [], ◌∷◌, Option, Result, Ok, Err, IfOk}
 use Rattle.std.specs.Result.{result_unwrap_or}
-use Rattle.clap.specs.Words.{App, Text, Row, Kinds, HasKind, IsAmong, FailsBy, fault_of, is_simple, is_simple_and_free, subcommand_of}
+use Rattle.clap.specs.Words.{App, Text, Kinds, HasKind, IsAmong, fault_of, is_simple_and_free}
 use Rattle.clap.specs.Values.{kind_of}
 use Rattle.clap.specs.declared.error.Error.{Error}
 use Rattle.clap.specs.declared.error.kind.ErrorKind.{ErrorKind}
 use Rattle.clap.specs.declared.error.kind.ErrorKind.TheVariants.{OutOfMemory, DisplayHelp, DisplayVersion}
 use Rattle.clap.proofs.OnLiterals.{clap_on_literals}
-use Rattle.fbr.specs.declared.fault.Fault.{Fault}
 use Rattle.fbr.specs.declared.fault.Fault.TheVariants.{Memory}
 use Rattle.fbr.specs.Outcomes.{Tells, TellsFiles, refusal}
-use Rattle.fbr.specs.Program.{program, files_in, files_of, IsCheck, IsMisuse}
+use Rattle.fbr.specs.Program.{program, IsCheck, IsSim, IsMisuse}
 use Rattle.fbr.proofs.Told.{tells_files}
 use Rattle.fbr.proofs.Verdicts.{files_memory}
+
+-- a command without groups and global arguments has none of the latter
+pub third : (a b c d : Bool) → (a && (not b && (not c && d))) ≡ true → c ≡ false
+third false b c d e = absurd cc
+third true true c d e = absurd cc
+third true false true d e = absurd cc
+third true false false d e = refl
 
 is_free : is_simple_and_free program ≡ true
 unfolding clap_on_literals
@@ -23,9 +28,9 @@ pub free_app : (a : App) → a ≡ program → is_simple_and_free a ≡ true
 free_app a e = ap is_simple_and_free e ∙ is_free
 
 -- words that are taken are refused for want of memory alone
-pub taken_memory : (words : List Text) (app cert : Text) (e : Error) → IsCheck words app cert → HasKind (fault_of program words) e → kind_of e ≡ OutOfMemory
-taken_memory words app cert e is (inl h) = h
-taken_memory words app cert e is (inr h) = absurd (subst (IsAmong (kind_of e)) is.taken h)
+pub taken_memory : (words : List Text) → fault_of program words ≡ [] → (e : Error) → HasKind (fault_of program words) e → kind_of e ≡ OutOfMemory
+taken_memory words taken e (inl h) = h
+taken_memory words taken e (inr h) = absurd (subst (IsAmong (kind_of e)) taken h)
 
 among : (k : ErrorKind) (kinds : Kinds) (e : Error) → k ≢ OutOfMemory → (IsAmong k kinds → ⊥) → HasKind kinds e → kind_of e ≢ k
 among k kinds e n h (inl m) = λ same. n (sym same ∙ m)
@@ -36,6 +41,10 @@ no_help words e is h = among DisplayHelp (fault_of program words) e (λ same. ab
 
 pub no_version : (words : List Text) (e : Error) → IsMisuse words → HasKind (fault_of program words) e → kind_of e ≢ DisplayVersion
 no_version words e is h = among DisplayVersion (fault_of program words) e (λ same. absurd cc) is.no_version h
+
+-- words that are taken are no misuse
+pub no_misuse : (words : List Text) (a : App) → a ≡ program → fault_of a words ≡ [] → IsMisuse words → ⊥
+no_misuse words a e h is = is.fault (subst (λ x. fault_of x words ≡ []) e h)
 
 pub memory_told : {E : Type 0} (one two : List ℕ) (held_one held_two : Option (List ℕ)) (old new : Option (List ℕ)) (r : Result ℕ E)
     → IfOk r (λ status. Tells (refusal Memory) old new status) → IfOk r (λ status. TellsFiles one two held_one held_two old new status)
@@ -50,6 +59,11 @@ or_three (Err x) n P e h = inr e
 is_taken : IsCheck (codes "fbr" ∷ codes "check" ∷ codes "cell.fb" ∷ codes "cell.cert" ∷ []) (codes "cell.fb") (codes "cell.cert")
 unfolding clap_on_literals
 is_taken = record { taken = refl; files = refl }
+
+-- and such are a simulation over them
+is_sim : IsSim (codes "fbr" ∷ codes "sim" ∷ codes "cell.fb" ∷ codes "cell.cert" ∷ []) (codes "cell.fb") (codes "cell.cert")
+unfolding clap_on_literals
+is_sim = record { taken = refl; files = refl }
 
 -- these are none
 is_misused : IsMisuse (codes "fbr" ∷ codes "check" ∷ codes "cell.fb" ∷ [])

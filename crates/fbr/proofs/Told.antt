@@ -1,5 +1,5 @@
 -- What is told of an outcome.
-use Rattle.std.proofs.Common.{◌≡◌, ℕ, List, Option, Result, Ok, Err, IfOk}
+use Rattle.std.proofs.Common.{ℕ, List, Option, Result, Ok, Err, IfOk}
 use Rattle.fbr.specs.declared.fault.Fault.{Fault}
 use Rattle.fbr.specs.Outcomes.{outcome_said, Tells, TellsInput, TellsFiles, IsInputOutcome, IsFilesOutcome}
 

@@ -1,9 +1,8 @@
 -- From what was read to what is said of it.
-use Rattle.std.proofs.Common.{◌≡◌, ℕ, zero, suc, ◌≤◌, ◌<◌, ◌+◌, inl, inr, refl, sym, ◌∙◌, ap, subst, arith, true, false, List, [], ◌∷◌, length, take, Option, Some, None, Result, Ok, Err, IfOk, IfSome, Bool}
+use Rattle.std.proofs.Common.{◌≡◌, ℕ, zero, suc, ◌≤◌, ◌<◌, inl, inr, refl, sym, ◌∙◌, ap, subst, arith, true, false, List, [], ◌∷◌, length, take, Option, Some, None, Result, Ok, Err, IfSome}
 use Rattle.std.specs.Str.{is_utf8}
-use Rattle.fb_check.specs.Verdicts as verdicts
 use Rattle.fbr.specs.declared.fault.Fault.{Fault}
-use Rattle.fbr.specs.declared.fault.Fault.TheVariants.{Memory, Input, File, Usage, Refused}
+use Rattle.fbr.specs.declared.fault.Fault.TheVariants.{Memory, Input, File, Line, Usage, Refused}
 use Rattle.fbr.specs.Halves.{divide}
 use Rattle.fbr.specs.Outcomes.{IsVerdict, HoldsTexts, IsInputVerdict, IsContents, IsReadFault, IsInputOutcome, IsFilesOutcome}
 
@@ -37,6 +36,7 @@ input_held A xs bytes (Ok a) e v = subst (λ ys. IsInputVerdict ys (Ok a)) (take
 input_held A xs bytes (Err Memory) e v = tt
 input_held A xs bytes (Err Input) e v = λ h. v (subst HoldsTexts (sym (short 33554432 xs bytes e h.0)) h)
 input_held A xs bytes (Err (File name)) e v = subst (λ ys. IsInputVerdict {A = A} ys (Err (File name))) (taken 33554432 xs bytes e v.0.0) v
+input_held A xs bytes (Err (Line n)) e v = subst (λ ys. IsInputVerdict {A = A} ys (Err (Line n))) (taken 33554432 xs bytes e v.0.0) v
 input_held A xs bytes (Err Usage) e v = subst (λ ys. IsInputVerdict {A = A} ys (Err Usage)) (taken 33554432 xs bytes e v.0.0) v
 input_held A xs bytes (Err (Refused f)) e v = subst (λ ys. IsInputVerdict {A = A} ys (Err (Refused f))) (taken 33554432 xs bytes e v.0.0) v
 
@@ -62,6 +62,7 @@ over_texts bytes (Ok a) t v = (t, v)
 over_texts bytes (Err Memory) t v = tt
 over_texts bytes (Err Input) t v = absurd v
 over_texts bytes (Err (File name)) t v = absurd v
+over_texts bytes (Err (Line n)) t v = absurd v
 over_texts bytes (Err Usage) t v = absurd v
 over_texts bytes (Err (Refused f)) t v = (t, v)
 
@@ -79,6 +80,7 @@ files_read one two app cert held_one held_two (Ok a) x y v = (app, cert, x, y, v
 files_read one two app cert held_one held_two (Err Memory) x y v = (app, cert, x, y, v)
 files_read one two app cert held_one held_two (Err Input) x y v = absurd v
 files_read one two app cert held_one held_two (Err (File name)) x y v = absurd v
+files_read one two app cert held_one held_two (Err (Line n)) x y v = absurd v
 files_read one two app cert held_one held_two (Err Usage) x y v = absurd v
 files_read one two app cert held_one held_two (Err (Refused f)) x y v = (app, cert, x, y, v)
 
@@ -86,6 +88,7 @@ pub first_unread : (A : Type 0) (one two : List ℕ) (held_one held_two : Option
 first_unread A one two held_one held_two Memory h = files_memory A one two held_one held_two
 first_unread A one two held_one held_two Input h = absurd h
 first_unread A one two held_one held_two (File name) h = inl h
+first_unread A one two held_one held_two (Line n) h = absurd h
 first_unread A one two held_one held_two Usage h = absurd h
 first_unread A one two held_one held_two (Refused f) h = absurd h
 
@@ -93,5 +96,6 @@ pub second_unread : (A : Type 0) (one two : List ℕ) (held_one held_two : Optio
 second_unread A one two held_one held_two Memory h = files_memory A one two held_one held_two
 second_unread A one two held_one held_two Input h = absurd h
 second_unread A one two held_one held_two (File name) h = inr h
+second_unread A one two held_one held_two (Line n) h = absurd h
 second_unread A one two held_one held_two Usage h = absurd h
 second_unread A one two held_one held_two (Refused f) h = absurd h

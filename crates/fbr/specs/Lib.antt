@@ -2,3 +2,4 @@ pub mod Statuses
 pub mod Halves
 pub mod Outcomes
 pub mod Program
+pub mod Simulation

@@ -1,13 +1,14 @@
 -- The line and the status of an outcome: this project's profile.
 use Rattle.std.specs.Prelude.{◌≡◌, ◌≤◌, ℕ, true, ◌⊎◌, List, [], ◌∷◌, ◌++◌, length, Option, Some, None, Result, Ok, Err, codes}
 use Rattle.std.specs.Io.KnownBytes.{Appends}
+use Rattle.std.specs.Fmt.{decimal}
 use Rattle.std.specs.Str.{is_utf8}
 use Rattle.fb_check.specs.Refusals as refusals
 use Rattle.fb_check.specs.Verdicts as verdicts
 use Rattle.fb_check.specs.declared.verified.Verified.{Verified}
 use Rattle.fbr.specs.Halves.{divide}
 use Rattle.fbr.specs.declared.fault.Fault.{Fault}
-use Rattle.fbr.specs.declared.fault.Fault.TheVariants.{Memory, Input, File, Usage, Refused}
+use Rattle.fbr.specs.declared.fault.Fault.TheVariants.{Memory, Input, File, Line, Usage, Refused}
 use Rattle.fbr.specs.Statuses.{status_of_code}
 
 pub record Outcome : Type 0 where
@@ -22,6 +23,7 @@ abbrev pub line_of : Fault → List ℕ
 line_of Memory = codes "refused 9"
 line_of Input = codes "refused 61 -"
 line_of (File name) = codes "refused 61 " ++ name.now
+line_of (Line number) = codes "refused 60 " ++ decimal number
 line_of Usage = codes "refused 63"
 line_of (Refused refusal) = codes "refused " ++ refusals.line_of refusal
 
@@ -29,6 +31,7 @@ abbrev pub code_of : Fault → ℕ
 code_of Memory = 9
 code_of Input = 61
 code_of (File name) = 61
+code_of (Line number) = 60
 code_of Usage = 63
 code_of (Refused refusal) = refusals.code_of refusal
 
@@ -36,6 +39,7 @@ abbrev pub status_of : Fault → ℕ
 status_of Memory = 4
 status_of Input = 3
 status_of (File name) = 3
+status_of (Line number) = 2
 status_of Usage = 2
 status_of (Refused refusal) = status_of_code (refusals.code_of refusal)
 

@@ -1,42 +1,55 @@
 -- The words of the program, in the terms of the crate that reads them.
-use Rattle.std.specs.Prelude.{◌≡◌, ◌≢◌, List, ℕ, [], ◌∷◌, Option, Some, None, true, codes, option_and_then, if◌then◌else◌}
+use Rattle.std.specs.Prelude.{◌≡◌, ◌≢◌, List, [], Option, Some, None, true, codes, option_and_then, if◌then◌else◌}
 use Rattle.std.specs.Str.{bytes_eq}
-use Rattle.clap.specs.Words.{App, Row, Rule, Text, Kinds, first_of, new_app, new_rule, with_rule, with_subcommand, subcommand_of, fault_of, IsAmong}
+use Rattle.clap.specs.Words.{App, Row, Rule, Text, first_of, new_app, new_rule, with_rule, with_subcommand, subcommand_of, fault_of, IsAmong}
 use Rattle.clap.specs.declared.error.kind.ErrorKind.TheVariants.{DisplayHelp, DisplayVersion}
 
 -- a file that has to be named
 abbrev pub file : Text → Rule
 file id = record (new_rule id) { required = true }
 
+-- a subcommand of this name and its two files
+abbrev pub over_files : Text → App
+over_files name = with_rule (with_rule (new_app name) (file (codes "APP"))) (file (codes "CERT"))
+
 -- `check` and its two files
 abbrev pub check : App
-check = with_rule (with_rule (new_app (codes "check")) (file (codes "APP"))) (file (codes "CERT"))
+check = over_files (codes "check")
+
+-- `sim` and its two files
+abbrev pub sim : App
+sim = over_files (codes "sim")
 
 -- the command without its subcommands: it tells its version, and wants a subcommand
 abbrev pub top : App
 top = record { top = record (new_app (codes "fbr")).top { has_version = true; subcommand_required = true }; subs = [] }
 
 abbrev pub program : App
-program = with_subcommand top check.top
+program = with_subcommand (with_subcommand top check.top) sim.top
 
 -- two arguments, where both were given
 abbrev pub both : Option Text → Option Text → Option (Text × Text)
 both (Some one) (Some two) = Some (one, two)
 both one two = None
 
--- the files of a subcommand, where it is `check`
-abbrev pub files_in : Text × List Row → Option (Text × Text)
-files_in entered =
-    if bytes_eq entered.0 (codes "check") then both (first_of (codes "APP") entered.1) (first_of (codes "CERT") entered.1) else None
+-- the files of a subcommand, where it has this name
+abbrev pub files_in : Text → Text × List Row → Option (Text × Text)
+files_in name entered =
+    if bytes_eq entered.0 name then both (first_of (codes "APP") entered.1) (first_of (codes "CERT") entered.1) else None
 
--- the files that the words name
-abbrev pub files_of : List Text → Option (Text × Text)
-files_of words = option_and_then files_in (subcommand_of program words)
+-- the files that the words name to a subcommand of this name
+abbrev pub files_of : Text → List Text → Option (Text × Text)
+files_of name words = option_and_then (files_in name) (subcommand_of program words)
 
 -- the words are a check of these two files
 pub record IsCheck (words : List Text) (app cert : Text) : Type 0 where
   pub taken : fault_of program words ≡ []
-  pub files : files_of words ≡ Some (app, cert)
+  pub files : files_of (codes "check") words ≡ Some (app, cert)
+
+-- the words are a simulation over these two files
+pub record IsSim (words : List Text) (app cert : Text) : Type 0 where
+  pub taken : fault_of program words ≡ []
+  pub files : files_of (codes "sim") words ≡ Some (app, cert)
 
 -- the words are none of the program's, and ask for neither help nor the version
 pub record IsMisuse (words : List Text) : Type 0 where

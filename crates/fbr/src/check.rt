@@ -147,7 +147,11 @@ pub fn check_input<I: Read, W: Write>(
 }
 
 /// Reads a file that is a text.
-fn read_text<'a, S: Sources>(alloc: Global, files: &S, name: &'a str) -> Result<String, Fault<'a>>
+pub fn read_text<'a, S: Sources>(
+    alloc: Global,
+    files: &S,
+    name: &'a str,
+) -> Result<String, Fault<'a>>
     ensures { MatchResult result (λ text. IsContents (S.contents files.now name.now) (string_bytes text)) (IsReadFault name.now) }
 {
     let bytes = match files.read(alloc, name) {

@@ -16,6 +16,8 @@ pub enum Fault<'a> {
     Input,
     /// The same of the file of this name. Code 61, status 3.
     File(&'a str),
+    /// The line of this number in a script, counted from 1, is of another form, or its device or resource is unknown. Code 60, status 2.
+    Line(usize),
     /// The words are no command. Code 63, status 2.
     Usage,
     /// The checker refused. Status 1 where the certificate does not fit, status 2 where a text is at fault.
@@ -32,6 +34,7 @@ impl Fault<'_> {
         match self {
             Fault::Memory => 9,
             Fault::Input | Fault::File(_) => 61,
+            Fault::Line(_) => 60,
             Fault::Usage => 63,
             Fault::Refused(refusal) => refusal.code(),
         }
@@ -45,6 +48,7 @@ impl Fault<'_> {
         match self {
             Fault::Memory => 4,
             Fault::Input | Fault::File(_) => 3,
+            Fault::Line(_) => 2,
             Fault::Usage => 2,
             Fault::Refused(refusal) => status_of_code(refusal.code()),
         }
@@ -80,6 +84,7 @@ impl fmt::Display for Fault<'_> {
                 let name: &str = name;
                 write!(f, "refused 61 {name}")
             }
+            Fault::Line(number) => write!(f, "refused 60 {number}"),
             Fault::Usage => write!(f, "refused 63"),
             Fault::Refused(refusal) => write!(f, "refused {refusal}"),
         }

@@ -3,6 +3,7 @@
 
 mod check;
 mod fault;
+mod sim;
 mod sources;
 mod words;
 
@@ -10,5 +11,7 @@ pub use fault::Fault;
 pub use sources::{Disk, ReadFault, Sources};
 pub use words::command;
 
+#[cfg(test)]
+mod sim_tests;
 #[cfg(test)]
 mod tests;

@@ -65,7 +65,7 @@ impl io::Write for Short {
 }
 
 // What a command with these words, files and input prints, with its status.
-fn said<R: AllocGlobal>(
+pub(crate) fn said<R: AllocGlobal>(
     rt: &R,
     words: &[&str],
     files: &[(&str, &[u8])],
@@ -163,6 +163,25 @@ fn a_failing_output(rt: HostRuntime) -> Result<(), Fail> {
         let mut output = Short { room };
         let mut input: &[u8] = b"SYSTEM S END_SYSTEM\n====\nCERT 1\n";
         let status = command(&rt, &["fbr"], &files, &mut input, &mut output);
+        assert_eq!(rt; status, 3);
+    }
+    Ok(())
+}
+
+#[test]
+fn a_script_on_a_failing_output(rt: HostRuntime) -> Result<(), Fail> {
+    let alloc = rt.alloc();
+    let cert = format!(in alloc; "{CHARGES}WEIGHT D.R.C.EI 3 1\nDEPTH D.R 1\n")?;
+    let held: [(&str, &[u8]); 2] = [
+        ("cell.fb", BUTTON_AND_CELL.as_bytes()),
+        ("cell.cert", cert.as_bytes()),
+    ];
+    let files = Held { files: &held };
+    for room in 0..21usize {
+        let mut output = Short { room };
+        let mut input: &[u8] = b"offer D 1\ntick D 1\n";
+        let words = ["fbr", "sim", "cell.fb", "cell.cert"];
+        let status = command(&rt, &words, &files, &mut input, &mut output);
         assert_eq!(rt; status, 3);
     }
     Ok(())

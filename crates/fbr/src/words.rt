@@ -4,11 +4,13 @@ ghost use Rattle.std.specs.Prelude.{◌≡◌, ◌≢◌, ◌⊎◌, ◌<◌, �
 ghost use Rattle.clap.specs.Words.{Text, app_of, rule_of, subcommand_rows_of, rows_of, found_of, first_of};
 ghost use Rattle.clap.specs.Values.{kind_of};
 ghost use Rattle.fbr.specs.Outcomes.{Tells, TellsInput, TellsFiles, TellsUsage, refusal};
-ghost use Rattle.fbr.specs.Program.{IsCheck, IsMisuse};
+ghost use Rattle.fbr.specs.Simulation.{TellsSim};
+ghost use Rattle.fbr.specs.Program.{IsCheck, IsSim, IsMisuse};
 ghost use Rattle.fbr.specs.Program as program;
 
 use crate::check::{check_files, check_input, print_outcome};
 use crate::fault::Fault;
+use crate::sim::sim_files;
 use crate::sources::Sources;
 use clap::error::ErrorKind;
 use clap::{Arg, ArgMatches, Command, Error};
@@ -27,19 +29,30 @@ fn file<'a>(alloc: Global, id: &'a str, help: &'a str) -> Arg<'a>
     Arg::new(alloc, id).required(true).help(help)
 }
 
+// A subcommand that wants two files.
+fn over_files<'a>(alloc: Global, name: &'a str, about: &'a str) -> Result<Command<'a>, AllocError>
+    ensures { IfOk result (λ c. app_of c ≡ program.over_files name.now) }
+{
+    Command::new(alloc, name)
+        .about(about)
+        .arg(file(alloc, "APP", "The application's text"))?
+        .arg(file(alloc, "CERT", "The certificate's text"))
+}
+
 // The words that the program knows.
 fn commands<'a>(alloc: Global) -> Result<Command<'a>, AllocError>
     ensures { IfOk result (λ c. app_of c ≡ program.program) }
 {
-    let check = Command::new(alloc, "check")
-        .about("Checks that a certificate fits an application")
-        .arg(file(alloc, "APP", "The application's text"))?
-        .arg(file(alloc, "CERT", "The certificate's text"))?;
+    let about_check = "Checks that a certificate fits an application";
+    let check = over_files(alloc, "check", about_check)?;
+    let about_sim = "Checks two texts, and runs the script on standard input";
+    let sim = over_files(alloc, "sim", about_sim)?;
     Command::new(alloc, "fbr")
         .about("Proves bounds of function block applications before they run")
         .version(VERSION)
         .subcommand_required(true)
-        .subcommand(check)
+        .subcommand(check)?
+        .subcommand(sim)
 }
 
 // The subcommand that the words name, with what they give to it.
@@ -69,20 +82,20 @@ fn both<'a>(one: Option<&'a str>, two: Option<&'a str>) -> Option<(&'a str, &'a 
     }
 }
 
-// The two files that are given to `check`.
+// The two files that are given to a subcommand.
 fn files_in<'a>(words: &ArgMatches<'a>) -> Option<(&'a str, &'a str)>
     ensures { option_map (λ files. (files.0.now, files.1.now)) result ≡ program.both (first_of (codes "APP") (rows_of (found_of words.now))) (first_of (codes "CERT") (rows_of (found_of words.now))) }
 {
     both(given(words, "APP"), given(words, "CERT"))
 }
 
-// The two files of `check`, where that is the command.
-fn files_named<'a>(matches: &ArgMatches<'a>) -> Option<(&'a str, &'a str)>
-    ensures { option_map (λ files. (files.0.now, files.1.now)) result ≡ option_and_then program.files_in (subcommand_rows_of matches.now) }
+// The two files of a subcommand, where it has this name.
+fn files_named<'a>(matches: &ArgMatches<'a>, wanted: &str) -> Option<(&'a str, &'a str)>
+    ensures { option_map (λ files. (files.0.now, files.1.now)) result ≡ option_and_then (program.files_in wanted.now) (subcommand_rows_of matches.now) }
 {
     match entered(matches) {
         Some((name, words)) => {
-            if name == "check" {
+            if name == wanted {
                 files_in(words)
             } else {
                 None
@@ -109,14 +122,17 @@ fn refused<W: Write>(error: &Error, output: &mut W) -> io::Result<u8>
 }
 
 // Runs the command that the words name.
-fn run_words<S: Sources, W: Write>(
+fn run_words<S: Sources, I: Read, W: Write>(
     alloc: Global,
     words: &[&str],
     files: &S,
+    input: &mut I,
     output: &mut W,
 ) -> io::Result<u8>
     ensures checks { (app cert : Text) → IsCheck (map (λ word. word.now) words.now) app cert
         → IfOk result (λ status. TellsFiles app cert (S.contents files.now app) (S.contents files.now cert) (W.contents output.old) (W.contents output.new) status) }
+    ensures sims { (app cert : Text) → IsSim (map (λ word. word.now) words.now) app cert
+        → IfOk result (λ status. TellsSim app cert (S.contents files.now app) (S.contents files.now cert) (I.remaining input.old) (W.contents output.old) (W.contents output.new) status) }
     ensures usage { IsMisuse (map (λ word. word.now) words.now)
         → IfOk result (λ status. TellsUsage (W.contents output.old) (W.contents output.new) status) }
     ensures status { IfOk result (λ status. status ≤ 4) }
@@ -129,9 +145,12 @@ fn run_words<S: Sources, W: Write>(
         Ok(matches) => matches,
         Err(error) => return refused(&error, output),
     };
-    match files_named(&matches) {
+    match files_named(&matches, "check") {
         Some((app, cert)) => check_files(alloc, files, app, cert, output),
-        None => print_outcome(Err(Fault::Usage), output),
+        None => match files_named(&matches, "sim") {
+            Some((app, cert)) => sim_files(alloc, files, app, cert, input, output),
+            None => print_outcome(Err(Fault::Usage), output),
+        },
     }
 }
 
@@ -139,6 +158,7 @@ fn run_words<S: Sources, W: Write>(
 /// 0 done, 1 the certificate does not fit, 2 a text or the words are at fault, 3 a file or the output failed, 4 memory ran out.
 ///
 /// Without words, `input` holds an application up to the first line that is exactly `====`, and then its certificate.
+/// With `sim` it holds a script, whose answers are written one line each.
 /// Each fault is told by one line on `output`: `refused`, its code, and its place where there is one.
 pub fn command<R: AllocGlobal, S: Sources, I: Read, W: Write>(
     rt: &R,
@@ -153,6 +173,9 @@ pub fn command<R: AllocGlobal, S: Sources, I: Read, W: Write>(
     // with the words of a check that of the two files that they name,
     ensures checks { (app cert : Text) → 2 ≤ length words.now → IsCheck (map (λ word. word.now) words.now) app cert
         → TellsFiles app cert (S.contents files.now app) (S.contents files.now cert) (W.contents output.old) (W.contents output.new) result ⊎ (result ≡ 3) }
+    // with those of a simulation the verdict over their two files, or what the script on `input` does on a device,
+    ensures sims { (app cert : Text) → 2 ≤ length words.now → IsSim (map (λ word. word.now) words.now) app cert
+        → TellsSim app cert (S.contents files.now app) (S.contents files.now cert) (I.remaining input.old) (W.contents output.old) (W.contents output.new) result ⊎ (result ≡ 3) }
     // and that they are at fault where they are no words of the program, and ask for neither help nor the version.
     ensures usage { 2 ≤ length words.now → IsMisuse (map (λ word. word.now) words.now)
         → TellsUsage (W.contents output.old) (W.contents output.new) result ⊎ (result ≡ 3) }
@@ -161,5 +184,5 @@ pub fn command<R: AllocGlobal, S: Sources, I: Read, W: Write>(
     if words.len() < 2 {
         return check_input(alloc, input, output).unwrap_or(3);
     }
-    run_words(alloc, words, files, output).unwrap_or(3)
+    run_words(alloc, words, files, input, output).unwrap_or(3)
 }

@@ -13,6 +13,7 @@ returns-in-Ok-read_certificate-clause-accepted c =
     let system = system_of c.in-Ok.typed in
     let rows = certificate_of c.in-Ok-read_certificate.rows in
     accepted_by c.args.text.now c.args.certificate.now system rows c.check.result c.in-Ok.ensures.typed c.in-Ok-read_certificate.ensures.spelled c.check.ensures.same
+    (c.check.ensures.tables (written c.args.text.now system c.in-Ok.ensures.typed))
     (c.check.ensures.fits (written c.args.text.now system c.in-Ok.ensures.typed) (spelled c.args.certificate.now rows c.in-Ok-read_certificate.ensures.spelled))
 
 pub returns-in-Ok-read_certificate-clause-refused : goal.returns-in-Ok-read_certificate-clause-refused

@@ -1,4 +1,4 @@
-use Rattle.std.proofs.Common.{◌≡◌, ◌≤◌, ap, rules, subst, sym, ◌∙◌, length, true}
+use Rattle.std.proofs.Common.{◌≡◌, ◌≤◌, rules, subst, length, true}
 use Rattle.std.specs.Str.{is_utf8}
 use Rattle.fbr.specs.Halves.{divide}
 use Rattle.fbr.specs.Outcomes.{IsVerdict}

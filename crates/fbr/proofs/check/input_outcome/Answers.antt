@@ -1,4 +1,4 @@
-use Rattle.std.proofs.Common.{◌≡◌, rules, subst}
+use Rattle.std.proofs.Common.{subst}
 use Rattle.fbr.specs.Outcomes.{IsInputVerdict}
 use Rattle.fbr.proofs.Verdicts.{input_read, input_memory}
 use Rattle.fbr.proofs.check.input_outcome.Goals as goal

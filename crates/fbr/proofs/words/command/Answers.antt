@@ -1,5 +1,5 @@
-use Rattle.std.proofs.Common.{◌≡◌, rules}
 use Rattle.fbr.specs.Outcomes.{TellsFiles}
+use Rattle.fbr.specs.Simulation.{TellsSim}
 use Rattle.fbr.proofs.Taken.{or_three}
 use Rattle.fbr.proofs.words.command.Goals as goal
 
@@ -8,3 +8,9 @@ returns-clause-checks g c = λ app cert two is.
     or_three c.run_words.result c.unwrap_or-2.result
     (λ status. TellsFiles app cert (g.S.Sources.contents c.args.files.now app) (g.S.Sources.contents c.args.files.now cert) (g.W.Write.contents c.args.output.now) (g.W.Write.contents c.run_words.new.output) status)
     c.unwrap_or-2.ensures (c.run_words.ensures.checks app cert is)
+
+pub returns-clause-sims : goal.returns-clause-sims
+returns-clause-sims g c = λ app cert two is.
+    or_three c.run_words.result c.unwrap_or-2.result
+    (λ status. TellsSim app cert (g.S.Sources.contents c.args.files.now app) (g.S.Sources.contents c.args.files.now cert) (g.I.Read.remaining c.args.input.now) (g.W.Write.contents c.args.output.now) (g.W.Write.contents c.run_words.new.output) status)
+    c.unwrap_or-2.ensures (c.run_words.ensures.sims app cert is)

@@ -1,0 +1,36 @@
+-- Elements of lists, by their places.
+use Rattle.std.proofs.Common.{◌≡◌, ℕ, zero, suc, ◌<◌, List, [], ◌∷◌, ◌++◌, length, take, drop, get_or, set, slice_get, Some, eqb, eq-eqb, refl, sym, ◌∙◌, ap, arith}
+use Rattle.std.specs.List.{AllByRecursion}
+use Rattle.std.proofs.lemmas.Bool.{cond-true}
+use Rattle.std.proofs.lemmas.Option.{slice_get-get_or}
+use Rattle.fb_device.specs.declared.entry.Spent.{Spent}
+use Rattle.fb_device.specs.Numbers.{with_steps}
+
+-- what holds of all holds at a place
+pub all_at : {X : Type 0} (P : X → Type 0) (xs : List X) (i : ℕ) (d : X) → i < length xs → AllByRecursion P xs → P (get_or xs i d)
+all_at P [] i d l h = absurd (omega (arith, l))
+all_at P (x ∷ xs) zero d l h = h.0
+all_at P (x ∷ xs) (suc i) d l h = all_at P xs i d (omega (arith, l)) h.1
+
+-- the first row of a cause is written
+pub with_hit : (rows : List Spent) (i c n : ℕ) (d : Spent) → i < length rows → (get_or rows i d).cause ≡ c → set rows i (record { cause = (get_or rows i d).cause; steps = n }) ≡ take i rows ++ with_steps (drop i rows) c n
+with_hit [] i c n d l h = absurd (omega (arith, l))
+with_hit (x ∷ xs) zero c n d l h = sym (cond-true (eqb x.cause c) _ _ (eq-eqb x.cause c h))
+with_hit (x ∷ xs) (suc i) c n d l h = ap (λ rest. x ∷ rest) (with_hit xs i c n d (omega (arith, l)) h)
+
+-- a list that is not empty has a first element
+pub first_of : {X : Type 0} (xs : List X) (d : X) → (length xs ≡ 0 → ⊥) → xs ≡ get_or xs 0 d ∷ drop 1 xs
+first_of [] d h = absurd (h refl)
+first_of (x ∷ xs) d h = refl
+
+pub empty_list : {X : Type 0} (xs : List X) → length xs ≡ 0 → xs ≡ []
+empty_list [] h = refl
+empty_list (x ∷ xs) h = absurd (omega (arith, h))
+
+-- the element at a place
+pub stands_at : {X : Type 0} (xs : List X) (i : ℕ) (x d : X) → i < length xs → x ≡ get_or xs i d → slice_get xs i ≡ Some x
+stands_at xs i x d l h = slice_get-get_or xs i d l ∙ ap Some (sym h)
+
+-- it is one
+pub same_at : {X : Type 0} (xs : List X) (i : ℕ) (x y : X) → slice_get xs i ≡ Some x → slice_get xs i ≡ Some y → x ≡ y
+same_at xs i x y a b = let e : Some x ≡ Some y = sym a ∙ b in cc

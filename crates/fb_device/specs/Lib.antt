@@ -1,0 +1,14 @@
+pub mod Refusals
+pub mod Sessions
+pub mod Machines
+pub mod Answers
+pub mod Promises
+pub mod Loads
+pub mod Running
+pub mod Numbers
+pub mod Taking
+pub mod Settling
+pub mod Offering
+pub mod Openings
+pub mod Finding
+pub mod Starting

@@ -1,0 +1,58 @@
+-- What a loaded device is of its texts.
+use Rattle.std.specs.Prelude.{ℕ, ◌≡◌, true, false, List, Some, slice_get}
+use Rattle.std.specs.List.{AllByRecursion}
+use Rattle.std.specs.Prelude.{string_bytes}
+use Rattle.fb_model.specs.System.{Device, System}
+use Rattle.fb_model.specs.Spelling.{upper}
+use Rattle.fb_model.specs.Devices.{silent}
+use Rattle.fb_check.specs.Verdicts.{system_in, IsSystemOf, IsOfTexts, IsFaultOf}
+use Rattle.fb_check.specs.Lookups.{is_same_path}
+use Rattle.fb_device.specs.declared.refusal.Refusal.{Refusal}
+use Rattle.fb_device.specs.declared.refusal.Refusal.TheVariants.{Checked, NoDevice}
+use Rattle.fb_check.specs.declared.verified.Verified.{Verified}
+use Rattle.fb_check.specs.declared.refusal.Refusal.TheVariants as checks
+use Rattle.fb_device.specs.declared.loading.Ready.{Ready}
+use Rattle.fb_device.specs.Sessions.{Session}
+use Rattle.fb_device.specs.Machines.{machine_of}
+
+-- the texts are spelled, well typed and fit, the device is the first of its name in them, and nothing has happened yet
+pub record IsLoaded (text certificate name : List ℕ) (s : Session) : Type 0 where
+  pub texts : IsOfTexts text certificate s.verified
+  pub device : Device
+  pub stands : slice_get (system_in s.verified).devices s.number ≡ Some device
+  pub named : is_same_path device.name name ≡ true
+  pub silent : machine_of s ≡ silent device 1
+
+-- the texts are of a system that has no device of this name
+pub record IsUnknown (text certificate name : List ℕ) : Type 0 where
+  pub system : System
+  pub system_is : IsSystemOf text system
+  pub unknown : AllByRecursion (λ (d : Device). is_same_path d.name name ≡ false) system.devices
+
+-- what the refusal says is so
+abbrev pub IsLoadFault : List ℕ → List ℕ → List ℕ → Refusal → Type 0
+IsLoadFault text certificate name (Checked refusal) = IsFaultOf text certificate refusal
+IsLoadFault text certificate name (NoDevice shown) = IsUnknown text certificate name × (string_bytes shown ≡ upper name)
+
+-- the system has a device of this name
+abbrev pub IsThere : System → List ℕ → Type 0
+IsThere system name = (k : ℕ) × (d : Device) × (slice_get system.devices k ≡ Some d) × (is_same_path d.name name ≡ true)
+
+-- the device of a name in what was checked, to which nothing has happened
+pub record IsReadyOf (v : Verified) (name : List ℕ) (r : Ready) : Type 0 where
+  pub same : r.device.verified ≡ v
+  pub device : Device
+  pub stands : slice_get (system_in v).devices r.device.number ≡ Some device
+  pub named : is_same_path device.name name ≡ true
+  pub silent : machine_of r.device ≡ silent device 1
+
+-- want of memory, or a name that is not there, as it is printed
+abbrev pub IsUnnamed : List ℕ → Refusal → Type 0
+IsUnnamed name (Checked checks.OutOfMemory) = Unit {0}
+IsUnnamed name (Checked other) = ⊥
+IsUnnamed name (NoDevice shown) = string_bytes shown ≡ upper name
+
+abbrev pub IsMissing : Verified → List ℕ → Refusal → Type 0
+IsMissing v name (Checked checks.OutOfMemory) = Unit {0}
+IsMissing v name (Checked other) = ⊥
+IsMissing v name (NoDevice shown) = AllByRecursion (λ (d : Device). is_same_path d.name name ≡ false) (system_in v).devices × (string_bytes shown ≡ upper name)

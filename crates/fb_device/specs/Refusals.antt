@@ -1,0 +1,27 @@
+-- The numbers of refusals, and how they are printed: this project's profile.
+use Rattle.std.specs.Prelude.{ℕ, List, ◌++◌, codes, string_bytes}
+use Rattle.fb_check.specs.Refusals as check
+use Rattle.fb_check.specs.declared.refusal.Refusal.TheVariants as checks
+use Rattle.fb_device.specs.declared.refusal.Refusal.{Refusal}
+use Rattle.fb_device.specs.declared.refusal.Refusal.TheVariants.{Checked, NoDevice}
+use Rattle.fb_device.specs.declared.answer.Denied.{Denied}
+use Rattle.fb_device.specs.declared.answer.Denied.TheVariants.{UnknownInput, BadCount, BadValue, NoCredit, Spent}
+
+abbrev pub no_memory : Refusal
+no_memory = Checked checks.OutOfMemory
+
+abbrev pub code_of : Refusal → ℕ
+code_of (Checked refusal) = check.code_of refusal
+code_of (NoDevice name) = 21
+
+-- the code and the place, where there is one
+abbrev pub line_of : Refusal → List ℕ
+line_of (Checked refusal) = check.line_of refusal
+line_of (NoDevice name) = codes "21 " ++ string_bytes name
+
+abbrev pub denied_code : Denied → ℕ
+denied_code UnknownInput = 50
+denied_code BadCount = 51
+denied_code (BadValue number) = 52
+denied_code (NoCredit needs free) = 53
+denied_code Spent = 54

@@ -1,0 +1,22 @@
+-- A device to which nothing has happened.
+use Rattle.std.specs.Prelude.{◌≡◌, ◌≤◌, List, [], ◌∷◌, length, replicate, Some, Vec, vec_capacity}
+use Rattle.std.specs.List.{sum_by}
+use Rattle.std.specs.declared.alloc.Global.{Global}
+use Rattle.fb_tables.specs.declared.table.Resource.{Resource}
+use Rattle.fb_tables.specs.declared.table.Tables.{Tables}
+use Rattle.fb_device.specs.declared.entry.Entry.{Entry}
+use Rattle.fb_device.specs.declared.program.Running.{Running}
+
+-- an empty queue for each resource, with room for its depth
+abbrev pub AreEmpty : List Resource → List (Vec Entry Global) → Type 0
+AreEmpty [] [] = Unit {0}
+AreEmpty (x ∷ xs) (v ∷ vs) = (v.items ≡ []) × (x.depth ≤ vec_capacity v) × AreEmpty xs vs
+AreEmpty [] (v ∷ vs) = ⊥
+AreEmpty (x ∷ xs) [] = ⊥
+
+pub record IsAtRest (t : Tables) (r : Running) : Type 0 where
+  pub queues : AreEmpty t.resources.items r.queues.items
+  pub states : r.states.items ≡ replicate (length t.blocks.items) 0
+  pub spent : r.spent.items ≡ []
+  pub room : sum_by (λ x. x.depth) t.resources.items ≤ vec_capacity r.spent
+  pub next : r.next ≡ Some 1

@@ -1,0 +1,117 @@
+//! A device that runs.
+
+ghost use Rattle.std.specs.Prelude.{◌≡◌, ◌≤◌, length, map, take, drop, List, [], None, MatchOption};
+ghost use Rattle.fb_model.specs.Devices.{Happens, Offer, Dispatch, Run};
+ghost use Rattle.fb_model.specs.Headline.{KeepsBounds};
+ghost use Rattle.fb_model.specs.Wires.{leaves};
+ghost use Rattle.fb_device.specs.Machines.{device_in, cert_in, machine_of};
+ghost use Rattle.fb_device.specs.Answers.{admission_of, turned_of, answer_of, event_of, HasPoint, IsOpening, IsNamed, IsNoPoint, IsNumberOf, IsNoNumber};
+ghost use Rattle.fb_device.specs.Promises.{IsBounded};
+
+use crate::answer::{Answer, Denied, Opening, Step, Turned};
+use crate::dispatch::dispatch;
+use crate::names::{name, opening, path, resource};
+use crate::offer::offer;
+use crate::program::{Program, Running};
+use std::marker::Model;
+
+/// A device that runs a checked application. Its calls take no memory.
+///
+/// Contracts see it as a session: what was checked, and the book's machine in lists.
+#[derive(Drop)]
+pub struct Device {
+    pub(crate) program: Program,
+    pub(crate) running: Running,
+}
+
+impl Model for Device {
+    ghost use Rattle.fb_device.specs.Sessions.{Session, session_of};
+    ghost use Rattle.fb_device.specs.Running.{IsGood};
+    ghost use Rattle.fb_check.specs.contracts.verified.Verified as checked;
+    ghost use Rattle.std.specs.Coded.{codes};
+
+    ghost Value = { Session };
+
+    ghost coded = { Prim.hlevel (codes, checked.the_row.coded) };
+
+    ghost view = { λ d. session_of d.program d.running };
+
+    ghost invariant = { λ d. IsGood d.program d.running };
+}
+
+impl Device {
+    /// Dispatches the first pending entry of a resource, which runs one block to its end.
+    ///
+    /// `Idle` where nothing is pending or there is no such resource.
+    pub fn dispatch(&mut self, resource: u16) -> Turned
+        ensures step { Happens (cert_in self.old) (device_in self.old) (machine_of self.old) (Dispatch resource) (turned_of (leaves (device_in self.old)) result) (machine_of self.new) }
+        ensures point { HasPoint (leaves (device_in self.old)) result }
+        ensures bounded { IsBounded (cert_in self.old) (device_in self.old) (machine_of self.new) }
+        ensures same { (self.new.verified ≡ self.old.verified) × (self.new.number ≡ self.old.number) }
+    {
+        dispatch(&self.program, &mut self.running, resource as usize)
+    }
+
+    /// Offers an arrival at the INPUT of a number, with its values. It is admitted as the next cause just where no line of [`Denied`] holds.
+    pub fn offer(&mut self, input: u16, values: &[i64]) -> Result<u64, Denied>
+        ensures step { Happens (cert_in self.old) (device_in self.old) (machine_of self.old) (Offer input values.now) (admission_of result) (machine_of self.new) }
+        ensures bounded { IsBounded (cert_in self.old) (device_in self.old) (machine_of self.new) }
+        ensures same { (self.new.verified ≡ self.old.verified) × (self.new.number ≡ self.old.number) }
+    {
+        offer(&self.program, &mut self.running, input, values)
+    }
+
+    // One call, and its answer.
+    fn serve(&mut self, step: &Step) -> Answer
+        ensures step { Happens (cert_in self.old) (device_in self.old) (machine_of self.old) (event_of step.now) (answer_of (leaves (device_in self.old)) result) (machine_of self.new) }
+        ensures same { (self.new.verified ≡ self.old.verified) × (self.new.number ≡ self.old.number) }
+    {
+        match step {
+            Step::Offer(input, values) => Answer::Admitted(self.offer(*input, values.as_slice())),
+            Step::Dispatch(resource) => Answer::Served(self.dispatch(*resource)),
+        }
+    }
+
+    /// A list of calls. The answer of each is written to its place, and later places stay.
+    pub fn run(&mut self, steps: &[Step], answers: &mut [Answer])
+        requires { length steps.now ≤ length answers.old }
+        ensures run { Run (cert_in self.old) (device_in self.old) (machine_of self.old) (map event_of steps.now) (map (answer_of (leaves (device_in self.old))) (take (length steps.now) answers.new)) (machine_of self.new) }
+        ensures bounds { KeepsBounds (cert_in self.old) (device_in self.old) (machine_of self.old) (map (answer_of (leaves (device_in self.old))) (take (length steps.now) answers.new)) (machine_of self.new) }
+        ensures later { drop (length steps.now) answers.new ≡ drop (length steps.now) answers.old }
+        ensures bounded { IsBounded (cert_in self.old) (device_in self.old) (machine_of self.new) }
+        ensures same { (self.new.verified ≡ self.old.verified) × (self.new.number ≡ self.old.number) }
+    {
+        let _ = &self.program;
+        for at in 0..steps.len() {
+            answers[at] = self.serve(&steps[at]);
+        }
+    }
+
+    /// The block, event and WEIGHT of the arrival that opened a cause which has not ended; `None` for any other number.
+    pub fn opening(&self, cause: u64) -> Option<Opening>
+        ensures { IsOpening (cert_in self.now) (leaves (device_in self.now)) (machine_of self.now) cause result }
+    {
+        opening(&self.program.tables.blocks, &self.running.queues, cause)
+    }
+
+    /// The name of the device.
+    pub fn name(&self) -> &str
+        ensures { result.now ≡ (device_in self.now).name }
+    {
+        name(&self.program)
+    }
+
+    /// The path of a block and the name of its event input or arrival; `None` where there is none of this number.
+    pub fn path(&self, block: u16, event: u16) -> Option<(&str, &str)>
+        ensures { MatchOption result (IsNoPoint (leaves (device_in self.now)) block event) (λ r. IsNamed (leaves (device_in self.now)) block event r.0.now r.1.now) }
+    {
+        path(&self.program.tables.blocks, block, event)
+    }
+
+    /// The number of the resource of a name. Letter case has no meaning in it. `None` where there is none.
+    pub fn resource(&self, name: &str) -> Option<u16>
+        ensures { MatchOption result (IsNoNumber (device_in self.now).resources name.now) (λ n. IsNumberOf (device_in self.now).resources name.now n) }
+    {
+        resource(&self.program.tables.resources, name)
+    }
+}

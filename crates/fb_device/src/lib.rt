@@ -1,0 +1,22 @@
+//! A device that runs an application whose certificate fits: it answers as the chart machine of its text, within the certified bounds.
+#![tactic(auto)]
+
+mod answer;
+mod chart;
+mod device;
+mod dispatch;
+mod entry;
+mod loading;
+mod names;
+mod offer;
+mod program;
+mod queue;
+mod refusal;
+mod spending;
+#[cfg(test)]
+mod tests;
+
+pub use answer::{Answer, Denied, Ended, Opening, Ran, Step, Turned};
+pub use device::Device;
+pub use loading::{Ready, load, load_checked};
+pub use refusal::Refusal;

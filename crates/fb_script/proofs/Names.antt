@@ -1,0 +1,83 @@
+-- The names of answers.
+use Rattle.std.proofs.Common.{◌≡◌, ℕ, zero, suc, List, [], ◌∷◌, ◌++◌, length, true, false, Option, Some, None, refl, sym, ◌∙◌, ap, arith, Bor, codes}
+use Rattle.std.specs.Prelude.{slice_get, ℤ}
+use Rattle.std.specs.Fmt.{decimal}
+use Rattle.std.specs.List.{join_with_byte}
+use Rattle.std.specs.Option.{option_map}
+use Rattle.std.proofs.lemmas.List.Splits.{join_with_byte-slice_split}
+use Rattle.fb_model.specs.Names.{Name}
+use Rattle.fb_model.specs.Wires.{Leaf}
+use Rattle.fb_model.specs.System.{Device, Resource}
+use Rattle.fb_model.specs.Certificates.{Certificate}
+use Rattle.fb_model.specs.Devices as model
+use Rattle.fb_model.specs.Devices.{Event, Machine, Happens}
+use Rattle.fb_check.specs.Lookups.{is_same_path}
+use Rattle.fb_tables.specs.Views.{place_at, place_in}
+use Rattle.fb_device.specs.Answers.{IsNamed, IsNoPoint, IsNumberOf, IsNoNumber, turned_of, denial_of}
+use Rattle.fb_device.specs.declared.answer.Denied.{Denied}
+use Rattle.fb_device.specs.declared.answer.Denied.TheVariants as d
+use Rattle.fb_device.specs.declared.answer.Ended.{Ended}
+use Rattle.fb_device.specs.declared.answer.Ran.{Ran as RanRecord}
+use Rattle.fb_device.specs.declared.answer.Turned.TheVariants as turned
+use Rattle.fb_script.specs.Lines.{Offer, Dispatch}
+use Rattle.fb_script.specs.Playing.{Asks, Plays, IsText}
+use Rattle.fb_script.specs.Texts.{place_text, end_text, ended_text, denial_text, why_text, told_text, answer_text}
+use Rattle.fb_script.specs.declared.told.Told.TheVariants as told
+
+place_named : (all : List Leaf) (block event : ℕ) (path name : List ℕ) → IsNamed all block event path name → place_text (place_at all (record { block = block; event = event })) ≡ path ++ codes "." ++ name
+place_named all block event path name n =
+    ap (λ o. place_text (place_in o event)) n.block_is
+    ∙ (ap (λ o. join_with_byte 46 n.leaf.path ++ codes "." ++ elim o [ None ↦ [] | Some x ↦ x ]) n.name_is
+    ∙ ap (λ t. t ++ codes "." ++ name) (ap (join_with_byte 46) (sym n.path_is) ∙ join_with_byte-slice_split 46 path))
+
+place_unnamed : (all : List Leaf) (block event : ℕ) → IsNoPoint all block event → (place_at all (record { block = block; event = event })).event ≡ []
+place_unnamed all block event h = by (slice_get all block) refl
+  where
+    by : (o : Option Leaf) → slice_get all block ≡ o → (place_in o event).event ≡ []
+    by None e = refl
+    by (Some leaf) e = ap (λ (o : Option Name). elim o [ None ↦ [] | Some x ↦ x ]) (h leaf e)
+
+same_end : (cause : ℕ) (o : Option Ended) → ended_text cause o ≡ end_text cause (option_map (λ (e : Ended). (e.total, e.bound)) o)
+same_end cause None = refl
+same_end cause (Some e) = refl
+
+-- a run is told by its names
+pub run_told : (all : List Leaf) (r : RanRecord) (path event : Bor (List ℕ)) → IsNamed all r.block r.event path.now event.now → told_text (told.Ran r.cause path event r.steps r.ended) ≡ answer_text (turned_of all (turned.Ran r))
+run_told all r path event n =
+    ap (λ t. codes "ran " ++ t ++ codes " steps " ++ decimal r.steps ++ ended_text r.cause r.ended) (sym (place_named all r.block r.event path.now event.now n))
+    ∙ ap (λ t. codes "ran " ++ place_text (place_at all (record { block = r.block; event = r.event })) ++ codes " steps " ++ decimal r.steps ++ t) (same_end r.cause r.ended)
+
+-- an event without a name is not told
+pub run_untold : (all : List Leaf) (r : RanRecord) (text : List ℕ) → IsNoPoint all r.block r.event → IsText (turned_of all (turned.Ran r)) text
+run_untold all r text h = λ some. absurd (omega (arith, some, ap (λ (xs : List ℕ). length xs) (place_unnamed all r.block r.event h)))
+
+pub same_why : (why : Denied) → why_text why ≡ denial_text (denial_of why)
+same_why d.UnknownInput = refl
+same_why d.BadCount = refl
+same_why (d.BadValue n) = refl
+same_why (d.NoCredit needs free) = refl
+same_why d.Spent = refl
+
+-- ---- devices and resources that are named
+
+pub no_offer : (device : Device) (name : List ℕ) (n : ℕ) (values : List ℤ) → is_same_path device.name name ≡ false → (event : Event) → Asks device (Offer name n values) event → ⊥
+no_offer device name n values e event a = let h = a.0 in absurd cc
+
+pub no_dispatch : (device : Device) (name resource : List ℕ) → is_same_path device.name name ≡ false → (event : Event) → Asks device (Dispatch name resource) event → ⊥
+no_dispatch device name resource e event a = let h = a.0 in absurd cc
+
+none_there : (rs : List Resource) (name : List ℕ) (n : ℕ) (r : Resource) → IsNoNumber rs name → slice_get rs n ≡ Some r → is_same_path r.name name ≡ true → ⊥
+none_there [] name n r h e s = absurd cc
+none_there (x ∷ xs) name zero r h e s = let f = h.0 in absurd cc
+none_there (x ∷ xs) name (suc n) r h e s = none_there xs name n r h.1 e s
+
+pub no_resource : (device : Device) (name resource : List ℕ) → IsNoNumber device.resources resource → (event : Event) → Asks device (Dispatch name resource) event → ⊥
+no_resource device name resource h event a = none_there device.resources resource a.1.0 a.1.1.resource h a.1.1.stands a.1.1.same
+
+pub offers : (cert : Certificate) (device : Device) (name : List ℕ) (n : ℕ) (values : List ℤ) (old : Machine) (answer : model.Answer) (new : Machine) → is_same_path device.name name ≡ true
+    → Happens cert device old (model.Offer n values) answer new → Plays cert device (Offer name n values) old answer new
+offers cert device name n values old answer new e h = (model.Offer n values, (e, refl), h)
+
+pub dispatches : (cert : Certificate) (device : Device) (name resource : List ℕ) (n : ℕ) (old : Machine) (answer : model.Answer) (new : Machine) → is_same_path device.name name ≡ true
+    → IsNumberOf device.resources resource n → Happens cert device old (model.Dispatch n) answer new → Plays cert device (Dispatch name resource) old answer new
+dispatches cert device name resource n old answer new e is h = (model.Dispatch n, (e, (n, is, refl)), h)

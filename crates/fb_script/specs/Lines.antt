@@ -1,0 +1,53 @@
+-- What a line of a script says: this project's profile.
+use Rattle.std.specs.Prelude.{ℕ, ◌+◌, ◌^◌, ◌==◌, nat_lt, ℤ, pos, neg_ℤ, not, ◌&&◌, List, [], ◌∷◌, length, drop, slice_index, codes, Option, Some, None, if◌then◌else◌}
+use Rattle.std.specs.Option.{option_map}
+use Rattle.std.specs.Str.{bytes_eq, all_ascii_digits}
+use Rattle.fb_model.specs.CertificateText.{decimal_from}
+
+pub data Command : Type 0 where
+  Offer : (device : List ℕ) (number : ℕ) (values : List ℤ) → Command
+  Dispatch : (device resource : List ℕ) → Command
+
+-- ---- numbers
+
+-- the number that one digit or more write, the first ones perhaps zeros, where it is less than the limit
+abbrev pub number_below : ℕ → List ℕ → Option ℕ
+number_below limit cs =
+    if all_ascii_digits cs && not (length cs == 0) && nat_lt (decimal_from 0 cs) limit then Some (decimal_from 0 cs) else None
+
+-- a number of 16 bits
+abbrev pub number_in : List ℕ → Option ℕ
+number_in cs = number_below (2 ^ 16) cs
+
+-- a number of 64 bits with a sign: a minus may stand before it, and no plus
+abbrev pub value_in : List ℕ → Option ℤ
+value_in cs =
+    if slice_index cs 0 == 45 then option_map (λ n. neg_ℤ (pos n)) (number_below (2 ^ 63 + 1) (drop 1 cs)) else option_map pos (number_below (2 ^ 63) cs)
+
+abbrev pub before : Option ℤ → Option (List ℤ) → Option (List ℤ)
+before (Some v) (Some vs) = Some (v ∷ vs)
+before None vs = None
+before (Some v) None = None
+
+-- each of the words is a value
+abbrev pub values_in : List (List ℕ) → Option (List ℤ)
+values_in [] = Some []
+values_in (w ∷ ws) = before (value_in w) (values_in ws)
+
+-- ---- commands
+
+abbrev pub offered : List ℕ → Option ℕ → Option (List ℤ) → Option Command
+offered device (Some number) (Some values) = Some (Offer device number values)
+offered device None values = None
+offered device (Some number) None = None
+
+-- `offer DEVICE NUMBER VALUES`, and `dispatch DEVICE RESOURCE`
+abbrev pub command_by : List ℕ → List ℕ → List ℕ → List (List ℕ) → Option Command
+command_by word device third rest =
+    if bytes_eq word (codes "offer") then offered device (number_in third) (values_in rest)
+    else (if bytes_eq word (codes "dispatch") && length rest == 0 then Some (Dispatch device third) else None)
+
+-- the command that the words of a line are
+abbrev pub command_in : List (List ℕ) → Option Command
+command_in (word ∷ device ∷ third ∷ rest) = command_by word device third rest
+command_in ws = None

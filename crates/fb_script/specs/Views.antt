@@ -1,0 +1,48 @@
+-- What lines are in the book.
+use Rattle.std.specs.Prelude.{◌≡◌, ◌≢◌, ℕ, List, [], map, Option, Some, None, Result, Ok, Err, ℤ, Vec}
+use Rattle.std.specs.declared.alloc.Global.{Global}
+use denote.Ref.{Bor}
+use Rattle.fb_script.specs.Lines.{Command, command_in, values_in}
+use Rattle.fb_model.specs.Devices.{Event}
+use Rattle.fb_model.specs.Wires.{leaves}
+use Rattle.fb_device.specs.Sessions.{Session}
+use Rattle.fb_device.specs.Machines.{device_in, cert_in, machine_of}
+use Rattle.fb_device.specs.Answers.{answer_of}
+use Rattle.fb_device.specs.declared.answer.Answer.{Answer}
+use Rattle.fb_script.specs.Playing.{Asks, Plays}
+use Rattle.fb_script.specs.Lines as book
+use Rattle.fb_script.specs.declared.line.Line.{Line}
+use Rattle.fb_script.specs.declared.line.Line.TheVariants.{Offer, Dispatch}
+use Rattle.fb_script.specs.declared.line.LineFault.{LineFault}
+use Rattle.fb_script.specs.declared.line.LineFault.TheVariants.{OutOfMemory, Form}
+
+abbrev pub texts : List (Bor (List ℕ)) → List (List ℕ)
+texts ws = map (λ w. w.now) ws
+
+abbrev pub command_of : Line → Command
+command_of (Offer device number values) = book.Offer device.now number values.items
+command_of (Dispatch device resource) = book.Dispatch device.now resource.now
+
+-- each of the words is a value, or one is none
+abbrev pub AreValues : List (List ℕ) → Result (Vec ℤ Global) LineFault → Type 0
+AreValues ws (Ok values) = values_in ws ≡ Some values.items
+AreValues ws (Err Form) = values_in ws ≡ None
+AreValues ws (Err OutOfMemory) = Unit {0}
+
+-- the words are this command, or none
+abbrev pub IsRead : List (List ℕ) → Result Line LineFault → Type 0
+IsRead ws (Ok line) = command_in ws ≡ Some (command_of line)
+IsRead ws (Err Form) = command_in ws ≡ None
+IsRead ws (Err OutOfMemory) = Unit {0}
+
+-- there are no words, or they are this command, or none
+abbrev pub IsLine : List (List ℕ) → Result (Option Line) LineFault → Type 0
+IsLine ws (Ok None) = ws ≡ []
+IsLine ws (Ok (Some line)) = command_in ws ≡ Some (command_of line)
+IsLine ws (Err Form) = (ws ≢ []) × (command_in ws ≡ None)
+IsLine ws (Err OutOfMemory) = Unit {0}
+
+-- a command asks a device for nothing, or what it asks for happens
+abbrev pub IsPlayed : Session → Command → Option Answer → Session → Type 0
+IsPlayed old command None new = ((event : Event) → Asks (device_in old) command event → ⊥) × (machine_of new ≡ machine_of old)
+IsPlayed old command (Some answer) new = Plays (cert_in old) (device_in old) command (machine_of old) (answer_of (leaves (device_in old)) answer) (machine_of new)

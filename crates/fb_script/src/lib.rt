@@ -1,0 +1,16 @@
+//! Scripts: what is offered to a device and dispatched on it, one line an event, and the lines that answer.
+#![tactic(auto)]
+
+mod line;
+mod number;
+mod playing;
+mod run;
+mod told;
+
+pub use line::{Line, LineFault, read_line};
+pub use playing::{play, tell};
+pub use run::{End, first_line, simulate};
+pub use told::Told;
+
+#[cfg(test)]
+mod tests;

@@ -1,0 +1,143 @@
+//! Lines of a script.
+
+ghost use Rattle.std.specs.Prelude.{◌≡◌, ◌∷◌, codes, IfOk};
+ghost use Rattle.fb_model.specs.CertificateText.{words};
+ghost use Rattle.fb_script.specs.Views.{texts, AreValues, IsRead, IsLine};
+ghost use Rattle.fb_script.specs.declared.line.LineFault.TheVariants.{OutOfMemory};
+
+use crate::number::{read_number, read_value};
+use std::alloc::{AllocError, AllocFailed, Global};
+
+/// A line that has words.
+#[derive(Debug, Drop)]
+pub enum Line<'a> {
+    /// `offer DEVICE NUMBER VALUES`: an arrival at the INPUT of a number, with its values.
+    Offer {
+        device: &'a str,
+        number: u16,
+        values: Vec<i64>,
+    },
+    /// `dispatch DEVICE RESOURCE`: the first pending entry of a resource is to run.
+    Dispatch {
+        device: &'a str,
+        resource: &'a str,
+    },
+}
+
+/// Why a line is not read.
+#[derive(Clone, Copy, Debug, PartialEq, Eq)]
+pub enum LineFault {
+    /// Memory ran out.
+    OutOfMemory,
+    /// The words are none of the two forms, or one of them is no number that fits.
+    Form,
+}
+
+impl From<AllocError> for LineFault {
+    ghost from_gives = { λ _ e. e ≡ OutOfMemory };
+
+    fn from(_: AllocError) -> LineFault {
+        LineFault::OutOfMemory
+    }
+}
+
+impl<T: Drop> From<AllocFailed<T>> for LineFault {
+    ghost from_gives = { λ _ e. e ≡ OutOfMemory };
+
+    fn from(_: AllocFailed<T>) -> LineFault {
+        LineFault::OutOfMemory
+    }
+}
+
+// The words of a line, which stand between spaces.
+pub(crate) fn words_of(alloc: Global, line: &str) -> Result<Vec<&str>, AllocError>
+    ensures { IfOk result (λ v. texts v.items ≡ words line.now) }
+{
+    line.split(' ')
+        .filter(|word| !word.is_empty())
+        .collect(alloc)
+}
+
+fn read_values(alloc: Global, words: &[&str]) -> Result<Vec<i64>, LineFault>
+    ensures { AreValues (texts words.now) result }
+{
+    let mut values = Vec::new(alloc);
+    for word in words {
+        match read_value(word) {
+            Some(value) => values.push(value)?,
+            None => return Err(LineFault::Form),
+        }
+    }
+    Ok(values)
+}
+
+fn read_offer<'a>(
+    alloc: Global,
+    device: &'a str,
+    number: &str,
+    values: &[&str],
+) -> Result<Line<'a>, LineFault>
+    ensures { IsRead (codes "offer" ∷ device.now ∷ number.now ∷ texts values.now) result }
+{
+    match read_number(number) {
+        Some(number) => match read_values(alloc, values) {
+            Ok(values) => Ok(Line::Offer {
+                device,
+                number,
+                values,
+            }),
+            Err(fault) => Err(fault),
+        },
+        None => Err(LineFault::Form),
+    }
+}
+
+// The command of three words and more.
+fn read_by<'a>(
+    alloc: Global,
+    word: &str,
+    device: &'a str,
+    third: &'a str,
+    rest: &[&str],
+) -> Result<Line<'a>, LineFault>
+    ensures { IsRead (word.now ∷ device.now ∷ third.now ∷ texts rest.now) result }
+{
+    if word == "offer" {
+        return read_offer(alloc, device, third, rest);
+    }
+    if word == "dispatch" && rest.is_empty() {
+        return Ok(Line::Dispatch {
+            device,
+            resource: third,
+        });
+    }
+    Err(LineFault::Form)
+}
+
+// The command that words are.
+fn read_words<'a>(alloc: Global, words: &[&'a str]) -> Result<Line<'a>, LineFault>
+    ensures { IsRead (texts words.now) result }
+{
+    match words {
+        [word, device, third, rest @ ..] => read_by(alloc, word, device, third, rest),
+        _ => Err(LineFault::Form),
+    }
+}
+
+/// The command of a line, and `None` where it has no words.
+pub fn read_line(alloc: Global, line: &str) -> Result<Option<Line<'_>>, LineFault>
+    ensures { IsLine (words line.now) result }
+{
+    match words_of(alloc, line) {
+        Ok(words) => {
+            if words.is_empty() {
+                return Ok(None);
+            }
+            match read_words(alloc, words.as_slice()) {
+                Ok(line) => Ok(Some(line)),
+                Err(fault) => Err(fault),
+            }
+        }
+        Err(_) => Err(LineFault::OutOfMemory),
+    }
+}

@@ -1,0 +1,34 @@
+//! Numbers in scripts.
+
+ghost use Rattle.std.specs.Prelude.{◌≡◌, ◌==◌, slice_index};
+ghost use Rattle.fb_script.specs.Lines.{number_in, value_in};
+
+// Whether a plus stands first, which no number of a script has.
+fn has_plus(word: &str) -> bool
+    ensures { result ≡ (slice_index word.now 0 == 43) }
+{
+    match word.as_bytes() {
+        [] => false,
+        [first, ..] => *first == b'+',
+    }
+}
+
+/// The number of 16 bits that digits write.
+pub(crate) fn read_number(word: &str) -> Option<u16>
+    ensures { result ≡ number_in word.now }
+{
+    if has_plus(word) {
+        return None;
+    }
+    word.parse::<u16>().ok()
+}
+
+/// The number of 64 bits that digits write, perhaps behind a minus.
+pub(crate) fn read_value(word: &str) -> Option<i64>
+    ensures { result ≡ value_in word.now }
+{
+    if has_plus(word) {
+        return None;
+    }
+    word.parse::<i64>().ok()
+}

@@ -1,0 +1,100 @@
+//! One line, and its answer.
+
+ghost use Rattle.std.specs.Prelude.{◌≡◌, None, List, ℕ, ℤ};
+ghost use Rattle.fb_model.specs.Devices.{Event};
+ghost use Rattle.fb_model.specs.Wires.{leaves};
+ghost use Rattle.fb_check.specs.Lookups.{is_same_path};
+ghost use Rattle.fb_device.specs.Machines.{device_in, cert_in, machine_of};
+ghost use Rattle.fb_device.specs.Answers.{answer_of, turned_of};
+ghost use Rattle.fb_device.specs.declared.answer.Turned.TheVariants as turned;
+ghost use Rattle.fb_script.specs.Lines as book;
+ghost use Rattle.fb_script.specs.Views.{command_of, IsPlayed};
+ghost use Rattle.fb_script.specs.Playing.{IsText};
+ghost use Rattle.fb_script.specs.Texts.{told_text};
+
+use crate::line::Line;
+use crate::told::Told;
+use fb_device::{Answer, Device, Ran, Turned};
+
+// Whether this is the device's name. Letter case has no meaning in it.
+fn is_named(device: &Device, name: &str) -> bool
+    ensures { result ≡ is_same_path (device_in device.now).name name.now }
+{
+    device.name().eq_ignore_ascii_case(name)
+}
+
+fn play_offer(device: &mut Device, name: &str, number: u16, values: &[i64]) -> Option<Answer>
+    ensures plays { IsPlayed device.old (book.Offer name.now number values.now) result device.new }
+    ensures same { (device.new.verified ≡ device.old.verified) × (device.new.number ≡ device.old.number) }
+{
+    if !is_named(device, name) {
+        return None;
+    }
+    Some(Answer::Admitted(device.offer(number, values)))
+}
+
+fn play_dispatch(device: &mut Device, name: &str, resource: &str) -> Option<Answer>
+    ensures plays { IsPlayed device.old (book.Dispatch name.now resource.now) result device.new }
+    ensures same { (device.new.verified ≡ device.old.verified) × (device.new.number ≡ device.old.number) }
+{
+    if !is_named(device, name) {
+        return None;
+    }
+    match device.resource(resource) {
+        Some(resource) => Some(Answer::Served(device.dispatch(resource))),
+        None => None,
+    }
+}
+
+/// Runs a line on a device, and gives what the device answers. `None` where the line is for another device, or for a resource that
+/// the device has not: it is as it was then.
+pub fn play(device: &mut Device, line: &Line<'_>) -> Option<Answer>
+    ensures plays { IsPlayed device.old (command_of line.now) result device.new }
+    ensures same { (device.new.verified ≡ device.old.verified) × (device.new.number ≡ device.old.number) }
+{
+    match line {
+        Line::Offer {
+            device: name,
+            number,
+            values,
+        } => play_offer(device, name, *number, values.as_slice()),
+        Line::Dispatch {
+            device: name,
+            resource,
+        } => play_dispatch(device, name, resource),
+    }
+}
+
+// A block that ran, by its names.
+fn tell_run<'a>(device: &'a Device, ran: &Ran) -> Told<'a>
+    ensures { IsText (turned_of (leaves (device_in device.now)) (turned.Ran ran.now)) (told_text result) }
+{
+    match device.path(ran.block, ran.event) {
+        Some((path, event)) => Told::Ran {
+            cause: ran.cause,
+            path,
+            event,
+            steps: ran.steps,
+            ended: ran.ended,
+        },
+        None => Told::Ran {
+            cause: ran.cause,
+            path: "",
+            event: "",
+            steps: ran.steps,
+            ended: ran.ended,
+        },
+    }
+}
+
+/// An answer of a device, with the names of its block and event.
+pub fn tell<'a>(device: &'a Device, answer: &Answer) -> Told<'a>
+    ensures { IsText (answer_of (leaves (device_in device.now)) answer.now) (told_text result) }
+{
+    match answer {
+        Answer::Admitted(Ok(cause)) => Told::Admitted(*cause),
+        Answer::Admitted(Err(why)) => Told::Denied(*why),
+        Answer::Served(Turned::Idle) => Told::Idle,
+        Answer::Served(Turned::Ran(ran)) => tell_run(device, ran),
+    }
+}

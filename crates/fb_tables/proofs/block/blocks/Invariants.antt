@@ -1,0 +1,7 @@
+use Rattle.std.proofs.Common.{take}
+use Rattle.fb_types.specs.Views.{names_of}
+use Rattle.fb_tables.specs.Filling.{Each, IsBlockMade, seats_of}
+use Rattle.fb_tables.proofs.block.blocks.Given as goal
+
+abbrev pub invariant-loop-seat : goal.invariant-loop-seat
+invariant-loop-seat l = Each (IsBlockMade l.certificate (names_of l.paths) (seats_of l.seats)) (take l.seat-index (seats_of l.seats)) l.blocks.items

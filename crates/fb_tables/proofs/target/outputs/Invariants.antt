@@ -1,0 +1,7 @@
+use Rattle.std.proofs.Common.{take}
+use Rattle.fb_types.specs.Views.{names_of}
+use Rattle.fb_tables.specs.Filling.{Each, IsOutputMade, seats_of}
+use Rattle.fb_tables.proofs.target.outputs.Given as goal
+
+abbrev pub invariant-loop-source : goal.invariant-loop-source
+invariant-loop-source l = Each (IsOutputMade (names_of l.paths) (seats_of l.seats)) (take l.source-index l.sources) l.outputs.items

@@ -1,0 +1,7 @@
+use Rattle.std.proofs.Common.{take}
+use Rattle.fb_types.specs.Views.{names_of}
+use Rattle.fb_tables.specs.Filling.{Each, IsPointMade, seats_of}
+use Rattle.fb_tables.proofs.target.points.Given as goal
+
+abbrev pub invariant-loop-target : goal.invariant-loop-target
+invariant-loop-target l = Each (IsPointMade (names_of l.paths) (seats_of l.seats)) (take l.target-index l.targets) l.points.items

@@ -1,0 +1,78 @@
+//! From what was checked to tables.
+
+ghost use Rattle.std.specs.Prelude.{◌≡◌, ◌<◌, length, Some, slice_get, IfOk};
+ghost use Rattle.fb_model.specs.System.{Device};
+ghost use Rattle.fb_model.specs.Plain.{IsPlainDevice};
+ghost use Rattle.fb_cert.specs.Views.{certificate_of, depth_in};
+ghost use Rattle.fb_types.specs.Views.{device_of};
+ghost use Rattle.fb_check.specs.Verdicts.{system_in, certificate_in, IsChecked};
+ghost use Rattle.fb_tables.specs.Tables.{AreTables};
+ghost use Rattle.fb_tables.specs.Filling.{Each, IsResourceMade};
+
+use crate::block::blocks;
+use crate::seat::{paths, seats};
+use crate::table::{Resource, Tables};
+use fb_cert::Certificate;
+use fb_check::Verified;
+use fb_flat::joined;
+use std::alloc::{AllocError, Global};
+
+// The depth of a row, 0 where there is none.
+fn depth(row: Option<u64>) -> u64
+    ensures { result ≡ depth_in row }
+{
+    match row {
+        Some(depth) => depth,
+        None => 0,
+    }
+}
+
+// A resource with its DEPTH row.
+fn resource(
+    alloc: Global,
+    certificate: &Certificate,
+    device: &str,
+    source: &fb_types::Resource,
+) -> Result<Resource, AllocError>
+    ensures { IfOk result (λ x. IsResourceMade certificate.now device.now source.now x) }
+{
+    let path = joined(alloc, device, source.name.as_str())?;
+    Ok(Resource {
+        name: source.name.clone()?,
+        depth: depth(certificate.depth(path.as_str())),
+    })
+}
+
+// Resources, in order.
+fn resources(
+    alloc: Global,
+    certificate: &Certificate,
+    device: &str,
+    sources: &[fb_types::Resource],
+) -> Result<Vec<Resource>, AllocError>
+    ensures { IfOk result (λ v. Each (IsResourceMade certificate.now device.now) sources.now v.items) }
+{
+    let mut resources = Vec::new(alloc);
+    for source in sources {
+        resources.push(resource(alloc, certificate, device, source)?)?;
+    }
+    Ok(resources)
+}
+
+/// The tables of the device of this number, counted from 0.
+///
+/// Its blocks are the leaves of the device, depth first in text order, and its numbers are those of the certificate.
+pub fn tables(alloc: Global, verified: &Verified, device: usize) -> Result<Tables, AllocError>
+    requires checked { IsChecked verified.now }
+    requires within { device < length (system_in verified.now).devices }
+    ensures { (d : Device) → slice_get (system_in verified.now).devices device ≡ Some d → IfOk result (AreTables (certificate_in verified.now) d) }
+{
+    let certificate = verified.certificate();
+    let flat = &verified.flat().devices[device];
+    let typed = &verified.typed().devices[device];
+    let seats = seats(alloc, &flat.resources)?;
+    let paths = paths(alloc, &seats)?;
+    let blocks = blocks(alloc, certificate, &paths, &seats)?;
+    let resources = resources(alloc, certificate, typed.name.as_str(), &typed.resources)?;
+    Ok(Tables { blocks, resources })
+}

@@ -1,0 +1,85 @@
+//! Where outputs lead, by numbers.
+
+ghost use Rattle.std.specs.Prelude.{IfOk};
+ghost use Rattle.fb_model.specs.Certificates.{events_of};
+ghost use Rattle.fb_flat.specs.Leaves.{kind_of};
+ghost use Rattle.fb_types.specs.Views.{names_of};
+ghost use Rattle.fb_tables.specs.Filling.{Each, IsNumber, IsPointMade, IsOutputMade, seats_of};
+
+use crate::names::number;
+use crate::seat::Seat;
+use crate::table::{Output, Point};
+use fb_flat::Target;
+use fb_types::Body;
+use indexmap::IndexSet;
+use std::alloc::{AllocError, Global};
+
+// The number of an event of a body.
+fn event(body: &Body, name: &str) -> u16
+    ensures { IsNumber (events_of (kind_of body.now)) name.now result }
+{
+    match body {
+        Body::Basic(block) => number(&block.event_inputs, name),
+        Body::Input(_) => 0,
+    }
+}
+
+// A target by numbers.
+fn point(paths: &IndexSet<String>, seats: &[Seat], target: &Target) -> Point
+    ensures { IsPointMade (names_of paths.now) (seats_of seats.now) target.now result }
+{
+    let block = number(paths, target.path.as_str());
+    match seats.get(block as usize) {
+        Some(seat) => Point {
+            block,
+            event: event(&seat.leaf.body, target.event.as_str()),
+        },
+        None => Point { block, event: 0 },
+    }
+}
+
+// Targets, in order.
+fn points(
+    alloc: Global,
+    paths: &IndexSet<String>,
+    seats: &[Seat],
+    targets: &[Target],
+) -> Result<Vec<Point>, AllocError>
+    ensures { IfOk result (λ v. Each (IsPointMade (names_of paths.now) (seats_of seats.now)) targets.now v.items) }
+{
+    let mut points = Vec::new(alloc);
+    for target in targets {
+        points.push(point(paths, seats, target))?;
+    }
+    Ok(points)
+}
+
+// An output and its targets.
+fn output(
+    alloc: Global,
+    paths: &IndexSet<String>,
+    seats: &[Seat],
+    source: &fb_flat::Output,
+) -> Result<Output, AllocError>
+    ensures { IfOk result (λ x. IsOutputMade (names_of paths.now) (seats_of seats.now) source.now x) }
+{
+    let name = source.name.clone()?;
+    let targets = points(alloc, paths, seats, &source.targets)?;
+    Ok(Output { name, targets })
+}
+
+/// Outputs, in order.
+pub fn outputs(
+    alloc: Global,
+    paths: &IndexSet<String>,
+    seats: &[Seat],
+    sources: &[fb_flat::Output],
+) -> Result<Vec<Output>, AllocError>
+    ensures { IfOk result (λ v. Each (IsOutputMade (names_of paths.now) (seats_of seats.now)) sources.now v.items) }
+{
+    let mut outputs = Vec::new(alloc);
+    for source in sources {
+        outputs.push(output(alloc, paths, seats, source)?)?;
+    }
+    Ok(outputs)
+}

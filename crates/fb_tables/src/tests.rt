@@ -1,0 +1,103 @@
+use crate::tables;
+use fb_check::check_text;
+use std::alloc::Global;
+use std::test::Fail;
+
+const BUTTON_AND_CELL: &str = "FUNCTION_BLOCK CELL
+EVENT_INPUT EI; END_EVENT
+EC_STATES START; DONE; END_STATES
+EC_TRANSITIONS START TO DONE := EI; DONE TO START := 1; END_TRANSITIONS
+END_FUNCTION_BLOCK
+SYSTEM S DEVICE D RESOURCE R
+FBS BUTTON : INPUT(ID := 1); C : CELL; END_FBS
+EVENT_CONNECTIONS BUTTON.IND TO C.EI; END_CONNECTIONS
+END_RESOURCE END_DEVICE END_SYSTEM
+";
+
+const CERTIFICATE: &str = "CERT 1
+CHARGE D.R.C.START 0 0
+CHARGE D.R.C.DONE 1 0
+WEIGHT D.R.BUTTON.ARRIVE 4 1
+WEIGHT D.R.C.EI 3 1
+DEPTH D.R 1
+";
+
+// A gate leads on at A by one output and at B by both. One of them forks.
+const GATE: &str = "FUNCTION_BLOCK GATE
+EVENT_INPUT A; B; END_EVENT
+EVENT_OUTPUT X; Y; END_EVENT
+EC_STATES S0; S1 : -> Y; S2 : -> X, -> Y; END_STATES
+EC_TRANSITIONS S0 TO S1 := A; S0 TO S2 := B; S1 TO S0 := 1; S2 TO S0 := 1; END_TRANSITIONS
+END_FUNCTION_BLOCK
+FUNCTION_BLOCK CELL
+EVENT_INPUT EI; END_EVENT
+EC_STATES START; DONE; END_STATES
+EC_TRANSITIONS START TO DONE := EI; DONE TO START := 1; END_TRANSITIONS
+END_FUNCTION_BLOCK
+SYSTEM S DEVICE D RESOURCE R
+FBS BUTTON : INPUT(ID := 7); G : GATE; C1 : CELL; C2 : CELL; END_FBS
+EVENT_CONNECTIONS BUTTON.IND TO G.B; BUTTON.IND TO G.A; G.Y TO C2.EI; G.Y TO C1.EI; G.X TO C1.EI; END_CONNECTIONS
+END_RESOURCE END_DEVICE END_SYSTEM
+";
+
+const GATE_ROWS: &str = "CERT 1
+CHARGE D.R.G.S0 0 0
+CHARGE D.R.G.S1 8 2
+CHARGE D.R.G.S2 12 3
+CHARGE D.R.C1.START 0 0
+CHARGE D.R.C1.DONE 1 0
+CHARGE D.R.C2.START 0 0
+CHARGE D.R.C2.DONE 1 0
+WEIGHT D.R.C2.EI 3 1
+WEIGHT D.R.C1.EI 4 1
+WEIGHT D.R.G.B 14 3
+WEIGHT D.R.G.A 10 2
+WEIGHT D.R.BUTTON.ARRIVE 25 6
+DEPTH D.R 8
+";
+
+// The tables of the first device, or the words of the refusal.
+fn told(alloc: Global, text: &str, certificate: &str) -> Result<String, Fail> {
+    match check_text(alloc, text, certificate) {
+        Ok(verified) => {
+            let count = verified.typed().devices.len();
+            if count < 1 {
+                return Ok(String::from_str(alloc, "no device")?);
+            }
+            let found = tables(alloc, &verified, 0)?;
+            Ok(format!(in alloc; "{found:?}")?)
+        }
+        Err(refusal) => Ok(format!(in alloc; "{refusal}")?),
+    }
+}
+
+#[test]
+fn a_button_and_a_cell(rt: HostRuntime) -> Result<(), Fail> {
+    let alloc = rt.alloc();
+    assert_eq!(rt;
+        told(alloc, BUTTON_AND_CELL, CERTIFICATE)?.as_str(),
+        r#"Tables { blocks: [Block { path: "D.R.BUTTON", resource: 0, events: [Event { name: "ARRIVE", steps: 4, places: 1 }], outputs: [Output { name: "IND", targets: [Point { block: 1, event: 0 }] }], body: Input(1) }, Block { path: "D.R.C", resource: 0, events: [Event { name: "EI", steps: 3, places: 1 }], outputs: [], body: Chart(Chart { states: [State { name: "START", actions: [] }, State { name: "DONE", actions: [] }], transitions: [Transition { source: 0, target: 1, event: Some(0) }, Transition { source: 1, target: 0, event: None }] }) }], resources: [Resource { name: "R", depth: 1 }] }"#
+    );
+    Ok(())
+}
+
+// Numbers of blocks, events, states and outputs, in a chart with actions and at a fork.
+#[test]
+fn a_gate_before_two_cells(rt: HostRuntime) -> Result<(), Fail> {
+    let alloc = rt.alloc();
+    assert_eq!(rt;
+        told(alloc, GATE, GATE_ROWS)?.as_str(),
+        r#"Tables { blocks: [Block { path: "D.R.BUTTON", resource: 0, events: [Event { name: "ARRIVE", steps: 25, places: 6 }], outputs: [Output { name: "IND", targets: [Point { block: 1, event: 1 }, Point { block: 1, event: 0 }] }], body: Input(7) }, Block { path: "D.R.G", resource: 0, events: [Event { name: "A", steps: 10, places: 2 }, Event { name: "B", steps: 14, places: 3 }], outputs: [Output { name: "X", targets: [Point { block: 2, event: 0 }] }, Output { name: "Y", targets: [Point { block: 3, event: 0 }, Point { block: 2, event: 0 }] }], body: Chart(Chart { states: [State { name: "S0", actions: [] }, State { name: "S1", actions: [Action { output: Some(1) }] }, State { name: "S2", actions: [Action { output: Some(0) }, Action { output: Some(1) }] }], transitions: [Transition { source: 0, target: 1, event: Some(0) }, Transition { source: 0, target: 2, event: Some(1) }, Transition { source: 1, target: 0, event: None }, Transition { source: 2, target: 0, event: None }] }) }, Block { path: "D.R.C1", resource: 0, events: [Event { name: "EI", steps: 4, places: 1 }], outputs: [], body: Chart(Chart { states: [State { name: "START", actions: [] }, State { name: "DONE", actions: [] }], transitions: [Transition { source: 0, target: 1, event: Some(0) }, Transition { source: 1, target: 0, event: None }] }) }, Block { path: "D.R.C2", resource: 0, events: [Event { name: "EI", steps: 3, places: 1 }], outputs: [], body: Chart(Chart { states: [State { name: "START", actions: [] }, State { name: "DONE", actions: [] }], transitions: [Transition { source: 0, target: 1, event: Some(0) }, Transition { source: 1, target: 0, event: None }] }) }], resources: [Resource { name: "R", depth: 8 }] }"#
+    );
+    Ok(())
+}
+
+#[test]
+fn a_device_without_resources(rt: HostRuntime) -> Result<(), Fail> {
+    let alloc = rt.alloc();
+    assert_eq!(rt;
+        told(alloc, "SYSTEM S DEVICE D END_DEVICE END_SYSTEM", "CERT 1")?.as_str(),
+        "Tables { blocks: [], resources: [] }"
+    );
+    Ok(())
+}

@@ -1,0 +1,77 @@
+-- What a simulation tells: this project's profile.
+use Rattle.std.specs.Prelude.{◌≡◌, ◌≤◌, ℕ, ◌⊎◌, List, [], length, Option, Result, Ok, Err}
+use Rattle.std.specs.Io.KnownBytes.{Appends}
+use Rattle.std.specs.Str.Lines.{lines}
+use Rattle.fb_check.specs.Verdicts as verdicts
+use Rattle.fb_check.specs.declared.verified.Verified.{Verified}
+use Rattle.fb_device.specs.Sessions.{Session}
+use Rattle.fb_device.specs.Machines.{device_in, machine_of}
+use Rattle.fb_model.specs.Devices.{silent}
+use Rattle.fb_script.specs.Runs.{IsRun, IsFirst}
+use Rattle.fb_script.specs.declared.run.End.{End}
+use Rattle.fb_script.specs.declared.run.End.TheVariants as ends
+use Rattle.fbr.specs.declared.fault.Fault.{Fault}
+use Rattle.fbr.specs.declared.fault.Fault.TheVariants.{Memory, Input, Line}
+use Rattle.fbr.specs.Outcomes.{Tells, refusal, IsContents, IsVerdict, IsFilesOutcome}
+
+-- ---- the files
+
+-- the two texts are those of what was verified, or this is what the verdict says
+abbrev pub IsVerified : List ℕ → List ℕ → Option (List ℕ) → Option (List ℕ) → Result Verified Fault → Type 0
+IsVerified one two held_one held_two (Ok v) = (app : List ℕ) × (cert : List ℕ) × IsContents held_one app × IsContents held_two cert × verdicts.IsOfTexts app cert v
+IsVerified one two held_one held_two (Err f) = IsFilesOutcome {A = Unit {0}} one two held_one held_two (Err f)
+
+-- the same of the two texts
+abbrev pub IsVerifiedTexts : List ℕ → List ℕ → Result Verified Fault → Type 0
+IsVerifiedTexts app cert (Ok v) = verdicts.IsOfTexts app cert v
+IsVerifiedTexts app cert (Err f) = IsVerdict {A = Unit {0}} app cert (Err f)
+
+-- ---- the script
+
+-- what standard input holds, within the limit
+pub record IsScript (held : Option (List ℕ)) (script : List ℕ) : Type 0 where
+  pub contents : IsContents held script
+  pub short : length script ≤ 33554432
+
+abbrev pub IsScriptFault : Fault → Type 0
+IsScriptFault f = (f ≡ Input) ⊎ (f ≡ Memory)
+
+-- the end of a script is told: nothing where every line was run, and else a refusal
+abbrev pub TellsEnd : End → Option (List ℕ) → Option (List ℕ) → ℕ → Type 0
+TellsEnd ends.Done old new status = (status ≡ 0) × Appends old new []
+TellsEnd (ends.Line n) old new status = Tells (refusal (Line n)) old new status
+TellsEnd ends.OutOfMemory old new status = Tells (refusal Memory) old new status
+
+-- the first device of what was verified, to which nothing has happened
+pub record IsFresh (v : Verified) (s : Session) : Type 0 where
+  pub verified : s.verified ≡ v
+  pub number : s.number ≡ 0
+  pub silent : machine_of s ≡ silent (device_in s) 1
+
+-- the first device of what was verified runs a script to this end, or there is none, or no memory for one
+abbrev pub RunsTo : Verified → List ℕ → Option (List ℕ) → Option (List ℕ) → End → Type 0
+RunsTo v script old new end =
+    ((first : Session) × (last : Session) × IsFresh v first × IsRun first script old new end last)
+    ⊎ ((new ≡ old) × IsFirst (lines script) end)
+
+-- the script is run, and its end is told behind its answers
+abbrev pub TellsRun : Verified → List ℕ → Option (List ℕ) → Option (List ℕ) → ℕ → Type 0
+TellsRun v script old new status = (end : End) × (mid : Option (List ℕ)) × RunsTo v script old mid end × TellsEnd end mid new status
+
+-- the same from a session on
+abbrev pub TellsRunFrom : Session → List ℕ → Option (List ℕ) → Option (List ℕ) → ℕ → Type 0
+TellsRunFrom first script old new status = (end : End) × (mid : Option (List ℕ)) × (last : Session) × IsRun first script old mid end last × TellsEnd end mid new status
+
+-- standard input was not read, or is a script that is run
+abbrev pub TellsScript : Verified → Option (List ℕ) → Option (List ℕ) → Option (List ℕ) → ℕ → Type 0
+TellsScript v held old new status =
+    (Tells (refusal Input) old new status ⊎ Tells (refusal Memory) old new status)
+    ⊎ ((script : List ℕ) × IsContents held script × TellsRun v script old new status)
+
+-- ---- all of it
+
+-- the verdict is told where it refuses; else the two texts fit, and the script is run
+abbrev pub TellsSim : List ℕ → List ℕ → Option (List ℕ) → Option (List ℕ) → Option (List ℕ) → Option (List ℕ) → Option (List ℕ) → ℕ → Type 0
+TellsSim one two held_one held_two held old new status =
+    ((f : Fault) × IsFilesOutcome {A = Unit {0}} one two held_one held_two (Err f) × Tells (refusal f) old new status)
+    ⊎ ((v : Verified) × IsVerified one two held_one held_two (Ok v) × TellsScript v held old new status)

@@ -1,0 +1,231 @@
+//! Scripts on worked examples, as the program runs them.
+
+use crate::tests::said;
+use std::test::Fail;
+
+const CELL: &[u8] = b"FUNCTION_BLOCK CELL
+EVENT_INPUT EI; END_EVENT
+EC_STATES START; DONE; END_STATES
+EC_TRANSITIONS START TO DONE := EI; DONE TO START := 1; END_TRANSITIONS
+END_FUNCTION_BLOCK
+SYSTEM S DEVICE D RESOURCE R
+FBS BUTTON : INPUT(ID := 1); C : CELL; END_FBS
+EVENT_CONNECTIONS BUTTON.IND TO C.EI; END_CONNECTIONS
+END_RESOURCE END_DEVICE END_SYSTEM
+";
+
+const CELL_CERT: &[u8] = b"CERT 1
+CHARGE D.R.C.START 0 0
+CHARGE D.R.C.DONE 1 0
+WEIGHT D.R.BUTTON.ARRIVE 4 1
+WEIGHT D.R.C.EI 3 1
+DEPTH D.R 1
+";
+
+const FORK: &[u8] = b"FUNCTION_BLOCK CELL
+EVENT_INPUT EI; END_EVENT
+EC_STATES START; DONE; END_STATES
+EC_TRANSITIONS START TO DONE := EI; DONE TO START := 1; END_TRANSITIONS
+END_FUNCTION_BLOCK
+FUNCTION_BLOCK FORK
+EVENT_INPUT EI; END_EVENT
+EVENT_OUTPUT EO1; EO2; END_EVENT
+EC_STATES START; ACT : -> EO1, -> EO2; END_STATES
+EC_TRANSITIONS START TO ACT := EI; ACT TO START := 1; END_TRANSITIONS
+END_FUNCTION_BLOCK
+SYSTEM S DEVICE D RESOURCE R
+FBS BUTTON : INPUT(ID := 1); SPL : FORK; C1 : CELL; C2 : CELL; END_FBS
+EVENT_CONNECTIONS BUTTON.IND TO SPL.EI; SPL.EO1 TO C1.EI; SPL.EO2 TO C2.EI; END_CONNECTIONS
+END_RESOURCE END_DEVICE END_SYSTEM
+";
+
+const FORK_CERT: &[u8] = b"CERT 1
+CHARGE D.R.C1.START 0 0
+CHARGE D.R.C1.DONE 1 0
+CHARGE D.R.C2.START 0 0
+CHARGE D.R.C2.DONE 1 0
+CHARGE D.R.SPL.START 0 0
+CHARGE D.R.SPL.ACT 7 2
+WEIGHT D.R.C1.EI 3 1
+WEIGHT D.R.C2.EI 3 1
+WEIGHT D.R.SPL.EI 9 2
+WEIGHT D.R.BUTTON.ARRIVE 10 2
+DEPTH D.R 3
+";
+
+const FILES: &[(&str, &[u8])] = &[
+    ("cell.fb", CELL),
+    ("cell.cert", CELL_CERT),
+    ("fork.fb", FORK),
+    ("fork.cert", FORK_CERT),
+    ("none.fb", b"SYSTEM S END_SYSTEM\n"),
+    ("none.cert", b"CERT 1\n"),
+    ("bad", &[0xff]),
+];
+
+// A run of a script on the button and its cell.
+fn cell_says<R: AllocGlobal>(rt: &R, script: &[u8]) -> Result<(u8, String), Fail> {
+    said(rt, &["fbr", "sim", "cell.fb", "cell.cert"], FILES, script)
+}
+
+#[test]
+fn a_button_and_a_cell(rt: HostRuntime) -> Result<(), Fail> {
+    let script = b"offer D 1\ndispatch D R\ndispatch D R\ndispatch D R\n";
+    let (status, text) = cell_says(&rt, script)?;
+    assert_eq!(rt;
+        text.as_str(),
+        "cause 1\nran D.R.BUTTON.ARRIVE steps 1\nran D.R.C.EI steps 3 ended 1 4 of 4\nidle\n"
+    );
+    assert_eq!(rt; status, 0);
+    Ok(())
+}
+
+#[test]
+fn a_fork(rt: HostRuntime) -> Result<(), Fail> {
+    let script = b"offer D 1
+offer D 1
+dispatch D R
+dispatch D R
+dispatch D R
+offer D 1
+dispatch D R
+offer D 1
+";
+    let (status, text) = said(&rt, &["fbr", "sim", "fork.fb", "fork.cert"], FILES, script)?;
+    assert_eq!(rt;
+        text.as_str(),
+        "cause 1
+denied 53 needs 2 free 1
+ran D.R.BUTTON.ARRIVE steps 1
+ran D.R.SPL.EI steps 3
+ran D.R.C1.EI steps 3
+denied 53 needs 2 free 1
+ran D.R.C2.EI steps 3 ended 1 10 of 10
+cause 2
+"
+    );
+    assert_eq!(rt; status, 0);
+    Ok(())
+}
+
+#[test]
+fn lines_that_are_bad(rt: HostRuntime) -> Result<(), Fail> {
+    let cases: [(&[u8], &str); 19] = [
+        (b"offer D\n", "refused 60 1\n"),
+        (b"offer E 1\n", "refused 60 1\n"),
+        (b"offer D 70000\n", "refused 60 1\n"),
+        (b"offer D 65536\n", "refused 60 1\n"),
+        (b"offer D +1\n", "refused 60 1\n"),
+        (b"offer D -1\n", "refused 60 1\n"),
+        (b"offer D 1 9999999999999999999\n", "refused 60 1\n"),
+        (b"offer D 1 9223372036854775808\n", "refused 60 1\n"),
+        (b"offer D 1 +1\n", "refused 60 1\n"),
+        (b"offer D 1 -\n", "refused 60 1\n"),
+        (b"Offer D 1\n", "refused 60 1\n"),
+        (b"dispatch D X\n", "refused 60 1\n"),
+        (b"dispatch D R R\n", "refused 60 1\n"),
+        (b"dispatch D\n", "refused 60 1\n"),
+        (b"tick D 1\n", "refused 60 1\n"),
+        (b"\n \n\r\ntick D 1\n", "refused 60 4\n"),
+        (
+            b"\n\ndispatch D R\n\noffer D\noffer D 1\n",
+            "idle\nrefused 60 5\n",
+        ),
+        (
+            b"offer D 1\nroot 1\ndispatch D R\n",
+            "cause 1\nrefused 60 2\n",
+        ),
+        (b"offer D 1\r", "refused 60 1\n"),
+    ];
+    for case in &cases {
+        let (script, answers) = *case;
+        let (status, text) = cell_says(&rt, script)?;
+        assert_eq!(rt; (status, text.as_str()), (2, answers));
+    }
+    Ok(())
+}
+
+#[test]
+fn lines_that_are_good(rt: HostRuntime) -> Result<(), Fail> {
+    let cases: [(&[u8], &str); 9] = [
+        (b"", ""),
+        (b"\n  \n", ""),
+        (b"  offer   d  00001  ", "cause 1\n"),
+        (b"dispatch d r\r\noffer D 1\r\n", "idle\ncause 1\n"),
+        (b"offer D 0\n", "denied 50\n"),
+        (b"offer D 65535\n", "denied 50\n"),
+        (b"offer D 1 9223372036854775807\n", "denied 51\n"),
+        (b"offer D 1 -9223372036854775808 -0\n", "denied 51\n"),
+        (
+            b"offer D 1\noffer D 1\n",
+            "cause 1\ndenied 53 needs 1 free 0\n",
+        ),
+    ];
+    for case in &cases {
+        let (script, answers) = *case;
+        let (status, text) = cell_says(&rt, script)?;
+        assert_eq!(rt; (status, text.as_str()), (0, answers));
+    }
+    Ok(())
+}
+
+#[test]
+fn files_and_words(rt: HostRuntime) -> Result<(), Fail> {
+    let cases: [(&[&str], &[u8], u8, &str); 9] = [
+        (&["fbr", "sim", "none.fb", "none.cert"], b"\n \n", 0, ""),
+        (
+            &["fbr", "sim", "none.fb", "none.cert"],
+            b"\noffer D 1\n",
+            2,
+            "refused 60 2\n",
+        ),
+        (
+            &["fbr", "sim", "cell.fb", "none.cert"],
+            b"offer D 1\n",
+            1,
+            "refused 33 D.R.C.START\n",
+        ),
+        (
+            &["fbr", "sim", "cell.fb", "cell.fb"],
+            b"offer D 1\n",
+            2,
+            "refused 30 1\n",
+        ),
+        (
+            &["fbr", "sim", "cell.fb", "gone"],
+            b"offer D 1\n",
+            3,
+            "refused 61 gone\n",
+        ),
+        (
+            &["fbr", "sim", "bad", "cell.cert"],
+            b"offer D 1\n",
+            3,
+            "refused 61 bad\n",
+        ),
+        (
+            &["fbr", "sim", "cell.fb", "cell.cert"],
+            b"offer D 1\n\xff\n",
+            3,
+            "refused 61 -\n",
+        ),
+        (
+            &["fbr", "sim", "cell.fb"],
+            b"offer D 1\n",
+            2,
+            "refused 63\n",
+        ),
+        (
+            &["fbr", "sim", "cell.fb", "cell.cert", "D"],
+            b"offer D 1\n",
+            2,
+            "refused 63\n",
+        ),
+    ];
+    for case in &cases {
+        let (words, script, status, answers) = *case;
+        let (ended, text) = said(&rt, words, FILES, script)?;
+        assert_eq!(rt; (ended, text.as_str()), (status, answers));
+    }
+    Ok(())
+}
