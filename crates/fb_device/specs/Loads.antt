@@ -15,7 +15,7 @@ use Rattle.fb_device.specs.declared.loading.Ready.{Ready}
 use Rattle.fb_device.specs.Sessions.{Session}
 use Rattle.fb_device.specs.Machines.{machine_of}
 
--- the texts are spelled, well typed and fit, the device is the first of its name in them, and nothing has happened yet
+-- the texts are spelled, well typed and fit, the device is one of this name in them, and nothing has happened yet
 pub record IsLoaded (text certificate name : List ℕ) (s : Session) : Type 0 where
   pub texts : IsOfTexts text certificate s.verified
   pub device : Device
