@@ -1,5 +1,5 @@
 -- A certificate fits a system that stands in a text where its rows are those of the system, and pay in both columns and at the queues.
-use Rattle.std.proofs.Common.{◌≡◌, ℕ, zero, suc, ◌+◌, ◌≤◌, pos, sym, ap, ap₂, subst, refl, true, false, Bool, ◌&&◌, List, [], ◌∷◌, ◌++◌, map, Option, None, Some, ◌∙◌, append_assoc, arith}
+use Rattle.std.proofs.Common.{◌≡◌, ℕ, ◌+◌, ◌≤◌, pos, sym, ap, ap₂, subst, refl, true, false, Bool, ◌&&◌, List, [], ◌∷◌, ◌++◌, map, Option, None, Some, ◌∙◌, append_assoc, arith}
 use Rattle.std.specs.Prelude.{if◌then◌else◌, ◌==◌}
 use Rattle.std.specs.List.{AllByRecursion}
 use Rattle.std.specs.Str.{bytes_eq}
@@ -7,15 +7,15 @@ use Rattle.fb_model.specs.Names.{Name, Path, Place, at_place, path_eq, is_in}
 use Rattle.fb_model.specs.Values.{Value, One}
 use Rattle.fb_model.specs.Spelling.{IsWord}
 use Rattle.fb_model.specs.Trees.{BlockTree, ResourceTree, DeviceTree, SourceTree}
-use Rattle.fb_model.specs.System.{Event, Block, Service, Input, Transition, Connection, Body, Basic, Served, Composite, Instances, nothing, instance, Resource, Device, System}
-use Rattle.fb_model.specs.Typing.{IsBlockTyped, typed_block, typed_transition, IsResource, AreResources, IsDevice, AreDevices, Elaborates, event_inputs_of, body_named}
-use Rattle.fb_model.specs.Wires.{Kind, Charted, Serviced, Leaf, Source, Constant, Output_of, fed, given_in, followed, entered_in, leaves_in, resource_leaves, leaves_from, leaves}
+use Rattle.fb_model.specs.System.{Event, Block, Input, Transition, Body, Basic, Served, Composite, Instances, nothing, instance, Resource, Device, System}
+use Rattle.fb_model.specs.Typing.{IsBlockTyped, typed_block, typed_transition, IsResource, AreResources, IsDevice, AreDevices, event_inputs_of, body_named}
+use Rattle.fb_model.specs.Wires.{Kind, Charted, Serviced, Leaf, Source, Constant, fed, given_in, followed, entered_in, resource_leaves, leaves_from, leaves}
 use Rattle.fb_model.specs.Store.{inputs, outputs, internals}
 use Rattle.fb_model.specs.Charts.{tested, algorithm_of}
 use Rattle.fb_model.specs.Ranges.{Range, typed, all_typed, limits, IsClear, WritesFit, LinkFits, LeafLies, AllLie, Keeps, cost_of}
-use Rattle.fb_model.specs.Certificates.{Certificate, Column, steps_of, places_of, ColumnFits, ArrivalsFit, depth_of, begin_places, is_restart, IsWired, leaf_at, is_input, all_ranges, DeviceFits, AllRows, FollowsFew, Fits}
-use Rattle.fb_model.specs.Plain.{AreWords, IsPlainBlock, IsPlainKind, IsPlainLeaf, IsPlainResource, IsPlainDevice, IsPlainSystem, IsWritten, instance_names, Pays}
-use Rattle.fb_model.proofs.Lists.{all_append, all_both, all_weaker, same_name, at_listed}
+use Rattle.fb_model.specs.Certificates.{Certificate, places_of, depth_of, begin_places, is_restart, IsWired, leaf_at, is_input, all_ranges, DeviceFits, AllRows, FollowsFew, Fits}
+use Rattle.fb_model.specs.Plain.{IsPlainKind, IsPlainLeaf, IsPlainResource, IsPlainDevice, IsWritten, instance_names, Pays}
+use Rattle.fb_model.proofs.Lists.{all_append, all_both, all_weaker, at_listed}
 use Rattle.fb_model.proofs.Simple.{IsSimple, AreSimple, IsPort, simple_inner, led_holds}
 use Rattle.fb_model.proofs.Placed.{Apart, apart, path_front, each_in, Fresh, fresh_append, fresh_in, all_found, all_left, all_right, port_taken}
 

@@ -1,18 +1,17 @@
 -- The leaves of simple instances: each is found by its path, and outputs lead to event inputs.
-use Rattle.std.proofs.Common.{◌≡◌, ℕ, ◌+◌, sym, ap, ap₂, subst, refl, true, false, Bool, ◌&&◌, ◌||◌, List, [], ◌∷◌, ◌++◌, map, Option, None, Some, ◌∙◌, append_assoc}
+use Rattle.std.proofs.Common.{◌≡◌, ℕ, sym, ap, subst, refl, true, false, Bool, ◌&&◌, ◌||◌, List, [], ◌∷◌, ◌++◌, map, Some, ◌∙◌}
 use Rattle.std.specs.Prelude.{if◌then◌else◌}
-use Rattle.std.specs.List.{AllByRecursion, list_any}
+use Rattle.std.specs.List.{AllByRecursion}
 use Rattle.std.specs.Str.{bytes_eq}
 use Rattle.std.proofs.lemmas.Slice.Eq.{bytes_eq-Decides}
 use Rattle.fb_model.specs.Names.{Name, Path, Place, at_place, path_eq, is_in}
-use Rattle.fb_model.specs.Trees.{ConnectionTree}
 use Rattle.fb_model.specs.System.{Block, Service, Input, Parameter, Connection, Body, Basic, Served, Composite, Instances, nothing, instance, Resource, constant}
-use Rattle.fb_model.specs.Typing.{AreDistinct, AreNew, AreConnections, event_inputs_of, body_named}
-use Rattle.fb_model.specs.Wires.{Kind, Charted, Serviced, Leaf, Source, Constant, inputs_of, followed, entered_in, leaves_of, leaves_in}
-use Rattle.fb_model.specs.Certificates.{IsWired, leaf_at, is_input, has_event, events_of, event_names}
+use Rattle.fb_model.specs.Typing.{AreDistinct, AreNew, event_inputs_of, body_named}
+use Rattle.fb_model.specs.Wires.{Charted, Serviced, Leaf, Source, Constant, inputs_of, leaves_of, leaves_in}
+use Rattle.fb_model.specs.Certificates.{leaf_at, is_input, has_event, events_of, event_names}
 use Rattle.fb_model.specs.Plain.{IsPlainKind, instance_names}
 use Rattle.fb_model.proofs.Lists.{all_append, all_both, same_name}
-use Rattle.fb_model.proofs.Simple.{IsSimple, AreSimple, IsPort, led_holds}
+use Rattle.fb_model.proofs.Simple.{IsSimple, AreSimple, IsPort}
 
 -- ---- names apart
 

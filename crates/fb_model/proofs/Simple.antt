@@ -1,14 +1,14 @@
 -- What is known of the instances that a source elaborates to: each is a well typed block, or an INPUT without values.
-use Rattle.std.proofs.Common.{◌≡◌, ℕ, ◌+◌, sym, ap, ap₂, subst, refl, true, false, Bool, ◌&&◌, List, [], ◌∷◌, ◌++◌, map, Option, None, Some, ◌∙◌}
+use Rattle.std.proofs.Common.{◌≡◌, ℕ, sym, subst, refl, true, false, Bool, List, [], ◌∷◌, ◌++◌, Option, None, Some}
 use Rattle.std.specs.Prelude.{if◌then◌else◌}
 use Rattle.std.specs.List.{AllByRecursion}
 use Rattle.std.specs.Str.{bytes_eq}
 use Rattle.fb_model.specs.Names.{Name, Path, Place, at_place, is_in}
 use Rattle.fb_model.specs.Trees.{BlockTree, InstanceTree, ConnectionTree}
-use Rattle.fb_model.specs.System.{Block, Service, Input, End, Connection, Body, Basic, Served, Composite, Instances, nothing, instance}
-use Rattle.fb_model.specs.Typing.{AreBlocksTyped, IsBlockTyped, typed_block, block_named, IsBody, of_block, of_input, AreInstances, event_inputs_of, body_named, IsEnd, IsConnection, AreConnections}
-use Rattle.fb_model.specs.Wires.{Kind, Charted, Serviced, followed, entered, entered_in}
-use Rattle.fb_model.specs.Plain.{IsPlainBlock, IsPlainBody, ArePlainBodies, IsPlainKind}
+use Rattle.fb_model.specs.System.{Input, End, Connection, Body, Basic, Served, Composite, Instances, nothing, instance}
+use Rattle.fb_model.specs.Typing.{IsBlockTyped, block_named, IsBody, of_block, of_input, AreInstances, event_inputs_of, body_named, IsEnd, AreConnections}
+use Rattle.fb_model.specs.Wires.{Charted, followed, entered, entered_in}
+use Rattle.fb_model.specs.Plain.{IsPlainBody, ArePlainBodies, IsPlainKind}
 use Rattle.fb_model.proofs.Lists.{same_name, all_append}
 
 -- ---- bodies

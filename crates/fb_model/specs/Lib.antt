@@ -2,9 +2,14 @@ pub mod Tokens
 pub mod Spelling
 pub mod Productions
 pub mod Trees
+pub mod StructuredText
+pub mod StructuredTextGrammar
 pub mod Grammar
 pub mod Names
 pub mod Values
+pub mod TypedText
+pub mod TextTyping
+pub mod TextFaults
 pub mod Language
 pub mod System
 pub mod Services

@@ -15,15 +15,21 @@ Within n (Ok x) = length x.1 ≤ n
 Within n (Err (syntax left)) = left ≤ n
 Within n (Err (too_deep left)) = left ≤ n
 
-abbrev pub IsRefused : {A : Type 0} → Result A Wrong → Type 0
-IsRefused (Ok x) = ⊥
-IsRefused (Err e) = Unit {0}
+abbrev pub IsStuck : {A : Type 0} → Result A Wrong → Type 0
+IsStuck (Ok x) = ⊥
+IsStuck (Err (syntax left)) = Unit {0}
+IsStuck (Err (too_deep left)) = ⊥
+
+abbrev pub IsDeep : {A : Type 0} → Result A Wrong → Type 0
+IsDeep (Ok x) = ⊥
+IsDeep (Err (syntax left)) = ⊥
+IsDeep (Err (too_deep left)) = Unit {0}
 
 -- What is answered on the first text is answered on the second, unless the token has been passed.
 abbrev pub Goes : {A : Type 0} → Token → List Token → List Token → Answer A → Answer A → Type 0
 Goes t q q' (Ok x) r = (length x.1 ≤ length q) ⊎ ((rest : List Token) × Same t q q' x.1 rest × (r ≡ Ok (x.0, rest)))
-Goes t q q' (Err (syntax left)) r = (left ≤ length q) ⊎ IsRefused r
-Goes t q q' (Err (too_deep left)) r = (left ≤ length q) ⊎ IsRefused r
+Goes t q q' (Err (syntax left)) r = (left ≤ length q) ⊎ IsStuck r
+Goes t q q' (Err (too_deep left)) r = (left ≤ length q) ⊎ IsDeep r
 
 pub record Steady {A : Type 0} (r : Read A) : Type 0 where
   pub bounded : (ts : List Token) → Within (length ts) (r ts)
@@ -46,18 +52,24 @@ past t q q' (Ok x) r' h = inl h
 past t q q' (Err (syntax left)) r' h = inl h
 past t q q' (Err (too_deep left)) r' h = inl h
 
-refused_then : {A B : Type 0} (f : A × List Token → Answer B) (r : Answer A) → IsRefused r → IsRefused (r >>= f)
-refused_then f (Ok x) h = absurd h
-refused_then f (Err e) h = tt
+stuck_then : {A B : Type 0} (f : A × List Token → Answer B) (r : Answer A) → IsStuck r → IsStuck (r >>= f)
+stuck_then f (Ok x) h = absurd h
+stuck_then f (Err (syntax left)) h = tt
+stuck_then f (Err (too_deep left)) h = h
+
+deep_then : {A B : Type 0} (f : A × List Token → Answer B) (r : Answer A) → IsDeep r → IsDeep (r >>= f)
+deep_then f (Ok x) h = absurd h
+deep_then f (Err (syntax left)) h = h
+deep_then f (Err (too_deep left)) h = tt
 
 pub goes_then : {A B : Type 0} (t : Token) (q q' : List Token) (f f' : A × List Token → Answer B) (r r' : Answer A) → Goes t q q' r r' → ((x : A) (rest : List Token) → length rest ≤ length q → Within (length q) (f (x, rest)))
     → ((x : A) (rest rest' : List Token) → r ≡ Ok (x, rest) → r' ≡ Ok (x, rest') → Same t q q' rest rest' → Goes t q q' (f (x, rest)) (f' (x, rest'))) → Goes t q q' (r >>= f) (r' >>= f')
 goes_then t q q' f f' (Ok x) r' (inl le) w g = past t q q' (f x) (r' >>= f') (w x.0 x.1 le)
 goes_then t q q' f f' (Ok x) r' (inr p) w g = subst (λ z. Goes t q q' (f x) (z >>= f')) (sym p.2) (g x.0 x.1 p.0 refl p.2 p.1)
 goes_then t q q' f f' (Err (syntax left)) r' (inl le) w g = inl le
-goes_then t q q' f f' (Err (syntax left)) r' (inr e) w g = inr (refused_then f' r' e)
+goes_then t q q' f f' (Err (syntax left)) r' (inr e) w g = inr (stuck_then f' r' e)
 goes_then t q q' f f' (Err (too_deep left)) r' (inl le) w g = inl le
-goes_then t q q' f f' (Err (too_deep left)) r' (inr e) w g = inr (refused_then f' r' e)
+goes_then t q q' f f' (Err (too_deep left)) r' (inr e) w g = inr (deep_then f' r' e)
 
 pub steady_then : {A B : Type 0} (r : Read A) (f : A × List Token → Answer B) → Steady r → ((x : A) → Steady (λ ts. f (x, ts))) → Steady (λ ts. r ts >>= f)
 steady_then r f h g =

@@ -3,7 +3,7 @@ use Rattle.std.proofs.Common.{◌≡◌, ◌⊎◌, ◌-◌, ℕ, zero, suc, Lis
 use Rattle.std.proofs.lemmas.List.{length-drop}
 use Rattle.fb_model.specs.Tokens.{Token, token}
 use Rattle.fb_read.specs.Faults.{start_or, offset_of}
-use Rattle.fb_read.proofs.Steady.{Same, here, there, IsRefused}
+use Rattle.fb_read.proofs.Steady.{Same, here, there, IsStuck}
 use Rattle.fb_text.proofs.Steady.{whole_steady}
 use Rattle.fb_model.specs.Trees.{SourceTree}
 use Rattle.fb_model.specs.Grammar.{IsFile}
@@ -77,8 +77,8 @@ front zero ts = ([], refl)
 front (suc n) [] = ([], refl)
 front (suc n) (u ∷ ts) = let f = front n ts in (u ∷ f.0, ap (λ l. u ∷ l) f.1)
 
-not_read : {ts : List Token} {x : SourceTree} → IsRefused (whole_at ts) → IsFile ts x → ⊥
-not_read r h = subst (λ z. IsRefused z) (tree_read h) r
+not_read : {ts : List Token} {x : SourceTree} → IsStuck (whole_at ts) → IsFile ts x → ⊥
+not_read r h = subst (λ z. IsStuck z) (tree_read h) r
 
 pub cannot_stand : (end : ℕ) (ts : List Token) (left offset : ℕ) → whole_at ts ≡ Err (syntax left) → offset ≡ offset_of end ts left → (offset ≡ end) ⊎ CannotStand ts offset
 cannot_stand end ts left offset e o = by (drop (length ts - left) ts) refl o where

@@ -8,7 +8,7 @@ use Rattle.fb_model.specs.Tokens.{Token, token, name, number, typed, duration, m
 use Rattle.fb_model.specs.Trees.{Whole, Typed, Duration, Truth, SourceTree}
 use Rattle.fb_model.specs.Grammar.{IsEvent, IsAction, IsState, IsTransition, IsBlock, IsParameter, IsInstance, IsConnection, IsResource, IsDevice}
 use Rattle.fb_read.specs.Reading.{syntax, too_deep, stuck, Answer, Read, ◌>>=◌, next_is, after, expect, name_at, items_at, list_at, closed_at, section_at}
-use Rattle.fb_read.proofs.Steady.{Same, here, there, IsRefused, Goes, Steady, Takes, Stops, steady_then, steady_as, steady_done, steady_stuck, steady_head, steady_name, steady_choice, steady_if, cond_then, steady_expect, steady_place}
+use Rattle.fb_read.proofs.Steady.{Same, here, there, IsStuck, Goes, Steady, Takes, Stops, steady_then, steady_as, steady_done, steady_stuck, steady_head, steady_name, steady_choice, steady_if, cond_then, steady_expect, steady_place}
 use Rattle.fb_read.proofs.SteadyLists.{shrinks_of, steady_items, steady_list, steady_closed, steady_section}
 use Rattle.fb_text.specs.Reading.{negative_at, constant_at, word_at, kind_at, event_at, output_at, emitting_at, running_at, action_at, actions_at, state_at, condition_at, transition_at, states_at, transitions_at, block_at, parameter_at, parameters_at, instance_at, second_at, port_at, connection_at, resource_at, device_at, system_at, file_at, ended, whole_at}
 use Rattle.fb_text.proofs.BlockSound.{event_sound, action_sound, state_sound, transition_sound, block_sound}
@@ -219,19 +219,20 @@ ended_left : (x : SourceTree) (rest : List Token) (left : ℕ) → ended x rest 
 ended_left x [] left e = absurd cc
 ended_left x (u ∷ rest) left e = cc
 
-ended_same : (x : SourceTree) {t : Token} {q q' ts us : List Token} → Same t q q' ts us → IsRefused (ended x us)
+ended_same : (x : SourceTree) {t : Token} {q q' ts us : List Token} → Same t q q' ts us → IsStuck (ended x us)
 ended_same x here = tt
 ended_same x (there s) = tt
 
-ended_goes : (t : Token) (q q' : List Token) (r r' : Answer SourceTree) → Goes t q q' r r' → (left : ℕ) → (r >>= λ x. ended x.0 x.1) ≡ Err (syntax left) → length q < left → IsRefused (r' >>= λ x. ended x.0 x.1)
+ended_goes : (t : Token) (q q' : List Token) (r r' : Answer SourceTree) → Goes t q q' r r' → (left : ℕ) → (r >>= λ x. ended x.0 x.1) ≡ Err (syntax left) → length q < left → IsStuck (r' >>= λ x. ended x.0 x.1)
 ended_goes t q q' (Ok x) r' (inl le) left e lt = let f = ended_left x.0 x.1 left e in absurd (omega arith)
-ended_goes t q q' (Ok x) r' (inr p) left e lt = subst (λ z. IsRefused (z >>= λ x. ended x.0 x.1)) (sym p.2) (ended_same x.0 p.1)
+ended_goes t q q' (Ok x) r' (inr p) left e lt = subst (λ z. IsStuck (z >>= λ x. ended x.0 x.1)) (sym p.2) (ended_same x.0 p.1)
 ended_goes t q q' (Err (syntax l)) r' (inl le) left e lt = let f : l ≡ left = cc in absurd (omega arith)
 ended_goes t q q' (Err (syntax l)) (Ok x) (inr h) left e lt = absurd h
-ended_goes t q q' (Err (syntax l)) (Err w) (inr h) left e lt = tt
+ended_goes t q q' (Err (syntax l)) (Err (syntax k)) (inr h) left e lt = tt
+ended_goes t q q' (Err (syntax l)) (Err (too_deep k)) (inr h) left e lt = absurd h
 ended_goes t q q' (Err (too_deep l)) r' h left e lt = absurd cc
 
 -- A text that begins with the tokens up to the one where reading stopped, and with it, is refused too.
-pub whole_steady : (t : Token) (q q' ts us : List Token) → Same t q q' ts us → (left : ℕ) → whole_at ts ≡ Err (syntax left) → length q < left → IsRefused (whole_at us)
+pub whole_steady : (t : Token) (q q' ts us : List Token) → Same t q q' ts us → (left : ℕ) → whole_at ts ≡ Err (syntax left) → length q < left → IsStuck (whole_at us)
 unfolding whole_at
 whole_steady t q q' ts us s left e lt = ended_goes t q q' (file_at ts) (file_at us) (file_steady.local t q q' ts us s) left e lt

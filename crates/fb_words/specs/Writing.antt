@@ -104,3 +104,15 @@ type_of m.Uint = Some t.Uint
 type_of m.Udint = Some t.Udint
 type_of m.Time = Some t.Time
 type_of k = None
+
+-- the name of a type
+abbrev pub type_name : ElemType → List ℕ
+type_name t.Bool = codes "BOOL"
+type_name t.Sint = codes "SINT"
+type_name t.Int = codes "INT"
+type_name t.Dint = codes "DINT"
+type_name t.Lint = codes "LINT"
+type_name t.Usint = codes "USINT"
+type_name t.Uint = codes "UINT"
+type_name t.Udint = codes "UDINT"
+type_name t.Time = codes "TIME"

@@ -1,5 +1,7 @@
 //! The types of single values.
 
+ghost use Rattle.std.specs.Prelude.{◌≡◌};
+
 /// The type of a single value: IEC 61131-3 edition 3, 6.4.2 (elementary data types), the part that this profile has.
 #[derive(Clone, Copy, Debug, PartialEq, Eq)]
 pub enum ElemType {
@@ -21,4 +23,38 @@ pub enum ElemType {
     Udint,
     /// Milliseconds, signed, 64 bits.
     Time,
+}
+
+/// All types.
+pub const TYPES: [ElemType; 9] = [
+    ElemType::Bool,
+    ElemType::Sint,
+    ElemType::Int,
+    ElemType::Dint,
+    ElemType::Lint,
+    ElemType::Usint,
+    ElemType::Uint,
+    ElemType::Udint,
+    ElemType::Time,
+];
+
+impl ElemType {
+    ghost use Rattle.fb_words.specs.Writing.{type_name};
+
+    /// The type's name, in upper case.
+    pub fn name(self) -> &'static str
+        ensures { result.now ≡ type_name self }
+    {
+        match self {
+            ElemType::Bool => "BOOL",
+            ElemType::Sint => "SINT",
+            ElemType::Int => "INT",
+            ElemType::Dint => "DINT",
+            ElemType::Lint => "LINT",
+            ElemType::Usint => "USINT",
+            ElemType::Uint => "UINT",
+            ElemType::Udint => "UDINT",
+            ElemType::Time => "TIME",
+        }
+    }
 }

@@ -1,8 +1,10 @@
-//! The closed lists that texts and definitions share: signs, reserved words and element types.
+//! The closed lists that texts and definitions share: signs, reserved words, element types and operators.
 #![tactic(auto)]
 
 mod elem_type;
 mod mark;
+mod operator;
 
-pub use elem_type::ElemType;
+pub use elem_type::{ElemType, TYPES};
 pub use mark::{Mark, SIGNS, WORDS};
+pub use operator::{Operation, Operator};
