@@ -1,0 +1,91 @@
+//! Literals.
+
+ghost use Rattle.std.specs.Prelude.{◌≡◌};
+ghost use Rattle.fb_lex.specs.Views.{tokens_of};
+ghost use Rattle.fb_model.specs.StructuredTextGrammar.{begins_number};
+ghost use Rattle.fb_read.specs.Answers.{Gives};
+ghost use Rattle.st_tree.specs.Views.{expr_of};
+ghost use Rattle.st_expr.specs.Reading.{begins_name, marked_at, literal_at, signed_at};
+
+use fb_lex::{Kind, Token};
+use fb_read::Stop;
+use fb_words::Mark;
+use st_tree::{Constant, Expr, Literal};
+
+/// Whether a name stands next.
+pub fn begins_name(tokens: &[Token]) -> bool
+    ensures { result ≡ begins_name (tokens_of tokens.now) }
+{
+    match tokens {
+        [] => false,
+        [token, ..] => matches!(&token.kind, Kind::Name(_)),
+    }
+}
+
+/// Whether a number without a type stands next.
+pub fn begins_number(tokens: &[Token]) -> bool
+    ensures { result ≡ begins_number (tokens_of tokens.now) }
+{
+    match tokens {
+        [] => false,
+        [token, ..] => matches!(&token.kind, Kind::Number(_)),
+    }
+}
+
+/// The literal that stands next.
+#[tactic(auto, unfolding(crate::specs::Reading::literal_at))]
+pub fn literal(tokens: &[Token]) -> Result<(Expr, &[Token]), Stop>
+    ensures { Gives (λ x. (expr_of x.0, tokens_of x.1.now)) result (literal_at (tokens_of tokens.now)) }
+{
+    match tokens {
+        [] => Err(Stop::Syntax(0)),
+        [token, rest @ ..] => match &token.kind {
+            Kind::Name(_) => Err(Stop::Syntax(tokens.len())),
+            Kind::Number(size) => Ok((plain(Literal::Whole(false, *size), token.start), rest)),
+            Kind::Typed(of, negative, size) => {
+                Ok((
+                    plain(Literal::Typed(*of, *negative, *size), token.start),
+                    rest,
+                ))
+            }
+            Kind::Duration(negative, size) => {
+                Ok((
+                    plain(Literal::Duration(*negative, *size), token.start),
+                    rest,
+                ))
+            }
+            Kind::Mark(mark) => marked(*mark, token.start, rest),
+        },
+    }
+}
+
+fn plain(value: Literal, at: usize) -> Expr
+    ensures { result ≡ Expr.Literal (record { value = value; at = at }) }
+{
+    Expr::Literal(Constant { value, at })
+}
+
+// TRUE or FALSE, before the tokens that are left.
+fn marked(mark: Mark, at: usize, tokens: &[Token]) -> Result<(Expr, &[Token]), Stop>
+    ensures { Gives (λ x. (expr_of x.0, tokens_of x.1.now)) result (marked_at mark at (tokens_of tokens.now)) }
+{
+    match mark {
+        Mark::True => Ok((plain(Literal::Truth(true), at), tokens)),
+        Mark::False => Ok((plain(Literal::Truth(false), at), tokens)),
+        _ => Err(Stop::Syntax(tokens.len() + 1)),
+    }
+}
+
+/// The number that stands behind its sign.
+#[tactic(auto, unfolding(crate::specs::Reading::signed_at))]
+pub fn signed(tokens: &[Token]) -> Result<(Expr, &[Token]), Stop>
+    ensures { Gives (λ x. (expr_of x.0, tokens_of x.1.now)) result (signed_at (tokens_of tokens.now)) }
+{
+    match tokens {
+        [] => Err(Stop::Syntax(0)),
+        [token, rest @ ..] => match &token.kind {
+            Kind::Number(size) => Ok((plain(Literal::Whole(true, *size), token.start), rest)),
+            _ => Err(Stop::Syntax(tokens.len())),
+        },
+    }
+}

@@ -1,0 +1,10 @@
+pub mod Loops
+pub mod Whiles
+pub mod Labels
+pub mod Sound
+pub mod Shorter
+pub mod Complete
+pub mod Steady
+pub mod Places
+pub mod Laws
+pub mod Faults

@@ -1,0 +1,12 @@
+//! Algorithms of Structured Text read to trees.
+#![tactic(auto)]
+
+mod algorithm;
+mod label;
+mod statement;
+#[cfg(test)]
+mod tests;
+
+pub use algorithm::{body, one_algorithm, parse_algorithm};
+pub use st_expr::parse_expr;
+pub use st_tree::{Arm, Branch, Constant, Expr, Label, Link, Literal, Stmt};

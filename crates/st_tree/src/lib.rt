@@ -1,0 +1,10 @@
+//! Source trees of Structured Text: literals, expressions and statements.
+#![tactic(auto)]
+
+mod expression;
+mod literal;
+mod statement;
+
+pub use expression::{Expr, Link};
+pub use literal::{Constant, Literal};
+pub use statement::{Arm, Branch, Label, Stmt};
