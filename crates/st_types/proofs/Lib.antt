@@ -1,0 +1,16 @@
+pub mod Widening
+pub mod Scopes
+pub mod Conversions
+pub mod Chains
+pub mod Steps
+pub mod Arguments
+pub mod Rules
+pub mod Refusals
+pub mod Elaboration
+pub mod Wrongs
+pub mod Gathering
+pub mod Loops
+pub mod Plain
+pub mod Commands
+pub mod Misdoings
+pub mod Resolved

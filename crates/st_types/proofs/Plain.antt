@@ -1,0 +1,79 @@
+-- Chains are no numbers, and branches and arms a part at a time.
+use Rattle.std.proofs.Common.{◌≡◌, ◌≢◌, ℕ, ℤ, true, false, List, [], ◌∷◌, length, map, Ok, refl, sym, ap, subst, ◌∙◌, rules, Vec, arith}
+use Rattle.std.proofs.lemmas.Bool.{eq-eqb}
+use Rattle.std.specs.declared.alloc.Global.{Global}
+use Rattle.fb_model.specs.StructuredText.{Expression, binary, Link, grouped, statements}
+use Rattle.fb_model.specs.StructuredText as text
+use Rattle.fb_words.specs.declared.elem_type.ElemType.TheVariants as t
+use Rattle.fb_model.specs.Names.{Name}
+use Rattle.fb_model.specs.TypedText.{Term, Commands}
+use Rattle.fb_model.specs.TextTyping.{Entry, is_plain}
+use Rattle.st_types.specs.declared.fault.TypingFault.{TypingFault}
+use Rattle.st_types.specs.declared.term.TypedExpr.{TypedExpr}
+use Rattle.st_types.specs.declared.command.TypedStmt.{TypedStmt}
+use Rattle.st_types.specs.declared.command.TypedStmt as typed
+use Rattle.st_types.specs.declared.command.TypedBranch.{roll-TypedBranch}
+use Rattle.st_types.specs.declared.command.TypedArm.{roll-TypedArm}
+use Rattle.st_types.specs.Answers.{Fails}
+use Rattle.st_types.specs.Elaborating.{◌>>=◌, asked}
+use Rattle.st_types.specs.Commanding.{all_commanded, one_chosen}
+use Rattle.st_types.specs.Views.{term_of}
+use Rattle.st_types.specs.CommandViews.{Chosen, commands_of, choice_of, case_of}
+use Rattle.st_types.proofs.Steps.{fails_then}
+use denote.Param.Weighed.{most}
+use Rattle.std.specs.Prelude.{◌+◌, ◌≤◌, Option}
+use Rattle.fb_read.specs.declared.token.Name.{Name as Name_}
+use Rattle.st_tree.specs.declared.expression.Expr.{Expr}
+use Rattle.st_tree.specs.declared.literal.Constant.{Constant}
+use Rattle.st_tree.specs.declared.statement.Stmt as source_stmt
+use Rattle.st_tree.proofs.statement.Stmt.TheLaws.{the_size as stmt_size}
+use Rattle.st_tree.specs.declared.expression.Link as source
+use Rattle.std.specs.Vec.{vec_len}
+use Rattle.std.specs.Prelude.{◌==◌}
+use Rattle.st_tree.specs.declared.statement.Stmt.{Stmt, the_lemmas}
+use Rattle.st_tree.specs.declared.statement.Branch.{Branch}
+use Rattle.st_tree.specs.declared.statement.Arm.{Arm}
+use Rattle.st_tree.specs.Views.{expr_of, branch_of, arm_of, label_of, body_of, link_of}
+
+operation_is_none : (l : Link) (x : Expression) (ls : List Link) → is_plain (grouped (binary l.0 l.1 x l.2) ls) ≡ false
+operation_is_none l x [] = refl
+operation_is_none l x (k ∷ ls) = operation_is_none k (binary l.0 l.1 x l.2) ls
+
+-- some operations make no number
+pub chain_is_none : (x : Expression) (ls : List Link) → (length ls ≡ 0 → ⊥) → is_plain (grouped x ls) ≡ false
+chain_is_none x [] h = absurd (h refl)
+chain_is_none x (l ∷ ls) h = operation_is_none l x ls
+
+pub view_branch : (b : Branch) → branch_of b ≡ (b.at, expr_of b.condition, body_of b.body.items)
+view_branch b = search (rules, the_lemmas)
+
+pub view_arm : (a : Arm) → arm_of a ≡ (map label_of a.labels.items, body_of a.body.items)
+view_arm a = search (rules, the_lemmas)
+
+some_links : (ls : List source.Link) → length ls ≢ 0 → length (map link_of ls) ≢ 0
+some_links [] h e = h e
+some_links (l ∷ ls) h e = absurd (omega (arith, e))
+
+pub links_left : (v : Vec source.Link Global) → (vec_len v == 0) ≡ false → length (map link_of v.items) ≡ 0 → ⊥
+links_left v h = some_links v.items (λ e. let f : vec_len v ≡ 0 = grind (arith, rules) in let g : (vec_len v == 0) ≡ true = eq-eqb (vec_len v) 0 f in cc)
+
+pub view_choice : (e : TypedExpr) (v : Vec TypedStmt Global) → choice_of (roll-TypedBranch (record { condition = e; body = v })) ≡ (term_of e, commands_of v.items)
+view_choice e v = search (rules, typed.the_lemmas)
+
+pub view_case : (ls : Vec (ℤ × ℤ) Global) (v : Vec TypedStmt Global) → case_of (roll-TypedArm (record { labels = ls; body = v })) ≡ (ls.items, commands_of v.items)
+view_case ls v = search (rules, typed.the_lemmas)
+
+-- ---- a condition and its body, step by step
+
+pub condition_fails : (env : List Entry) (busy : List Name) (s : ℕ) (e : Expression) (xs : text.Statements) (w : TypingFault) → Fails w (asked env t.Bool s e) → Fails w (one_chosen env busy (s, e, xs))
+condition_fails env busy s e xs w h = fails_then w (asked env t.Bool s e) (λ y. all_commanded env busy xs >>= λ c. Ok (y, c)) h
+
+pub body_fails : (env : List Entry) (busy : List Name) (s : ℕ) (e : Expression) (xs : text.Statements) (y : Term) (w : TypingFault) → asked env t.Bool s e ≡ Ok y → Fails w (all_commanded env busy xs) → Fails w (one_chosen env busy (s, e, xs))
+body_fails env busy s e xs y w h f = subst (λ r. Fails {Y = Chosen} w (r >>= λ y. all_commanded env busy xs >>= λ c. Ok (y, c))) (sym h) (fails_then w (all_commanded env busy xs) (λ c. Ok (y, c)) f)
+
+pub choice_is : (env : List Entry) (busy : List Name) (s : ℕ) (e : Expression) (xs : text.Statements) (y : Term) (c : Commands) → asked env t.Bool s e ≡ Ok y → all_commanded env busy xs ≡ Ok c → one_chosen env busy (s, e, xs) ≡ Ok (y, c)
+choice_is env busy s e xs y c h f = ap (λ r. r >>= λ y. all_commanded env busy xs >>= λ c. Ok (y, c)) h ∙ ap (λ r. r >>= λ c. Ok (y, c)) f
+
+-- the body of a FOR is smaller than the FOR
+pub for_size : (s : ℕ) (x : Name_) (a b : Expr) (c : Option Constant) (v : Vec Stmt Global) → most stmt_size v.items + 1 ≤ stmt_size (source_stmt.For s x a b c v)
+for_size s x a b c v = search (rules, the_lemmas)
