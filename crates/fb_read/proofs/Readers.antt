@@ -59,9 +59,19 @@ pub meets_as : {A : Type 0} {P : A → List Token → Type 0} (Q : A → List To
 meets_as Q (Ok x) h g = g x.0 x.1 h
 meets_as Q (Err e) h g = tt
 
+-- one way of reading or another
+pub meets_if : {A : Type 0} (P : A → List Token → Type 0) (b : Bool) (q r : Answer A) → Meets P q → Meets P r → Meets P (cond b q r)
+meets_if P true q r h g = h
+meets_if P false q r h g = g
+
 pub gets_then : {A B : Type 0} {Deep : Type 0} (f : A → Result B Wrong) (w : B) (r : Result A Wrong) (v : A) → Gets Deep r v → Gets Deep (f v) w → Gets Deep (r >>= f) w
 gets_then {Deep = Deep} f w r v (inl e) g = subst (λ q. Gets Deep (q >>= f) w) (sym e) g
 gets_then f w r v (inr p) g = inr (p.0, p.1, ap (λ q. q >>= f) p.2)
+
+-- what may be too deep for a reason may be so for a wider one
+pub gets_wider : {A : Type 0} {P Q : Type 0} (f : P → Q) (r : Result A Wrong) (v : A) → Gets P r v → Gets Q r v
+gets_wider f r v (inl e) = inl e
+gets_wider f r v (inr p) = inr (p.0, f p.1, p.2)
 
 pub shallow_then : {A B : Type 0} (f : A → Result B Wrong) (r : Result A Wrong) → NotDeep r → ((x : A) → NotDeep (f x)) → NotDeep (r >>= f)
 shallow_then f (Ok x) h g = g x

@@ -3,7 +3,7 @@ use Rattle.std.proofs.Common.{◌≡◌, ℕ, zero, suc, ◌<◌, ◌≤◌, Boo
 use Rattle.fb_words.specs.declared.mark.Mark.{Mark}
 use Rattle.fb_model.specs.Tokens.{Token, token, mark}
 use Rattle.fb_model.specs.Productions.{Gram, IsMany, none, more, IsSeparated, last, before, IsSection, absent, present}
-use Rattle.fb_read.specs.Reading.{Read, ◌>>=◌, is, next_is, after, expect, many_step, many_at, separated_step, separated_at, closed_at, section_at}
+use Rattle.fb_read.specs.Reading.{Read, ◌>>=◌, is, next_is, after, expect, many_step, many_at, while_step, while_at, separated_step, separated_at, closed_at, section_at}
 use Rattle.fb_read.proofs.Readers.{Meets, Sound, Gets, Complete, never, Shorter, Avoids, NotDeep, Shallow, meets_then, meets_as, gets_then, shallow_then, seen, some_left, expect_then, may_open, shallow_expect, shallow_if}
 
 -- items up to a mark, which is left
@@ -30,6 +30,15 @@ module _ {A : Type 0} (G : Gram A) (item : Read A) (sound : Sound G item) where
   unfolding many_at
   many_sound close zero ts = tt
   many_sound close (suc n) ts = many_turn close (many_at close item n) (many_sound close n) ts (next_is close ts) refl
+
+  while_turn : (others : Read (List A)) → Sound (IsMany G) others → (ts : List Token) (b : Bool) → Meets (IsMany G ts) (while_step item others b ts)
+  while_turn others h ts false = none
+  while_turn others h ts true = meets_then _ _ (item ts) (sound ts) (λ x mid p. meets_then _ _ (others mid) (h mid) (λ xs rest q. more p q))
+
+  pub while_sound : (begins : List Token → Bool) (n : ℕ) → Sound (IsMany G) (while_at begins item n)
+  unfolding while_at
+  while_sound begins zero ts = none
+  while_sound begins (suc n) ts = while_turn (while_at begins item n) (while_sound begins n) ts (begins ts)
 
   separated_turn : (k : Mark) (others : Read (List A)) → Sound (IsSeparated k G) others → (ts : List Token) (x : A) (mid : List Token) → G ts x mid → (b : Bool) → next_is k mid ≡ b → Meets (IsSeparated k G ts) (separated_step others x b mid)
   separated_turn k others h ts x mid p true e =
@@ -104,6 +113,25 @@ module _ {A : Type 0} (Deep : Type 0) (G : Gram A) (item : Read A) (short : Shor
   section_complete opening same_opening same ts xs rest absent st = inl (ap (λ b. cond b (closed_at close item (after ts)) (Ok ([], ts))) st)
   section_complete opening same_opening same ts xs rest (present {ts = mid} p) st =
       subst (λ b. Gets Deep (cond b (closed_at close item mid) (Ok ([], ts))) (xs, rest)) (sym same_opening) (closed_complete same mid xs rest (a_closed p) refl)
+
+-- What stands before items does not go on where an item begins, nor where none begins and the rest does not go on.
+pub stops_at : {A : Type 0} {G : Gram A} (begins goes_on : List Token → Bool) → ((ts : List Token) (x : A) (rest : List Token) → G ts x rest → begins ts ≡ true) → ((ts : List Token) → begins ts ≡ true → goes_on ts ≡ false)
+    → {ts rest : List Token} {xs : List A} → IsMany G ts xs rest → goes_on rest ≡ false → goes_on ts ≡ false
+stops_at begins goes_on first apart none st = st
+stops_at begins goes_on first apart (more {ts = ts} {mid = mid} {x = x} h t) st = apart ts (first ts x mid h)
+
+module _ {A : Type 0} (Deep : Type 0) (G : Gram A) (item : Read A) (short : Shorter G) (begins goes_on : List Token → Bool) (whole : Complete Deep goes_on G item)
+    (first : (ts : List Token) (x : A) (rest : List Token) → G ts x rest → begins ts ≡ true) (apart : (ts : List Token) → begins ts ≡ true → goes_on ts ≡ false) where
+  pub while_complete : (n : ℕ) (ts rest : List Token) (xs : List A) → length ts ≤ n → IsMany G ts xs rest → begins rest ≡ false → goes_on rest ≡ false → Gets Deep (while_at begins item n ts) (xs, rest)
+  unfolding while_at
+  while_complete zero ts rest xs le none e st = inl refl
+  while_complete zero ts rest xs le (more {mid = mid} {x = x} h t) e st = let a = short ts x mid h in absurd (omega arith)
+  while_complete (suc n) ts rest xs le none e st = inl (ap (λ b. while_step item (while_at begins item n) b ts) e)
+  while_complete (suc n) ts rest xs le (more {mid = mid} {x = x} {xs = ys} h t) e st =
+      let a = short ts x mid h in
+      let turn : Gets Deep (while_step item (while_at begins item n) true ts) (x ∷ ys, rest) =
+      gets_then _ _ (item ts) (x, mid) (whole ts x mid h (stops_at begins goes_on first apart t st)) (gets_then _ _ (while_at begins item n mid) (ys, rest) (while_complete n mid rest ys (omega arith) t e st) (inl refl)) in
+      subst (λ b. Gets Deep (while_step item (while_at begins item n) b ts) (x ∷ ys, rest)) (sym (first ts x mid h)) turn
 
 module _ {A : Type 0} (Deep : Type 0) (k : Mark) (G : Gram A) (item : Read A) (short : Shorter G) (goes_on : List Token → Bool) (whole : Complete Deep goes_on G item)
     (same : is k k ≡ true) (between : (s e : ℕ) (ts : List Token) → goes_on (token (mark k) s e ∷ ts) ≡ false) where

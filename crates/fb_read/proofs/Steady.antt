@@ -2,7 +2,8 @@
 use Rattle.std.proofs.Common.{◌≡◌, ℕ, suc, ◌≤◌, ◌⊎◌, Bool, true, false, cond, List, [], ◌∷◌, length, Result, Ok, Err, refl, sym, subst, arith, inl, inr}
 use Rattle.fb_words.specs.declared.mark.Mark.{Mark}
 use Rattle.fb_model.specs.Tokens.{Token, token, name, number, typed, duration, mark}
-use Rattle.fb_read.specs.Reading.{Wrong, syntax, too_deep, stuck, Answer, Read, ◌>>=◌, next_is, after, expect, place_at, name_at}
+use Rattle.fb_model.specs.StructuredTextGrammar.{begins_number}
+use Rattle.fb_read.specs.Reading.{Wrong, syntax, too_deep, stuck, Answer, Read, ◌>>=◌, next_is, after, expect, place_at, name_at, begins_name}
 
 -- two texts that are the same up to this token, with what stands behind it in each
 pub data Same (t : Token) (q q' : List Token) : List Token → List Token → Type 0 where
@@ -92,6 +93,10 @@ steady_done x = record { bounded = λ ts. omega arith; local = λ t q q' ts us s
 pub steady_stuck : {A : Type 0} → Steady {A = A} (λ ts. stuck ts)
 steady_stuck = record { bounded = λ ts. omega arith; local = λ t q q' ts us s. inr tt }
 
+-- too deep before the next token
+pub steady_deep : {A : Type 0} → Steady {A = A} (λ ts. Err (too_deep (length ts)))
+steady_deep = record { bounded = λ ts. omega arith; local = λ t q q' ts us s. inr tt }
+
 -- ---- the first token
 
 -- the token is taken, and what is read behind it
@@ -130,16 +135,49 @@ name_begins (token (mark k) s e) = inr (λ ts. refl)
 pub steady_name : Steady name_at
 steady_name = steady_head name_at (omega arith) name_begins
 
-head_next : (k : Mark) (t : Token) (a b : List Token) → next_is k (t ∷ a) ≡ next_is k (t ∷ b)
-head_next k (token (name x) s e) a b = refl
-head_next k (token (number n) s e) a b = refl
-head_next k (token (typed t c n) s e) a b = refl
-head_next k (token (duration c n) s e) a b = refl
-head_next k (token (mark l) s e) a b = refl
+-- ---- tests of the first token
+
+-- The test sees no more than the first token.
+abbrev pub SeesFirst : (List Token → Bool) → Type 0
+SeesFirst test = (t : Token) (q q' ts us : List Token) → Same t q q' ts us → test ts ≡ test us
+
+pub sees_first : (test : List Token → Bool) → ((t : Token) (a b : List Token) → test (t ∷ a) ≡ test (t ∷ b)) → SeesFirst test
+sees_first test h t q q' ts us here = h t q q'
+sees_first test h t q q' ts us (there {u = u} {ts = ts'} {us = us'} s) = h u ts' us'
+
+pub next_sees : (k : Mark) → SeesFirst (next_is k)
+next_sees k = sees_first (next_is k) by where
+  by : (t : Token) (a b : List Token) → next_is k (t ∷ a) ≡ next_is k (t ∷ b)
+  by (token (name x) s e) a b = refl
+  by (token (number n) s e) a b = refl
+  by (token (typed t c n) s e) a b = refl
+  by (token (duration c n) s e) a b = refl
+  by (token (mark l) s e) a b = refl
+
+pub name_sees : SeesFirst begins_name
+name_sees = sees_first begins_name by where
+  by : (t : Token) (a b : List Token) → begins_name (t ∷ a) ≡ begins_name (t ∷ b)
+  by (token (name x) s e) a b = refl
+  by (token (number n) s e) a b = refl
+  by (token (typed t c n) s e) a b = refl
+  by (token (duration c n) s e) a b = refl
+  by (token (mark k) s e) a b = refl
+
+pub number_sees : SeesFirst begins_number
+number_sees = sees_first begins_number by where
+  by : (t : Token) (a b : List Token) → begins_number (t ∷ a) ≡ begins_number (t ∷ b)
+  by (token (name x) s e) a b = refl
+  by (token (number n) s e) a b = refl
+  by (token (typed t c n) s e) a b = refl
+  by (token (duration c n) s e) a b = refl
+  by (token (mark k) s e) a b = refl
+
+-- this mark, or what another test sees
+pub either_sees : (k : Mark) (test : List Token → Bool) → SeesFirst test → SeesFirst (λ ts. cond (next_is k ts) true (test ts))
+either_sees k test h t q q' ts us s = rw (next_sees k t q q' ts us s, h t q q' ts us s) refl
 
 pub same_next : (k : Mark) {t : Token} {q q' ts us : List Token} → Same t q q' ts us → next_is k ts ≡ next_is k us
-same_next k {t = t} {q = q} {q' = q'} here = head_next k t q q'
-same_next k (there {u = u} {ts = ts} {us = us} s) = head_next k u ts us
+same_next k {t = t} {q = q} {q' = q'} {ts = ts} {us = us} s = next_sees k t q q' ts us s
 
 head_place : (t : Token) (a b : List Token) → place_at (t ∷ a) ≡ place_at (t ∷ b)
 head_place (token k s e) a b = refl
@@ -158,8 +196,9 @@ steady_after {A} g h = record { bounded = bounded; local = local } where
   local t q q' ts us here = past t q q' (g q) (g q') (h.bounded q)
   local t q q' ts us (there {ts = ts'} {us = us'} s) = h.local t q q' ts' us' s
 
-pub steady_choice : {A : Type 0} (k : Mark) (g h : Read A) → Steady g → Steady h → Steady (λ ts. cond (next_is k ts) (g ts) (h ts))
-steady_choice {A} k g h sg sh = record { bounded = λ ts. bounded (next_is k ts) ts; local = λ t q q' ts us s. subst (λ b. Goes t q q' (cond (next_is k ts) (g ts) (h ts)) (cond b (g us) (h us))) (same_next k s) (local (next_is k ts) t q q' ts us s) } where
+-- a test decides how reading goes on
+pub steady_test : {A : Type 0} (test : List Token → Bool) → SeesFirst test → (g h : Read A) → Steady g → Steady h → Steady (λ ts. cond (test ts) (g ts) (h ts))
+steady_test {A} test sees g h sg sh = record { bounded = λ ts. bounded (test ts) ts; local = λ t q q' ts us s. subst (λ b. Goes t q q' (cond (test ts) (g ts) (h ts)) (cond b (g us) (h us))) (sees t q q' ts us s) (local (test ts) t q q' ts us s) } where
   bounded : (b : Bool) (ts : List Token) → Within (length ts) (cond b (g ts) (h ts))
   bounded true ts = sg.bounded ts
   bounded false ts = sh.bounded ts
@@ -167,6 +206,9 @@ steady_choice {A} k g h sg sh = record { bounded = λ ts. bounded (next_is k ts)
   local : (b : Bool) (t : Token) (q q' ts us : List Token) → Same t q q' ts us → Goes t q q' (cond b (g ts) (h ts)) (cond b (g us) (h us))
   local true t q q' ts us s = sg.local t q q' ts us s
   local false t q q' ts us s = sh.local t q q' ts us s
+
+pub steady_choice : {A : Type 0} (k : Mark) (g h : Read A) → Steady g → Steady h → Steady (λ ts. cond (next_is k ts) (g ts) (h ts))
+steady_choice k g h sg sh = steady_test (next_is k) (next_sees k) g h sg sh
 
 pub steady_if : {A : Type 0} (k : Mark) (g h : Read A) → Steady g → Steady h → Steady (λ ts. cond (next_is k ts) (g (after ts)) (h ts))
 steady_if k g h sg sh = steady_choice k (λ ts. g (after ts)) h (steady_after g sg) sh

@@ -3,9 +3,9 @@ use Rattle.std.proofs.Common.{◌≡◌, ℕ, zero, suc, ◌<◌, ◌≤◌, Boo
 use Rattle.fb_words.specs.declared.mark.Mark.{Mark}
 use Rattle.fb_model.specs.Tokens.{Token}
 use Rattle.fb_model.specs.Productions.{Gram}
-use Rattle.fb_read.specs.Reading.{Read, next_is, after, many_step, many_at, separated_step, separated_at, items_at, list_at, closed_at, section_at}
+use Rattle.fb_read.specs.Reading.{Read, next_is, after, many_step, many_at, while_step, while_at, separated_step, separated_at, items_at, all_at, list_at, closed_at, section_at}
 use Rattle.fb_read.proofs.Readers.{Meets, Sound, Shorter}
-use Rattle.fb_read.proofs.Steady.{Same, here, there, Within, Goes, Steady, within_more, within_then, past, goes_then, same_next, steady_then, steady_done, steady_if, steady_expect}
+use Rattle.fb_read.proofs.Steady.{Same, here, there, Within, Goes, Steady, within_more, within_then, past, goes_then, SeesFirst, same_next, steady_then, steady_done, steady_if, steady_expect}
 
 -- Something is taken by each tree that is read.
 abbrev pub Shrinks : {A : Type 0} → Read A → Type 0
@@ -64,6 +64,30 @@ module _ {A : Type 0} (item : Read A) (steady : Steady item) (shrinks : Shrinks 
 
   pub steady_items : (close : Mark) → Steady (items_at close item)
   steady_items close = record { bounded = λ ts. many_within close (length ts) ts; local = λ t q q' ts us s. many_alike close (length ts) (length us) t q q' ts us (omega arith) (omega arith) s }
+
+  while_turn_within : (others : Read (List A)) → Bounded others → (ts : List Token) (b : Bool) → Within (length ts) (while_step item others b ts)
+  while_turn_within others w ts false = many_turn_within others w ts true
+  while_turn_within others w ts true = many_turn_within others w ts false
+
+  while_within : (begins : List Token → Bool) (n : ℕ) → Bounded (while_at begins item n)
+  unfolding while_at
+  while_within begins zero ts = omega arith
+  while_within begins (suc n) ts = while_turn_within (while_at begins item n) (while_within begins n) ts (begins ts)
+
+  while_turn_alike : (n n' : ℕ) (others others' : Read (List A)) → Bounded others → Alike n n' others others' → (b : Bool) → Alike (suc n) (suc n') (while_step item others b) (while_step item others' b)
+  while_turn_alike n n' others others' w h false = many_turn_alike n n' others others' w h true
+  while_turn_alike n n' others others' w h true = many_turn_alike n n' others others' w h false
+
+  while_alike : (begins : List Token → Bool) → SeesFirst begins → (n n' : ℕ) → Alike n n' (while_at begins item n) (while_at begins item n')
+  unfolding while_at
+  while_alike begins sees zero n' t q q' ts us le le' s = let a = some_first s in absurd (omega arith)
+  while_alike begins sees (suc n) zero t q q' ts us le le' s = let a = some_second s in absurd (omega arith)
+  while_alike begins sees (suc n) (suc n') t q q' ts us le le' s =
+      subst (λ b. Goes t q q' (while_step item (while_at begins item n) (begins ts) ts) (while_step item (while_at begins item n') b us)) (sees t q q' ts us s)
+      (while_turn_alike n n' (while_at begins item n) (while_at begins item n') (while_within begins n) (while_alike begins sees n n') (begins ts) t q q' ts us le le' s)
+
+  pub steady_all : (begins : List Token → Bool) → SeesFirst begins → Steady (all_at begins item)
+  steady_all begins sees = record { bounded = λ ts. while_within begins (length ts) ts; local = λ t q q' ts us s. while_alike begins sees (length ts) (length us) t q q' ts us (omega arith) (omega arith) s }
 
   separated_turn_within : (n : ℕ) (others : Read (List A)) → Bounded others → (x : A) (mid : List Token) → length mid ≤ n → (b : Bool) → Within n (separated_step others x b mid)
   separated_turn_within n others w x mid le true =

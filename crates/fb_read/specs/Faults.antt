@@ -15,6 +15,19 @@ start_or end (token k s e ∷ ts) = s
 abbrev pub offset_of : ℕ → List Token → ℕ → ℕ
 offset_of end ts left = start_or end (drop (length ts - left) ts)
 
+-- where a token begins
+abbrev pub start_of : Token → ℕ
+start_of (token k s e) = s
+
+-- where the last token ends, or this where there is none
+abbrev pub end_or : ℕ → List Token → ℕ
+end_or end [] = end
+end_or end (token k s e ∷ ts) = end_or e ts
+
+-- where the tokens end, or 0 where there are none
+abbrev pub end_of : List Token → ℕ
+end_of ts = end_or 0 ts
+
 -- the fault is of the stop's kind, and at its place
 abbrev pub Says : ℕ → List Token → Stop → TextFault → Type 0
 Says end ts Memory faults.OutOfMemory = Unit {0}

@@ -54,6 +54,12 @@ name_at [] = stuck []
 name_at (token (name text) s e ∷ ts) = Ok (record { text = text; at = s }, ts)
 name_at (token other s e ∷ ts) = stuck (token other s e ∷ ts)
 
+-- whether a name stands next
+abbrev pub begins_name : List Token → Bool
+begins_name [] = false
+begins_name (token (name x) s e ∷ ts) = true
+begins_name (token other s e ∷ ts) = false
+
 -- ---- lists
 
 abbrev pub many_step : {A : Type 0} → Read A → Read (List A) → Bool → Read (List A)
@@ -68,6 +74,19 @@ unfoldable pub many_at : {A : Type 0} → Mark → Read A → ℕ → Read (List
 many_at close item zero ts = stuck ts
 many_at close item (suc n) ts = many_step item (many_at close item n) (next_is close ts) ts
 
+-- one more item and the others, where one begins
+abbrev pub while_step : {A : Type 0} → Read A → Read (List A) → Bool → Read (List A)
+while_step item others false ts = Ok ([], ts)
+while_step item others true ts = do
+  x ← item ts
+  xs ← others x.1
+  Ok (x.0 ∷ xs.0, xs.1)
+
+-- items as long as one begins; the number bounds the turns
+unfoldable pub while_at : {A : Type 0} → (List Token → Bool) → Read A → ℕ → Read (List A)
+while_at begins item zero ts = Ok ([], ts)
+while_at begins item (suc n) ts = while_step item (while_at begins item n) (begins ts) ts
+
 abbrev pub separated_step : {A : Type 0} → Read (List A) → A → Bool → Read (List A)
 separated_step others x true ts = others (after ts) >>= λ xs. Ok (x ∷ xs.0, xs.1)
 separated_step others x false ts = Ok (x ∷ [], ts)
@@ -80,6 +99,9 @@ separated_at separator item (suc n) ts = item ts >>= λ x. separated_step (separ
 -- as many items as there are tokens at the most
 abbrev pub items_at : {A : Type 0} → Mark → Read A → Read (List A)
 items_at close item ts = many_at close item (length ts) ts
+
+abbrev pub all_at : {A : Type 0} → (List Token → Bool) → Read A → Read (List A)
+all_at begins item ts = while_at begins item (length ts) ts
 
 abbrev pub list_at : {A : Type 0} → Mark → Read A → Read (List A)
 list_at separator item ts = separated_at separator item (length ts) ts
@@ -94,3 +116,14 @@ closed_at close item ts = do
 -- [opening {item} closing]
 unfoldable pub section_at : {A : Type 0} → Mark → Mark → Read A → Read (List A)
 section_at opening closing item ts = if next_is opening ts then closed_at closing item (after ts) else Ok ([], ts)
+
+-- ---- all of the tokens
+
+-- what was read, where nothing is left
+abbrev pub ended : {A : Type 0} → A → List Token → Result A Wrong
+ended x [] = Ok x
+ended x (t ∷ ts) = stuck (t ∷ ts)
+
+-- what all of the tokens are
+abbrev pub whole_of : {A : Type 0} → Read A → List Token → Result A Wrong
+whole_of read ts = read ts >>= λ x. ended x.0 x.1

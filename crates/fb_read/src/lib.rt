@@ -7,4 +7,4 @@ mod token;
 
 pub use items::{Item, closed, many, section, separated};
 pub use stop::Stop;
-pub use token::{Name, expect, next_is, place, read_name};
+pub use token::{Name, begins_name, begins_number, end_of, expect, next_is, place, read_name};

@@ -2,8 +2,10 @@
 
 ghost use Rattle.std.specs.Prelude.{◌≡◌, ◌<◌, length, OnOk};
 ghost use Rattle.fb_lex.specs.Views.{tokens_of};
-ghost use Rattle.fb_read.specs.Reading.{next_is, expect, name_at, place_at};
+ghost use Rattle.fb_model.specs.StructuredTextGrammar.{begins_number};
+ghost use Rattle.fb_read.specs.Reading.{next_is, expect, name_at, begins_name, place_at};
 ghost use Rattle.fb_read.specs.Answers.{Gives, word_of};
+ghost use Rattle.fb_read.specs.Faults.{end_of};
 
 use crate::stop::Stop;
 use fb_lex::{Kind, Token};
@@ -47,6 +49,36 @@ pub fn place(tokens: &[Token]) -> usize
     match tokens {
         [] => 0,
         [token, ..] => token.start,
+    }
+}
+
+/// Where the last token ends, or 0 where there is none.
+pub fn end_of(tokens: &[Token]) -> usize
+    ensures { result ≡ end_of (tokens_of tokens.now) }
+{
+    match tokens.last() {
+        Some(token) => token.end,
+        None => 0,
+    }
+}
+
+/// Whether a name stands next.
+pub fn begins_name(tokens: &[Token]) -> bool
+    ensures { result ≡ begins_name (tokens_of tokens.now) }
+{
+    match tokens {
+        [] => false,
+        [token, ..] => matches!(&token.kind, Kind::Name(_)),
+    }
+}
+
+/// Whether a number without a type stands next.
+pub fn begins_number(tokens: &[Token]) -> bool
+    ensures { result ≡ begins_number (tokens_of tokens.now) }
+{
+    match tokens {
+        [] => false,
+        [token, ..] => matches!(&token.kind, Kind::Number(_)),
     }
 }
 

@@ -1,5 +1,5 @@
 -- What is in the grammar is read.
-use Rattle.std.proofs.Common.{◌≡◌, ℕ, zero, suc, ◌<◌, Bool, true, false, cond, List, [], ◌∷◌, length, Some, None, is_some, Result, Ok, Err, refl, sym, ap, subst, ◌∙◌, arith, inl, inr}
+use Rattle.std.proofs.Common.{◌≡◌, ℕ, zero, suc, ◌<◌, Bool, true, false, cond, List, [], ◌∷◌, length, Some, None, is_some, Ok, Err, refl, sym, ap, subst, ◌∙◌, arith, inl, inr}
 use Rattle.std.specs.Prelude.{◌==◌, nat_le}
 use Rattle.std.proofs.lemmas.Bool.{eqb-true, eq-eqb, leb-false, lt-leb}
 use Rattle.fb_words.specs.declared.mark.Mark.{Mark}
@@ -10,13 +10,12 @@ use Rattle.fb_model.specs.Productions.{Gram, Word, a_name, IsSeparated, last, be
 use Rattle.fb_model.specs.Trees.{Whole}
 use Rattle.fb_model.specs.StructuredText.{Expression, literal, variable, element, call, negative, inverse, expressions, Link}
 use Rattle.fb_model.specs.StructuredTextGrammar.{IsOperator, times, over, modulo, plus, minus, less, greater, less_equal, greater_equal, equal, not_equal, and_word, and_sign, xor_word, or_word, levels, IsLink, a_link, IsChain, a_chain, IsLevel, plain, with_type, time, yes, no, begins_number, IsOperand, a_literal, a_variable, an_element, a_call, in_parentheses, a_negative, a_minus, a_not, IsNested, IsExpression}
-use Rattle.fb_read.specs.Reading.{Wrong, too_deep, stuck, Answer, Read, ◌>>=◌, is, next_is, expect, list_at}
-use Rattle.fb_read.proofs.Readers.{Gets, Complete, Shorter, gets_then}
-use Rattle.fb_read.proofs.Repetitions.{many_shrinks, separated_shorter, separated_complete}
+use Rattle.fb_read.specs.Reading.{too_deep, stuck, Answer, Read, ◌>>=◌, is, next_is, expect, list_at}
+use Rattle.fb_read.proofs.Readers.{Gets, Complete, Shorter, gets_then, gets_wider}
+use Rattle.fb_read.proofs.Repetitions.{many_shrinks, separated_shorter, stops_at, while_complete, separated_complete}
 use Rattle.st_expr.specs.declared.operator.Role.{Role}
 use Rattle.st_expr.specs.declared.operator.Role.TheVariants.{Infix, Opener, Other}
 use Rattle.st_expr.specs.Reading.{role, goes_on, continues, of_level, operator_at, begins_link, link_step, link_at, links_at, chain_at, level_at, opened_at, literal_at, signed_at, negative_at, inverse_at, parentheses_at, element_at, call_at, named_at, operand_of, nested_at, expression_at}
-use Rattle.st_expr.proofs.Runs.{Follows, run_stands, run_complete}
 
 -- ---- what an expression may stand before
 
@@ -170,15 +169,12 @@ module _ (Deep : Type 0) (level : ℕ) (G : Gram Expression) (item : Read Expres
   link_begins : (ts : List Token) (x : Link) (rest : List Token) → IsLink level G ts x rest → begins_link level ts ≡ true
   link_begins ts x rest (a_link {k = k} {s = s} {e = e} {ts = ts'} {o = q} p h) = ap is_some (operator_found level k q s e ts' p)
 
-  link_follows : Follows (IsLink level G) (begins_link level) (goes_below level) (goes_below (suc level))
-  link_follows = record { first = link_begins; apart = λ ts h. ap is_some (none_at level ts h); again = link_stands level; ends = below_less level }
-
   chain_complete : Complete Deep (goes_below (suc level)) (IsChain level G) (chain_at level item)
   unfolding chain_at
   chain_complete ts v rest (a_chain {mid = mid} {x = x} {links = links} h t) st =
-      gets_then _ _ (item ts) (x, mid) (whole ts x mid h (run_stands (IsLink level G) (begins_link level) (goes_below level) (goes_below (suc level)) link_follows mid rest links t st))
+      gets_then _ _ (item ts) (x, mid) (whole ts x mid h (stops_at (begins_link level) (goes_below level) link_begins (link_stands level) t (below_less level rest st)))
       (gets_then _ _ (links_at level item mid) (links, rest)
-      (run_complete Deep (IsLink level G) (link_at level item) (begins_link level) (goes_below level) (goes_below (suc level)) link_complete (link_shorter level G short) link_follows (length mid) mid rest links (omega arith) t st) (inl refl))
+      (while_complete Deep (IsLink level G) (link_at level item) (link_shorter level G short) (begins_link level) (goes_below level) link_complete link_begins (link_stands level) (length mid) mid rest links (omega arith) t (ap is_some (none_at level rest st)) (below_less level rest st)) (inl refl))
 
 level_complete : (Deep : Type 0) (G : Gram Expression) (item : Read Expression) → Complete Deep (goes_below 0) G item → Shorter G → (level : ℕ) → Complete Deep (goes_below level) (IsLevel G level) (level_at item level)
 unfolding level_at
@@ -271,10 +267,6 @@ module _ (Deep : Type 0) (G : Gram Expression) (inner : Read Expression) (depth 
   operand_complete ts v rest (a_minus {s = s} {e = e} {ts = ts'} {x = x} d h) st = minus_complete s e ts' rest x d h st
   operand_complete ts v rest (a_not {s = s} {e = e} {ts = ts'} {x = x} h) st = not_complete s e ts' rest x h st
 
-weaken : {A : Type 0} {P Q : Type 0} (f : P → Q) (r : Result A Wrong) (v : A) → Gets P r v → Gets Q r v
-weaken f r v (inl e) = inl e
-weaken f r v (inr p) = inr (p.0, f p.1, p.2)
-
 -- an operand that nests n deep is read within the depth, or the depth is smaller
 nested_complete : (n depth : ℕ) → Complete (depth < n) (goes_below 0) (IsNested (suc n)) (nested_at (suc depth))
 unfolding nested_at
@@ -284,7 +276,7 @@ nested_complete (suc n) zero ts x rest h st =
     operand_complete (0 < suc n) (IsNested (suc n)) (nested_at 0) 0 (λ lt. absurd (omega (arith, lt))) (λ z us y end g. omega arith) (nested_shorter (suc n)) ts x rest h st
 nested_complete (suc n) (suc depth) ts x rest h st =
     operand_complete (suc depth < suc n) (IsNested (suc n)) (nested_at (suc depth)) (suc depth)
-    (λ lt us y end g st'. weaken (λ p. omega (arith, p)) (nested_at (suc depth) us) (y, end) (nested_complete n depth us y end g st'))
+    (λ lt us y end g st'. gets_wider (λ p. omega (arith, p)) (nested_at (suc depth) us) (y, end) (nested_complete n depth us y end g st'))
     (λ z. absurd (omega (arith, z))) (nested_shorter (suc n)) ts x rest h st
 
 -- An expression that nests n deep is read within the depth, or the depth is smaller.

@@ -1,5 +1,5 @@
 -- Where the nesting is at its end, a token stands that opens one more.
-use Rattle.std.proofs.Common.{◌≡◌, ℕ, zero, suc, ◌<◌, Bool, true, false, cond, List, [], ◌∷◌, length, Option, Some, None, Result, Ok, Err, refl}
+use Rattle.std.proofs.Common.{◌≡◌, ℕ, zero, suc, Bool, true, false, cond, List, [], ◌∷◌, length, Option, Some, None, Err, refl}
 use Rattle.fb_words.specs.declared.mark.Mark.{Mark}
 use Rattle.fb_words.specs.declared.mark.Mark.TheVariants as m
 use Rattle.fb_words.specs.declared.operator.Operator.{Operator}
@@ -7,37 +7,10 @@ use Rattle.fb_model.specs.Tokens.{Token, token, name, number, typed, duration, m
 use Rattle.fb_model.specs.Productions.{Word}
 use Rattle.fb_model.specs.StructuredText.{Expression}
 use Rattle.fb_model.specs.StructuredTextGrammar.{begins_number, levels}
-use Rattle.fb_read.specs.Reading.{Wrong, syntax, too_deep, stuck, Read, ◌>>=◌, next_is, after, expect, place_at, name_at, separated_step, separated_at, list_at}
-use Rattle.fb_read.proofs.Readers.{NotDeep, some_left, shallow_expect, shallow_name}
-use Rattle.st_expr.specs.Reading.{operator_at, begins_link, run_step, run_at, link_step, link_at, links_at, chain_at, level_at, opened_at, marked_at, literal_at, signed_at, minus_step, negative_at, inverse_at, parentheses_at, element_at, call_at, named_at, begins_name, operand_of, nested_at, expression_at}
-
--- a token is left where the nesting is at its end
-abbrev pub AtToken : {A : Type 0} → Result A Wrong → Type 0
-AtToken (Ok x) = Unit {0}
-AtToken (Err (syntax left)) = Unit {0}
-AtToken (Err (too_deep left)) = 0 < left
-
--- the same of every answer of a reader
-abbrev pub Opens : {A : Type 0} → Read A → Type 0
-Opens r = (ts : List Token) → AtToken (r ts)
-
-pub at_then : {A B : Type 0} (f : A → Result B Wrong) (r : Result A Wrong) → AtToken r → ((x : A) → AtToken (f x)) → AtToken (r >>= f)
-at_then f (Ok x) h g = g x
-at_then f (Err (syntax left)) h g = tt
-at_then f (Err (too_deep left)) h g = h
-
-pub at_if : {A : Type 0} (b : Bool) (x y : Result A Wrong) → AtToken x → AtToken y → AtToken (cond b x y)
-at_if true x y h g = h
-at_if false x y h g = g
-
--- where the nesting is never at its end
-pub at_shallow : {A : Type 0} (r : Result A Wrong) → NotDeep r → AtToken r
-at_shallow (Ok x) h = tt
-at_shallow (Err (syntax left)) h = tt
-at_shallow (Err (too_deep left)) h = absurd h
-
-pub at_expect : (k : Mark) (ts : List Token) → AtToken (expect k ts)
-at_expect k ts = at_shallow (expect k ts) (shallow_expect k ts)
+use Rattle.fb_read.specs.Reading.{too_deep, stuck, Read, next_is, after, expect, place_at, name_at, begins_name, list_at}
+use Rattle.fb_read.proofs.Readers.{some_left, shallow_name}
+use Rattle.fb_read.proofs.Nesting.{AtToken, Opens, at_then, at_if, at_shallow, at_expect, while_opens, separated_opens}
+use Rattle.st_expr.specs.Reading.{operator_at, begins_link, link_step, link_at, links_at, chain_at, level_at, opened_at, marked_at, literal_at, signed_at, minus_step, negative_at, inverse_at, parentheses_at, element_at, call_at, named_at, operand_of, nested_at, expression_at}
 
 at_opened : (k : Mark) (depth : ℕ) (ts : List Token) → AtToken (opened_at k depth ts)
 at_opened k zero ts = by (next_is k ts) refl where
@@ -46,26 +19,7 @@ at_opened k zero ts = by (next_is k ts) refl where
   by false e = tt
 at_opened k (suc depth) ts = at_expect k ts
 
--- ---- lists and chains
-
-module _ {A : Type 0} (item : Read A) (opens : Opens item) where
-  separated_turn : (others : Read (List A)) → Opens others → (x : A) (b : Bool) (ts : List Token) → AtToken (separated_step others x b ts)
-  separated_turn others h x true ts = at_then _ (others (after ts)) (h (after ts)) (λ xs. tt)
-  separated_turn others h x false ts = tt
-
-  pub separated_opens : (k : Mark) (n : ℕ) → Opens (separated_at k item n)
-  unfolding separated_at
-  separated_opens k zero ts = tt
-  separated_opens k (suc n) ts = at_then _ (item ts) (opens ts) (λ x. separated_turn (separated_at k item n) (separated_opens k n) x.0 (next_is k x.1) x.1)
-
-  run_turn : (others : Read (List A)) → Opens others → (b : Bool) (ts : List Token) → AtToken (run_step item others b ts)
-  run_turn others h false ts = tt
-  run_turn others h true ts = at_then _ (item ts) (opens ts) (λ x. at_then _ (others x.1) (h x.1) (λ xs. tt))
-
-  pub run_opens : (begins : List Token → Bool) (n : ℕ) → Opens (run_at begins item n)
-  unfolding run_at
-  run_opens begins zero ts = tt
-  run_opens begins (suc n) ts = run_turn (run_at begins item n) (run_opens begins n) (begins ts) ts
+-- ---- chains
 
 module _ (level : ℕ) (item : Read Expression) (opens : Opens item) where
   link_turn : (o : Option (Operator × ℕ)) (ts : List Token) → AtToken (link_step item o ts)
@@ -78,7 +32,7 @@ module _ (level : ℕ) (item : Read Expression) (opens : Opens item) where
 
   chain_opens : Opens (chain_at level item)
   unfolding chain_at
-  chain_opens ts = at_then _ (item ts) (opens ts) (λ x. at_then _ (links_at level item x.1) (run_opens (link_at level item) link_opens (begins_link level) (length x.1) x.1) (λ links. tt))
+  chain_opens ts = at_then _ (item ts) (opens ts) (λ x. at_then _ (links_at level item x.1) (while_opens (link_at level item) link_opens (begins_link level) (length x.1) x.1) (λ links. tt))
 
 level_opens : (item : Read Expression) → Opens item → (level : ℕ) → Opens (level_at item level)
 unfolding level_at

@@ -11,13 +11,12 @@ use Rattle.fb_model.specs.Productions.{Gram, Word, IsName, IsSeparated}
 use Rattle.fb_model.specs.Trees.{Whole}
 use Rattle.fb_model.specs.StructuredText.{Expression, literal, element, negative, inverse}
 use Rattle.fb_model.specs.StructuredTextGrammar.{IsOperator, times, over, modulo, plus, minus, less, greater, less_equal, greater_equal, equal, not_equal, and_word, and_sign, xor_word, or_word, levels, IsLink, a_link, IsChain, a_chain, IsLevel, plain, with_type, time, yes, no, begins_number, IsOperand, a_literal, a_variable, an_element, a_call, in_parentheses, a_negative, a_minus, a_not, IsNested, IsExpression}
-use Rattle.fb_read.specs.Reading.{too_deep, stuck, Answer, Read, ◌>>=◌, next_is, expect, place_at, name_at, list_at}
-use Rattle.fb_read.proofs.Readers.{Meets, Sound, meets_then, expect_then, name_sound}
-use Rattle.fb_read.proofs.Repetitions.{separated_sound}
+use Rattle.fb_read.specs.Reading.{too_deep, stuck, Answer, Read, ◌>>=◌, next_is, expect, place_at, name_at, begins_name, list_at}
+use Rattle.fb_read.proofs.Readers.{Meets, Sound, meets_if, meets_then, expect_then, name_sound}
+use Rattle.fb_read.proofs.Repetitions.{while_sound, separated_sound}
 use Rattle.st_expr.specs.declared.operator.Role.{Role}
 use Rattle.st_expr.specs.declared.operator.Role.TheVariants.{Infix, Opener, Other}
-use Rattle.st_expr.specs.Reading.{role, of_level, link_step, link_at, links_at, chain_at, level_at, opened_at, marked_at, literal_at, signed_at, minus_step, negative_at, inverse_at, parentheses_at, element_at, call_at, named_at, begins_name, operand_of, nested_at, expression_at}
-use Rattle.st_expr.proofs.Runs.{run_sound}
+use Rattle.st_expr.specs.Reading.{role, of_level, link_step, link_at, links_at, chain_at, level_at, opened_at, marked_at, literal_at, signed_at, minus_step, negative_at, inverse_at, parentheses_at, element_at, call_at, named_at, operand_of, nested_at, expression_at}
 
 -- ---- operators
 
@@ -67,7 +66,7 @@ module _ (level : ℕ) (G : Gram Expression) (item : Read Expression) (sound : S
 
   chain_sound : Sound (IsChain level G) (chain_at level item)
   unfolding chain_at
-  chain_sound ts = meets_then _ _ (item ts) (sound ts) (λ x mid p. meets_then _ _ (links_at level item mid) (run_sound (IsLink level G) (link_at level item) link_sound _ (length mid) mid) (λ links rest q. a_chain p q))
+  chain_sound ts = meets_then _ _ (item ts) (sound ts) (λ x mid p. meets_then _ _ (links_at level item mid) (while_sound (IsLink level G) (link_at level item) link_sound _ (length mid) mid) (λ links rest q. a_chain p q))
 
 pub level_sound : (G : Gram Expression) (item : Read Expression) → Sound G item → (level : ℕ) → Sound (IsLevel G level) (level_at item level)
 unfolding level_at
@@ -155,10 +154,6 @@ module _ (G : Gram Expression) (inner : Read Expression) (sound : Sound G inner)
       (λ lt s e rest d. let named = subst (λ l. IsName all x l) d h in
       meets_then _ _ (list_at m.Comma (level_at inner levels) rest) (separated_sound (IsLevel G levels) (level_at inner levels) item_sound m.Comma (length rest) rest)
       (λ xs mid p. expect_then (λ l. IsSeparated m.Comma (IsLevel G levels) rest xs l) _ _ m.RParen mid p (λ s' e' end q. a_call named q)))
-
-  meets_if : {A : Type 0} (Q : A → List Token → Type 0) (b : Bool) (x y : Answer A) → Meets Q x → Meets Q y → Meets Q (cond b x y)
-  meets_if Q true x y h g = h
-  meets_if Q false x y h g = g
 
   named_sound : (depth : ℕ) → Sound (IsOperand G) (named_at depth (level_at inner levels))
   unfolding named_at

@@ -1,5 +1,5 @@
 -- Each production of expressions stops at the same token whatever stands behind it.
-use Rattle.std.proofs.Common.{◌≡◌, ℕ, zero, suc, ◌⊎◌, Bool, true, false, cond, List, ◌∷◌, length, Some, None, Ok, Err, refl, ap, subst, ◌∙◌, arith, inl, inr}
+use Rattle.std.proofs.Common.{◌≡◌, ℕ, zero, suc, ◌⊎◌, Bool, true, false, cond, List, ◌∷◌, length, Some, None, Ok, Err, refl, ap, ◌∙◌, arith, inl, inr}
 use Rattle.std.specs.Prelude.{◌==◌}
 use Rattle.fb_words.specs.declared.mark.Mark.{Mark}
 use Rattle.fb_words.specs.declared.mark.Mark.TheVariants as m
@@ -8,59 +8,28 @@ use Rattle.fb_model.specs.Productions.{Gram, Word}
 use Rattle.fb_model.specs.Trees.{Whole, Typed, Duration, Truth}
 use Rattle.fb_model.specs.StructuredText.{Expression, literal, variable, element, call, negative, inverse, expressions, grouped}
 use Rattle.fb_model.specs.StructuredTextGrammar.{begins_number, levels, IsLink, IsLevel, IsNested}
-use Rattle.fb_read.specs.Reading.{too_deep, stuck, Read, ◌>>=◌, next_is, expect, name_at, list_at}
+use Rattle.fb_read.specs.Reading.{too_deep, stuck, Read, ◌>>=◌, next_is, expect, name_at, begins_name, list_at}
 use Rattle.fb_read.proofs.Readers.{Sound, Shorter}
-use Rattle.fb_read.proofs.Steady.{Same, here, there, Within, Goes, Steady, Takes, Stops, steady_then, steady_as, steady_done, steady_stuck, steady_head, steady_name, steady_choice, cond_then, steady_expect, steady_place}
-use Rattle.fb_read.proofs.SteadyLists.{Shrinks, shrinks_of, steady_list}
+use Rattle.fb_read.proofs.Steady.{Steady, Takes, Stops, SeesFirst, sees_first, name_sees, number_sees, steady_then, steady_as, steady_done, steady_stuck, steady_deep, steady_head, steady_name, steady_test, steady_choice, cond_then, steady_expect, steady_place}
+use Rattle.fb_read.proofs.SteadyLists.{Shrinks, shrinks_of, steady_all, steady_list}
 use Rattle.st_expr.specs.declared.operator.Role.{Role}
 use Rattle.st_expr.specs.declared.operator.Role.TheVariants.{Infix, Opener, Other}
-use Rattle.st_expr.specs.Reading.{role, of_level, begins_link, link_step, link_at, links_at, chain_at, level_at, opened_at, literal_at, signed_at, minus_step, negative_at, inverse_at, parentheses_at, element_at, call_at, named_at, begins_name, unnamed_at, operand_of, nested_at, expression_at}
-use Rattle.st_expr.proofs.SteadyRuns.{SameTest, steady_run}
+use Rattle.st_expr.specs.Reading.{role, of_level, begins_link, link_step, link_at, links_at, chain_at, level_at, opened_at, literal_at, signed_at, minus_step, negative_at, inverse_at, parentheses_at, element_at, call_at, named_at, unnamed_at, operand_of, nested_at, expression_at}
 use Rattle.st_expr.proofs.Sound.{link_sound, level_sound, nested_sound}
 use Rattle.st_expr.proofs.Complete.{link_shorter, level_shorter, nested_shorter}
 
 -- ---- tests of the first token
 
-pub same_test : (test : List Token → Bool) → ((t : Token) (a b : List Token) → test (t ∷ a) ≡ test (t ∷ b)) → SameTest test
-same_test test h t q q' ts us here = h t q q'
-same_test test h t q q' ts us (there {u = u} {ts = ts'} {us = us'} s) = h u ts' us'
-
-number_first : (t : Token) (a b : List Token) → begins_number (t ∷ a) ≡ begins_number (t ∷ b)
-number_first (token (name x) s e) a b = refl
-number_first (token (number n) s e) a b = refl
-number_first (token (typed t c n) s e) a b = refl
-number_first (token (duration c n) s e) a b = refl
-number_first (token (mark k) s e) a b = refl
-
-name_first : (t : Token) (a b : List Token) → begins_name (t ∷ a) ≡ begins_name (t ∷ b)
-name_first (token (name x) s e) a b = refl
-name_first (token (number n) s e) a b = refl
-name_first (token (typed t c n) s e) a b = refl
-name_first (token (duration c n) s e) a b = refl
-name_first (token (mark k) s e) a b = refl
-
-link_first : (level : ℕ) (t : Token) (a b : List Token) → begins_link level (t ∷ a) ≡ begins_link level (t ∷ b)
-link_first level (token (name x) s e) a b = refl
-link_first level (token (number n) s e) a b = refl
-link_first level (token (typed t c n) s e) a b = refl
-link_first level (token (duration c n) s e) a b = refl
-link_first level (token (mark k) s e) a b = refl
-
--- a choice by the first token
-pub steady_test : {A : Type 0} (test : List Token → Bool) → SameTest test → (g h : Read A) → Steady g → Steady h → Steady (λ ts. cond (test ts) (g ts) (h ts))
-steady_test {A} test same g h sg sh = record { bounded = λ ts. bounded (test ts) ts; local = λ t q q' ts us s. subst (λ b. Goes t q q' (cond (test ts) (g ts) (h ts)) (cond b (g us) (h us))) (same t q q' ts us s) (local (test ts) t q q' ts us s) } where
-  bounded : (b : Bool) (ts : List Token) → Within (length ts) (cond b (g ts) (h ts))
-  bounded true ts = sg.bounded ts
-  bounded false ts = sh.bounded ts
-
-  local : (b : Bool) (t : Token) (q q' ts us : List Token) → Same t q q' ts us → Goes t q q' (cond b (g ts) (h ts)) (cond b (g us) (h us))
-  local true t q q' ts us s = sg.local t q q' ts us s
-  local false t q q' ts us s = sh.local t q q' ts us s
+link_sees : (level : ℕ) → SeesFirst (begins_link level)
+link_sees level = sees_first (begins_link level) by where
+  by : (t : Token) (a b : List Token) → begins_link level (t ∷ a) ≡ begins_link level (t ∷ b)
+  by (token (name x) s e) a b = refl
+  by (token (number n) s e) a b = refl
+  by (token (typed t c n) s e) a b = refl
+  by (token (duration c n) s e) a b = refl
+  by (token (mark k) s e) a b = refl
 
 -- ---- nesting
-
-pub steady_deep : {A : Type 0} → Steady {A = A} (λ ts. Err (too_deep (length ts)))
-steady_deep = record { bounded = λ ts. omega arith; local = λ t q q' ts us s. inr tt }
 
 steady_opened : {A : Type 0} (k : Mark) (depth : ℕ) (g : Read A) → Steady g → Steady (λ ts. opened_at k depth ts >>= g)
 steady_opened k zero g h =
@@ -104,7 +73,7 @@ module _ (level : ℕ) (G : Gram Expression) (item : Read Expression) (sound : S
   chain_steady =
       steady_then item _ steady
       (λ x. steady_then (links_at level item) _
-      (steady_run (begins_link level) (same_test (begins_link level) (link_first level)) (link_at level item) link_steady (shrinks_of (IsLink level G) (link_at level item) (link_sound level G item sound) (link_shorter level G short)))
+      (steady_all (link_at level item) link_steady (shrinks_of (IsLink level G) (link_at level item) (link_sound level G item sound) (link_shorter level G short)) (begins_link level) (link_sees level))
       (λ links. steady_done (grouped x links)))
 
 level_steady : (G : Gram Expression) (item : Read Expression) → Sound G item → Shorter G → Steady item → (level : ℕ) → Steady (level_at item level)
@@ -150,7 +119,7 @@ signed_steady = steady_head signed_at (omega arith) signed_begins
 
 module _ (G : Gram Expression) (inner : Read Expression) (sound : Sound G inner) (short : Shorter G) (steady : Steady inner) where
   minus_steady : (s : ℕ) → Steady (minus_step inner s)
-  minus_steady s = steady_test begins_number (same_test begins_number number_first) signed_at (λ ts. inner ts >>= λ x. Ok (negative s x.0, x.1)) signed_steady (steady_then inner _ steady (λ x. steady_done (negative s x)))
+  minus_steady s = steady_test begins_number number_sees signed_at (λ ts. inner ts >>= λ x. Ok (negative s x.0, x.1)) signed_steady (steady_then inner _ steady (λ x. steady_done (negative s x)))
 
   negative_steady : (depth : ℕ) → Steady (negative_at depth inner)
   unfolding negative_at
@@ -200,7 +169,7 @@ module _ (G : Gram Expression) (inner : Read Expression) (sound : Sound G inner)
   unfolding operand_of
   operand_steady depth =
       let item = level_at inner levels in
-      steady_test begins_name (same_test begins_name name_first) (named_at depth item) (unnamed_at depth inner item) (named_steady depth) (unnamed_steady depth)
+      steady_test begins_name name_sees (named_at depth item) (unnamed_at depth inner item) (named_steady depth) (unnamed_steady depth)
 
 nested_steady : (depth : ℕ) → Steady (nested_at depth)
 unfolding nested_at

@@ -11,7 +11,7 @@ use Rattle.fb_model.specs.Productions.{Word}
 use Rattle.fb_model.specs.Trees.{Whole, Typed, Duration, Truth}
 use Rattle.fb_model.specs.StructuredText.{Expression, literal, variable, element, call, negative, inverse, expressions, Link, grouped}
 use Rattle.fb_model.specs.StructuredTextGrammar.{begins_number, levels, most_nested}
-use Rattle.fb_read.specs.Reading.{Wrong, syntax, too_deep, stuck, Read, ◌>>=◌, next_is, after, expect, place_at, name_at, list_at}
+use Rattle.fb_read.specs.Reading.{Wrong, syntax, too_deep, stuck, Read, ◌>>=◌, next_is, after, expect, place_at, name_at, begins_name, all_at, list_at, whole_of}
 
 -- ---- operators
 
@@ -62,19 +62,6 @@ operator_at level (token other s e ∷ ts) = None
 
 -- ---- chains
 
--- one more item and the others, where one begins
-abbrev pub run_step : {A : Type 0} → Read A → Read (List A) → Bool → Read (List A)
-run_step item others false ts = Ok ([], ts)
-run_step item others true ts = do
-  x ← item ts
-  xs ← others x.1
-  Ok (x.0 ∷ xs.0, xs.1)
-
--- items while one begins; the number bounds the turns
-unfoldable pub run_at : {A : Type 0} → (List Token → Bool) → Read A → ℕ → Read (List A)
-run_at begins item zero ts = Ok ([], ts)
-run_at begins item (suc n) ts = run_step item (run_at begins item n) (begins ts) ts
-
 -- whether an operator of this level stands next
 abbrev pub begins_link : ℕ → List Token → Bool
 begins_link level ts = is_some (operator_at level ts)
@@ -90,7 +77,7 @@ link_at level item ts = link_step item (operator_at level ts) ts
 
 -- {operator operand}
 abbrev pub links_at : ℕ → Read Expression → Read (List Link)
-links_at level item ts = run_at (begins_link level) (link_at level item) (length ts) ts
+links_at level item = all_at (begins_link level) (link_at level item)
 
 -- operand {operator operand}
 unfoldable pub chain_at : ℕ → Read Expression → Read Expression
@@ -182,12 +169,6 @@ named_at depth item ts = do
   x ← name_at ts
   named_step depth item x.0 x.1
 
--- whether a name stands next
-abbrev pub begins_name : List Token → Bool
-begins_name [] = false
-begins_name (token (name x) s e ∷ ts) = true
-begins_name (token other s e ∷ ts) = false
-
 -- an operand that a mark or a literal begins
 abbrev pub unnamed_at : ℕ → Read Expression → Read Expression → Read Expression
 unnamed_at depth inner item ts =
@@ -208,11 +189,6 @@ expression_at depth = level_at (nested_at (suc depth)) levels
 
 -- ---- the whole
 
--- an expression behind which nothing is left
-abbrev pub ended : Expression → List Token → Result Expression Wrong
-ended x [] = Ok x
-ended x (t ∷ ts) = stuck (t ∷ ts)
-
 -- all of the tokens, within the limit
 unfoldable pub whole_at : List Token → Result Expression Wrong
-whole_at ts = expression_at most_nested ts >>= λ x. ended x.0 x.1
+whole_at ts = whole_of (expression_at most_nested) ts

@@ -2,35 +2,14 @@
 
 ghost use Rattle.std.specs.Prelude.{◌≡◌};
 ghost use Rattle.fb_lex.specs.Views.{tokens_of};
-ghost use Rattle.fb_model.specs.StructuredTextGrammar.{begins_number};
 ghost use Rattle.fb_read.specs.Answers.{Gives};
 ghost use Rattle.st_tree.specs.Views.{expr_of};
-ghost use Rattle.st_expr.specs.Reading.{begins_name, marked_at, literal_at, signed_at};
+ghost use Rattle.st_expr.specs.Reading.{marked_at, literal_at, signed_at};
 
 use fb_lex::{Kind, Token};
 use fb_read::Stop;
 use fb_words::Mark;
 use st_tree::{Constant, Expr, Literal};
-
-/// Whether a name stands next.
-pub fn begins_name(tokens: &[Token]) -> bool
-    ensures { result ≡ begins_name (tokens_of tokens.now) }
-{
-    match tokens {
-        [] => false,
-        [token, ..] => matches!(&token.kind, Kind::Name(_)),
-    }
-}
-
-/// Whether a number without a type stands next.
-pub fn begins_number(tokens: &[Token]) -> bool
-    ensures { result ≡ begins_number (tokens_of tokens.now) }
-{
-    match tokens {
-        [] => false,
-        [token, ..] => matches!(&token.kind, Kind::Number(_)),
-    }
-}
 
 /// The literal that stands next.
 #[tactic(auto, unfolding(crate::specs::Reading::literal_at))]

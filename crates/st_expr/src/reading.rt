@@ -10,10 +10,10 @@ ghost use Rattle.fb_words.specs.declared.mark.Mark.TheVariants as m;
 ghost use Rattle.st_tree.specs.Views.{expr_of, exprs_of, link_of, links_of};
 ghost use Rattle.st_expr.specs.Reading.{level_at, nested_at, links_at, link_at, opened_at, negative_at, inverse_at, parentheses_at, element_at, call_at, named_at, unnamed_at, expression_at};
 
-use crate::literal::{begins_name, begins_number, literal, signed};
+use crate::literal::{literal, signed};
 use crate::operator::{begins_link, operator_at};
 use fb_lex::Token;
-use fb_read::{Name, Stop, expect, next_is, place, read_name};
+use fb_read::{Name, Stop, begins_name, begins_number, expect, next_is, place, read_name};
 use fb_words::Mark;
 use st_tree::{Expr, Link};
 use std::alloc::{AllocError, Global};

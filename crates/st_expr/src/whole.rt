@@ -6,13 +6,14 @@ ghost use Rattle.fb_model.specs.Tokens as book;
 ghost use Rattle.fb_model.specs.StructuredText.{Expression};
 ghost use Rattle.fb_model.specs.StructuredTextGrammar.{IsExpression, most_nested};
 ghost use Rattle.fb_read.specs.Answers.{Gives};
+ghost use Rattle.fb_read.specs.Whole.{IfSyntax};
 ghost use Rattle.st_tree.specs.Views.{expr_of};
 ghost use Rattle.st_expr.specs.Reading.{whole_at};
-ghost use Rattle.st_expr.specs.Answers.{end_of, Reads, FindsExpression, IfSyntax, SyntaxAt, DeepAt};
+ghost use Rattle.st_expr.specs.Answers.{Reads, FindsExpression, SyntaxAt, DeepAt};
 
 use crate::reading::expression;
 use fb_lex::{TextFault, Token};
-use fb_read::Stop;
+use fb_read::{Stop, end_of};
 use st_tree::Expr;
 use std::alloc::Global;
 
@@ -26,16 +27,6 @@ fn whole(alloc: Global, tokens: &[Token]) -> Result<Expr, Stop>
         return Err(Stop::Syntax(rest.len()));
     }
     Ok(expr)
-}
-
-// Where the tokens end.
-fn end_of(tokens: &[Token]) -> usize
-    ensures { result ≡ end_of (tokens_of tokens.now) }
-{
-    match tokens.last() {
-        Some(token) => token.end,
-        None => 0,
-    }
 }
 
 /// The expression that the tokens are, all of them: IEC 61131-3 edition 3, 7.3.2.

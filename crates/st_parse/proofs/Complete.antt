@@ -7,18 +7,19 @@ use Rattle.fb_model.specs.Productions.{Gram, Word, IsName, a_name, IsMany, none,
 use Rattle.fb_model.specs.Trees.{Constant}
 use Rattle.fb_model.specs.StructuredText.{Expression, Statement, select, branch, repeat, Statements, statement, statements, Branch, branches, Arm, arms}
 use Rattle.fb_model.specs.StructuredTextGrammar.{IsStep, no_step, a_step, IsList, end, lone, next, IsBranch, a_condition, IsArm, a_labelled, IsElse, absent, present, IsStatement, an_assignment, to_element, an_if, a_case, a_for, IsBody}
-use Rattle.fb_read.specs.Reading.{Read, ◌>>=◌, next_is, after, expect, list_at}
-use Rattle.fb_read.proofs.Readers.{Gets, Complete, never, Shorter, Avoids, gets_then}
+use Rattle.fb_read.specs.Reading.{Read, ◌>>=◌, next_is, after, expect, all_at, list_at}
+use Rattle.fb_read.proofs.Readers.{Gets, Complete, never, Shorter, Avoids, gets_then, gets_wider}
+use Rattle.fb_read.proofs.Repetitions.{stops_at, while_complete}
 use Rattle.st_expr.specs.Reading.{continues}
-use Rattle.st_parse.specs.Reading.{all_at, headed, begins_integer, begins_block, begins_entry, label_at, step_at, assign_at, element_at, assignment_at, branch_at, else_at, elsifs_at, if_at, arm_at, arms_at, case_at, head_at, for_at, block_at, statement_at, entry_at, statements_in, entries_at, nested_at, body_at}
-use Rattle.st_parse.proofs.Whiles.{stops_at, while_complete, headed_complete}
+use Rattle.st_parse.specs.Reading.{headed, begins_integer, begins_block, begins_entry, label_at, step_at, assign_at, element_at, assignment_at, branch_at, else_at, elsifs_at, if_at, arm_at, arms_at, case_at, head_at, for_at, block_at, statement_at, entry_at, statements_in, entries_at, nested_at, body_at}
+use Rattle.st_parse.proofs.Headed.{headed_complete}
 use Rattle.st_parse.proofs.Labels.{labels_complete, step_complete, integer_apart}
 use Rattle.st_parse.proofs.Sound.{IsEntry, a_lone, an_entry}
 use Rattle.st_parse.proofs.Shorter.{NoLonger, entry_shorter, branch_shorter, arm_shorter, statement_shorter, body_no_longer, branch_first, arm_first, else_stops, statement_avoids, entry_first, elsif_apart}
 
 -- what may be too deep for a reason, may be so for a wider one
 pub deeper : {A : Type 0} {D D' : Type 0} (goes_on : List Token → Bool) (G : Gram A) (r : Read A) → (D → D') → Complete D goes_on G r → Complete D' goes_on G r
-deeper goes_on G r f h ts x rest p st = elim (h ts x rest p st) [ inl e ↦ inl e | inr q ↦ inr (q.0, f q.1, q.2) ]
+deeper goes_on G r f h ts x rest p st = gets_wider f (r ts) (x, rest) (h ts x rest p st)
 
 -- ---- lists
 

@@ -7,13 +7,12 @@ use Rattle.fb_model.specs.Productions.{IsSeparated, last, before}
 use Rattle.fb_model.specs.Trees.{Whole, Constant}
 use Rattle.fb_model.specs.StructuredText.{Label}
 use Rattle.fb_model.specs.StructuredTextGrammar.{begins_number, IsInteger, unsigned, signed, IsLabel, one, from_to, IsStep, no_step, a_step}
-use Rattle.fb_read.specs.Reading.{Read, ◌>>=◌, next_is, after, list_at}
-use Rattle.fb_read.proofs.Readers.{Meets, Sound, Gets, Complete, never, Shorter, meets_then, meets_as, gets_then, seen, may_open}
-use Rattle.fb_read.proofs.Repetitions.{IsOptional, missing, given, separated_sound, separated_shorter, separated_complete, optional_sound}
-use Rattle.fb_read.proofs.Steady.{Same, Steady, Takes, Stops, steady_then, steady_done, steady_head, steady_if, same_next}
+use Rattle.fb_read.specs.Reading.{◌>>=◌, next_is, after, list_at}
+use Rattle.fb_read.proofs.Readers.{Meets, Sound, Gets, Complete, Shorter, meets_then, meets_as, seen, may_open}
+use Rattle.fb_read.proofs.Repetitions.{IsOptional, missing, given, separated_sound, separated_complete, optional_sound}
+use Rattle.fb_read.proofs.Steady.{Steady, Takes, Stops, SeesFirst, next_sees, name_sees, number_sees, either_sees, same_next, steady_then, steady_done, steady_head, steady_if}
 use Rattle.fb_read.proofs.SteadyLists.{shrinks_of, steady_list}
-use Rattle.st_parse.specs.Reading.{number_at, integer_at, optional_at, label_at, step_at, begins_integer, begins_name, begins_block, begins_entry}
-use Rattle.st_parse.proofs.Whiles.{SeesFirst, sees_first}
+use Rattle.st_parse.specs.Reading.{number_at, integer_at, optional_at, label_at, step_at, begins_integer, begins_block, begins_entry}
 
 -- ---- what is read is in the grammar
 
@@ -157,31 +156,6 @@ pub step_steady : Steady step_at
 step_steady = option_steady m.By
 
 -- ---- tests of the first token
-
-number_sees : SeesFirst begins_number
-number_sees = sees_first begins_number by where
-  by : (t : Token) (q q' : List Token) → begins_number (t ∷ q) ≡ begins_number (t ∷ q')
-  by (token (name x) s e) q q' = refl
-  by (token (number n) s e) q q' = refl
-  by (token (typed t b n) s e) q q' = refl
-  by (token (duration b n) s e) q q' = refl
-  by (token (mark k) s e) q q' = refl
-
-name_sees : SeesFirst begins_name
-name_sees = sees_first begins_name by where
-  by : (t : Token) (q q' : List Token) → begins_name (t ∷ q) ≡ begins_name (t ∷ q')
-  by (token (name x) s e) q q' = refl
-  by (token (number n) s e) q q' = refl
-  by (token (typed t b n) s e) q q' = refl
-  by (token (duration b n) s e) q q' = refl
-  by (token (mark k) s e) q q' = refl
-
-pub next_sees : (k : Mark) → SeesFirst (next_is k)
-next_sees k t q q' ts us s = same_next k s
-
--- this mark, or what another test sees
-either_sees : (k : Mark) (b : List Token → Bool) → SeesFirst b → SeesFirst (λ ts. cond (next_is k ts) true (b ts))
-either_sees k b h t q q' ts us s = rw (same_next k s, h t q q' ts us s) refl
 
 pub integer_sees : SeesFirst begins_integer
 integer_sees = either_sees m.Minus begins_number number_sees

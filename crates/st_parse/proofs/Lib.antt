@@ -1,5 +1,5 @@
-pub mod Loops
-pub mod Whiles
+pub mod Entries
+pub mod Headed
 pub mod Labels
 pub mod Sound
 pub mod Shorter

@@ -1,57 +1,16 @@
 -- Where the nesting is at its end, a token stands that opens one more, where that is so of expressions.
-use Rattle.std.proofs.Common.{◌≡◌, ℕ, zero, suc, ◌<◌, Bool, true, false, cond, List, [], ◌∷◌, length, Option, None, Some, Result, Ok, Err, refl, arith}
+use Rattle.std.proofs.Common.{◌≡◌, ℕ, zero, suc, ◌<◌, Bool, true, false, cond, List, [], ◌∷◌, length, None, Some, Ok, refl, arith}
 use Rattle.fb_words.specs.declared.mark.Mark.{Mark}
 use Rattle.fb_words.specs.declared.mark.Mark.TheVariants as m
 use Rattle.fb_model.specs.Tokens.{Token, token, name, number, typed, duration, mark}
 use Rattle.fb_model.specs.Productions.{Word}
 use Rattle.fb_model.specs.StructuredText.{Expression, Statement, Statements}
-use Rattle.fb_read.specs.Reading.{Wrong, syntax, too_deep, Read, ◌>>=◌, next_is, after, expect, name_at, list_at}
-use Rattle.fb_read.proofs.Readers.{NotDeep, Shallow, shallow_then, shallow_expect, shallow_if, shallow_name}
+use Rattle.fb_read.specs.Reading.{Read, ◌>>=◌, next_is, after, name_at, all_at, list_at}
+use Rattle.fb_read.proofs.Readers.{Shallow, shallow_then, shallow_if, shallow_name}
+use Rattle.fb_read.proofs.Nesting.{AtToken, Opens, at_then, at_if, at_shallow, at_mark, while_opens}
 use Rattle.fb_read.proofs.Repetitions.{separated_shallow}
-use Rattle.st_parse.specs.Reading.{while_step, while_at, all_at, headed, begins_integer, begins_block, begins_entry, number_at, integer_at, optional_at, label_at, step_at, assign_at, element_at, assignment_at, branch_at, else_at, elsifs_at, if_at, arm_at, arms_at, case_at, head_at, for_at, block_at, statement_at, entry_at, entries_at, nested_at, body_at}
-
--- A token is left where the nesting is at its end.
-abbrev pub AtToken : {A : Type 0} → Result A Wrong → Type 0
-AtToken (Ok x) = Unit {0}
-AtToken (Err (syntax left)) = Unit {0}
-AtToken (Err (too_deep left)) = 0 < left
-
-abbrev pub Opens : {A : Type 0} → Read A → Type 0
-Opens r = (ts : List Token) → AtToken (r ts)
-
-pub at_then : {A B : Type 0} (f : A → Result B Wrong) (r : Result A Wrong) → AtToken r → ((x : A) → AtToken (f x)) → AtToken (r >>= f)
-at_then f (Ok x) h g = g x
-at_then f (Err (syntax left)) h g = tt
-at_then f (Err (too_deep left)) h g = h
-
-at_if : {A : Type 0} (b : Bool) (x y : Result A Wrong) → AtToken x → AtToken y → AtToken (cond b x y)
-at_if true x y h g = h
-at_if false x y h g = g
-
--- where the nesting is never at its end
-at_shallow : {A : Type 0} (r : Result A Wrong) → NotDeep r → AtToken r
-at_shallow (Ok x) h = tt
-at_shallow (Err (syntax left)) h = tt
-at_shallow (Err (too_deep left)) h = absurd h
-
--- a mark, and what is done behind it
-at_mark : {B : Type 0} (f : List Token → Result B Wrong) (k : Mark) (ts : List Token) → ((rest : List Token) → AtToken (f rest)) → AtToken (expect k ts >>= f)
-at_mark f k ts g = at_then f (expect k ts) (at_shallow (expect k ts) (shallow_expect k ts)) g
-
--- ---- items of which one begins
-
-module _ {A : Type 0} (begins : List Token → Bool) (item : Read A) (opens : Opens item) where
-  while_turn : (others : Read (List A)) → Opens others → (ts : List Token) (b : Bool) → AtToken (while_step item others b ts)
-  while_turn others h ts false = tt
-  while_turn others h ts true = at_then _ (item ts) (opens ts) (λ x. at_then _ (others x.1) (h x.1) (λ xs. tt))
-
-  while_opens : (n : ℕ) → Opens (while_at begins item n)
-  unfolding while_at
-  while_opens zero ts = tt
-  while_opens (suc n) ts = while_turn (while_at begins item n) (while_opens n) ts (begins ts)
-
-  headed_opens : (x : A) (ts : List Token) → AtToken (headed x (all_at begins item ts))
-  headed_opens x ts = at_then _ (all_at begins item ts) (while_opens (length ts) ts) (λ xs. tt)
+use Rattle.st_parse.proofs.Headed.{headed_opens}
+use Rattle.st_parse.specs.Reading.{headed, begins_integer, begins_block, begins_entry, number_at, integer_at, optional_at, label_at, step_at, assign_at, element_at, assignment_at, branch_at, else_at, elsifs_at, if_at, arm_at, arms_at, case_at, head_at, for_at, block_at, statement_at, entry_at, entries_at, nested_at, body_at}
 
 -- ---- labels and steps
 
@@ -84,7 +43,7 @@ module _ (one : Read Statement) (opens : Opens one) where
 
   list_opens : Opens (entries_at one)
   unfolding entries_at
-  list_opens ts = at_then _ (all_at begins_entry (entry_at one) ts) (while_opens begins_entry (entry_at one) entry_opens (length ts) ts) (λ es. tt)
+  list_opens ts = at_then _ (all_at begins_entry (entry_at one) ts) (while_opens (entry_at one) entry_opens begins_entry (length ts) ts) (λ es. tt)
 
 module _ (expr : Read Expression) (opens : Opens expr) where
   -- ---- assignments

@@ -1,15 +1,15 @@
 -- Each production of statements takes tokens, or no fewer are left, where each expression takes tokens; and what each begins with.
-use Rattle.std.proofs.Common.{◌≡◌, ℕ, zero, suc, ◌<◌, ◌≤◌, Bool, true, false, List, [], ◌∷◌, length, Option, None, Some, refl, sym, subst, arith}
+use Rattle.std.proofs.Common.{◌≡◌, ℕ, zero, suc, ◌≤◌, Bool, true, false, List, ◌∷◌, length, Option, refl, sym, subst, arith}
 use Rattle.fb_words.specs.declared.mark.Mark.{Mark}
 use Rattle.fb_words.specs.declared.mark.Mark.TheVariants as m
 use Rattle.fb_model.specs.Tokens.{Token, token, mark}
 use Rattle.fb_model.specs.Productions.{Gram, a_name}
 use Rattle.fb_model.specs.StructuredText.{Expression, Statement, Statements, Branch, Arm}
-use Rattle.fb_model.specs.StructuredTextGrammar.{IsLabel, IsStep, IsList, end, lone, next, IsBranch, a_condition, IsArm, a_labelled, IsElse, absent, present, IsStatement, an_assignment, to_element, an_if, a_case, a_for, IsBody}
+use Rattle.fb_model.specs.StructuredTextGrammar.{IsLabel, IsList, end, lone, next, IsBranch, a_condition, IsArm, a_labelled, IsElse, absent, present, IsStatement, an_assignment, to_element, an_if, a_case, a_for, IsBody}
 use Rattle.fb_read.specs.Reading.{next_is}
 use Rattle.fb_read.proofs.Readers.{Shorter, Avoids, seen}
 use Rattle.fb_read.proofs.Repetitions.{many_shrinks, separated_shorter}
-use Rattle.st_parse.specs.Reading.{begins_integer, begins_block, begins_entry}
+use Rattle.st_parse.specs.Reading.{begins_integer, begins_entry}
 use Rattle.st_parse.proofs.Labels.{label_shorter, step_shrinks, labels_first}
 use Rattle.st_parse.proofs.Sound.{IsEntry, a_lone, an_entry}
 

@@ -1,22 +1,18 @@
 -- What is read of statements is in the grammar, where that is so of expressions.
-use Rattle.std.proofs.Common.{◌≡◌, ℕ, zero, suc, Bool, true, false, cond, List, [], ◌∷◌, length, Option, None, Some, Ok, refl, sym, subst}
+use Rattle.std.proofs.Common.{◌≡◌, ℕ, zero, suc, cond, List, ◌∷◌, length, Option, None, Some, Ok, refl, sym, subst}
 use Rattle.fb_words.specs.declared.mark.Mark.{Mark}
 use Rattle.fb_words.specs.declared.mark.Mark.TheVariants as m
 use Rattle.fb_model.specs.Tokens.{Token, token, mark}
 use Rattle.fb_model.specs.Productions.{Gram, Word, IsName, IsMany, none, more, IsSeparated}
 use Rattle.fb_model.specs.Trees.{Constant}
-use Rattle.fb_model.specs.StructuredText.{Expression, Label, Statement, assign, assign_element, branch, select, repeat, Statements, statements, Branch, branches, Arm, arms}
+use Rattle.fb_model.specs.StructuredText.{Expression, Statement, assign, assign_element, branch, select, repeat, Statements, statements, Branch, branches, Arm, arms}
 use Rattle.fb_model.specs.StructuredTextGrammar.{IsLabel, IsStep, IsList, end, lone, next, IsBranch, a_condition, IsArm, a_labelled, IsElse, absent, present, IsStatement, an_assignment, to_element, an_if, a_case, a_for, IsBody}
-use Rattle.fb_read.specs.Reading.{Answer, Read, ◌>>=◌, next_is, after, expect, place_at, name_at, list_at}
-use Rattle.fb_read.proofs.Readers.{Meets, Sound, meets_then, meets_as, expect_then, opens, may_open, name_sound}
-use Rattle.st_parse.specs.Reading.{all_at, headed, begins_integer, begins_block, begins_entry, label_at, step_at, assign_at, element_at, assignment_at, branch_at, else_at, elsifs_at, if_at, arm_at, arms_at, case_at, head_at, for_at, block_at, statement_at, entry_at, statements_in, entries_at, nested_at, body_at}
-use Rattle.st_parse.proofs.Whiles.{IsHeaded, a_head, while_sound, headed_sound}
+use Rattle.fb_read.specs.Reading.{Answer, Read, ◌>>=◌, next_is, after, expect, place_at, name_at, all_at, list_at}
+use Rattle.fb_read.proofs.Readers.{Meets, Sound, meets_if, meets_then, meets_as, expect_then, may_open, name_sound}
+use Rattle.fb_read.proofs.Repetitions.{while_sound}
+use Rattle.st_parse.specs.Reading.{headed, begins_integer, begins_block, begins_entry, label_at, step_at, assign_at, element_at, assignment_at, branch_at, else_at, elsifs_at, if_at, arm_at, arms_at, case_at, head_at, for_at, block_at, statement_at, entry_at, statements_in, entries_at, nested_at, body_at}
+use Rattle.st_parse.proofs.Headed.{IsHeaded, a_head, headed_sound}
 use Rattle.st_parse.proofs.Labels.{labels_sound, step_sound}
-
--- one way of reading or another
-meets_if : {A : Type 0} (P : A → List Token → Type 0) (b : Bool) (q r : Answer A) → Meets P q → Meets P r → Meets P (cond b q r)
-meets_if P true q r h g = h
-meets_if P false q r h g = g
 
 -- a production that this mark opens, with the mark's place
 opens_at : {B : Type 0} (G : List Token → B → List Token → Type 0) (f : ℕ → List Token → Answer B) (k : Mark) (ts : List Token) → ((s e : ℕ) (rest : List Token) → Meets (G (token (mark k) s e ∷ rest)) (f s rest)) → Meets (G ts) (expect k ts >>= f (place_at ts))

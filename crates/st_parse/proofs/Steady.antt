@@ -1,25 +1,19 @@
 -- Each production of statements stops at the same token whatever stands behind it, where that is so of expressions.
-use Rattle.std.proofs.Common.{◌≡◌, ℕ, zero, suc, ◌≤◌, cond, List, [], ◌∷◌, length, Option, None, Some, Ok, Err, refl, arith, inl, inr}
+use Rattle.std.proofs.Common.{ℕ, zero, suc, cond, None, Some, Ok}
 use Rattle.fb_words.specs.declared.mark.Mark.{Mark}
 use Rattle.fb_words.specs.declared.mark.Mark.TheVariants as m
-use Rattle.fb_model.specs.Tokens.{Token}
 use Rattle.fb_model.specs.Productions.{Gram, Word}
-use Rattle.fb_model.specs.Trees.{Constant}
 use Rattle.fb_model.specs.StructuredText.{Expression, Statement, assign, assign_element, branch, select, repeat, Statements, no_statement, statements, branches, arms}
 use Rattle.fb_model.specs.StructuredTextGrammar.{IsBranch, IsArm, IsStatement, IsBody}
-use Rattle.fb_read.specs.Reading.{too_deep, Read, ◌>>=◌, next_is, after, expect, place_at, name_at, list_at}
+use Rattle.fb_read.specs.Reading.{Read, ◌>>=◌, next_is, expect, place_at, name_at, all_at, list_at}
 use Rattle.fb_read.proofs.Readers.{Sound, Shorter}
-use Rattle.fb_read.proofs.Steady.{Steady, steady_then, steady_done, steady_name, steady_choice, steady_if, steady_expect, steady_place}
-use Rattle.fb_read.proofs.SteadyLists.{Shrinks, shrinks_of}
-use Rattle.st_parse.specs.Reading.{all_at, headed, begins_integer, begins_block, begins_entry, label_at, step_at, assign_at, element_at, assignment_at, branch_at, else_at, elsifs_at, if_at, arm_at, arms_at, case_at, head_at, for_at, block_at, statement_at, entry_at, statements_in, entries_at, nested_at, body_at}
-use Rattle.st_parse.proofs.Whiles.{steady_test, steady_while, steady_headed}
-use Rattle.st_parse.proofs.Labels.{labels_steady, step_steady, next_sees, integer_sees, block_sees, entry_sees}
+use Rattle.fb_read.proofs.Steady.{Steady, next_sees, steady_then, steady_done, steady_deep, steady_name, steady_test, steady_choice, steady_if, steady_expect, steady_place}
+use Rattle.fb_read.proofs.SteadyLists.{Shrinks, shrinks_of, steady_all}
+use Rattle.st_parse.specs.Reading.{headed, begins_integer, begins_block, begins_entry, label_at, step_at, assign_at, element_at, assignment_at, branch_at, else_at, elsifs_at, if_at, arm_at, arms_at, case_at, head_at, for_at, block_at, statement_at, entry_at, statements_in, entries_at, nested_at, body_at}
+use Rattle.st_parse.proofs.Headed.{steady_headed}
+use Rattle.st_parse.proofs.Labels.{labels_steady, step_steady, integer_sees, block_sees, entry_sees}
 use Rattle.st_parse.proofs.Sound.{IsEntry, entry_sound, branch_sound, arm_sound, statement_sound, block_sound, body_sound}
 use Rattle.st_parse.proofs.Shorter.{NoLonger, entry_shorter, branch_shorter, arm_shorter, statement_shorter, body_no_longer}
-
--- too deep before the next token
-too_deep_steady : {A : Type 0} → Steady {A = A} (λ ts. Err (too_deep (length ts)))
-too_deep_steady = record { bounded = λ ts. omega arith; local = λ t q q' ts us s. inr tt }
 
 -- ---- lists
 
@@ -34,7 +28,7 @@ module _ (G : Gram Statement) (one : Read Statement) (sound : Sound G one) (shor
   unfolding entries_at
   list_steady =
       steady_then (all_at begins_entry (entry_at one)) _
-      (steady_while begins_entry entry_sees (entry_at one) entry_steady (shrinks_of (IsEntry G) (entry_at one) (entry_sound G one sound) (entry_shorter G short)))
+      (steady_all (entry_at one) entry_steady (shrinks_of (IsEntry G) (entry_at one) (entry_sound G one sound) (entry_shorter G short)) begins_entry entry_sees)
       (λ es. steady_done (statements (statements_in es)))
 
 module _ (E : Gram Expression) (expr : Read Expression) (sound : Sound E expr) (short : Shorter E) (steady : Steady expr) where
@@ -134,7 +128,7 @@ module _ (E : Gram Expression) (expr : Read Expression) (sound : Sound E expr) (
 
   pub body_steady : (depth : ℕ) → Steady (body_at expr depth)
   unfolding nested_at
-  body_steady zero = of_blocks (λ ts xs rest. ⊥) (nested_at expr zero) (λ ts xs rest h. absurd h) (λ ts. tt) too_deep_steady
+  body_steady zero = of_blocks (λ ts xs rest. ⊥) (nested_at expr zero) (λ ts xs rest h. absurd h) (λ ts. tt) steady_deep
   body_steady (suc depth) =
       of_blocks (IsBody E depth) (nested_at expr (suc depth)) (body_no_longer E short depth)
       (block_sound E expr sound (IsBody E depth) (body_at expr depth) (body_sound E expr sound depth))

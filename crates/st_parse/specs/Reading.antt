@@ -2,44 +2,21 @@
 use Rattle.std.specs.Prelude.{ℕ, zero, suc, List, [], ◌∷◌, length, Bool, true, false, Option, None, Some, Result, Ok, Err, if◌then◌else◌}
 use Rattle.fb_words.specs.declared.mark.Mark.{Mark}
 use Rattle.fb_words.specs.declared.mark.Mark.TheVariants as m
-use Rattle.fb_model.specs.Tokens.{Token, token, name, number}
+use Rattle.fb_model.specs.Tokens.{Token, token, number}
 use Rattle.fb_model.specs.Productions.{Word}
 use Rattle.fb_model.specs.Trees.{Whole, Constant}
 use Rattle.fb_model.specs.StructuredText.{Expression, Label, Statement, assign, assign_element, branch, select, repeat, Statements, no_statement, statements, Branch, branches, Arm, arms}
 use Rattle.fb_model.specs.StructuredTextGrammar.{begins_number, most_nested, most_nested_statements}
-use Rattle.fb_read.specs.Reading.{Wrong, too_deep, stuck, Answer, Read, ◌>>=◌, next_is, after, expect, place_at, name_at, list_at}
+use Rattle.fb_read.specs.Reading.{Wrong, too_deep, stuck, Answer, Read, ◌>>=◌, next_is, after, expect, place_at, name_at, begins_name, all_at, list_at, whole_of}
 use Rattle.st_expr.specs.Reading.{expression_at}
 
 -- ---- items of which one begins
-
--- one more item where one begins
-abbrev pub while_step : {A : Type 0} → Read A → Read (List A) → Bool → Read (List A)
-while_step item others false ts = Ok ([], ts)
-while_step item others true ts = do
-  x ← item ts
-  xs ← others x.1
-  Ok (x.0 ∷ xs.0, xs.1)
-
--- items as long as one begins; the number bounds the turns
-unfoldable pub while_at : {A : Type 0} → (List Token → Bool) → Read A → ℕ → Read (List A)
-while_at begins item zero ts = Ok ([], ts)
-while_at begins item (suc n) ts = while_step item (while_at begins item n) (begins ts) ts
-
--- as many items as there are tokens at the most
-abbrev pub all_at : {A : Type 0} → (List Token → Bool) → Read A → Read (List A)
-all_at begins item ts = while_at begins item (length ts) ts
 
 -- what is read behind a first item, with that item
 abbrev pub headed : {A : Type 0} → A → Answer (List A) → Answer (List A)
 headed x read = read >>= λ xs. Ok (x ∷ xs.0, xs.1)
 
 -- ---- what begins with the next token
-
--- a name
-abbrev pub begins_name : List Token → Bool
-begins_name [] = false
-begins_name (token (name x) s e ∷ ts) = true
-begins_name (token other s e ∷ ts) = false
 
 -- a number, or the sign of one
 abbrev pub begins_integer : List Token → Bool
@@ -213,11 +190,6 @@ body_at expr depth = entries_at (statement_at expr (nested_at expr depth))
 abbrev pub algorithm_at : ℕ → ℕ → Read Statements
 algorithm_at expressions_depth statements_depth = body_at (expression_at expressions_depth) statements_depth
 
--- what is read, where nothing is left
-abbrev pub ended : Statements → List Token → Result Statements Wrong
-ended x [] = Ok x
-ended x (t ∷ ts) = stuck (t ∷ ts)
-
 -- an algorithm that is all of the tokens
 unfoldable pub whole_at : List Token → Result Statements Wrong
-whole_at ts = algorithm_at most_nested most_nested_statements ts >>= λ x. ended x.0 x.1
+whole_at ts = whole_of (algorithm_at most_nested most_nested_statements) ts

@@ -3,16 +3,17 @@
 ghost use Rattle.std.specs.Prelude.{◌≡◌, ℕ, List, [], IfOk};
 ghost use Rattle.fb_lex.specs.Views.{tokens_of};
 ghost use Rattle.fb_read.specs.Answers.{Gives};
+ghost use Rattle.fb_read.specs.Whole.{IfSyntax};
 ghost use Rattle.fb_model.specs.Tokens as book;
 ghost use Rattle.fb_model.specs.StructuredText.{Statements};
 ghost use Rattle.fb_model.specs.StructuredTextGrammar.{IsAlgorithm, most_nested, most_nested_statements};
 ghost use Rattle.st_tree.specs.Views.{body_of};
 ghost use Rattle.st_parse.specs.Reading.{algorithm_at, whole_at};
-ghost use Rattle.st_parse.specs.Answers.{end_of, Reads, FindsAlgorithm, IfSyntax, SyntaxAt, TooDeepAt};
+ghost use Rattle.st_parse.specs.Answers.{Reads, FindsAlgorithm, SyntaxAt, TooDeepAt};
 
 use crate::statement::list;
 use fb_lex::{TextFault, Token};
-use fb_read::Stop;
+use fb_read::{Stop, end_of};
 use st_tree::Stmt;
 use std::alloc::Global;
 
@@ -41,16 +42,6 @@ fn whole(alloc: Global, tokens: &[Token]) -> Result<Vec<Stmt>, Stop>
     Ok(statements)
 }
 
-// Where the last token ends, or 0 without one.
-fn end(tokens: &[Token]) -> usize
-    ensures { result ≡ end_of (tokens_of tokens.now) }
-{
-    match tokens {
-        [] => 0,
-        [.., last] => last.end,
-    }
-}
-
 /// The statements that the tokens are, all of them (IEC 61131-3 edition 3, 7.3.3).
 ///
 /// Refused with `OutOfMemory` where memory ran out; with `Syntax` at the first token that cannot stand there, or where the last
@@ -65,7 +56,7 @@ pub fn parse_algorithm(alloc: Global, tokens: &[Token]) -> Result<Vec<Stmt>, Tex
 {
     match whole(alloc, tokens) {
         Ok(statements) => Ok(statements),
-        Err(stop) => Err(stop.fault(tokens, end(tokens))),
+        Err(stop) => Err(stop.fault(tokens, end_of(tokens))),
     }
 }
 

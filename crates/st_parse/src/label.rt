@@ -5,12 +5,11 @@ ghost use Rattle.fb_lex.specs.Views.{tokens_of};
 ghost use Rattle.fb_read.specs.Answers.{Gives, optional};
 ghost use Rattle.fb_read.specs.Reading.{list_at};
 ghost use Rattle.fb_words.specs.declared.mark.Mark.TheVariants as m;
-ghost use Rattle.fb_model.specs.StructuredTextGrammar.{begins_number};
 ghost use Rattle.st_tree.specs.Views.{constant_of, label_of};
 ghost use Rattle.st_parse.specs.Reading.{number_at, integer_at, optional_at, label_at, begins_integer};
 
 use fb_lex::{Kind, Token};
-use fb_read::{Stop, next_is};
+use fb_read::{Stop, begins_number, next_is};
 use fb_words::Mark;
 use st_tree::{Constant, Label, Literal};
 use std::alloc::Global;
@@ -92,14 +91,4 @@ pub fn begins_integer(tokens: &[Token]) -> bool
     ensures { result ≡ begins_integer (tokens_of tokens.now) }
 {
     next_is(tokens, Mark::Minus) || begins_number(tokens)
-}
-
-// Whether a number without a type stands next.
-fn begins_number(tokens: &[Token]) -> bool
-    ensures { result ≡ begins_number (tokens_of tokens.now) }
-{
-    match tokens {
-        [] => false,
-        [token, ..] => matches!(&token.kind, Kind::Number(_)),
-    }
 }

@@ -7,25 +7,15 @@ ghost use Rattle.fb_words.specs.declared.mark.Mark.TheVariants as m;
 ghost use Rattle.fb_model.specs.StructuredTextGrammar.{most_nested};
 ghost use Rattle.st_tree.specs.Views.{expr_of, constant_of, stmt_of, branch_of, arm_of, body_of};
 ghost use Rattle.st_expr.specs.Reading.{expression_at};
-ghost use Rattle.st_parse.specs.Reading.{headed, begins_name, begins_block, begins_entry, step_at, assign_at, element_at, assignment_at, branch_at, else_at, elsifs_at, if_at, arm_at, arms_at, case_at, head_at, for_at, block_at, statement_at, entry_at, entries_at, nested_at, body_at};
+ghost use Rattle.st_parse.specs.Reading.{headed, begins_block, begins_entry, step_at, assign_at, element_at, assignment_at, branch_at, else_at, elsifs_at, if_at, arm_at, arms_at, case_at, head_at, for_at, block_at, statement_at, entry_at, entries_at, nested_at, body_at};
 
 use crate::label::{begins_integer, labels, optional};
-use fb_lex::{Kind, Token};
-use fb_read::{Name, Stop, expect, next_is, place, read_name};
+use fb_lex::Token;
+use fb_read::{Name, Stop, begins_name, expect, next_is, place, read_name};
 use fb_words::Mark;
 use st_expr::expression;
 use st_tree::{Arm, Branch, Constant, Expr, Stmt};
 use std::alloc::Global;
-
-// Whether a name stands next.
-fn begins_name(tokens: &[Token]) -> bool
-    ensures { result ≡ begins_name (tokens_of tokens.now) }
-{
-    match tokens {
-        [] => false,
-        [token, ..] => matches!(&token.kind, Kind::Name(_)),
-    }
-}
 
 // Whether IF, CASE or FOR stands next.
 fn begins_block(tokens: &[Token]) -> bool

@@ -5,18 +5,17 @@ use Rattle.fb_words.specs.declared.mark.Mark.TheVariants as m
 use Rattle.fb_lex.specs.Views.{token_of, tokens_of}
 use Rattle.fb_model.specs.StructuredTextGrammar.{levels}
 use Rattle.fb_read.specs.Reading.{syntax, list_at}
-use Rattle.fb_read.proofs.Lists.{separated_goes_on, separated_stops, separated_fails, separated_done}
+use Rattle.fb_read.proofs.Lists.{while_goes_on, while_fails, while_stops, while_done, separated_goes_on, separated_stops, separated_fails, separated_done}
 use Rattle.fb_read.proofs.Fronts.{skipped}
 use Rattle.st_tree.specs.Views.{expr_of, exprs_of, link_of, links_of}
 use Rattle.st_expr.specs.Reading.{begins_link, link_at, links_at, level_at, nested_at}
-use Rattle.st_expr.proofs.Runs.{run_goes_on, run_fails, run_stops, run_done}
 use Rattle.st_expr.proofs.reading.+read.Goals as goal
 
 pub links-returns-then-not-begins_link : goal.links-returns-then-not-begins_link
 links-returns-then-not-begins_link t c =
     let item = level_at (nested_at (suc c.args.depth)) c.args.level in
     let ts = tokens_of c.args.tokens.now in
-    run_stops (begins_link c.args.level) (link_at c.args.level item) (links_of c.loop.links.items) (length ts) c.loop.counter (tokens_of c.loop.rest.now) (links_at c.args.level item ts) c.loop.invariant (sym c.begins_link.ensures ∙ c.if-not-begins_link.true)
+    while_stops (begins_link c.args.level) (link_at c.args.level item) (links_of c.loop.links.items) (length ts) c.loop.counter (tokens_of c.loop.rest.now) (links_at c.args.level item ts) c.loop.invariant (sym c.begins_link.ensures ∙ c.if-not-begins_link.true)
 
 pub links-returns-in_err-link : goal.links-returns-in_err-link
 links-returns-in_err-link t c =
@@ -24,7 +23,7 @@ links-returns-in_err-link t c =
     let ts = tokens_of c.args.tokens.now in
     let within : c.loop.counter < length ts = omega (arith, length-map c.args.tokens.now token_of) in
     let p = err_from_is_err_and c.from_residual.result c.from_residual.ensures.1 in
-    rw (p.1, p.2) (run_fails (begins_link c.args.level) (link_at c.args.level item) (links_of c.loop.links.items) (length ts) c.loop.counter (tokens_of c.loop.rest.now) (links_at c.args.level item ts) c.loop.invariant c.in_err-link.field-0.0 within (sym c.begins_link.ensures ∙ c.if-not-begins_link.false) c.in_err-link.ensures)
+    rw (p.1, p.2) (while_fails (begins_link c.args.level) (link_at c.args.level item) (links_of c.loop.links.items) (length ts) c.loop.counter (tokens_of c.loop.rest.now) (links_at c.args.level item ts) c.loop.invariant c.in_err-link.field-0.0 within (sym c.begins_link.ensures ∙ c.if-not-begins_link.false) c.in_err-link.ensures)
 
 pub links-loop-preserved : goal.links-loop-preserved
 links-loop-preserved t c =
@@ -33,14 +32,14 @@ links-loop-preserved t c =
     let within : c.loop.counter < length ts = omega (arith, length-map c.args.tokens.now token_of) in
     let l = c.in_ok-link.link in
     let e : links_of c.push.new.self.items ≡ links_of c.loop.links.items ++ link_of l ∷ [] = rw c.in_ok-push.ensures.items (map_push _ c.loop.links.items l) in
-    rw e (run_goes_on (begins_link c.args.level) (link_at c.args.level item) (links_of c.loop.links.items) (length ts) c.loop.counter (tokens_of c.loop.rest.now) (links_at c.args.level item ts) c.loop.invariant (link_of l) (tokens_of c.in_ok-link.after.now) within (sym c.begins_link.ensures ∙ c.if-not-begins_link.false) c.in_ok-link.ensures)
+    rw e (while_goes_on (begins_link c.args.level) (link_at c.args.level item) (links_of c.loop.links.items) (length ts) c.loop.counter (tokens_of c.loop.rest.now) (links_at c.args.level item ts) c.loop.invariant (link_of l) (tokens_of c.in_ok-link.after.now) within (sym c.begins_link.ensures ∙ c.if-not-begins_link.false) c.in_ok-link.ensures)
 
 pub links-returns : goal.links-returns
 links-returns t c =
     let item = level_at (nested_at (suc c.args.depth)) c.args.level in
     let ts = tokens_of c.args.tokens.now in
     let past : length ts ≤ c.loop.counter = omega (arith, length-map c.args.tokens.now token_of) in
-    run_done (begins_link c.args.level) (link_at c.args.level item) (links_of c.loop.links.items) (length ts) c.loop.counter (tokens_of c.loop.rest.now) (links_at c.args.level item ts) c.loop.invariant past
+    while_done (begins_link c.args.level) (link_at c.args.level item) (links_of c.loop.links.items) (length ts) c.loop.counter (tokens_of c.loop.rest.now) (links_at c.args.level item ts) c.loop.invariant past
 
 pub arguments-returns-in_err-argument : goal.arguments-returns-in_err-argument
 arguments-returns-in_err-argument t c =

@@ -2,10 +2,10 @@ use Rattle.std.proofs.Common.{◌≡◌, ◌+◌, ◌-◌, ◌*◌, ◌++◌, le
 use Rattle.fb_words.specs.declared.mark.Mark.TheVariants as m
 use Rattle.fb_lex.specs.Views.{tokens_of}
 use Rattle.fb_model.specs.StructuredTextGrammar.{levels}
-use Rattle.fb_read.specs.Reading.{separated_at}
+use Rattle.fb_read.specs.Reading.{while_at, separated_at}
 use Rattle.fb_read.proofs.Lists.{with_front}
 use Rattle.st_tree.specs.Views.{exprs_of, links_of}
-use Rattle.st_expr.specs.Reading.{run_at, begins_link, link_at, level_at, nested_at}
+use Rattle.st_expr.specs.Reading.{begins_link, link_at, level_at, nested_at}
 use Rattle.st_expr.proofs.reading.+read.Given as goal
 
 abbrev pub decreases-arguments : goal.decreases-arguments
@@ -47,7 +47,7 @@ decreases-call l = 64 * l.depth
 -- the links so far and those that are still read are all of them
 abbrev pub invariant-links-loop : goal.invariant-links-loop
 invariant-links-loop l =
-    let read = run_at (begins_link l.level) (link_at l.level (level_at (nested_at (suc l.depth)) l.level)) in
+    let read = while_at (begins_link l.level) (link_at l.level (level_at (nested_at (suc l.depth)) l.level)) in
     with_front (λ xs. links_of l.links.items ++ xs) (read (length (tokens_of l.tokens) - l.counter) (tokens_of l.rest)) ≡ read (length (tokens_of l.tokens)) (tokens_of l.tokens)
 
 abbrev pub invariant-arguments-loop : goal.invariant-arguments-loop

@@ -1,10 +1,10 @@
 use Rattle.fb_lex.specs.Views.{tokens_of}
 use Rattle.st_tree.specs.Views.{expr_of}
-use Rattle.st_expr.proofs.Laws.{whole_sound, whole_same, reads_of, reads_only, reads_syntax, reads_place, reads_deep}
+use Rattle.st_expr.proofs.Laws.{whole_spelled, whole_same, reads_of, reads_only, reads_syntax, reads_place, reads_deep}
 use Rattle.st_expr.proofs.whole.parse_expr.Goals as goal
 
 pub returns-in-Ok-clause-found : goal.returns-in-Ok-clause-found
-returns-in-Ok-clause-found c = whole_sound (tokens_of c.args.tokens.now) (expr_of c.in-Ok.expr) c.in-Ok.ensures
+returns-in-Ok-clause-found c = whole_spelled (tokens_of c.args.tokens.now) (expr_of c.in-Ok.expr) c.in-Ok.ensures
 
 pub returns-in-Ok-clause-only : goal.returns-in-Ok-clause-only
 returns-in-Ok-clause-only c = λ x h. whole_same (tokens_of c.args.tokens.now) (expr_of c.in-Ok.expr) x c.in-Ok.ensures h

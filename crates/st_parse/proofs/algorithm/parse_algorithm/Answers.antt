@@ -1,6 +1,4 @@
-use Rattle.std.proofs.Common.{subst, sym}
 use Rattle.fb_lex.specs.Views.{tokens_of}
-use Rattle.fb_read.specs.Faults.{Says}
 use Rattle.st_parse.proofs.Laws.{whole_spelled}
 use Rattle.st_parse.proofs.Faults.{same_read, reads_of, reads_only, reads_syntax, reads_place, reads_deep}
 use Rattle.st_parse.proofs.algorithm.parse_algorithm.Goals as goal
@@ -14,19 +12,19 @@ returns-in-Ok-clause-only c = λ x h. same_read c.in-Ok.ensures h
 pub returns-in-Err-clause-only : goal.returns-in-Err-clause-only
 returns-in-Err-clause-only c =
     let ts = tokens_of c.args.tokens.now in
-    λ x h. reads_only ts c.fault.result x (reads_of ts c.in-Err.stop c.fault.result (subst (λ n. Says n ts c.in-Err.stop c.fault.result) c.end.ensures c.fault.ensures) c.in-Err.ensures) h
+    λ x h. reads_only ts c.fault.result x (reads_of c.end_of.result ts c.in-Err.stop c.fault.result c.end_of.ensures c.fault.ensures c.in-Err.ensures) h
 
 pub returns-in-Err-clause-syntax : goal.returns-in-Err-clause-syntax
 returns-in-Err-clause-syntax c =
     let ts = tokens_of c.args.tokens.now in
-    reads_syntax ts c.fault.result (reads_of ts c.in-Err.stop c.fault.result (subst (λ n. Says n ts c.in-Err.stop c.fault.result) c.end.ensures c.fault.ensures) c.in-Err.ensures)
+    reads_syntax ts c.fault.result (reads_of c.end_of.result ts c.in-Err.stop c.fault.result c.end_of.ensures c.fault.ensures c.in-Err.ensures)
 
 pub returns-in-Err-clause-place : goal.returns-in-Err-clause-place
 returns-in-Err-clause-place c =
     let ts = tokens_of c.args.tokens.now in
-    reads_place ts c.fault.result (reads_of ts c.in-Err.stop c.fault.result (subst (λ n. Says n ts c.in-Err.stop c.fault.result) c.end.ensures c.fault.ensures) c.in-Err.ensures)
+    reads_place ts c.fault.result (reads_of c.end_of.result ts c.in-Err.stop c.fault.result c.end_of.ensures c.fault.ensures c.in-Err.ensures)
 
 pub returns-in-Err-clause-deep : goal.returns-in-Err-clause-deep
 returns-in-Err-clause-deep c =
     let ts = tokens_of c.args.tokens.now in
-    reads_deep ts c.fault.result (reads_of ts c.in-Err.stop c.fault.result (subst (λ n. Says n ts c.in-Err.stop c.fault.result) c.end.ensures c.fault.ensures) c.in-Err.ensures)
+    reads_deep ts c.fault.result (reads_of c.end_of.result ts c.in-Err.stop c.fault.result c.end_of.ensures c.fault.ensures c.in-Err.ensures)

@@ -5,11 +5,12 @@ use Rattle.fb_lex.specs.Views.{token_of, tokens_of}
 use Rattle.fb_words.specs.declared.mark.Mark.TheVariants as m
 use Rattle.fb_model.specs.StructuredTextGrammar.{most_nested}
 use Rattle.fb_read.specs.Answers.{optional}
-use Rattle.fb_read.specs.Reading.{next_is}
+use Rattle.fb_read.specs.Reading.{next_is, while_at}
 use Rattle.st_tree.specs.Views.{stmt_of, branch_of, arm_of}
 use Rattle.st_expr.specs.Reading.{expression_at}
-use Rattle.st_parse.specs.Reading.{while_at, headed, begins_entry, begins_integer, entry_at, statement_at, nested_at, body_at, branch_at, elsifs_at, arm_at, arms_at, statements_in}
-use Rattle.st_parse.proofs.Loops.{while_goes_on, while_fails, while_stops, while_done, statements_some, statements_none, list_ends, list_fails}
+use Rattle.st_parse.specs.Reading.{headed, begins_entry, begins_integer, entry_at, statement_at, nested_at, body_at, branch_at, elsifs_at, arm_at, arms_at, statements_in}
+use Rattle.fb_read.proofs.Lists.{while_goes_on, while_fails, while_stops, while_done}
+use Rattle.st_parse.proofs.Entries.{statements_some, statements_none, list_ends, list_fails}
 use Rattle.st_parse.proofs.statement.+statements.Goals as goal
 use Rattle.st_parse.proofs.statement.+statements.Goals.{list-in-Some+in_ok-push-in-Some, list-in-None}
 
