@@ -1,6 +1,6 @@
 -- Why Structured Text is not well typed, and where.
 -- IEC 61131-3 edition 3, 6.4.2 (types) and 7.3 (Structured Text), this project's profile.
-use Rattle.std.specs.Prelude.{◌≡◌, ◌≢◌, ℕ, ◌+◌, ℤ, pos, Bool, true, false, List, [], ◌∷◌, ◌++◌, Option, None, Some}
+use Rattle.std.specs.Prelude.{◌≡◌, ◌≢◌, ℕ, ◌+◌, ℤ, pos, Bool, true, false, ◌&&◌, List, [], ◌∷◌, ◌++◌, Option, None, Some}
 use Rattle.std.specs.List.{list_all}
 use Rattle.fb_words.specs.declared.elem_type.ElemType.{ElemType}
 use Rattle.fb_words.specs.declared.elem_type.ElemType.TheVariants as t
@@ -14,7 +14,7 @@ use Rattle.fb_model.specs.Productions.{Word}
 use Rattle.fb_model.specs.Trees.{Literal, Whole, Typed, Duration, Constant}
 use Rattle.fb_model.specs.StructuredText.{Expression, literal, variable, element, call, negative, inverse, binary, Expressions, no_expression, expression, Label, Statement, assign, assign_element, branch, select, repeat, Statements, statement, Branches, a_branch, Arms, an_arm}
 use Rattle.fb_model.specs.TypedText.{Term}
-use Rattle.fb_model.specs.TextTyping.{allows, called, arity, Entry, found, Loose, loose_number, loose_single, loose_double, Operand, fixed, free, whole, widens, may_be, IsOneOf, Brings, IsTyped, IsSelector, is_whole}
+use Rattle.fb_model.specs.TextTyping.{allows, stays_free, called, arity, Entry, found, Loose, loose_number, loose_single, loose_double, Operand, fixed, free, whole, widens, may_be, is_free, IsOneOf, Brings, IsTyped, IsSelector, is_whole}
 
 -- what is wrong, with its place
 pub data Fault : Type 0 where
@@ -54,10 +54,10 @@ pub data NotInteger (s : ℕ) : Operand → Fault → Type 0 where
 abbrev pub Mismatched : Operation → List Operand → Type 0
 Mismatched f ps = (a : ElemType) → Brings f ps a → allows f a ≡ true → list_all (may_be a) ps ≡ true → ⊥
 
--- why an operation at a place gives nothing on its operands
+-- why an operation at a place gives nothing on its operands. Where it stays free on free ones alone, it settles none of them
 pub data NotOn (f : Operation) (s : ℕ) (ps : List Operand) : Fault → Type 0 where
   mismatched : Mismatched f ps → NotOn f s ps (type_mismatch s)
-  not_settled : {a : ElemType} {l : Loose} {w : Fault} → Brings f ps a → IsOneOf (free l) ps → Unsettled a l w → NotOn f s ps w
+  not_settled : {a : ElemType} {l : Loose} {w : Fault} → (stays_free f && list_all is_free ps) ≡ false → Brings f ps a → IsOneOf (free l) ps → Unsettled a l w → NotOn f s ps w
 
 -- ---- expressions
 

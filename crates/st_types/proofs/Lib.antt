@@ -14,3 +14,4 @@ pub mod Plain
 pub mod Commands
 pub mod Misdoings
 pub mod Resolved
+pub mod Faultless

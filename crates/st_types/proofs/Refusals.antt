@@ -1,5 +1,5 @@
 -- What a refusal of operands says holds.
-use Rattle.std.proofs.Common.{◌≡◌, ℕ, ℤ, Bool, true, false, cond, List, [], ◌∷◌, Option, None, Some, Result, Ok, Err, true≢false, refl, sym, subst, ◌∙◌, ◌⊎◌, inl, inr}
+use Rattle.std.proofs.Common.{◌≡◌, ℕ, ℤ, Bool, true, false, ◌&&◌, cond, List, [], ◌∷◌, Option, None, Some, Result, Ok, Err, true≢false, refl, sym, subst, ◌∙◌, ◌⊎◌, inl, inr}
 use Rattle.std.specs.List.{list_all}
 use Rattle.fb_words.specs.declared.elem_type.ElemType.{ElemType}
 use Rattle.fb_words.specs.declared.elem_type.ElemType.TheVariants.{Lint}
@@ -8,10 +8,10 @@ use Rattle.fb_words.specs.declared.operator.Operation.TheVariants.{Min, Max, Lim
 use Rattle.fb_model.specs.Values.{in_type}
 use Rattle.fb_model.specs.Spelling.{is_integer}
 use Rattle.fb_model.specs.TypedText.{Term, constant, single, double}
-use Rattle.fb_model.specs.TextTyping.{allows, gives, stays_free, widens, Loose, loose_number, loose_single, loose_double, Operand, fixed, free, whole, may_be, IsOneOf, front, behind, Brings, asks}
+use Rattle.fb_model.specs.TextTyping.{allows, gives, stays_free, widens, Loose, loose_number, loose_single, loose_double, Operand, fixed, free, whole, may_be, is_free, IsOneOf, front, behind, Brings, asks}
 use Rattle.fb_model.specs.TextFaults.{Fault, type_mismatch, bad_literal, Unsettled, bad_number, bad_single, bad_double, in_single, in_left, in_right, NotTaken, too_wide, unsettled, an_array, NotInteger, another_type, unsettled_one, no_number, Mismatched, NotOn, mismatched, not_settled}
 use Rattle.st_types.specs.Elaborating.{◌>>=◌, brought, allowed, operands_type, constant_of, settled, taken, typed_single, typed_double, typed_limit, on_one, on_two, on_three, integer_of}
-use Rattle.st_types.proofs.Rules.{bind_err, each, type_sound, type_complete, brings_one}
+use Rattle.st_types.proofs.Rules.{bind_err, never, each, type_sound, type_complete, brings_one}
 
 pub test_err : {A : Type 0} (b : Bool) (r : Result A Fault) (e f : Fault) → cond b r (Err e) ≡ Err f → ((b ≡ false) × (e ≡ f)) ⊎ ((b ≡ true) × (r ≡ Err f))
 test_err {A} false r e f h = inl (refl, let k : (let l : Result A Fault = Err e in l) ≡ Err f = h in cc)
@@ -86,20 +86,20 @@ left_out o ps t p b i out u c a m =
     let same : u ≡ t = brings_one o ps u t c b in
     true≢false (sym (each (may_be t) ps p (subst (λ v. list_all (may_be v) ps ≡ true) same m) i) ∙ out)
 
-wrong_operand : (o : Operation) (s : ℕ) (ps : List Operand) (t : ElemType) (p : Operand) (w : Fault) → Brings o ps t → IsOneOf p ps → taken t s p ≡ Err w → NotOn o s ps w
-wrong_operand o s ps t p w b i h = by (taken_refused t s p w h)
+wrong_operand : (o : Operation) (s : ℕ) (ps : List Operand) (t : ElemType) (p : Operand) (w : Fault) → (stays_free o && list_all is_free ps) ≡ false → Brings o ps t → IsOneOf p ps → taken t s p ≡ Err w → NotOn o s ps w
+wrong_operand o s ps t p w n b i h = by (taken_refused t s p w h)
   where
     by : (((l : Loose) × (p ≡ free l) × Unsettled t l w) ⊎ ((may_be t p ≡ false) × (type_mismatch s ≡ w))) → NotOn o s ps w
-    by (inl k) = not_settled b (subst (λ v. IsOneOf v ps) k.1 i) k.2
+    by (inl k) = not_settled n b (subst (λ v. IsOneOf v ps) k.1 i) k.2
     by (inr k) = subst (NotOn o s ps) k.1 (mismatched (left_out o ps t p b i k.0))
 
 -- a step that goes on only where an operand is of the type
-operand_step : {B : Type 0} (o : Operation) (s : ℕ) (ps : List Operand) (t : ElemType) (p : Operand) (w : Fault) (f : Term → Result B Fault) → Brings o ps t → IsOneOf p ps
+operand_step : {B : Type 0} (o : Operation) (s : ℕ) (ps : List Operand) (t : ElemType) (p : Operand) (w : Fault) (f : Term → Result B Fault) → (stays_free o && list_all is_free ps) ≡ false → Brings o ps t → IsOneOf p ps
     → ((x : Term) → f x ≡ Err w → NotOn o s ps w) → (taken t s p >>= f) ≡ Err w → NotOn o s ps w
-operand_step {B} o s ps t p w f b i g h = by (bind_err (taken t s p) f w h)
+operand_step {B} o s ps t p w f n b i g h = by (bind_err (taken t s p) f w h)
   where
     by : ((taken t s p ≡ Err w) ⊎ ((x : Term) × (taken t s p ≡ Ok x) × (f x ≡ Err w))) → NotOn o s ps w
-    by (inl k) = wrong_operand o s ps t p w b i k
+    by (inl k) = wrong_operand o s ps t p w n b i k
     by (inr k) = g k.0 k.2
 
 -- and one that goes on only where they have a type
@@ -111,55 +111,55 @@ type_step {B} o s ps w f g h = by (bind_err (operands_type o s ps) f w h)
     by (inl k) = let r = type_refused o s ps w k in subst (NotOn o s ps) r.1 (mismatched r.0)
     by (inr k) = g k.0 (type_sound o s ps k.0 k.1).0 k.2
 
-single_refused : (o : Operation) (s : ℕ) (p : Operand) (w : Fault) → typed_single o s p ≡ Err w → NotOn o s (p ∷ []) w
-single_refused o s p w h =
+single_refused : (o : Operation) (s : ℕ) (p : Operand) (w : Fault) → (stays_free o && list_all is_free (p ∷ [])) ≡ false → typed_single o s p ≡ Err w → NotOn o s (p ∷ []) w
+single_refused o s p w n h =
     type_step o s (p ∷ []) w (λ t. taken t s p >>= λ x. Ok (fixed (gives o t) (single o t x)))
-    (λ t b. operand_step o s (p ∷ []) t p w (λ x. Ok (fixed (gives o t) (single o t x))) b front
+    (λ t b. operand_step o s (p ∷ []) t p w (λ x. Ok (fixed (gives o t) (single o t x))) n b front
     (λ x k. absurd (never_err (fixed (gives o t) (single o t x)) w k))) h
 
-double_refused : (o : Operation) (s : ℕ) (p q : Operand) (w : Fault) → typed_double o s p q ≡ Err w → NotOn o s (p ∷ q ∷ []) w
-double_refused o s p q w h =
+double_refused : (o : Operation) (s : ℕ) (p q : Operand) (w : Fault) → (stays_free o && list_all is_free (p ∷ q ∷ [])) ≡ false → typed_double o s p q ≡ Err w → NotOn o s (p ∷ q ∷ []) w
+double_refused o s p q w n h =
     type_step o s (p ∷ q ∷ []) w (λ t. taken t s p >>= λ x. taken t s q >>= λ y. Ok (fixed (gives o t) (double o t x y)))
-    (λ t b. operand_step o s (p ∷ q ∷ []) t p w (λ x. taken t s q >>= λ y. Ok (fixed (gives o t) (double o t x y))) b front
-    (λ x. operand_step o s (p ∷ q ∷ []) t q w (λ y. Ok (fixed (gives o t) (double o t x y))) b (behind front)
+    (λ t b. operand_step o s (p ∷ q ∷ []) t p w (λ x. taken t s q >>= λ y. Ok (fixed (gives o t) (double o t x y))) n b front
+    (λ x. operand_step o s (p ∷ q ∷ []) t q w (λ y. Ok (fixed (gives o t) (double o t x y))) n b (behind front)
     (λ y k. absurd (never_err (fixed (gives o t) (double o t x y)) w k)))) h
 
-limit_refused : (s : ℕ) (p q r : Operand) (w : Fault) → typed_limit s p q r ≡ Err w → NotOn Limit s (p ∷ q ∷ r ∷ []) w
-limit_refused s p q r w h =
+limit_refused : (s : ℕ) (p q r : Operand) (w : Fault) → list_all is_free (p ∷ q ∷ r ∷ []) ≡ false → typed_limit s p q r ≡ Err w → NotOn Limit s (p ∷ q ∷ r ∷ []) w
+limit_refused s p q r w n h =
     type_step Limit s (p ∷ q ∷ r ∷ []) w (λ t. taken t s p >>= λ x. taken t s q >>= λ y. taken t s r >>= λ z. Ok (fixed t (double Min t (double Max t y x) z)))
-    (λ t b. operand_step Limit s (p ∷ q ∷ r ∷ []) t p w (λ x. taken t s q >>= λ y. taken t s r >>= λ z. Ok (fixed t (double Min t (double Max t y x) z))) b front
-    (λ x. operand_step Limit s (p ∷ q ∷ r ∷ []) t q w (λ y. taken t s r >>= λ z. Ok (fixed t (double Min t (double Max t y x) z))) b (behind front)
-    (λ y. operand_step Limit s (p ∷ q ∷ r ∷ []) t r w (λ z. Ok (fixed t (double Min t (double Max t y x) z))) b (behind (behind front))
+    (λ t b. operand_step Limit s (p ∷ q ∷ r ∷ []) t p w (λ x. taken t s q >>= λ y. taken t s r >>= λ z. Ok (fixed t (double Min t (double Max t y x) z))) n b front
+    (λ x. operand_step Limit s (p ∷ q ∷ r ∷ []) t q w (λ y. taken t s r >>= λ z. Ok (fixed t (double Min t (double Max t y x) z))) n b (behind front)
+    (λ y. operand_step Limit s (p ∷ q ∷ r ∷ []) t r w (λ z. Ok (fixed t (double Min t (double Max t y x) z))) n b (behind (behind front))
     (λ z k. absurd (never_err (fixed t (double Min t (double Max t y x) z)) w k))))) h
 
 pub one_refused : (o : Operation) (s : ℕ) (p : Operand) (w : Fault) → on_one o s p ≡ Err w → NotOn o s (p ∷ []) w
-one_refused o s (free a) w h = by (stays_free o) h
+one_refused o s (free a) w h = by (stays_free o) refl h
   where
-    by : (v : Bool) → cond v (Ok (free (loose_single o s a))) (typed_single o s (free a)) ≡ Err w → NotOn o s (free a ∷ []) w
-    by true k = absurd (never_err (free (loose_single o s a)) w k)
-    by false k = single_refused o s (free a) w k
-one_refused o s (fixed t x) w h = single_refused o s (fixed t x) w h
-one_refused o s whole w h = single_refused o s whole w h
+    by : (v : Bool) → stays_free o ≡ v → cond v (Ok (free (loose_single o s a))) (typed_single o s (free a)) ≡ Err w → NotOn o s (free a ∷ []) w
+    by true e k = absurd (never_err (free (loose_single o s a)) w k)
+    by false e k = single_refused o s (free a) w (rw e refl) k
+one_refused o s (fixed t x) w h = single_refused o s (fixed t x) w (never (stays_free o)) h
+one_refused o s whole w h = single_refused o s whole w (never (stays_free o)) h
 
 pub two_refused : (o : Operation) (s : ℕ) (p q : Operand) (w : Fault) → on_two o s p q ≡ Err w → NotOn o s (p ∷ q ∷ []) w
-two_refused o s (free a) (free b) w h = by (stays_free o) h
+two_refused o s (free a) (free b) w h = by (stays_free o) refl h
   where
-    by : (v : Bool) → cond v (Ok (free (loose_double o s a b))) (typed_double o s (free a) (free b)) ≡ Err w → NotOn o s (free a ∷ free b ∷ []) w
-    by true k = absurd (never_err (free (loose_double o s a b)) w k)
-    by false k = double_refused o s (free a) (free b) w k
-two_refused o s (fixed t x) q w h = double_refused o s (fixed t x) q w h
-two_refused o s whole q w h = double_refused o s whole q w h
-two_refused o s (free a) (fixed t x) w h = double_refused o s (free a) (fixed t x) w h
-two_refused o s (free a) whole w h = double_refused o s (free a) whole w h
+    by : (v : Bool) → stays_free o ≡ v → cond v (Ok (free (loose_double o s a b))) (typed_double o s (free a) (free b)) ≡ Err w → NotOn o s (free a ∷ free b ∷ []) w
+    by true e k = absurd (never_err (free (loose_double o s a b)) w k)
+    by false e k = double_refused o s (free a) (free b) w (rw e refl) k
+two_refused o s (fixed t x) q w h = double_refused o s (fixed t x) q w (never (stays_free o)) h
+two_refused o s whole q w h = double_refused o s whole q w (never (stays_free o)) h
+two_refused o s (free a) (fixed t x) w h = double_refused o s (free a) (fixed t x) w (never (stays_free o)) h
+two_refused o s (free a) whole w h = double_refused o s (free a) whole w (never (stays_free o)) h
 
 pub three_refused : (s : ℕ) (p q r : Operand) (w : Fault) → on_three s p q r ≡ Err w → NotOn Limit s (p ∷ q ∷ r ∷ []) w
 three_refused s (free a) (free b) (free c) w h = absurd (never_err (free (loose_double Min s (loose_double Max s b a) c)) w h)
-three_refused s (free a) (free b) (fixed t x) w h = limit_refused s (free a) (free b) (fixed t x) w h
-three_refused s (free a) (free b) whole w h = limit_refused s (free a) (free b) whole w h
-three_refused s (free a) (fixed t x) r w h = limit_refused s (free a) (fixed t x) r w h
-three_refused s (free a) whole r w h = limit_refused s (free a) whole r w h
-three_refused s (fixed t x) q r w h = limit_refused s (fixed t x) q r w h
-three_refused s whole q r w h = limit_refused s whole q r w h
+three_refused s (free a) (free b) (fixed t x) w h = limit_refused s (free a) (free b) (fixed t x) w refl h
+three_refused s (free a) (free b) whole w h = limit_refused s (free a) (free b) whole w refl h
+three_refused s (free a) (fixed t x) r w h = limit_refused s (free a) (fixed t x) r w refl h
+three_refused s (free a) whole r w h = limit_refused s (free a) whole r w refl h
+three_refused s (fixed t x) q r w h = limit_refused s (fixed t x) q r w refl h
+three_refused s whole q r w h = limit_refused s whole q r w refl h
 
 -- ---- where a type is asked for
 

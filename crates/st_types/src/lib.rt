@@ -18,4 +18,6 @@ pub use command::{Counting, TypedArm, TypedBranch, TypedStmt};
 pub use fault::TypingFault;
 pub use scope::{Scope, Variable};
 pub use term::{TypedExpr, TypedLink};
-pub use whole::{Algo, one_algorithm, one_term, resolve_algorithm, resolve_expr};
+pub use whole::{
+    Algo, one_algorithm, one_term, refusals_are_true, resolve_algorithm, resolve_expr,
+};

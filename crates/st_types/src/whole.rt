@@ -1,11 +1,11 @@
 //! Guards and algorithms.
 
-ghost use Rattle.std.specs.Prelude.{◌≡◌, List, [], IfOk};
+ghost use Rattle.std.specs.Prelude.{◌≡◌, ℕ, List, [], IfOk};
 ghost use Rattle.fb_model.specs.Names.{Name};
 ghost use Rattle.fb_model.specs.StructuredText.{Expression, Statements};
 ghost use Rattle.fb_model.specs.TypedText.{Term, Commands};
 ghost use Rattle.fb_model.specs.TextTyping.{Entry, IsAsked, AreCommands};
-ghost use Rattle.fb_model.specs.TextFaults.{IsNotAsked, SomeMisdone};
+ghost use Rattle.fb_model.specs.TextFaults.{Fault, IsNotAsked, SomeMisdone};
 ghost use Rattle.st_tree.specs.Views.{expr_of, body_of};
 ghost use Rattle.st_types.specs.Answers.{Finds, Refuses};
 ghost use Rattle.st_types.specs.Views.{term_of, entries};
@@ -67,4 +67,10 @@ pub fn one_term()
 /// Statements have one typed form at most.
 pub fn one_algorithm()
     ensures { (env : List Entry) (busy : List Name) (xs : Statements) (x y : Commands) → AreCommands env busy xs x → AreCommands env busy xs y → x ≡ y }
+{}
+
+/// What is well typed has no fault that a refusal could name.
+pub fn refusals_are_true()
+    ensures expressions { (env : List Entry) (a : ElemType) (s : ℕ) (e : Expression) (x : Term) (w : Fault) → IsAsked env a e x → IsNotAsked env a s e w → ⊥ }
+    ensures statements { (env : List Entry) (busy : List Name) (xs : Statements) (c : Commands) (w : Fault) → AreCommands env busy xs c → SomeMisdone env busy xs w → ⊥ }
 {}
