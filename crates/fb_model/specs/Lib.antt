@@ -14,7 +14,11 @@ pub mod Language
 pub mod System
 pub mod Services
 pub mod Typing
+pub mod Declarations
+pub mod DeclarationGrammar
+pub mod BlockTyping
 pub mod Wires
+pub mod NetworkTyping
 pub mod Store
 pub mod Charts
 pub mod Messages
