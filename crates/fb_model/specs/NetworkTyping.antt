@@ -1,7 +1,7 @@
 -- When networks are well typed, and what they elaborate to: services, instances, connections, composites, resources, devices and systems.
 -- IEC 61499-1 edition 2, 5.3 (composite types), 6.1 (service interfaces) and 7 (configuration), this project's profile and its limits.
 use Rattle.std.specs.Prelude.{ℕ, suc, ◌+◌, ◌≡◌, ◌≤◌, ℤ, pos, Bool, true, false, not, ◌&&◌, ◌||◌, List, [], ◌∷◌, ◌++◌, map, length, Option, None, Some, codes, if◌then◌else◌}
-use Rattle.std.specs.List.{list_any, AllByRecursion}
+use Rattle.std.specs.List.{filter, list_any, AllByRecursion}
 use Rattle.std.specs.Str.{bytes_eq}
 use Rattle.fb_words.specs.declared.elem_type.ElemType.{ElemType}
 use Rattle.fb_model.specs.Names.{Name, is_in}
@@ -55,12 +55,10 @@ value_types (Some types) = types
 
 -- the parameters of a name, and those of no such name
 abbrev pub having : Name → List ParameterTree → List ParameterTree
-having x [] = []
-having x (p ∷ ps) = if bytes_eq p.name.text x then p ∷ having x ps else having x ps
+having x ps = filter (λ p. bytes_eq p.name.text x) ps
 
 abbrev pub lacking : List Name → List ParameterTree → List ParameterTree
-lacking xs [] = []
-lacking xs (p ∷ ps) = if is_in p.name.text xs then lacking xs ps else p ∷ lacking xs ps
+lacking xs ps = filter (λ p. not (is_in p.name.text xs)) ps
 
 abbrev pub id : Name
 id = codes "ID"

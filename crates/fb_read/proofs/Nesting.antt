@@ -1,8 +1,8 @@
 -- Where the nesting is at its end, a token stands that opens one more.
-use Rattle.std.proofs.Common.{ℕ, zero, suc, ◌<◌, Bool, true, false, cond, List, Result, Ok, Err}
+use Rattle.std.proofs.Common.{ℕ, zero, suc, ◌<◌, Bool, true, false, cond, List, length, Result, Ok, Err}
 use Rattle.fb_words.specs.declared.mark.Mark.{Mark}
 use Rattle.fb_model.specs.Tokens.{Token}
-use Rattle.fb_read.specs.Reading.{Wrong, syntax, too_deep, Read, ◌>>=◌, next_is, after, expect, while_step, while_at, separated_step, separated_at}
+use Rattle.fb_read.specs.Reading.{Wrong, syntax, too_deep, Read, ◌>>=◌, next_is, after, expect, many_step, many_at, while_step, while_at, separated_step, separated_at, closed_at, section_at}
 use Rattle.fb_read.proofs.Readers.{NotDeep, shallow_expect}
 
 -- A token is left where the nesting is at its end.
@@ -42,6 +42,23 @@ at_mark f k ts g = at_then f (expect k ts) (at_expect k ts) g
 -- ---- lists of items
 
 module _ {A : Type 0} (item : Read A) (opens : Opens item) where
+  many_turn : (others : Read (List A)) → Opens others → (ts : List Token) (b : Bool) → AtToken (many_step item others b ts)
+  many_turn others h ts true = tt
+  many_turn others h ts false = at_then _ (item ts) (opens ts) (λ x. at_then _ (others x.1) (h x.1) (λ xs. tt))
+
+  pub many_opens : (close : Mark) (n : ℕ) → Opens (many_at close item n)
+  unfolding many_at
+  many_opens close zero ts = tt
+  many_opens close (suc n) ts = many_turn (many_at close item n) (many_opens close n) ts (next_is close ts)
+
+  pub closed_opens : (close : Mark) → Opens (closed_at close item)
+  unfolding closed_at
+  closed_opens close ts = at_then _ (many_at close item (length ts) ts) (many_opens close (length ts) ts) (λ xs. at_mark _ close xs.1 (λ rest. tt))
+
+  pub section_opens : (opening closing : Mark) → Opens (section_at opening closing item)
+  unfolding section_at
+  section_opens opening closing ts = at_if (next_is opening ts) (closed_at closing item (after ts)) _ (closed_opens closing (after ts)) tt
+
   while_turn : (others : Read (List A)) → Opens others → (ts : List Token) (b : Bool) → AtToken (while_step item others b ts)
   while_turn others h ts false = tt
   while_turn others h ts true = at_then _ (item ts) (opens ts) (λ x. at_then _ (others x.1) (h x.1) (λ xs. tt))

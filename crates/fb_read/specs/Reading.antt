@@ -1,8 +1,10 @@
 -- Reading tokens from left to right: what stands in front, and what is left.
-use Rattle.std.specs.Prelude.{ℕ, zero, suc, List, [], ◌∷◌, length, Bool, true, false, Result, Ok, Err, if◌then◌else◌}
+use Rattle.std.specs.Prelude.{ℕ, zero, suc, List, [], ◌∷◌, length, Bool, true, false, Option, None, Some, Result, Ok, Err, if◌then◌else◌}
 use denote.Enum.Bare.{sameb}
 use Rattle.fb_words.specs.contracts.mark.Mark.{the_type}
 use Rattle.fb_words.specs.declared.mark.Mark.{Mark}
+use Rattle.fb_words.specs.declared.elem_type.ElemType.{ElemType}
+use Rattle.fb_words.specs.Writing.{type_of}
 use Rattle.fb_model.specs.Tokens.{Token, token, name, mark}
 use Rattle.fb_model.specs.Productions.{Word}
 
@@ -53,6 +55,17 @@ abbrev pub name_at : Read Word
 name_at [] = stuck []
 name_at (token (name text) s e ∷ ts) = Ok (record { text = text; at = s }, ts)
 name_at (token other s e ∷ ts) = stuck (token other s e ∷ ts)
+
+-- a type, or none, that the first of these tokens names, before the others
+abbrev pub type_step : Option ElemType → Token → Read ElemType
+type_step None t ts = stuck (t ∷ ts)
+type_step (Some a) t ts = Ok (a, ts)
+
+-- the name of a type
+unfoldable pub type_at : Read ElemType
+type_at [] = stuck []
+type_at (token (mark k) s e ∷ ts) = type_step (type_of k) (token (mark k) s e) ts
+type_at (token other s e ∷ ts) = stuck (token other s e ∷ ts)
 
 -- whether a name stands next
 abbrev pub begins_name : List Token → Bool

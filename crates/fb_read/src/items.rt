@@ -2,13 +2,15 @@
 
 ghost use Rattle.std.specs.Prelude.{◌≡◌, ℕ, List, map, length};
 ghost use Rattle.fb_lex.specs.Views.{tokens_of};
-ghost use Rattle.fb_read.specs.Reading.{Read, items_at, list_at, closed_at, section_at};
-ghost use Rattle.fb_read.specs.Answers.{Gives};
+ghost use Rattle.fb_words.specs.declared.elem_type.ElemType as words;
+ghost use Rattle.fb_model.specs.Productions.{Word};
+ghost use Rattle.fb_read.specs.Reading.{Read, name_at, type_at, items_at, list_at, closed_at, section_at};
+ghost use Rattle.fb_read.specs.Answers.{Gives, word_of};
 
 use crate::stop::Stop;
-use crate::token::{expect, next_is};
+use crate::token::{Name, expect, next_is, read_name, read_type};
 use fb_lex::Token;
-use fb_words::Mark;
+use fb_words::{ElemType, Mark};
 use std::alloc::Global;
 
 /// What can stand in a list.
@@ -24,6 +26,32 @@ pub trait Item: Drop {
     /// Reads an item, and gives the tokens behind it.
     fn read(alloc: Global, tokens: &[Token]) -> Result<(Self, &[Token]), Stop>
         ensures { Gives (λ x. (view x.0, tokens_of x.1.now)) result (reads (tokens_of tokens.now)) };
+}
+
+/// A name stands in a list of names.
+impl Item for Name {
+    ghost Tree = { Word };
+
+    ghost view = { word_of };
+
+    ghost reads = { name_at };
+
+    fn read(_alloc: Global, tokens: &[Token]) -> Result<(Name, &[Token]), Stop> {
+        read_name(tokens)
+    }
+}
+
+/// The name of a type stands in a list of types.
+impl Item for ElemType {
+    ghost Tree = { words.ElemType };
+
+    ghost view = { λ of_type. of_type };
+
+    ghost reads = { type_at };
+
+    fn read(_alloc: Global, tokens: &[Token]) -> Result<(ElemType, &[Token]), Stop> {
+        read_type(tokens)
+    }
 }
 
 /// The items up to a mark, which is left.

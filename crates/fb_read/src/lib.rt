@@ -1,4 +1,4 @@
-//! Readers over tokens that all grammars share: one token, a name, lists, and optional sections.
+//! Readers over tokens that all grammars share: one token, a name, a type, lists, and optional sections.
 #![tactic(auto)]
 
 mod items;
@@ -7,4 +7,6 @@ mod token;
 
 pub use items::{Item, closed, many, section, separated};
 pub use stop::Stop;
-pub use token::{Name, begins_name, begins_number, end_of, expect, next_is, place, read_name};
+pub use token::{
+    Name, begins_name, begins_number, end_of, expect, next_is, place, read_name, read_type,
+};

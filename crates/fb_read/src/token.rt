@@ -3,13 +3,13 @@
 ghost use Rattle.std.specs.Prelude.{◌≡◌, ◌<◌, length, OnOk};
 ghost use Rattle.fb_lex.specs.Views.{tokens_of};
 ghost use Rattle.fb_model.specs.StructuredTextGrammar.{begins_number};
-ghost use Rattle.fb_read.specs.Reading.{next_is, expect, name_at, begins_name, place_at};
+ghost use Rattle.fb_read.specs.Reading.{next_is, expect, name_at, type_at, begins_name, place_at};
 ghost use Rattle.fb_read.specs.Answers.{Gives, word_of};
 ghost use Rattle.fb_read.specs.Faults.{end_of};
 
 use crate::stop::Stop;
 use fb_lex::{Kind, Token};
-use fb_words::Mark;
+use fb_words::{ElemType, Mark};
 
 /// A name and the place of its first byte.
 #[derive(Debug, Drop)]
@@ -95,6 +95,23 @@ pub fn read_name(tokens: &[Token]) -> Result<(Name, &[Token]), Stop>
                 },
                 rest,
             )),
+            _ => Err(Stop::Syntax(tokens.len())),
+        },
+        [] => Err(Stop::Syntax(0)),
+    }
+}
+
+/// The type whose name has to stand next.
+#[tactic(auto, unfolding(crate::specs::Reading::type_at))]
+pub fn read_type(tokens: &[Token]) -> Result<(ElemType, &[Token]), Stop>
+    ensures { Gives (λ x. (x.0, tokens_of x.1.now)) result (type_at (tokens_of tokens.now)) }
+{
+    match tokens {
+        [token, rest @ ..] => match &token.kind {
+            Kind::Mark(mark) => match mark.elem_type() {
+                Some(found) => Ok((found, rest)),
+                None => Err(Stop::Syntax(tokens.len())),
+            },
             _ => Err(Stop::Syntax(tokens.len())),
         },
         [] => Err(Stop::Syntax(0)),

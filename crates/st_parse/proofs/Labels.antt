@@ -8,7 +8,7 @@ use Rattle.fb_model.specs.Trees.{Whole, Constant}
 use Rattle.fb_model.specs.StructuredText.{Label}
 use Rattle.fb_model.specs.StructuredTextGrammar.{begins_number, IsInteger, unsigned, signed, IsLabel, one, from_to, IsStep, no_step, a_step}
 use Rattle.fb_read.specs.Reading.{◌>>=◌, next_is, after, list_at}
-use Rattle.fb_read.proofs.Readers.{Meets, Sound, Gets, Complete, Shorter, meets_then, meets_as, seen, may_open}
+use Rattle.fb_read.proofs.Readers.{Meets, Sound, Gets, Complete, never, Shorter, meets_then, meets_as, seen, may_open}
 use Rattle.fb_read.proofs.Repetitions.{IsOptional, missing, given, separated_sound, separated_complete, optional_sound}
 use Rattle.fb_read.proofs.Steady.{Steady, Takes, Stops, SeesFirst, next_sees, name_sees, number_sees, either_sees, same_next, steady_then, steady_done, steady_head, steady_if}
 use Rattle.fb_read.proofs.SteadyLists.{shrinks_of, steady_list}
@@ -107,6 +107,11 @@ integer_apart ts h = by (next_is m.Minus ts) refl h where
 -- ---- what is in the grammar is read
 
 module _ (Deep : Type 0) where
+  pub integer_complete : Complete Deep never IsInteger integer_at
+  unfolding integer_at
+  integer_complete ts x rest unsigned st = inl refl
+  integer_complete ts x rest signed st = inl refl
+
   pub label_complete : Complete Deep (next_is m.DotDot) IsLabel label_at
   unfolding label_at optional_at integer_at
   label_complete ts x rest (one unsigned) st = inl (rw st refl)
@@ -137,7 +142,7 @@ number_begins b (token (mark k) s e) = inr (λ ts. refl)
 number_steady : (b : Bool) → Steady (number_at b)
 number_steady b = steady_head (number_at b) (omega arith) (number_begins b)
 
-integer_steady : Steady integer_at
+pub integer_steady : Steady integer_at
 unfolding integer_at
 integer_steady = steady_if m.Minus (number_at true) (number_at false) (number_steady true) (number_steady false)
 

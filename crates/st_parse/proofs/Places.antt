@@ -22,7 +22,7 @@ number_shallow b (token (typed t c n) s e ∷ ts) = tt
 number_shallow b (token (duration c n) s e ∷ ts) = tt
 number_shallow b (token (mark k) s e ∷ ts) = tt
 
-integer_shallow : Shallow integer_at
+pub integer_shallow : Shallow integer_at
 unfolding integer_at
 integer_shallow ts = shallow_if (next_is m.Minus ts) (number_at true (after ts)) (number_at false ts) (number_shallow true (after ts)) (number_shallow false ts)
 

@@ -36,9 +36,9 @@ fn number(tokens: &[Token], negative: bool) -> Result<(Constant, &[Token]), Stop
     }
 }
 
-// A number, perhaps behind its sign.
+/// The number without a type that has to stand next, perhaps behind its sign. A stop is at the first token that cannot stand there.
 #[tactic(auto, unfolding(crate::specs::Reading::integer_at))]
-fn integer(tokens: &[Token]) -> Result<(Constant, &[Token]), Stop>
+pub fn integer(tokens: &[Token]) -> Result<(Constant, &[Token]), Stop>
     ensures { Gives (λ x. (constant_of x.0, tokens_of x.1.now)) result (integer_at (tokens_of tokens.now)) }
 {
     if next_is(tokens, Mark::Minus) {

@@ -8,5 +8,6 @@ mod statement;
 mod tests;
 
 pub use algorithm::{body, one_algorithm, parse_algorithm};
+pub use label::integer;
 pub use st_expr::parse_expr;
 pub use st_tree::{Arm, Branch, Constant, Expr, Label, Link, Literal, Stmt};

@@ -217,7 +217,7 @@ fn element(
 }
 
 /// A number by its sign and size.
-pub(crate) fn signed(negative: bool, size: u64) -> i128
+pub fn signed(negative: bool, size: u64) -> i128
     ensures { result ≡ signed negative size }
 {
     if negative {

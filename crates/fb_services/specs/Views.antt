@@ -1,0 +1,20 @@
+-- What services are in the book, without where they lie in memory.
+use Rattle.std.specs.Prelude.{◌≡◌, Option, None, Some}
+use Rattle.std.specs.Option.{option_map}
+use Rattle.fb_words.specs.declared.elem_type.ElemType.{ElemType}
+use Rattle.fb_model.specs.System as book
+use Rattle.fb_services.specs.declared.service.Service.{Service}
+use Rattle.fb_services.specs.declared.service.Service.TheVariants as s
+
+abbrev pub service_of : Service → book.Service
+service_of (s.Input n types) = book.Input n types.items
+service_of (s.Output n types) = book.Output n types.items
+service_of (s.Publish n types) = book.Publish n types.items
+service_of (s.Subscribe n types) = book.Subscribe n types.items
+service_of s.Delay = book.Delay
+service_of s.Cycle = book.Cycle
+service_of s.Restart = book.Restart
+
+-- the type is that of the variable, and there is none where that is none
+abbrev pub typed_as : Option ElemType → Option book.Variable → Type 0
+typed_as o v = o ≡ option_map (λ v. v.type) v
