@@ -1,6 +1,8 @@
 -- The numbers of refusals, and how they are printed: this project's profile.
 use Rattle.std.specs.Prelude.{ℕ, List, ◌++◌, codes}
 use Rattle.std.specs.Fmt.{decimal}
+use Rattle.st_types.specs.declared.fault.TypingFault.{TypingFault}
+use Rattle.st_types.specs.declared.fault.TypingFault.TheVariants as st
 use Rattle.fb_blocks.specs.declared.fault.TypeFault.{TypeFault}
 use Rattle.fb_blocks.specs.declared.fault.TypeFault.TheVariants.{OutOfMemory, UnknownName, DuplicateName, TypeMismatch, BadLiteral, NotWritable, BadConnection, TwoSources, BadService, RecursiveComposite, Limit, ChannelShape}
 
@@ -32,3 +34,11 @@ line_of (BadService offset) = codes "17 " ++ decimal offset
 line_of (RecursiveComposite offset) = codes "18 " ++ decimal offset
 line_of (Limit offset) = codes "19 " ++ decimal offset
 line_of (ChannelShape offset) = codes "20 " ++ decimal offset
+
+-- a fault of Structured Text as one of blocks
+abbrev pub fault_of : TypingFault → TypeFault
+fault_of st.OutOfMemory = OutOfMemory
+fault_of (st.UnknownName at) = UnknownName at
+fault_of (st.TypeMismatch at) = TypeMismatch at
+fault_of (st.BadLiteral at) = BadLiteral at
+fault_of (st.NotWritable at) = NotWritable at

@@ -5,6 +5,7 @@ use Rattle.std.specs.declared.string.String.{String}
 use Rattle.std.specs.declared.vec.Vec.{Vec}
 use Rattle.std.specs.declared.alloc.Global.{Global}
 use Rattle.indexmap.specs.IndexMap.{IndexMap}
+use Rattle.indexmap.specs.IndexSet.{IndexSet}
 use Rattle.st_types.specs.declared.whole.Algo.{Algo}
 use Rattle.st_types.specs.Views.{term_of}
 use Rattle.st_types.specs.CommandViews.{commands_of}
@@ -16,6 +17,10 @@ use Rattle.fb_blocks.specs.declared.typed.Block.{Block}
 use Rattle.fb_model.specs.Names.{Name}
 use Rattle.fb_model.specs.System as book
 use Rattle.fb_model.specs.BlockTyping.{Declared, variable_of}
+
+-- the names of a set, in order
+abbrev pub names_of : {S : Type 0} → IndexSet (String Global) S → List Name
+names_of s = map string_bytes s.keys
 
 abbrev pub name_of : Option (String Global) → Option Name
 name_of o = option_map string_bytes o

@@ -3,6 +3,7 @@
 ghost use Rattle.std.specs.Prelude.{◌≡◌};
 ghost use Rattle.fb_blocks.specs.declared.fault.TypeFault.TheVariants.{OutOfMemory};
 
+use st_types::TypingFault;
 use std::alloc::{AllocError, AllocFailed};
 use std::fmt;
 
@@ -97,5 +98,22 @@ impl<T: Drop> From<AllocFailed<T>> for TypeFault {
 
     fn from(_: AllocFailed<T>) -> TypeFault {
         TypeFault::OutOfMemory
+    }
+}
+
+/// A fault of Structured Text stands at the same place.
+impl From<TypingFault> for TypeFault {
+    ghost use Rattle.fb_blocks.specs.Faults.{fault_of};
+
+    ghost from_gives = { λ w f. f ≡ fault_of w };
+
+    fn from(fault: TypingFault) -> TypeFault {
+        match fault {
+            TypingFault::OutOfMemory => TypeFault::OutOfMemory,
+            TypingFault::UnknownName(at) => TypeFault::UnknownName(at),
+            TypingFault::TypeMismatch(at) => TypeFault::TypeMismatch(at),
+            TypingFault::BadLiteral(at) => TypeFault::BadLiteral(at),
+            TypingFault::NotWritable(at) => TypeFault::NotWritable(at),
+        }
     }
 }

@@ -1,8 +1,20 @@
-//! Types of blocks: declarations of interfaces and of basic blocks to typed ones.
+//! Types of blocks: declarations of interfaces, and what typed basic blocks are.
 #![tactic(auto)]
 
+mod event;
 mod fault;
+mod interface;
+mod laws;
+mod names;
+mod number;
+#[cfg(test)]
+mod tests;
 mod typed;
+mod variable;
 
 pub use fault::TypeFault;
+pub use interface::face;
+pub use laws::{one_block, one_face, refusals_are_true};
+pub use names::{Named, at_most, contains, declare, insert, known, known_if_some, optional, table};
+pub use number::constant;
 pub use typed::{Action, Block, Events, Face, Transition, Variable, Variables};

@@ -1,4 +1,3 @@
 pub mod Numbers
 pub mod Ports
-pub mod Parameters
 pub mod Services

@@ -5,6 +5,8 @@ mod declared;
 mod interface;
 mod number;
 mod service;
+#[cfg(test)]
+mod tests;
 
 pub use declared::{bare, served};
 pub use service::Service;

@@ -1,0 +1,11 @@
+pub mod Lists
+pub mod Refused
+pub mod Tables
+pub mod Repeated
+pub mod Numbers
+pub mod Variables
+pub mod Bounds
+pub mod Faultless
+pub mod Single
+pub mod FaultlessBlocks
+pub mod Interfaces

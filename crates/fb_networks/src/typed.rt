@@ -1,0 +1,56 @@
+//! Typed networks.
+
+use fb_blocks::{Block, Face};
+use fb_services::Service;
+use std::rc::Rc;
+
+/// The value of a data input of an instance.
+#[derive(Debug, Drop)]
+pub struct Parameter {
+    pub name: String,
+    pub value: i64,
+}
+
+/// A port of an instance, or of the composite itself.
+#[derive(Debug, PartialEq, Eq, Hash, Drop)]
+pub struct End {
+    pub instance: Option<String>,
+    pub port: String,
+}
+
+/// A connection.
+#[derive(Debug, Drop)]
+pub struct Connection {
+    pub source: End,
+    pub target: End,
+}
+
+/// What an instance is made of. Instances of one type share it.
+#[derive(Debug, Drop)]
+#[cycle(body)]
+pub enum Body {
+    /// A basic block.
+    Basic(Rc<Block>),
+    Served(Service),
+    /// A composite: its interface and what it is made of.
+    Composite(Rc<Face>, Rc<Network>),
+}
+
+/// A function block instance, with the place of its name.
+#[derive(Debug, Drop)]
+#[cycle(body)]
+pub struct Instance {
+    pub name: String,
+    pub at: usize,
+    pub parameters: Vec<Parameter>,
+    pub body: Body,
+}
+
+/// Instances, and connections of events and of data, in text order.
+#[derive(Debug, Drop)]
+#[cycle(body)]
+pub struct Network {
+    pub instances: Vec<Instance>,
+    pub events: Vec<Connection>,
+    pub values: Vec<Connection>,
+}
