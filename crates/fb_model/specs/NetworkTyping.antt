@@ -173,10 +173,10 @@ module _ (bs : List BlockTree) where
           → AreEventConnections f inner n.events es → AreValueConnections f inner (given_in inner) n.values vs
           → IsMade (suc d) b (Composite f inner es vs)
 
-    -- an instance: of a type, or of a service
+    -- an instance: of a type that has no service's name, or of a service
     pub data IsInstance : ℕ → InstanceTree → List Parameter → Body → Type 0 where
       of_type : {d : ℕ} {i : InstanceTree} {b : BlockTree} {qs : List Parameter} {body : Body}
-          → type_named bs i.type.text ≡ Some b → i.types ≡ None → IsMade d b body → AreParameters (inputs_of body) [] i.parameters qs → IsInstance d i qs body
+          → is_in i.type.text service_names ≡ false → type_named bs i.type.text ≡ Some b → i.types ≡ None → IsMade d b body → AreParameters (inputs_of body) [] i.parameters qs → IsInstance d i qs body
       of_service : {d : ℕ} {i : InstanceTree} {s : Service} {qs : List Parameter} → IsServed i s qs → IsInstance d i qs (Served s)
 
     pub data AreInstances : ℕ → List InstanceTree → Instances → Type 0 where

@@ -1,0 +1,4 @@
+pub mod Gathered
+pub mod Numbered
+pub mod Shaped
+pub mod Ended

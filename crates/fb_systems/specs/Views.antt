@@ -1,0 +1,29 @@
+-- What typed systems are in the book, without where they lie in memory, and the services in them with their places.
+use Rattle.std.specs.Prelude.{List, [], ◌∷◌, ◌++◌, map, string_bytes}
+use Rattle.fb_model.specs.System as book
+use Rattle.fb_networks.specs.Views.{placed_in, wired_of}
+use Rattle.fb_networks.specs.declared.typed.Network.{out-Network}
+use Rattle.fb_systems.specs.declared.typed.Resource.{Resource}
+use Rattle.fb_systems.specs.declared.typed.Device.{Device}
+use Rattle.fb_systems.specs.declared.typed.Typed.{Typed}
+use Rattle.fb_systems.specs.Uses.{Used, uses_in}
+
+abbrev pub resource_of : Resource → book.Resource
+resource_of r = record { name = string_bytes r.name; inner = placed_in ((wired_of r.network).0); events = (wired_of r.network).1; values = (wired_of r.network).2 }
+
+abbrev pub device_of : Device → book.Device
+device_of d = record { name = string_bytes d.name; resources = map resource_of d.resources.items }
+
+abbrev pub system_of : Typed → book.System
+system_of t = record { devices = map device_of t.devices.items }
+
+abbrev pub resource_uses : Resource → List Used
+resource_uses r = uses_in (out-Network r.network).instances.items
+
+abbrev pub device_uses : List Resource → List Used
+device_uses [] = []
+device_uses (r ∷ rs) = resource_uses r ++ device_uses rs
+
+abbrev pub system_uses : List Device → List Used
+system_uses [] = []
+system_uses (d ∷ ds) = device_uses d.resources.items ++ system_uses ds
