@@ -36,8 +36,8 @@ module _ (f : Face) (inner : Instances) (before : List End) (all : List Connecti
 pub next_left : {X Y : Type 0} (g : X → Y) (xs : List X) (i : ℕ) (x : X) → i < length xs → x ≡ get_or xs i x → map g (drop i xs) ≡ g x ∷ map g (drop (i + 1) xs)
 next_left g xs i x l at =
     ap (map g) (drop-cons xs i x l) ∙ ap (λ y. g y ∷ map g (drop (suc i) xs)) (sym at) ∙ ap (λ n. g x ∷ map g (drop n xs)) (plus i) where
-  plus : (i : ℕ) → suc i ≡ i + 1
-  plus i = omega arith
+      plus : (i : ℕ) → suc i ≡ i + 1
+      plus i = omega arith
 
 pub none_left : {X Y : Type 0} (g : X → Y) (xs : List X) (i : ℕ) → length xs ≤ i → map g (drop i xs) ≡ []
 none_left g xs i l = ap (map g) (drop_all i xs l)

@@ -85,7 +85,6 @@ unfolding place
 place_below p [] n e = absurd (some_is (sym e))
 place_below p (x ∷ xs) n e = turn_below (p x) (place p xs) n (length xs) (λ j f. place_below p xs j f) e
 
-
 -- a position among what a list is seen as
 prefix_map : {X Y : Type 0} (p : Y → Bool) (f : X → Y) (xs : List X) → prefix_len p (map f xs) ≡ prefix_len (λ x. p (f x)) xs
 prefix_map p f [] = refl

@@ -50,11 +50,7 @@ fn events_if(there: bool) -> Option<Carried>
     ensures there { there ≡ true → result ≡ Some Events }
     ensures absent { there ≡ false → result ≡ None }
 {
-    if there {
-        Some(Carried::Events)
-    } else {
-        None
-    }
+    if there { Some(Carried::Events) } else { None }
 }
 
 // What values of a type carry.

@@ -24,7 +24,8 @@ fn instances(alloc: Global, network: &NetworkTree) -> Result<Vec<Instance>, Fail
 
 // An interface with the event input GO, the event output DONE and the data input X, as FUNCTION_BLOCK would give it.
 fn surface(alloc: Global) -> Result<Face, Fail> {
-    let text = "FUNCTION_BLOCK B EVENT_INPUT GO; END_EVENT EVENT_OUTPUT DONE; END_EVENT VAR_INPUT X : INT; END_VAR VAR_OUTPUT Y : DINT; END_VAR FBS END_FBS END_FUNCTION_BLOCK SYSTEM S END_SYSTEM";
+    let text =
+        "FUNCTION_BLOCK B EVENT_INPUT GO; END_EVENT EVENT_OUTPUT DONE; END_EVENT VAR_INPUT X : INT; END_VAR VAR_OUTPUT Y : DINT; END_VAR FBS END_FBS END_FUNCTION_BLOCK SYSTEM S END_SYSTEM";
     if let Ok(source) = parse(alloc, text) {
         for block in &source.blocks {
             if let Ok(face) = fb_blocks::face(alloc, block) {
@@ -66,7 +67,9 @@ fn joined(alloc: Global, network: &NetworkTree) -> Result<String, Fail> {
 
 // The same of the connections of a text, between services.
 fn said(alloc: Global, connections: &str) -> Result<String, Fail> {
-    let text = format!(in alloc; "SYSTEM S DEVICE D RESOURCE R FBS I : INPUT[INT](ID := 1); O : OUTPUT[DINT](ID := 1); P : OUTPUT[SINT](ID := 2); END_FBS {connections} END_RESOURCE END_DEVICE END_SYSTEM")?;
+    let text = format!(in alloc;
+        "SYSTEM S DEVICE D RESOURCE R FBS I : INPUT[INT](ID := 1); O : OUTPUT[DINT](ID := 1); P : OUTPUT[SINT](ID := 2); END_FBS {connections} END_RESOURCE END_DEVICE END_SYSTEM"
+    )?;
     match parse(alloc, text.as_str()) {
         Ok(source) => {
             for device in &source.system.devices {
@@ -83,12 +86,27 @@ fn said(alloc: Global, connections: &str) -> Result<String, Fail> {
 #[test]
 fn event_connections(rt: HostRuntime) -> Result<(), Fail> {
     let cases: [(&str, &str); 7] = [
-        ("EVENT_CONNECTIONS I.IND TO O.REQ; I.IND TO P.REQ; GO TO O.REQ; I.IND TO DONE; END_CONNECTIONS", "4 0"),
+        (
+            "EVENT_CONNECTIONS I.IND TO O.REQ; I.IND TO P.REQ; GO TO O.REQ; I.IND TO DONE; END_CONNECTIONS",
+            "4 0",
+        ),
         ("EVENT_CONNECTIONS GO TO DONE; END_CONNECTIONS", "15 141"),
-        ("EVENT_CONNECTIONS O.REQ TO I.IND; END_CONNECTIONS", "15 144"),
-        ("EVENT_CONNECTIONS I.RD_1 TO O.REQ; END_CONNECTIONS", "15 145"),
-        ("EVENT_CONNECTIONS I.RD_2 TO O.REQ; END_CONNECTIONS", "10 140"),
-        ("EVENT_CONNECTIONS Z.IND TO O.REQ; END_CONNECTIONS", "10 138"),
+        (
+            "EVENT_CONNECTIONS O.REQ TO I.IND; END_CONNECTIONS",
+            "15 144",
+        ),
+        (
+            "EVENT_CONNECTIONS I.RD_1 TO O.REQ; END_CONNECTIONS",
+            "15 145",
+        ),
+        (
+            "EVENT_CONNECTIONS I.RD_2 TO O.REQ; END_CONNECTIONS",
+            "10 140",
+        ),
+        (
+            "EVENT_CONNECTIONS Z.IND TO O.REQ; END_CONNECTIONS",
+            "10 138",
+        ),
         ("EVENT_CONNECTIONS I TO O.REQ; END_CONNECTIONS", "10 138"),
     ];
     for &(text, answer) in &cases {
@@ -100,12 +118,24 @@ fn event_connections(rt: HostRuntime) -> Result<(), Fail> {
 #[test]
 fn data_connections(rt: HostRuntime) -> Result<(), Fail> {
     let cases: [(&str, &str); 6] = [
-        ("DATA_CONNECTIONS I.RD_1 TO O.SD_1; I.RD_1 TO Y; END_CONNECTIONS", "0 2"),
+        (
+            "DATA_CONNECTIONS I.RD_1 TO O.SD_1; I.RD_1 TO Y; END_CONNECTIONS",
+            "0 2",
+        ),
         ("DATA_CONNECTIONS X TO O.SD_1; END_CONNECTIONS", "0 1"),
-        ("DATA_CONNECTIONS I.RD_1 TO P.SD_1; END_CONNECTIONS", "12 144"),
-        ("DATA_CONNECTIONS I.RD_1 TO O.SD_1; X TO O.SD_1; END_CONNECTIONS", "16 157"),
+        (
+            "DATA_CONNECTIONS I.RD_1 TO P.SD_1; END_CONNECTIONS",
+            "12 144",
+        ),
+        (
+            "DATA_CONNECTIONS I.RD_1 TO O.SD_1; X TO O.SD_1; END_CONNECTIONS",
+            "16 157",
+        ),
         ("DATA_CONNECTIONS X TO Y; END_CONNECTIONS", "15 139"),
-        ("DATA_CONNECTIONS I.IND TO O.SD_1; END_CONNECTIONS", "15 143"),
+        (
+            "DATA_CONNECTIONS I.IND TO O.SD_1; END_CONNECTIONS",
+            "15 143",
+        ),
     ];
     for &(text, answer) in &cases {
         assert_eq!(rt; said(rt.alloc(), text)?.as_str(), answer, "{text}");

@@ -54,11 +54,7 @@ fn fits(given: Carried, taken: Carried) -> bool
 }
 
 // A connection from a data source to a data target, which gets its value by it.
-fn value(
-    site: &Site,
-    taken: &mut Taken,
-    tree: &ConnectionTree,
-) -> Result<Connection, TypeFault>
+fn value(site: &Site, taken: &mut Taken, tree: &ConnectionTree) -> Result<Connection, TypeFault>
     ensures typed { IsTabled (names_of site.now.names.now) site.now.instances.now → IfOk result (λ c. IsValueConnection (face_of site.now.face.now) (inner_of site.now.instances.now) (trees_of.connection_of tree.now) (connection_of c) × (is_taken (ends_of taken.old) (end_of c.target) ≡ false) × (ends_of taken.new ≡ ends_of taken.old ++ end_of c.target ∷ [])) }
     ensures refused { IsTabled (names_of site.now.names.now) site.now.instances.now → IfErr result (IsValueFault (face_of site.now.face.now) (inner_of site.now.instances.now) (ends_of taken.old) (trees_of.connection_of tree.now)) }
 {

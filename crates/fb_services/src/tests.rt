@@ -6,7 +6,9 @@ use std::test::Fail;
 
 // The services of the instances of a text, or the refusal as it is printed.
 fn said(alloc: Global, instances: &str) -> Result<String, Fail> {
-    let text = format!(in alloc; "SYSTEM S DEVICE D RESOURCE R FBS {instances} END_FBS END_RESOURCE END_DEVICE END_SYSTEM")?;
+    let text = format!(in alloc;
+        "SYSTEM S DEVICE D RESOURCE R FBS {instances} END_FBS END_RESOURCE END_DEVICE END_SYSTEM"
+    )?;
     match parse(alloc, text.as_str()) {
         Ok(source) => {
             let mut lines = String::new(alloc);
@@ -14,7 +16,9 @@ fn said(alloc: Global, instances: &str) -> Result<String, Fail> {
                 for resource in &device.resources {
                     for instance in &resource.network.instances {
                         match served(alloc, instance) {
-                            Ok(Some(service)) => lines.push_str(format!(in alloc; "{service:?};")?.as_str())?,
+                            Ok(Some(service)) => lines.push_str(format!(in alloc;
+                                "{service:?};"
+                            )?.as_str())?,
                             Ok(None) => lines.push_str("none;")?,
                             Err(fault) => lines.push_str(format!(in alloc; "{fault};")?.as_str())?,
                         }
@@ -32,8 +36,14 @@ fn services_by_their_declarations(rt: HostRuntime) -> Result<(), Fail> {
     let cases: [(&str, &str); 8] = [
         ("X : INPUT(ID := 1);", "Input(1, []);"),
         ("X : OUTPUT[UINT](ID := 65535);", "Output(65535, [Uint]);"),
-        ("X : PUBLISH[INT, BOOL](ID := 7, QI := TRUE);", "Publish(7, [Int, Bool]);"),
-        ("X : SUBSCRIBE[ ](FORMAT := 1, ID := UINT#7);", "Subscribe(7, []);"),
+        (
+            "X : PUBLISH[INT, BOOL](ID := 7, QI := TRUE);",
+            "Publish(7, [Int, Bool]);",
+        ),
+        (
+            "X : SUBSCRIBE[ ](FORMAT := 1, ID := UINT#7);",
+            "Subscribe(7, []);",
+        ),
         ("X : E_DELAY(DT := T#50ms);", "Delay;"),
         ("X : E_CYCLE;", "Cycle;"),
         ("X : E_RESTART;", "Restart;"),
@@ -55,7 +65,10 @@ fn faults_of_services(rt: HostRuntime) -> Result<(), Fail> {
         ("X : INPUT(ID := SINT#200);", "17 33;"),
         ("X : INPUT(ID := 1, ID := 1);", "17 33;"),
         ("X : PUBLISH(ID := 1, FORMAT := 2);", "17 33;"),
-        ("X : SUBSCRIBE(ID := 1, FORMAT := 1, FORMAT := 1);", "17 33;"),
+        (
+            "X : SUBSCRIBE(ID := 1, FORMAT := 1, FORMAT := 1);",
+            "17 33;",
+        ),
         ("X : E_DELAY[INT];", "17 33;"),
         ("X : E_RESTART[ ];", "17 33;"),
         (

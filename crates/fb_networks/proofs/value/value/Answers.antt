@@ -43,7 +43,8 @@ returns-clause-typed c =
     let x = trees_of.connection_of c.args.tree.now in
     let d = connection_of record { source = c.in_ok-source.source; target = c.in_ok-target.target } in
     let new : c.in_ok-take.field-0 ≡ true = c.if-not-branch.false in
-    λ t.
-    (value_typed f inner x d c.in_ok-source.given c.in_ok-target.wanted (c.in_ok-source.ensures.end t) (c.in_ok-target.ensures.end t) (sym c.fits.ensures ∙ c.if-not-fits.false) (sym c.passes.ensures ∙ c.if-passes.false),
-    newly _ c.in_ok-take.field-0 c.in_ok-take.ensures.added new,
-    rw new at c.in_ok-take.ensures.ends)
+    λ t. (
+      value_typed f inner x d c.in_ok-source.given c.in_ok-target.wanted (c.in_ok-source.ensures.end t) (c.in_ok-target.ensures.end t) (sym c.fits.ensures ∙ c.if-not-fits.false) (sym c.passes.ensures ∙ c.if-passes.false),
+      newly _ c.in_ok-take.field-0 c.in_ok-take.ensures.added new,
+      rw new at c.in_ok-take.ensures.ends,
+    )

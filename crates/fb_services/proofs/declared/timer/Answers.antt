@@ -10,6 +10,7 @@ returns-clause-is c =
     let i = instance_of c.args.source.now in
     let text = sym c.as_str.ensures.value in
     elim c.match-as_str.branch [
-      in-E_DELAY w ↦ subst (λ s. IsService i (service_of s)) (sym w.service-is) (a_delay (text ∙ w.in-E_DELAY.is) c.in_ok-bare.ensures.none)
-    | in-E_CYCLE w ↦ subst (λ s. IsService i (service_of s)) (sym w.service-is) (a_cycle (text ∙ w.in-E_CYCLE.is) c.in_ok-bare.ensures.none)
-    | in-E_RESTART w ↦ subst (λ s. IsService i (service_of s)) (sym w.service-is) (a_restart (text ∙ w.in-E_RESTART.is) c.in_ok-bare.ensures.none) ]
+      | in-E_DELAY w ↦ subst (λ s. IsService i (service_of s)) (sym w.service-is) (a_delay (text ∙ w.in-E_DELAY.is) c.in_ok-bare.ensures.none)
+      | in-E_CYCLE w ↦ subst (λ s. IsService i (service_of s)) (sym w.service-is) (a_cycle (text ∙ w.in-E_CYCLE.is) c.in_ok-bare.ensures.none)
+      | in-E_RESTART w ↦ subst (λ s. IsService i (service_of s)) (sym w.service-is) (a_restart (text ∙ w.in-E_RESTART.is) c.in_ok-bare.ensures.none)
+    ]
