@@ -1,7 +1,7 @@
 -- What is well typed has no fault: names, limits, variables and interfaces. Memory can run out nevertheless.
-use Rattle.std.proofs.Common.{◌≡◌, ℕ, zero, suc, ◌≤◌, ◌<◌, ℤ, pos, ◌+ℤ◌, List, [], ◌∷◌, ◌++◌, Bool, true, false, cond, Option, Some, None, map, length, refl, sym, ap, subst, ◌∙◌, arith, ◌⊎◌, inl, inr, Result, Ok, append_assoc, true≢false}
+use Rattle.std.proofs.Common.{◌≡◌, ℕ, zero, suc, ◌≤◌, ◌<◌, ℤ, pos, ◌+ℤ◌, List, [], ◌∷◌, ◌++◌, Bool, true, false, cond, Option, Some, None, length, refl, sym, ap, subst, ◌∙◌, arith, ◌⊎◌, inl, inr, Result, Ok, append_assoc, true≢false}
 use Rattle.std.specs.List.{Any, AllByRecursion}
-use Rattle.std.proofs.lemmas.List.{length-map, append-nil}
+use Rattle.std.proofs.lemmas.List.{length-map}
 use Rattle.std.proofs.lemmas.Int.{ints}
 use Rattle.std.proofs.lemmas.Option.{slice_get_within}
 use Rattle.fb_words.specs.declared.elem_type.ElemType.{ElemType}
@@ -16,8 +16,7 @@ use Rattle.fb_model.specs.TextTyping.{IsNumber, a_number}
 use Rattle.fb_model.specs.TextFaults.{Fault, unknown_name, type_mismatch, bad_literal, not_writable, IsNotAsked, IsNoNumber, not_fitting, not_whole}
 use Rattle.fb_model.specs.System as book
 use Rattle.fb_model.specs.Typing.{AreNew, AreDistinct, IsKnown, texts}
-use Rattle.fb_model.specs.BlockTyping.{Declared, IsGiven, AreBounds, some_bounds, IsStart, a_start, AreDeclared, none, more, AreKnown, IsFace, face_names, names_in, words_in, event_texts}
-use Rattle.st_types.specs.Commanding.{number_of}
+use Rattle.fb_model.specs.BlockTyping.{Declared, IsGiven, AreBounds, some_bounds, IsStart, a_start, AreDeclared, more, AreKnown, IsFace, face_names, names_in, words_in, event_texts}
 use Rattle.st_types.proofs.Commands.{number_complete}
 use Rattle.st_types.proofs.Faultless.{asked_faultless}
 use Rattle.fb_blocks.specs.declared.fault.TypeFault.{TypeFault}

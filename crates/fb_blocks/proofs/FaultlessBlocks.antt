@@ -1,23 +1,22 @@
 -- What is well typed has no fault: basic blocks. Memory can run out nevertheless.
-use Rattle.std.proofs.Common.{◌≡◌, ℕ, ◌≤◌, List, [], ◌∷◌, ◌++◌, Option, Some, None, map, length, refl, sym, ap, subst, ◌∙◌, arith}
-use Rattle.std.specs.List.{Any, AllByRecursion}
+use Rattle.std.proofs.Common.{◌≡◌, List, [], ◌∷◌, ◌++◌, Option, Some, None, map, sym, ap, subst, ◌∙◌, arith}
+use Rattle.std.specs.List.{Any}
 use Rattle.std.proofs.lemmas.List.{length-map}
 use Rattle.fb_words.specs.declared.elem_type.ElemType.TheVariants as t
-use Rattle.fb_model.specs.Names.{Name, is_in}
-use Rattle.fb_model.specs.Productions.{Word}
-use Rattle.fb_model.specs.Trees.{ActionTree, StateTree}
+use Rattle.fb_model.specs.Names.{Name}
+use Rattle.fb_model.specs.Trees.{ActionTree}
 use Rattle.fb_model.specs.Declarations.{GuardTree, TransitionTree, AlgorithmTree, ChartTree, BlockTree}
 use Rattle.fb_model.specs.TypedText.{Term}
 use Rattle.fb_model.specs.TextTyping.{Entry}
 use Rattle.fb_model.specs.TextFaults.{IsNotAsked, SomeMisdone}
 use Rattle.fb_model.specs.System as book
-use Rattle.fb_model.specs.Typing.{AreNew, AreDistinct, IsKnown, texts, state_texts}
+use Rattle.fb_model.specs.Typing.{AreDistinct, texts, state_texts}
 use Rattle.fb_model.specs.BlockTyping.{Declared, AreDeclared, IsActionTyped, IsGuard, a_guard, IsTransition, AreTransitions, a_transition, AreProcedures, a_procedure, IsBasic, face_names, face_of, names_in, words_in, event_texts, algorithm_texts, scope}
 use Rattle.st_types.proofs.Faultless.{asked_faultless, commands_faultless}
 use Rattle.fb_blocks.specs.declared.fault.TypeFault.{TypeFault}
 use Rattle.fb_blocks.specs.declared.fault.TypeFault.TheVariants.{OutOfMemory}
 use Rattle.fb_blocks.specs.Answers.{own_words}
-use Rattle.fb_blocks.specs.Refusals.{IsActionFault, no_memory_for_action, unknown_algorithm, unknown_output, IsStateFault, IsGuardFault, IsEndsFault, unknown_source, unknown_target, unknown_event, IsTransitionFault, no_memory_for_transition, faulty_ends, faulty_guard, IsAlgorithmFault, IsChartExcess, excess_state, excess_transition, excess_algorithm, IsScope, IsBasicFault, no_memory_for_block, faulty_face, excess, repeated_variable, repeated_state, repeated_algorithm, faulty_internal, faulty_action, faulty_transition, faulty_algorithm}
+use Rattle.fb_blocks.specs.Refusals.{IsActionFault, no_memory_for_action, unknown_algorithm, unknown_output, IsGuardFault, IsEndsFault, unknown_source, unknown_target, unknown_event, IsTransitionFault, no_memory_for_transition, faulty_ends, faulty_guard, IsAlgorithmFault, IsChartExcess, excess_state, excess_transition, excess_algorithm, IsScope, IsBasicFault, no_memory_for_block, faulty_face, excess, repeated_variable, repeated_state, repeated_algorithm, faulty_internal, faulty_action, faulty_transition, faulty_algorithm}
 use Rattle.fb_blocks.proofs.Lists.{map_map, texts_append, new_split}
 use Rattle.fb_blocks.proofs.Refused.{either_of}
 use Rattle.fb_blocks.proofs.Variables.{names_declared}
@@ -57,6 +56,11 @@ no_chart_excess b c k f x (excess_state h) = no_excess 256 (map (λ s. s.name) c
 no_chart_excess b c k f x (excess_transition h) = no_excess 1024 (map (λ s. s.source) c.transitions) f h (let e = length-map c.transitions (λ s. s.source) in let i = x.few_transitions in omega (arith, e, i))
 no_chart_excess b c k f x (excess_algorithm h) = no_excess 256 (map (λ a. a.name) c.algorithms) f h (let e = length-map c.algorithms (λ a. a.name) in let i = x.few_algorithms in omega (arith, e, i))
 
+-- the names of a block's interface and of its internal variables, as words and as texts
+pub all_names_are : (b : BlockTree) (c : ChartTree) (ins outs inner : List Declared) → AreDeclared b.inputs ins → AreDeclared b.outputs outs → AreDeclared c.internals inner → texts (own_words b ++ words_in c.internals) ≡ face_names b ins outs ++ names_in inner
+all_names_are b c ins outs inner i o n =
+    texts_append (own_words b) (words_in c.internals) ∙ ap (λ ns. ns ++ texts (words_in c.internals)) (own_names_are b ins outs i o) ∙ ap (λ ns. face_names b ins outs ++ ns) (sym (names_declared c.internals inner n))
+
 -- there is one scope only
 same_scope : (b : BlockTree) (c : ChartTree) (k : book.Block) (env : List Entry) (x : IsBasic b c k) → IsScope b c env → env ≡ scope x.ins x.outs x.inner
 same_scope b c k env x s =
@@ -70,8 +74,7 @@ no_block_fault b c k f x (no_memory_for_block e) = e
 no_block_fault b c k f x (faulty_face h) = no_face_fault b x.ins x.outs (face_of k) f x.face (new_split [] (face_names b x.ins x.outs) (names_in x.inner) x.names).0 h
 no_block_fault b c k f x (excess h) = no_chart_excess b c k f x h
 no_block_fault b c k f x (repeated_variable h) =
-    no_repetition [] (own_words b ++ words_in c.internals) f h
-    (subst AreDistinct (sym (texts_append (own_words b) (words_in c.internals) ∙ ap (λ ns. ns ++ texts (words_in c.internals)) (own_names_are b x.ins x.outs x.face.inputs x.face.outputs) ∙ ap (λ ns. face_names b x.ins x.outs ++ ns) (sym (names_declared c.internals x.inner x.internals)))) x.names)
+    no_repetition [] (own_words b ++ words_in c.internals) f h (subst AreDistinct (sym (all_names_are b c x.ins x.outs x.inner x.face.inputs x.face.outputs x.internals)) x.names)
 no_block_fault b c k f x (repeated_state h) = no_repetition [] (map (λ s. s.name) c.states) f h (subst AreDistinct (sym (map_map (λ w. w.text) (λ s. s.name) c.states)) x.state_names)
 no_block_fault b c k f x (repeated_algorithm h) = no_repetition [] (map (λ a. a.name) c.algorithms) f h (subst AreDistinct (sym (map_map (λ w. w.text) (λ a. a.name) c.algorithms)) x.algorithm_names)
 no_block_fault b c k f x (faulty_internal h) = absurd (no_variables_fault c.internals x.inner f x.internals h)

@@ -1,14 +1,13 @@
 -- Parts of an interface.
-use Rattle.std.proofs.Common.{◌≡◌, ℕ, ◌≤◌, List, [], ◌∷◌, ◌++◌, Result, Ok, Err, IfOk, IfErr, map, length, refl, sym, ap, subst, ◌∙◌, string_bytes, arith, append_assoc}
+use Rattle.std.proofs.Common.{◌≡◌, ℕ, ◌≤◌, List, [], ◌++◌, Result, Ok, Err, IfOk, IfErr, map, length, sym, ap, subst, ◌∙◌, string_bytes, arith}
 use Rattle.std.proofs.lemmas.List.{length-map}
 use Rattle.std.specs.declared.string.String.{String}
 use Rattle.std.specs.declared.alloc.Global.{Global}
 use Rattle.indexmap.specs.IndexMap.{IndexMap}
-use Rattle.fb_model.specs.Names.{Name}
 use Rattle.fb_model.specs.Productions.{Word}
 use Rattle.fb_model.specs.Declarations as decl
 use Rattle.fb_model.specs.System as book
-use Rattle.fb_model.specs.Typing.{AreNew, AreDistinct, texts}
+use Rattle.fb_model.specs.Typing.{AreDistinct, texts}
 use Rattle.fb_model.specs.BlockTyping.{Declared, AreDeclared, IsFace, IsBasic, face_names, words_in, names_in, event_texts}
 use Rattle.fb_source.specs.declared.tree.EventTree.{EventTree}
 use Rattle.fb_source.specs.Views as tree
@@ -17,7 +16,7 @@ use Rattle.fb_blocks.specs.declared.fault.TypeFault.TheVariants.{OutOfMemory}
 use Rattle.fb_blocks.specs.declared.typed.Variable.{Variable}
 use Rattle.fb_blocks.specs.declared.typed.Face.{Face}
 use Rattle.fb_blocks.specs.declared.typed.Block.{Block}
-use Rattle.fb_blocks.specs.Answers.{names_in_map, event_words, own_words, Finds, IsTypedBlock}
+use Rattle.fb_blocks.specs.Answers.{names_in_map, event_words, Finds, IsTypedBlock}
 use Rattle.fb_blocks.specs.Views.{declared_of, declared_in, face_of, block_of}
 use Rattle.fb_blocks.specs.Refusals.{IsFaceFault, IsBasicFault}
 use Rattle.fb_blocks.proofs.Lists.{map_map, texts_append, new_split, new_second}

@@ -1,7 +1,7 @@
 -- Lists of names.
-use Rattle.std.proofs.Common.{◌≡◌, List, [], ◌∷◌, ◌++◌, Bool, true, false, not, cond, ◌||◌, map, ℕ, refl, ap, sym, subst, ◌∙◌, ◌≤◌, length, append_assoc, string_bytes, Result, Ok, Err, OnOk, IfOk, take, get_or, ◌<◌, ◌+◌}
+use Rattle.std.proofs.Common.{◌≡◌, List, [], ◌∷◌, ◌++◌, Bool, true, false, not, cond, ◌||◌, map, ℕ, refl, ap, sym, subst, ◌∙◌, length, append_assoc, string_bytes, Result, Ok, Err, OnOk, take, get_or, ◌<◌, ◌+◌}
 use Rattle.std.specs.List.{list_any}
-use Rattle.std.proofs.lemmas.List.{map_push, append-nil, length-map, take_more, map-append}
+use Rattle.std.proofs.lemmas.List.{map_push, append-nil, take_more, map-append}
 use Rattle.std.specs.Str.{bytes_eq}
 use Rattle.std.specs.declared.string.String.{String}
 use Rattle.std.specs.declared.alloc.Global.{Global}

@@ -1,11 +1,11 @@
 -- Numbers of constants.
-use Rattle.std.proofs.Common.{◌≡◌, ℕ, ℤ, [], Result, Ok, Err, IfOk, IfErr, refl, sym, ap, subst, ◌∙◌}
+use Rattle.std.proofs.Common.{◌≡◌, ℕ, ℤ, [], Result, Ok, Err, IfOk, IfErr, sym, ap, ◌∙◌}
 use Rattle.fb_words.specs.declared.elem_type.ElemType.{ElemType}
 use Rattle.fb_words.specs.declared.elem_type.ElemType.TheVariants as t
 use Rattle.fb_model.specs.Trees.{Constant}
 use Rattle.fb_model.specs.StructuredText.{literal}
 use Rattle.fb_model.specs.TypedText.{Term, constant}
-use Rattle.fb_model.specs.TextTyping.{IsAsked, IsNumber}
+use Rattle.fb_model.specs.TextTyping.{IsNumber}
 use Rattle.fb_model.specs.TextFaults.{Fault, unknown_name, type_mismatch, bad_literal, not_writable}
 use Rattle.fb_model.specs.BlockTyping.{IsGiven}
 use Rattle.st_types.specs.Elaborating.{asked}

@@ -14,7 +14,7 @@ use Rattle.fb_model.specs.BlockTyping.{Declared, declared, IsGiven, AreBounds, n
 use Rattle.st_types.proofs.Commands.{one_asked, one_command_list}
 use Rattle.fb_blocks.proofs.Faultless.{one_number}
 
-one_given : (a : ElemType) (c : Constant) (n m : ℤ) → IsGiven a c n → IsGiven a c m → n ≡ m
+pub one_given : (a : ElemType) (c : Constant) (n m : ℤ) → IsGiven a c n → IsGiven a c m → n ≡ m
 one_given a c n m h k = same (one_asked [] a (literal c) (constant n) (constant m) h k) where
   same : constant n ≡ constant m → n ≡ m
   same e = cc

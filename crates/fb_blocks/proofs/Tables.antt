@@ -1,5 +1,5 @@
 -- Tables of names against maps.
-use Rattle.std.proofs.Common.{◌≡◌, ℕ, Bool, true, false, cond, ◌||◌, List, [], ◌∷◌, ◌++◌, map, Option, Some, is_some, refl, sym, ap, subst, ◌∙◌, string_bytes}
+use Rattle.std.proofs.Common.{◌≡◌, Bool, true, false, cond, ◌||◌, List, [], ◌∷◌, ◌++◌, map, Option, Some, is_some, refl, sym, ap, subst, ◌∙◌, string_bytes}
 use Rattle.std.specs.Map.{lookup}
 use Rattle.std.proofs.lemmas.List.{map_push}
 use Rattle.std.specs.Str.{bytes_eq}
@@ -7,6 +7,7 @@ use Rattle.std.specs.declared.string.String.{String}
 use Rattle.std.specs.declared.alloc.Global.{Global}
 use Rattle.indexmap.specs.IndexMap.{insert_entry}
 use Rattle.fb_model.specs.Names.{Name, is_in}
+use Rattle.fb_blocks.proofs.Lists.{map_map}
 
 abbrev pub pairs : {V : Type 0} → List (String Global × V) → List (Name × V)
 pairs es = map (λ e. (string_bytes e.0, e.1)) es
@@ -39,10 +40,6 @@ pub adds : {V : Type 0} (es new : List (String Global × V)) (k : String Global)
 adds es new k name v e h n =
     let g : is_in (string_bytes k) (names es) ≡ false = subst (λ p. is_in p (names es) ≡ false) (sym e) h in
     ap pairs n ∙ subst (λ p. pairs (insert_entry (λ a b. bytes_eq (string_bytes a) (string_bytes b)) es k v) ≡ pairs es ++ (p, v) ∷ []) e (entries_with es k v g)
-
-map_map : {X Y Z : Type 0} (g : Y → Z) (f : X → Y) (xs : List X) → map g (map f xs) ≡ map (λ x. g (f x)) xs
-map_map g f [] = refl
-map_map g f (x ∷ xs) = ap (λ ys. g (f x) ∷ ys) (map_map g f xs)
 
 -- a new entry, as it is seen
 pub seen : {V Y : Type 0} (f : Name → V → Y) (es new : List (String Global × V)) (name : Name) (v : V) → pairs new ≡ pairs es ++ (name, v) ∷ []

@@ -1,7 +1,7 @@
 -- Declarations of variables, one after another.
 use Rattle.std.proofs.Common.{◌≡◌, ℕ, suc, zero, ◌+◌, ◌-◌, ◌<◌, ◌≤◌, ℤ, List, [], ◌∷◌, ◌++◌, Option, Some, map, length, drop, get_or, refl, sym, ap, subst, ◌∙◌, append_assoc, arith}
 use Rattle.std.specs.Prelude.{slice_get}
-use Rattle.std.proofs.lemmas.List.{length-map, append-nil, map-append}
+use Rattle.std.proofs.lemmas.List.{append-nil, map-append}
 use Rattle.fb_words.specs.declared.elem_type.ElemType.{ElemType}
 use Rattle.fb_read.specs.declared.token.Name.{Name as TextName}
 use Rattle.fb_read.specs.Answers.{word_of}
@@ -16,7 +16,7 @@ use Rattle.fb_blocks.specs.declared.fault.TypeFault.{TypeFault}
 use Rattle.fb_blocks.specs.declared.fault.TypeFault.TheVariants.{Limit}
 use Rattle.fb_blocks.specs.Refusals.{IsExcess}
 use Rattle.fb_blocks.proofs.Lists.{map_map, texts_append, new_split}
-use Rattle.fb_blocks.proofs.Refused.{drop_step, drop_all}
+use Rattle.fb_blocks.proofs.Refused.{drop_step}
 
 -- the words that are left, from the declaration at i on
 pub words_left : (vs : List VariableTree) (i : ℕ) (v : VariableTree) → i < length vs → v ≡ get_or vs i v

@@ -1,5 +1,6 @@
 -- What the code's answers are in the words of the definitions.
 use Rattle.std.specs.Prelude.{◌≡◌, ◌++◌, ℕ, List, [], ◌∷◌, Bool, not, cond, map, string_bytes, Option, None, Some, Result, Ok, Err}
+use Rattle.std.specs.List.{AllByRecursion}
 use Rattle.std.specs.declared.string.String.{String}
 use Rattle.std.specs.declared.alloc.Global.{Global}
 use Rattle.indexmap.specs.IndexMap.{IndexMap}
@@ -8,7 +9,10 @@ use Rattle.fb_model.specs.Names.{Name, is_in}
 use Rattle.fb_model.specs.Productions.{Word}
 use Rattle.fb_model.specs.Declarations.{EventTree, BlockTree, ChartTree}
 use Rattle.fb_model.specs.TextFaults.{Fault, unknown_name, type_mismatch, bad_literal, not_writable}
-use Rattle.fb_model.specs.BlockTyping.{IsBasic, words_in}
+use Rattle.fb_model.specs.TextTyping.{Entry}
+use Rattle.fb_model.specs.Typing.{typed_state, state_texts}
+use Rattle.fb_model.specs.BlockTyping.{IsBasic, IsActionTyped, AreTransitions, AreProcedures, words_in, algorithm_texts}
+use Rattle.fb_model.specs.System as book
 use Rattle.fb_blocks.specs.declared.fault.TypeFault.{TypeFault}
 use Rattle.fb_blocks.specs.declared.fault.TypeFault.TheVariants.{OutOfMemory, UnknownName, TypeMismatch, BadLiteral, NotWritable}
 use Rattle.fb_blocks.specs.declared.typed.Block.{Block}
@@ -58,6 +62,13 @@ abbrev pub Finds : {X Y : Type 0} → (X → Y) → Result X TypeFault → Y →
 Finds view (Ok x) y = view x ≡ y
 Finds view (Err OutOfMemory) y = Unit {0}
 Finds view (Err other) y = ⊥
+
+-- states, transitions and algorithms are what a chart elaborates to, in a scope, at a block with these event inputs and event outputs
+pub record IsChart (env : List Entry) (inputs outputs : List Name) (c : ChartTree) (ss : List book.State) (ts : List book.Transition) (ps : List book.Procedure) : Type 0 where
+  pub actions : AllByRecursion (λ s. AllByRecursion (IsActionTyped (algorithm_texts c.algorithms) outputs) s.actions) c.states
+  pub states : ss ≡ map typed_state c.states
+  pub transitions : AreTransitions env (state_texts c.states) inputs c.transitions ts
+  pub procedures : AreProcedures env c.algorithms ps
 
 -- a block is what its declaration elaborates to, and its variables are those of the declaration
 pub record IsTypedBlock (b : BlockTree) (c : ChartTree) (k : Block) : Type 0 where

@@ -1,6 +1,6 @@
 -- What a refusal says of a declaration: this project's profile, for names, types and limits of IEC 61499-1 edition 2, 4.5 and 5.2.
 -- Each says what is at fault and where it stands. Memory that ran out says nothing.
-use Rattle.std.specs.Prelude.{ℕ, suc, ◌≡◌, ◌≤◌, ℤ, pos, ◌+ℤ◌, List, [], ◌∷◌, ◌++◌, Option, None, Some, true, false, map, slice_get, ◌⊎◌, if◌then◌else◌}
+use Rattle.std.specs.Prelude.{ℕ, suc, ◌≡◌, ◌≤◌, ℤ, pos, ◌+ℤ◌, List, [], ◌∷◌, ◌++◌, Option, None, Some, false, map, slice_get, ◌⊎◌, if◌then◌else◌}
 use Rattle.std.specs.List.{Any}
 use Rattle.fb_words.specs.declared.elem_type.ElemType.{ElemType}
 use Rattle.fb_words.specs.declared.elem_type.ElemType.TheVariants as t
@@ -12,7 +12,7 @@ use Rattle.fb_model.specs.StructuredText.{literal}
 use Rattle.fb_model.specs.TextTyping.{Entry, IsNumber}
 use Rattle.fb_model.specs.TextFaults.{Fault, unknown_name, type_mismatch, bad_literal, not_writable, IsNotAsked, IsNoNumber, SomeMisdone}
 use Rattle.fb_model.specs.Typing.{texts, state_texts, most_ports, most_states, most_transitions}
-use Rattle.fb_model.specs.BlockTyping.{Declared, IsFace, AreDeclared, words_in, algorithm_texts, event_texts, scope, most_algorithms, most_elements, IsActionTyped}
+use Rattle.fb_model.specs.BlockTyping.{Declared, AreDeclared, words_in, algorithm_texts, event_texts, scope, most_algorithms, most_elements}
 use Rattle.fb_blocks.specs.declared.fault.TypeFault.{TypeFault}
 use Rattle.fb_blocks.specs.declared.fault.TypeFault.TheVariants.{OutOfMemory, UnknownName, DuplicateName, TypeMismatch, BadLiteral, NotWritable, Limit}
 use Rattle.fb_blocks.specs.Answers.{event_words, own_words, place_of}
@@ -147,6 +147,12 @@ pub data IsTransitionFault (env : List Entry) (states inputs : List Name) (c : T
 -- what is at fault in an algorithm
 abbrev pub IsAlgorithmFault : List Entry → AlgorithmTree → TypeFault → Type 0
 IsAlgorithmFault env a f = IsTextFault (SomeMisdone env [] a.body) f
+
+-- what is at fault in a chart, in a scope, at a block with these event inputs and event outputs
+pub data IsChartFault (env : List Entry) (inputs outputs : List Name) (c : ChartTree) (f : TypeFault) : Type 0 where
+  in_actions : Among (IsStateFault (algorithm_texts c.algorithms) outputs) c.states f → IsChartFault env inputs outputs c f
+  in_transitions : Among (IsTransitionFault env (state_texts c.states) inputs) c.transitions f → IsChartFault env inputs outputs c f
+  in_algorithms : Among (IsAlgorithmFault env) c.algorithms f → IsChartFault env inputs outputs c f
 
 -- there is more in a chart than is allowed
 pub data IsChartExcess (c : ChartTree) (f : TypeFault) : Type 0 where

@@ -1,5 +1,5 @@
 -- What typed block types are in the book, without where they lie in memory.
-use Rattle.std.specs.Prelude.{ℤ, List, map, string_bytes, Option, None, Some}
+use Rattle.std.specs.Prelude.{List, map, string_bytes, Option}
 use Rattle.std.specs.Option.{option_map}
 use Rattle.std.specs.declared.string.String.{String}
 use Rattle.std.specs.declared.vec.Vec.{Vec}

@@ -1,17 +1,21 @@
-//! Types of blocks: declarations of interfaces, and what typed basic blocks are.
+//! Types of blocks: declarations of interfaces and of basic blocks to typed ones.
 #![tactic(auto)]
 
+mod block;
+mod chart;
 mod event;
 mod fault;
 mod interface;
 mod laws;
 mod names;
 mod number;
+mod scope;
 #[cfg(test)]
 mod tests;
 mod typed;
 mod variable;
 
+pub use block::basic;
 pub use fault::TypeFault;
 pub use interface::face;
 pub use laws::{one_block, one_face, refusals_are_true};

@@ -43,6 +43,14 @@ pub struct Transition {
     pub guard: Option<TypedExpr>,
 }
 
+/// The execution control chart of a basic block, and its algorithms.
+#[derive(Debug, Drop)]
+pub(crate) struct ControlChart {
+    pub(crate) states: IndexMap<String, Vec<Action>>,
+    pub(crate) transitions: Vec<Transition>,
+    pub(crate) procedures: IndexMap<String, Algo>,
+}
+
 /// A basic block type: IEC 61499-1 edition 2, 5.2. Its first state is the initial one.
 #[derive(Debug, Drop)]
 pub struct Block {

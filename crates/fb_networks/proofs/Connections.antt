@@ -1,5 +1,5 @@
 -- Ends as code finds them are those of the definition.
-use Rattle.std.proofs.Common.{◌≡◌, Bool, true, false, cond, List, [], ◌∷◌, ◌++◌, Option, Some, None, option_map, refl, sym, ap, subst, ◌∙◌}
+use Rattle.std.proofs.Common.{◌≡◌, Bool, true, false, cond, List, Option, Some, None, option_map, refl, sym, subst}
 use Rattle.fb_words.specs.declared.elem_type.ElemType.{ElemType}
 use Rattle.fb_model.specs.Names.{Name, is_in}
 use Rattle.fb_model.specs.Productions.{Word}
@@ -8,8 +8,7 @@ use Rattle.fb_model.specs.System.{Face, Body, Instances, End, Connection, Variab
 use Rattle.fb_model.specs.TextTyping.{widens}
 use Rattle.fb_model.specs.Typing.{names_of, event_inputs_of, event_outputs_of, body_named}
 use Rattle.fb_model.specs.Wires.{inputs_of}
-use Rattle.fb_model.specs.NetworkTyping.{variable_named, outputs_of, IsEnd, own_port, port_of, IsValueEnd, own_value, value_at, IsEventConnection, IsValueConnection, passes}
-use Rattle.fb_networks.specs.declared.end.Way.{Way}
+use Rattle.fb_model.specs.NetworkTyping.{variable_named, outputs_of, IsEnd, own_port, port_of, IsValueEnd, own_value, value_at, IsValueConnection, passes}
 use Rattle.fb_networks.specs.declared.end.Way.TheVariants as w
 use Rattle.fb_networks.specs.declared.end.Carried.{Carried}
 use Rattle.fb_networks.specs.declared.end.Carried.TheVariants.{Events, Values}

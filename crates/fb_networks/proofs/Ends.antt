@@ -1,11 +1,8 @@
 -- What ports carry.
-use Rattle.std.proofs.Common.{◌≡◌, Option, Some, None, option_map, refl, ap, ◌∙◌, List, Bool, true, false}
+use Rattle.std.proofs.Common.{◌≡◌, Option, Some, None, option_map, refl, ap, ◌∙◌}
 use Rattle.fb_words.specs.declared.elem_type.ElemType.{ElemType}
-use Rattle.fb_model.specs.Names.{Name}
 use Rattle.fb_model.specs.System.{Variable}
-use Rattle.fb_model.specs.NetworkTyping.{variable_named}
 use Rattle.fb_services.specs.Views.{typed_as}
-use Rattle.fb_networks.specs.declared.end.Carried.{Carried}
 use Rattle.fb_networks.specs.declared.end.Carried.TheVariants.{Values}
 
 twice : (o : Option Variable) → option_map Values (option_map (λ v. v.type) o) ≡ option_map (λ v. Values v.type) o

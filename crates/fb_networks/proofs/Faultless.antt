@@ -20,7 +20,7 @@ use Rattle.fb_networks.specs.Answers.{Finds}
 use Rattle.fb_networks.proofs.Loops.{any_nil, any_cons}
 use Rattle.fb_networks.specs.Ends.{event_port, value_port, inner_port, IsPortEnd, own, within, carries_to}
 use Rattle.fb_networks.specs.Ends as code
-use Rattle.fb_networks.specs.Refusals.{IsOwnFault, no_memory_for_own, wrong_own, IsInnerFault, no_memory_for_inner, wrong_inner, IsEndFault, faulty_own, unknown_instance, faulty_inner, IsEventFault, faulty_source, faulty_target, passing, Among, IsValueFault, no_memory_for_value, faulty_origin, faulty_goal, passing_value, other_type, second_source, IsValuesFault, this_value, later_value}
+use Rattle.fb_networks.specs.Refusals.{no_memory_for_own, wrong_own, no_memory_for_inner, wrong_inner, IsEndFault, faulty_own, unknown_instance, faulty_inner, IsEventFault, faulty_source, faulty_target, passing, Among, IsValueFault, no_memory_for_value, faulty_origin, faulty_goal, passing_value, other_type, second_source, IsValuesFault, this_value, later_value}
 
 -- ---- ends
 
@@ -89,11 +89,11 @@ event_true f inner c d t h (passing {d = u} {e = v} {k = k} {l = l} a b p e) =
     let g = (one_end w.EventTarget f inner c.target v l b).0 ∙ sym (target_says f inner c.target d.target h.target).0 in
     absurd (not_both (passes u v) (passes d.source d.target) (ap (λ i. passes i v) s ∙ ap (λ i. passes d.source i) g) p h.stays)
 
-events_are : (f : Face) (inner : Instances) (cs : List ConnectionTree) (ds : List Connection) → AreEventConnections f inner cs ds → ds ≡ map at_ends cs
+pub events_are : (f : Face) (inner : Instances) (cs : List ConnectionTree) (ds : List Connection) → AreEventConnections f inner cs ds → ds ≡ map at_ends cs
 events_are f inner cs ds no_event = refl
 events_are f inner cs ds (an_event {c = c} {cs = rest} {d = d} {ds = others} h t) = rw (event_is f inner c d h, events_are f inner rest others t) refl
 
-events_true : (f : Face) (inner : Instances) (cs : List ConnectionTree) (ds : List Connection) (t : TypeFault) → AreEventConnections f inner cs ds → Any (λ c. IsEventFault f inner c t) cs → t ≡ faults.OutOfMemory
+pub events_true : (f : Face) (inner : Instances) (cs : List ConnectionTree) (ds : List Connection) (t : TypeFault) → AreEventConnections f inner cs ds → Any (λ c. IsEventFault f inner c t) cs → t ≡ faults.OutOfMemory
 events_true f inner cs ds t no_event a = absurd (any_nil a)
 events_true f inner cs ds t (an_event {c = c} {cs = rest} {d = d} {ds = others} h k) a = elim (any_cons c rest a) [ inl x ↦ event_true f inner c d t h x | inr x ↦ events_true f inner rest others t k x ]
 
@@ -130,14 +130,14 @@ value_true f inner before c d t h new (second_source {e = v} {l = l} into alread
     let g = (one_end w.ValueTarget f inner c.target v l into).0 ∙ sym (goal_says f inner c.target d.target h.taken h.target).0 in
     absurd (not_both (is_taken before v) (is_taken before d.target) (ap (is_taken before) g) already new)
 
-values_are : (f : Face) (inner : Instances) (before : List End) (cs : List ConnectionTree) (ds : List Connection) → AreValueConnections f inner before cs ds → ds ≡ map at_ends cs
+pub values_are : (f : Face) (inner : Instances) (before : List End) (cs : List ConnectionTree) (ds : List Connection) → AreValueConnections f inner before cs ds → ds ≡ map at_ends cs
 values_are f inner before cs ds no_value = refl
 values_are f inner before cs ds (a_value {c = c} {cs = rest} {d = d} {ds = others} h n t) = rw (value_is f inner c d h, values_are f inner (before ++ d.target ∷ []) rest others t) refl
 
 nothing_wrong : {f : Face} {inner : Instances} {before : List End} {t : TypeFault} → IsValuesFault f inner before [] t → ⊥
 nothing_wrong x = elim x [ ]
 
-values_true : (f : Face) (inner : Instances) (before : List End) (cs : List ConnectionTree) (ds : List Connection) (t : TypeFault) → AreValueConnections f inner before cs ds → IsValuesFault f inner before cs t → t ≡ faults.OutOfMemory
+pub values_true : (f : Face) (inner : Instances) (before : List End) (cs : List ConnectionTree) (ds : List Connection) (t : TypeFault) → AreValueConnections f inner before cs ds → IsValuesFault f inner before cs t → t ≡ faults.OutOfMemory
 values_true f inner before cs ds t no_value x = absurd (nothing_wrong x)
 values_true f inner before cs ds t (a_value {c = c} {cs = rest} {d = d} {ds = others} h n k) (this_value x) = value_true f inner before c d t h n x
 values_true f inner before cs ds t (a_value {c = c} {cs = rest} {d = d} {ds = others} h n k) (later_value {d = e} g m x) =

@@ -6,3 +6,7 @@ pub mod Connections
 pub mod Taken
 pub mod Loops
 pub mod Faultless
+pub mod Parameters
+pub mod Naming
+pub mod Giving
+pub mod Networks

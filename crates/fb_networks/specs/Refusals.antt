@@ -1,16 +1,24 @@
 -- What is at fault in a network, and where.
-use Rattle.std.specs.Prelude.{ℕ, ◌≡◌, ◌⊎◌, Bool, true, false, List, [], ◌∷◌, ◌++◌, map, Option, None, Some}
+use Rattle.std.specs.Prelude.{ℕ, ◌≡◌, ◌⊎◌, Bool, true, false, List, [], ◌∷◌, ◌++◌, map, None, Some}
 use Rattle.std.specs.List.{Any}
 use Rattle.fb_words.specs.declared.elem_type.ElemType.{ElemType}
 use Rattle.fb_model.specs.Productions.{Word}
-use Rattle.fb_model.specs.Trees.{PortTree, ConnectionTree}
-use Rattle.fb_model.specs.System.{Face, Body, Instances, End, Connection}
+use Rattle.fb_model.specs.Names.{Name, is_in}
+use Rattle.fb_model.specs.Trees.{PortTree, ConnectionTree, ParameterTree}
+use Rattle.fb_model.specs.Declarations.{InstanceTree, NetworkTree}
+use Rattle.fb_model.specs.System.{Face, Body, Instances, End, Connection, Variable, Service}
 use Rattle.fb_model.specs.Typing.{body_named}
 use Rattle.fb_blocks.specs.declared.fault.TypeFault.{TypeFault}
 use Rattle.fb_blocks.specs.declared.fault.TypeFault.TheVariants.{OutOfMemory, UnknownName, TypeMismatch, BadConnection, TwoSources}
+use Rattle.fb_blocks.specs.Refusals.{IsRepetition, IsMisgiven}
+use Rattle.fb_services.specs.Refusals.{IsBareFault, IsServiceFault}
+use Rattle.fb_networks.specs.Views.{Placed, placed_in}
+use Rattle.fb_networks.specs.Answers.{own_names}
 use Rattle.fb_networks.specs.declared.end.Way.{Way}
 use Rattle.fb_model.specs.TextTyping.{widens}
-use Rattle.fb_model.specs.NetworkTyping.{IsValueConnection, passes, is_taken}
+use Rattle.fb_model.specs.NetworkTyping.{IsValueConnection, IsService, passes, is_taken, variable_named, given_in, lacking, reserved}
+use Rattle.fb_model.specs.Services.{service_inputs}
+use Rattle.fb_model.specs.Wires.{inputs_of}
 use Rattle.fb_networks.specs.declared.end.Way.TheVariants.{EventSource, EventTarget, ValueSource, ValueTarget}
 use Rattle.fb_networks.specs.declared.end.Carried.{Carried}
 use Rattle.fb_networks.specs.declared.end.Carried.TheVariants.{Values}
@@ -69,3 +77,41 @@ pub data IsValuesFault (f : Face) (inner : Instances) : List End → List Connec
   this_value : {before : List End} {c : ConnectionTree} {cs : List ConnectionTree} {w : TypeFault} → IsValueFault f inner before c w → IsValuesFault f inner before (c ∷ cs) w
   later_value : {before : List End} {c : ConnectionTree} {cs : List ConnectionTree} {d : Connection} {w : TypeFault}
       → IsValueConnection f inner c d → is_taken before d.target ≡ false → IsValuesFault f inner (before ++ d.target ∷ []) cs w → IsValuesFault f inner before (c ∷ cs) w
+
+-- ---- parameters and instances
+
+-- what is at fault in a parameter of data inputs, where these names have a value
+pub data IsParameterFault (vs : List Variable) (before : List Name) (p : ParameterTree) (w : TypeFault) : Type 0 where
+  no_memory_for_parameter : w ≡ OutOfMemory → IsParameterFault vs before p w
+  -- a name that is no data input, at it
+  unknown_input : variable_named vs p.name.text ≡ None → w ≡ UnknownName p.name.at → IsParameterFault vs before p w
+  -- a data input that has a value already, at the `:=`
+  given_again : is_in p.name.text before ≡ true → w ≡ TwoSources p.at → IsParameterFault vs before p w
+  -- a value that is not one of the type
+  misgiven : {v : Variable} → variable_named vs p.name.text ≡ Some v → IsMisgiven v.type p.at p.value w → IsParameterFault vs before p w
+
+-- what is at fault in parameters: one of them, where those before it give values
+pub data IsParametersFault (vs : List Variable) : List Name → List ParameterTree → TypeFault → Type 0 where
+  this_parameter : {before : List Name} {p : ParameterTree} {ps : List ParameterTree} {w : TypeFault} → IsParameterFault vs before p w → IsParametersFault vs before (p ∷ ps) w
+  later_parameter : {before : List Name} {p : ParameterTree} {ps : List ParameterTree} {w : TypeFault} → IsParametersFault vs (before ++ p.name.text ∷ []) ps w → IsParametersFault vs before (p ∷ ps) w
+
+-- what is at fault in an instance of a declared type with this body
+pub data IsPlainFault (i : InstanceTree) (body : Body) (w : TypeFault) : Type 0 where
+  no_memory_for_plain : w ≡ OutOfMemory → IsPlainFault i body w
+  with_types : IsBareFault i w → IsPlainFault i body w
+  faulty_parameters : IsParametersFault (inputs_of body) [] i.parameters w → IsPlainFault i body w
+
+-- what is at fault in an instance of a service
+pub data IsServedFault (i : InstanceTree) (w : TypeFault) : Type 0 where
+  no_memory_for_served : w ≡ OutOfMemory → IsServedFault i w
+  faulty_service : IsServiceFault i w → IsServedFault i w
+  faulty_values : {s : Service} → IsService i s → IsParametersFault (service_inputs s) [] (lacking (reserved s) i.parameters) w → IsServedFault i w
+
+-- ---- networks
+
+-- what is at fault in a network of these instances
+pub data IsNetworkFault (f : Face) (n : NetworkTree) (ps : List Placed) (w : TypeFault) : Type 0 where
+  no_memory_for_network : w ≡ OutOfMemory → IsNetworkFault f n ps w
+  repeated_instance : IsRepetition (own_names f) (map (λ i. i.name) n.instances) w → IsNetworkFault f n ps w
+  faulty_events : Among (IsEventFault f (placed_in ps)) n.events w → IsNetworkFault f n ps w
+  faulty_values_of : IsValuesFault f (placed_in ps) (given_in (placed_in ps)) n.values w → IsNetworkFault f n ps w

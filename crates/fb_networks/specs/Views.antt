@@ -1,5 +1,5 @@
 -- What typed networks are in the book, without where they lie in memory.
-use Rattle.std.specs.Prelude.{List, [], ◌∷◌, map, string_bytes, Option, None, Some}
+use Rattle.std.specs.Prelude.{List, [], ◌∷◌, map, string_bytes}
 use Rattle.std.specs.Option.{option_map}
 use Rattle.std.specs.declared.string.String.{String}
 use Rattle.std.specs.declared.alloc.Global.{Global}

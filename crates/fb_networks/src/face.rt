@@ -4,6 +4,7 @@ ghost use Rattle.std.specs.Prelude.{◌≡◌};
 ghost use Rattle.fb_model.specs.Names.{is_in};
 ghost use Rattle.fb_model.specs.Typing.{names_of};
 ghost use Rattle.fb_model.specs.NetworkTyping.{variable_named};
+ghost use Rattle.fb_model.specs.Store.{variable_names};
 ghost use Rattle.fb_blocks.specs.Views.{events_of, variables_of};
 ghost use Rattle.fb_services.specs.Views.{typed_as};
 
@@ -23,4 +24,11 @@ pub fn type_in(variables: &Variables, name: &str) -> Option<ElemType>
 {
     let variable = variables.get(name).copied()?;
     Some(variable.of_type)
+}
+
+/// Whether there is a variable of this name.
+pub fn has_variable(variables: &Variables, name: &str) -> bool
+    ensures { result ≡ is_in name.now (variable_names (variables_of variables.now)) }
+{
+    variables.contains_key(name)
 }

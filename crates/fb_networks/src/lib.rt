@@ -1,16 +1,19 @@
-//! Networks of function block instances: their ports and their connections.
+//! Networks of function block instances: parameters and connections.
 #![tactic(auto)]
 
 mod body;
 mod end;
 mod event;
 mod face;
+mod instance;
+mod laws;
 #[cfg(test)]
 mod tests;
 mod typed;
 mod value;
+mod wiring;
 
-pub use end::{Carried, Site, Way};
-pub use event::events;
+pub use instance::{plain, served};
+pub use laws::{one_network, refusals_are_true};
 pub use typed::{Body, Connection, End, Instance, Network, Parameter};
-pub use value::{Taken, take, values};
+pub use wiring::wire;

@@ -1,28 +1,22 @@
-use crate::{Body, Instance, Site, Taken, events, values};
-use fb_blocks::Face;
-use fb_services::served;
+use crate::{Body, Instance, Network, plain, served, wire};
+use fb_blocks::{Face, TypeFault};
 use fb_source::{NetworkTree, parse};
-use indexmap::{IndexMap, IndexSet};
-use std::alloc::Global;
+use indexmap::IndexMap;
+use std::alloc::{AllocError, Global};
+use std::rc::Rc;
 use std::test::Fail;
 
-// The services among the instances of a network.
-fn instances(alloc: Global, network: &NetworkTree) -> Result<Vec<Instance>, Fail> {
-    let mut instances = Vec::new(alloc);
-    for tree in &network.instances {
-        if let Ok(Some(service)) = served(alloc, tree) {
-            instances.push(Instance {
-                name: tree.name.text.clone()?,
-                at: tree.name.at,
-                parameters: Vec::new(alloc),
-                body: Body::Served(service),
-            })?;
-        }
+// An interface without ports.
+fn nothing(alloc: Global) -> Face {
+    Face {
+        event_inputs: IndexMap::new(alloc),
+        event_outputs: IndexMap::new(alloc),
+        inputs: IndexMap::new(alloc),
+        outputs: IndexMap::new(alloc),
     }
-    Ok(instances)
 }
 
-// An interface with the event input GO, the event output DONE and the data input X, as FUNCTION_BLOCK would give it.
+// An interface with the event input GO, the event output DONE, the data input X and the data output Y, as FUNCTION_BLOCK gives it.
 fn surface(alloc: Global) -> Result<Face, Fail> {
     let text =
         "FUNCTION_BLOCK B EVENT_INPUT GO; END_EVENT EVENT_OUTPUT DONE; END_EVENT VAR_INPUT X : INT; END_VAR VAR_OUTPUT Y : DINT; END_VAR FBS END_FBS END_FUNCTION_BLOCK SYSTEM S END_SYSTEM";
@@ -33,42 +27,58 @@ fn surface(alloc: Global) -> Result<Face, Fail> {
             }
         }
     }
-    Ok(Face {
-        event_inputs: IndexMap::new(alloc),
-        event_outputs: IndexMap::new(alloc),
-        inputs: IndexMap::new(alloc),
-        outputs: IndexMap::new(alloc),
-    })
+    Ok(nothing(alloc))
 }
 
-// What the connections of a network are: how many of events and of data, or the refusal as it is printed.
-fn joined(alloc: Global, network: &NetworkTree) -> Result<String, Fail> {
-    let face = surface(alloc)?;
-    let instances = instances(alloc, network)?;
-    let mut names = IndexSet::new(alloc);
-    for instance in &instances {
-        let _ = names.insert(instance.name.clone()?)?;
+// A composite with this interface and nothing in it.
+fn hollow(alloc: Global, face: Face) -> Result<Body, AllocError> {
+    let network = Network {
+        instances: Vec::new(alloc),
+        events: Vec::new(alloc),
+        values: Vec::new(alloc),
+    };
+    Ok(Body::Composite(Rc::new(alloc, face)?, Rc::new(alloc, network)?))
+}
+
+// The instances of a network: those of services, and others of the type with the interface above.
+fn instances(
+    alloc: Global,
+    network: &NetworkTree,
+) -> Result<Result<Vec<Instance>, TypeFault>, Fail> {
+    let mut instances = Vec::new(alloc);
+    for tree in &network.instances {
+        match served(alloc, tree) {
+            Ok(Some(instance)) => instances.push(instance)?,
+            Ok(None) => match plain(alloc, tree, hollow(alloc, surface(alloc)?)?) {
+                Ok(instance) => instances.push(instance)?,
+                Err(fault) => return Ok(Err(fault)),
+            },
+            Err(fault) => return Ok(Err(fault)),
+        }
     }
-    let site = Site {
-        face: &face,
-        names: &names,
-        instances: &instances,
+    Ok(Ok(instances))
+}
+
+// What a network in that interface is: how many instances, and connections of events and of data, or the refusal as it is printed.
+fn joined(alloc: Global, network: &NetworkTree) -> Result<String, Fail> {
+    let made = match instances(alloc, network)? {
+        Ok(instances) => wire(alloc, &surface(alloc)?, instances, network),
+        Err(fault) => Err(fault),
     };
-    let mut taken: Taken = IndexSet::new(alloc);
-    let events = match events(alloc, &site, &network.events) {
-        Ok(events) => events.len(),
-        Err(fault) => return Ok(format!(in alloc; "{fault}")?),
-    };
-    match values(alloc, &site, &mut taken, &network.values) {
-        Ok(values) => Ok(format!(in alloc; "{events} {}", values.len())?),
+    match made {
+        Ok(made) => {
+            let events = made.events.len();
+            let values = made.values.len();
+            Ok(format!(in alloc; "{} {events} {values}", made.instances.len())?)
+        }
         Err(fault) => Ok(format!(in alloc; "{fault}")?),
     }
 }
 
-// The same of the connections of a text, between services.
-fn said(alloc: Global, connections: &str) -> Result<String, Fail> {
+// The same of the instances and connections of a text.
+fn told(alloc: Global, network: &str) -> Result<String, Fail> {
     let text = format!(in alloc;
-        "SYSTEM S DEVICE D RESOURCE R FBS I : INPUT[INT](ID := 1); O : OUTPUT[DINT](ID := 1); P : OUTPUT[SINT](ID := 2); END_FBS {connections} END_RESOURCE END_DEVICE END_SYSTEM"
+        "SYSTEM S DEVICE D RESOURCE R {network} END_RESOURCE END_DEVICE END_SYSTEM"
     )?;
     match parse(alloc, text.as_str()) {
         Ok(source) => {
@@ -83,12 +93,20 @@ fn said(alloc: Global, connections: &str) -> Result<String, Fail> {
     }
 }
 
+// The same of connections between three services.
+fn said(alloc: Global, connections: &str) -> Result<String, Fail> {
+    let network = format!(in alloc;
+        "FBS I : INPUT[INT](ID := 1); O : OUTPUT[DINT](ID := 1); P : OUTPUT[SINT](ID := 2); END_FBS {connections}"
+    )?;
+    told(alloc, network.as_str())
+}
+
 #[test]
 fn event_connections(rt: HostRuntime) -> Result<(), Fail> {
     let cases: [(&str, &str); 7] = [
         (
             "EVENT_CONNECTIONS I.IND TO O.REQ; I.IND TO P.REQ; GO TO O.REQ; I.IND TO DONE; END_CONNECTIONS",
-            "4 0",
+            "3 4 0",
         ),
         ("EVENT_CONNECTIONS GO TO DONE; END_CONNECTIONS", "15 141"),
         (
@@ -120,9 +138,9 @@ fn data_connections(rt: HostRuntime) -> Result<(), Fail> {
     let cases: [(&str, &str); 6] = [
         (
             "DATA_CONNECTIONS I.RD_1 TO O.SD_1; I.RD_1 TO Y; END_CONNECTIONS",
-            "0 2",
+            "3 0 2",
         ),
-        ("DATA_CONNECTIONS X TO O.SD_1; END_CONNECTIONS", "0 1"),
+        ("DATA_CONNECTIONS X TO O.SD_1; END_CONNECTIONS", "3 0 1"),
         (
             "DATA_CONNECTIONS I.RD_1 TO P.SD_1; END_CONNECTIONS",
             "12 144",
@@ -139,6 +157,48 @@ fn data_connections(rt: HostRuntime) -> Result<(), Fail> {
     ];
     for &(text, answer) in &cases {
         assert_eq!(rt; said(rt.alloc(), text)?.as_str(), answer, "{text}");
+    }
+    Ok(())
+}
+
+#[test]
+fn parameters(rt: HostRuntime) -> Result<(), Fail> {
+    let cases: [(&str, &str); 12] = [
+        ("FBS O : OUTPUT[INT](SD_1 := 5, ID := 1); END_FBS", "1 0 0"),
+        ("FBS A : B; O : OUTPUT(ID := 1); END_FBS", "2 0 0"),
+        ("FBS A : B(X := -7); END_FBS", "1 0 0"),
+        ("FBS A : B(X := 40000); END_FBS", "13 44"),
+        ("FBS A : B(X := TRUE); END_FBS", "12 41"),
+        ("FBS A : B(Z := 1); END_FBS", "10 39"),
+        ("FBS A : B(X := 1, X := 1); END_FBS", "16 49"),
+        ("FBS A : B(ID := 1); END_FBS", "10 39"),
+        ("FBS A : B[INT]; END_FBS", "17 33"),
+        ("FBS O : OUTPUT[INT](ID := 1, SD_2 := 5); END_FBS", "10 58"),
+        (
+            "FBS O : OUTPUT[INT](ID := 1, SD_1 := 5); I : INPUT[INT](ID := 1); END_FBS DATA_CONNECTIONS I.RD_1 TO O.SD_1; END_CONNECTIONS",
+            "16 127",
+        ),
+        (
+            "FBS A : B(X := 1); C : B; END_FBS DATA_CONNECTIONS X TO C.X; END_CONNECTIONS",
+            "2 0 1",
+        ),
+    ];
+    for &(text, answer) in &cases {
+        assert_eq!(rt; told(rt.alloc(), text)?.as_str(), answer, "{text}");
+    }
+    Ok(())
+}
+
+#[test]
+fn names_of_instances(rt: HostRuntime) -> Result<(), Fail> {
+    let cases: [(&str, &str); 4] = [
+        ("FBS A : B; C : B; END_FBS", "2 0 0"),
+        ("FBS A : B; A : B; END_FBS", "11 40"),
+        ("FBS A : B; DONE : B; END_FBS", "11 40"),
+        ("FBS Y : B; END_FBS", "11 33"),
+    ];
+    for &(text, answer) in &cases {
+        assert_eq!(rt; told(rt.alloc(), text)?.as_str(), answer, "{text}");
     }
     Ok(())
 }

@@ -1,5 +1,5 @@
 -- What is at fault in the declaration of a service, and where.
-use Rattle.std.specs.Prelude.{◌≡◌, ◌<◌, ℕ, Bool, true, false, ◌||◌, List, length, codes, Option, None, Some}
+use Rattle.std.specs.Prelude.{◌≡◌, ◌<◌, ℕ, Bool, true, ◌||◌, List, length, codes, Some}
 use Rattle.std.specs.Str.{bytes_eq}
 use Rattle.fb_model.specs.Names.{Name}
 use Rattle.fb_words.specs.declared.elem_type.ElemType.{ElemType}

@@ -1,7 +1,9 @@
 -- What services are in the book, without where they lie in memory.
-use Rattle.std.specs.Prelude.{◌≡◌, Option, None, Some}
+use denote.Ref.{Bor}
+use Rattle.std.specs.Prelude.{ℕ, ◌≡◌, List, [], ◌∷◌, Option, None, Some}
 use Rattle.std.specs.Option.{option_map}
 use Rattle.fb_words.specs.declared.elem_type.ElemType.{ElemType}
+use Rattle.fb_model.specs.Names.{Name}
 use Rattle.fb_model.specs.System as book
 use Rattle.fb_services.specs.declared.service.Service.{Service}
 use Rattle.fb_services.specs.declared.service.Service.TheVariants as s
@@ -18,3 +20,18 @@ service_of s.Restart = book.Restart
 -- the type is that of the variable, and there is none where that is none
 abbrev pub typed_as : Option ElemType → Option book.Variable → Type 0
 typed_as o v = o ≡ option_map (λ v. v.type) v
+
+-- a text that there may be, as a list
+abbrev pub listed : Option (Bor (List ℕ)) → List Name
+listed None = []
+listed (Some x) = x.now ∷ []
+
+-- the types of a service's values
+abbrev pub values_of : book.Service → List ElemType
+values_of (book.Input n types) = types
+values_of (book.Output n types) = types
+values_of (book.Publish n types) = types
+values_of (book.Subscribe n types) = types
+values_of book.Delay = []
+values_of book.Cycle = []
+values_of book.Restart = []

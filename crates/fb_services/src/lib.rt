@@ -3,6 +3,7 @@
 
 mod declared;
 mod interface;
+mod names;
 mod number;
 mod service;
 #[cfg(test)]

@@ -107,3 +107,52 @@ fn ports_of_services(rt: HostRuntime) -> Result<(), Fail> {
     assert!(rt; Service::Restart.has_event_output("COLD"));
     Ok(())
 }
+
+// Texts joined by spaces.
+fn joined(alloc: Global, texts: &[&str]) -> Result<String, Fail> {
+    let mut line = String::new(alloc);
+    for text in texts {
+        line.push_str(text)?;
+        line.push_str(" ")?;
+    }
+    Ok(line)
+}
+
+#[test]
+fn names_of_ports(rt: HostRuntime) -> Result<(), Fail> {
+    let alloc = rt.alloc();
+    let mut types = Vec::new(alloc);
+    for _ in 0..10 {
+        types.push(ElemType::Int)?;
+    }
+    let subscribe = Service::Subscribe(7, vec![in alloc; ElemType::Int]?);
+    let publish = Service::Publish(7, types);
+    assert_eq!(rt;
+        joined(alloc, subscribe.event_inputs())?.as_str(),
+        "INIT RSP "
+    );
+    assert_eq!(rt;
+        joined(alloc, subscribe.event_outputs())?.as_str(),
+        "INITO IND "
+    );
+    assert_eq!(rt; subscribe.arrival(), Some("ARRIVE"));
+    assert_eq!(rt; publish.arrival(), None);
+    assert_eq!(rt; Service::Cycle.arrival(), Some("EXPIRE"));
+    assert_eq!(rt;
+        joined(alloc, subscribe.emitted("ARRIVE"))?.as_str(),
+        "IND "
+    );
+    assert_eq!(rt; joined(alloc, subscribe.emitted("RSP"))?.as_str(), "");
+    assert_eq!(rt; joined(alloc, publish.emitted("REQ"))?.as_str(), "CNF ");
+    assert_eq!(rt;
+        joined(alloc, Service::Delay.emitted("START"))?.as_str(),
+        ""
+    );
+    let inputs = publish.inputs(alloc)?;
+    assert_eq!(rt; inputs.len(), 11);
+    assert_eq!(rt; inputs[0].as_str(), "QI");
+    assert_eq!(rt; inputs[1].as_str(), "SD_1");
+    assert_eq!(rt; inputs[10].as_str(), "SD_10");
+    assert_eq!(rt; subscribe.inputs(alloc)?.len(), 1);
+    Ok(())
+}

@@ -1,7 +1,6 @@
-use Rattle.std.proofs.Common.{◌≡◌, ◌∷◌, ◌++◌, [], List, map, drop, ◌+◌, string_bytes, sym, ap, subst, ◌∙◌, append_assoc, false, inl, inr}
+use Rattle.std.proofs.Common.{◌≡◌, ◌∷◌, ◌++◌, [], map, drop, ◌+◌, string_bytes, sym, ap, subst, ◌∙◌, append_assoc, inl, inr}
 use Rattle.std.specs.List.{AllByRecursion}
 use Rattle.std.proofs.lemmas.Result.{err_from_is_err_and}
-use Rattle.fb_model.specs.Names.{is_in}
 use Rattle.fb_model.specs.BlockTyping.{AreKnown, typed_event, event_texts}
 use Rattle.fb_model.specs.Typing.{AreNew}
 use Rattle.fb_source.specs.Views as tree

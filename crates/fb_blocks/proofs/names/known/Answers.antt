@@ -1,4 +1,4 @@
-use Rattle.std.proofs.Common.{◌≡◌, Bool, true, false, sym, subst, ◌∙◌, refl}
+use Rattle.std.proofs.Common.{◌≡◌, true, false, sym, subst, ◌∙◌, refl}
 use Rattle.fb_model.specs.Names.{is_in}
 use Rattle.fb_blocks.specs.Answers.{names_in_map}
 use Rattle.fb_blocks.proofs.Tables.{is_in_from_lookup}

@@ -1,4 +1,4 @@
-use Rattle.std.proofs.Common.{◌≡◌, ◌∷◌, ◌++◌, [], List, map, drop, ◌+◌, string_bytes, sym, ap, subst, ◌∙◌, append_assoc, false}
+use Rattle.std.proofs.Common.{◌≡◌, ◌∷◌, ◌++◌, [], map, drop, ◌+◌, string_bytes, sym, ap, subst, ◌∙◌, append_assoc, false}
 use Rattle.std.proofs.lemmas.List.{map_push}
 use Rattle.fb_read.specs.Answers.{word_of}
 use Rattle.fb_model.specs.Names.{is_in}

@@ -1,4 +1,4 @@
-use Rattle.std.proofs.Common.{◌≡◌, ◌∷◌, ◌++◌, [], List, map, drop, ◌+◌, sym, ap, subst, ◌∙◌, arith}
+use Rattle.std.proofs.Common.{◌≡◌, ◌++◌, map, drop, ◌+◌, subst, arith}
 use Rattle.fb_read.specs.Answers.{word_of}
 use Rattle.fb_model.specs.BlockTyping.{declared, names_in, words_in}
 use Rattle.fb_model.specs.Typing.{AreNew, texts}

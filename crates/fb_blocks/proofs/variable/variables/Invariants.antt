@@ -1,4 +1,4 @@
-use Rattle.std.proofs.Common.{◌≡◌, ◌++◌, List, map, drop}
+use Rattle.std.proofs.Common.{◌++◌, List, map, drop}
 use Rattle.fb_model.specs.BlockTyping.{Declared, AreDeclared, names_in, words_in}
 use Rattle.fb_model.specs.Typing.{AreNew, texts}
 use Rattle.fb_source.specs.Views as tree

@@ -1,4 +1,4 @@
-use Rattle.std.proofs.Common.{◌≡◌, sym, ap, ◌∙◌}
+use Rattle.std.proofs.Common.{sym, ap, ◌∙◌}
 use Rattle.std.specs.Option.{option_map}
 use Rattle.fb_networks.proofs.Tables.{type_found}
 use Rattle.fb_networks.proofs.face.type_in.Goals as goal

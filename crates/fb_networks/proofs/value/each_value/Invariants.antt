@@ -1,12 +1,8 @@
-use Rattle.std.proofs.Common.{◌++◌, List, map, drop}
-use Rattle.fb_blocks.specs.declared.fault.TypeFault.{TypeFault}
+use Rattle.std.proofs.Common.{map, drop}
 use Rattle.fb_blocks.specs.Views.{face_of}
-use Rattle.fb_model.specs.System as book
-use Rattle.fb_model.specs.NetworkTyping.{AreValueConnections}
 use Rattle.fb_source.specs.Views as trees_of
 use Rattle.fb_networks.specs.Views.{names_of, connection_of}
 use Rattle.fb_networks.specs.Ends.{inner_of, IsTabled, ends_of}
-use Rattle.fb_networks.specs.Refusals.{IsValuesFault}
 use Rattle.fb_networks.proofs.Loops.{ValuesSo}
 use Rattle.fb_networks.proofs.value.each_value.Given as goal
 

@@ -1,6 +1,6 @@
-use Rattle.std.proofs.Common.{refl, sym, subst, ap, ◌∙◌, map, arith}
+use Rattle.std.proofs.Common.{refl, sym, subst, map, arith}
 use Rattle.fb_model.specs.Typing.{IsId, an_id}
-use Rattle.fb_model.specs.NetworkTyping.{having, id}
+use Rattle.fb_model.specs.NetworkTyping.{id}
 use Rattle.fb_services.proofs.Services.{too_large, has_name}
 use Rattle.fb_source.specs.Views.{parameter_of}
 use Rattle.fb_services.proofs.declared.number.Goals as goal

@@ -1,4 +1,4 @@
-use Rattle.std.proofs.Common.{sym, subst, ap, ◌∙◌}
+use Rattle.std.proofs.Common.{sym, subst, ◌∙◌}
 use Rattle.fb_services.proofs.declared.timer.Goals as goal
 use Rattle.fb_services.proofs.declared.timer.Goals.{in-E_DELAY, in-E_CYCLE, in-E_RESTART}
 use Rattle.fb_model.specs.NetworkTyping.{IsService, a_delay, a_cycle, a_restart}
