@@ -26,7 +26,7 @@ pub services_are : (us : List Use) → services_at (map use_of us) ≡ map servi
 services_are [] = refl
 services_are (u ∷ us) = ap (λ l. service_in u ∷ l) (services_are us)
 
-inputs_are : (us : List Used) → numbers_in k.Input us ≡ inputs (services_at us)
+pub inputs_are : (us : List Used) → numbers_in k.Input us ≡ inputs (services_at us)
 inputs_are [] = refl
 inputs_are ((at, book.Input n t) ∷ us) = ap (λ l. n ∷ l) (inputs_are us)
 inputs_are ((at, book.Output n t) ∷ us) = inputs_are us
@@ -36,7 +36,7 @@ inputs_are ((at, book.Delay) ∷ us) = inputs_are us
 inputs_are ((at, book.Cycle) ∷ us) = inputs_are us
 inputs_are ((at, book.Restart) ∷ us) = inputs_are us
 
-outputs_are : (us : List Used) → numbers_in k.Output us ≡ outputs (services_at us)
+pub outputs_are : (us : List Used) → numbers_in k.Output us ≡ outputs (services_at us)
 outputs_are [] = refl
 outputs_are ((at, book.Input n t) ∷ us) = outputs_are us
 outputs_are ((at, book.Output n t) ∷ us) = ap (λ l. n ∷ l) (outputs_are us)
@@ -46,7 +46,7 @@ outputs_are ((at, book.Delay) ∷ us) = outputs_are us
 outputs_are ((at, book.Cycle) ∷ us) = outputs_are us
 outputs_are ((at, book.Restart) ∷ us) = outputs_are us
 
-channels_are : (us : List Used) → numbers_in k.Subscriber us ≡ subscribed (services_at us)
+pub channels_are : (us : List Used) → numbers_in k.Subscriber us ≡ subscribed (services_at us)
 channels_are [] = refl
 channels_are ((at, book.Input n t) ∷ us) = channels_are us
 channels_are ((at, book.Output n t) ∷ us) = channels_are us
@@ -71,7 +71,7 @@ module _ (us : List Use) (ss : List Service) (are : map service_in us ≡ ss) wh
   channels_same = channels_are (map use_of us) ∙ ap subscribed services_same
 
 -- numbers that differ have no fault
-no_number_fault : (us : List Used) (f : TypeFault) → AreNewNumbers [] (numbers_in k.Input us) → AreNewNumbers [] (numbers_in k.Output us) → AreNewNumbers [] (numbers_in k.Subscriber us) → IsNumberFault us f → f ≡ OutOfMemory
+pub no_number_fault : (us : List Used) (f : TypeFault) → AreNewNumbers [] (numbers_in k.Input us) → AreNewNumbers [] (numbers_in k.Output us) → AreNewNumbers [] (numbers_in k.Subscriber us) → IsNumberFault us f → f ≡ OutOfMemory
 no_number_fault us f a b c (no_memory_for_numbers e) = e
 no_number_fault us f a b c (repeated_input x) = no_repeated k.Input [] us f a x
 no_number_fault us f a b c (repeated_output x) = no_repeated k.Output [] us f b x

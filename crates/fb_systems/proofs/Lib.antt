@@ -2,3 +2,10 @@ pub mod Gathered
 pub mod Numbered
 pub mod Shaped
 pub mod Ended
+pub mod Counted
+pub mod Tabled
+pub mod Nested
+pub mod Making
+pub mod Systems
+pub mod Whole
+pub mod Beforehand

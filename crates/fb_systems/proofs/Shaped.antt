@@ -149,7 +149,7 @@ at_parts : (P : Service → Type 0) (before after : List Used) (u : Used) → Al
 at_parts P [] after u h = (h.0, tt)
 at_parts P (x ∷ before) after u h = let k = at_parts P before after u (h.1) in (k.0, (h.0, k.1))
 
-no_unlike : (us : List Used) (f : TypeFault) → AreAlike (services_at us) → IsUnlike us f → f ≡ OutOfMemory
+pub no_unlike : (us : List Used) (f : TypeFault) → AreAlike (services_at us) → IsUnlike us f → f ≡ OutOfMemory
 no_unlike us f a (no_memory_for_channels e) = e
 no_unlike us f a (unlike_ends before after u {n = n} {types = types} {first = first} parts end is differ e) =
     let here = at_parts (HasShape a.shape) before after u (subst (λ l. AllByRecursion (HasShape a.shape) (services_at l)) parts a.each) in

@@ -3,3 +3,8 @@ pub mod Numbers
 pub mod Shapes
 pub mod Views
 pub mod Ends
+pub mod Counts
+pub mod Nesting
+pub mod Refusals
+pub mod Made
+pub mod Beforehand

@@ -1,16 +1,31 @@
 //! Whole sources: from source trees to typed systems.
 #![tactic(auto)]
 
+mod count;
+mod device;
 mod ends;
+mod event_blocks;
+mod laws;
+mod made;
+mod make;
 mod numbers;
+mod resource;
 mod shapes;
+mod source;
+mod table;
 #[cfg(test)]
 mod tests;
+#[cfg(test)]
+mod texts;
 mod typed;
 mod uses;
 
+pub use count::few;
 pub use ends::{channels_alike, numbers_differ};
+pub use event_blocks::{EVENT_BLOCKS, resolve};
+pub use laws::{one_system, refusals_are_true};
 pub use numbers::{Kind, differ};
 pub use shapes::alike;
+pub use source::resolve_with;
 pub use typed::{Device, Resource, Typed};
 pub use uses::{Use, gather_all};
