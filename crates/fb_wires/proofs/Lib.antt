@@ -1,0 +1,5 @@
+pub mod Collecting
+pub mod Dotted
+pub mod Following
+pub mod Systems
+pub mod Texts

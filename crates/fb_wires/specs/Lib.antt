@@ -1,0 +1,4 @@
+pub mod Counts
+pub mod Sites
+pub mod Walks
+pub mod Leaves

@@ -1,0 +1,57 @@
+//! Leaves and their wires.
+
+use fb_blocks::Block;
+use fb_services::Service;
+use std::rc::Rc;
+
+/// An event input of a leaf that an event output leads to: the leaf's path and the event.
+#[derive(Debug, Drop)]
+pub struct Target {
+    /// Device, resource and instance names, joined by dots.
+    pub path: String,
+    pub event: String,
+}
+
+/// An event output of a leaf, and where it leads, in the order of the connection text.
+#[derive(Debug, Drop)]
+pub struct Output {
+    pub name: String,
+    pub targets: Vec<Target>,
+}
+
+/// What a leaf is.
+#[derive(Debug, Drop)]
+pub enum Body {
+    Basic(Rc<Block>),
+    Served(Service),
+}
+
+/// A basic or service instance.
+#[derive(Debug, Drop)]
+pub struct Leaf {
+    /// Device, resource and instance names, joined by dots.
+    pub path: String,
+    pub body: Body,
+    /// Its event outputs, in the order of its type.
+    pub outputs: Vec<Output>,
+}
+
+/// A resource and its leaves, depth first in text order. Its path is the device's and its own name, joined by a dot.
+#[derive(Debug, Drop)]
+pub struct FlatResource {
+    pub path: String,
+    pub leaves: Vec<Leaf>,
+}
+
+/// A device: its resources in text order.
+#[derive(Debug, Drop)]
+pub struct FlatDevice {
+    pub name: String,
+    pub resources: Vec<FlatResource>,
+}
+
+/// All devices of a system.
+#[derive(Debug, Drop)]
+pub struct Flat {
+    pub devices: Vec<FlatDevice>,
+}

@@ -1,0 +1,297 @@
+//! The leaves of a system.
+
+ghost use Rattle.std.specs.Prelude.{◌≡◌, ◌+◌, ◌<◌, ◌≤◌, ◌∷◌, ◌++◌, [], OnOk, IfOk, IfErr, map, string_bytes};
+ghost use Rattle.std.specs.Prelude.{slice_get};
+ghost use Rattle.std.specs.Option.{option_map};
+ghost use Rattle.std.specs.List.{AllByRecursion, Any};
+ghost use Rattle.fb_model.specs.System.{Basic, Served};
+ghost use Rattle.fb_model.specs.Typing.{names_of};
+ghost use Rattle.fb_blocks.specs.Views.{block_of, events_of};
+ghost use Rattle.fb_services.specs.Views.{service_of};
+ghost use Rattle.fb_networks.specs.Views.{body_of};
+ghost use Rattle.fb_systems.specs.Views.{resource_of, device_of, system_of};
+ghost use Rattle.fb_wires.specs.Counts.{sum_by, count_of, resource_count};
+ghost use Rattle.fb_wires.specs.declared.site.Around.{Nothing};
+ghost use Rattle.fb_wires.specs.Sites.{path_of, text_of, left_by, left_count};
+ghost use Rattle.fb_wires.specs.Walks.{spots_of, IsStop};
+ghost use Rattle.fb_wires.specs.Leaves.{Written, led, kind_of, output_of, leaf_of, leaves_at, composed, flat_resource, flat_device, written_resource, written_device, most_followed, IsFull, IsLimitAt};
+
+use crate::flat::{Body, Flat, FlatDevice, FlatResource, Leaf, Output};
+use crate::leave::leave;
+use crate::site::{Around, Trail, text};
+use crate::walk::{Stop, Walk};
+use fb_blocks::{Block, Events, TypeFault};
+use fb_networks::{Instance, Network};
+use fb_services::Service;
+use fb_systems::{Device, Resource, Typed};
+use fb_words::ElemType;
+use std::alloc::{AllocError, Global};
+use std::rc::Rc;
+
+/// The most connections that are followed in a resource.
+pub const FOLLOWED: usize = 8192;
+
+// The leaves so far of a resource, and how many connections may still be followed.
+#[derive(Drop)]
+struct Table {
+    leaves: Vec<Leaf>,
+    left: usize,
+}
+
+// The same types again.
+fn copied(alloc: Global, types: &Vec<ElemType>) -> Result<Vec<ElemType>, AllocError>
+    ensures { IfOk result (λ v. v.items ≡ types.now.items) }
+{
+    let mut copy = Vec::new(alloc);
+    for of in types {
+        copy.push(*of)?;
+    }
+    Ok(copy)
+}
+
+// The same service again.
+fn again(alloc: Global, service: &Service) -> Result<Service, AllocError>
+    ensures { IfOk result (λ s. service_of s ≡ service_of service.now) }
+{
+    match service {
+        Service::Input(number, types) => Ok(Service::Input(*number, copied(alloc, types)?)),
+        Service::Output(number, types) => Ok(Service::Output(*number, copied(alloc, types)?)),
+        Service::Publish(channel, types) => Ok(Service::Publish(*channel, copied(alloc, types)?)),
+        Service::Subscribe(channel, types) => {
+            Ok(Service::Subscribe(*channel, copied(alloc, types)?))
+        }
+        Service::Delay => Ok(Service::Delay),
+        Service::Cycle => Ok(Service::Cycle),
+        Service::Restart => Ok(Service::Restart),
+    }
+}
+
+// The name of the event at an index.
+fn name_at(events: &Events, index: usize) -> Option<&str>
+    ensures { option_map (λ s. s.now) result ≡ slice_get (names_of (events_of events.now)) index }
+{
+    let (name, _) = events.get_index(index)?;
+    Some(name.as_str())
+}
+
+// The names of events, in order.
+fn names(alloc: Global, events: &Events) -> Result<Vec<&str>, AllocError>
+    ensures { IfOk result (λ v. map (λ s. s.now) v.items ≡ names_of (events_of events.now)) }
+{
+    let mut names = Vec::new(alloc);
+    for index in 0..events.len() {
+        match name_at(events, index) {
+            Some(name) => names.push(name)?,
+            None => return Ok(names),
+        }
+    }
+    Ok(names)
+}
+
+// An event output of a leaf, with all that it leads to.
+fn output(name: &str, around: &Around, left: &mut usize, alloc: Global) -> Result<Output, Stop>
+    ensures gives { IfOk result (λ o. output_of o ≡ (name.now, spots_of (left_by around.now name.now))) }
+    ensures counted { OnOk result (left.new + left_count around.now name.now ≡ left.old) }
+    ensures refused { IfErr result (IsStop (left.old < left_count around.now name.now)) }
+{
+    let mut walk = Walk {
+        targets: Vec::new(alloc),
+        left: *left,
+    };
+    leave(around, name, &mut walk, alloc)?;
+    *left = walk.left;
+    let name = String::from_str(alloc, name)?;
+    Ok(Output {
+        name,
+        targets: walk.targets,
+    })
+}
+
+// Event outputs of a leaf, with all that they lead to.
+fn outputs(
+    names: &[&str],
+    around: &Around,
+    left: &mut usize,
+    alloc: Global,
+) -> Result<Vec<Output>, Stop>
+    ensures gives { IfOk result (λ v. map output_of v.items ≡ led (left_by around.now) (map (λ s. s.now) names.now)) }
+    ensures counted { OnOk result (left.new + sum_by (left_count around.now) (map (λ s. s.now) names.now) ≡ left.old) }
+    ensures refused { IfErr result (IsStop (left.old < sum_by (left_count around.now) (map (λ s. s.now) names.now))) }
+{
+    let mut outputs = Vec::new(alloc);
+    for name in names {
+        outputs.push(output(*name, around, left, alloc)?)?;
+    }
+    Ok(outputs)
+}
+
+// Adds a leaf.
+fn add(
+    table: &mut Table,
+    body: Body,
+    names: &[&str],
+    trail: &Trail,
+    around: &Around,
+    alloc: Global,
+) -> Result<(), Stop>
+    ensures added { OnOk result (map leaf_of table.new.leaves.items ≡ map leaf_of table.old.leaves.items ++ record { path = text_of (path_of trail.now); kind = kind_of body; outputs = led (left_by around.now) (map (λ s. s.now) names.now) } ∷ []) }
+    ensures counted { OnOk result (table.new.left + sum_by (left_count around.now) (map (λ s. s.now) names.now) ≡ table.old.left) }
+    ensures refused { IfErr result (IsStop (table.old.left < sum_by (left_count around.now) (map (λ s. s.now) names.now))) }
+{
+    let outputs = outputs(names, around, &mut table.left, alloc)?;
+    let path = text(trail, alloc)?;
+    table.leaves.push(Leaf {
+        path,
+        body,
+        outputs,
+    })?;
+    Ok(())
+}
+
+// Adds the leaf of a basic instance.
+fn add_block(
+    table: &mut Table,
+    block: &Rc<Block>,
+    trail: &Trail,
+    around: &Around,
+    alloc: Global,
+) -> Result<(), Stop>
+    ensures added { OnOk result (map leaf_of table.new.leaves.items ≡ map leaf_of table.old.leaves.items ++ leaves_at (Basic (block_of block.now.value)) trail.now around.now) }
+    ensures counted { OnOk result (table.new.left + count_of (Basic (block_of block.now.value)) (left_count around.now) ≡ table.old.left) }
+    ensures refused { IfErr result (IsStop (table.old.left < count_of (Basic (block_of block.now.value)) (left_count around.now))) }
+{
+    let names = names(alloc, &block.face.event_outputs)?;
+    add(
+        table,
+        Body::Basic(block.clone()?),
+        &names,
+        trail,
+        around,
+        alloc,
+    )
+}
+
+// Adds the leaf of a service instance.
+fn add_service(
+    table: &mut Table,
+    service: &Service,
+    trail: &Trail,
+    around: &Around,
+    alloc: Global,
+) -> Result<(), Stop>
+    ensures added { OnOk result (map leaf_of table.new.leaves.items ≡ map leaf_of table.old.leaves.items ++ leaves_at (Served (service_of service.now)) trail.now around.now) }
+    ensures counted { OnOk result (table.new.left + count_of (Served (service_of service.now)) (left_count around.now) ≡ table.old.left) }
+    ensures refused { IfErr result (IsStop (table.old.left < count_of (Served (service_of service.now)) (left_count around.now))) }
+{
+    add(
+        table,
+        Body::Served(again(alloc, service)?),
+        service.event_outputs(),
+        trail,
+        around,
+        alloc,
+    )
+}
+
+// Adds the leaves of an instance, on its trail.
+#[cycle(collecting)]
+fn collect(
+    instance: &Instance,
+    trail: &Trail,
+    around: &Around,
+    table: &mut Table,
+    alloc: Global,
+) -> Result<(), Stop>
+    ensures added { OnOk result (map leaf_of table.new.leaves.items ≡ map leaf_of table.old.leaves.items ++ leaves_at (body_of instance.now.body) trail.now around.now) }
+    ensures counted { OnOk result (table.new.left + count_of (body_of instance.now.body) (left_count around.now) ≡ table.old.left) }
+    ensures refused { IfErr result (IsStop (table.old.left < count_of (body_of instance.now.body) (left_count around.now))) }
+{
+    match &instance.body {
+        fb_networks::Body::Basic(block) => add_block(table, block, trail, around, alloc),
+        fb_networks::Body::Served(service) => add_service(table, service, trail, around, alloc),
+        fb_networks::Body::Composite(_, network) => collect_all(
+            network, trail, around, table, alloc,
+        ),
+    }
+}
+
+// Adds the leaves of a network, on its trail.
+#[cycle(collecting)]
+fn collect_all(
+    network: &Network,
+    trail: &Trail,
+    around: &Around,
+    table: &mut Table,
+    alloc: Global,
+) -> Result<(), Stop>
+    ensures added { OnOk result (map leaf_of table.new.leaves.items ≡ map leaf_of table.old.leaves.items ++ leaves_at (composed network.now) trail.now around.now) }
+    ensures counted { OnOk result (table.new.left + count_of (composed network.now) (left_count around.now) ≡ table.old.left) }
+    ensures refused { IfErr result (IsStop (table.old.left < count_of (composed network.now) (left_count around.now))) }
+{
+    for instance in &network.instances {
+        let inside = Trail::Inside(instance.name.as_str(), &*trail);
+        let level = Around::Level(&*network, &*instance, &*trail, &*around);
+        collect(instance, &inside, &level, table, alloc)?;
+    }
+    Ok(())
+}
+
+// The leaves of a network in a resource.
+fn leaves(network: &Network, trail: &Trail, alloc: Global) -> Result<Vec<Leaf>, Stop>
+    ensures gives { IfOk result (λ v. map leaf_of v.items ≡ leaves_at (composed network.now) trail.now Nothing) }
+    ensures few { OnOk result (count_of (composed network.now) (λ o. 0) ≤ most_followed) }
+    ensures refused { IfErr result (IsStop (most_followed < count_of (composed network.now) (λ o. 0))) }
+{
+    let mut table = Table {
+        leaves: Vec::new(alloc),
+        left: FOLLOWED,
+    };
+    collect_all(network, trail, &Around::Nothing, &mut table, alloc)?;
+    Ok(table.leaves)
+}
+
+// A resource and its leaves, on the path of its device.
+fn resource(alloc: Global, device: &str, source: &Resource) -> Result<FlatResource, TypeFault>
+    ensures written { IfOk result (λ f. flat_resource f ≡ written_resource device.now (resource_of source.now)) }
+    ensures few { OnOk result (resource_count (resource_of source.now) ≤ most_followed) }
+    ensures refused { IfErr result (IsLimitAt (IsFull source.now)) }
+{
+    let trail = Trail::Resource(device, source.name.as_str());
+    match leaves(&source.network, &trail, alloc) {
+        Ok(leaves) => Ok(FlatResource {
+            path: text(&trail, alloc)?,
+            leaves,
+        }),
+        Err(Stop::OutOfMemory) => Err(TypeFault::OutOfMemory),
+        Err(Stop::Full) => Err(TypeFault::Limit(source.at)),
+    }
+}
+
+// A device: its resources in order.
+fn device(alloc: Global, source: &Device) -> Result<FlatDevice, TypeFault>
+    ensures written { IfOk result (λ f. flat_device f ≡ written_device (device_of source.now)) }
+    ensures few { OnOk result (AllByRecursion (λ r. resource_count r ≤ most_followed) (device_of source.now).resources) }
+    ensures refused { IfErr result (IsLimitAt (λ at. Any (λ r. IsFull r at) source.now.resources.items)) }
+{
+    let mut resources = Vec::new(alloc);
+    for resource_source in &source.resources {
+        resources.push(resource(alloc, source.name.as_str(), resource_source)?)?;
+    }
+    let name = source.name.clone()?;
+    Ok(FlatDevice { name, resources })
+}
+
+/// The leaves of a system and their wires, in text order.
+///
+/// More than [`FOLLOWED`] followings of connections in a resource are refused with `Limit` at its name.
+pub fn flatten(alloc: Global, typed: &Typed) -> Result<Flat, TypeFault>
+    ensures leaves { IfOk result (λ f. map flat_device f.devices.items ≡ map written_device (system_of typed.now).devices) }
+    ensures few { OnOk result (AllByRecursion (λ d. AllByRecursion (λ r. resource_count r ≤ most_followed) d.resources) (system_of typed.now).devices) }
+    ensures refused { IfErr result (IsLimitAt (λ at. Any (λ d. Any (λ r. IsFull r at) d.resources.items) typed.now.devices.items)) }
+{
+    let mut devices = Vec::new(alloc);
+    for source in &typed.devices {
+        devices.push(device(alloc, source)?)?;
+    }
+    Ok(Flat { devices })
+}

@@ -1,0 +1,42 @@
+//! Where networks stand.
+
+ghost use Rattle.std.specs.Prelude.{◌≡◌, string_bytes, IfOk};
+ghost use Rattle.fb_wires.specs.Sites.{path_of, text_of, dotted};
+
+use fb_networks::{Instance, Network};
+use std::alloc::{AllocError, Global};
+
+/// The names from outside in: a device, a resource, and the instances around.
+#[derive(Clone, Copy)]
+pub enum Trail<'a> {
+    Resource(&'a str, &'a str),
+    Inside(&'a str, &'a Trail<'a>),
+}
+
+/// What is around a body: nothing around a resource, else a network, the body's instance in it, the network's trail and what is around
+/// that network.
+#[derive(Clone, Copy)]
+pub enum Around<'a> {
+    Nothing,
+    Level(&'a Network, &'a Instance, &'a Trail<'a>, &'a Around<'a>),
+}
+
+// A text and a name behind it, joined by a dot.
+fn joined(text: String, name: &str) -> Result<String, AllocError>
+    ensures { IfOk result (λ s. string_bytes s ≡ dotted (string_bytes text) name.now) }
+{
+    let mut text = text;
+    text.push_str(".")?;
+    text.push_str(name)?;
+    Ok(text)
+}
+
+/// The names of a trail, joined by dots.
+pub fn text(trail: &Trail, alloc: Global) -> Result<String, AllocError>
+    ensures { IfOk result (λ s. string_bytes s ≡ text_of (path_of trail.now)) }
+{
+    match trail {
+        Trail::Resource(device, name) => joined(String::from_str(alloc, *device)?, *name),
+        Trail::Inside(name, outer) => joined(text(*outer, alloc)?, *name),
+    }
+}
