@@ -4,9 +4,9 @@ use Rattle.std.specs.Prelude.{◌==◌}
 use Rattle.std.specs.List.{onto_first}
 use Rattle.std.proofs.lemmas.Bool.{eqb-true}
 use Rattle.std.proofs.lemmas.List.{append-nil}
-use Rattle.fb_model.specs.Names.{Name, Path}
+use Rattle.fb_model.specs.Names.{Name, Path, at_place}
 use Rattle.fb_model.specs.Spelling.{is_part, is_start, IsParts, part, IsWord, word}
-use Rattle.fb_model.specs.CertificateText.{names_in}
+use Rattle.fb_model.specs.CertificateText.{names_in, place_of, all_but_last, last_name}
 use Rattle.fb_model.specs.Plain.{AreWords}
 use Rattle.fb_wires.specs.Sites.{dotted, dotted_on, text_of}
 
@@ -65,3 +65,21 @@ names_on text (n ∷ ns) h = names_on (dotted text n) ns h.1 ∙ ap (λ p. p ++ 
 -- a path of words is read back from its text
 pub names_back : (n : Name) (ns : List Name) → IsWord n → AreWords ns → names_in (text_of (n ∷ ns)) ≡ n ∷ ns
 names_back n ns w h = names_on n ns h ∙ ap (λ p. p ++ ns) (word_alone n w)
+
+-- ---- places
+
+front : (ns : Path) (n : Name) → all_but_last (ns ++ n ∷ []) ≡ ns
+front [] n = refl
+front (m ∷ []) n = refl
+front (m ∷ o ∷ ns) n = ap (λ z. m ∷ z) (front (o ∷ ns) n)
+
+back : (ns : Path) (n : Name) → last_name (ns ++ n ∷ []) ≡ n
+back [] n = refl
+back (m ∷ []) n = refl
+back (m ∷ o ∷ ns) n = back (o ∷ ns) n
+
+-- the place of a word behind a path
+pub placed_at : (p n : Name) → IsWord n → place_of (dotted p n) ≡ at_place (names_in p) n
+placed_at p n h =
+    let e = names_dotted p n h in
+    ap (λ ns. at_place (all_but_last ns) (last_name ns)) e ∙ ap (λ ns. at_place ns (last_name (names_in p ++ n ∷ []))) (front (names_in p) n) ∙ ap (at_place (names_in p)) (back (names_in p) n)

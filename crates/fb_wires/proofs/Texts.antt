@@ -8,7 +8,7 @@ use Rattle.fb_wires.specs.Sites.{dotted, dotted_on, text_of, path_of}
 pub data HasSome : Path → Type 0 where
   has_some : {n : Name} {ns : Path} → HasSome (n ∷ ns)
 
-some_more : (p q : Path) → HasSome p → HasSome (p ++ q)
+pub some_more : (p q : Path) → HasSome p → HasSome (p ++ q)
 some_more [] q h = elim h [ ]
 some_more (n ∷ ns) q h = has_some
 

@@ -29,6 +29,7 @@ use Rattle.fb_wires.specs.declared.site.Around.{Around, Nothing, Level'}
 use Rattle.fb_wires.specs.Counts.{resource_count}
 use Rattle.fb_wires.specs.Sites.{text_of, path_of, inner_of, events_in, left_by}
 use Rattle.fb_wires.specs.Walks.{Spot, spots_of, target_spot}
+use Rattle.fb_wires.specs.Sources.{Fed, fed_by, written_inputs, input_of}
 
 -- ---- what is written of leaves
 
@@ -36,11 +37,12 @@ use Rattle.fb_wires.specs.Walks.{Spot, spots_of, target_spot}
 abbrev pub Led : Type 0
 Led = Name × List Spot
 
--- a leaf: its path in one text, what it is, and its event outputs in the order of its type
+-- a leaf: its path in one text, what it is, and its event outputs and data inputs in the order of its type
 pub record Written : Type 0 where
   pub path : Name
   pub kind : Kind
   pub outputs : List Led
+  pub inputs : List Fed
 
 -- the event outputs of a leaf, in the order of its type
 abbrev pub outputs_of : Kind → List Name
@@ -52,7 +54,7 @@ led targets os = map (λ o. (o, spots_of (targets o))) os
 
 -- a leaf of the book, written
 abbrev pub written : wires.Leaf → Written
-written leaf = record { path = text_of leaf.path; kind = leaf.kind; outputs = led leaf.targets (outputs_of leaf.kind) }
+written leaf = record { path = text_of leaf.path; kind = leaf.kind; outputs = led leaf.targets (outputs_of leaf.kind); inputs = fed_by leaf.source (written_inputs leaf.kind) }
 
 -- ---- what the tables hold
 
@@ -64,7 +66,7 @@ abbrev pub output_of : Output → Led
 output_of o = (string_bytes o.name, map target_spot o.targets.items)
 
 abbrev pub leaf_of : Leaf → Written
-leaf_of l = record { path = string_bytes l.path; kind = kind_of l.body; outputs = map output_of l.outputs.items }
+leaf_of l = record { path = string_bytes l.path; kind = kind_of l.body; outputs = map output_of l.outputs.items; inputs = map input_of l.inputs.items }
 
 -- ---- resources and devices
 

@@ -19,6 +19,24 @@ pub struct Output {
     pub targets: Vec<Target>,
 }
 
+/// Where the value of a data input comes from.
+#[derive(Debug, Drop)]
+pub enum Source {
+    /// A data output of a leaf: the leaf's path (names joined by dots) and the output's name.
+    Output(String, String),
+    /// A constant: one number.
+    Number(i64),
+    /// The elements of an array that is not connected: zeros, from the lowest index to the highest.
+    Zeros(i64, i64),
+}
+
+/// A data input of a leaf, and where its value comes from.
+#[derive(Debug, Drop)]
+pub struct Input {
+    pub name: String,
+    pub source: Source,
+}
+
 /// What a leaf is.
 #[derive(Debug, Drop)]
 pub enum Body {
@@ -34,6 +52,8 @@ pub struct Leaf {
     pub body: Body,
     /// Its event outputs, in the order of its type.
     pub outputs: Vec<Output>,
+    /// Its data inputs, in the order of its type.
+    pub inputs: Vec<Input>,
 }
 
 /// A resource and its leaves, depth first in text order. Its path is the device's and its own name, joined by a dot.

@@ -14,9 +14,11 @@ ghost use Rattle.fb_wires.specs.Counts.{sum_by, count_of, resource_count};
 ghost use Rattle.fb_wires.specs.declared.site.Around.{Nothing};
 ghost use Rattle.fb_wires.specs.Sites.{path_of, text_of, left_by, left_count};
 ghost use Rattle.fb_wires.specs.Walks.{spots_of, IsStop};
-ghost use Rattle.fb_wires.specs.Leaves.{Written, led, kind_of, output_of, leaf_of, leaves_at, composed, flat_resource, flat_device, written_resource, written_device, most_followed, IsFull, IsLimitAt};
+ghost use Rattle.fb_wires.specs.Sources.{fed_by};
+ghost use Rattle.fb_wires.specs.Leaves.{Written, led, kind_of, output_of, leaf_of, leaves_at, held_by, composed, flat_resource, flat_device, written_resource, written_device, most_followed, IsFull, IsLimitAt};
 
 use crate::flat::{Body, Flat, FlatDevice, FlatResource, Leaf, Output};
+use crate::inputs::{inputs, service_names, variable_names};
 use crate::leave::leave;
 use crate::site::{Around, Trail, text};
 use crate::walk::{Stop, Walk};
@@ -130,20 +132,23 @@ fn add(
     table: &mut Table,
     body: Body,
     names: &[&str],
+    taken: &[String],
     trail: &Trail,
     around: &Around,
     alloc: Global,
 ) -> Result<(), Stop>
-    ensures added { OnOk result (map leaf_of table.new.leaves.items ≡ map leaf_of table.old.leaves.items ++ record { path = text_of (path_of trail.now); kind = kind_of body; outputs = led (left_by around.now) (map (λ s. s.now) names.now) } ∷ []) }
+    ensures added { OnOk result (map leaf_of table.new.leaves.items ≡ map leaf_of table.old.leaves.items ++ record { path = text_of (path_of trail.now); kind = kind_of body; outputs = led (left_by around.now) (map (λ s. s.now) names.now); inputs = fed_by (held_by around.now) (map string_bytes taken.now) } ∷ []) }
     ensures counted { OnOk result (table.new.left + sum_by (left_count around.now) (map (λ s. s.now) names.now) ≡ table.old.left) }
     ensures refused { IfErr result (IsStop (table.old.left < sum_by (left_count around.now) (map (λ s. s.now) names.now))) }
 {
     let outputs = outputs(names, around, &mut table.left, alloc)?;
+    let inputs = inputs(taken, around, alloc)?;
     let path = text(trail, alloc)?;
     table.leaves.push(Leaf {
         path,
         body,
         outputs,
+        inputs,
     })?;
     Ok(())
 }
@@ -161,10 +166,12 @@ fn add_block(
     ensures refused { IfErr result (IsStop (table.old.left < count_of (Basic (block_of block.now.value)) (left_count around.now))) }
 {
     let names = names(alloc, &block.face.event_outputs)?;
+    let taken = variable_names(alloc, &block.face.inputs)?;
     add(
         table,
         Body::Basic(block.clone()?),
         &names,
+        &taken,
         trail,
         around,
         alloc,
@@ -183,10 +190,12 @@ fn add_service(
     ensures counted { OnOk result (table.new.left + count_of (Served (service_of service.now)) (left_count around.now) ≡ table.old.left) }
     ensures refused { IfErr result (IsStop (table.old.left < count_of (Served (service_of service.now)) (left_count around.now))) }
 {
+    let taken = service_names(alloc, service)?;
     add(
         table,
         Body::Served(again(alloc, service)?),
         service.event_outputs(),
+        &taken,
         trail,
         around,
         alloc,

@@ -1,8 +1,12 @@
-//! The leaves of a system, and where their event outputs lead.
+//! The leaves of a system, where their event outputs lead, and where their data inputs take their values from.
 #![tactic(auto)]
 
+mod constant;
 mod enter;
 mod flat;
+mod give;
+mod hold;
+mod inputs;
 mod laws;
 mod leave;
 mod leaves;
@@ -11,6 +15,7 @@ mod site;
 mod tests;
 mod walk;
 
-pub use flat::{Body, Flat, FlatDevice, FlatResource, Leaf, Output, Target};
-pub use laws::paths_are_read_back;
+pub use flat::{Body, Flat, FlatDevice, FlatResource, Input, Leaf, Output, Source, Target};
+pub use laws::{all_inputs_are_written, paths_are_read_back, tables_are_leaves};
 pub use leaves::{FOLLOWED, flatten};
+pub use site::joined;

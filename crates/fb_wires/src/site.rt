@@ -21,8 +21,8 @@ pub enum Around<'a> {
     Level(&'a Network, &'a Instance, &'a Trail<'a>, &'a Around<'a>),
 }
 
-// A text and a name behind it, joined by a dot.
-fn joined(text: String, name: &str) -> Result<String, AllocError>
+// A text made longer by a dot and a name.
+fn longer(text: String, name: &str) -> Result<String, AllocError>
     ensures { IfOk result (λ s. string_bytes s ≡ dotted (string_bytes text) name.now) }
 {
     let mut text = text;
@@ -31,12 +31,19 @@ fn joined(text: String, name: &str) -> Result<String, AllocError>
     Ok(text)
 }
 
+/// A path and a name behind it, joined by a dot.
+pub fn joined(alloc: Global, path: &str, name: &str) -> Result<String, AllocError>
+    ensures { IfOk result (λ s. string_bytes s ≡ dotted path.now name.now) }
+{
+    longer(String::from_str(alloc, path)?, name)
+}
+
 /// The names of a trail, joined by dots.
 pub fn text(trail: &Trail, alloc: Global) -> Result<String, AllocError>
     ensures { IfOk result (λ s. string_bytes s ≡ text_of (path_of trail.now)) }
 {
     match trail {
-        Trail::Resource(device, name) => joined(String::from_str(alloc, *device)?, *name),
-        Trail::Inside(name, outer) => joined(text(*outer, alloc)?, *name),
+        Trail::Resource(device, name) => longer(String::from_str(alloc, *device)?, *name),
+        Trail::Inside(name, outer) => longer(text(*outer, alloc)?, *name),
     }
 }

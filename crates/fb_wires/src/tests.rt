@@ -1,8 +1,9 @@
-use crate::{Flat, flatten};
+use crate::{Flat, Source, flatten};
 use fb_blocks::{Face, TypeFault};
 use fb_networks::{Body, Connection, End, Instance, Network};
 use fb_services::Service;
-use fb_systems::{Device, Resource, Typed};
+use fb_source::parse;
+use fb_systems::{Device, Resource, Typed, resolve_with};
 use indexmap::IndexMap;
 use std::alloc::{AllocError, Global};
 use std::rc::Rc;
@@ -189,5 +190,71 @@ fn too_many_followings_are_refused(rt: HostRuntime) -> Result<(), Fail> {
     assert_eq!(rt; many.as_str(), "19 77");
     let endless = shown(alloc, flatten(alloc, &system(alloc, doubling(alloc, 60)?)?))?;
     assert_eq!(rt; endless.as_str(), "19 77");
+    Ok(())
+}
+
+// The leaves with their data inputs and where these take their values from.
+fn sources(alloc: Global, flat: &Flat) -> Result<String, Fail> {
+    let mut text = String::new(alloc);
+    for device in &flat.devices {
+        for resource in &device.resources {
+            for leaf in &resource.leaves {
+                text.push_str(leaf.path.as_str())?;
+                for input in &leaf.inputs {
+                    let source = match &input.source {
+                        Source::Output(path, name) => format!(in alloc; "{path}:{name}")?,
+                        Source::Number(number) => format!(in alloc; "{number}")?,
+                        Source::Zeros(low, high) => format!(in alloc; "{low}..{high}")?,
+                    };
+                    text.push_str(" ")?;
+                    text.push_str(input.name.as_str())?;
+                    text.push_str("=")?;
+                    text.push_str(source.as_str())?;
+                }
+                text.push_str("; ")?;
+            }
+        }
+    }
+    Ok(text)
+}
+
+// The same of a text, or the refusal.
+fn read(alloc: Global, text: &str) -> Result<String, Fail> {
+    match parse(alloc, text) {
+        Ok(source) => match resolve_with(alloc, &[], &source) {
+            Ok(typed) => match flatten(alloc, &typed) {
+                Ok(flat) => sources(alloc, &flat),
+                Err(fault) => Ok(format!(in alloc; "{fault}")?),
+            },
+            Err(fault) => Ok(format!(in alloc; "{fault}")?),
+        },
+        Err(fault) => Ok(format!(in alloc; "unread {fault}")?),
+    }
+}
+
+// Of the inner instance: A is an output of another leaf, B the parameter of the composite's port, C the start value of the composite's port,
+// D its own parameter, E its own start value.
+#[test]
+fn values_come_from_where_wires_begin(rt: HostRuntime) -> Result<(), Fail> {
+    let text = "
+FUNCTION_BLOCK CELL
+VAR_INPUT A : INT := 6; B : INT := 7; C : INT := 8; D : INT := 9; E : INT := 10; F : INT; END_VAR
+VAR_OUTPUT Y : INT; END_VAR
+EC_STATES S; END_STATES EC_TRANSITIONS END_TRANSITIONS
+END_FUNCTION_BLOCK
+FUNCTION_BLOCK BOX
+VAR_INPUT P : INT; Q : INT := 1; R : INT := 2; END_VAR
+VAR_OUTPUT U : INT; V : INT := 3; W : INT; END_VAR
+FBS X : CELL(D := 4); END_FBS
+DATA_CONNECTIONS P TO X.A; Q TO X.B; R TO X.C; X.Y TO U; END_CONNECTIONS
+END_FUNCTION_BLOCK
+SYSTEM S DEVICE D RESOURCE R
+FBS I : INPUT[INT](ID := 1); K : BOX(Q := 5); O : OUTPUT[INT, INT, INT](ID := 1); END_FBS
+DATA_CONNECTIONS I.RD_1 TO K.P; K.V TO O.SD_2; K.U TO O.SD_1; K.W TO O.SD_3; END_CONNECTIONS
+END_RESOURCE END_DEVICE END_SYSTEM";
+    assert_eq!(rt;
+        read(rt.alloc(), text)?.as_str(),
+        "D.R.I; D.R.K.X A=D.R.I:RD_1 B=5 C=2 D=4 E=10 F=0; D.R.O SD_1=D.R.K.X:Y SD_2=3 SD_3=0; "
+    );
     Ok(())
 }

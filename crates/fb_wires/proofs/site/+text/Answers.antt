@@ -9,4 +9,4 @@ returns-in_ok-text-in-Inside t c =
     let outer = c.in-Inside.outer.now in
     let name = c.in-Inside.name.now in
     let whole : text_of (path_of c.args.trail.now) ≡ dotted (text_of (path_of outer)) name = ap (λ u. text_of (path_of u)) c.in-Inside.is ∙ text_inside outer name in
-    ok_along string_bytes (ap (λ s. dotted s name) c.in_ok-text-in-Inside.ensures ∙ sym whole) c.joined-in-Inside.result c.joined-in-Inside.ensures
+    ok_along string_bytes (ap (λ s. dotted s name) c.in_ok-text-in-Inside.ensures ∙ sym whole) c.longer-in-Inside.result c.longer-in-Inside.ensures
