@@ -1,0 +1,4 @@
+pub mod Loops
+pub mod Arriving
+pub mod Beginning
+pub mod Systems

@@ -1,0 +1,32 @@
+//! Why a queue is not deep enough.
+
+ghost use Rattle.std.specs.Prelude.{◌≡◌};
+ghost use Rattle.fb_depths.specs.declared.shallow.Shallow.TheVariants.{OutOfMemory};
+
+use std::alloc::{AllocError, AllocFailed};
+
+/// Why the depths of a certificate are refused.
+#[derive(Debug, Drop)]
+pub enum Shallow {
+    /// Memory ran out. Code 9.
+    OutOfMemory,
+    /// The depth of the resource of this path, in upper case and its names joined by a dot, is less than the places of one of its arrivals,
+    /// or than those of all its BEGIN together. Code 40.
+    Depth(String),
+}
+
+impl From<AllocError> for Shallow {
+    ghost from_gives = { λ _ e. e ≡ OutOfMemory };
+
+    fn from(_: AllocError) -> Shallow {
+        Shallow::OutOfMemory
+    }
+}
+
+impl<T: Drop> From<AllocFailed<T>> for Shallow {
+    ghost from_gives = { λ _ e. e ≡ OutOfMemory };
+
+    fn from(_: AllocFailed<T>) -> Shallow {
+        Shallow::OutOfMemory
+    }
+}

@@ -1,0 +1,85 @@
+-- Tables of certificates by their paths.
+use Rattle.std.proofs.Common.{◌≡◌, ℕ, ◌+◌, Bool, true, false, ◌||◌, ◌++◌, cond, List, [], ◌∷◌, drop, subst, map, Option, Some, is_some, refl, sym, ap, ◌∙◌, string_bytes}
+use Rattle.std.specs.List.{list_any}
+use Rattle.std.specs.Str.{bytes_eq}
+use Rattle.std.specs.declared.string.String.{String}
+use Rattle.std.specs.declared.alloc.Global.{Global}
+use Rattle.fb_model.specs.Names.{Name, is_in}
+use Rattle.fb_model.specs.Certificates.{names, event_names, is_boolean}
+use Rattle.std.specs.declared.vec.Vec.{Vec}
+use Rattle.fb_blocks.specs.declared.typed.Action.{Action}
+use Rattle.fb_blocks.specs.declared.typed.Variable.{Variable}
+use Rattle.fb_blocks.specs.Views.{action_of, event_of, declared_of}
+use Rattle.fb_model.specs.System as book
+use Rattle.fb_model.specs.Services.{service_events, service_event_inputs, arrivals}
+use Rattle.fb_model.specs.BlockTyping.{variable_of}
+use Rattle.fb_blocks.proofs.Lists.{any_map}
+use Rattle.fb_cert.specs.Views.{Table, first_at, Rows}
+use Rattle.fb_ledger.specs.declared.kind.RowKind.{RowKind}
+use Rattle.fb_ledger.specs.declared.kind.RowKind.TheVariants.{Charge, Weight, Range, Depth}
+use Rattle.fb_wires.specs.declared.flat.FlatDevice.{FlatDevice}
+use Rattle.fb_ledger.specs.Members.{HasSame}
+use Rattle.fb_ledger.specs.Texts.{paths, paths_of, texts_in, ranged_names, texts_of, HaveSameRows}
+use Rattle.fb_wires.specs.Sites.{dotted}
+use Rattle.fb_ledger.proofs.Members.{same_step}
+
+-- a table has a path just where it has a first row of it
+pub has_first : {V : Type 0} (path : Name) (rows : Table V) → is_some (first_at path rows) ≡ is_in path (paths rows)
+has_first path [] = refl
+has_first path (r ∷ rows) = by (bytes_eq path r.0) r.1 (first_at path rows) (is_in path (paths rows)) (has_first path rows) where
+  by : {V : Type 0} (t : Bool) (v : V) (o : Option V) (u : Bool) → is_some o ≡ u → is_some (cond t (Some v) o) ≡ (t || u)
+  by true v o u h = refl
+  by false v o u h = h
+
+-- whether a set of texts has a name
+pub known : (x : Name) (keys : List (String Global)) (t : Bool) → t ≡ list_any (λ k. bytes_eq x (string_bytes k)) keys → is_in x (map string_bytes keys) ≡ t
+known x keys t h = any_map (bytes_eq x) string_bytes keys ∙ sym h
+
+pub state_names_are : (xs : List (String Global × Vec Action Global)) → names (map (λ p. record { name = string_bytes p.0; actions = map action_of p.1.items }) xs) ≡ map (λ p. string_bytes p.0) xs
+state_names_are [] = refl
+state_names_are (x ∷ xs) = ap (λ ns. string_bytes x.0 ∷ ns) (state_names_are xs)
+
+pub event_names_are : (xs : List (String Global × Vec (String Global) Global)) → event_names (map (λ p. event_of (string_bytes p.0) p.1.items) xs) ≡ map (λ p. string_bytes p.0) xs
+event_names_are [] = refl
+event_names_are (x ∷ xs) = ap (λ ns. string_bytes x.0 ∷ ns) (event_names_are xs)
+
+-- variables by their entries
+abbrev pub listed : List (String Global × Variable) → List book.Variable
+listed es = map variable_of (map (λ p. declared_of (string_bytes p.0) p.1) es)
+
+-- a service's events are its event inputs, and then its arrival
+pub events_are : (s : book.Service) → service_events s ≡ service_event_inputs s ++ arrivals s
+events_are (book.Input number types) = refl
+events_are (book.Output number types) = refl
+events_are (book.Publish channel types) = refl
+events_are (book.Subscribe channel types) = refl
+events_are book.Delay = refl
+events_are book.Cycle = refl
+events_are book.Restart = refl
+
+-- ---- the rows of tables and of a certificate
+
+-- the same rows of each kind
+pub are_same : (devices : List FlatDevice) (rows : Rows) → HasSame (paths_of Charge rows) (texts_of Charge devices) → HasSame (paths_of Weight rows) (texts_of Weight devices)
+    → HasSame (paths_of Range rows) (texts_of Range devices) → HasSame (paths_of Depth rows) (texts_of Depth devices) → HaveSameRows devices rows
+are_same devices rows c w r d Charge = c
+are_same devices rows c w r d Weight = w
+are_same devices rows c w r d Range = r
+are_same devices rows c w r d Depth = d
+
+-- ---- variables, one after another
+
+-- a variable that is not BOOL has a row
+pub ranged_on : (p : Name) (xs : List (String Global × Variable)) (k : ℕ) (x : String Global × Variable) (old new goal : List Name) → drop k xs ≡ x ∷ drop (k + 1) xs → is_boolean x.1.of_type ≡ false → HasSame new (dotted p (string_bytes x.0) ∷ old)
+    → HasSame (texts_in p (ranged_names (listed (drop k xs))) ++ old) goal → HasSame (texts_in p (ranged_names (listed (drop (k + 1) xs))) ++ new) goal
+ranged_on p xs k x old new goal e b h so =
+    same_step (dotted p (string_bytes x.0) ∷ []) (texts_in p (ranged_names (listed (drop (k + 1) xs)))) old new goal h
+    (subst (λ t. HasSame (texts_in p (cond t (ranged_names (listed (drop (k + 1) xs))) (string_bytes x.0 ∷ ranged_names (listed (drop (k + 1) xs)))) ++ old) goal) b
+    (subst (λ ys. HasSame (texts_in p (ranged_names (listed ys)) ++ old) goal) e so))
+
+-- one that is BOOL has none
+pub ranged_over : (p : Name) (xs : List (String Global × Variable)) (k : ℕ) (x : String Global × Variable) (old goal : List Name) → drop k xs ≡ x ∷ drop (k + 1) xs → is_boolean x.1.of_type ≡ true
+    → HasSame (texts_in p (ranged_names (listed (drop k xs))) ++ old) goal → HasSame (texts_in p (ranged_names (listed (drop (k + 1) xs))) ++ old) goal
+ranged_over p xs k x old goal e b so =
+    subst (λ t. HasSame (texts_in p (cond t (ranged_names (listed (drop (k + 1) xs))) (string_bytes x.0 ∷ ranged_names (listed (drop (k + 1) xs)))) ++ old) goal) b
+    (subst (λ ys. HasSame (texts_in p (ranged_names (listed ys)) ++ old) goal) e so)

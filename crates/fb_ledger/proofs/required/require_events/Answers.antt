@@ -1,0 +1,25 @@
+use Rattle.std.proofs.Common.{◌≡◌, ◌∷◌, ◌++◌, [], OnOk, sym, ap, subst, ◌∙◌, map}
+use Rattle.std.proofs.lemmas.List.{map-append}
+use Rattle.fb_model.specs.Services.{service_event_inputs, service_events, arrivals}
+use Rattle.fb_blocks.specs.Views.{names_of}
+use Rattle.fb_blocks.proofs.Lists.{on_ok}
+use Rattle.fb_services.specs.Views.{service_of, listed}
+use Rattle.fb_wires.specs.Sites.{dotted}
+use Rattle.fb_ledger.specs.Members.{HasSame}
+use Rattle.fb_ledger.specs.Texts.{texts_in}
+use Rattle.fb_ledger.proofs.Members.{same_behind}
+use Rattle.fb_ledger.proofs.Tables.{events_are}
+use Rattle.fb_ledger.proofs.required.require_events.Goals as goal
+
+pub returns-in-Some-clause-rows : goal.returns-in-Some-clause-rows
+returns-in-Some-clause-rows c =
+    let p = c.args.path.now in
+    let s = service_of c.args.service.now in
+    let one : c.in-Some.event.now ∷ [] ≡ arrivals s = ap listed (sym c.in-Some.is) ∙ c.arrival.ensures in
+    let all : texts_in p (service_event_inputs s) ++ dotted p c.in-Some.event.now ∷ [] ≡ texts_in p (service_events s) =
+    sym (map-append (λ n. dotted p n) (service_event_inputs s) (c.in-Some.event.now ∷ [])) ∙ ap (λ es. texts_in p (service_event_inputs s ++ es)) one ∙ ap (texts_in p) (sym (events_are s)) in
+    on_ok
+    (λ h. subst (λ ts. HasSame (names_of c.require_name.new.rows) (ts ++ names_of c.args.rows.now)) all
+    (same_behind (dotted p c.in-Some.event.now) (texts_in p (service_event_inputs s)) (names_of c.args.rows.now) (names_of c.require_names.new.rows) (names_of c.require_name.new.rows)
+    (subst (λ ns. HasSame (names_of c.require_names.new.rows) (texts_in p ns ++ names_of c.args.rows.now)) c.event_inputs.ensures c.in_ok-require_names.ensures.rows) h))
+    c.require_name.result c.require_name.ensures.rows

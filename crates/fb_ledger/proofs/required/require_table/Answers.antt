@@ -1,0 +1,17 @@
+use Rattle.std.proofs.Common.{◌∷◌, ◌++◌, map, sym, subst, string_bytes}
+use Rattle.fb_blocks.specs.Views.{names_of}
+use Rattle.fb_wires.specs.Sites.{dotted}
+use Rattle.fb_ledger.specs.Members.{HasSame}
+use Rattle.fb_ledger.specs.Texts.{texts_in}
+use Rattle.fb_ledger.proofs.Members.{next_item, rest_at}
+use Rattle.fb_ledger.proofs.required.require_table.Goals as goal
+
+pub loop-index-preserved : goal.loop-index-preserved
+loop-index-preserved g c =
+    let p = c.args.path.now in
+    let xs = c.args.table.now.entries in
+    let k = c.loop-index.index in
+    next_item (λ n. dotted p n) (λ e. string_bytes e.0) xs k _ (names_of c.loop-index.rows) (names_of c.require_name.new.rows) (texts_in p (map (λ e. string_bytes e.0) xs) ++ names_of c.args.rows.now)
+    (rest_at xs k _ (sym c.in-Some.ensures.entry))
+    (subst (λ n. HasSame (names_of c.require_name.new.rows) (dotted p n ∷ names_of c.loop-index.rows)) c.as_str.ensures.value c.in_ok-require_name.ensures.rows)
+    c.loop-index.invariant

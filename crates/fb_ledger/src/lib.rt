@@ -1,0 +1,12 @@
+//! Whether a certificate has exactly the rows that a system must have.
+#![tactic(auto)]
+
+mod fault;
+mod kind;
+mod law;
+mod matching;
+mod required;
+
+pub use fault::RowFault;
+pub use law::no_row_is_spelled_twice;
+pub use matching::rows_match;
