@@ -1,0 +1,14 @@
+use Rattle.std.proofs.Common.{◌+◌}
+use Rattle.std.specs.List.{sum_by}
+use Rattle.fb_model.specs.Services.{can_emit}
+use Rattle.fb_services.specs.Views.{service_of}
+use Rattle.fb_columns.specs.Sums.{IsSum}
+use Rattle.fb_columns.specs.Columns.{unit_of}
+use Rattle.fb_columns.specs.Reckoning.{load_at}
+use Rattle.fb_columns.proofs.service.dispatch_pays.Goals as goal
+
+pub returns : goal.returns
+returns c =
+    let total = sum_by (load_at c.args.column c.args.certificate.now c.args.outputs.now) (can_emit (service_of c.args.service.now) c.args.event.now) in
+    let load : IsSum c.in_ok-load.load total = rw c.emitted.ensures at c.in_ok-load.ensures.value in
+    rw c.in_ok-row.ensures.value at (c.weighed.ensures (unit_of c.args.column + total) (c.plus.ensures (unit_of c.args.column) total c.unit.ensures.value load))

@@ -1,0 +1,6 @@
+pub mod Sums
+pub mod Columns
+pub mod Reckoning
+pub mod Paying
+pub mod Fitting
+pub mod Tables

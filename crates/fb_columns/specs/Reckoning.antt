@@ -1,0 +1,96 @@
+-- What is reckoned with, in one column of a certificate.
+use Rattle.std.specs.Prelude.{ℕ, List, [], ◌∷◌, Option, None, Some, map, string_bytes, if◌then◌else◌}
+use Rattle.std.specs.List.{sum_by}
+use Rattle.std.specs.Str.{bytes_eq}
+use Rattle.std.specs.declared.string.String.{String}
+use Rattle.std.specs.declared.vec.Vec.{Vec}
+use Rattle.std.specs.declared.alloc.Global.{Global}
+use Rattle.indexmap.specs.IndexMap.{IndexMap}
+use Rattle.fb_model.specs.Names.{Name}
+use Rattle.fb_cert.specs.declared.certificate.Amount.{Amount}
+use Rattle.fb_cert.specs.declared.certificate.Certificate.{Certificate}
+use Rattle.fb_cert.specs.Views.{first_at, rows_of}
+use Rattle.fb_wires.specs.declared.flat.Target.{Target}
+use Rattle.fb_wires.specs.declared.flat.Output.{Output}
+use Rattle.fb_wires.specs.Sites.{dotted}
+use Rattle.fb_blocks.specs.declared.typed.Action.{Action}
+use Rattle.fb_blocks.specs.declared.typed.Transition.{Transition}
+use Rattle.fb_columns.specs.declared.column.Column.{Column}
+use Rattle.fb_columns.specs.Columns.{number_in}
+use Rattle.fb_columns.specs.Sums.{IsSum, greater}
+
+-- ---- rows
+
+-- the number of a row, 0 where there is no row
+abbrev pub number_of : Column → Option Amount → ℕ
+number_of c None = 0
+number_of c (Some a) = number_in c a
+
+-- the weight of an event input or arrival, and the charge of a state
+abbrev pub weight_of : Column → Certificate → Name → Name → ℕ
+weight_of c cert path event = number_of c (first_at (dotted path event) (rows_of cert).weights)
+
+abbrev pub charge_of : Column → Certificate → Name → Name → ℕ
+charge_of c cert path state = number_of c (first_at (dotted path state) (rows_of cert).charges)
+
+-- ---- outputs
+
+abbrev pub target_weight : Column → Certificate → Target → ℕ
+target_weight c cert t = weight_of c cert (string_bytes t.path) (string_bytes t.event)
+
+-- the weights of all targets
+abbrev pub load_of : Column → Certificate → List Target → ℕ
+load_of c cert targets = sum_by (target_weight c cert) targets
+
+-- the load of the first output of a name, 0 where there is none
+abbrev pub load_at : Column → Certificate → List Output → Name → ℕ
+load_at c cert [] o = 0
+load_at c cert (x ∷ xs) o = if bytes_eq o (string_bytes x.name) then load_of c cert x.targets.items else load_at c cert xs o
+
+-- ---- what stands in tables
+
+-- the names of a table, in order
+abbrev pub table_names : {V S : Type 0} → IndexMap (String Global) V S → List Name
+table_names m = map (λ p. string_bytes p.0) m.entries
+
+-- what stands at the place that a name has among the names
+abbrev pub value_at : {A : Type 0} → List Name → List A → A → Name → A
+value_at [] xs other x = other
+value_at (n ∷ ns) [] other x = other
+value_at (n ∷ ns) (y ∷ ys) other x = if bytes_eq x n then y else value_at ns ys other x
+
+-- each is the sum of this number
+abbrev pub AreSums : List (Option ℕ) → List ℕ → Type 0
+AreSums [] [] = Unit {0}
+AreSums (s ∷ ss) (n ∷ ns) = IsSum s n × AreSums ss ns
+AreSums [] (n ∷ ns) = ⊥
+AreSums (s ∷ ss) [] = ⊥
+
+-- ---- states
+
+-- a state of the tables: its name and its actions
+abbrev pub Entry : Type 0
+Entry = String Global × Vec Action Global
+
+-- the load of what an action emits
+abbrev pub emitted : List Name → List ℕ → Action → ℕ
+emitted outputs loads a = elim a.output [ None ↦ 0 | Some o ↦ value_at outputs loads 0 (string_bytes o) ]
+
+-- what the actions of a state cost by themselves: the loads of all outputs that they emit
+abbrev pub own_of : List Name → List ℕ → Entry → ℕ
+own_of outputs loads s = sum_by (emitted outputs loads) s.1.items
+
+-- the same of the first state of a name, 0 where there is none
+abbrev pub cost_at : List Name → List ℕ → List Entry → Name → ℕ
+cost_at outputs loads states x = value_at (map (λ s. string_bytes s.0) states) (map (own_of outputs loads) states) 0 x
+
+-- ---- free transitions
+
+-- the charge of the state that a transition leads to, where it is free
+abbrev pub free_next : (Name → ℕ) → Transition → Option ℕ
+free_next charge t = elim t.event [ None ↦ Some (charge (string_bytes t.target)) | Some e ↦ None ]
+
+-- the greatest of them, and of one that is there
+abbrev pub most_free : (Name → ℕ) → Option ℕ → List Transition → Option ℕ
+most_free charge most [] = most
+most_free charge most (t ∷ ts) = most_free charge (greater most (free_next charge t)) ts

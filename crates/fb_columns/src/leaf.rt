@@ -1,0 +1,42 @@
+//! When the rows of a leaf pay in a column.
+
+ghost use Rattle.std.specs.Prelude.{OnOk, IfErr};
+ghost use Rattle.fb_model.specs.Language.{Limits};
+ghost use Rattle.fb_model.specs.Wires as book;
+ghost use Rattle.fb_model.specs.Certificates.{KindWeighs};
+ghost use Rattle.fb_cert.specs.Views.{certificate_of};
+ghost use Rattle.fb_wires.specs.Tables.{IsLeaf};
+ghost use Rattle.fb_columns.specs.Columns.{column_of};
+ghost use Rattle.fb_columns.specs.Fitting.{IsKnownLeaf, IsLeafFault};
+
+use crate::chart::chart_pays;
+use crate::column::Column;
+use crate::fault::Shortfall;
+use crate::service::service_pays;
+use crate::weights::loads;
+use fb_cert::Certificate;
+use fb_wires::{Body, Leaf};
+use std::alloc::Global;
+
+/// The rows of a leaf pay in a column.
+pub(crate) fn leaf_pays(
+    alloc: Global,
+    certificate: &Certificate,
+    column: Column,
+    leaf: &Leaf,
+) -> Result<(), Shortfall>
+    ensures pays { (b : book.Leaf) (limits : Limits) → IsLeaf leaf.now b → IsKnownLeaf b → OnOk result (KindWeighs (column_of column (certificate_of certificate.now)) limits b.targets b.path b.kind) }
+    ensures refused { (b : book.Leaf) (limits : Limits) → IsLeaf leaf.now b → IsKnownLeaf b → IfErr result (IsLeafFault (column_of column (certificate_of certificate.now)) limits b) }
+{
+    let path = leaf.path.as_str();
+    let outputs = leaf.outputs.as_slice();
+    match &leaf.body {
+        Body::Basic(block) => {
+            let loads = loads(alloc, certificate, column, outputs)?;
+            chart_pays(alloc, certificate, column, path, block, &loads)
+        }
+        Body::Served(service) => {
+            service_pays(alloc, certificate, column, path, service, outputs)
+        }
+    }
+}

@@ -1,0 +1,19 @@
+//! Whether the rows of a certificate pay for what they have to, in one column.
+#![tactic(auto)]
+
+mod chart;
+mod column;
+mod fault;
+mod laws;
+mod leaf;
+mod pays;
+mod service;
+mod weights;
+
+pub use column::Column;
+pub use fault::Shortfall;
+pub use laws::refusals_deny;
+pub use pays::column_pays;
+
+#[cfg(test)]
+mod tests;

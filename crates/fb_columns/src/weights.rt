@@ -1,0 +1,177 @@
+//! The numbers of rows, and what an output of a leaf has to be paid.
+
+ghost use Rattle.std.specs.Prelude.{◌≡◌, ◌≤◌, ◌+◌, ℕ, List, map, IfOk, IfErr, string_bytes};
+ghost use Rattle.std.specs.List.{sum_by};
+ghost use Rattle.fb_wires.specs.Sites.{dotted};
+ghost use Rattle.fb_columns.specs.Sums.{IsSum};
+ghost use Rattle.fb_columns.specs.Reckoning.{number_of, weight_of, charge_of, load_of, load_at, AreSums};
+ghost use Rattle.fb_columns.specs.Paying.{IsMemory, IsCharge, IsWeight, Names, Pays};
+
+use crate::column::{Column, is_within, plus};
+use crate::fault::Shortfall;
+use fb_cert::{Amount, Certificate};
+use fb_wires::{Output, Target};
+use std::alloc::{AllocError, Global};
+
+// A path and a name behind it.
+fn joined(alloc: Global, path: &str, name: &str) -> Result<String, AllocError>
+    ensures { IfOk result (λ s. string_bytes s ≡ dotted path.now name.now) }
+{
+    let mut text = String::from_str(alloc, path)?;
+    text.push_str(".")?;
+    text.push_str(name)?;
+    Ok(text)
+}
+
+// The number of a row in a column, 0 where there is no row.
+fn number(row: Option<Amount>, column: Column) -> u64
+    ensures { result ≡ number_of column row }
+{
+    match row {
+        Some(amount) => column.number(amount),
+        None => 0,
+    }
+}
+
+/// The weight of an event input or arrival.
+pub(crate) fn weight(
+    alloc: Global,
+    certificate: &Certificate,
+    column: Column,
+    path: &str,
+    event: &str,
+) -> Result<u64, Shortfall>
+    ensures value { IfOk result (λ n. n ≡ weight_of column certificate.now path.now event.now) }
+    ensures refused { IfErr result IsMemory }
+{
+    let row = joined(alloc, path, event)?;
+    Ok(number(certificate.weight(row.as_str()), column))
+}
+
+/// The charge of a state.
+pub(crate) fn charge(
+    alloc: Global,
+    certificate: &Certificate,
+    column: Column,
+    path: &str,
+    state: &str,
+) -> Result<u64, Shortfall>
+    ensures value { IfOk result (λ n. n ≡ charge_of column certificate.now path.now state.now) }
+    ensures refused { IfErr result IsMemory }
+{
+    let row = joined(alloc, path, state)?;
+    Ok(number(certificate.charge(row.as_str()), column))
+}
+
+// The weights of all targets of an output.
+fn load(
+    alloc: Global,
+    certificate: &Certificate,
+    column: Column,
+    targets: &[Target],
+) -> Result<Option<u64>, Shortfall>
+    ensures value { IfOk result (λ s. IsSum s (load_of column certificate.now targets.now)) }
+    ensures refused { IfErr result IsMemory }
+{
+    let mut sum = Some(0);
+    for target in targets {
+        let next = weight(
+            alloc,
+            certificate,
+            column,
+            target.path.as_str(),
+            target.event.as_str(),
+        )?;
+        sum = plus(sum, Some(next));
+    }
+    Ok(sum)
+}
+
+/// The loads of the outputs of a leaf: of each, the weights of all its targets.
+pub(crate) fn loads(
+    alloc: Global,
+    certificate: &Certificate,
+    column: Column,
+    outputs: &[Output],
+) -> Result<Vec<Option<u64>>, Shortfall>
+    ensures values { IfOk result (λ v. AreSums v.items (map (λ o. load_of column certificate.now o.targets.items) outputs.now)) }
+    ensures refused { IfErr result IsMemory }
+{
+    let mut loads = Vec::new(alloc);
+    for output in outputs {
+        loads.push(load(alloc, certificate, column, &output.targets)?)?;
+    }
+    Ok(loads)
+}
+
+// The load of the first output of a name, 0 where there is none.
+fn load_named(
+    alloc: Global,
+    certificate: &Certificate,
+    column: Column,
+    outputs: &[Output],
+    name: &str,
+) -> Result<Option<u64>, Shortfall>
+    ensures value { IfOk result (λ s. IsSum s (load_at column certificate.now outputs.now name.now)) }
+    ensures refused { IfErr result IsMemory }
+{
+    for output in outputs {
+        if name == output.name.as_str() {
+            return load(alloc, certificate, column, &output.targets);
+        }
+    }
+    Ok(Some(0))
+}
+
+/// The loads of all outputs of these names.
+pub(crate) fn loads_named(
+    alloc: Global,
+    certificate: &Certificate,
+    column: Column,
+    outputs: &[Output],
+    names: &[&str],
+) -> Result<Option<u64>, Shortfall>
+    ensures value { IfOk result (λ s. IsSum s (sum_by (load_at column certificate.now outputs.now) (map (λ n. n.now) names.now))) }
+    ensures refused { IfErr result IsMemory }
+{
+    let mut sum = Some(0);
+    for name in names {
+        let next = load_named(alloc, certificate, column, outputs, *name)?;
+        sum = plus(sum, next);
+    }
+    Ok(sum)
+}
+
+/// The charge of a state is at least what it has to pay.
+pub(crate) fn charged(
+    alloc: Global,
+    path: &str,
+    state: &str,
+    need: Option<u64>,
+    charge: u64,
+) -> Result<(), Shortfall>
+    ensures { (v : ℕ) → IsSum need v → Names (IsCharge path.now) state.now (v ≤ charge) result }
+{
+    if is_within(need, charge) {
+        Ok(())
+    } else {
+        Err(Shortfall::Charge(joined(alloc, path, state)?))
+    }
+}
+
+/// The weight of an event is at least 1, and what it has to pay.
+pub(crate) fn weighed(
+    alloc: Global,
+    path: &str,
+    event: &str,
+    need: Option<u64>,
+    weight: u64,
+) -> Result<(), Shortfall>
+    ensures { (v : ℕ) → IsSum need v → Names (IsWeight path.now) event.now (Pays weight v) result }
+{
+    if weight >= 1 && is_within(need, weight) {
+        Ok(())
+    } else {
+        Err(Shortfall::Weight(joined(alloc, path, event)?))
+    }
+}
