@@ -1,0 +1,160 @@
+-- Refusals of the parts as refusals of the whole, and what a true refusal denies.
+use Rattle.std.proofs.Common.{◌≡◌, ◌≤◌, ◌<◌, ℕ, zero, suc, sym, ap, subst, refl, ◌∙◌, arith, inl, inr, List, [], ◌∷◌, map, length, get_or, true, Option, None, string_bytes}
+use Rattle.std.specs.List.{Any, AllByRecursion}
+use Rattle.fb_model.specs.Names.{Name, is_in}
+use Rattle.fb_model.specs.System as book
+use Rattle.fb_model.specs.Wires as wires
+use Rattle.fb_model.specs.Wires.{Kind, Charted, Serviced, leaves}
+use Rattle.fb_model.specs.Ranges.{Range}
+use Rattle.fb_model.specs.Certificates as certs
+use Rattle.fb_model.specs.Certificates.{ColumnFits, DeviceFits, all_ranges}
+use Rattle.fb_model.specs.CertificateText.{names_in, place_of}
+use Rattle.fb_model.proofs.Lists.{all_weaker}
+use Rattle.fb_leaves.specs.Leaves.{IsIdle}
+use Rattle.fb_blocks.specs.declared.fault.TypeFault.{TypeFault}
+use Rattle.fb_blocks.specs.declared.fault.TypeFault.TheVariants as faults
+use Rattle.fb_systems.specs.declared.typed.Typed.{Typed}
+use Rattle.fb_systems.specs.declared.typed.Device as typed
+use Rattle.fb_systems.specs.declared.typed.Resource as typed_resource
+use Rattle.fb_systems.specs.Views.{system_of, device_of, resource_of}
+use Rattle.fb_wires.specs.Counts.{resource_count}
+use Rattle.fb_wires.specs.Leaves.{most_followed, IsFull, IsLimitAt}
+use Rattle.fb_ledger.specs.declared.fault.RowFault.{RowFault}
+use Rattle.fb_ledger.specs.declared.fault.RowFault.TheVariants as rows
+use Rattle.fb_ledger.specs.Faults.{IsUnknown, IsMissing, unknown_charge, unknown_weight, unknown_depth, missing_charge, missing_weight, missing_range, missing_depth, IsRowFault}
+use Rattle.fb_columns.specs.declared.column.Column.{Column}
+use Rattle.fb_columns.specs.declared.column.Column.TheVariants.{Steps, Places}
+use Rattle.fb_columns.specs.declared.fault.Shortfall.{Shortfall}
+use Rattle.fb_columns.specs.declared.fault.Shortfall.TheVariants as short
+use Rattle.fb_columns.specs.Columns.{column_of}
+use Rattle.fb_columns.specs.Fitting.{IsUnpaid}
+use Rattle.fb_columns.proofs.Denied.{denied as unpaid_denies}
+use Rattle.fb_depths.specs.declared.shallow.Shallow.{Shallow}
+use Rattle.fb_depths.specs.declared.shallow.Shallow.TheVariants as shallow
+use Rattle.fb_depths.specs.Depths.{Some as SomeOf, IsDeep, IsShallowFault}
+use Rattle.fb_depths.proofs.Systems.{some_of, none_lacks, denied as shallow_denies}
+use Rattle.fb_verdict.specs.declared.refusal.Refusal.{Refusal}
+use Rattle.fb_verdict.specs.declared.refusal.Refusal.TheVariants.{OutOfMemory, Text, Typing, Certificate as Spelling, UnknownRow, MissingRow, IndexOrDivisor, Charge, Weight, Depth}
+use Rattle.fb_verdict.specs.Refusals.{of_row, of_type, of_shortfall, of_shallow}
+use Rattle.fb_verdict.specs.Fits.{FollowsFew, Fits, AreIdle}
+use Rattle.fb_verdict.specs.Idle.{IsBusyLeaf, HasBusy, IsUndecided, IsIdleFault}
+use Rattle.fb_verdict.specs.Faults.{IsCrowded, IsFitFault}
+
+-- ---- from the parts to the whole
+
+pub of_rows : (typed : Typed) (cert : certs.Certificate) (f : RowFault) → IsRowFault (system_of typed) cert f → IsFitFault typed cert (of_row f)
+of_rows typed cert rows.OutOfMemory h = tt
+of_rows typed cert (rows.Unknown path) h = h
+of_rows typed cert (rows.Missing path) h = h
+
+pub of_idle : (typed : Typed) (cert : certs.Certificate) (f : Refusal) → IsIdleFault (system_of typed) f → IsFitFault typed cert f
+of_idle typed cert OutOfMemory h = tt
+of_idle typed cert (IndexOrDivisor row) h = h
+of_idle typed cert (Text x) h = absurd h
+of_idle typed cert (Typing x) h = absurd h
+of_idle typed cert (Spelling x) h = absurd h
+of_idle typed cert (UnknownRow x) h = absurd h
+of_idle typed cert (MissingRow x) h = absurd h
+of_idle typed cert (Charge x) h = absurd h
+of_idle typed cert (Weight x) h = absurd h
+of_idle typed cert (Depth x) h = absurd h
+
+pub of_column : (typed : Typed) (cert : certs.Certificate) (column : Column) (f : Shortfall) → IsUnpaid (column_of column cert) (system_of typed) f → IsFitFault typed cert (of_shortfall f)
+of_column typed cert column short.OutOfMemory h = tt
+of_column typed cert column (short.Charge path) h = (column, h)
+of_column typed cert column (short.Weight path) h = (column, h)
+
+pub of_depth : (typed : Typed) (cert : certs.Certificate) (f : Shallow) → IsShallowFault cert (system_of typed) f → IsFitFault typed cert (of_shallow f)
+of_depth typed cert shallow.OutOfMemory h = tt
+of_depth typed cert (shallow.Depth path) h = h
+
+pub of_limit : (typed : Typed) (cert : certs.Certificate) (f : TypeFault) → IsLimitAt (λ at. Any (λ d. Any (λ r. IsFull r at) d.resources.items) typed.devices.items) f → IsFitFault typed cert (of_type f)
+of_limit typed cert faults.OutOfMemory h = tt
+of_limit typed cert (faults.Limit at) h = h
+of_limit typed cert (faults.UnknownName at) h = absurd h
+of_limit typed cert (faults.DuplicateName at) h = absurd h
+of_limit typed cert (faults.TypeMismatch at) h = absurd h
+of_limit typed cert (faults.BadLiteral at) h = absurd h
+of_limit typed cert (faults.NotWritable at) h = absurd h
+of_limit typed cert (faults.BadConnection at) h = absurd h
+of_limit typed cert (faults.TwoSources at) h = absurd h
+of_limit typed cert (faults.BadService at) h = absurd h
+of_limit typed cert (faults.RecursiveComposite at) h = absurd h
+of_limit typed cert (faults.ChannelShape at) h = absurd h
+
+-- ---- crowded resources
+
+resource_crowded : (at : ℕ) (rs : List typed_resource.Resource) → SomeOf (λ r. IsFull r at) rs → AllByRecursion (λ (r : book.Resource). resource_count r ≤ most_followed) (map resource_of rs) → ⊥
+resource_crowded at [] s h = s
+resource_crowded at (r ∷ rs) (inl p) h = absurd (omega (arith, h.0, p.0))
+resource_crowded at (r ∷ rs) (inr s) h = resource_crowded at rs s h.1
+
+device_crowded : (at : ℕ) (ds : List typed.Device) → SomeOf (λ d. Any (λ r. IsFull r at) d.resources.items) ds → AllByRecursion FollowsFew (map device_of ds) → ⊥
+device_crowded at [] s h = s
+device_crowded at (d ∷ ds) (inl p) h = resource_crowded at d.resources.items (some_of (λ r. IsFull r at) d.resources.items p) h.0
+device_crowded at (d ∷ ds) (inr s) h = device_crowded at ds s h.1
+
+crowded_denied : (typed : Typed) (cert : certs.Certificate) (f : TypeFault) → IsCrowded typed f → Fits (system_of typed) cert → ⊥
+crowded_denied typed cert (faults.Limit at) h fits = device_crowded at typed.devices.items (some_of (λ d. Any (λ r. IsFull r at) d.resources.items) typed.devices.items h) fits.followed
+crowded_denied typed cert faults.OutOfMemory h fits = h
+crowded_denied typed cert (faults.UnknownName at) h fits = h
+crowded_denied typed cert (faults.DuplicateName at) h fits = h
+crowded_denied typed cert (faults.TypeMismatch at) h fits = h
+crowded_denied typed cert (faults.BadLiteral at) h fits = h
+crowded_denied typed cert (faults.NotWritable at) h fits = h
+crowded_denied typed cert (faults.BadConnection at) h fits = h
+crowded_denied typed cert (faults.TwoSources at) h fits = h
+crowded_denied typed cert (faults.BadService at) h fits = h
+crowded_denied typed cert (faults.RecursiveComposite at) h fits = h
+crowded_denied typed cert (faults.ChannelShape at) h fits = h
+
+-- ---- rows
+
+unknown_denied : (s : book.System) (cert : certs.Certificate) (path : List ℕ) → IsUnknown s cert path → Fits s cert → ⊥
+unknown_denied s cert path (unknown_charge a b) fits = let e = fits.rows.charges.same (place_of path) in absurd cc
+unknown_denied s cert path (unknown_weight a b) fits = let e = fits.rows.weights.same (place_of path) in absurd cc
+unknown_denied s cert path (unknown_depth a b) fits = let e = fits.rows.depths (names_in path) in absurd cc
+
+missing_denied : (s : book.System) (cert : certs.Certificate) (path : List ℕ) → IsMissing s cert path → Fits s cert → ⊥
+missing_denied s cert path (missing_charge a b) fits = let e = fits.rows.charges.same (place_of path) in absurd cc
+missing_denied s cert path (missing_weight a b) fits = let e = fits.rows.weights.same (place_of path) in absurd cc
+missing_denied s cert path (missing_range p w a b) fits = let e = fits.rows.ranges.same p in absurd cc
+missing_denied s cert path (missing_depth a b) fits = let e = fits.rows.depths (names_in path) in absurd cc
+
+-- ---- idle leaves
+
+one_guard : (x : Name) (ts : List book.Transition) → AllByRecursion (λ (t : book.Transition). t.guard ≡ None) ts → SomeOf (λ (t : book.Transition). (t.source ≡ x) × (t.guard ≡ None → ⊥)) ts → ⊥
+one_guard x ts a s = none_lacks (λ (t : book.Transition). t.guard ≡ None) (λ (t : book.Transition). (t.source ≡ x) × (t.guard ≡ None → ⊥)) ts (λ t e h. h.1 e) a s
+
+kind_denied : (k : Kind) (x : Name) → IsIdle k → HasBusy k x → ⊥
+kind_denied (Serviced service) x i h = h
+kind_denied (Charted block) x i (inl h) =
+    let none : is_in x [] ≡ true = subst (λ (ps : List book.Procedure). is_in x (map (λ (p : book.Procedure). p.name) ps) ≡ true) i.0 h in absurd cc
+kind_denied (Charted block) x i (inr h) = one_guard x block.transitions i.1 (some_of (λ (t : book.Transition). (t.source ≡ x) × (t.guard ≡ None → ⊥)) block.transitions h)
+
+idle_denied : (s : book.System) (row : Name) → IsUndecided s row → AreIdle s → ⊥
+idle_denied s row u i =
+    none_lacks (λ (d : book.Device). AllByRecursion (λ (leaf : wires.Leaf). IsIdle leaf.kind) (leaves d)) (λ (d : book.Device). SomeOf (IsBusyLeaf row) (leaves d)) s.devices
+    (λ d a q. none_lacks (λ (leaf : wires.Leaf). IsIdle leaf.kind) (IsBusyLeaf row) (leaves d) (λ leaf x h. kind_denied leaf.kind h.1 x h.4) a q) i u
+
+-- ---- columns and depths
+
+paid : (column : Column) (s : book.System) (cert : certs.Certificate) → Fits s cert → AllByRecursion (λ (d : book.Device). (ranges : List Range) × ColumnFits (column_of column cert) ranges (leaves d)) s.devices
+paid Steps s cert fits = all_weaker (DeviceFits cert) (λ (d : book.Device). (ranges : List Range) × ColumnFits (certs.steps_of cert) ranges (leaves d)) s.devices (λ d h. (all_ranges cert d, h.steps)) fits.devices
+paid Places s cert fits = all_weaker (DeviceFits cert) (λ (d : book.Device). (ranges : List Range) × ColumnFits (certs.places_of cert) ranges (leaves d)) s.devices (λ d h. (all_ranges cert d, h.places)) fits.devices
+
+deep : (s : book.System) (cert : certs.Certificate) → Fits s cert → AllByRecursion (IsDeep cert) s.devices
+deep s cert fits = all_weaker (DeviceFits cert) (IsDeep cert) s.devices (λ d h. record { arrivals = h.arrivals; begins = h.begins }) fits.devices
+
+-- a true refusal denies that the certificate fits an idle system, unless memory ran out
+pub denied : (typed : Typed) (cert : certs.Certificate) (f : Refusal) → IsFitFault typed cert f → AreIdle (system_of typed) → Fits (system_of typed) cert → f ≡ OutOfMemory
+denied typed cert OutOfMemory h i fits = refl
+denied typed cert (Text x) h i fits = absurd h
+denied typed cert (Typing x) h i fits = absurd (crowded_denied typed cert x h fits)
+denied typed cert (Spelling x) h i fits = absurd h
+denied typed cert (UnknownRow path) h i fits = absurd (unknown_denied (system_of typed) cert (string_bytes path) h fits)
+denied typed cert (MissingRow path) h i fits = absurd (missing_denied (system_of typed) cert (string_bytes path) h fits)
+denied typed cert (IndexOrDivisor path) h i fits = absurd (idle_denied (system_of typed) (string_bytes path) h i)
+denied typed cert (Charge path) h i fits = absurd (let e : short.Charge path ≡ short.OutOfMemory = unpaid_denies (column_of h.0 cert) (system_of typed) (short.Charge path) h.1 (paid h.0 (system_of typed) cert fits) in cc)
+denied typed cert (Weight path) h i fits = absurd (let e : short.Weight path ≡ short.OutOfMemory = unpaid_denies (column_of h.0 cert) (system_of typed) (short.Weight path) h.1 (paid h.0 (system_of typed) cert fits) in cc)
+denied typed cert (Depth path) h i fits = absurd (let e : shallow.Depth path ≡ shallow.OutOfMemory = shallow_denies cert (system_of typed) (shallow.Depth path) h (deep (system_of typed) cert fits) in cc)

@@ -1,0 +1,52 @@
+use Rattle.std.proofs.Common.{◌∙◌, subst, sym}
+use Rattle.std.proofs.lemmas.Result.{err_from_is_err_and}
+use Rattle.fb_cert.specs.Views.{certificate_of}
+use Rattle.fb_systems.specs.Views.{system_of}
+use Rattle.fb_columns.specs.declared.column.Column.TheVariants.{Steps, Places}
+use Rattle.fb_verdict.proofs.Reading.{words}
+use Rattle.fb_verdict.proofs.Composed.{tables_are, known, fits_by}
+use Rattle.fb_verdict.proofs.Denied.{of_rows, of_idle, of_column, of_depth}
+use Rattle.fb_verdict.proofs.verdict.tables_fit.Goals as goal
+
+pub returns-in_err-rows_match-clause-refused : goal.returns-in_err-rows_match-clause-refused
+returns-in_err-rows_match-clause-refused c = λ typed w e.
+    let p = err_from_is_err_and c.from_residual.result c.from_residual.ensures.1 in
+    let s = system_of typed in
+    let a = tables_are s c.args.flat.now.devices.items w e in
+    rw (p.1, p.2) (of_rows typed (certificate_of c.args.certificate.now) c.in_err-rows_match.field-0.0 (c.in_err-rows_match.ensures.refused s a (words s w)))
+
+pub returns-in_err-leaves_idle-clause-refused : goal.returns-in_err-leaves_idle-clause-refused
+returns-in_err-leaves_idle-clause-refused c = λ typed w e.
+    let p = err_from_is_err_and c.from_residual-in_err-leaves_idle.result c.from_residual-in_err-leaves_idle.ensures.1 in
+    let s = system_of typed in
+    let a = tables_are s c.args.flat.now.devices.items w e in
+    rw (p.1, p.2) (of_idle typed (certificate_of c.args.certificate.now) c.in_err-leaves_idle.field-0.0 (c.in_err-leaves_idle.ensures.refused s a))
+
+pub returns-in_err-column_pays-clause-refused : goal.returns-in_err-column_pays-clause-refused
+returns-in_err-column_pays-clause-refused c = λ typed w e.
+    let p = err_from_is_err_and c.from_residual-in_err-column_pays.result c.from_residual-in_err-column_pays.ensures.1 in
+    let s = system_of typed in
+    let a = tables_are s c.args.flat.now.devices.items w e in
+    rw (p.1, p.2) (of_column typed (certificate_of c.args.certificate.now) Steps c.in_err-column_pays.field-0.0 (c.in_err-column_pays.ensures.refused s a (known s w (c.in_ok-leaves_idle.ensures.idle s a))))
+
+pub returns-in_err-column_pays-2-clause-refused : goal.returns-in_err-column_pays-2-clause-refused
+returns-in_err-column_pays-2-clause-refused c = λ typed w e.
+    let p = err_from_is_err_and c.from_residual-in_err-column_pays-2.result c.from_residual-in_err-column_pays-2.ensures.1 in
+    let s = system_of typed in
+    let a = tables_are s c.args.flat.now.devices.items w e in
+    rw (p.1, p.2) (of_column typed (certificate_of c.args.certificate.now) Places c.in_err-column_pays-2.field-0.0 (c.in_err-column_pays-2.ensures.refused s a (known s w (c.in_ok-leaves_idle.ensures.idle s a))))
+
+pub returns-in_err-depths_fit-clause-refused : goal.returns-in_err-depths_fit-clause-refused
+returns-in_err-depths_fit-clause-refused c = λ typed w e.
+    let p = err_from_is_err_and c.from_residual-in_err-depths_fit.result c.from_residual-in_err-depths_fit.ensures.1 in
+    let s = system_of typed in
+    let a = tables_are s c.args.flat.now.devices.items w e in
+    rw (p.1, p.2) (of_depth typed (certificate_of c.args.certificate.now) c.in_err-depths_fit.field-0.0 (c.in_err-depths_fit.ensures.refused s a))
+
+pub returns-clause-fits : goal.returns-clause-fits
+returns-clause-fits c = λ s w e few once.
+    let a = tables_are s c.args.flat.now.devices.items w e in
+    let rows = c.in_ok-rows_match.ensures.rows s a (words s w) once in
+    let idle = c.in_ok-leaves_idle.ensures.idle s a in
+    let k = known s w idle in
+    (fits_by s c.args.certificate.now w few rows idle (c.in_ok-column_pays.ensures.pays s a k) (c.in_ok-column_pays-2.ensures.pays s a k) (c.in_ok-depths_fit.ensures.fits s a), idle)

@@ -1,0 +1,37 @@
+-- When a refusal over a system and a certificate is true, in the book's terms.
+use Rattle.std.specs.Prelude.{ℕ, string_bytes}
+use Rattle.std.specs.List.{Any}
+use Rattle.fb_model.specs.Certificates.{Certificate}
+use Rattle.fb_blocks.specs.declared.fault.TypeFault.{TypeFault}
+use Rattle.fb_blocks.specs.declared.fault.TypeFault.TheVariants.{Limit}
+use Rattle.fb_systems.specs.declared.typed.Typed.{Typed}
+use Rattle.fb_systems.specs.Views.{system_of}
+use Rattle.fb_wires.specs.Leaves.{IsFull}
+use Rattle.fb_ledger.specs.Faults.{IsUnknown, IsMissing}
+use Rattle.fb_columns.specs.declared.column.Column.{Column}
+use Rattle.fb_columns.specs.declared.fault.Shortfall.TheVariants as short
+use Rattle.fb_columns.specs.Columns.{column_of}
+use Rattle.fb_columns.specs.Fitting.{IsUnpaid}
+use Rattle.fb_depths.specs.declared.shallow.Shallow.TheVariants as shallow
+use Rattle.fb_depths.specs.Depths.{IsShallowFault}
+use Rattle.fb_verdict.specs.declared.refusal.Refusal.{Refusal}
+use Rattle.fb_verdict.specs.declared.refusal.Refusal.TheVariants.{OutOfMemory, Text, Typing, Certificate as Spelling, UnknownRow, MissingRow, IndexOrDivisor, Charge, Weight, Depth}
+use Rattle.fb_verdict.specs.Idle.{IsUndecided}
+
+-- more connections are followed in a resource whose place is this one
+abbrev pub IsCrowded : Typed → TypeFault → Type 0
+IsCrowded typed (Limit at) = Any (λ d. Any (λ r. IsFull r at) d.resources.items) typed.devices.items
+IsCrowded typed other = ⊥
+
+-- what the refusal says is so
+abbrev pub IsFitFault : Typed → Certificate → Refusal → Type 0
+IsFitFault typed cert OutOfMemory = Unit {0}
+IsFitFault typed cert (Text fault) = ⊥
+IsFitFault typed cert (Typing fault) = IsCrowded typed fault
+IsFitFault typed cert (Spelling fault) = ⊥
+IsFitFault typed cert (UnknownRow path) = IsUnknown (system_of typed) cert (string_bytes path)
+IsFitFault typed cert (MissingRow path) = IsMissing (system_of typed) cert (string_bytes path)
+IsFitFault typed cert (IndexOrDivisor path) = IsUndecided (system_of typed) (string_bytes path)
+IsFitFault typed cert (Charge path) = (column : Column) × IsUnpaid (column_of column cert) (system_of typed) (short.Charge path)
+IsFitFault typed cert (Weight path) = (column : Column) × IsUnpaid (column_of column cert) (system_of typed) (short.Weight path)
+IsFitFault typed cert (Depth path) = IsShallowFault cert (system_of typed) (shallow.Depth path)

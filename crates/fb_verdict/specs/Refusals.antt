@@ -1,0 +1,71 @@
+-- The numbers of refusals, and how they are printed: this project's profile.
+use Rattle.std.specs.Prelude.{ℕ, List, ◌++◌, codes, string_bytes}
+use Rattle.fb_lex.specs.Faults as text
+use Rattle.fb_blocks.specs.Faults as types
+use Rattle.fb_cert.specs.Faults as cert
+use Rattle.fb_lex.specs.declared.fault.TextFault.{TextFault}
+use Rattle.fb_lex.specs.declared.fault.TextFault.TheVariants as texts
+use Rattle.fb_blocks.specs.declared.fault.TypeFault.{TypeFault}
+use Rattle.fb_blocks.specs.declared.fault.TypeFault.TheVariants as faults
+use Rattle.fb_cert.specs.declared.fault.CertFault.{CertFault}
+use Rattle.fb_cert.specs.declared.fault.CertFault.TheVariants as certs
+use Rattle.fb_ledger.specs.declared.fault.RowFault.{RowFault}
+use Rattle.fb_ledger.specs.declared.fault.RowFault.TheVariants as rows
+use Rattle.fb_columns.specs.declared.fault.Shortfall.{Shortfall}
+use Rattle.fb_columns.specs.declared.fault.Shortfall.TheVariants as short
+use Rattle.fb_depths.specs.declared.shallow.Shallow.{Shallow}
+use Rattle.fb_depths.specs.declared.shallow.Shallow.TheVariants as shallow
+use Rattle.fb_verdict.specs.declared.refusal.Refusal.{Refusal}
+use Rattle.fb_verdict.specs.declared.refusal.Refusal.TheVariants.{OutOfMemory, Text, Typing, Certificate, UnknownRow, MissingRow, IndexOrDivisor, Charge, Weight, Depth}
+
+abbrev pub code_of : Refusal → ℕ
+code_of OutOfMemory = 9
+code_of (Text fault) = text.code_of fault
+code_of (Typing fault) = types.code_of fault
+code_of (Certificate fault) = cert.code_of fault
+code_of (UnknownRow path) = 32
+code_of (MissingRow path) = 33
+code_of (IndexOrDivisor path) = 37
+code_of (Charge path) = 38
+code_of (Weight path) = 39
+code_of (Depth path) = 40
+
+-- the code and the place, where there is one
+abbrev pub line_of : Refusal → List ℕ
+line_of OutOfMemory = codes "9"
+line_of (Text fault) = text.line_of fault
+line_of (Typing fault) = types.line_of fault
+line_of (Certificate fault) = cert.line_of fault
+line_of (UnknownRow path) = codes "32 " ++ string_bytes path
+line_of (MissingRow path) = codes "33 " ++ string_bytes path
+line_of (IndexOrDivisor path) = codes "37 " ++ string_bytes path
+line_of (Charge path) = codes "38 " ++ string_bytes path
+line_of (Weight path) = codes "39 " ++ string_bytes path
+line_of (Depth path) = codes "40 " ++ string_bytes path
+
+-- how the faults of the layers below are told: want of memory is one refusal
+abbrev pub of_text : TextFault → Refusal
+of_text texts.OutOfMemory = OutOfMemory
+of_text other = Text other
+
+abbrev pub of_type : TypeFault → Refusal
+of_type faults.OutOfMemory = OutOfMemory
+of_type other = Typing other
+
+abbrev pub of_certificate : CertFault → Refusal
+of_certificate certs.OutOfMemory = OutOfMemory
+of_certificate other = Certificate other
+
+abbrev pub of_row : RowFault → Refusal
+of_row rows.OutOfMemory = OutOfMemory
+of_row (rows.Unknown path) = UnknownRow path
+of_row (rows.Missing path) = MissingRow path
+
+abbrev pub of_shortfall : Shortfall → Refusal
+of_shortfall short.OutOfMemory = OutOfMemory
+of_shortfall (short.Charge path) = Charge path
+of_shortfall (short.Weight path) = Weight path
+
+abbrev pub of_shallow : Shallow → Refusal
+of_shallow shallow.OutOfMemory = OutOfMemory
+of_shallow (shallow.Depth path) = Depth path

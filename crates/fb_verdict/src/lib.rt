@@ -1,0 +1,15 @@
+//! The checker: whether a certificate fits a system.
+#![tactic(auto)]
+
+mod idle;
+mod refusal;
+mod texts;
+mod verdict;
+mod verified;
+
+pub use refusal::Refusal;
+pub use verdict::{check, check_text};
+pub use verified::Verified;
+
+#[cfg(test)]
+mod tests;

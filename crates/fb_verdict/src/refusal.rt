@@ -1,0 +1,192 @@
+//! Why a text and a certificate are refused.
+
+ghost use Rattle.std.specs.Prelude.{◌≡◌};
+ghost use Rattle.fb_verdict.specs.declared.refusal.Refusal.TheVariants.{OutOfMemory};
+
+use fb_blocks::TypeFault;
+use fb_cert::CertFault;
+use fb_columns::Shortfall;
+use fb_depths::Shallow;
+use fb_ledger::RowFault;
+use fb_lex::TextFault;
+use std::alloc::{AllocError, AllocFailed};
+use std::fmt;
+
+/// Why an application and its certificate are refused. A path is in upper case, its names joined by dots.
+#[derive(Debug, Drop)]
+pub enum Refusal {
+    /// Memory ran out. Code 9.
+    OutOfMemory,
+    /// The application's text is refused. Codes 1 to 5.
+    Text(TextFault),
+    /// The application is not well typed, or above a limit. Codes 10 to 20.
+    Typing(TypeFault),
+    /// The certificate's text is refused. Codes 4, 30 and 31.
+    Certificate(CertFault),
+    /// The certificate has a row for this path, and the system has no such place. Code 32.
+    UnknownRow(String),
+    /// The system has this place, and the certificate has no row for it. Code 33.
+    MissingRow(String),
+    /// The algorithm of this path, or a guard of a transition that leaves the state of this path, is not known to keep its indices and divisors
+    /// in their bounds. So far no algorithm and no guard is. Code 37.
+    IndexOrDivisor(String),
+    /// The charge of this state is less than its actions and the free transitions from it need. Code 38.
+    Charge(String),
+    /// The weight of this event input or arrival is less than what it can cause. Code 39.
+    Weight(String),
+    /// The depth of this resource is less than the places of one of its arrivals, or than those of all its BEGIN together. Code 40.
+    Depth(String),
+}
+
+impl Refusal {
+    ghost use Rattle.fb_verdict.specs.Refusals.{code_of};
+
+    /// The number of the refusal.
+    pub fn code(&self) -> u8
+        ensures { result ≡ code_of self.now }
+    {
+        match self {
+            Refusal::OutOfMemory => 9,
+            Refusal::Text(fault) => fault.code(),
+            Refusal::Typing(fault) => fault.code(),
+            Refusal::Certificate(fault) => fault.code(),
+            Refusal::UnknownRow(_) => 32,
+            Refusal::MissingRow(_) => 33,
+            Refusal::IndexOrDivisor(_) => 37,
+            Refusal::Charge(_) => 38,
+            Refusal::Weight(_) => 39,
+            Refusal::Depth(_) => 40,
+        }
+    }
+}
+
+/// The code and the place, where there is one.
+impl fmt::Display for Refusal {
+    ghost use Rattle.std.specs.Prelude.{Some};
+    ghost use Rattle.fb_verdict.specs.Refusals.{line_of};
+
+    ghost output = { λ f. Some (line_of f) };
+
+    fn fmt<W: fmt::Write>(&self, f: &mut fmt::Formatter<W>) -> fmt::Result {
+        match self {
+            Refusal::OutOfMemory => write!(f, "9"),
+            Refusal::Text(fault) => write!(f, "{fault}"),
+            Refusal::Typing(fault) => write!(f, "{fault}"),
+            Refusal::Certificate(fault) => write!(f, "{fault}"),
+            Refusal::UnknownRow(path) => write!(f, "32 {path}"),
+            Refusal::MissingRow(path) => write!(f, "33 {path}"),
+            Refusal::IndexOrDivisor(path) => write!(f, "37 {path}"),
+            Refusal::Charge(path) => write!(f, "38 {path}"),
+            Refusal::Weight(path) => write!(f, "39 {path}"),
+            Refusal::Depth(path) => write!(f, "40 {path}"),
+        }
+    }
+}
+
+impl From<AllocError> for Refusal {
+    ghost from_gives = { λ _ e. e ≡ OutOfMemory };
+
+    fn from(_: AllocError) -> Refusal {
+        Refusal::OutOfMemory
+    }
+}
+
+impl<T: Drop> From<AllocFailed<T>> for Refusal {
+    ghost from_gives = { λ _ e. e ≡ OutOfMemory };
+
+    fn from(_: AllocFailed<T>) -> Refusal {
+        Refusal::OutOfMemory
+    }
+}
+
+/// Want of memory is one refusal, wherever it was met.
+impl From<TextFault> for Refusal {
+    ghost use Rattle.std.specs.Prelude.{◌≡◌};
+    ghost use Rattle.fb_verdict.specs.Refusals.{of_text};
+
+    ghost from_gives = { λ f r. r ≡ of_text f };
+
+    fn from(fault: TextFault) -> Refusal {
+        match fault {
+            TextFault::OutOfMemory => Refusal::OutOfMemory,
+            other => Refusal::Text(other),
+        }
+    }
+}
+
+/// Want of memory is one refusal, wherever it was met.
+impl From<TypeFault> for Refusal {
+    ghost use Rattle.std.specs.Prelude.{◌≡◌};
+    ghost use Rattle.fb_verdict.specs.Refusals.{of_type};
+
+    ghost from_gives = { λ f r. r ≡ of_type f };
+
+    fn from(fault: TypeFault) -> Refusal {
+        match fault {
+            TypeFault::OutOfMemory => Refusal::OutOfMemory,
+            other => Refusal::Typing(other),
+        }
+    }
+}
+
+/// Want of memory is one refusal, wherever it was met.
+impl From<CertFault> for Refusal {
+    ghost use Rattle.std.specs.Prelude.{◌≡◌};
+    ghost use Rattle.fb_verdict.specs.Refusals.{of_certificate};
+
+    ghost from_gives = { λ f r. r ≡ of_certificate f };
+
+    fn from(fault: CertFault) -> Refusal {
+        match fault {
+            CertFault::OutOfMemory => Refusal::OutOfMemory,
+            other => Refusal::Certificate(other),
+        }
+    }
+}
+
+/// A row that is not known, or that is missing, is told with its path.
+impl From<RowFault> for Refusal {
+    ghost use Rattle.std.specs.Prelude.{◌≡◌};
+    ghost use Rattle.fb_verdict.specs.Refusals.{of_row};
+
+    ghost from_gives = { λ f r. r ≡ of_row f };
+
+    fn from(fault: RowFault) -> Refusal {
+        match fault {
+            RowFault::OutOfMemory => Refusal::OutOfMemory,
+            RowFault::Unknown(path) => Refusal::UnknownRow(path),
+            RowFault::Missing(path) => Refusal::MissingRow(path),
+        }
+    }
+}
+
+/// A row that does not pay is told with its path.
+impl From<Shortfall> for Refusal {
+    ghost use Rattle.std.specs.Prelude.{◌≡◌};
+    ghost use Rattle.fb_verdict.specs.Refusals.{of_shortfall};
+
+    ghost from_gives = { λ f r. r ≡ of_shortfall f };
+
+    fn from(fault: Shortfall) -> Refusal {
+        match fault {
+            Shortfall::OutOfMemory => Refusal::OutOfMemory,
+            Shortfall::Charge(path) => Refusal::Charge(path),
+            Shortfall::Weight(path) => Refusal::Weight(path),
+        }
+    }
+}
+
+/// A queue that is not deep enough is told with its resource's path.
+impl From<Shallow> for Refusal {
+    ghost use Rattle.std.specs.Prelude.{◌≡◌};
+    ghost use Rattle.fb_verdict.specs.Refusals.{of_shallow};
+
+    ghost from_gives = { λ f r. r ≡ of_shallow f };
+
+    fn from(fault: Shallow) -> Refusal {
+        match fault {
+            Shallow::OutOfMemory => Refusal::OutOfMemory,
+            Shallow::Depth(path) => Refusal::Depth(path),
+        }
+    }
+}
