@@ -1,8 +1,7 @@
 //! The numbers of rows, and what an output of a leaf has to be paid.
 
-ghost use Rattle.std.specs.Prelude.{◌≡◌, ◌≤◌, ◌+◌, ℕ, List, map, IfOk, IfErr, string_bytes};
+ghost use Rattle.std.specs.Prelude.{◌≡◌, ◌≤◌, ◌+◌, ℕ, List, map, IfOk, IfErr};
 ghost use Rattle.std.specs.List.{sum_by};
-ghost use Rattle.fb_wires.specs.Sites.{dotted};
 ghost use Rattle.fb_columns.specs.Sums.{IsSum};
 ghost use Rattle.fb_columns.specs.Reckoning.{number_of, weight_of, charge_of, load_of, load_at, AreSums};
 ghost use Rattle.fb_columns.specs.Paying.{IsMemory, IsCharge, IsWeight, Names, Pays};
@@ -10,18 +9,8 @@ ghost use Rattle.fb_columns.specs.Paying.{IsMemory, IsCharge, IsWeight, Names, P
 use crate::column::{Column, is_within, plus};
 use crate::fault::Shortfall;
 use fb_cert::{Amount, Certificate};
-use fb_wires::{Output, Target};
-use std::alloc::{AllocError, Global};
-
-// A path and a name behind it.
-fn joined(alloc: Global, path: &str, name: &str) -> Result<String, AllocError>
-    ensures { IfOk result (λ s. string_bytes s ≡ dotted path.now name.now) }
-{
-    let mut text = String::from_str(alloc, path)?;
-    text.push_str(".")?;
-    text.push_str(name)?;
-    Ok(text)
-}
+use fb_wires::{Output, Target, joined};
+use std::alloc::Global;
 
 // The number of a row in a column, 0 where there is no row.
 fn number(row: Option<Amount>, column: Column) -> u64
