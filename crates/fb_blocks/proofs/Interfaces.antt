@@ -9,8 +9,8 @@ use Rattle.fb_model.specs.Declarations as decl
 use Rattle.fb_model.specs.System as book
 use Rattle.fb_model.specs.Typing.{AreDistinct, texts}
 use Rattle.fb_model.specs.BlockTyping.{Declared, AreDeclared, IsFace, IsBasic, face_names, words_in, names_in, event_texts}
-use Rattle.fb_source.specs.declared.tree.EventTree.{EventTree}
-use Rattle.fb_source.specs.Views as tree
+use Rattle.fb_text.specs.declared.tree.EventTree.{EventTree}
+use Rattle.fb_text.specs.Views as tree
 use Rattle.fb_blocks.specs.declared.fault.TypeFault.{TypeFault}
 use Rattle.fb_blocks.specs.declared.fault.TypeFault.TheVariants.{OutOfMemory}
 use Rattle.fb_blocks.specs.declared.typed.Variable.{Variable}

@@ -1,3 +1,5 @@
+pub use Rattle.fb_text.proofs as of_fb_text
+pub use Rattle.st_types.proofs as of_st_types
 pub mod Lists
 pub mod Refused
 pub mod Tables

@@ -10,8 +10,8 @@ use Rattle.fb_model.specs.Productions.{Word}
 use Rattle.fb_model.specs.Declarations as decl
 use Rattle.fb_model.specs.Typing.{AreNew, texts}
 use Rattle.fb_model.specs.BlockTyping.{Declared, declared, names_in, words_in, AreDeclared, AreBounds, IsStart, none, more}
-use Rattle.fb_source.specs.declared.tree.VariableTree.{VariableTree}
-use Rattle.fb_source.specs.Views as tree
+use Rattle.fb_text.specs.declared.tree.VariableTree.{VariableTree}
+use Rattle.fb_text.specs.Views as tree
 use Rattle.fb_blocks.specs.declared.fault.TypeFault.{TypeFault}
 use Rattle.fb_blocks.specs.declared.fault.TypeFault.TheVariants.{Limit}
 use Rattle.fb_blocks.specs.Refusals.{IsExcess}

@@ -4,7 +4,7 @@ ghost use Rattle.std.specs.Prelude.{◌≡◌, ◌≤◌, ◌++◌, [], map, len
 ghost use Rattle.fb_model.specs.System as book;
 ghost use Rattle.fb_model.specs.BlockTyping.{IsBasic, words_in, algorithm_texts};
 ghost use Rattle.fb_model.specs.Typing.{texts, AreDistinct, state_texts};
-ghost use Rattle.fb_source.specs.Views as tree;
+ghost use Rattle.fb_text.specs.Views as tree;
 ghost use Rattle.fb_blocks.specs.Answers.{Finds, IsTypedBlock, own_words};
 ghost use Rattle.fb_blocks.specs.Views.{block_of};
 ghost use Rattle.fb_blocks.specs.Refusals.{IsChartExcess, IsBasicFault};
@@ -16,7 +16,7 @@ use crate::names::{at_most, table};
 use crate::scope::scope;
 use crate::typed::Block;
 use crate::variable::{declare_variables, variables};
-use fb_source::{BlockTree, ChartTree};
+use fb_text::{BlockTree, ChartTree};
 use std::alloc::Global;
 
 /// The most states of a block.

@@ -7,7 +7,7 @@ ghost use Rattle.std.specs.Option.{option_map};
 ghost use Rattle.fb_model.specs.BlockTyping.{IsActionTyped, IsGuard, IsTransition, AreTransitions, AreProcedures, algorithm_texts};
 ghost use Rattle.fb_model.specs.Typing.{AreDistinct, IsKnown, typed_action, typed_state, state_texts};
 ghost use Rattle.fb_read.specs.Answers as read;
-ghost use Rattle.fb_source.specs.Views as tree;
+ghost use Rattle.fb_text.specs.Views as tree;
 ghost use Rattle.st_types.specs.Views.{entries, term_of};
 ghost use Rattle.fb_blocks.specs.Answers.{names_in_map, IsChart};
 ghost use Rattle.fb_blocks.specs.Views.{action_of, states_of, transition_of, procedures_of};
@@ -16,7 +16,7 @@ ghost use Rattle.fb_blocks.specs.Refusals.{IsActionFault, IsStateFault, IsGuardF
 use crate::fault::TypeFault;
 use crate::names::{add, known, known_if_some, optional};
 use crate::typed::{Action, ControlChart, Events, Face, Transition};
-use fb_source::{ActionTree, AlgorithmTree, ChartTree, GuardTree, StateTree, TransitionTree};
+use fb_text::{ActionTree, AlgorithmTree, ChartTree, GuardTree, StateTree, TransitionTree};
 use fb_words::ElemType;
 use indexmap::IndexMap;
 use st_types::{Algo, Scope, TypedExpr, resolve_algorithm, resolve_expr};

@@ -5,7 +5,7 @@ ghost use Rattle.std.specs.List.{AllByRecursion};
 ghost use Rattle.fb_model.specs.BlockTyping.{AreKnown, typed_event, event_texts};
 ghost use Rattle.fb_model.specs.Typing.{texts, AreDistinct};
 ghost use Rattle.fb_read.specs.Answers.{word_of};
-ghost use Rattle.fb_source.specs.Views as tree;
+ghost use Rattle.fb_text.specs.Views as tree;
 ghost use Rattle.fb_blocks.specs.Answers.{names_in_map};
 ghost use Rattle.fb_blocks.specs.Views.{events_of};
 ghost use Rattle.fb_blocks.specs.Refusals.{IsUnknown, IsEventFault, Among};
@@ -14,7 +14,7 @@ use crate::fault::TypeFault;
 use crate::names::{add, known};
 use crate::typed::{Events, Variables};
 use fb_read::Name;
-use fb_source::EventTree;
+use fb_text::EventTree;
 use indexmap::IndexMap;
 use std::alloc::Global;
 

@@ -4,7 +4,7 @@ ghost use Rattle.std.specs.Prelude.{◌≡◌, ◌≤◌, ◌++◌, [], List, ma
 ghost use Rattle.fb_model.specs.System as book;
 ghost use Rattle.fb_model.specs.BlockTyping.{Declared, IsFace, face_names, words_in};
 ghost use Rattle.fb_model.specs.Typing.{texts, AreNew, AreDistinct};
-ghost use Rattle.fb_source.specs.Views as tree;
+ghost use Rattle.fb_text.specs.Views as tree;
 ghost use Rattle.fb_blocks.specs.Answers.{Finds, event_words, own_words};
 ghost use Rattle.fb_blocks.specs.Views.{names_of, declared_in, face_of};
 ghost use Rattle.fb_blocks.specs.Refusals.{IsRepetition, IsFaceFault};
@@ -14,7 +14,7 @@ use crate::fault::TypeFault;
 use crate::names::{at_most, declare};
 use crate::typed::Face;
 use crate::variable::{declare_variables, few_variables, variables};
-use fb_source::{BlockTree, EventTree, VariableTree};
+use fb_text::{BlockTree, EventTree, VariableTree};
 use indexmap::IndexSet;
 use std::alloc::Global;
 

@@ -15,6 +15,8 @@ mod tests;
 mod typed;
 mod variable;
 
+pub use fb_text;
+pub use st_types;
 pub use block::basic;
 pub use fault::TypeFault;
 pub use interface::face;

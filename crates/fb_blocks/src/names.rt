@@ -11,7 +11,7 @@ ghost use Rattle.fb_blocks.specs.Refusals.{IsRepetition, IsExcess, IsUnknown, Is
 
 use crate::fault::TypeFault;
 use fb_read::Name;
-use fb_source::{
+use fb_text::{
     AlgorithmTree, BlockTree, DeviceTree, EventTree, InstanceTree, ResourceTree, StateTree,
     TransitionTree,
 };

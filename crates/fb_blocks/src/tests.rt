@@ -1,5 +1,5 @@
 use crate::{basic, constant, face};
-use fb_source::{BodyTree, parse};
+use fb_text::{BodyTree, parse};
 use fb_words::ElemType;
 use st_tree::{Constant, Literal};
 use std::alloc::Global;

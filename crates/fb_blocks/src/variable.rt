@@ -5,7 +5,7 @@ ghost use Rattle.fb_model.specs.BlockTyping.{AreBounds, IsStart, AreDeclared, wo
 ghost use Rattle.fb_model.specs.Typing.{texts, AreNew, AreDistinct};
 ghost use Rattle.fb_read.specs.Answers.{word_of};
 ghost use Rattle.fb_read.specs.Answers as read;
-ghost use Rattle.fb_source.specs.Views as tree;
+ghost use Rattle.fb_text.specs.Views as tree;
 ghost use Rattle.fb_blocks.specs.Answers.{place_of};
 ghost use Rattle.fb_blocks.specs.Views.{names_of, declared_in};
 ghost use Rattle.fb_blocks.specs.Refusals.{IsRepetition, IsExcess, IsBoundsFault, IsBoundsFaultIfSome, IsStartFault, IsVariableFault, Among};
@@ -15,7 +15,7 @@ use crate::names::{add, at_most, declare};
 use crate::number::{bound, constant};
 use crate::typed::{Variable, Variables};
 use fb_read::Name;
-use fb_source::{BoundsTree, StartTree, VariableTree};
+use fb_text::{BoundsTree, StartTree, VariableTree};
 use fb_words::ElemType;
 use indexmap::{IndexMap, IndexSet};
 use std::alloc::{AllocError, Global};

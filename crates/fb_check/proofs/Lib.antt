@@ -1,16 +1,11 @@
-pub mod Values
-pub mod Limits
+pub use Rattle.fb_columns.proofs.of_fb_blocks as of_fb_blocks
+pub use Rattle.fb_columns.proofs.of_fb_flat as of_fb_flat
+pub use Rattle.fb_columns.proofs.of_fb_networks as of_fb_networks
+pub use Rattle.fb_columns.proofs.of_fb_services as of_fb_services
+pub use Rattle.fb_columns.proofs.of_fb_text as of_fb_text
+pub use Rattle.fb_columns.proofs.of_fb_types as of_fb_types
 pub mod Lookups
-pub mod Loops
-pub mod Arriving
+pub mod Idling
+pub mod Reading
 pub mod Composed
 pub mod Denied
-pub mod Reading
-pub mod Each
-pub mod Costs
-pub mod Owing
-pub mod Amounts
-pub mod Typed
-pub mod Crossings
-pub mod Weighing
-pub mod Leaves

@@ -1,37 +1,24 @@
 -- When a refusal over a system and a certificate is true, in the book's terms.
-use Rattle.std.specs.Prelude.{◌≡◌, ◌⊎◌, ℕ, List, [], ◌∷◌, string_bytes}
+use Rattle.std.specs.Prelude.{ℕ, string_bytes}
 use Rattle.std.specs.List.{Any}
-use Rattle.fb_model.specs.Language.{Limits}
-use Rattle.fb_model.specs.System.{Device, System}
-use Rattle.fb_model.specs.Wires.{Leaf, leaves}
-use Rattle.fb_model.specs.Certificates.{Certificate, ArrivalsFit, name_at}
-use Rattle.fb_model.specs.CertificateText.{names_in}
-use Rattle.fb_types.specs.declared.typed.Typed.{Typed}
-use Rattle.fb_types.specs.declared.fault.TypeFault.{TypeFault}
-use Rattle.fb_types.specs.declared.fault.TypeFault.TheVariants.{Limit}
-use Rattle.fb_types.specs.Views.{system_of}
-use Rattle.fb_flat.specs.Leaves.{IsFull}
-use Rattle.fb_rows.specs.Faults.{IsUnknown, IsMissing}
-use Rattle.fb_check.specs.declared.column.Column.{Column}
+use Rattle.fb_model.specs.Certificates.{Certificate}
+use Rattle.fb_columns.specs.fb_blocks.declared.fault.TypeFault.{TypeFault}
+use Rattle.fb_columns.specs.fb_blocks.declared.fault.TypeFault.TheVariants.{Limit}
+use Rattle.fb_columns.specs.fb_types.declared.typed.Typed.{Typed}
+use Rattle.fb_columns.specs.fb_types.Views.{system_of}
+use Rattle.fb_columns.specs.fb_flat.Leaves.{IsFull}
+use Rattle.fb_ledger.specs.Faults.{IsUnknown, IsMissing}
+use Rattle.fb_columns.specs.declared.column.Column.{Column}
+use Rattle.fb_columns.specs.declared.fault.Shortfall.TheVariants as short
+use Rattle.fb_columns.specs.Columns.{column_of}
+use Rattle.fb_columns.specs.Fitting.{IsUnpaid}
+use Rattle.fb_depths.specs.declared.shallow.Shallow.TheVariants as shallow
+use Rattle.fb_depths.specs.Depths.{IsShallowFault}
 use Rattle.fb_check.specs.declared.refusal.Refusal.{Refusal}
-use Rattle.fb_check.specs.declared.refusal.Refusal.TheVariants.{OutOfMemory, Text, Typing, Certificate as Spelling, UnknownRow, MissingRow, Charge, Weight, Depth}
-use Rattle.fb_check.specs.Columns.{column_of}
-use Rattle.fb_check.specs.Fitting.{IsLeafFault}
+use Rattle.fb_check.specs.declared.refusal.Refusal.TheVariants.{OutOfMemory, Text, Typing, Certificate as Spelling, UnknownRow, MissingRow, IndexOrDivisor, Charge, Weight, Depth}
+use Rattle.fb_check.specs.Idle.{IsUndecided}
 
--- one of them
-abbrev pub Some : {X : Type 0} → (X → Type 0) → List X → Type 0
-Some P [] = ⊥
-Some P (x ∷ xs) = P x ⊎ Some P xs
-
--- in one of the columns the row of a leaf does not pay
-abbrev pub IsUnpaid : System → Certificate → Refusal → Type 0
-IsUnpaid system cert f = (column : Column) × Some (λ (d : Device). Some (λ (leaf : Leaf). (limits : Limits) → IsLeafFault (column_of column cert) limits leaf f) (leaves d)) system.devices
-
--- an arrival of the resource of this path takes more places than its depth
-abbrev pub IsShallow : Certificate → List ℕ → Device → Type 0
-IsShallow cert path d = (n : ℕ) × (names_in path ≡ d.name ∷ name_at d.resources n ∷ []) × Some (λ (leaf : Leaf). (leaf.home ≡ n) × (ArrivalsFit cert d leaf → ⊥)) (leaves d)
-
--- a resource whose place is this one has more connections than are followed
+-- more connections are followed in a resource whose place is this one
 abbrev pub IsCrowded : Typed → TypeFault → Type 0
 IsCrowded typed (Limit at) = Any (λ d. Any (λ r. IsFull r at) d.resources.items) typed.devices.items
 IsCrowded typed other = ⊥
@@ -44,6 +31,7 @@ IsFitFault typed cert (Typing fault) = IsCrowded typed fault
 IsFitFault typed cert (Spelling fault) = ⊥
 IsFitFault typed cert (UnknownRow path) = IsUnknown (system_of typed) cert (string_bytes path)
 IsFitFault typed cert (MissingRow path) = IsMissing (system_of typed) cert (string_bytes path)
-IsFitFault typed cert (Charge path) = IsUnpaid (system_of typed) cert (Charge path)
-IsFitFault typed cert (Weight path) = IsUnpaid (system_of typed) cert (Weight path)
-IsFitFault typed cert (Depth path) = Some (IsShallow cert (string_bytes path)) (system_of typed).devices
+IsFitFault typed cert (IndexOrDivisor path) = IsUndecided (system_of typed) (string_bytes path)
+IsFitFault typed cert (Charge path) = (column : Column) × IsUnpaid (column_of column cert) (system_of typed) (short.Charge path)
+IsFitFault typed cert (Weight path) = (column : Column) × IsUnpaid (column_of column cert) (system_of typed) (short.Weight path)
+IsFitFault typed cert (Depth path) = IsShallowFault cert (system_of typed) (shallow.Depth path)

@@ -1,18 +1,22 @@
 -- The numbers of refusals, and how they are printed: this project's profile.
 use Rattle.std.specs.Prelude.{ℕ, List, ◌++◌, codes, string_bytes}
 use Rattle.fb_lex.specs.Faults as text
-use Rattle.fb_types.specs.Faults as types
+use Rattle.fb_columns.specs.fb_blocks.Faults as types
 use Rattle.fb_cert.specs.Faults as cert
 use Rattle.fb_lex.specs.declared.fault.TextFault.{TextFault}
 use Rattle.fb_lex.specs.declared.fault.TextFault.TheVariants as texts
-use Rattle.fb_types.specs.declared.fault.TypeFault.{TypeFault}
-use Rattle.fb_types.specs.declared.fault.TypeFault.TheVariants as faults
+use Rattle.fb_columns.specs.fb_blocks.declared.fault.TypeFault.{TypeFault}
+use Rattle.fb_columns.specs.fb_blocks.declared.fault.TypeFault.TheVariants as faults
 use Rattle.fb_cert.specs.declared.fault.CertFault.{CertFault}
 use Rattle.fb_cert.specs.declared.fault.CertFault.TheVariants as certs
-use Rattle.fb_rows.specs.declared.fault.RowFault.{RowFault}
-use Rattle.fb_rows.specs.declared.fault.RowFault.TheVariants as rows
+use Rattle.fb_ledger.specs.declared.fault.RowFault.{RowFault}
+use Rattle.fb_ledger.specs.declared.fault.RowFault.TheVariants as rows
+use Rattle.fb_columns.specs.declared.fault.Shortfall.{Shortfall}
+use Rattle.fb_columns.specs.declared.fault.Shortfall.TheVariants as short
+use Rattle.fb_depths.specs.declared.shallow.Shallow.{Shallow}
+use Rattle.fb_depths.specs.declared.shallow.Shallow.TheVariants as shallow
 use Rattle.fb_check.specs.declared.refusal.Refusal.{Refusal}
-use Rattle.fb_check.specs.declared.refusal.Refusal.TheVariants.{OutOfMemory, Text, Typing, Certificate, UnknownRow, MissingRow, Charge, Weight, Depth}
+use Rattle.fb_check.specs.declared.refusal.Refusal.TheVariants.{OutOfMemory, Text, Typing, Certificate, UnknownRow, MissingRow, IndexOrDivisor, Charge, Weight, Depth}
 
 abbrev pub code_of : Refusal → ℕ
 code_of OutOfMemory = 9
@@ -21,6 +25,7 @@ code_of (Typing fault) = types.code_of fault
 code_of (Certificate fault) = cert.code_of fault
 code_of (UnknownRow path) = 32
 code_of (MissingRow path) = 33
+code_of (IndexOrDivisor path) = 37
 code_of (Charge path) = 38
 code_of (Weight path) = 39
 code_of (Depth path) = 40
@@ -33,39 +38,10 @@ line_of (Typing fault) = types.line_of fault
 line_of (Certificate fault) = cert.line_of fault
 line_of (UnknownRow path) = codes "32 " ++ string_bytes path
 line_of (MissingRow path) = codes "33 " ++ string_bytes path
+line_of (IndexOrDivisor path) = codes "37 " ++ string_bytes path
 line_of (Charge path) = codes "38 " ++ string_bytes path
 line_of (Weight path) = codes "39 " ++ string_bytes path
 line_of (Depth path) = codes "40 " ++ string_bytes path
-
--- which refusals a part of the checker gives
-abbrev pub IsRowRefusal : Refusal → Type 0
-IsRowRefusal OutOfMemory = Unit {0}
-IsRowRefusal (UnknownRow path) = Unit {0}
-IsRowRefusal (MissingRow path) = Unit {0}
-IsRowRefusal other = ⊥
-
-abbrev pub IsSizeRefusal : Refusal → Type 0
-IsSizeRefusal OutOfMemory = Unit {0}
-IsSizeRefusal (Charge path) = Unit {0}
-IsSizeRefusal (Weight path) = Unit {0}
-IsSizeRefusal other = ⊥
-
-abbrev pub IsDepthRefusal : Refusal → Type 0
-IsDepthRefusal OutOfMemory = Unit {0}
-IsDepthRefusal (Depth path) = Unit {0}
-IsDepthRefusal other = ⊥
-
-abbrev pub IsMemory : Refusal → Type 0
-IsMemory OutOfMemory = Unit {0}
-IsMemory other = ⊥
-
--- the refusals over a system and a certificate; of the type faults, Limit alone
-abbrev pub IsVerdict : Refusal → Type 0
-IsVerdict (Text fault) = ⊥
-IsVerdict (Certificate fault) = ⊥
-IsVerdict (Typing (faults.Limit offset)) = Unit {0}
-IsVerdict (Typing other) = ⊥
-IsVerdict other = Unit {0}
 
 -- how the faults of the layers below are told: want of memory is one refusal
 abbrev pub of_text : TextFault → Refusal
@@ -84,3 +60,12 @@ abbrev pub of_row : RowFault → Refusal
 of_row rows.OutOfMemory = OutOfMemory
 of_row (rows.Unknown path) = UnknownRow path
 of_row (rows.Missing path) = MissingRow path
+
+abbrev pub of_shortfall : Shortfall → Refusal
+of_shortfall short.OutOfMemory = OutOfMemory
+of_shortfall (short.Charge path) = Charge path
+of_shortfall (short.Weight path) = Weight path
+
+abbrev pub of_shallow : Shallow → Refusal
+of_shallow shallow.OutOfMemory = OutOfMemory
+of_shallow (shallow.Depth path) = Depth path

@@ -1,17 +1,13 @@
 //! The checker: whether a certificate fits a system.
 #![tactic(auto)]
 
-mod chart;
-mod column;
-mod depth;
-mod leaf;
-mod pays;
+mod idle;
 mod refusal;
 mod texts;
 mod verdict;
 mod verified;
 
-pub use column::Column;
+pub use fb_columns;
 pub use refusal::Refusal;
 pub use verdict::{check, check_text};
 pub use verified::Verified;

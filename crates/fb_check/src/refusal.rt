@@ -3,10 +3,12 @@
 ghost use Rattle.std.specs.Prelude.{◌≡◌};
 ghost use Rattle.fb_check.specs.declared.refusal.Refusal.TheVariants.{OutOfMemory};
 
+use fb_columns::fb_flat::fb_types::fb_networks::fb_services::fb_blocks::TypeFault;
 use fb_cert::CertFault;
+use fb_columns::Shortfall;
+use fb_depths::Shallow;
+use fb_ledger::RowFault;
 use fb_lex::TextFault;
-use fb_rows::RowFault;
-use fb_types::TypeFault;
 use std::alloc::{AllocError, AllocFailed};
 use std::fmt;
 
@@ -25,11 +27,14 @@ pub enum Refusal {
     UnknownRow(String),
     /// The system has this place, and the certificate has no row for it. Code 33.
     MissingRow(String),
+    /// The algorithm of this path, or a guard of a transition that leaves the state of this path, is not known to keep its indices and divisors
+    /// in their bounds. So far no algorithm and no guard is. Code 37.
+    IndexOrDivisor(String),
     /// The charge of this state is less than its actions and the free transitions from it need. Code 38.
     Charge(String),
     /// The weight of this event input or arrival is less than what it can cause. Code 39.
     Weight(String),
-    /// The depth of this resource is less than the places of one of its arrivals. Code 40.
+    /// The depth of this resource is less than the places of one of its arrivals, or than those of all its BEGIN together. Code 40.
     Depth(String),
 }
 
@@ -47,6 +52,7 @@ impl Refusal {
             Refusal::Certificate(fault) => fault.code(),
             Refusal::UnknownRow(_) => 32,
             Refusal::MissingRow(_) => 33,
+            Refusal::IndexOrDivisor(_) => 37,
             Refusal::Charge(_) => 38,
             Refusal::Weight(_) => 39,
             Refusal::Depth(_) => 40,
@@ -69,6 +75,7 @@ impl fmt::Display for Refusal {
             Refusal::Certificate(fault) => write!(f, "{fault}"),
             Refusal::UnknownRow(path) => write!(f, "32 {path}"),
             Refusal::MissingRow(path) => write!(f, "33 {path}"),
+            Refusal::IndexOrDivisor(path) => write!(f, "37 {path}"),
             Refusal::Charge(path) => write!(f, "38 {path}"),
             Refusal::Weight(path) => write!(f, "39 {path}"),
             Refusal::Depth(path) => write!(f, "40 {path}"),
@@ -149,6 +156,37 @@ impl From<RowFault> for Refusal {
             RowFault::OutOfMemory => Refusal::OutOfMemory,
             RowFault::Unknown(path) => Refusal::UnknownRow(path),
             RowFault::Missing(path) => Refusal::MissingRow(path),
+        }
+    }
+}
+
+/// A row that does not pay is told with its path.
+impl From<Shortfall> for Refusal {
+    ghost use Rattle.std.specs.Prelude.{◌≡◌};
+    ghost use Rattle.fb_check.specs.Refusals.{of_shortfall};
+
+    ghost from_gives = { λ f r. r ≡ of_shortfall f };
+
+    fn from(fault: Shortfall) -> Refusal {
+        match fault {
+            Shortfall::OutOfMemory => Refusal::OutOfMemory,
+            Shortfall::Charge(path) => Refusal::Charge(path),
+            Shortfall::Weight(path) => Refusal::Weight(path),
+        }
+    }
+}
+
+/// A queue that is not deep enough is told with its resource's path.
+impl From<Shallow> for Refusal {
+    ghost use Rattle.std.specs.Prelude.{◌≡◌};
+    ghost use Rattle.fb_check.specs.Refusals.{of_shallow};
+
+    ghost from_gives = { λ f r. r ≡ of_shallow f };
+
+    fn from(fault: Shallow) -> Refusal {
+        match fault {
+            Shallow::OutOfMemory => Refusal::OutOfMemory,
+            Shallow::Depth(path) => Refusal::Depth(path),
         }
     }
 }

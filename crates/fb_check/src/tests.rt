@@ -110,11 +110,11 @@ fn other_texts(rt: HostRuntime) -> Result<(), Fail> {
     assert_eq!(rt;
         said(
             alloc,
-            "SYSTEM S DEVICE D END_DEVICE DEVICE E END_DEVICE END_SYSTEM",
+            "SYSTEM S DEVICE D END_DEVICE DEVICE D END_DEVICE END_SYSTEM",
             "CERT 1"
         )?
         .as_str(),
-        "19 36"
+        "11 36"
     );
     match check_text(alloc, "SYSTEM S END_SYSTE", "CERT 1") {
         Ok(_) => assert!(rt; false),
@@ -175,19 +175,109 @@ WEIGHT D.R.BUTTON.ARRIVE 10 2\nWEIGHT D.R.F.EI 9 2\nWEIGHT D.R.C1.EI 3 1\nWEIGHT
     Ok(())
 }
 
-// An application may have 1 MiB, and one byte more is refused.
+const SPLIT: &str = "SYSTEM S DEVICE D RESOURCE R
+FBS BUTTON : INPUT(ID := 1); SPL : E_SPLIT; L1 : OUTPUT(ID := 1); L2 : OUTPUT(ID := 2); END_FBS
+EVENT_CONNECTIONS BUTTON.IND TO SPL.EI; SPL.EO1 TO L1.REQ; SPL.EO2 TO L2.REQ; END_CONNECTIONS
+END_RESOURCE END_DEVICE END_SYSTEM
+";
+
+// An event block that is declared beforehand, and services that take values from nowhere.
 #[test]
-fn the_longest_text(rt: HostRuntime) -> Result<(), Fail> {
+fn a_split(rt: HostRuntime) -> Result<(), Fail> {
     let alloc = rt.alloc();
-    let mut text = String::from_str(alloc, BUTTON_AND_CELL)?;
-    for _ in text.len()..1_048_576 {
-        text.push(' ')?;
-    }
+    let rows =
+        "CERT 1\nCHARGE D.R.SPL.START 0 0\nCHARGE D.R.SPL.ACT 3 2\nWEIGHT D.R.BUTTON.ARRIVE 6 2\nWEIGHT D.R.SPL.EI 5 2\nWEIGHT D.R.L1.REQ 1 1\nWEIGHT D.R.L2.REQ 1 1\n";
+    let deep = format!(in alloc; "{rows}DEPTH D.R 2\n")?;
+    assert_eq!(rt; said(alloc, SPLIT, deep.as_str())?.as_str(), "accepted");
+    let shallow = format!(in alloc; "{rows}DEPTH D.R 1\n")?;
+    assert_eq!(rt; said(alloc, SPLIT, shallow.as_str())?.as_str(), "40 D.R");
+    Ok(())
+}
+
+const RESTARTS: &str = "SYSTEM S DEVICE D RESOURCE R
+FBS A : E_RESTART; B : E_RESTART; L1 : OUTPUT(ID := 1); L2 : OUTPUT(ID := 2); END_FBS
+EVENT_CONNECTIONS A.COLD TO L1.REQ; B.COLD TO L2.REQ; END_CONNECTIONS
+END_RESOURCE END_DEVICE END_SYSTEM
+";
+
+// All BEGIN of a resource arrive at once.
+#[test]
+fn two_restarts(rt: HostRuntime) -> Result<(), Fail> {
+    let alloc = rt.alloc();
+    let rows =
+        "CERT 1\nWEIGHT D.R.A.BEGIN 2 1\nWEIGHT D.R.B.BEGIN 2 1\nWEIGHT D.R.L1.REQ 1 1\nWEIGHT D.R.L2.REQ 1 1\n";
+    let shallow = format!(in alloc; "{rows}DEPTH D.R 1\n")?;
+    assert_eq!(rt; said(alloc, RESTARTS, shallow.as_str())?.as_str(), "40 D.R");
+    let deep = format!(in alloc; "{rows}DEPTH D.R 2\n")?;
+    assert_eq!(rt; said(alloc, RESTARTS, deep.as_str())?.as_str(), "accepted");
+    Ok(())
+}
+
+const NESTED: &str = "FUNCTION_BLOCK WRAP
+EVENT_INPUT EI; END_EVENT
+EVENT_OUTPUT EO; END_EVENT
+FBS M : E_MERGE; END_FBS
+EVENT_CONNECTIONS EI TO M.EI1; M.EO TO EO; END_CONNECTIONS
+END_FUNCTION_BLOCK
+SYSTEM S DEVICE D RESOURCE R
+FBS SRC : INPUT[INT](ID := 1); W : WRAP; LAMP : OUTPUT[DINT](ID := 1); END_FBS
+EVENT_CONNECTIONS SRC.IND TO W.EI; W.EO TO LAMP.REQ; END_CONNECTIONS
+DATA_CONNECTIONS SRC.RD_1 TO LAMP.SD_1; END_CONNECTIONS
+END_RESOURCE END_DEVICE END_SYSTEM
+";
+
+// Leaves have their rows inside composites, and values of services need none.
+#[test]
+fn a_composite(rt: HostRuntime) -> Result<(), Fail> {
+    let alloc = rt.alloc();
+    let rows =
+        "CERT 1\nCHARGE D.R.W.M.START 0 0\nCHARGE D.R.W.M.ACT 2 1\nWEIGHT D.R.SRC.ARRIVE 5 1\nWEIGHT D.R.W.M.EI2 4 1\nWEIGHT D.R.LAMP.REQ 1 1\nDEPTH D.R 1\n";
+    let fits = format!(in alloc; "{rows}WEIGHT D.R.W.M.EI1 4 1\n")?;
+    assert_eq!(rt; said(alloc, NESTED, fits.as_str())?.as_str(), "accepted");
+    let low = format!(in alloc; "{rows}WEIGHT D.R.W.M.EI1 3 1\n")?;
     assert_eq!(rt;
-        said(alloc, text.as_str(), CERTIFICATE)?.as_str(),
-        "accepted"
+        said(alloc, NESTED, low.as_str())?.as_str(),
+        "39 D.R.W.M.EI1"
     );
-    text.push(' ')?;
-    assert_eq!(rt; said(alloc, text.as_str(), CERTIFICATE)?.as_str(), "4");
+    Ok(())
+}
+
+// The text of a block with a variable, a guard and an algorithm.
+fn block(alloc: Global, of: &str, guard: &str, algorithm: &str) -> Result<String, Fail> {
+    Ok(format!(in alloc;
+        "FUNCTION_BLOCK B
+EVENT_INPUT EI; END_EVENT
+VAR X : {of}; END_VAR
+EC_STATES S1; S2; END_STATES
+EC_TRANSITIONS S1 TO S2 := EI{guard}; S2 TO S1 := 1; END_TRANSITIONS
+{algorithm}
+END_FUNCTION_BLOCK
+SYSTEM S DEVICE D RESOURCE R FBS C : B; END_FBS END_RESOURCE END_DEVICE END_SYSTEM
+"
+    )?)
+}
+
+// What ranges will decide is refused so far.
+#[test]
+fn what_is_not_decided(rt: HostRuntime) -> Result<(), Fail> {
+    let alloc = rt.alloc();
+    let rows =
+        "CERT 1\nCHARGE D.R.C.S1 0 0\nCHARGE D.R.C.S2 1 0\nWEIGHT D.R.C.EI 3 1\nDEPTH D.R 1\n";
+    let plain = block(alloc, "BOOL", "", "")?;
+    assert_eq!(rt; said(alloc, plain.as_str(), rows)?.as_str(), "accepted");
+    let ranged = block(alloc, "INT", "", "")?;
+    assert_eq!(rt; said(alloc, ranged.as_str(), rows)?.as_str(), "33 D.R.C.X");
+    let guarded = block(alloc, "BOOL", " [X]", "")?;
+    assert_eq!(rt;
+        said(alloc, guarded.as_str(), rows)?.as_str(),
+        "37 D.R.C.S1"
+    );
+    let running = block(
+        alloc,
+        "BOOL",
+        "",
+        "ALGORITHM A IN ST: X := TRUE; END_ALGORITHM",
+    )?;
+    assert_eq!(rt; said(alloc, running.as_str(), rows)?.as_str(), "37 D.R.C.A");
     Ok(())
 }

@@ -9,10 +9,10 @@ use Rattle.fb_cert.specs.declared.certificate.Amount.{Amount}
 use Rattle.fb_cert.specs.declared.certificate.Certificate.{Certificate}
 use Rattle.fb_cert.specs.Views.{first_at, rows_of, certificate_of, steps_in, places_in}
 use Rattle.fb_cert.proofs.Places.{steps_same, places_same}
-use Rattle.fb_wires.specs.declared.flat.Target.{Target}
-use Rattle.fb_wires.specs.Tables.{target_place}
-use Rattle.fb_wires.specs.Sites.{dotted}
-use Rattle.fb_wires.proofs.Dotted.{names_dotted}
+use Rattle.fb_flat.specs.declared.flat.Target.{Target}
+use Rattle.fb_flat.specs.Tables.{target_place}
+use Rattle.fb_flat.specs.Sites.{dotted}
+use Rattle.fb_flat.proofs.Dotted.{names_dotted}
 use Rattle.fb_columns.specs.declared.column.Column.{Column}
 use Rattle.fb_columns.specs.declared.column.Column.TheVariants.{Steps, Places}
 use Rattle.fb_columns.specs.Columns.{unit_of, column_of}

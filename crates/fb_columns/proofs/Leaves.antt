@@ -9,7 +9,7 @@ use Rattle.fb_model.specs.Language.{Limits}
 use Rattle.fb_model.specs.System as book
 use Rattle.fb_model.specs.Services.{service_events, service_event_outputs, can_emit}
 use Rattle.fb_model.specs.Typing.{names_of}
-use Rattle.fb_model.specs.Plain.{AreWords}
+use Rattle.fb_model.specs.Spelling.{AreWords}
 use Rattle.fb_model.specs.Wires as wires
 use Rattle.fb_model.specs.Wires.{Kind, Charted, Serviced}
 use Rattle.fb_model.specs.Certificates.{EventFits, KindWeighs, sent_weight, sending_of, state_names, events_of}
@@ -18,12 +18,12 @@ use Rattle.fb_model.proofs.Lists.{all_weaker, all_both, at_listed}
 use Rattle.fb_leaves.specs.Leaves.{IsClosed, IsIdle}
 use Rattle.fb_cert.specs.declared.certificate.Certificate as tables
 use Rattle.fb_cert.specs.Views.{certificate_of}
-use Rattle.fb_blocks.specs.declared.typed.Block.{Block}
-use Rattle.fb_blocks.specs.Views.{block_of}
-use Rattle.fb_wires.specs.declared.flat.Output.{Output}
-use Rattle.fb_wires.specs.Tables.{target_place, output_names, targets_of}
-use Rattle.fb_wires.specs.Sites.{dotted}
-use Rattle.fb_wires.proofs.Dotted.{names_dotted}
+use Rattle.fb_flat.specs.fb_blocks.declared.typed.Block.{Block}
+use Rattle.fb_flat.specs.fb_blocks.Views.{block_of}
+use Rattle.fb_flat.specs.declared.flat.Output.{Output}
+use Rattle.fb_flat.specs.Tables.{target_place, output_names, targets_of}
+use Rattle.fb_flat.specs.Sites.{dotted}
+use Rattle.fb_flat.proofs.Dotted.{names_dotted}
 use Rattle.fb_columns.specs.declared.column.Column.{Column}
 use Rattle.fb_columns.specs.declared.fault.Shortfall.{Shortfall}
 use Rattle.fb_columns.specs.declared.fault.Shortfall.TheVariants.{OutOfMemory, Charge, Weight}

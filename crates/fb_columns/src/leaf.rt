@@ -5,7 +5,7 @@ ghost use Rattle.fb_model.specs.Language.{Limits};
 ghost use Rattle.fb_model.specs.Wires as book;
 ghost use Rattle.fb_model.specs.Certificates.{KindWeighs};
 ghost use Rattle.fb_cert.specs.Views.{certificate_of};
-ghost use Rattle.fb_wires.specs.Tables.{IsLeaf};
+ghost use Rattle.fb_flat.specs.Tables.{IsLeaf};
 ghost use Rattle.fb_columns.specs.Columns.{column_of};
 ghost use Rattle.fb_columns.specs.Fitting.{IsKnownLeaf, IsLeafFault};
 
@@ -15,7 +15,7 @@ use crate::fault::Shortfall;
 use crate::service::service_pays;
 use crate::weights::loads;
 use fb_cert::Certificate;
-use fb_wires::{Body, Leaf};
+use fb_flat::{Body, Leaf};
 use std::alloc::Global;
 
 /// The rows of a leaf pay in a column.

@@ -10,6 +10,7 @@ mod pays;
 mod service;
 mod weights;
 
+pub use fb_flat;
 pub use column::Column;
 pub use fault::Shortfall;
 pub use laws::refusals_deny;

@@ -1,8 +1,8 @@
 use crate::{Column, Shortfall, column_pays};
 use fb_cert::parse_cert;
-use fb_source::parse;
-use fb_systems::resolve;
-use fb_wires::flatten;
+use fb_flat::fb_types::fb_networks::fb_services::fb_blocks::fb_text::parse;
+use fb_flat::fb_types::resolve;
+use fb_flat::flatten;
 use std::alloc::Global;
 use std::test::Fail;
 

@@ -9,7 +9,7 @@ ghost use Rattle.fb_columns.specs.Paying.{IsMemory, IsCharge, IsWeight, Names, P
 use crate::column::{Column, is_within, plus};
 use crate::fault::Shortfall;
 use fb_cert::{Amount, Certificate};
-use fb_wires::{Output, Target, joined};
+use fb_flat::{Output, Target, joined};
 use std::alloc::Global;
 
 // The number of a row in a column, 0 where there is no row.

@@ -13,11 +13,11 @@ use Rattle.fb_model.specs.Certificates.{kind_arrivals, is_restart}
 use Rattle.fb_model.specs.CertificateText.{place_of, names_in}
 use Rattle.fb_cert.specs.declared.certificate.Certificate.{Certificate}
 use Rattle.fb_cert.specs.Views.{certificate_of}
-use Rattle.fb_wires.specs.declared.flat.Leaf.{Leaf}
-use Rattle.fb_wires.specs.Sites.{dotted}
-use Rattle.fb_wires.specs.Leaves.{kind_of}
-use Rattle.fb_wires.specs.Tables.{IsLeaf}
-use Rattle.fb_wires.proofs.Dotted.{placed_at}
+use Rattle.fb_flat.specs.declared.flat.Leaf.{Leaf}
+use Rattle.fb_flat.specs.Sites.{dotted}
+use Rattle.fb_flat.specs.Leaves.{kind_of}
+use Rattle.fb_flat.specs.Tables.{IsLeaf}
+use Rattle.fb_flat.proofs.Dotted.{placed_at}
 use Rattle.fb_spelled.proofs.Following.{word_of}
 use Rattle.fb_depths.specs.Depths.{places_at, at_arrival, arrival_of, is_begun, Arrives, IsMost, begin_of, IsBegin}
 

@@ -4,8 +4,8 @@ use Rattle.std.specs.Prelude.{◌↔◌}
 use Rattle.fb_model.specs.Wires as wires
 use Rattle.fb_cert.specs.declared.certificate.Certificate.{Certificate}
 use Rattle.fb_cert.specs.Views.{certificate_of}
-use Rattle.fb_wires.specs.declared.flat.Leaf.{Leaf}
-use Rattle.fb_wires.specs.Tables.{IsLeaf, AreLeaves}
+use Rattle.fb_flat.specs.declared.flat.Leaf.{Leaf}
+use Rattle.fb_flat.specs.Tables.{IsLeaf, AreLeaves}
 use Rattle.fb_depths.specs.Depths.{begin_of, IsBegin, begins_of}
 
 -- what is left is enough for the leaves from here on just where the depth is for all

@@ -17,10 +17,10 @@ use Rattle.fb_model.proofs.Lists.{all_append, all_both, all_weaker}
 use Rattle.fb_model.proofs.Homes.{resource_homes}
 use Rattle.fb_cert.specs.declared.certificate.Certificate.{Certificate}
 use Rattle.fb_cert.specs.Views.{certificate_of}
-use Rattle.fb_wires.specs.declared.flat.Leaf.{Leaf}
-use Rattle.fb_wires.specs.declared.flat.FlatResource.{FlatResource}
-use Rattle.fb_wires.specs.declared.flat.FlatDevice.{FlatDevice}
-use Rattle.fb_wires.specs.Tables.{IsLeaf, AreLeaves, IsResource, AreResources, IsDevice, AreDevices}
+use Rattle.fb_flat.specs.declared.flat.Leaf.{Leaf}
+use Rattle.fb_flat.specs.declared.flat.FlatResource.{FlatResource}
+use Rattle.fb_flat.specs.declared.flat.FlatDevice.{FlatDevice}
+use Rattle.fb_flat.specs.Tables.{IsLeaf, AreLeaves, IsResource, AreResources, IsDevice, AreDevices}
 use Rattle.fb_depths.specs.declared.shallow.Shallow.{Shallow}
 use Rattle.fb_depths.specs.declared.shallow.Shallow.TheVariants.{OutOfMemory, Depth}
 use Rattle.fb_depths.specs.Depths.{IsDeep, Some, IsShallow, IsShallowFault, depth_of, Arrives, LeafArrives, begin_of, begins_of, ResourceFits, DeviceFits, ArrivalFails, BeginFails, IsDepthFault}

@@ -13,11 +13,11 @@ use Rattle.fb_model.specs.Certificates.{ArrivalsFit, begin_places, kind_arrivals
 use Rattle.fb_model.specs.CertificateText.{names_in, place_of}
 use Rattle.fb_cert.specs.declared.certificate.Certificate.{Certificate}
 use Rattle.fb_cert.specs.Views.{certificate_of}
-use Rattle.fb_wires.specs.declared.flat.Leaf.{Leaf}
-use Rattle.fb_wires.specs.declared.flat.FlatResource.{FlatResource}
-use Rattle.fb_wires.specs.declared.flat.FlatDevice.{FlatDevice}
-use Rattle.fb_wires.specs.Sites.{dotted}
-use Rattle.fb_wires.specs.Tables.{IsLeaf, AreLeaves}
+use Rattle.fb_flat.specs.declared.flat.Leaf.{Leaf}
+use Rattle.fb_flat.specs.declared.flat.FlatResource.{FlatResource}
+use Rattle.fb_flat.specs.declared.flat.FlatDevice.{FlatDevice}
+use Rattle.fb_flat.specs.Sites.{dotted}
+use Rattle.fb_flat.specs.Tables.{IsLeaf, AreLeaves}
 use Rattle.fb_depths.specs.declared.shallow.Shallow.{Shallow}
 use Rattle.fb_depths.specs.declared.shallow.Shallow.TheVariants.{OutOfMemory, Depth}
 

@@ -1,14 +1,14 @@
 //! When all BEGIN of a resource fit in its queue together: they arrive at once.
 
 ghost use Rattle.std.specs.Prelude.{◌≡◌, IfOk, IfErr, OnOk};
-ghost use Rattle.fb_services.specs.Views.{service_of};
+ghost use Rattle.fb_flat.specs.fb_services.Views.{service_of};
 ghost use Rattle.fb_depths.specs.Depths.{is_begun, IsBegin, ResourceBegins, IsDepthFault, IsMemory};
 
 use crate::resource::{depth, service_places};
 use crate::shallow::Shallow;
 use fb_cert::Certificate;
-use fb_services::Service;
-use fb_wires::{Body, FlatResource, Leaf};
+use fb_flat::fb_types::fb_networks::fb_services::Service;
+use fb_flat::{Body, FlatResource, Leaf};
 use std::alloc::Global;
 
 // Whether a service is one that says BEGIN.

@@ -4,14 +4,14 @@ ghost use Rattle.std.specs.Prelude.{IfErr, OnOk};
 ghost use Rattle.std.specs.List.{AllByRecursion, Any};
 ghost use Rattle.fb_model.specs.System.{System};
 ghost use Rattle.fb_cert.specs.Views.{certificate_of};
-ghost use Rattle.fb_wires.specs.Tables.{AreDevices};
+ghost use Rattle.fb_flat.specs.Tables.{AreDevices};
 ghost use Rattle.fb_depths.specs.Depths.{ResourceFits, DeviceFits, IsDepthFault, IsDeep, IsShallowFault};
 
 use crate::begin::begins_fit;
 use crate::resource::arrivals_fit;
 use crate::shallow::Shallow;
 use fb_cert::Certificate;
-use fb_wires::{Flat, FlatDevice, FlatResource};
+use fb_flat::{Flat, FlatDevice, FlatResource};
 use std::alloc::Global;
 
 // A resource's queue is deep enough.

@@ -4,13 +4,13 @@ ghost use Rattle.std.specs.Prelude.{◌≡◌, IfOk, IfErr, OnOk, string_bytes};
 ghost use Rattle.fb_model.specs.Certificates as book;
 ghost use Rattle.fb_model.specs.CertificateText.{place_of};
 ghost use Rattle.fb_cert.specs.Views.{certificate_of};
-ghost use Rattle.fb_services.specs.Views.{service_of};
+ghost use Rattle.fb_flat.specs.fb_services.Views.{service_of};
 ghost use Rattle.fb_depths.specs.Depths.{depth_of, arrival_of, IsMost, ResourceArrives, IsDepthFault, IsMemory};
 
 use crate::shallow::Shallow;
 use fb_cert::Certificate;
-use fb_services::Service;
-use fb_wires::{Body, FlatResource, Leaf, joined};
+use fb_flat::fb_types::fb_networks::fb_services::Service;
+use fb_flat::{Body, FlatResource, Leaf, joined};
 use std::alloc::Global;
 
 // The places of a WEIGHT row, 0 where there is none.

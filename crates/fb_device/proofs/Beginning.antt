@@ -12,11 +12,11 @@ use Rattle.fb_model.specs.Store.{Condition, AtState, LeafState, first_cells, fir
 use Rattle.fb_model.specs.Certificates.{Certificate, DeviceFits, names, is_restart, depth_of}
 use Rattle.fb_model.specs.Devices.{Machine, silent, begun, at_first}
 use Rattle.fb_model.specs.Headline.{IsSound}
-use Rattle.fb_model.specs.Typing as typing
-use Rattle.fb_model.specs.Trees.{BlockTree, ResourceTree, DeviceTree}
 use Rattle.fb_model.proofs.Starting.{first_sound}
-use Rattle.fb_check.specs.declared.verified.Verified.{Verified}
-use Rattle.fb_check.specs.Verdicts.{system_in, certificate_in, IsChecked}
+use Rattle.fb_leaves.proofs.Few.{devices_few}
+use Rattle.fb_tables.specs.fb_types.Beforehand.{IsResolved}
+use Rattle.fb_tables.specs.fb_check.declared.verified.Verified.{Verified}
+use Rattle.fb_tables.specs.fb_check.Verdicts.{system_in, certificate_in, IsChecked}
 use Rattle.fb_tables.specs.declared.table.Body.{Body}
 use Rattle.fb_tables.specs.declared.table.Body.TheVariants.{Chart, Input}
 use Rattle.fb_tables.specs.declared.table.Block.{Block}
@@ -99,20 +99,6 @@ begun_none cert all (x ∷ xs) (l ∷ ls) m a =
     let never : is_restart l.kind ≡ false = ap is_restart (sym a.0.kind) ∙ not_restart (event_names x) (output_names x) x.body in
     ap (λ b. begun ls (cond b (Rattle.fb_model.specs.Devices.admitted m (Rattle.fb_model.specs.Devices.beginning l)) m)) never ∙ begun_none cert all xs ls m a.1
 
--- ---- few resources
-
-resources_few : (bs : List BlockTree) (rs : List ResourceTree) (qs : List book.Resource) → typing.AreResources bs rs qs → length qs ≡ length rs
-resources_few bs [] [] a = refl
-resources_few bs (r ∷ rs) (q ∷ qs) a = omega (arith, resources_few bs rs qs a.1)
-resources_few bs [] (q ∷ qs) a = absurd a
-resources_few bs (r ∷ rs) [] a = absurd a
-
-devices_few : (bs : List BlockTree) (ds : List DeviceTree) (es : List Device) → typing.AreDevices bs ds es → AllByRecursion (λ (d : Device). length d.resources ≤ 1) es
-devices_few bs [] [] a = tt
-devices_few bs (d ∷ ds) (e ∷ es) a = (omega (arith, a.0.few, resources_few bs d.resources e.resources a.0.resources), devices_few bs ds es a.1)
-devices_few bs [] (e ∷ es) a = absurd a
-devices_few bs (d ∷ ds) [] a = absurd a
-
 pub device_stands : (ds : List Device) (k : ℕ) → k < length ds → slice_get ds k ≡ Some (device_at ds k)
 device_stands [] k h = absurd (omega (arith, h))
 device_stands (d ∷ ds) zero h = refl
@@ -124,6 +110,9 @@ module _ (v : Verified) (k : ℕ) (t : Tables) (r : Running) (checked : IsChecke
 
   abbrev device : Device
   device = device_at (system_in v).devices k
+
+  resolved : IsResolved checked.written.0 checked.written.2.source (system_in v)
+  resolved = checked.written.2.typed
 
   stands : slice_get (system_in v).devices k ≡ Some device
   stands = device_stands (system_in v).devices k within
@@ -160,7 +149,7 @@ module _ (v : Verified) (k : ℕ) (t : Tables) (r : Running) (checked : IsChecke
         record { room = omega (arith, q.3, d, ap (depth_of (certificate_in v) device) same); entries = subst (AllByRecursion (IsEntry (leaves device) r.spent.items)) (sym q.2) tt });
     rows = omega (arith, ap length rest.spent);
     room = rest.room;
-    device = omega (arith, within, Rattle.std.proofs.lemmas.List.length-map v.typed.devices.items Rattle.fb_types.specs.Views.device_of);
-    few = omega (arith, resource_count (certificate_in v) device 0 t.resources.items device.resources are.resources, all_stand (λ (d : Device). length d.resources ≤ 1) (system_in v).devices k device (devices_few checked.written.source.blocks checked.written.source.system.devices (system_in v).devices checked.written.typed.devices) stands);
+    device = omega (arith, within, Rattle.std.proofs.lemmas.List.length-map v.typed.devices.items Rattle.fb_tables.specs.fb_types.Views.device_of);
+    few = omega (arith, resource_count (certificate_in v) device 0 t.resources.items device.resources are.resources, (all_stand (λ (d : Device). (length (leaves d) ≤ 16384) × (length d.resources ≤ 16)) (system_in v).devices k device (devices_few resolved.library.blocks checked.written.2.source (system_in v) resolved.typed) stands).1);
     next = subst (λ o. IfSome o (λ n. n < 2 ^ 64)) (sym rest.next) (omega arith);
   }

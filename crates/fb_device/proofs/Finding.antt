@@ -7,7 +7,7 @@ use Rattle.fb_model.specs.System as book
 use Rattle.fb_model.specs.System.{Device}
 use Rattle.fb_model.specs.Wires.{Leaf}
 use Rattle.fb_model.specs.Certificates.{Certificate, events_of}
-use Rattle.fb_check.specs.Lookups.{is_same_path}
+use Rattle.fb_tables.specs.fb_check.Lookups.{is_same_path}
 use Rattle.fb_tables.specs.declared.table.Block.{Block}
 use Rattle.fb_tables.specs.declared.table.Event.{Event}
 use Rattle.fb_tables.specs.declared.table.Resource.{Resource}

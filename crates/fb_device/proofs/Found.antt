@@ -1,19 +1,29 @@
 -- The device of a name in what was checked.
 use Rattle.std.proofs.Common.{◌≡◌, ℕ, true, false, List, [], ◌∷◌, map, slice_get, Some, None, refl, sym, ◌∙◌, ap, subst, string_bytes}
 use Rattle.std.specs.List.{AllByRecursion}
-use Rattle.fb_model.specs.System.{Device}
-use Rattle.fb_types.specs.declared.typed.Device.{Device as RustDevice}
-use Rattle.fb_types.specs.Views.{device_of}
-use Rattle.fb_check.specs.declared.verified.Verified.{Verified}
-use Rattle.fb_check.specs.declared.refusal.Refusal.TheVariants as checks
-use Rattle.fb_check.specs.Lookups.{is_same_path}
-use Rattle.fb_check.specs.Verdicts.{system_in, IsOfTexts, of_application}
+use Rattle.fb_model.specs.System.{Device, System}
+use Rattle.fb_model.specs.Wires.{Kind, Charted, Serviced, Leaf, leaves}
+use Rattle.std.specs.declared.string.String.{String}
+use Rattle.std.specs.declared.alloc.Global.{Global}
+use Rattle.fb_leaves.specs.Leaves.{IsIdle}
+use Rattle.fb_tables.specs.Runnable.{CanRun, IsUnfit}
+use Rattle.fb_tables.specs.declared.unfit.Unfit.{Unfit}
+use Rattle.fb_tables.specs.declared.unfit.Unfit.TheVariants as unfit
+use Rattle.fb_tables.specs.fb_check.Idle.{AreIdle}
+use Rattle.fb_tables.specs.fb_types.declared.typed.Device.{Device as RustDevice}
+use Rattle.fb_tables.specs.fb_types.Views.{device_of}
+use Rattle.fb_tables.specs.fb_check.declared.verified.Verified.{Verified}
+use Rattle.fb_tables.specs.fb_check.declared.refusal.Refusal.TheVariants as checks
+use Rattle.fb_tables.specs.fb_check.Lookups.{is_same_path}
+use Rattle.fb_tables.specs.fb_check.Verdicts.{system_in, IsOfTexts, of_application}
 use Rattle.fb_device.specs.declared.refusal.Refusal.{Refusal}
-use Rattle.fb_device.specs.declared.refusal.Refusal.TheVariants.{Checked, NoDevice}
+use Rattle.fb_device.specs.declared.refusal.Refusal.TheVariants.{Checked, NoDevice, CannotRun}
 use Rattle.fb_device.specs.declared.loading.Ready.{Ready}
-use Rattle.fb_device.specs.Refusals.{no_memory}
-use Rattle.fb_device.specs.Loads.{IsLoaded, IsLoadFault, IsThere, IsReadyOf, IsUnnamed, IsMissing}
+use Rattle.fb_device.specs.Refusals.{no_memory, of_unfit}
+use Rattle.fb_device.specs.Loads.{IsLoaded, IsLoadFault, IsThere, AllRun, IsUnrun, IsReadyOf, IsUnnamed, IsUnready, IsMissing}
 use Rattle.fb_device.specs.Finding.{first_named}
+use Rattle.fb_tables.proofs.of_fb_blocks.Faultless.{any_all}
+use Rattle.fb_device.proofs.Lists.{same_at}
 use Rattle.fb_device.proofs.Crossing.{all_stand}
 use Rattle.fb_device.proofs.Finding.{none_named, one_named, unmapped, all_unmapped}
 
@@ -35,49 +45,95 @@ no_device_named v name h =
 pub missing_so : (v : Verified) (name : List ℕ) (f : Refusal) → AllByRecursion (λ (d : Device). is_same_path d.name name ≡ false) (system_in v).devices → IsUnnamed name f → IsMissing v name f
 missing_so v name (Checked checks.OutOfMemory) a h = tt
 missing_so v name (NoDevice shown) a h = (a, h)
+missing_so v name (CannotRun path) a h = absurd h
 missing_so v name (Checked (checks.Text x)) a h = absurd h
 missing_so v name (Checked (checks.Typing x)) a h = absurd h
 missing_so v name (Checked (checks.Certificate x)) a h = absurd h
 missing_so v name (Checked (checks.UnknownRow x)) a h = absurd h
 missing_so v name (Checked (checks.MissingRow x)) a h = absurd h
+missing_so v name (Checked (checks.IndexOrDivisor x)) a h = absurd h
 missing_so v name (Checked (checks.Charge x)) a h = absurd h
 missing_so v name (Checked (checks.Weight x)) a h = absurd h
 missing_so v name (Checked (checks.Depth x)) a h = absurd h
 
+-- a device of this name is not ready
+pub unready_so : (v : Verified) (name : List ℕ) (number : ℕ) (f : Refusal) → (d : Device) → slice_get (system_in v).devices number ≡ Some d → is_same_path d.name name ≡ true → IsUnready v number f → IsMissing v name f
+unready_so v name number (Checked checks.OutOfMemory) d e n h = tt
+unready_so v name number (NoDevice shown) d e n h = absurd h
+unready_so v name number (CannotRun path) d e n h = (let same : d ≡ h.0 = same_at (system_in v).devices number d h.0 e h.1 in (number, h.0, h.1, subst (λ (x : Device). is_same_path x.name name ≡ true) same n, h.2))
+unready_so v name number (Checked (checks.Text x)) d e n h = absurd h
+unready_so v name number (Checked (checks.Typing x)) d e n h = absurd h
+unready_so v name number (Checked (checks.Certificate x)) d e n h = absurd h
+unready_so v name number (Checked (checks.UnknownRow x)) d e n h = absurd h
+unready_so v name number (Checked (checks.MissingRow x)) d e n h = absurd h
+unready_so v name number (Checked (checks.IndexOrDivisor x)) d e n h = absurd h
+unready_so v name number (Checked (checks.Charge x)) d e n h = absurd h
+unready_so v name number (Checked (checks.Weight x)) d e n h = absurd h
+unready_so v name number (Checked (checks.Depth x)) d e n h = absurd h
+
+-- why no tables were made is why the device is not ready
+pub unfit_so : (v : Verified) (number : ℕ) (u : Unfit) (d : Device) → slice_get (system_in v).devices number ≡ Some d → IsUnfit d u → IsUnready v number (of_unfit u)
+unfit_so v number unfit.OutOfMemory d e h = tt
+unfit_so v number (unfit.CannotRun path) d e h = (d, e, h)
+
 -- ---- over two texts
 
-pub loaded_so : (text certificate name : List ℕ) (v : Verified) (r : Ready) → IsOfTexts text certificate v → IsReadyOf v name r → IsLoaded text certificate name r.device
-loaded_so text certificate name v r t h = record {
-  texts = subst (IsOfTexts text certificate) (sym h.same) t;
+pub loaded_so : (beforehand text certificate name : List ℕ) (v : Verified) (r : Ready) → IsOfTexts beforehand text certificate v → IsReadyOf v name r → IsLoaded beforehand text certificate name r.device
+loaded_so beforehand text certificate name v r t h = record {
+  texts = subst (IsOfTexts beforehand text certificate) (sym h.same) t;
   device = h.device;
   stands = ap (λ (w : Verified). slice_get (system_in w).devices r.device.number) h.same ∙ h.stands;
   named = h.named;
   silent = h.silent;
 }
 
-pub fault_so : (text certificate name : List ℕ) (v : Verified) (f : Refusal) → IsOfTexts text certificate v → IsMissing v name f → IsLoadFault text certificate name f
-fault_so text certificate name v (Checked checks.OutOfMemory) t h = of_application tt
-fault_so text certificate name v (NoDevice shown) t h = (record { system = system_in v; system_is = t.system_is; unknown = h.0 }, h.1)
-fault_so text certificate name v (Checked (checks.Text x)) t h = absurd h
-fault_so text certificate name v (Checked (checks.Typing x)) t h = absurd h
-fault_so text certificate name v (Checked (checks.Certificate x)) t h = absurd h
-fault_so text certificate name v (Checked (checks.UnknownRow x)) t h = absurd h
-fault_so text certificate name v (Checked (checks.MissingRow x)) t h = absurd h
-fault_so text certificate name v (Checked (checks.Charge x)) t h = absurd h
-fault_so text certificate name v (Checked (checks.Weight x)) t h = absurd h
-fault_so text certificate name v (Checked (checks.Depth x)) t h = absurd h
+pub fault_so : (beforehand text certificate name : List ℕ) (v : Verified) (f : Refusal) → IsOfTexts beforehand text certificate v → IsMissing v name f → IsLoadFault beforehand text certificate name f
+fault_so beforehand text certificate name v (Checked checks.OutOfMemory) t h = of_application tt
+fault_so beforehand text certificate name v (NoDevice shown) t h = (record { system = system_in v; system_is = t.system_is; unknown = h.0 }, h.1)
+fault_so beforehand text certificate name v (CannotRun path) t h = record { system = system_in v; system_is = t.system_is; number = h.0; device = h.1; stands = h.2; named = h.3; unrun = h.4 }
+fault_so beforehand text certificate name v (Checked (checks.Text x)) t h = absurd h
+fault_so beforehand text certificate name v (Checked (checks.Typing x)) t h = absurd h
+fault_so beforehand text certificate name v (Checked (checks.Certificate x)) t h = absurd h
+fault_so beforehand text certificate name v (Checked (checks.UnknownRow x)) t h = absurd h
+fault_so beforehand text certificate name v (Checked (checks.MissingRow x)) t h = absurd h
+fault_so beforehand text certificate name v (Checked (checks.IndexOrDivisor x)) t h = absurd h
+fault_so beforehand text certificate name v (Checked (checks.Charge x)) t h = absurd h
+fault_so beforehand text certificate name v (Checked (checks.Weight x)) t h = absurd h
+fault_so beforehand text certificate name v (Checked (checks.Depth x)) t h = absurd h
 
 none_there : (ds : List Device) (name : List ℕ) (k : ℕ) (d : Device) → AllByRecursion (λ (d : Device). is_same_path d.name name ≡ false) ds → slice_get ds k ≡ Some d → is_same_path d.name name ≡ true → ⊥
 none_there ds name k d a h t = (let f = all_stand (λ (d : Device). is_same_path d.name name ≡ false) ds k d a h in let g : true ≡ false = sym t ∙ f in absurd cc)
 
-pub memory_so : (v : Verified) (name : List ℕ) (f : Refusal) → IsThere (system_in v) name → IsMissing v name f → f ≡ no_memory
+-- what runs is not beyond what devices run
+none_unrun : (ds : List Device) (k : ℕ) (d : Device) (path : String Global) → AllByRecursion (λ (e : Device). AllByRecursion (λ (leaf : Leaf). CanRun leaf.kind) (leaves e)) ds → slice_get ds k ≡ Some d → IsUnrun d path → ⊥
+none_unrun ds k d path a e h = any_all (λ leaf p q. p.1 q) (leaves d) h (all_stand (λ (c : Device). AllByRecursion (λ (leaf : Leaf). CanRun leaf.kind) (leaves c)) ds k d a e)
+
+pub memory_so : (v : Verified) (name : List ℕ) (f : Refusal) → IsThere (system_in v) name × AllRun (system_in v) → IsMissing v name f → f ≡ no_memory
 memory_so v name (Checked checks.OutOfMemory) t h = refl
-memory_so v name (NoDevice shown) t h = absurd (none_there (system_in v).devices name t.0 t.1 h.0 t.2 t.3)
+memory_so v name (NoDevice shown) t h = absurd (none_there (system_in v).devices name t.0.0 t.0.1 h.0 t.0.2 t.0.3)
+memory_so v name (CannotRun path) t h = absurd (none_unrun (system_in v).devices h.0 h.1 path t.1 h.2 h.4)
 memory_so v name (Checked (checks.Text x)) t h = absurd h
 memory_so v name (Checked (checks.Typing x)) t h = absurd h
 memory_so v name (Checked (checks.Certificate x)) t h = absurd h
 memory_so v name (Checked (checks.UnknownRow x)) t h = absurd h
 memory_so v name (Checked (checks.MissingRow x)) t h = absurd h
+memory_so v name (Checked (checks.IndexOrDivisor x)) t h = absurd h
 memory_so v name (Checked (checks.Charge x)) t h = absurd h
 memory_so v name (Checked (checks.Weight x)) t h = absurd h
 memory_so v name (Checked (checks.Depth x)) t h = absurd h
+
+-- ---- a system that runs is idle
+
+idle_run : (kind : Kind) → CanRun kind → IsIdle kind
+idle_run (Charted block) h = (h.1.procedures, h.1.guards)
+idle_run (Serviced service) h = tt
+
+pub all_idle : (s : System) → AllRun s → AreIdle s
+all_idle s h = devices_idle s.devices h where
+  leaves_idle : (ls : List Leaf) → AllByRecursion (λ (leaf : Leaf). CanRun leaf.kind) ls → AllByRecursion (λ (leaf : Leaf). IsIdle leaf.kind) ls
+  leaves_idle [] h = tt
+  leaves_idle (l ∷ ls) h = (idle_run l.kind h.0, leaves_idle ls h.1)
+
+  devices_idle : (ds : List Device) → AllByRecursion (λ (d : Device). AllByRecursion (λ (leaf : Leaf). CanRun leaf.kind) (leaves d)) ds → AllByRecursion (λ (d : Device). AllByRecursion (λ (leaf : Leaf). IsIdle leaf.kind) (leaves d)) ds
+  devices_idle [] h = tt
+  devices_idle (d ∷ ds) h = (leaves_idle (leaves d) h.0, devices_idle ds h.1)

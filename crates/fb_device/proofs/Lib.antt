@@ -1,3 +1,7 @@
+pub use Rattle.fb_tables.proofs.of_fb_check as of_fb_check
+pub use Rattle.fb_tables.proofs as of_fb_tables
+pub use Rattle.fb_tables.proofs.of_fb_text as of_fb_text
+pub use Rattle.fb_tables.proofs.of_fb_types as of_fb_types
 pub mod Lists
 pub mod Crossing
 pub mod Naming

@@ -14,8 +14,8 @@ use Rattle.fb_device.specs.declared.program.Program.{Program}
 use Rattle.fb_device.specs.declared.program.Running.{Running}
 use Rattle.fb_device.specs.Sessions.{Session, session_of}
 use Rattle.fb_model.specs.Wires.{leaves}
-use Rattle.fb_check.specs.declared.verified.Verified.{Verified}
-use Rattle.fb_check.specs.Verdicts.{system_in, certificate_in}
+use Rattle.fb_tables.specs.fb_check.declared.verified.Verified.{Verified}
+use Rattle.fb_tables.specs.fb_check.Verdicts.{system_in, certificate_in}
 use Rattle.fb_device.specs.Answers.{answer_of}
 use Rattle.fb_device.specs.Machines.{device_at, device_in, cert_in, machine_of}
 use Rattle.fb_device.specs.Running.{IsGood}

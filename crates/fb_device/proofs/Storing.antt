@@ -7,7 +7,7 @@ use Rattle.fb_model.specs.Wires.{Leaf}
 use Rattle.fb_model.specs.Store.{Store, LeafState, with_leaf, sampled, takes, where_in, value_at}
 use Rattle.fb_model.proofs.Lists.{same_path}
 use Rattle.fb_model.proofs.Placed.{path_same}
-use Rattle.fb_tables.specs.Tables.{AreApart}
+use Rattle.fb_leaves.specs.Leaves.{AreApart}
 use Rattle.fb_device.specs.Machines.{leaf_state, store_at}
 use Rattle.fb_device.proofs.Crossing.{all_stand}
 

@@ -9,7 +9,7 @@ use Rattle.fb_model.specs.CertificateText.{names_in}
 use Rattle.fb_model.specs.Devices as book
 use Rattle.fb_model.specs.Devices.{Machine, steps_row, is_pending}
 use Rattle.fb_model.specs.Headline.{IsOpen}
-use Rattle.fb_check.specs.Lookups.{is_same_path}
+use Rattle.fb_tables.specs.fb_check.Lookups.{is_same_path}
 use Rattle.fb_tables.specs.Views.{place_at}
 use Rattle.fb_tables.specs.Tables.{IsPoint}
 use Rattle.fb_device.specs.declared.answer.Denied.{Denied}

@@ -1,3 +1,7 @@
+pub use Rattle.fb_tables.specs.fb_check as fb_check
+pub use Rattle.fb_tables.specs as fb_tables
+pub use Rattle.fb_tables.specs.fb_text as fb_text
+pub use Rattle.fb_tables.specs.fb_types as fb_types
 pub mod Refusals
 pub mod Sessions
 pub mod Machines

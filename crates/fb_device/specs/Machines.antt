@@ -7,7 +7,7 @@ use Rattle.fb_model.specs.Store.{Condition, AtState, LeafState, Store, first_cel
 use Rattle.fb_model.specs.Certificates.{Certificate, names}
 use Rattle.fb_model.specs.Devices as book
 use Rattle.fb_model.specs.Devices.{Machine}
-use Rattle.fb_check.specs.Verdicts.{system_in, certificate_in}
+use Rattle.fb_tables.specs.fb_check.Verdicts.{system_in, certificate_in}
 use Rattle.fb_tables.specs.Views.{named, place_at}
 use Rattle.fb_device.specs.declared.entry.Entry.{Entry}
 use Rattle.fb_device.specs.declared.entry.Spent.{Spent}

@@ -1,6 +1,6 @@
 -- What contracts see of a device: what was checked, and how far the device has come, in lists.
 use Rattle.std.specs.Prelude.{ℕ, ◌^◌, List, map, Option, None, Some}
-use Rattle.fb_check.specs.declared.verified.Verified.{Verified}
+use Rattle.fb_tables.specs.fb_check.declared.verified.Verified.{Verified}
 use Rattle.fb_device.specs.declared.entry.Entry.{Entry}
 use Rattle.fb_device.specs.declared.entry.Spent.{Spent}
 use Rattle.fb_device.specs.declared.program.Program.{Program}

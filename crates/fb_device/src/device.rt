@@ -27,7 +27,7 @@ pub struct Device {
 impl Model for Device {
     ghost use Rattle.fb_device.specs.Sessions.{Session, session_of};
     ghost use Rattle.fb_device.specs.Running.{IsGood};
-    ghost use Rattle.fb_check.specs.contracts.verified.Verified as checked;
+    ghost use Rattle.fb_tables.specs.fb_check.contracts.verified.Verified as checked;
     ghost use Rattle.std.specs.Coded.{codes};
 
     ghost Value = { Session };

@@ -16,6 +16,7 @@ mod spending;
 #[cfg(test)]
 mod tests;
 
+pub use fb_tables;
 pub use answer::{Answer, Denied, Ended, Opening, Ran, Step, Turned};
 pub use device::Device;
 pub use loading::{Ready, load, load_checked};

@@ -2,21 +2,21 @@
 
 ghost use Rattle.std.specs.Prelude.{◌≡◌, ◌≤◌, ◌<◌, map, string_bytes, length, Some, slice_get, true, IfOk, IfErr};
 ghost use Rattle.fb_model.specs.System.{System, Device as book};
-ghost use Rattle.fb_model.specs.Trees.{SourceTree};
-ghost use Rattle.fb_model.specs.Typing.{Elaborates};
+ghost use Rattle.fb_model.specs.Declarations.{SourceTree};
 ghost use Rattle.fb_model.specs.Certificates as certs;
 ghost use Rattle.fb_model.specs.CertificateText.{Spells, most_characters};
 ghost use Rattle.fb_model.specs.Wires.{leaves};
 ghost use Rattle.fb_model.specs.Devices.{begun, silent};
-ghost use Rattle.fb_check.specs.Verdicts.{system_in, IsSystemOf, IsChecked};
-ghost use Rattle.fb_text.specs.Answers.{IsSource};
+ghost use Rattle.fb_tables.specs.fb_check.Verdicts.{system_in, IsSystemOf, IsChecked};
+ghost use Rattle.fb_tables.specs.fb_text.Answers.{IsSource};
+ghost use Rattle.fb_tables.specs.fb_types.Beforehand.{IsResolved};
 ghost use Rattle.fb_device.specs.Machines.{device_in, cert_in, machine_of};
 ghost use Rattle.fb_device.specs.Promises.{IsBounded};
-ghost use Rattle.fb_device.specs.Loads.{IsLoaded, IsLoadFault, IsThere};
+ghost use Rattle.fb_device.specs.Loads.{IsLoaded, IsLoadFault, IsThere, AllRun};
 ghost use Rattle.fb_device.specs.Refusals.{no_memory};
 ghost use Rattle.fb_device.specs.Finding.{first_named};
 ghost use Rattle.fb_device.specs.Starting.{AreEmpty, IsAtRest};
-ghost use Rattle.fb_device.specs.Loads.{IsReadyOf, IsMissing, IsUnnamed};
+ghost use Rattle.fb_device.specs.Loads.{IsReadyOf, IsMissing, IsUnnamed, IsUnready};
 ghost use Rattle.std.specs.Prelude.{min, replicate};
 ghost use Rattle.std.specs.List.{sum_by};
 
@@ -25,7 +25,8 @@ use crate::entry::Entry;
 use crate::names::is_same;
 use crate::program::{Program, Running};
 use crate::refusal::Refusal;
-use fb_check::{Verified, check_text};
+use fb_tables::fb_check::{Verified, check_text};
+use fb_tables::fb_check::fb_columns::fb_flat::fb_types::EVENT_BLOCKS;
 use fb_tables::{Resource, Tables, tables};
 use std::alloc::{AllocError, Global};
 
@@ -111,12 +112,14 @@ fn at_rest(alloc: Global, tables: &Tables) -> Result<Running, AllocError>
 
 /// Loads the device of a name, whose first cause is 1. Letter case has no meaning in the name.
 ///
-/// Refused as [`check_text`](fb_check::check_text) refuses, and with `NoDevice` where the text has no such device.
+/// Refused as [`check_text`](fb_tables::fb_check::check_text) refuses, with `NoDevice` where the text has no such device, and with `CannotRun`
+/// where the device has a leaf that devices do not run so far.
 pub fn load(alloc: Global, text: &str, certificate: &str, device: &str) -> Result<Ready, Refusal>
-    ensures loaded { IfOk result (λ r. IsLoaded text.now certificate.now device.now r.device) }
-    ensures refused { IfErr result (IsLoadFault text.now certificate.now device.now) }
+    ensures loaded { IfOk result (λ r. IsLoaded EVENT_BLOCKS.now text.now certificate.now device.now r.device) }
+    ensures refused { IfErr result (IsLoadFault EVENT_BLOCKS.now text.now certificate.now device.now) }
     ensures accepts { (source : SourceTree) (system : System) (rows : certs.Certificate) → length text.now ≤ 1048576 → length certificate.now ≤ most_characters
-        → IsSource text.now source → Elaborates source system → Spells certificate.now rows → certs.Fits system rows → ((s : System) → IsSystemOf text.now s → IsThere s device.now) → IfErr result (λ f. f ≡ no_memory) }
+        → IsSource text.now source → IsResolved EVENT_BLOCKS.now source system → Spells certificate.now rows → certs.Fits system rows
+        → ((s : System) → IsSystemOf EVENT_BLOCKS.now text.now s → IsThere s device.now × AllRun s) → IfErr result (λ f. f ≡ no_memory) }
 {
     match check_text(alloc, text, certificate) {
         Ok(verified) => made_ready(alloc, verified, device),
@@ -125,10 +128,13 @@ pub fn load(alloc: Global, text: &str, certificate: &str, device: &str) -> Resul
 }
 
 /// Loads the device of this number, counted from 0, of what was checked. Its first cause is 1.
-pub fn load_checked(alloc: Global, verified: Verified, number: usize) -> Result<Ready, AllocError>
+///
+/// Refused with `CannotRun` where the device has a leaf that devices do not run so far, and else only where memory runs out.
+pub fn load_checked(alloc: Global, verified: Verified, number: usize) -> Result<Ready, Refusal>
     requires checked { IsChecked verified }
     requires within { number < length (system_in verified).devices }
-    ensures { IfOk result (λ r. (r.device.verified ≡ verified) × (r.device.number ≡ number) × (machine_of r.device ≡ silent (device_in r.device) 1)) }
+    ensures ready { IfOk result (λ r. (r.device.verified ≡ verified) × (r.device.number ≡ number) × (machine_of r.device ≡ silent (device_in r.device) 1)) }
+    ensures refused { IfErr result (IsUnready verified number) }
 {
     let tables = tables(alloc, &verified, number)?;
     let running = at_rest(alloc, &tables)?;
@@ -149,10 +155,7 @@ fn made_ready(alloc: Global, verified: Verified, device: &str) -> Result<Ready, 
     ensures refused { IfErr result (IsMissing verified device.now) }
 {
     match device_named(&verified, device) {
-        Some(number) => match load_checked(alloc, verified, number) {
-            Ok(ready) => Ok(ready),
-            Err(_) => Err(Refusal::Checked(fb_check::Refusal::OutOfMemory)),
-        },
+        Some(number) => load_checked(alloc, verified, number),
         None => Err(no_device(alloc, device)),
     }
 }
@@ -166,6 +169,6 @@ fn no_device(alloc: Global, device: &str) -> Refusal
             name.make_ascii_uppercase();
             Refusal::NoDevice(name)
         }
-        Err(_) => Refusal::Checked(fb_check::Refusal::OutOfMemory),
+        Err(_) => Refusal::Checked(fb_tables::fb_check::Refusal::OutOfMemory),
     }
 }

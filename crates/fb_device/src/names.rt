@@ -4,11 +4,11 @@ ghost use Rattle.std.specs.Prelude.{◌≡◌, ◌<◌, ◌≤◌, length, map, 
 ghost use Rattle.std.specs.List.{AllByRecursion};
 ghost use Rattle.fb_model.specs.Wires.{Leaf};
 ghost use Rattle.fb_model.specs.Certificates.{Certificate};
-ghost use Rattle.fb_check.specs.Verdicts.{system_in};
+ghost use Rattle.fb_tables.specs.fb_check.Verdicts.{system_in};
 ghost use Rattle.fb_tables.specs.Tables.{AreBlocks};
 ghost use Rattle.fb_device.specs.Machines.{device_at};
 ghost use Rattle.fb_device.specs.Answers.{IsNamed, IsNoPoint};
-ghost use Rattle.fb_check.specs.Lookups.{is_same_path};
+ghost use Rattle.fb_tables.specs.fb_check.Lookups.{is_same_path};
 ghost use Rattle.fb_device.specs.Finding.{first_named};
 ghost use Rattle.fb_device.specs.Numbers.{IsKnown};
 ghost use Rattle.fb_device.specs.Openings.{first_entry, opening_in};

@@ -1,7 +1,7 @@
 //! What a device runs, and how far it has come.
 
 use crate::entry::{Entry, Spent};
-use fb_check::Verified;
+use fb_tables::fb_check::Verified;
 use fb_tables::Tables;
 
 /// What was checked, the number of the device in it, and its tables.

@@ -179,3 +179,45 @@ fn refusals_and_their_places(rt: HostRuntime) -> Result<(), Fail> {
     assert!(rt; unfit.code() == 33);
     Ok(())
 }
+
+// A button before a split, which leads to an output and a cell.
+const LAMP: &str = "FUNCTION_BLOCK CELL
+EVENT_INPUT EI; END_EVENT
+EC_STATES START; DONE; END_STATES
+EC_TRANSITIONS START TO DONE := EI; DONE TO START := 1; END_TRANSITIONS
+END_FUNCTION_BLOCK
+SYSTEM S
+DEVICE E END_DEVICE
+DEVICE D RESOURCE R
+FBS BUTTON : INPUT(ID := 1); SPL : E_SPLIT; C : CELL; L : OUTPUT(ID := 1); END_FBS
+EVENT_CONNECTIONS BUTTON.IND TO SPL.EI; SPL.EO1 TO C.EI; SPL.EO2 TO L.REQ; END_CONNECTIONS
+END_RESOURCE END_DEVICE END_SYSTEM
+";
+
+const LAMP_ROWS: &str = "CERT 1
+CHARGE D.R.SPL.START 0 0
+CHARGE D.R.SPL.ACT 5 2
+CHARGE D.R.C.START 0 0
+CHARGE D.R.C.DONE 1 0
+WEIGHT D.R.BUTTON.ARRIVE 8 2
+WEIGHT D.R.SPL.EI 7 2
+WEIGHT D.R.C.EI 3 1
+WEIGHT D.R.L.REQ 1 1
+DEPTH D.R 2
+";
+
+#[test]
+fn leaves_beyond_devices(rt: HostRuntime) -> Result<(), Fail> {
+    let alloc = rt.alloc();
+    let Err(beyond) = load(alloc, LAMP, LAMP_ROWS, "d") else {
+        panic!(rt; "loaded");
+    };
+    assert!(rt; beyond.code() == 22);
+    assert_eq!(rt; format!(in alloc; "{beyond}")?.as_str(), "22 D.R.L");
+    let Ok(ready) = load(alloc, LAMP, LAMP_ROWS, "e") else {
+        panic!(rt; "not loaded");
+    };
+    let mut empty = ready.start();
+    assert_eq!(rt; offered(alloc, &mut empty)?.as_str(), "Err(UnknownInput)");
+    Ok(())
+}

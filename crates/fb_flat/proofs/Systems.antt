@@ -1,34 +1,41 @@
--- Tables of resources, devices and systems.
-use Rattle.std.proofs.Common.{◌≡◌, ℕ, ◌+◌, ◌<◌, List, [], ◌∷◌, ◌++◌, sym, ap, subst, ◌∙◌, map, length, get_or, zero, suc, string_bytes, arith}
-use Rattle.std.specs.List.{AllByRecursion, Any}
-use Rattle.fb_model.specs.Names.{Name, Path}
-use Rattle.fb_model.specs.Spelling.{IsWord}
-use Rattle.fb_model.specs.Plain.{AreWords, IsPlainResource}
-use Rattle.fb_model.specs.Typing.{AreDistinct}
-use Rattle.fb_model.specs.System as book
-use Rattle.fb_model.specs.CertificateText.{names_in}
-use Rattle.fb_types.specs.declared.fault.TypeFault.{TypeFault}
-use Rattle.fb_types.specs.declared.fault.TypeFault.TheVariants.{OutOfMemory, UnknownName, DuplicateName, TypeMismatch, BadLiteral, NotWritable, BadConnection, TwoSources, BadService, RecursiveComposite, Limit, ChannelShape}
-use Rattle.fb_types.specs.declared.typed.Resource.{Resource}
-use Rattle.fb_types.specs.Views.{resource_of}
-use Rattle.fb_flat.specs.declared.flat.FlatResource.{FlatResource}
-use Rattle.fb_flat.specs.declared.flat.FlatDevice.{FlatDevice}
-use Rattle.fb_flat.specs.Views.{dotted, IsLimit}
-use Rattle.fb_flat.specs.Leaves.{IsResource, AreResources, IsDevice, AreDevices, IsLimitAt}
-use Rattle.fb_flat.specs.Filling.{AreLed, names_in_order, led}
-use Rattle.fb_flat.proofs.Dotted.{names_dotted, word_alone}
-use Rattle.fb_flat.proofs.Leading.{leaves_are, names_are}
+-- Tables of events, resources and devices.
+use Rattle.std.proofs.Common.{◌≡◌, ℕ, ◌+◌, ◌<◌, List, [], ◌∷◌, ◌++◌, refl, sym, ap, ◌∙◌, map, take, length, get_or, Some, string_bytes, Global}
+use Rattle.std.specs.Prelude.{slice_get}
+use Rattle.std.specs.List.{Any}
+use Rattle.std.specs.Option.{option_map}
+use Rattle.std.specs.declared.string.String.{String}
+use Rattle.std.specs.declared.vec.Vec.{Vec}
+use Rattle.std.proofs.lemmas.List.{take_more, map_push}
+use Rattle.std.proofs.lemmas.Option.{slice_get-map, slice_get_within, get_or_from_slice_get}
+use Rattle.fb_model.specs.Typing.{names_of}
+use Rattle.fb_types.specs.fb_blocks.Views.{event_of}
+use Rattle.fb_types.specs.fb_blocks.declared.fault.TypeFault.{TypeFault}
+use Rattle.fb_types.specs.fb_blocks.declared.fault.TypeFault.TheVariants.{OutOfMemory, UnknownName, DuplicateName, TypeMismatch, BadLiteral, NotWritable, BadConnection, TwoSources, BadService, RecursiveComposite, Limit, ChannelShape}
+use Rattle.fb_flat.specs.Leaves.{IsLimitAt}
 
 -- ---- lists
 
--- what is so of all is so of the one at an index
-pub all_at : {X Y : Type 0} (P : Y → Type 0) (f : X → Y) (xs : List X) (i : ℕ) (x : X) → AllByRecursion P (map f xs) → i < length xs → x ≡ get_or xs i x → P (f x)
-all_at P f [] i x h l e = absurd (omega arith)
-all_at P f (y ∷ xs) zero x h l e = let s : y ≡ x = cc in subst (λ z. P (f z)) s h.0
-all_at P f (y ∷ xs) (suc i) x h l e = all_at P f xs i x h.1 (omega arith) e
+pub take_got : {X : Type 0} (xs : List X) (i : ℕ) (x : X) → slice_get xs i ≡ Some x → take (i + 1) xs ≡ take i xs ++ x ∷ []
+take_got xs i x h = take_more xs i x (slice_get_within xs i x h) ∙ ap (λ y. take i xs ++ y ∷ []) (get_or_from_slice_get xs i x x h)
+
+pub mapped_more : {X Y : Type 0} (f : X → Y) (xs : List X) (i : ℕ) (x : X) → i < length xs → x ≡ get_or xs i x → map f (take (i + 1) xs) ≡ map f (take i xs) ++ f x ∷ []
+mapped_more f xs i x h e = ap (map f) (take_more xs i x h ∙ ap (λ y. take i xs ++ y ∷ []) (sym e)) ∙ map_push f (take i xs) x
 
 pub any_here : {X : Type 0} (P : X → Type 0) (xs : List X) (i : ℕ) (x : X) → i < length xs → x ≡ get_or xs i x → P x → Any P xs
 any_here P xs i x l e p = (i, x, l, sym e, p)
+
+-- ---- events
+
+abbrev Entries : Type 0
+Entries = List (String Global × Vec (String Global) Global)
+
+named : (es : Entries) → map (λ p. string_bytes p.0) es ≡ names_of (map (λ p. event_of (string_bytes p.0) p.1.items) es)
+named [] = refl
+named (e ∷ es) = ap (λ ns. string_bytes e.0 ∷ ns) (named es)
+
+-- the name of the event at an index
+pub named_at : (es : Entries) (i : ℕ) → option_map (λ p. string_bytes p.0) (slice_get es i) ≡ slice_get (names_of (map (λ p. event_of (string_bytes p.0) p.1.items) es)) i
+named_at es i = sym (slice_get-map (λ p. string_bytes p.0) es i) ∙ ap (λ ns. slice_get ns i) (named es)
 
 -- ---- refusals
 
@@ -45,47 +52,3 @@ limit_weaker P Q (TwoSources offset) g h = absurd h
 limit_weaker P Q (BadService offset) g h = absurd h
 limit_weaker P Q (RecursiveComposite offset) g h = absurd h
 limit_weaker P Q (ChannelShape offset) g h = absurd h
-
--- a limit at a place is a limit
-pub limit_alone : (P : ℕ → Type 0) (f : TypeFault) → IsLimitAt P f → IsLimit f
-limit_alone P OutOfMemory h = tt
-limit_alone P (Limit offset) h = tt
-limit_alone P (UnknownName offset) h = absurd h
-limit_alone P (DuplicateName offset) h = absurd h
-limit_alone P (TypeMismatch offset) h = absurd h
-limit_alone P (BadLiteral offset) h = absurd h
-limit_alone P (NotWritable offset) h = absurd h
-limit_alone P (BadConnection offset) h = absurd h
-limit_alone P (TwoSources offset) h = absurd h
-limit_alone P (BadService offset) h = absurd h
-limit_alone P (RecursiveComposite offset) h = absurd h
-limit_alone P (ChannelShape offset) h = absurd h
-
--- ---- tables
-
--- tables of a resource on its path, filled as its connections lead, are those of the book
-pub resource_is : (n : ℕ) (device : Name) (r : Resource) (f : FlatResource) → string_bytes f.path ≡ dotted device (string_bytes r.name) → IsWord device → IsPlainResource (resource_of r)
-    → AreLed (string_bytes f.path) r.instances.items r.events.items f.leaves.items
-    → IsResource n (device ∷ []) f (resource_of r)
-resource_is n device r f e w plain h =
-    let p = device ∷ string_bytes r.name ∷ [] in
-    let is = r.instances.items in
-    let read : names_in (string_bytes f.path) ≡ p = ap names_in e ∙ names_dotted device (string_bytes r.name) plain.name ∙ ap (λ q. q ++ string_bytes r.name ∷ []) (word_alone device w) in
-    let words : AreWords (names_in_order is) = subst AreWords (names_are is) plain.words in
-    let apart : AreDistinct (names_in_order is) = subst AreDistinct (names_are is) plain.apart in
-    record {
-      path_is = read;
-      leaves = leaves_are (string_bytes f.path) p n (led p is r.events.items) (λ j port other. other) is f.leaves.items read words (h p (record { path_is = read; words = words; apart = apart }));
-    }
-
-pub more_resources : (n : ℕ) (path : Path) (fs : List FlatResource) (rs : List book.Resource) (f : FlatResource) (r : book.Resource) → AreResources n path fs rs → ((k : ℕ) → IsResource k path f r) → AreResources n path (fs ++ f ∷ []) (rs ++ r ∷ [])
-more_resources n path [] [] f r h k = (k n, tt)
-more_resources n path [] (q ∷ rs) f r h k = absurd h
-more_resources n path (g ∷ fs) [] f r h k = absurd h
-more_resources n path (g ∷ fs) (q ∷ rs) f r h k = (h.0, more_resources (n + 1) path fs rs f r h.1 k)
-
-pub more_devices : (fs : List FlatDevice) (ds : List book.Device) (f : FlatDevice) (d : book.Device) → AreDevices fs ds → IsDevice f d → AreDevices (fs ++ f ∷ []) (ds ++ d ∷ [])
-more_devices [] [] f d h k = (k, tt)
-more_devices [] (e ∷ ds) f d h k = absurd h
-more_devices (g ∷ fs) [] f d h k = absurd h
-more_devices (g ∷ fs) (e ∷ ds) f d h k = (h.0, more_devices fs ds f d h.1 k)

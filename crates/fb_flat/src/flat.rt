@@ -1,6 +1,8 @@
-//! Leaves and target lists.
+//! Leaves and their wires.
 
-use fb_types::Body;
+use fb_networks::fb_services::fb_blocks::Block;
+use fb_networks::fb_services::Service;
+use std::rc::Rc;
 
 /// An event input of a leaf that an event output leads to: the leaf's path and the event.
 #[derive(Debug, Drop)]
@@ -17,6 +19,31 @@ pub struct Output {
     pub targets: Vec<Target>,
 }
 
+/// Where the value of a data input comes from.
+#[derive(Debug, Drop)]
+pub enum Source {
+    /// A data output of a leaf: the leaf's path (names joined by dots) and the output's name.
+    Output(String, String),
+    /// A constant: one number.
+    Number(i64),
+    /// The elements of an array that is not connected: zeros, from the lowest index to the highest.
+    Zeros(i64, i64),
+}
+
+/// A data input of a leaf, and where its value comes from.
+#[derive(Debug, Drop)]
+pub struct Input {
+    pub name: String,
+    pub source: Source,
+}
+
+/// What a leaf is.
+#[derive(Debug, Drop)]
+pub enum Body {
+    Basic(Rc<Block>),
+    Served(Service),
+}
+
 /// A basic or service instance.
 #[derive(Debug, Drop)]
 pub struct Leaf {
@@ -25,9 +52,11 @@ pub struct Leaf {
     pub body: Body,
     /// Its event outputs, in the order of its type.
     pub outputs: Vec<Output>,
+    /// Its data inputs, in the order of its type.
+    pub inputs: Vec<Input>,
 }
 
-/// A resource and its leaves in text order. Its path is the device's and its own name, joined by a dot.
+/// A resource and its leaves, depth first in text order. Its path is the device's and its own name, joined by a dot.
 #[derive(Debug, Drop)]
 pub struct FlatResource {
     pub path: String,

@@ -1,96 +1,340 @@
-//! The leaves of a resource.
+//! The leaves of a system.
 
-ghost use Rattle.std.specs.Prelude.{◌≡◌, [], string_bytes, IfOk};
-ghost use Rattle.fb_flat.specs.Views.{dotted};
-ghost use Rattle.fb_flat.specs.Leaves.{output_names};
-ghost use Rattle.fb_flat.specs.Filling.{AreUnled, IsFilled, AreFilled};
-ghost use Rattle.fb_types.specs.Views.{names_of, body_of};
-ghost use Rattle.fb_model.specs.Typing.{event_outputs_of};
+ghost use Rattle.std.specs.Prelude.{◌≡◌, ◌+◌, ◌<◌, ◌≤◌, ◌∷◌, ◌++◌, [], OnOk, IfOk, IfErr, map, string_bytes};
+ghost use Rattle.std.specs.Prelude.{slice_get};
+ghost use Rattle.std.specs.Option.{option_map};
+ghost use Rattle.std.specs.List.{AllByRecursion, Any};
+ghost use Rattle.fb_model.specs.System.{Basic, Served};
+ghost use Rattle.fb_model.specs.Typing.{names_of};
+ghost use Rattle.fb_types.specs.fb_blocks.Views.{block_of, events_of};
+ghost use Rattle.fb_types.specs.fb_services.Views.{service_of};
+ghost use Rattle.fb_types.specs.fb_networks.Views.{body_of};
+ghost use Rattle.fb_types.specs.Views.{resource_of, device_of, system_of};
+ghost use Rattle.fb_model.specs.Wires.{sum_by, count_of, resource_count};
+ghost use Rattle.fb_types.specs.fb_networks.declared.typed.Body.{out-Body};
+ghost use Rattle.fb_flat.specs.declared.site.Around.{Nothing};
+ghost use Rattle.fb_flat.specs.declared.lookup.Inside.TheVariants as within;
+ghost use Rattle.fb_flat.specs.Indexes.{IsInside};
+ghost use Rattle.fb_flat.specs.Sites.{path_of, text_of, left_by, left_count};
+ghost use Rattle.fb_flat.specs.Walks.{spots_of, IsStop};
+ghost use Rattle.fb_flat.specs.Sources.{fed_by};
+ghost use Rattle.fb_flat.specs.Leaves.{Written, led, kind_of, output_of, leaf_of, leaves_at, held_by, composed, flat_resource, flat_device, written_resource, written_device, IsFull, IsLimitAt};
+ghost use Rattle.fb_model.specs.Wires.{most_followed};
 
-use crate::flat::{Leaf, Output};
-use fb_types::{Body, Instance};
-use indexmap::IndexSet;
+use crate::flat::{Body, Flat, FlatDevice, FlatResource, Leaf, Output};
+use crate::inputs::{inputs, service_names, variable_names};
+use crate::leave::leave;
+use crate::lookup::{Indexed, Inside, index};
+use crate::site::{Around, Trail, text};
+use crate::walk::{Stop, Walk};
+use fb_networks::fb_services::fb_blocks::{Block, Events, TypeFault};
+use fb_networks::{Instance, Network};
+use fb_networks::fb_services::Service;
+use fb_types::{Device, Resource, Typed};
+use fb_words::ElemType;
 use std::alloc::{AllocError, Global};
+use std::rc::Rc;
 
-/// A path and a name behind it, joined by a dot.
-pub fn joined(alloc: Global, path: &str, name: &str) -> Result<String, AllocError>
-    ensures { IfOk result (λ s. string_bytes s ≡ dotted path.now name.now) }
-{
-    let mut text = String::from_str(alloc, path)?;
-    text.push_str(".")?;
-    text.push_str(name)?;
-    Ok(text)
+/// The most connections that are followed in a resource.
+pub const FOLLOWED: usize = 8192;
+
+// The leaves so far of a resource, and how many connections may still be followed.
+#[derive(Drop)]
+struct Table {
+    leaves: Vec<Leaf>,
+    left: usize,
 }
 
-// Another owner of the same body.
-fn shared(body: &Body) -> Result<Body, AllocError>
-    ensures { IfOk result (λ b. body_of b ≡ body_of body.now) }
+// The same types again.
+fn copied(alloc: Global, types: &Vec<ElemType>) -> Result<Vec<ElemType>, AllocError>
+    ensures { IfOk result (λ v. v.items ≡ types.now.items) }
 {
-    match body {
-        Body::Basic(block) => Ok(Body::Basic(block.clone()?)),
-        Body::Input(number) => Ok(Body::Input(*number)),
+    let mut copy = Vec::new(alloc);
+    for of in types {
+        copy.push(*of)?;
+    }
+    Ok(copy)
+}
+
+// The same service again.
+fn again(alloc: Global, service: &Service) -> Result<Service, AllocError>
+    ensures { IfOk result (λ s. service_of s ≡ service_of service.now) }
+{
+    match service {
+        Service::Input(number, types) => Ok(Service::Input(*number, copied(alloc, types)?)),
+        Service::Output(number, types) => Ok(Service::Output(*number, copied(alloc, types)?)),
+        Service::Publish(channel, types) => Ok(Service::Publish(*channel, copied(alloc, types)?)),
+        Service::Subscribe(channel, types) => {
+            Ok(Service::Subscribe(*channel, copied(alloc, types)?))
+        }
+        Service::Delay => Ok(Service::Delay),
+        Service::Cycle => Ok(Service::Cycle),
+        Service::Restart => Ok(Service::Restart),
     }
 }
 
-// An output that leads nowhere yet.
-fn output(alloc: Global, name: &str) -> Result<Output, AllocError>
-    ensures name { IfOk result (λ o. string_bytes o.name ≡ name.now) }
-    ensures unled { IfOk result (λ o. o.targets.items ≡ []) }
+// The name of the event at an index.
+fn name_at(events: &Events, index: usize) -> Option<&str>
+    ensures { option_map (λ s. s.now) result ≡ slice_get (names_of (events_of events.now)) index }
 {
-    Ok(Output {
-        name: String::from_str(alloc, name)?,
+    let (name, _) = events.get_index(index)?;
+    Some(name.as_str())
+}
+
+// The names of events, in order.
+fn names(alloc: Global, events: &Events) -> Result<Vec<&str>, AllocError>
+    ensures { IfOk result (λ v. map (λ s. s.now) v.items ≡ names_of (events_of events.now)) }
+{
+    let mut names = Vec::new(alloc);
+    for index in 0..events.len() {
+        match name_at(events, index) {
+            Some(name) => names.push(name)?,
+            None => return Ok(names),
+        }
+    }
+    Ok(names)
+}
+
+// An event output of a leaf, with all that it leads to.
+fn output(name: &str, around: &Around, left: &mut usize, alloc: Global) -> Result<Output, Stop>
+    ensures gives { IfOk result (λ o. output_of o ≡ (name.now, spots_of (left_by around.now name.now))) }
+    ensures counted { OnOk result (left.new + left_count around.now name.now ≡ left.old) }
+    ensures refused { IfErr result (IsStop (left.old < left_count around.now name.now)) }
+{
+    let mut walk = Walk {
         targets: Vec::new(alloc),
+        left: *left,
+    };
+    leave(around, name, &mut walk, alloc)?;
+    *left = walk.left;
+    let name = String::from_str(alloc, name)?;
+    Ok(Output {
+        name,
+        targets: walk.targets,
     })
 }
 
-// The outputs of a set of names, in order.
-fn named(alloc: Global, names: &IndexSet<String>) -> Result<Vec<Output>, AllocError>
-    ensures names { IfOk result (λ v. output_names v.items ≡ names_of names.now) }
-    ensures unled { IfOk result (λ v. AreUnled v.items) }
+// Event outputs of a leaf, with all that they lead to.
+fn outputs(
+    names: &[&str],
+    around: &Around,
+    left: &mut usize,
+    alloc: Global,
+) -> Result<Vec<Output>, Stop>
+    ensures gives { IfOk result (λ v. map output_of v.items ≡ led (left_by around.now) (map (λ s. s.now) names.now)) }
+    ensures counted { OnOk result (left.new + sum_by (left_count around.now) (map (λ s. s.now) names.now) ≡ left.old) }
+    ensures refused { IfErr result (IsStop (left.old < sum_by (left_count around.now) (map (λ s. s.now) names.now))) }
 {
     let mut outputs = Vec::new(alloc);
-    for index in 0..names.len() {
-        let Some(name) = names.get_index(index) else {
-            return Ok(outputs);
-        };
-        outputs.push(output(alloc, name.as_str())?)?;
+    for name in names {
+        outputs.push(output(*name, around, left, alloc)?)?;
     }
     Ok(outputs)
 }
 
-// The event outputs of a body, in order.
-fn outputs(alloc: Global, body: &Body) -> Result<Vec<Output>, AllocError>
-    ensures names { IfOk result (λ v. output_names v.items ≡ event_outputs_of (body_of body.now)) }
-    ensures unled { IfOk result (λ v. AreUnled v.items) }
+// Adds a leaf.
+fn add(
+    table: &mut Table,
+    body: Body,
+    names: &[&str],
+    taken: &[String],
+    trail: &Trail,
+    around: &Around,
+    alloc: Global,
+) -> Result<(), Stop>
+    ensures added { OnOk result (map leaf_of table.new.leaves.items ≡ map leaf_of table.old.leaves.items ++ record { path = text_of (path_of trail.now); kind = kind_of body; outputs = led (left_by around.now) (map (λ s. s.now) names.now); inputs = fed_by (held_by around.now) (map string_bytes taken.now) } ∷ []) }
+    ensures counted { OnOk result (table.new.left + sum_by (left_count around.now) (map (λ s. s.now) names.now) ≡ table.old.left) }
+    ensures refused { IfErr result (IsStop (table.old.left < sum_by (left_count around.now) (map (λ s. s.now) names.now))) }
 {
-    match body {
-        Body::Basic(block) => named(alloc, &block.event_outputs),
-        Body::Input(_) => {
-            let mut outputs = Vec::new(alloc);
-            outputs.push(output(alloc, "IND")?)?;
-            Ok(outputs)
-        }
+    let outputs = outputs(names, around, &mut table.left, alloc)?;
+    let inputs = inputs(taken, around, alloc)?;
+    let path = text(trail, alloc)?;
+    table.leaves.push(Leaf {
+        path,
+        body,
+        outputs,
+        inputs,
+    })?;
+    Ok(())
+}
+
+// Adds the leaf of a basic instance.
+fn add_block(
+    table: &mut Table,
+    block: &Rc<Block>,
+    trail: &Trail,
+    around: &Around,
+    alloc: Global,
+) -> Result<(), Stop>
+    ensures added { OnOk result (map leaf_of table.new.leaves.items ≡ map leaf_of table.old.leaves.items ++ leaves_at (Basic (block_of block.now.value)) trail.now around.now) }
+    ensures counted { OnOk result (table.new.left + count_of (Basic (block_of block.now.value)) (left_count around.now) ≡ table.old.left) }
+    ensures refused { IfErr result (IsStop (table.old.left < count_of (Basic (block_of block.now.value)) (left_count around.now))) }
+{
+    let names = names(alloc, &block.face.event_outputs)?;
+    let taken = variable_names(alloc, &block.face.inputs)?;
+    add(
+        table,
+        Body::Basic(block.clone()?),
+        &names,
+        &taken,
+        trail,
+        around,
+        alloc,
+    )
+}
+
+// Adds the leaf of a service instance.
+fn add_service(
+    table: &mut Table,
+    service: &Service,
+    trail: &Trail,
+    around: &Around,
+    alloc: Global,
+) -> Result<(), Stop>
+    ensures added { OnOk result (map leaf_of table.new.leaves.items ≡ map leaf_of table.old.leaves.items ++ leaves_at (Served (service_of service.now)) trail.now around.now) }
+    ensures counted { OnOk result (table.new.left + count_of (Served (service_of service.now)) (left_count around.now) ≡ table.old.left) }
+    ensures refused { IfErr result (IsStop (table.old.left < count_of (Served (service_of service.now)) (left_count around.now))) }
+{
+    let taken = service_names(alloc, service)?;
+    add(
+        table,
+        Body::Served(again(alloc, service)?),
+        service.event_outputs(),
+        &taken,
+        trail,
+        around,
+        alloc,
+    )
+}
+
+// Adds the leaf of an instance that is no composite.
+fn add_leaf(
+    instance: &Instance,
+    trail: &Trail,
+    around: &Around,
+    table: &mut Table,
+    alloc: Global,
+) -> Result<(), Stop>
+    requires { IsInside (out-Body instance.now.body) within.Leaf }
+    ensures added { OnOk result (map leaf_of table.new.leaves.items ≡ map leaf_of table.old.leaves.items ++ leaves_at (body_of instance.now.body) trail.now around.now) }
+    ensures counted { OnOk result (table.new.left + count_of (body_of instance.now.body) (left_count around.now) ≡ table.old.left) }
+    ensures refused { IfErr result (IsStop (table.old.left < count_of (body_of instance.now.body) (left_count around.now))) }
+{
+    match &instance.body {
+        fb_networks::Body::Basic(block) => add_block(table, block, trail, around, alloc),
+        fb_networks::Body::Served(service) => add_service(
+            table, service, trail, around, alloc,
+        ),
+        fb_networks::Body::Composite(_, _) => unreachable!(),
     }
 }
 
-// The leaf of an instance.
-fn leaf(alloc: Global, path: &str, instance: &Instance) -> Result<Leaf, AllocError>
-    ensures { IfOk result (λ l. IsFilled path.now instance.now (λ o. []) l) }
+// Adds the leaves of an instance, on its trail.
+#[cycle(collecting)]
+fn collect<'a, 'n>(
+    instance: &Instance,
+    inside: &Inside<'n>,
+    trail: &Trail,
+    around: &Around<'a, 'n>,
+    table: &mut Table,
+    alloc: Global,
+) -> Result<(), Stop>
+    requires { IsInside (out-Body instance.now.body) inside.now }
+    ensures added { OnOk result (map leaf_of table.new.leaves.items ≡ map leaf_of table.old.leaves.items ++ leaves_at (body_of instance.now.body) trail.now around.now) }
+    ensures counted { OnOk result (table.new.left + count_of (body_of instance.now.body) (left_count around.now) ≡ table.old.left) }
+    ensures refused { IfErr result (IsStop (table.old.left < count_of (body_of instance.now.body) (left_count around.now))) }
 {
-    Ok(Leaf {
-        path: joined(alloc, path, instance.name.as_str())?,
-        body: shared(&instance.body)?,
-        outputs: outputs(alloc, &instance.body)?,
-    })
+    match inside {
+        Inside::Leaf => add_leaf(instance, trail, around, table, alloc),
+        Inside::Composite(_, indexed) => collect_all(indexed, trail, around, table, alloc),
+    }
 }
 
-/// The leaves of a resource's instances, in text order. No output leads anywhere yet.
-pub fn leaves(alloc: Global, path: &str, instances: &[Instance]) -> Result<Vec<Leaf>, AllocError>
-    ensures { IfOk result (λ v. AreFilled path.now (λ i o. []) instances.now v.items) }
+// Adds the leaves of a network, on its trail.
+#[cycle(collecting)]
+fn collect_all<'a, 'n>(
+    indexed: &Indexed<'n>,
+    trail: &Trail,
+    around: &Around<'a, 'n>,
+    table: &mut Table,
+    alloc: Global,
+) -> Result<(), Stop>
+    ensures added { OnOk result (map leaf_of table.new.leaves.items ≡ map leaf_of table.old.leaves.items ++ leaves_at (composed indexed.now) trail.now around.now) }
+    ensures counted { OnOk result (table.new.left + count_of (composed indexed.now) (left_count around.now) ≡ table.old.left) }
+    ensures refused { IfErr result (IsStop (table.old.left < count_of (composed indexed.now) (left_count around.now))) }
 {
-    let mut leaves = Vec::new(alloc);
-    for instance in instances {
-        leaves.push(leaf(alloc, path, instance)?)?;
+    for (place, instance) in indexed.instances().iter().enumerate() {
+        let inside = Trail::Inside(instance.name.as_str(), &*trail);
+        let level = Around::Level(&*indexed, &*instance, &*trail, &*around);
+        collect(
+            instance,
+            indexed.inside(place),
+            &inside,
+            &level,
+            table,
+            alloc,
+        )?;
     }
-    Ok(leaves)
+    Ok(())
+}
+
+// The leaves of a network in a resource.
+fn leaves(network: &Network, trail: &Trail, alloc: Global) -> Result<Vec<Leaf>, Stop>
+    ensures gives { IfOk result (λ v. map leaf_of v.items ≡ leaves_at (composed network.now) trail.now Nothing) }
+    ensures few { OnOk result (count_of (composed network.now) (λ o. 0) ≤ most_followed) }
+    ensures refused { IfErr result (IsStop (most_followed < count_of (composed network.now) (λ o. 0))) }
+{
+    let mut table = Table {
+        leaves: Vec::new(alloc),
+        left: FOLLOWED,
+    };
+    let indexed = index(alloc, network)?;
+    collect_all(&indexed, trail, &Around::Nothing, &mut table, alloc)?;
+    Ok(table.leaves)
+}
+
+// A resource and its leaves, on the path of its device.
+fn resource(alloc: Global, device: &str, source: &Resource) -> Result<FlatResource, TypeFault>
+    ensures written { IfOk result (λ f. flat_resource f ≡ written_resource device.now (resource_of source.now)) }
+    ensures few { OnOk result (resource_count (resource_of source.now) ≤ most_followed) }
+    ensures refused { IfErr result (IsLimitAt (IsFull source.now)) }
+{
+    let trail = Trail::Resource(device, source.name.as_str());
+    match leaves(&source.network, &trail, alloc) {
+        Ok(leaves) => Ok(FlatResource {
+            path: text(&trail, alloc)?,
+            leaves,
+        }),
+        Err(Stop::OutOfMemory) => Err(TypeFault::OutOfMemory),
+        Err(Stop::Full) => Err(TypeFault::Limit(source.at)),
+    }
+}
+
+// A device: its resources in order.
+fn device(alloc: Global, source: &Device) -> Result<FlatDevice, TypeFault>
+    ensures written { IfOk result (λ f. flat_device f ≡ written_device (device_of source.now)) }
+    ensures few { OnOk result (AllByRecursion (λ r. resource_count r ≤ most_followed) (device_of source.now).resources) }
+    ensures refused { IfErr result (IsLimitAt (λ at. Any (λ r. IsFull r at) source.now.resources.items)) }
+{
+    let mut resources = Vec::new(alloc);
+    for resource_source in &source.resources {
+        resources.push(resource(alloc, source.name.as_str(), resource_source)?)?;
+    }
+    let name = source.name.clone()?;
+    Ok(FlatDevice { name, resources })
+}
+
+/// The leaves of a system and their wires, in text order.
+///
+/// More than [`FOLLOWED`] followings of connections in a resource are refused with `Limit` at its name.
+pub fn flatten(alloc: Global, typed: &Typed) -> Result<Flat, TypeFault>
+    ensures leaves { IfOk result (λ f. map flat_device f.devices.items ≡ map written_device (system_of typed.now).devices) }
+    ensures few { OnOk result (AllByRecursion (λ d. AllByRecursion (λ r. resource_count r ≤ most_followed) d.resources) (system_of typed.now).devices) }
+    ensures refused { IfErr result (IsLimitAt (λ at. Any (λ d. Any (λ r. IsFull r at) d.resources.items) typed.now.devices.items)) }
+{
+    let mut devices = Vec::new(alloc);
+    for source in &typed.devices {
+        devices.push(device(alloc, source)?)?;
+    }
+    Ok(Flat { devices })
 }

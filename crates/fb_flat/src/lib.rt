@@ -1,13 +1,25 @@
-//! The leaves of a system and where their event outputs lead.
+//! The leaves of a system, where their event outputs lead, and where their data inputs take their values from.
 #![tactic(auto)]
 
+mod bundle;
+mod constant;
+mod enter;
 mod flat;
+mod give;
+mod hold;
+mod inputs;
+mod laws;
+mod leave;
 mod leaves;
-mod targets;
+mod lookup;
+mod place;
+mod site;
+#[cfg(test)]
+mod tests;
+mod walk;
 
-pub use flat::{Flat, FlatDevice, FlatResource, Leaf, Output, Target};
-pub use leaves::joined;
-pub use targets::flatten;
-
-/// The most connections that are followed in a resource, over all outputs of its leaves.
-pub const CONNECTIONS: usize = 8192;
+pub use fb_types;
+pub use flat::{Body, Flat, FlatDevice, FlatResource, Input, Leaf, Output, Source, Target};
+pub use laws::{all_inputs_are_written, paths_are_read_back, tables_are_leaves};
+pub use leaves::{FOLLOWED, flatten};
+pub use site::joined;

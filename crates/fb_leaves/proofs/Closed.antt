@@ -1,15 +1,16 @@
 -- Charts of well typed systems name states, events and outputs of their own block alone.
-use Rattle.std.proofs.Common.{◌≡◌, ℕ, ◌+◌, sym, ap, subst, refl, true, List, [], ◌∷◌, ◌++◌, map, Option, None, Some, ◌∙◌}
+use Rattle.std.proofs.Common.{◌≡◌, ◌≤◌, ℕ, ◌+◌, sym, ap, subst, refl, true, List, [], ◌∷◌, ◌++◌, map, length, Option, None, Some, ◌∙◌, arith}
 use Rattle.std.specs.List.{AllByRecursion}
 use Rattle.std.specs.Option.{option_map}
+use Rattle.std.proofs.lemmas.List.{length-map}
 use Rattle.fb_model.specs.Names.{Name, Path, Place, is_in}
 use Rattle.fb_model.specs.Productions.{Word}
 use Rattle.fb_model.specs.Trees.{ActionTree, StateTree}
 use Rattle.fb_model.specs.Declarations.{EventTree, InstanceTree, TransitionTree, ChartTree, BlockTree, ResourceTree, DeviceTree, SourceTree}
 use Rattle.fb_model.specs.TextTyping.{Entry}
 use Rattle.fb_model.specs.System.{Action, State, Transition, Parameter, Block, Body, Basic, Served, Composite, Instances, nothing, instance, Resource, Device, System, constant}
-use Rattle.fb_model.specs.Typing.{IsKnown, state_texts, typed_action, typed_state}
-use Rattle.fb_model.specs.BlockTyping.{event_texts, typed_event, algorithm_texts, IsActionTyped, AreTransitions, no_transition, a_transition, IsBasic}
+use Rattle.fb_model.specs.Typing.{IsKnown, AreNew, AreDistinct, most_ports, most_states, state_texts, typed_action, typed_state}
+use Rattle.fb_model.specs.BlockTyping.{names_in, event_texts, typed_event, algorithm_texts, IsActionTyped, AreTransitions, no_transition, a_transition, IsBasic}
 use Rattle.fb_model.specs.NetworkTyping.{IsMade, a_basic, a_composite, IsInstance, of_type, of_service, AreInstances, no_instance, an_instance, AreResources, no_resource, a_resource, IsDevice, AreDevices, no_device, a_device, ElaboratesWith}
 use Rattle.fb_model.specs.Wires.{Leaf, Source, Constant, followed, entered_in, fed, given_in, inputs_of, leaves_of, leaves_in, resource_leaves, leaves_from, leaves}
 use Rattle.fb_model.specs.Certificates.{names, event_names}
@@ -51,6 +52,16 @@ events_in : (env : List Entry) (states inputs : List Name) (cs : List Transition
 events_in env states inputs cs ds no_transition = tt
 events_in env states inputs cs ds (a_transition {c = c} {cs = rest} {ds = others} h more) = (subst (IsListed inputs) (sym h.event) (listed inputs c.event h.known_event), events_in env states inputs rest others more)
 
+front_new : (before xs ys : List Name) → AreNew before (xs ++ ys) → AreNew before xs
+front_new before [] ys h = tt
+front_new before (x ∷ xs) ys h = (h.0, front_new (before ++ x ∷ []) xs ys h.1)
+
+events_apart : (a b c d e : List Name) → AreDistinct ((((a ++ b) ++ c) ++ d) ++ e) → AreDistinct (a ++ b)
+events_apart a b c d e h = front_new [] (a ++ b) c (front_new [] ((a ++ b) ++ c) d (front_new [] (((a ++ b) ++ c) ++ d) e h))
+
+as_few : {X Y : Type 0} (f : X → Y) (xs : List X) (ys : List Y) (n : ℕ) → ys ≡ map f xs → length xs ≤ n → length ys ≤ n
+as_few f xs ys n e l = omega (arith, l, ap length e, length-map xs f)
+
 block_closed : (b : BlockTree) (c : ChartTree) (k : Block) → IsBasic b c k → IsClosedBlock k
 block_closed b c k h =
     let gives : event_texts b.event_outputs ≡ event_names k.event_outputs = sym (ap (λ f. event_names f.event_outputs) h.face.face ∙ events_named b.event_outputs) in
@@ -63,6 +74,14 @@ block_closed b c k h =
       sources = subst (λ (ns : List Name). AllByRecursion (λ (d : Transition). is_in d.source ns ≡ true) k.transitions) states (sources_in _ _ _ c.transitions k.transitions h.transitions);
       targets = subst (λ (ns : List Name). AllByRecursion (λ (d : Transition). is_in d.target ns ≡ true) k.transitions) states (targets_in _ _ _ c.transitions k.transitions h.transitions);
       events = subst (λ (ns : List Name). AllByRecursion (λ (d : Transition). IsListed ns d.event) k.transitions) takes (events_in _ _ _ c.transitions k.transitions h.transitions);
+      events_apart =
+          subst (λ (ins : List Name). AreDistinct (ins ++ event_names k.event_outputs)) takes
+          (subst (λ (outs : List Name). AreDistinct (event_texts b.event_inputs ++ outs)) gives
+          (events_apart (event_texts b.event_inputs) (event_texts b.event_outputs) (names_in h.ins) (names_in h.outs) (names_in h.inner) h.names));
+      states_apart = subst AreDistinct states h.state_names;
+      few_inputs = as_few typed_event b.event_inputs k.event_inputs most_ports (ap (λ f. f.event_inputs) h.face.face) h.face.few_event_inputs;
+      few_outputs = as_few typed_event b.event_outputs k.event_outputs most_ports (ap (λ f. f.event_outputs) h.face.face) h.face.few_event_outputs;
+      few_states = as_few typed_state c.states k.states most_states h.states h.few_states;
     }
 
 -- ---- bodies

@@ -7,3 +7,4 @@ pub mod Lying
 pub mod Ports
 pub mod Values
 pub mod Closed
+pub mod Few

@@ -10,7 +10,7 @@ use Rattle.fb_model.specs.NetworkTyping.{variable_named, outputs_of, no_face}
 use Rattle.fb_model.specs.Wires.{Kind, Charted, inputs_of}
 use Rattle.fb_model.specs.Store.{inputs, outputs, internals}
 use Rattle.fb_model.specs.Ranges.{IsBetween}
-use Rattle.fb_model.specs.Plain.{instance_names}
+use Rattle.fb_model.specs.System.{instance_names}
 use Rattle.fb_model.proofs.Placed.{Apart}
 
 -- each number of a value lies in a type

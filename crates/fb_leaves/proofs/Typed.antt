@@ -26,7 +26,7 @@ use Rattle.fb_model.specs.NetworkTyping.{variable_named, AreParameters, no_param
 use Rattle.fb_model.specs.Wires.{Kind, Charted, inputs_of}
 use Rattle.fb_model.specs.Store.{variable_names, inputs, outputs, internals}
 use Rattle.fb_model.specs.Ranges.{IsBetween}
-use Rattle.fb_model.specs.Plain.{instance_names}
+use Rattle.fb_model.specs.System.{instance_names}
 use Rattle.fb_model.proofs.Lists.{all_append, same_name}
 use Rattle.fb_model.proofs.Placed.{Apart, apart, name_same, all_left, all_right}
 use Rattle.fb_leaves.proofs.Made.{HasType, IsWider, StartsFit, variables, AreFirst, IsGoodKind, in_body, end_variable, body_has, end_known, IsEventLink, IsValueLink, IsParameter, IsWellMade, AreWellMade, IsWellResource, IsWellDevice}

@@ -17,7 +17,7 @@ use Rattle.fb_model.specs.Store.{variable_names, inputs, outputs, internals, fir
 use Rattle.fb_model.specs.Ranges.{IsBetween, Lies, AllLie, types_of, WritesFit, IsOutput, LinkFits, all_typed}
 use Rattle.fb_model.specs.Serving.{bit, set_value, receive}
 use Rattle.fb_model.specs.Certificates.{leaf_at}
-use Rattle.fb_model.specs.Plain.{instance_names}
+use Rattle.fb_model.specs.System.{instance_names}
 use Rattle.fb_model.proofs.Lists.{all_append, all_weaker, same_name, same_path}
 use Rattle.fb_model.proofs.Placed.{Apart, name_same, all_left, all_right}
 use Rattle.fb_leaves.specs.Leaves.{AreApart, LiesByTypes}

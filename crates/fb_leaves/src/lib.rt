@@ -1,7 +1,7 @@
 //! Laws about the leaves of well typed systems: their paths differ, outputs lead to event inputs, and values lie in their types.
 #![tactic(auto)]
 
-ghost use Rattle.std.specs.Prelude.{List};
+ghost use Rattle.std.specs.Prelude.{List, length, ◌≤◌};
 ghost use Rattle.std.specs.List.{AllByRecursion};
 ghost use Rattle.fb_model.specs.Declarations.{BlockTree, SourceTree};
 ghost use Rattle.fb_model.specs.System.{Device, System};
@@ -31,7 +31,12 @@ pub fn idle_leaves_lie()
     ensures { (ranges : List Range) (all : List Leaf) (leaf : Leaf) → LiesByTypes ranges all leaf → IsIdle leaf.kind → LeafLies ranges all leaf }
 {}
 
-/// The charts of a device's leaves name states, events and outputs of their own block alone.
+/// The charts of a device's leaves name states, events and outputs of their own block alone, which are few and apart.
 pub fn charts_are_closed()
     ensures { (library : List BlockTree) (source : SourceTree) (system : System) → ElaboratesWith library source system → AllByRecursion (λ (d : Device). AllByRecursion (λ (leaf : Leaf). IsClosed leaf.kind) (leaves d)) system.devices }
+{}
+
+/// A device has at most 16 resources, and at most 1,024 leaves for each of 16.
+pub fn leaves_are_few()
+    ensures { (library : List BlockTree) (source : SourceTree) (system : System) → ElaboratesWith library source system → AllByRecursion (λ (d : Device). (length (leaves d) ≤ 16384) × (length d.resources ≤ 16)) system.devices }
 {}

@@ -7,8 +7,8 @@ use Rattle.fb_spelled.specs.Words.{IsWordyDevice}
 use Rattle.fb_model.specs.Certificates as cert
 use Rattle.fb_model.specs.Certificates.{all_leaves, row_places, range_places, depth_paths, AreRowsOf, AllRows, ranged}
 use Rattle.fb_model.specs.CertificateText.{names_in, place_of}
-use Rattle.fb_wires.specs.declared.flat.FlatDevice.{FlatDevice}
-use Rattle.fb_wires.specs.Tables.{AreDevices}
+use Rattle.fb_flat.specs.declared.flat.FlatDevice.{FlatDevice}
+use Rattle.fb_flat.specs.Tables.{AreDevices}
 use Rattle.fb_cert.specs.declared.certificate.Amount.{Amount}
 use Rattle.fb_cert.specs.Views.{Table, Rows, amount_rows, depth_rows, book_of}
 use Rattle.fb_ledger.specs.declared.kind.RowKind.{RowKind}

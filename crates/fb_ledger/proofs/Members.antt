@@ -6,7 +6,7 @@ use Rattle.std.proofs.lemmas.Option.{slice_get_read}
 use Rattle.std.proofs.Math.Seq.{drop-cons}
 use Rattle.fb_model.specs.Names.{Name, is_in}
 use Rattle.fb_model.proofs.Lists.{same_name}
-use Rattle.fb_blocks.specs.Answers.{Extends}
+use Rattle.fb_flat.specs.fb_blocks.Answers.{Extends}
 use Rattle.fb_ledger.proofs.Names.{bytes_same}
 use Rattle.fb_ledger.specs.declared.fault.RowFault.{RowFault}
 use Rattle.fb_ledger.specs.declared.fault.RowFault.TheVariants.{OutOfMemory, Unknown, Missing}

@@ -7,16 +7,16 @@ use Rattle.fb_model.specs.Names.{Name, Path, Place, at_place, place_eq, is_in}
 use Rattle.fb_model.specs.System as book
 use Rattle.fb_model.specs.Wires as wires
 use Rattle.fb_model.specs.Wires.{Kind, Charted, Serviced, resource_leaves, leaves_from, leaves}
-use Rattle.fb_model.specs.Plain.{AreWords}
+use Rattle.fb_model.specs.Spelling.{AreWords}
 use Rattle.fb_model.specs.Certificates.{places_in, each_leaf, all_leaves, is_boolean, ranged_variables, of_kind, ranged, resource_paths, depth_paths}
 use Rattle.fb_model.specs.CertificateText.{names_in, place_of}
 use Rattle.fb_spelled.specs.Words.{IsWordyLeaf, IsWordyDevice}
-use Rattle.fb_wires.specs.declared.flat.Leaf.{Leaf}
-use Rattle.fb_wires.specs.declared.flat.FlatResource.{FlatResource}
-use Rattle.fb_wires.specs.declared.flat.FlatDevice.{FlatDevice}
-use Rattle.fb_wires.specs.Sites.{dotted}
-use Rattle.fb_wires.specs.Leaves.{kind_of}
-use Rattle.fb_wires.specs.Tables.{IsLeaf, AreLeaves, AreResources, AreDevices}
+use Rattle.fb_flat.specs.declared.flat.Leaf.{Leaf}
+use Rattle.fb_flat.specs.declared.flat.FlatResource.{FlatResource}
+use Rattle.fb_flat.specs.declared.flat.FlatDevice.{FlatDevice}
+use Rattle.fb_flat.specs.Sites.{dotted}
+use Rattle.fb_flat.specs.Leaves.{kind_of}
+use Rattle.fb_flat.specs.Tables.{IsLeaf, AreLeaves, AreResources, AreDevices}
 use Rattle.fb_ledger.specs.declared.kind.RowKind.{RowKind}
 use Rattle.fb_ledger.specs.declared.kind.RowKind.TheVariants.{Charge, Weight, Range, Depth}
 use Rattle.fb_ledger.specs.Texts.{texts_in, ranged_names, range_names, row_names, leaf_texts, resource_texts, device_texts, texts_of}

@@ -7,20 +7,20 @@ use Rattle.std.specs.declared.alloc.Global.{Global}
 use Rattle.fb_model.specs.Names.{Name, is_in}
 use Rattle.fb_model.specs.Certificates.{names, event_names, is_boolean}
 use Rattle.std.specs.declared.vec.Vec.{Vec}
-use Rattle.fb_blocks.specs.declared.typed.Action.{Action}
-use Rattle.fb_blocks.specs.declared.typed.Variable.{Variable}
-use Rattle.fb_blocks.specs.Views.{action_of, event_of, declared_of}
+use Rattle.fb_flat.specs.fb_blocks.declared.typed.Action.{Action}
+use Rattle.fb_flat.specs.fb_blocks.declared.typed.Variable.{Variable}
+use Rattle.fb_flat.specs.fb_blocks.Views.{action_of, event_of, declared_of}
 use Rattle.fb_model.specs.System as book
 use Rattle.fb_model.specs.Services.{service_events, service_event_inputs, arrivals}
 use Rattle.fb_model.specs.BlockTyping.{variable_of}
-use Rattle.fb_blocks.proofs.Lists.{any_map}
+use Rattle.fb_flat.proofs.of_fb_blocks.Lists.{any_map}
 use Rattle.fb_cert.specs.Views.{Table, first_at, Rows}
 use Rattle.fb_ledger.specs.declared.kind.RowKind.{RowKind}
 use Rattle.fb_ledger.specs.declared.kind.RowKind.TheVariants.{Charge, Weight, Range, Depth}
-use Rattle.fb_wires.specs.declared.flat.FlatDevice.{FlatDevice}
+use Rattle.fb_flat.specs.declared.flat.FlatDevice.{FlatDevice}
 use Rattle.fb_ledger.specs.Members.{HasSame}
 use Rattle.fb_ledger.specs.Texts.{paths, paths_of, texts_in, ranged_names, texts_of, HaveSameRows}
-use Rattle.fb_wires.specs.Sites.{dotted}
+use Rattle.fb_flat.specs.Sites.{dotted}
 use Rattle.fb_ledger.proofs.Members.{same_step}
 
 -- a table has a path just where it has a first row of it

@@ -5,7 +5,7 @@ use Rattle.fb_model.specs.Names.{Name, Path, Place, path_eq, place_eq, is_in}
 use Rattle.fb_model.specs.System.{System}
 use Rattle.fb_model.specs.Certificates.{Certificate, all_leaves, each_leaf, places_in, state_names, events_of, ranged, row_places, range_places, depth_rows, depth_paths, AreDifferent}
 use Rattle.fb_model.specs.CertificateText.{place_of, names_in}
-use Rattle.fb_wires.specs.Sites.{dotted}
+use Rattle.fb_flat.specs.Sites.{dotted}
 use Rattle.fb_ledger.specs.declared.fault.RowFault.{RowFault}
 use Rattle.fb_ledger.specs.declared.fault.RowFault.TheVariants.{OutOfMemory, Unknown, Missing}
 

@@ -5,11 +5,11 @@ use Rattle.fb_model.specs.Names.{Name}
 use Rattle.fb_model.specs.System as book
 use Rattle.fb_model.specs.Wires.{Kind, Charted, Serviced}
 use Rattle.fb_model.specs.Certificates.{state_names, events_of, is_boolean}
-use Rattle.fb_wires.specs.declared.flat.Leaf.{Leaf}
-use Rattle.fb_wires.specs.declared.flat.FlatResource.{FlatResource}
-use Rattle.fb_wires.specs.declared.flat.FlatDevice.{FlatDevice}
-use Rattle.fb_wires.specs.Sites.{dotted}
-use Rattle.fb_wires.specs.Leaves.{kind_of}
+use Rattle.fb_flat.specs.declared.flat.Leaf.{Leaf}
+use Rattle.fb_flat.specs.declared.flat.FlatResource.{FlatResource}
+use Rattle.fb_flat.specs.declared.flat.FlatDevice.{FlatDevice}
+use Rattle.fb_flat.specs.Sites.{dotted}
+use Rattle.fb_flat.specs.Leaves.{kind_of}
 use Rattle.fb_cert.specs.Views.{Rows, Table}
 use Rattle.fb_ledger.specs.declared.kind.RowKind.{RowKind}
 use Rattle.fb_ledger.specs.declared.kind.RowKind.TheVariants.{Charge, Weight, Range, Depth}

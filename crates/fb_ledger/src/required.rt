@@ -4,9 +4,9 @@ ghost use Rattle.std.specs.Prelude.{◌≡◌, ◌++◌, ◌∷◌, map, string_
 ghost use Rattle.std.specs.List.{flat_map};
 ghost use Rattle.fb_model.specs.Wires.{Charted, Serviced};
 ghost use Rattle.fb_model.specs.Certificates.{is_boolean as is_true};
-ghost use Rattle.fb_blocks.specs.Views.{names_of, variables_of, block_of};
-ghost use Rattle.fb_services.specs.Views.{service_of};
-ghost use Rattle.fb_wires.specs.Sites.{dotted};
+ghost use Rattle.fb_flat.specs.fb_blocks.Views.{names_of, variables_of, block_of};
+ghost use Rattle.fb_flat.specs.fb_services.Views.{service_of};
+ghost use Rattle.fb_flat.specs.Sites.{dotted};
 ghost use Rattle.fb_ledger.specs.declared.kind.RowKind.TheVariants.{Weight, Range};
 ghost use Rattle.fb_ledger.specs.Members.{HasSame};
 ghost use Rattle.fb_ledger.specs.Texts.{texts_in, ranged_names, row_names, leaf_texts, resource_texts, device_texts, texts_of};
@@ -14,9 +14,9 @@ ghost use Rattle.fb_ledger.specs.Faults.{IsMemory};
 
 use crate::fault::RowFault;
 use crate::kind::RowKind;
-use fb_blocks::{Block, Variables};
-use fb_services::Service;
-use fb_wires::{Body, Flat, FlatDevice, FlatResource, Leaf, joined};
+use fb_flat::fb_types::fb_networks::fb_services::fb_blocks::{Block, Variables};
+use fb_flat::fb_types::fb_networks::fb_services::Service;
+use fb_flat::{Body, Flat, FlatDevice, FlatResource, Leaf, joined};
 use fb_words::ElemType;
 use indexmap::{IndexMap, IndexSet};
 use std::alloc::Global;

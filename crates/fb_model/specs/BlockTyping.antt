@@ -6,15 +6,15 @@ use Rattle.std.specs.Option.{option_map}
 use Rattle.fb_words.specs.declared.elem_type.ElemType.{ElemType}
 use Rattle.fb_words.specs.declared.elem_type.ElemType.TheVariants as t
 use Rattle.fb_model.specs.Names.{Name, is_in}
-use Rattle.fb_model.specs.Values.{Value, One}
+use Rattle.fb_model.specs.Values.{One}
 use Rattle.fb_model.specs.Productions.{Word}
 use Rattle.fb_model.specs.Trees.{Constant, ActionTree, StateTree}
-use Rattle.fb_model.specs.Declarations.{EventTree, BoundsTree, StartTree, VariableTree, GuardTree, TransitionTree, AlgorithmTree, ChartTree, BodyTree, Chart, Network, BlockTree}
+use Rattle.fb_model.specs.Declarations.{EventTree, BoundsTree, StartTree, VariableTree, GuardTree, TransitionTree, AlgorithmTree, ChartTree, BlockTree}
 use Rattle.fb_model.specs.StructuredText.{literal}
 use Rattle.fb_model.specs.TypedText.{Term, constant}
 use Rattle.fb_model.specs.TextTyping.{Entry, IsAsked, IsNumber, AreCommands}
-use Rattle.fb_model.specs.System.{Variable, Event, Action, State, Transition, Procedure, Block, Face}
-use Rattle.fb_model.specs.Typing.{texts, AreDistinct, IsKnown, most_ports, most_states, most_transitions, typed_action, typed_state, state_texts}
+use Rattle.fb_model.specs.System.{Variable, Event, Transition, Procedure, Block, Face}
+use Rattle.fb_model.specs.Typing.{texts, AreDistinct, IsKnown, most_ports, most_states, most_transitions, typed_state, state_texts}
 
 -- ---- limits
 

@@ -25,7 +25,6 @@ pub mod Messages
 pub mod Serving
 pub mod Ranges
 pub mod Certificates
-pub mod Plain
 pub mod Devices
 pub mod Headline
 pub mod World

@@ -1,6 +1,6 @@
 -- When networks are well typed, and what they elaborate to: services, instances, connections, composites, resources, devices and systems.
 -- IEC 61499-1 edition 2, 5.3 (composite types), 6.1 (service interfaces) and 7 (configuration), this project's profile and its limits.
-use Rattle.std.specs.Prelude.{ℕ, suc, ◌+◌, ◌≡◌, ◌≤◌, ℤ, pos, Bool, true, false, not, ◌&&◌, ◌||◌, List, [], ◌∷◌, ◌++◌, map, length, Option, None, Some, codes, if◌then◌else◌}
+use Rattle.std.specs.Prelude.{ℕ, suc, ◌+◌, ◌≡◌, ◌≤◌, ℤ, pos, Bool, true, false, not, List, [], ◌∷◌, ◌++◌, map, length, Option, None, Some, codes, if◌then◌else◌}
 use Rattle.std.specs.List.{filter, list_any, AllByRecursion}
 use Rattle.std.specs.Str.{bytes_eq}
 use Rattle.fb_words.specs.declared.elem_type.ElemType.{ElemType}
@@ -8,9 +8,9 @@ use Rattle.fb_model.specs.Names.{Name, is_in}
 use Rattle.fb_model.specs.Values.{One}
 use Rattle.fb_model.specs.Productions.{Word}
 use Rattle.fb_model.specs.Trees.{ParameterTree, PortTree, ConnectionTree}
-use Rattle.fb_model.specs.Declarations.{ChartTree, InstanceTree, NetworkTree, BodyTree, Chart, Network, BlockTree, ResourceTree, DeviceTree, SourceTree}
+use Rattle.fb_model.specs.Declarations.{ChartTree, InstanceTree, NetworkTree, Chart, Network, BlockTree, ResourceTree, DeviceTree, SourceTree}
 use Rattle.fb_model.specs.TextTyping.{widens}
-use Rattle.fb_model.specs.System.{Variable, Event, Service, Input, Output, Publish, Subscribe, Delay, Cycle, Restart, End, Connection, Parameter, Face, Body, Basic, Served, Composite, Instances, nothing, instance, Resource, Device, System}
+use Rattle.fb_model.specs.System.{Variable, Service, Input, Output, Publish, Subscribe, Delay, Cycle, Restart, End, Connection, Parameter, Face, Body, Basic, Served, Composite, Instances, nothing, instance, Resource, Device, System}
 use Rattle.fb_model.specs.Services.{service_inputs, service_outputs}
 use Rattle.fb_model.specs.Typing.{AreDistinct, AreNewNumbers, service_names, IsWhole, IsId, names_of, event_inputs_of, event_outputs_of, body_named, most_instances}
 use Rattle.fb_model.specs.BlockTyping.{Declared, IsGiven, IsFace, face_names, IsBasic}

@@ -1,5 +1,6 @@
 -- Which characters spell which tokens: IEC 61131-3 edition 3, 6.1 and 6.3, this project's profile.
 use Rattle.std.specs.Prelude.{◌≡◌, ◌≢◌, ℕ, ◌+◌, ◌-◌, ◌*◌, ◌<◌, ◌≤◌, ◌^◌, List, [], ◌∷◌, ◌++◌, length, map, Bool, true, false, ◌==◌, ◌||◌, ◌&&◌, nat_le, nat_lt, Some, codes, if◌then◌else◌}
+use Rattle.std.specs.List.{AllByRecursion}
 use Rattle.std.specs.Char.{to_ascii_uppercase}
 use Rattle.std.specs.Str.{bytes_eq}
 use Rattle.fb_words.specs.declared.mark.Mark.{Mark}
@@ -42,6 +43,9 @@ pub data IsParts : List ℕ → Type 0 where
 
 pub data IsWord : List ℕ → Type 0 where
   word : {c : ℕ} {cs : List ℕ} → is_start c ≡ true → IsParts cs → IsWord (c ∷ cs)
+
+abbrev pub AreWords : List (List ℕ) → Type 0
+AreWords names = AllByRecursion IsWord names
 
 -- digits after those whose value is v, with one `_` between digits where one stands
 pub data IsDigits (base : ℕ) : ℕ → List ℕ → ℕ → Type 0 where

@@ -15,10 +15,6 @@ pub record Constant : Type 0 where
   pub value : Literal
   pub at : ℕ
 
--- an event of a block
-pub record EventTree : Type 0 where
-  pub name : Word
-
 -- an algorithm to run and an event output to emit
 pub record ActionTree : Type 0 where
   pub algorithm : Option Word
@@ -28,30 +24,11 @@ pub record StateTree : Type 0 where
   pub name : Word
   pub actions : List ActionTree
 
--- a transition without an event has the condition 1
-pub record TransitionTree : Type 0 where
-  pub source : Word
-  pub target : Word
-  pub event : Option Word
-
--- a basic block
-pub record BlockTree : Type 0 where
-  pub name : Word
-  pub event_inputs : List EventTree
-  pub event_outputs : List EventTree
-  pub states : List StateTree
-  pub transitions : List TransitionTree
-
 -- a parameter, with the place of its `:=`
 pub record ParameterTree : Type 0 where
   pub name : Word
   pub at : ℕ
   pub value : Constant
-
-pub record InstanceTree : Type 0 where
-  pub name : Word
-  pub type : Word
-  pub parameters : List ParameterTree
 
 -- an own port, or an instance and its port
 pub record PortTree : Type 0 where
@@ -63,21 +40,3 @@ pub record ConnectionTree : Type 0 where
   pub source : PortTree
   pub at : ℕ
   pub target : PortTree
-
-pub record ResourceTree : Type 0 where
-  pub name : Word
-  pub instances : List InstanceTree
-  pub events : List ConnectionTree
-
-pub record DeviceTree : Type 0 where
-  pub name : Word
-  pub resources : List ResourceTree
-
-pub record SystemTree : Type 0 where
-  pub name : Word
-  pub devices : List DeviceTree
-
--- a whole text: block types and one system
-pub record SourceTree : Type 0 where
-  pub blocks : List BlockTree
-  pub system : SystemTree

@@ -10,8 +10,8 @@ use Rattle.fb_model.specs.TextTyping.{widens}
 use Rattle.fb_model.specs.Typing.{names_of, event_inputs_of, event_outputs_of, body_named}
 use Rattle.fb_model.specs.Wires.{inputs_of}
 use Rattle.fb_model.specs.NetworkTyping.{variable_named, outputs_of, IsEnd, own_port, port_of, IsValueEnd, own_value, value_at, IsEventConnection, AreEventConnections, no_event, an_event, IsValueConnection, AreValueConnections, no_value, a_value, passes, is_taken}
-use Rattle.fb_blocks.specs.declared.fault.TypeFault.{TypeFault}
-use Rattle.fb_blocks.specs.declared.fault.TypeFault.TheVariants as faults
+use Rattle.fb_services.specs.fb_blocks.declared.fault.TypeFault.{TypeFault}
+use Rattle.fb_services.specs.fb_blocks.declared.fault.TypeFault.TheVariants as faults
 use Rattle.fb_networks.specs.declared.end.Way.{Way}
 use Rattle.fb_networks.specs.declared.end.Way.TheVariants as w
 use Rattle.fb_networks.specs.declared.end.Carried.{Carried}

@@ -6,7 +6,7 @@ use Rattle.std.proofs.lemmas.List.{append-nil, append_assoc, drop_all, length-ma
 use Rattle.fb_model.specs.Trees.{ConnectionTree}
 use Rattle.fb_model.specs.System.{Face, Instances, End, Connection}
 use Rattle.fb_model.specs.NetworkTyping.{IsEventConnection, AreEventConnections, no_event, an_event, IsValueConnection, AreValueConnections, no_value, a_value, is_taken}
-use Rattle.fb_blocks.specs.declared.fault.TypeFault.{TypeFault}
+use Rattle.fb_services.specs.fb_blocks.declared.fault.TypeFault.{TypeFault}
 use Rattle.fb_networks.specs.Refusals.{IsValueFault, IsValuesFault, this_value, later_value}
 
 -- what is so of the connections left, with the ends that have a value then, is so of all

@@ -4,10 +4,10 @@ use Rattle.std.proofs.lemmas.List.{append-nil, append_assoc}
 use Rattle.fb_model.specs.Names.{Name, is_in}
 use Rattle.fb_model.specs.Productions.{Word}
 use Rattle.fb_model.specs.Typing.{AreNew, texts}
-use Rattle.fb_blocks.specs.declared.fault.TypeFault.{TypeFault}
-use Rattle.fb_blocks.specs.declared.fault.TypeFault.TheVariants.{DuplicateName}
-use Rattle.fb_blocks.specs.Refusals.{repeated, IsRepetition}
-use Rattle.fb_blocks.proofs.Repeated.{from_behind}
+use Rattle.fb_services.specs.fb_blocks.declared.fault.TypeFault.{TypeFault}
+use Rattle.fb_services.specs.fb_blocks.declared.fault.TypeFault.TheVariants.{DuplicateName}
+use Rattle.fb_services.specs.fb_blocks.Refusals.{repeated, IsRepetition}
+use Rattle.fb_services.proofs.of_fb_blocks.Repeated.{from_behind}
 use Rattle.fb_networks.proofs.Tables.{is_in_both}
 
 -- what is so of the names left is so of all

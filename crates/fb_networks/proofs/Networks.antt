@@ -7,10 +7,10 @@ use Rattle.fb_model.specs.Services.{service_inputs}
 use Rattle.fb_model.specs.Typing.{service_names, AreNew}
 use Rattle.fb_model.specs.Wires.{inputs_of}
 use Rattle.fb_model.specs.NetworkTyping.{AreParameters, IsServed, a_service, IsService, lacking, reserved, instance_texts, given_in, AreEventConnections, AreValueConnections}
-use Rattle.fb_blocks.specs.declared.fault.TypeFault.{TypeFault}
-use Rattle.fb_blocks.specs.declared.fault.TypeFault.TheVariants as faults
-use Rattle.fb_blocks.proofs.Faultless.{no_repetition}
-use Rattle.fb_blocks.proofs.Lists.{map_map}
+use Rattle.fb_services.specs.fb_blocks.declared.fault.TypeFault.{TypeFault}
+use Rattle.fb_services.specs.fb_blocks.declared.fault.TypeFault.TheVariants as faults
+use Rattle.fb_services.proofs.of_fb_blocks.Faultless.{no_repetition}
+use Rattle.fb_services.proofs.of_fb_blocks.Lists.{map_map}
 use Rattle.fb_services.proofs.Services.{once, faultless, known}
 use Rattle.fb_networks.specs.declared.typed.Instance.{Instance}
 use Rattle.fb_networks.specs.declared.typed.Network.{Network}

@@ -8,10 +8,10 @@ use Rattle.fb_model.specs.Trees.{ParameterTree}
 use Rattle.fb_model.specs.System.{Variable, Parameter}
 use Rattle.fb_model.specs.BlockTyping.{IsGiven}
 use Rattle.fb_model.specs.NetworkTyping.{variable_named, lacking, AreParameters, no_parameter, a_parameter}
-use Rattle.fb_blocks.specs.declared.fault.TypeFault.{TypeFault}
-use Rattle.fb_blocks.specs.declared.fault.TypeFault.TheVariants as faults
-use Rattle.fb_blocks.proofs.Faultless.{not_both, not_misgiven}
-use Rattle.fb_blocks.proofs.Single.{one_given}
+use Rattle.fb_services.specs.fb_blocks.declared.fault.TypeFault.{TypeFault}
+use Rattle.fb_services.specs.fb_blocks.declared.fault.TypeFault.TheVariants as faults
+use Rattle.fb_services.proofs.of_fb_blocks.Faultless.{not_both, not_misgiven}
+use Rattle.fb_services.proofs.of_fb_blocks.Single.{one_given}
 use Rattle.fb_networks.specs.Answers.{IsParameter}
 use Rattle.fb_networks.specs.Refusals.{IsParameterFault, no_memory_for_parameter, unknown_input, given_again, misgiven, IsParametersFault, this_parameter, later_parameter}
 

@@ -12,8 +12,8 @@ use Rattle.fb_model.specs.Typing.{names_of}
 use Rattle.fb_model.specs.Store.{variable_names}
 use Rattle.fb_model.specs.BlockTyping.{variable_of}
 use Rattle.fb_model.specs.NetworkTyping.{variable_named}
-use Rattle.fb_blocks.specs.declared.typed.Variable.{Variable}
-use Rattle.fb_blocks.specs.Views.{event_of, declared_of}
+use Rattle.fb_services.specs.fb_blocks.declared.typed.Variable.{Variable}
+use Rattle.fb_services.specs.fb_blocks.Views.{event_of, declared_of}
 
 or_assoc : (a b c : Bool) → (a || b) || c ≡ a || (b || c)
 or_assoc true b c = refl

@@ -12,8 +12,8 @@ use Rattle.fb_model.specs.Services.{service_inputs}
 use Rattle.fb_model.specs.Wires.{inputs_of}
 use Rattle.fb_model.specs.BlockTyping.{IsGiven}
 use Rattle.fb_model.specs.NetworkTyping.{variable_named, reserved, AreParameters, IsServed, AreEventConnections, AreValueConnections, given_in, instance_texts}
-use Rattle.fb_blocks.specs.declared.fault.TypeFault.{TypeFault}
-use Rattle.fb_blocks.specs.declared.fault.TypeFault.TheVariants.{OutOfMemory}
+use Rattle.fb_services.specs.fb_blocks.declared.fault.TypeFault.{TypeFault}
+use Rattle.fb_services.specs.fb_blocks.declared.fault.TypeFault.TheVariants.{OutOfMemory}
 use Rattle.fb_services.specs.Views.{service_of}
 use Rattle.fb_networks.specs.declared.instance.Owner.{Owner}
 use Rattle.fb_networks.specs.declared.instance.Owner.TheVariants as o

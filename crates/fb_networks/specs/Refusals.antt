@@ -8,9 +8,9 @@ use Rattle.fb_model.specs.Trees.{PortTree, ConnectionTree, ParameterTree}
 use Rattle.fb_model.specs.Declarations.{InstanceTree, NetworkTree}
 use Rattle.fb_model.specs.System.{Face, Body, Instances, End, Connection, Variable, Service}
 use Rattle.fb_model.specs.Typing.{body_named}
-use Rattle.fb_blocks.specs.declared.fault.TypeFault.{TypeFault}
-use Rattle.fb_blocks.specs.declared.fault.TypeFault.TheVariants.{OutOfMemory, UnknownName, TypeMismatch, BadConnection, TwoSources}
-use Rattle.fb_blocks.specs.Refusals.{IsRepetition, IsMisgiven}
+use Rattle.fb_services.specs.fb_blocks.declared.fault.TypeFault.{TypeFault}
+use Rattle.fb_services.specs.fb_blocks.declared.fault.TypeFault.TheVariants.{OutOfMemory, UnknownName, TypeMismatch, BadConnection, TwoSources}
+use Rattle.fb_services.specs.fb_blocks.Refusals.{IsRepetition, IsMisgiven}
 use Rattle.fb_services.specs.Refusals.{IsBareFault, IsServiceFault}
 use Rattle.fb_networks.specs.Views.{Placed, placed_in}
 use Rattle.fb_networks.specs.Answers.{own_names}

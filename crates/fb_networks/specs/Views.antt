@@ -4,7 +4,7 @@ use Rattle.std.specs.Option.{option_map}
 use Rattle.std.specs.declared.string.String.{String}
 use Rattle.std.specs.declared.alloc.Global.{Global}
 use Rattle.indexmap.specs.IndexSet.{IndexSet}
-use Rattle.fb_blocks.specs.Views.{block_of, face_of}
+use Rattle.fb_services.specs.fb_blocks.Views.{block_of, face_of}
 use Rattle.fb_services.specs.Views.{service_of}
 use Rattle.fb_networks.specs.declared.typed.Parameter.{Parameter}
 use Rattle.fb_networks.specs.declared.typed.End.{End}

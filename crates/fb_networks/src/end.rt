@@ -4,10 +4,10 @@ ghost use Rattle.std.specs.Prelude.{◌≡◌, Some, None, true, false, string_b
 ghost use Rattle.std.specs.Option.{option_map};
 ghost use Rattle.fb_model.specs.Typing.{body_named};
 ghost use Rattle.fb_model.specs.System as book;
-ghost use Rattle.fb_source.specs.Views as trees_of;
+ghost use Rattle.fb_services.specs.fb_text.Views as trees_of;
 ghost use Rattle.fb_read.specs.Answers.{word_of};
-ghost use Rattle.fb_blocks.specs.Views.{face_of};
-ghost use Rattle.fb_blocks.specs.declared.fault.TypeFault.TheVariants.{OutOfMemory, UnknownName, BadConnection};
+ghost use Rattle.fb_services.specs.fb_blocks.Views.{face_of};
+ghost use Rattle.fb_services.specs.fb_blocks.declared.fault.TypeFault.TheVariants.{OutOfMemory, UnknownName, BadConnection};
 ghost use Rattle.fb_networks.specs.Views.{names_of, body_of, end_of};
 ghost use Rattle.fb_networks.specs.declared.end.Carried.TheVariants.{Events, Values};
 ghost use Rattle.fb_networks.specs.Ends.{own_port, inner_port, is_own_port, is_inner_port, IsOwnEnd, IsInnerEnd, IsPortEnd, inner_of, IsTabled};
@@ -15,9 +15,9 @@ ghost use Rattle.fb_networks.specs.Refusals.{IsWrongPort, IsOwnFault, IsInnerFau
 
 use crate::face::{has_event, type_in};
 use crate::typed::{Body, End, Instance};
-use fb_blocks::{Face, TypeFault};
+use fb_services::fb_blocks::{Face, TypeFault};
 use fb_read::Name;
-use fb_source::PortTree;
+use fb_services::fb_blocks::fb_text::PortTree;
 use fb_words::ElemType;
 use indexmap::IndexSet;
 

@@ -3,8 +3,8 @@
 ghost use Rattle.std.specs.Prelude.{◌≡◌, List, map, IfOk, IfErr};
 ghost use Rattle.fb_model.specs.NetworkTyping.{IsEventConnection, AreEventConnections, passes};
 ghost use Rattle.fb_model.specs.System as book;
-ghost use Rattle.fb_source.specs.Views as trees_of;
-ghost use Rattle.fb_blocks.specs.Views.{face_of};
+ghost use Rattle.fb_services.specs.fb_text.Views as trees_of;
+ghost use Rattle.fb_services.specs.fb_blocks.Views.{face_of};
 ghost use Rattle.fb_networks.specs.Views.{names_of, end_of, connection_of};
 ghost use Rattle.fb_networks.specs.Answers.{Finds};
 ghost use Rattle.fb_networks.specs.Ends.{inner_of, IsTabled};
@@ -12,8 +12,8 @@ ghost use Rattle.fb_networks.specs.Refusals.{Among, IsEventFault};
 
 use crate::end::{Site, Way};
 use crate::typed::{Connection, End};
-use fb_blocks::TypeFault;
-use fb_source::ConnectionTree;
+use fb_services::fb_blocks::TypeFault;
+use fb_services::fb_blocks::fb_text::ConnectionTree;
 use std::alloc::Global;
 
 /// Whether a connection goes from an own port to an own port.

@@ -5,10 +5,10 @@ ghost use Rattle.fb_model.specs.Names.{is_in};
 ghost use Rattle.fb_model.specs.Typing.{names_of};
 ghost use Rattle.fb_model.specs.NetworkTyping.{variable_named};
 ghost use Rattle.fb_model.specs.Store.{variable_names};
-ghost use Rattle.fb_blocks.specs.Views.{events_of, variables_of};
+ghost use Rattle.fb_services.specs.fb_blocks.Views.{events_of, variables_of};
 ghost use Rattle.fb_services.specs.Views.{typed_as};
 
-use fb_blocks::{Events, Variables};
+use fb_services::fb_blocks::{Events, Variables};
 use fb_words::ElemType;
 
 /// Whether there is an event of this name.

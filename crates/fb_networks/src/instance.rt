@@ -7,8 +7,8 @@ ghost use Rattle.fb_model.specs.Values.{One};
 ghost use Rattle.fb_model.specs.System as book;
 ghost use Rattle.fb_model.specs.Wires.{inputs_of};
 ghost use Rattle.fb_model.specs.NetworkTyping.{IsServed, AreParameters, variable_named, reserved, lacking};
-ghost use Rattle.fb_source.specs.Views as trees_of;
-ghost use Rattle.fb_blocks.specs.declared.fault.TypeFault.TheVariants.{OutOfMemory};
+ghost use Rattle.fb_services.specs.fb_text.Views as trees_of;
+ghost use Rattle.fb_services.specs.fb_blocks.declared.fault.TypeFault.TheVariants.{OutOfMemory};
 ghost use Rattle.fb_services.specs.Views.{service_of, typed_as};
 ghost use Rattle.fb_services.specs.declared.service.Service.{Service as Made};
 ghost use Rattle.fb_networks.specs.declared.typed.Body.TheVariants.{Served};
@@ -18,9 +18,9 @@ ghost use Rattle.fb_networks.specs.Answers.{inputs_in, reserved_in, IsParameter,
 ghost use Rattle.fb_networks.specs.Refusals.{IsParameterFault, IsParametersFault, IsPlainFault, IsServedFault};
 
 use crate::typed::{Body, Instance, Parameter};
-use fb_blocks::{TypeFault, constant, insert};
+use fb_services::fb_blocks::{TypeFault, constant, insert};
 use fb_services::{Service, bare, served as service_of_tree};
-use fb_source::{InstanceTree, ParameterTree};
+use fb_services::fb_blocks::fb_text::{InstanceTree, ParameterTree};
 use fb_words::ElemType;
 use indexmap::IndexSet;
 use std::alloc::{AllocError, Global};

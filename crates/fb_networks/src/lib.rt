@@ -13,6 +13,7 @@ mod typed;
 mod value;
 mod wiring;
 
+pub use fb_services;
 pub use instance::{plain, served};
 pub use laws::{one_network, refusals_are_true};
 pub use typed::{Body, Connection, End, Instance, Network, Parameter};

@@ -1,6 +1,6 @@
 use crate::{Body, Instance, Network, plain, served, wire};
-use fb_blocks::{Face, TypeFault};
-use fb_source::{NetworkTree, parse};
+use fb_services::fb_blocks::{Face, TypeFault};
+use fb_services::fb_blocks::fb_text::{NetworkTree, parse};
 use indexmap::IndexMap;
 use std::alloc::{AllocError, Global};
 use std::rc::Rc;
@@ -22,7 +22,7 @@ fn surface(alloc: Global) -> Result<Face, Fail> {
         "FUNCTION_BLOCK B EVENT_INPUT GO; END_EVENT EVENT_OUTPUT DONE; END_EVENT VAR_INPUT X : INT; END_VAR VAR_OUTPUT Y : DINT; END_VAR FBS END_FBS END_FUNCTION_BLOCK SYSTEM S END_SYSTEM";
     if let Ok(source) = parse(alloc, text) {
         for block in &source.blocks {
-            if let Ok(face) = fb_blocks::face(alloc, block) {
+            if let Ok(face) = fb_services::fb_blocks::face(alloc, block) {
                 return Ok(face);
             }
         }

@@ -1,6 +1,6 @@
 //! Typed networks.
 
-use fb_blocks::{Block, Face};
+use fb_services::fb_blocks::{Block, Face};
 use fb_services::Service;
 use std::rc::Rc;
 

@@ -3,21 +3,21 @@
 ghost use Rattle.std.specs.Prelude.{◌≡◌, List, ◌⊎◌, ◌++◌, ◌∷◌, [], map, not, cond, true, false, IfOk, IfErr};
 ghost use Rattle.fb_model.specs.System as book;
 ghost use Rattle.fb_model.specs.NetworkTyping.{IsValueConnection, AreValueConnections, is_taken};
-ghost use Rattle.fb_source.specs.Views as trees_of;
-ghost use Rattle.fb_blocks.specs.Views.{face_of};
+ghost use Rattle.fb_services.specs.fb_text.Views as trees_of;
+ghost use Rattle.fb_services.specs.fb_blocks.Views.{face_of};
 ghost use Rattle.fb_networks.specs.Views.{names_of, end_of, connection_of};
 ghost use Rattle.fb_networks.specs.Answers.{Finds};
 ghost use Rattle.fb_networks.specs.Ends.{inner_of, IsTabled, ends_of, carries_to};
-ghost use Rattle.fb_blocks.specs.declared.fault.TypeFault.TheVariants.{OutOfMemory};
+ghost use Rattle.fb_services.specs.fb_blocks.declared.fault.TypeFault.TheVariants.{OutOfMemory};
 ghost use Rattle.fb_networks.specs.Refusals.{IsValueFault, IsValuesFault};
 
 use crate::end::{Carried, Site, Way};
 use crate::event::passes;
 use crate::typed::{Connection, End};
-use fb_blocks::TypeFault;
-use fb_source::ConnectionTree;
+use fb_services::fb_blocks::TypeFault;
+use fb_services::fb_blocks::fb_text::ConnectionTree;
 use indexmap::IndexSet;
-use st_types::widens;
+use fb_services::fb_blocks::st_types::widens;
 use std::alloc::{AllocError, Global};
 
 /// Ends that have a value.

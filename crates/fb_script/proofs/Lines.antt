@@ -10,7 +10,7 @@ use Rattle.std.proofs.lemmas.List.Splits.{length-slice_split}
 use Rattle.std.proofs.lemmas.List.Sums.{count_by-le-length}
 use Rattle.fb_model.specs.Devices.{Machine}
 use Rattle.fb_model.specs.CertificateText.{words}
-use Rattle.fb_check.specs.Verdicts.{system_in, certificate_in}
+use Rattle.fb_device.specs.fb_check.Verdicts.{system_in, certificate_in}
 use Rattle.fb_device.specs.Sessions.{Session}
 use Rattle.fb_device.specs.Machines.{device_in, cert_in, machine_of, device_at}
 use Rattle.fb_script.specs.Playing.{IsBad}

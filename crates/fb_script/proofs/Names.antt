@@ -11,8 +11,8 @@ use Rattle.fb_model.specs.System.{Device, Resource}
 use Rattle.fb_model.specs.Certificates.{Certificate}
 use Rattle.fb_model.specs.Devices as model
 use Rattle.fb_model.specs.Devices.{Event, Machine, Happens}
-use Rattle.fb_check.specs.Lookups.{is_same_path}
-use Rattle.fb_tables.specs.Views.{place_at, place_in}
+use Rattle.fb_device.specs.fb_check.Lookups.{is_same_path}
+use Rattle.fb_device.specs.fb_tables.Views.{place_at, place_in}
 use Rattle.fb_device.specs.Answers.{IsNamed, IsNoPoint, IsNumberOf, IsNoNumber, turned_of, denial_of}
 use Rattle.fb_device.specs.declared.answer.Denied.{Denied}
 use Rattle.fb_device.specs.declared.answer.Denied.TheVariants as d

@@ -5,7 +5,7 @@ use Rattle.fb_model.specs.Certificates.{Certificate}
 use Rattle.fb_model.specs.Devices.{Machine, Event, Answer, Ran, Happens}
 use Rattle.fb_model.specs.Devices as book
 use Rattle.fb_model.specs.CertificateText.{words}
-use Rattle.fb_check.specs.Lookups.{is_same_path}
+use Rattle.fb_device.specs.fb_check.Lookups.{is_same_path}
 use Rattle.fb_device.specs.Answers.{IsNumberOf}
 use Rattle.fb_script.specs.Lines.{Command, Offer, Dispatch, command_in}
 use Rattle.fb_script.specs.Texts.{answer_text}

@@ -7,6 +7,7 @@ mod playing;
 mod run;
 mod told;
 
+pub use fb_device;
 pub use line::{Line, LineFault, read_line};
 pub use playing::{play, tell};
 pub use run::{End, first_line, simulate};

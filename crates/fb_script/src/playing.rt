@@ -3,7 +3,7 @@
 ghost use Rattle.std.specs.Prelude.{◌≡◌, None, List, ℕ, ℤ};
 ghost use Rattle.fb_model.specs.Devices.{Event};
 ghost use Rattle.fb_model.specs.Wires.{leaves};
-ghost use Rattle.fb_check.specs.Lookups.{is_same_path};
+ghost use Rattle.fb_device.specs.fb_check.Lookups.{is_same_path};
 ghost use Rattle.fb_device.specs.Machines.{device_in, cert_in, machine_of};
 ghost use Rattle.fb_device.specs.Answers.{answer_of, turned_of};
 ghost use Rattle.fb_device.specs.declared.answer.Turned.TheVariants as turned;

@@ -7,8 +7,8 @@ use Rattle.fb_model.specs.Trees.{ParameterTree}
 use Rattle.fb_model.specs.Declarations.{InstanceTree}
 use Rattle.fb_model.specs.Typing.{IsId}
 use Rattle.fb_model.specs.NetworkTyping.{IsFormat, having, id, format, value_types, most_types}
-use Rattle.fb_source.specs.declared.tree.ParameterTree.{ParameterTree as Source}
-use Rattle.fb_source.specs.Views.{parameter_of}
+use Rattle.fb_blocks.specs.fb_text.declared.tree.ParameterTree.{ParameterTree as Source}
+use Rattle.fb_blocks.specs.fb_text.Views.{parameter_of}
 use Rattle.fb_blocks.specs.declared.fault.TypeFault.{TypeFault}
 use Rattle.fb_blocks.specs.declared.fault.TypeFault.TheVariants.{OutOfMemory}
 use Rattle.fb_services.specs.declared.service.Service.{Service}

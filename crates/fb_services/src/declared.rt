@@ -5,7 +5,7 @@ ghost use Rattle.fb_model.specs.Names.{is_in};
 ghost use Rattle.fb_model.specs.Typing.{IsId, service_names};
 ghost use Rattle.fb_model.specs.NetworkTyping.{IsFormat, IsService, having, id, format, value_types, most_types};
 ghost use Rattle.fb_model.specs.System as book;
-ghost use Rattle.fb_source.specs.Views.{parameter_of, instance_of};
+ghost use Rattle.fb_blocks.specs.fb_text.Views.{parameter_of, instance_of};
 ghost use Rattle.fb_services.specs.Answers.{IsNamed, FindsService, IsNumbered, IsChannelled};
 ghost use Rattle.fb_services.specs.Refusals.{IsNumberFault, IsFormatFault, IsTypesFault, IsBareFault, IsNumberedFault, IsChannelledFault, IsServiceFault, has_values, is_timer};
 ghost use Rattle.fb_services.specs.Views.{service_of};
@@ -13,7 +13,7 @@ ghost use Rattle.fb_services.specs.Views.{service_of};
 use crate::number::whole;
 use crate::service::Service;
 use fb_blocks::TypeFault;
-use fb_source::{InstanceTree, ParameterTree};
+use fb_blocks::fb_text::{InstanceTree, ParameterTree};
 use fb_words::ElemType;
 use std::alloc::Global;
 

@@ -1,5 +1,5 @@
 use crate::{Service, served};
-use fb_source::parse;
+use fb_blocks::fb_text::parse;
 use fb_words::ElemType;
 use std::alloc::Global;
 use std::test::Fail;

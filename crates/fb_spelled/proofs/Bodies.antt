@@ -12,7 +12,7 @@ use Rattle.fb_model.specs.Typing.{typed_state}
 use Rattle.fb_model.specs.BlockTyping.{typed_event, IsBasic}
 use Rattle.fb_model.specs.NetworkTyping.{IsEnd, own_port, port_of, AreEventConnections, no_event, an_event, type_named, IsMade, a_basic, a_composite, IsInstance, of_type, of_service, AreInstances, no_instance, an_instance}
 use Rattle.fb_model.specs.Certificates.{event_names, names}
-use Rattle.fb_model.specs.Plain.{AreWords}
+use Rattle.fb_model.specs.Spelling.{AreWords}
 use Rattle.fb_spelled.proofs.Declared.{port_text, HasNetworkWords, HasBodyWords, HasBlockWords}
 
 -- ---- bodies

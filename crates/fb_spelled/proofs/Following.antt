@@ -9,7 +9,7 @@ use Rattle.fb_model.specs.Spelling.{is_start, is_part, IsParts, no_part, part, I
 use Rattle.fb_model.specs.System.{Service, Input, Output, Publish, Subscribe, Delay, Cycle, Restart, Connection, Body, Basic, Served, Composite, Instances, nothing, instance, Resource, constant}
 use Rattle.fb_model.specs.Services.{service_events}
 use Rattle.fb_model.specs.Wires.{is_end, followed, entered, entered_in, Source, Constant, given_in, fed, inputs_of, leaves_of, leaves_in, resource_leaves, leaves_from}
-use Rattle.fb_model.specs.Plain.{AreWords}
+use Rattle.fb_model.specs.Spelling.{AreWords}
 use Rattle.fb_model.proofs.Lists.{all_append}
 use Rattle.fb_spelled.specs.Words.{IsWordyLeaf}
 use Rattle.fb_spelled.proofs.Bodies.{LeadToWords, IsWordyBody, AreWordyBodies}

@@ -3,7 +3,7 @@
 use Rattle.std.specs.List.{AllByRecursion}
 use Rattle.fb_model.specs.Names.{Name, Place}
 use Rattle.fb_model.specs.Spelling.{IsWord}
-use Rattle.fb_model.specs.Plain.{AreWords}
+use Rattle.fb_model.specs.Spelling.{AreWords}
 use Rattle.fb_model.specs.System.{Resource, Device}
 use Rattle.fb_model.specs.Wires.{Leaf, leaves}
 use Rattle.fb_model.specs.Certificates.{state_names, events_of}

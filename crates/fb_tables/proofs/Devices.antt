@@ -4,31 +4,38 @@ use Rattle.std.specs.List.{AllByRecursion}
 use Rattle.fb_model.specs.Names.{Name, Path}
 use Rattle.fb_model.specs.Spelling.{IsWord}
 use Rattle.fb_model.specs.System as book
-use Rattle.fb_model.specs.Trees.{BlockTree, DeviceTree}
-use Rattle.fb_model.specs.Typing as typing
+use Rattle.fb_model.specs.Typing.{AreDistinct}
+use Rattle.fb_model.specs.Wires as wires
 use Rattle.fb_model.specs.Wires.{leaves}
-use Rattle.fb_model.specs.Certificates.{DeviceFits, name_at, depth_at}
+use Rattle.fb_model.specs.Certificates.{DeviceFits, IsWired, name_at, depth_at}
 use Rattle.fb_model.specs.CertificateText.{names_in}
-use Rattle.fb_model.specs.Plain.{IsPlainLeaf, IsPlainResource, IsPlainDevice}
-use Rattle.fb_model.proofs.Fitted.{leaves_plain}
+use Rattle.fb_spelled.specs.Words.{IsWordyLeaf, IsWordyDevice}
+use Rattle.fb_leaves.specs.Leaves.{AreApart, IsClosed}
+use Rattle.fb_leaves.proofs.Paths.{all_apart}
+use Rattle.fb_leaves.proofs.Closed.{all_charts_closed}
+use Rattle.fb_leaves.proofs.Few.{devices_few}
 use Rattle.fb_cert.specs.declared.certificate.Certificate.{Certificate}
 use Rattle.fb_cert.specs.Views.{certificate_of}
-use Rattle.fb_types.specs.declared.typed.Resource as from_resource
-use Rattle.fb_types.specs.declared.typed.Device as from_device
-use Rattle.fb_types.specs.Views.{resource_of, device_of}
-use Rattle.fb_flat.specs.declared.flat.FlatDevice.{FlatDevice}
-use Rattle.fb_flat.specs.Leaves.{IsDevice, AreDevices}
-use Rattle.fb_flat.specs.Views.{dotted}
-use Rattle.fb_flat.proofs.Dotted.{names_dotted, word_alone}
+use Rattle.fb_check.specs.fb_types.declared.typed.Resource as from_resource
+use Rattle.fb_check.specs.fb_types.declared.typed.Device as from_device
+use Rattle.fb_check.specs.fb_types.Views.{resource_of, device_of}
+use Rattle.fb_check.specs.fb_flat.declared.flat.FlatDevice.{FlatDevice}
+use Rattle.fb_check.specs.fb_flat.Tables.{IsDevice, AreDevices}
+use Rattle.fb_check.specs.fb_flat.Sites.{dotted}
+use Rattle.fb_check.proofs.of_fb_flat.Dotted.{names_dotted, word_alone}
 use Rattle.fb_check.specs.declared.verified.Verified.{Verified}
 use Rattle.fb_check.specs.Verdicts.{system_in, certificate_in, IsChecked}
+use Rattle.fb_check.proofs.Reading.{words}
+use Rattle.fb_check.proofs.Composed as composed
 use Rattle.fb_tables.specs.declared.table.Resource.{Resource}
 use Rattle.fb_tables.specs.declared.table.Tables.{Tables}
-use Rattle.fb_tables.specs.Tables.{AreResources, AreTables, AreApart}
-use Rattle.fb_tables.specs.Filling.{Each, Numbered, numbered_from, paths_of, IsBlockMade, IsResourceMade, most_numbers}
+use Rattle.fb_tables.specs.Runnable.{CanRun}
+use Rattle.fb_tables.specs.Tables.{AreResources, AreTables}
+use Rattle.fb_tables.specs.Filling.{Each, Numbered, Runs, numbered_from, paths_of, IsBlockMade, IsResourceMade, most_numbers}
 use Rattle.fb_tables.proofs.Lists.{all_got}
-use Rattle.fb_tables.proofs.Leaves.{all_seated, as_many_resources, leaves_few, paths_apart}
-use Rattle.fb_tables.proofs.Points.{AreKnown}
+use Rattle.fb_tables.proofs.Leaves.{IsSeated, all_seated, as_many_resources, paths_apart}
+use Rattle.fb_tables.proofs.Points.{IsKnownLeaf, AreKnown}
+use Rattle.fb_tables.proofs.Stops.{all_runnable}
 use Rattle.fb_tables.proofs.Blocks.{blocks_are}
 
 -- ---- devices at an index
@@ -40,22 +47,15 @@ flat_at (h ∷ fs) [] n d f a e g = absurd a
 flat_at (h ∷ fs) (c ∷ ds) zero d f a e g = let s : c ≡ d = cc in subst (λ x. IsDevice x d) (sym g) (subst (λ (x : book.Device). IsDevice h x) s a.0)
 flat_at (h ∷ fs) (c ∷ ds) (suc n) d f a e g = flat_at fs ds n d f a.1 e g
 
-pub as_many_devices : (fs : List FlatDevice) (ds : List book.Device) → AreDevices fs ds → length fs ≡ length ds
-as_many_devices [] [] a = refl
-as_many_devices [] (d ∷ ds) a = absurd a
-as_many_devices (f ∷ fs) [] a = absurd a
-as_many_devices (f ∷ fs) (d ∷ ds) a = ap suc (as_many_devices fs ds a.1)
+as_many : (fs : List FlatDevice) (ds : List book.Device) → AreDevices fs ds → length fs ≡ length ds
+as_many [] [] a = refl
+as_many [] (d ∷ ds) a = absurd a
+as_many (f ∷ fs) [] a = absurd a
+as_many (f ∷ fs) (d ∷ ds) a = ap suc (as_many fs ds a.1)
 
-record IsOf (bs : List BlockTree) (d : book.Device) : Type 0 where
-  tree : DeviceTree
-  is : typing.IsDevice bs tree d
-
-tree_at : (bs : List BlockTree) (ts : List DeviceTree) (ds : List book.Device) (n : ℕ) (d : book.Device) → typing.AreDevices bs ts ds → slice_get ds n ≡ Some d → IsOf bs d
-tree_at bs [] [] n d a e = absurd cc
-tree_at bs [] (c ∷ ds) n d a e = absurd a
-tree_at bs (t ∷ ts) [] n d a e = absurd a
-tree_at bs (t ∷ ts) (c ∷ ds) zero d a e = let s : c ≡ d = cc in record { tree = t; is = subst (λ (x : book.Device). typing.IsDevice bs t x) s a.0 }
-tree_at bs (t ∷ ts) (c ∷ ds) (suc n) d a e = tree_at bs ts ds n d a.1 e
+-- what was checked has tables of as many devices
+pub as_many_devices : (v : Verified) → IsChecked v → length v.flat.devices.items ≡ length (system_in v).devices
+as_many_devices v checked = as_many v.flat.devices.items (system_in v).devices (composed.tables_are (system_in v) v.flat.devices.items checked.written checked.tables)
 
 typed_at : (ts : List from_device.Device) (n : ℕ) (t : from_device.Device) (d : book.Device) → slice_get (map device_of ts) n ≡ Some d → t ≡ get_or ts n t → device_of t ≡ d
 typed_at [] n t d e g = absurd cc
@@ -64,74 +64,79 @@ typed_at (u ∷ ts) (suc n) t d e g = typed_at ts n t d e g
 
 -- ---- what is known of a device
 
-pub record IsKnown (v : Verified) (f : FlatDevice) (d : book.Device) : Type 0 where
-  pub flat : IsDevice f d
-  pub plain : IsPlainDevice d
-  pub known : AreKnown (numbered_from 0 f.resources.items) (leaves d)
+pub record IsKnown (f : FlatDevice) (d : book.Device) : Type 0 where
+  pub words : IsWordyDevice d
+  pub seated : Each IsSeated (numbered_from 0 f.resources.items) (leaves d)
+  pub closed : AllByRecursion (λ (leaf : wires.Leaf). IsClosed leaf.kind) (leaves d)
+  pub wired : AllByRecursion (IsWired (leaves d)) (leaves d)
   pub apart : AreApart (leaves d)
-  pub one : length f.resources.items ≤ most_numbers
+  pub few : length (leaves d) ≤ most_numbers
+  pub few_resources : length f.resources.items ≤ most_numbers
 
-pub known_at : (v : Verified) (n : ℕ) (f : FlatDevice) (d : book.Device) → IsChecked v → slice_get (system_in v).devices n ≡ Some d → f ≡ get_or v.flat.devices.items n f → IsKnown v f d
+pub known_at : (v : Verified) (n : ℕ) (f : FlatDevice) (d : book.Device) → IsChecked v → slice_get (system_in v).devices n ≡ Some d → f ≡ get_or v.flat.devices.items n f → IsKnown f d
 known_at v n f d checked e g =
+    let s = system_in v in
     let w = checked.written in
-    let bs = w.source.blocks in
-    let flat = flat_at v.flat.devices.items (system_in v).devices n d f checked.tables e g in
-    let plain = all_got IsPlainDevice (system_in v).devices n d w.plain.devices e in
-    let t = tree_at bs w.source.system.devices (system_in v).devices n d w.typed.devices e in
-    let few = leaves_few bs t.tree.resources d.resources (d.name ∷ []) w.typed.blocks.each t.is.resources t.is.few plain.resources in
-    let fits = all_got (DeviceFits (certificate_in v)) (system_in v).devices n d checked.fits.devices e in
+    let elaborated = w.2.typed.typed in
+    let flat = flat_at v.flat.devices.items s.devices n d f (composed.tables_are s v.flat.devices.items w checked.tables) e g in
+    let few = all_got (λ (x : book.Device). (length (leaves x) ≤ 16384) × (length x.resources ≤ 16)) s.devices n d (devices_few _ _ s elaborated) e in
+    let fits = all_got (DeviceFits (certificate_in v)) s.devices n d checked.fits.devices e in
     record {
-      flat = flat;
-      plain = plain;
-      known =
-          record {
-            seated = all_seated 0 (d.name ∷ []) f.resources.items d.resources flat.resources;
-            plain = all_got (λ (x : book.Device). AllByRecursion IsPlainLeaf (leaves x)) (system_in v).devices n d (leaves_plain (system_in v) w) e;
-            wired = fits.wired;
-            few = omega (arith, few.0.few);
-          };
-      apart = few.0.apart;
-      one = omega (arith, few.1, as_many_resources 0 (d.name ∷ []) f.resources.items d.resources flat.resources);
+      words = all_got IsWordyDevice s.devices n d (words s w) e;
+      seated = all_seated 0 (d.name ∷ []) f.resources.items d.resources flat.resources;
+      closed = all_got (λ (x : book.Device). AllByRecursion (λ (leaf : wires.Leaf). IsClosed leaf.kind) (leaves x)) s.devices n d (all_charts_closed _ _ s elaborated) e;
+      wired = fits.wired;
+      apart = all_got (λ (x : book.Device). AreApart (leaves x)) s.devices n d (all_apart _ _ s elaborated) e;
+      few = omega (arith, few.0);
+      few_resources = omega (arith, few.1, as_many_resources 0 (d.name ∷ []) f.resources.items d.resources flat.resources);
     }
+
+known_leaves : (bs : List wires.Leaf) → AllByRecursion (λ (leaf : wires.Leaf). CanRun leaf.kind) bs → AllByRecursion (λ (leaf : wires.Leaf). IsClosed leaf.kind) bs → AllByRecursion IsWordyLeaf bs → AllByRecursion IsKnownLeaf bs
+known_leaves [] r c w = tt
+known_leaves (b ∷ bs) r c w = (record { runs = r.0; closed = c.0; words = w.0 }, known_leaves bs r.1 c.1 w.1)
 
 -- ---- resources
 
-resources_from : (rows : Certificate) (d : book.Device) (n : ℕ) (rs : List from_resource.Resource) (xs : List Resource) → IsWord d.name → AllByRecursion IsPlainResource (map resource_of rs)
+resources_from : (rows : Certificate) (d : book.Device) (n : ℕ) (rs : List from_resource.Resource) (xs : List Resource) → IsWord d.name → AllByRecursion (λ (r : book.Resource). IsWord r.name) (map resource_of rs)
     → ((k : ℕ) → name_at d.resources (n + k) ≡ name_at (map resource_of rs) k) → Each (IsResourceMade rows d.name) rs xs → AreResources (certificate_of rows) d n xs (map resource_of rs)
 resources_from rows d n [] [] w p at m = tt
 resources_from rows d n [] (x ∷ xs) w p at m = absurd m
 resources_from rows d n (r ∷ rs) [] w p at m = absurd m
 resources_from rows d n (r ∷ rs) (x ∷ xs) w p at m =
     let here : name_at d.resources n ≡ string_bytes r.name = subst (λ i. name_at d.resources i ≡ string_bytes r.name) (let e : n + 0 ≡ n = omega arith in e) (at 0) in
-    let path : names_in (dotted d.name (string_bytes r.name)) ≡ d.name ∷ string_bytes r.name ∷ [] = names_dotted d.name (string_bytes r.name) p.0.name ∙ ap (λ (q : Path). q ++ string_bytes r.name ∷ []) (word_alone d.name w) in (
+    let path : names_in (dotted d.name (string_bytes r.name)) ≡ d.name ∷ string_bytes r.name ∷ [] = names_dotted d.name (string_bytes r.name) p.0 ∙ ap (λ (q : Path). q ++ string_bytes r.name ∷ []) (word_alone d.name w) in (
       m.0.0,
       m.0.1 ∙ ap (depth_at (certificate_of rows).depths) (path ∙ ap (λ (y : Name). d.name ∷ y ∷ []) (sym here)),
       resources_from rows d (n + 1) rs xs w p.1 (λ k. subst (λ i. name_at d.resources i ≡ name_at (map resource_of rs) k) (let e : n + suc k ≡ (n + 1) + k = omega arith in e) (at (suc k))) m.1,
     )
 
-resources_are : (rows : Certificate) (t : from_device.Device) (xs : List Resource) → IsPlainDevice (device_of t) → Each (IsResourceMade rows (string_bytes t.name)) t.resources.items xs → AreResources (certificate_of rows) (device_of t) 0 xs (device_of t).resources
+resources_are : (rows : Certificate) (t : from_device.Device) (xs : List Resource) → IsWordyDevice (device_of t) → Each (IsResourceMade rows (string_bytes t.name)) t.resources.items xs → AreResources (certificate_of rows) (device_of t) 0 xs (device_of t).resources
 resources_are rows t xs p m =
     resources_from rows (device_of t) 0 t.resources.items xs p.name p.resources (λ k. let e : 0 + k ≡ k = omega arith in ap (name_at (device_of t).resources) e) m
 
 -- ---- tables
 
+-- the seats of a device that was checked are its leaves
+pub seats_are : (v : Verified) (n : ℕ) (f : FlatDevice) (d : book.Device) (ss : List Numbered) → IsChecked v → slice_get (system_in v).devices n ≡ Some d → f ≡ get_or v.flat.devices.items n f
+    → (length f.resources.items ≤ most_numbers → ss ≡ numbered_from 0 f.resources.items) → Each IsSeated ss (leaves d)
+seats_are v n f d ss checked e g seats =
+    let k = known_at v n f d checked e g in
+    subst (λ (us : List Numbered). Each IsSeated us (leaves d)) (sym (seats k.few_resources)) k.seated
+
 -- tables that are made of a device that was checked are its tables
 pub tables_are : (v : Verified) (n : ℕ) (f : FlatDevice) (t : from_device.Device) (d : book.Device) (ss : List Numbered) (names : List Name) (x : Tables) → IsChecked v → slice_get (system_in v).devices n ≡ Some d
-    → f ≡ get_or v.flat.devices.items n f → t ≡ get_or v.typed.devices.items n t
-    → (length f.resources.items ≤ most_numbers → ss ≡ numbered_from 0 f.resources.items)
-    → (typing.AreDistinct (paths_of ss) → names ≡ paths_of ss)
+    → f ≡ get_or v.flat.devices.items n f → t ≡ get_or v.typed.devices.items n t → Each IsSeated ss (leaves d) → AllByRecursion Runs ss → (AreDistinct (paths_of ss) → names ≡ paths_of ss)
     → Each (IsBlockMade v.certificate names ss) ss x.blocks.items → Each (IsResourceMade v.certificate (string_bytes t.name)) t.resources.items x.resources.items → AreTables (certificate_in v) d x
-tables_are v n f t d ss names x checked e g h seats paths blocks resources =
+tables_are v n f t d ss names x checked e g h seated runs paths blocks resources =
     let k = known_at v n f d checked e g in
-    let same : ss ≡ numbered_from 0 f.resources.items = seats k.one in
-    let known : AreKnown ss (leaves d) = subst (λ (us : List Numbered). AreKnown us (leaves d)) (sym same) k.known in
-    let named : names ≡ paths_of ss = paths (paths_apart ss (leaves d) known.seated k.apart) in
+    let known : AreKnown ss (leaves d) = record { seated = seated; leaves = known_leaves (leaves d) (all_runnable ss (leaves d) seated runs) k.closed k.words.leaves; wired = k.wired; few = k.few } in
+    let named : names ≡ paths_of ss = paths (paths_apart ss (leaves d) seated k.apart) in
     let typed : device_of t ≡ d = typed_at v.typed.devices.items n t d e h in
     record {
       blocks = blocks_are v.certificate ss (leaves d) x.blocks.items known (subst (λ (ns : List Name). Each (IsBlockMade v.certificate ns ss) ss x.blocks.items) named blocks);
       resources =
           subst (λ (c : book.Device). AreResources (certificate_in v) c 0 x.resources.items c.resources) typed
-          (resources_are v.certificate t x.resources.items (subst IsPlainDevice (sym typed) k.plain) resources);
-      few = known.few;
+          (resources_are v.certificate t x.resources.items (subst IsWordyDevice (sym typed) k.words) resources);
+      few = k.few;
       apart = k.apart;
     }

@@ -1,27 +1,19 @@
 -- The leaves of tables and those of the book, one by one.
-use Rattle.std.proofs.Common.{◌≡◌, ◌≤◌, ◌<◌, ◌+◌, ℕ, zero, suc, Bool, true, false, ◌||◌, List, [], ◌∷◌, ◌++◌, map, length, pos, Some, string_bytes, refl, sym, ap, ap₂, subst, ◌∙◌, arith}
+use Rattle.std.proofs.Common.{◌≡◌, ◌+◌, ℕ, suc, Bool, true, false, ◌||◌, List, [], ◌∷◌, ◌++◌, length, string_bytes, refl, sym, ap, ap₂, ◌∙◌}
 use Rattle.std.specs.List.{AllByRecursion}
 use Rattle.std.specs.Str.{bytes_eq}
-use Rattle.std.proofs.lemmas.List.{append-nil, length-map}
-use Rattle.fb_model.specs.Names.{Name, Path, Place, path_eq, is_in}
-use Rattle.fb_model.specs.Values.{One}
-use Rattle.fb_model.specs.System.{Body, Basic, Served, Composite, Instances, nothing, instance, Resource, constant}
-use Rattle.fb_model.specs.Trees.{BlockTree, InstanceTree, ResourceTree}
-use Rattle.fb_model.specs.Typing as typing
-use Rattle.fb_model.specs.Typing.{AreNew, AreDistinct, IsBlockTyped, instance_texts}
+use Rattle.fb_model.specs.Names.{Name, Path, path_eq, is_in}
+use Rattle.fb_model.specs.System.{Resource}
+use Rattle.fb_model.specs.Typing.{AreNew, AreDistinct}
 use Rattle.fb_model.specs.Wires as wires
-use Rattle.fb_model.specs.Wires.{Source, Constant, followed, entered_in, fed, given_in, inputs_of, leaves_of, leaves_in, resource_leaves, leaves_from, leaves}
-use Rattle.fb_model.specs.Plain.{IsPlainResource, instance_names}
+use Rattle.fb_model.specs.Wires.{resource_leaves, leaves_from}
 use Rattle.fb_model.proofs.Lists.{all_both}
-use Rattle.fb_model.proofs.Simple.{IsSimple, AreSimple, simple_inner}
-use Rattle.fb_model.proofs.Naming.{names_same}
-use Rattle.fb_model.proofs.Placed.{apart, Fresh, fresh_in}
 use Rattle.fb_model.proofs.Homes.{resource_homes}
+use Rattle.fb_leaves.specs.Leaves.{AreApart}
 use Rattle.fb_cert.proofs.Places.{path_same}
-use Rattle.fb_flat.specs.declared.flat.Leaf.{Leaf}
-use Rattle.fb_flat.specs.declared.flat.FlatResource.{FlatResource}
-use Rattle.fb_flat.specs.Leaves.{IsLeaf, AreLeaves, AreResources}
-use Rattle.fb_tables.specs.Tables.{AreApart}
+use Rattle.fb_check.specs.fb_flat.declared.flat.Leaf.{Leaf}
+use Rattle.fb_check.specs.fb_flat.declared.flat.FlatResource.{FlatResource}
+use Rattle.fb_check.specs.fb_flat.Tables.{IsLeaf, AreLeaves, AreResources}
 use Rattle.fb_tables.specs.Filling.{Each, Numbered, numbered, numbered_from, paths_of}
 use Rattle.fb_tables.proofs.Lists.{each_append}
 
@@ -93,52 +85,3 @@ paths_differ (s ∷ ss) (b ∷ bs) h a = (differ_from s b ss bs h.0 h.1 a.0, pat
 -- the paths of leaves that are apart are distinct as texts
 pub paths_apart : (ss : List Numbered) (bs : List wires.Leaf) → Each IsSeated ss bs → AreApart bs → AreDistinct (paths_of ss)
 paths_apart ss bs h a = new_from [] (paths_of ss) (none_before (paths_of ss)) (paths_differ ss bs h a)
-
--- ---- the leaves of a device that a tree elaborates to
-
-fresh_apart : (bs : List wires.Leaf) → Fresh bs → AreApart bs
-fresh_apart [] f = tt
-fresh_apart (b ∷ bs) f = (f.0, fresh_apart bs f.1)
-
-one_leaf : (body : Body) (home : ℕ) (path : Path) (given : Name → List Place) (from : Name → Source) → IsSimple body → length (leaves_of body home path given from) ≡ 1
-one_leaf (Basic block) home path given from s = refl
-one_leaf (Served service) home path given from s = refl
-one_leaf (Composite face inner events values) home path given from s = absurd s
-
-sum_of : (a b c : ℕ) → a ≡ 1 → b ≡ c → a + b ≡ suc c
-sum_of a b c e f = omega arith
-
-as_many_leaves : (inner : Instances) (home : ℕ) (path : Path) (given : Name → Name → List Place) (from : Name → Name → Source → Source) → AreSimple inner → length (leaves_in inner home path given from) ≡ length (instance_names inner)
-as_many_leaves nothing home path given from s = refl
-as_many_leaves (instance name parameters body rest) home path given from s =
-    let here = leaves_of body home (path ++ name ∷ []) (given name) (λ port. from name port (Constant (constant parameters (inputs_of body) port))) in
-    Rattle.std.proofs.Common.length-append here (leaves_in rest home path given from)
-    ∙ sum_of _ _ _ (one_leaf body home (path ++ name ∷ []) (given name) (λ port. from name port (Constant (constant parameters (inputs_of body) port))) s.0) (as_many_leaves rest home path given from s.1)
-
--- the leaves of a device: few, and apart
-pub record AreFew (all : List wires.Leaf) : Type 0 where
-  pub apart : AreApart all
-  pub few : length all ≤ 1024
-
-resource_few : (bs : List BlockTree) (t : ResourceTree) (r : Resource) (n : ℕ) (path : Path) → AllByRecursion IsBlockTyped bs → typing.IsResource bs t r → IsPlainResource r → AreFew (resource_leaves n path r)
-resource_few bs t r n path blocks is plain =
-    let given : Name → Name → List Place = λ j port. followed r.events (Some j) port (entered_in r.inner (path ++ r.name ∷ [])) (λ o. []) in
-    let from : Name → Name → Source → Source = λ j port other. fed r.values (Some j) port (given_in r.inner (path ++ r.name ∷ [])) (λ i. Constant (One (pos 0))) other in
-    let simple = simple_inner bs t.instances r.inner blocks is.instances plain.bodies in
-    let many = as_many_leaves r.inner n (path ++ r.name ∷ []) given from simple in
-    let named = ap length (names_same bs t.instances r.inner is.instances) in
-    record {
-      apart = fresh_apart (resource_leaves n path r) (fresh_in n (path ++ r.name ∷ []) given from r.inner simple (apart (instance_names r.inner) plain.apart));
-      few = omega (arith, many, named, length-map t.instances (λ (i : InstanceTree). i.name.text), is.few);
-    }
-
--- there is one resource at most
-pub leaves_few : (bs : List BlockTree) (ts : List ResourceTree) (rs : List Resource) (path : Path) → AllByRecursion IsBlockTyped bs → typing.AreResources bs ts rs → length ts ≤ 1 → AllByRecursion IsPlainResource rs
-    → AreFew (leaves_from 0 path rs) × (length rs ≤ 1)
-leaves_few bs [] [] path blocks is one plain = (record { apart = tt; few = omega arith }, omega arith)
-leaves_few bs [] (r ∷ rs) path blocks is one plain = absurd is
-leaves_few bs (t ∷ ts) [] path blocks is one plain = absurd is
-leaves_few bs (t ∷ []) (r ∷ []) path blocks is one plain =
-    (subst AreFew (sym (append-nil (resource_leaves 0 path r))) (resource_few bs t r 0 path blocks is.0 plain.0), omega arith)
-leaves_few bs (t ∷ []) (r ∷ q ∷ rs) path blocks is one plain = absurd is.1
-leaves_few bs (t ∷ u ∷ ts) (r ∷ rs) path blocks is one plain = absurd (omega arith)

@@ -1,8 +1,14 @@
+pub use Rattle.fb_check.proofs.of_fb_blocks as of_fb_blocks
+pub use Rattle.fb_check.proofs as of_fb_check
+pub use Rattle.fb_check.proofs.of_fb_flat as of_fb_flat
+pub use Rattle.fb_check.proofs.of_fb_text as of_fb_text
+pub use Rattle.fb_check.proofs.of_fb_types as of_fb_types
 pub mod Lists
 pub mod Numbers
 pub mod Charts
 pub mod Leaves
 pub mod Points
+pub mod Stops
 pub mod Blocks
 pub mod Devices
 pub mod Reading

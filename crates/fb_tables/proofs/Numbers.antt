@@ -1,17 +1,23 @@
 -- The number of a name.
-use Rattle.std.proofs.Common.{◌≡◌, ℕ, zero, suc, ◌≤◌, Bool, true, false, cond, List, [], ◌∷◌, map, Option, Some, None, option_map, slice_get, refl, sym, ap, subst, ◌∙◌, arith}
+use Rattle.std.proofs.Common.{◌≡◌, ℕ, zero, suc, ◌≤◌, Bool, true, false, cond, ◌||◌, List, [], ◌∷◌, map, Option, Some, None, option_map, slice_get, position, string_bytes, Global, refl, sym, ap, subst, ◌∙◌, arith}
 use Rattle.std.specs.Str.{bytes_eq}
-use Rattle.fb_model.specs.Names.{Name}
+use Rattle.std.specs.declared.string.String.{String}
+use Rattle.std.specs.declared.vec.Vec.{Vec}
+use Rattle.indexmap.specs.IndexMap.{IndexMap, keys}
+use Rattle.fb_model.specs.Names.{Name, is_in}
 use Rattle.fb_model.specs.System as book
-use Rattle.fb_model.specs.Certificates.{event_names}
+use Rattle.fb_model.specs.Certificates.{event_names, names}
 use Rattle.fb_model.proofs.Lists.{same_name}
-use Rattle.fb_types.specs.declared.typed.Block.{Block}
-use Rattle.fb_types.specs.Views.{names_of, event_of}
-use Rattle.fb_types.proofs.Lists.{map_map}
-use Rattle.fb_types.proofs.Places.{place, place_below}
-use Rattle.fb_flat.proofs.Filled.{not_placed}
-use Rattle.fb_check.proofs.Typed.{event_names_are}
-use Rattle.fb_tables.specs.Filling.{IsNumber, most_numbers}
+use Rattle.fb_check.specs.fb_blocks.Views.{event_of, action_of}
+use Rattle.fb_check.specs.fb_blocks.Answers.{names_in_map}
+use Rattle.fb_check.proofs.of_fb_networks.Places.{place, place_below, position_is, position_map}
+use Rattle.fb_tables.specs.Filling.{IsNumber, Entry, most_numbers}
+
+-- ---- places
+
+-- the index of a name in a table is its place among the names
+pub placed : {V S : Type 0} (m : IndexMap (String Global) V S) (x : Name) → place (bytes_eq x) (names_in_map m) ≡ position (λ s. bytes_eq x (string_bytes s)) (keys m)
+placed m x = sym (position_is (bytes_eq x) (names_in_map m)) ∙ position_map (bytes_eq x) (λ e. string_bytes e.0) m.entries ∙ sym (position_map (λ s. bytes_eq x (string_bytes s)) (λ e. e.0) m.entries)
 
 suc_of : (o : Option ℕ) (i : ℕ) → option_map suc o ≡ Some i → (j : ℕ) × (o ≡ Some j) × (i ≡ suc j)
 suc_of None i e = absurd cc
@@ -31,6 +37,15 @@ unfolding place
 stands x [] i e = absurd cc
 stands x (y ∷ ys) i e = turn x y ys (stands x ys) (bytes_eq x y) refl i e
 
+not_placed : (x : Name) (ns : List Name) → place (bytes_eq x) ns ≡ None → is_in x ns ≡ false
+unfolding place
+not_placed x [] f = refl
+not_placed x (n ∷ ns) f = by (bytes_eq x n) (place (bytes_eq x) ns) f (not_placed x ns) where
+  by : (t : Bool) (o : Option ℕ) → cond t (Some 0) (option_map suc o) ≡ None → (o ≡ None → is_in x ns ≡ false) → (t || is_in x ns) ≡ false
+  by true o f g = absurd cc
+  by false None f g = g refl
+  by false (Some k) f g = absurd cc
+
 pub number_some : (x : Name) (names : List Name) (i n : ℕ) → place (bytes_eq x) names ≡ Some i → (i ≤ most_numbers → n ≡ i) → IsNumber names x n
 number_some x names i n e f =
     λ few listed.
@@ -42,6 +57,16 @@ number_some x names i n e f =
 pub number_none : (x : Name) (names : List Name) (n : ℕ) → place (bytes_eq x) names ≡ None → IsNumber names x n
 number_none x names n e = λ few listed. absurd (let none = not_placed x names e in let f : false ≡ true = sym none ∙ listed in cc)
 
--- the event inputs of a block, in order
-pub inputs_are : (k : Block) → event_names (map event_of k.event_inputs.keys) ≡ names_of k.event_inputs
-inputs_are k = event_names_are (map event_of k.event_inputs.keys) ∙ map_map (λ (e : book.Event). e.name) event_of k.event_inputs.keys
+-- ---- names of tables
+
+-- a state as a table has it, in the book
+abbrev pub entry_state : Entry → book.State
+entry_state s = record { name = string_bytes s.0; actions = map action_of s.1.items }
+
+pub event_names_are : (es : List (String Global × Vec (String Global) Global)) → event_names (map (λ p. event_of (string_bytes p.0) p.1.items) es) ≡ map (λ p. string_bytes p.0) es
+event_names_are [] = refl
+event_names_are (e ∷ es) = ap (λ ns. string_bytes e.0 ∷ ns) (event_names_are es)
+
+pub state_names_are : (ss : List Entry) → names (map entry_state ss) ≡ map (λ p. string_bytes p.0) ss
+state_names_are [] = refl
+state_names_are (s ∷ ss) = ap (λ ns. string_bytes s.0 ∷ ns) (state_names_are ss)

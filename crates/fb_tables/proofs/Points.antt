@@ -1,66 +1,79 @@
 -- Targets by numbers are the places where the outputs of a leaf lead.
-use Rattle.std.proofs.Common.{◌≡◌, ◌≤◌, ◌<◌, ℕ, Bool, true, false, cond, ◌||◌, List, [], ◌∷◌, map, length, string_bytes, Option, None, Some, slice_get, refl, sym, ap, subst, ◌∙◌, arith}
+use Rattle.std.proofs.Common.{◌≡◌, ◌≤◌, ◌<◌, ℕ, suc, Bool, true, false, cond, ◌||◌, List, [], ◌∷◌, map, length, string_bytes, Option, None, Some, slice_get, refl, sym, ap, subst, ◌∙◌, arith}
 use Rattle.std.specs.List.{AllByRecursion}
 use Rattle.std.specs.Str.{bytes_eq}
 use Rattle.std.proofs.lemmas.List.{length-map}
 use Rattle.fb_model.specs.Names.{Name, Place, at_place, path_eq, is_in}
 use Rattle.fb_model.specs.System as book
-use Rattle.fb_model.specs.Services.{arrive}
-use Rattle.fb_model.specs.Spelling.{IsWord, word, part, no_part}
-use Rattle.fb_model.specs.Typing.{AreDistinct, event_outputs_of}
+use Rattle.fb_model.specs.Spelling.{AreWords}
+use Rattle.fb_model.specs.Typing.{AreDistinct, names_of}
 use Rattle.fb_model.specs.Wires as wires
 use Rattle.fb_model.specs.Wires.{Kind, Charted, Serviced}
-use Rattle.fb_model.specs.Certificates.{events_of, leaf_at, has_event, is_input, IsWired}
+use Rattle.fb_model.specs.Certificates.{event_names, events_of, leaf_at, has_event, is_input, IsWired}
 use Rattle.fb_model.specs.CertificateText.{names_in}
-use Rattle.fb_model.specs.Plain.{IsPlainKind, IsPlainLeaf}
-use Rattle.fb_model.proofs.Lists.{all_both, all_weaker}
+use Rattle.fb_model.proofs.Lists.{all_both, all_weaker, same_name}
 use Rattle.fb_model.proofs.Placed.{Apart, apart, name_same}
+use Rattle.fb_spelled.specs.Words.{IsWordyLeaf}
+use Rattle.fb_leaves.specs.Leaves.{IsClosed}
 use Rattle.fb_cert.proofs.Places.{path_same}
-use Rattle.fb_types.specs.declared.typed.Body.{Body}
-use Rattle.fb_types.specs.declared.typed.Body.TheVariants as f
-use Rattle.fb_types.specs.Views.{names_of, body_of, event_of}
-use Rattle.fb_types.proofs.Lists.{map_map}
-use Rattle.fb_flat.specs.declared.flat.Target.{Target}
-use Rattle.fb_flat.specs.declared.flat.Output as from_output
-use Rattle.fb_flat.specs.Leaves.{IsLeaf, kind_of, target_place, targets_of}
-use Rattle.fb_flat.specs.Leaves as flat
-use Rattle.fb_flat.proofs.Filled.{bytes_turned}
-use Rattle.fb_check.proofs.Typed.{all_source, tabled}
+use Rattle.fb_check.specs.fb_flat.declared.flat.Target.{Target}
+use Rattle.fb_check.specs.fb_flat.declared.flat.Output as from_output
+use Rattle.fb_check.specs.fb_flat.Leaves.{kind_of, outputs_of}
+use Rattle.fb_check.specs.fb_flat.Tables.{IsLeaf, target_place, targets_of}
+use Rattle.fb_check.specs.fb_flat.Tables as flat
+use Rattle.fb_check.proofs.of_fb_blocks.Lists.{new_split, new_second}
 use Rattle.fb_tables.specs.declared.table.Point.{Point}
 use Rattle.fb_tables.specs.declared.table.Output.{Output}
+use Rattle.fb_tables.specs.Runnable.{CanRun}
 use Rattle.fb_tables.specs.Views.{named, place_in, place_at}
 use Rattle.fb_tables.specs.Tables.{IsPoint, LeadsTo}
 use Rattle.fb_tables.specs.Filling.{Each, Numbered, paths_of, IsPointMade, IsOutputMade, most_numbers}
-use Rattle.fb_tables.proofs.Lists.{each_at, each_length, each_map, each_weaker, each_same, each_second, image_at, all_got}
-use Rattle.fb_tables.proofs.Numbers.{inputs_are}
-use Rattle.fb_tables.proofs.Charts.{few, outputs_apart}
+use Rattle.fb_tables.proofs.Lists.{each_at, each_length, each_map, each_weaker, each_same, each_second, image_at, all_got, all_source}
 use Rattle.fb_tables.proofs.Leaves.{IsSeated}
 
--- ---- the events and outputs of a body
+-- ---- the events and outputs of a leaf
 
-arrive_word : IsWord arrive
-arrive_word = word refl (part refl (part refl (part refl (part refl (part refl no_part)))))
+-- the events of a leaf are few words, all different, and so are its outputs
+pub record IsEventful (kind : Kind) : Type 0 where
+  pub few : length (events_of kind) ≤ 64
+  pub apart : AreDistinct (events_of kind)
+  pub words : AreWords (events_of kind)
+  pub outputs : AreDistinct (outputs_of kind)
 
--- the events of a body are few words, all different, and so are its outputs
-pub record IsEventful (x : Body) : Type 0 where
-  pub few : length (events_of (kind_of x)) ≤ 64
-  pub apart : AreDistinct (events_of (kind_of x))
-  pub words : AllByRecursion IsWord (events_of (kind_of x))
-  pub outputs : AreDistinct (event_outputs_of (body_of x))
+pub names_same : (es : List book.Event) → names_of es ≡ event_names es
+names_same [] = refl
+names_same (e ∷ es) = ap (λ ns. e.name ∷ ns) (names_same es)
 
-pub eventful : (x : Body) → IsPlainKind (kind_of x) → IsEventful x
-eventful (f.Basic block) p =
-    let k = block.value in
-    let w = few k p in
-    let same = inputs_are k in
-    let outs : map (λ (e : book.Event). e.name) (map event_of k.event_outputs.keys) ≡ names_of k.event_outputs = map_map (λ (e : book.Event). e.name) event_of k.event_outputs.keys in
+as_many_names : (es : List book.Event) → length (event_names es) ≡ length es
+as_many_names [] = refl
+as_many_names (e ∷ es) = ap suc (as_many_names es)
+
+pub eventful : (kind : Kind) → CanRun kind → IsClosed kind → AreWords (events_of kind) → IsEventful kind
+eventful (Charted block) r c w =
+    let ins = event_names block.event_inputs in
+    let outs = event_names block.event_outputs in
     record {
-      few = subst (λ (ns : List Name). length ns ≤ 64) (sym same) w.few_inputs;
-      apart = subst AreDistinct (sym same) w.inputs_apart;
-      words = subst (λ (ns : List Name). AllByRecursion IsWord ns) (sym same) (tabled k p).inputs;
-      outputs = subst AreDistinct (sym outs) (outputs_apart (names_of k.event_inputs) (names_of k.event_outputs) w.all_apart);
+      few = omega (arith, c.few_inputs, as_many_names block.event_inputs);
+      apart = (new_split [] ins outs c.events_apart).0;
+      words = w;
+      outputs = subst AreDistinct (sym (names_same block.event_outputs)) (new_second ins outs c.events_apart);
     }
-eventful (f.Input number) p = record { few = omega arith; apart = (refl, tt); words = (arrive_word, tt); outputs = (refl, tt) }
+eventful (Serviced (book.Input number types)) r c w = record { few = omega arith; apart = (refl, tt); words = w; outputs = (refl, tt) }
+eventful (Serviced (book.Output number types)) r c w = absurd r
+eventful (Serviced (book.Publish channel types)) r c w = absurd r
+eventful (Serviced (book.Subscribe channel types)) r c w = absurd r
+eventful (Serviced book.Delay) r c w = absurd r
+eventful (Serviced book.Cycle) r c w = absurd r
+eventful (Serviced book.Restart) r c w = absurd r
+
+-- what is known of a leaf that a device can run
+pub record IsKnownLeaf (leaf : wires.Leaf) : Type 0 where
+  pub runs : CanRun leaf.kind
+  pub closed : IsClosed leaf.kind
+  pub words : IsWordyLeaf leaf
+
+pub known_events : (leaf : wires.Leaf) → IsKnownLeaf leaf → IsEventful leaf.kind
+known_events leaf known = eventful leaf.kind known.runs known.closed known.words.events
 
 -- ---- one target
 
@@ -79,7 +92,7 @@ listed x e (s ∷ ss) (b ∷ bs) h g =
 -- all that is known of the leaves of a device
 pub record AreKnown (ss : List Numbered) (bs : List wires.Leaf) : Type 0 where
   pub seated : Each IsSeated ss bs
-  pub plain : AllByRecursion IsPlainLeaf bs
+  pub leaves : AllByRecursion IsKnownLeaf bs
   pub wired : AllByRecursion (IsWired bs) bs
   pub few : length bs ≤ most_numbers
 
@@ -105,9 +118,10 @@ point_stands ss bs known t p input m =
     let wired = all_got (IsWired bs) bs p.block b known.wired g.3 in
     let found : leaf_at bs (names_in x) ≡ Some b = ap (leaf_at bs) (sym path) ∙ wired.found in
     let known_event : is_in e (events_of b.kind) ≡ true = sym (ap (λ o. has_event o e) found) ∙ input in
-    let plain = all_got IsPlainLeaf bs p.block b known.plain g.3 in
-    let body : IsEventful s.1.body = eventful s.1.body (subst IsPlainKind (sym g.4.leaf.kind) plain.kind) in
-    let event = m.event s g.2 (omega (arith, body.few)) (subst (λ (k : Kind). is_in e (events_of k) ≡ true) (sym g.4.leaf.kind) known_event) in
+    let leaf = all_got IsKnownLeaf bs p.block b known.leaves g.3 in
+    let body = known_events b leaf in
+    let few : length (events_of (kind_of s.1.body)) ≤ 64 = subst (λ (k : Kind). length (events_of k) ≤ 64) (sym g.4.leaf.kind) body.few in
+    let event = m.event s g.2 (subst CanRun (sym g.4.leaf.kind) leaf.runs) (omega (arith, few)) (subst (λ (k : Kind). is_in e (events_of k) ≡ true) (sym g.4.leaf.kind) known_event) in
     let within : p.event < length (events_of b.kind) = subst (λ (k : Kind). p.event < length (events_of k)) g.4.leaf.kind event.0 in
     let same : named (events_of b.kind) p.event ≡ e = subst (λ (k : Kind). named (events_of k) p.event ≡ e) g.4.leaf.kind event.1 in (
       record { leaf = b; block = g.3; event = within },
@@ -116,6 +130,12 @@ point_stands ss bs known t p input m =
 
 -- ---- one output
 
+turned : (x y : Name) → bytes_eq x y ≡ false → bytes_eq y x ≡ false
+turned x y h = by (bytes_eq y x) refl where
+  by : (t : Bool) → bytes_eq y x ≡ t → t ≡ false
+  by false e = refl
+  by true e = absurd (let s : bytes_eq x y ≡ true = subst (λ z. bytes_eq x z ≡ true) (sym (same_name y x e)) (name_same x) in let f : false ≡ true = sym h ∙ s in cc)
+
 -- outputs of different names are each the first of its name
 firsts : (xs : List from_output.Output) → Apart (flat.output_names xs) → AllByRecursion (λ (o : from_output.Output). targets_of xs (string_bytes o.name) ≡ map target_place o.targets.items) xs
 firsts [] a = tt
@@ -123,7 +143,7 @@ firsts (x ∷ xs) a = (
   ap (λ t. cond t (map target_place x.targets.items) (targets_of xs (string_bytes x.name))) (name_same (string_bytes x.name)),
   all_both (λ (o : from_output.Output). bytes_eq (string_bytes x.name) (string_bytes o.name) ≡ false) (λ (o : from_output.Output). targets_of xs (string_bytes o.name) ≡ map target_place o.targets.items)
       (λ (o : from_output.Output). targets_of (x ∷ xs) (string_bytes o.name) ≡ map target_place o.targets.items) xs
-      (λ o d h. ap (λ t. cond t (map target_place x.targets.items) (targets_of xs (string_bytes o.name))) (bytes_turned (string_bytes x.name) (string_bytes o.name) false d) ∙ h)
+      (λ o d h. ap (λ t. cond t (map target_place x.targets.items) (targets_of xs (string_bytes o.name))) (turned (string_bytes x.name) (string_bytes o.name) d) ∙ h)
       (all_source (λ (o : from_output.Output). bytes_eq (string_bytes x.name) (string_bytes o.name) ≡ false) (λ n. bytes_eq (string_bytes x.name) n ≡ false) (λ (o : from_output.Output). string_bytes o.name) xs (λ o d. d) a.0) (firsts xs a.1),
 )
 
@@ -143,7 +163,7 @@ each_listed (x ∷ xs) = (
 abbrev Leads : wires.Leaf → from_output.Output → Type 0
 Leads b o = map target_place o.targets.items ≡ b.targets (string_bytes o.name)
 
-leaf_leads : (s : Numbered) (b : wires.Leaf) → IsLeaf s.1 b → IsEventful s.1.body → AllByRecursion (Leads b) s.1.outputs.items
+leaf_leads : (s : Numbered) (b : wires.Leaf) → IsLeaf s.1 b → IsEventful b.kind → AllByRecursion (Leads b) s.1.outputs.items
 leaf_leads s b l body =
     let xs = s.1.outputs.items in
     all_both (λ (o : from_output.Output). is_in (string_bytes o.name) (flat.output_names xs) ≡ true) (λ (o : from_output.Output). targets_of xs (string_bytes o.name) ≡ map target_place o.targets.items) (Leads b) xs
@@ -163,6 +183,6 @@ output_leads ss bs known b wired o x leads m =
     }
 
 -- the outputs of a leaf lead where the book's do
-pub outputs_lead : (ss : List Numbered) (bs : List wires.Leaf) → AreKnown ss bs → (s : Numbered) (b : wires.Leaf) → IsLeaf s.1 b → IsEventful s.1.body → IsWired bs b → (xs : List Output) → Each (IsOutputMade (paths_of ss) ss) s.1.outputs.items xs → AllByRecursion (LeadsTo bs b) xs
+pub outputs_lead : (ss : List Numbered) (bs : List wires.Leaf) → AreKnown ss bs → (s : Numbered) (b : wires.Leaf) → IsLeaf s.1 b → IsEventful b.kind → IsWired bs b → (xs : List Output) → Each (IsOutputMade (paths_of ss) ss) s.1.outputs.items xs → AllByRecursion (LeadsTo bs b) xs
 outputs_lead ss bs known s b l body wired xs m =
     each_second (LeadsTo bs b) s.1.outputs.items xs (each_weaker (Leads b) (IsOutputMade (paths_of ss) ss) (λ (o : from_output.Output) (x : Output). LeadsTo bs b x) s.1.outputs.items xs (output_leads ss bs known b wired) (leaf_leads s b l body) m)

@@ -1,27 +1,29 @@
 -- Tables while they are filled: what each function makes of what it is given.
 use Rattle.std.specs.Prelude.{ℕ, ◌≡◌, ◌<◌, ◌≤◌, ◌+◌, true, List, [], ◌∷◌, ◌++◌, map, length, string_bytes, Option, Some, None, slice_get}
+use Rattle.std.specs.List.{Any}
 use Rattle.std.specs.declared.string.String.{String}
+use Rattle.std.specs.declared.vec.Vec.{Vec}
 use Rattle.std.specs.declared.alloc.Global.{Global}
 use Rattle.fb_model.specs.Names.{Name, is_in}
-use Rattle.fb_model.specs.Typing.{AreDistinct}
+use Rattle.fb_model.specs.System.{Service, Input}
 use Rattle.fb_model.specs.Certificates.{events_of, depth_at}
 use Rattle.fb_model.specs.CertificateText.{place_of, names_in}
 use Rattle.fb_model.specs.Devices.{steps_row, places_row}
 use Rattle.fb_cert.specs.declared.certificate.Certificate as rows
 use Rattle.fb_cert.specs.Views.{certificate_of}
-use Rattle.fb_types.specs.declared.typed.Action as from_action
-use Rattle.fb_types.specs.declared.typed.State as from_state
-use Rattle.fb_types.specs.declared.typed.Transition as from_transition
-use Rattle.fb_types.specs.declared.typed.Block as from_block
-use Rattle.fb_types.specs.declared.typed.Body as from_body
-use Rattle.fb_types.specs.declared.typed.Body.TheVariants as f
-use Rattle.fb_types.specs.Views.{names_of}
-use Rattle.fb_flat.specs.declared.flat.Target.{Target}
-use Rattle.fb_flat.specs.declared.flat.Output as from_output
-use Rattle.fb_flat.specs.declared.flat.Leaf.{Leaf}
-use Rattle.fb_flat.specs.declared.flat.FlatResource.{FlatResource}
-use Rattle.fb_flat.specs.Views.{dotted}
-use Rattle.fb_flat.specs.Leaves.{kind_of}
+use Rattle.fb_check.specs.fb_blocks.declared.typed.Action as from_action
+use Rattle.fb_check.specs.fb_blocks.declared.typed.Transition as from_transition
+use Rattle.fb_check.specs.fb_blocks.declared.typed.Block as from_block
+use Rattle.fb_check.specs.fb_blocks.Answers.{names_in_map}
+use Rattle.fb_check.specs.fb_services.Views.{service_of}
+use Rattle.fb_check.specs.fb_flat.declared.flat.Body as from_body
+use Rattle.fb_check.specs.fb_flat.declared.flat.Body.TheVariants as f
+use Rattle.fb_check.specs.fb_flat.declared.flat.Target.{Target}
+use Rattle.fb_check.specs.fb_flat.declared.flat.Output as from_output
+use Rattle.fb_check.specs.fb_flat.declared.flat.Leaf.{Leaf}
+use Rattle.fb_check.specs.fb_flat.declared.flat.FlatResource.{FlatResource}
+use Rattle.fb_check.specs.fb_flat.Sites.{dotted}
+use Rattle.fb_check.specs.fb_flat.Leaves.{kind_of}
 use Rattle.fb_tables.specs.declared.table.Point.{Point}
 use Rattle.fb_tables.specs.declared.table.Event.{Event}
 use Rattle.fb_tables.specs.declared.table.Output.{Output}
@@ -32,9 +34,12 @@ use Rattle.fb_tables.specs.declared.table.Chart.{Chart}
 use Rattle.fb_tables.specs.declared.table.Body.{Body}
 use Rattle.fb_tables.specs.declared.table.Body.TheVariants as b
 use Rattle.fb_tables.specs.declared.table.Block.{Block}
-use Rattle.fb_types.specs.declared.typed.Resource as from_resource
+use Rattle.fb_check.specs.fb_types.declared.typed.Resource as from_resource
 use Rattle.fb_tables.specs.declared.table.Resource.{Resource}
 use Rattle.fb_tables.specs.declared.seat.Seat.{Seat}
+use Rattle.fb_tables.specs.declared.unfit.Unfit.{Unfit}
+use Rattle.fb_tables.specs.declared.unfit.Unfit.TheVariants.{OutOfMemory, CannotRun}
+use Rattle.fb_tables.specs.Runnable.{CanRun}
 use Rattle.fb_tables.specs.Views.{named}
 
 -- ---- lists and numbers
@@ -63,15 +68,15 @@ IsOptional names (Some x) None = ⊥
 
 -- ---- charts
 
--- the names of states, in order
-abbrev pub state_names : List from_state.State → List Name
-state_names xs = map (λ (s : from_state.State). string_bytes s.name) xs
+-- a state as a table has it: its name, and its actions
+abbrev pub Entry : Type 0
+Entry = String Global × Vec from_action.Action Global
 
 abbrev pub IsActionMade : List Name → from_action.Action → Action → Type 0
 IsActionMade outputs a x = IsOptional outputs a.output x.output
 
-abbrev pub IsStateMade : List Name → from_state.State → State → Type 0
-IsStateMade outputs s x = (string_bytes x.name ≡ string_bytes s.name) × Each (IsActionMade outputs) s.actions.items x.actions.items
+abbrev pub IsStateMade : List Name → Entry → State → Type 0
+IsStateMade outputs s x = (string_bytes x.name ≡ string_bytes s.0) × Each (IsActionMade outputs) s.1.items x.actions.items
 
 pub record IsTransitionMade (states events : List Name) (t : from_transition.Transition) (x : Transition) : Type 0 where
   pub source : IsNumber states (string_bytes t.source) x.source
@@ -79,14 +84,21 @@ pub record IsTransitionMade (states events : List Name) (t : from_transition.Tra
   pub event : IsOptional events t.event x.event
 
 pub record IsChartMade (k : from_block.Block) (c : Chart) : Type 0 where
-  pub states : Each (IsStateMade (names_of k.event_outputs)) k.states.items c.states.items
-  pub transitions : AreDistinct (state_names k.states.items) → Each (IsTransitionMade (state_names k.states.items) (names_of k.event_inputs)) k.transitions.items c.transitions.items
+  pub states : Each (IsStateMade (names_in_map k.face.event_outputs)) k.states.entries c.states.items
+  pub transitions : Each (IsTransitionMade (names_in_map k.states) (names_in_map k.face.event_inputs)) k.transitions.items c.transitions.items
+
+-- ---- bodies
+
+-- the number is that of the service, if it is an INPUT
+abbrev pub IsInputOf : Service → ℕ → Type 0
+IsInputOf (Input number types) n = n ≡ number
+IsInputOf other n = Unit {0}
 
 abbrev pub IsBodyMade : from_body.Body → Body → Type 0
 IsBodyMade (f.Basic block) (b.Chart c) = IsChartMade block.value c
-IsBodyMade (f.Input number) (b.Input n) = n ≡ number
+IsBodyMade (f.Served service) (b.Input n) = IsInputOf (service_of service) n
 IsBodyMade (f.Basic block) (b.Input n) = ⊥
-IsBodyMade (f.Input number) (b.Chart c) = ⊥
+IsBodyMade (f.Served service) (b.Chart c) = ⊥
 
 -- ---- leaves in order
 
@@ -109,6 +121,15 @@ abbrev pub numbered_from : ℕ → List FlatResource → List Numbered
 numbered_from n [] = []
 numbered_from n (r ∷ rs) = numbered n r.leaves.items ++ numbered_from (n + 1) rs
 
+-- a device can run the leaf
+abbrev pub Runs : Numbered → Type 0
+Runs s = CanRun (kind_of s.1.body)
+
+-- memory ran out, or one of the leaves has this path, and a device cannot run it
+abbrev pub IsStopped : List Numbered → Unfit → Type 0
+IsStopped ss OutOfMemory = Unit {0}
+IsStopped ss (CannotRun row) = Any (λ (s : Numbered). (string_bytes row ≡ string_bytes s.1.path) × (Runs s → ⊥)) ss
+
 -- their paths
 abbrev pub paths_of : List Numbered → List Name
 paths_of xs = map (λ (s : Numbered). string_bytes s.1.path) xs
@@ -118,7 +139,7 @@ paths_of xs = map (λ (s : Numbered). string_bytes s.1.path) xs
 -- a target's block by the number of its path, and its event by its number in that block
 pub record IsPointMade (paths : List Name) (all : List Numbered) (t : Target) (p : Point) : Type 0 where
   pub block : IsNumber paths (string_bytes t.path) p.block
-  pub event : (s : Numbered) → slice_get all p.block ≡ Some s → IsNumber (events_of (kind_of s.1.body)) (string_bytes t.event) p.event
+  pub event : (s : Numbered) → slice_get all p.block ≡ Some s → Runs s → IsNumber (events_of (kind_of s.1.body)) (string_bytes t.event) p.event
 
 abbrev pub IsOutputMade : List Name → List Numbered → from_output.Output → Output → Type 0
 IsOutputMade paths all o x = (string_bytes x.name ≡ string_bytes o.name) × Each (IsPointMade paths all) o.targets.items x.targets.items
@@ -132,7 +153,7 @@ pub record IsEventMade (cert : rows.Certificate) (path x : Name) (e : Event) : T
 pub record IsBlockMade (cert : rows.Certificate) (paths : List Name) (all : List Numbered) (s : Numbered) (x : Block) : Type 0 where
   pub path : string_bytes x.path ≡ string_bytes s.1.path
   pub resource : x.resource ≡ s.0
-  pub events : Each (IsEventMade cert (string_bytes s.1.path)) (events_of (kind_of s.1.body)) x.events.items
+  pub events : Runs s → Each (IsEventMade cert (string_bytes s.1.path)) (events_of (kind_of s.1.body)) x.events.items
   pub outputs : Each (IsOutputMade paths all) s.1.outputs.items x.outputs.items
   pub body : IsBodyMade s.1.body x.body
 

@@ -1,8 +1,8 @@
 -- When tables are those of a device of the book.
 -- IEC 61499-1 edition 2, 5.2 (charts), 5.3 (instances and their connections) and 7 (devices and resources).
-use Rattle.std.specs.Prelude.{ℕ, ◌≡◌, ◌<◌, ◌≤◌, ◌+◌, false, List, [], ◌∷◌, map, length, string_bytes, Some, slice_get, IfSome}
+use Rattle.std.specs.Prelude.{ℕ, ◌≡◌, ◌<◌, ◌≤◌, ◌+◌, List, [], ◌∷◌, map, length, string_bytes, Some, slice_get, IfSome}
 use Rattle.std.specs.List.{AllByRecursion}
-use Rattle.fb_model.specs.Names.{Name, Path, at_place, path_eq}
+use Rattle.fb_model.specs.Names.{Name, Path, at_place}
 use Rattle.fb_model.specs.System as book
 use Rattle.fb_model.specs.Typing.{AreDistinct}
 use Rattle.fb_model.specs.Services.{service_event_outputs}
@@ -10,6 +10,7 @@ use Rattle.fb_model.specs.Wires.{Kind, Charted, Serviced, Leaf, leaves}
 use Rattle.fb_model.specs.CertificateText.{names_in}
 use Rattle.fb_model.specs.Certificates.{Certificate, event_names as event_names_of, events_of, depth_of}
 use Rattle.fb_model.specs.Devices.{steps_row, places_row}
+use Rattle.fb_leaves.specs.Leaves.{AreApart}
 use Rattle.fb_tables.specs.declared.table.Point.{Point}
 use Rattle.fb_tables.specs.declared.table.Event.{Event}
 use Rattle.fb_tables.specs.declared.table.Output.{Output}
@@ -100,11 +101,6 @@ AreResources cert device n [] (r ∷ rs) = ⊥
 AreResources cert device n (x ∷ xs) [] = ⊥
 
 -- ---- devices
-
--- the paths of leaves are all different
-abbrev pub AreApart : List Leaf → Type 0
-AreApart [] = Unit {0}
-AreApart (leaf ∷ rest) = AllByRecursion (λ (other : Leaf). path_eq leaf.path other.path ≡ false) rest × AreApart rest
 
 -- the tables are those of a device, with the numbers of a certificate
 pub record AreTables (cert : Certificate) (device : book.Device) (t : Tables) : Type 0 where

@@ -3,16 +3,22 @@
 ghost use Rattle.std.specs.Prelude.{◌≡◌, IfOk};
 ghost use Rattle.fb_model.specs.Certificates.{events_of};
 ghost use Rattle.fb_cert.specs.Views.{steps_in, places_in};
-ghost use Rattle.fb_flat.specs.Leaves.{kind_of};
-ghost use Rattle.fb_types.specs.Views.{names_of};
-ghost use Rattle.fb_tables.specs.Filling.{Each, IsEventMade, IsBodyMade, IsBlockMade, seat_of, seats_of};
+ghost use Rattle.fb_check.specs.fb_blocks.Answers.{names_in_map};
+ghost use Rattle.fb_check.specs.fb_blocks.Views.{names_of};
+ghost use Rattle.fb_check.specs.fb_services.Views.{service_of};
+ghost use Rattle.fb_check.specs.fb_flat.Leaves.{kind_of};
+ghost use Rattle.fb_tables.specs.Runnable.{CanRun};
+ghost use Rattle.fb_tables.specs.Filling.{Each, IsInputOf, IsEventMade, IsBodyMade, IsBlockMade, seat_of, seats_of};
 
 use crate::chart::chart;
 use crate::seat::Seat;
 use crate::table::{Block, Body, Event};
 use crate::target::outputs;
 use fb_cert::{Amount, Certificate};
-use fb_flat::joined;
+use fb_check::fb_columns::fb_flat::fb_types::fb_networks::fb_services::fb_blocks::Events;
+use fb_check::fb_columns::fb_flat;
+use fb_check::fb_columns::fb_flat::joined;
+use fb_check::fb_columns::fb_flat::fb_types::fb_networks::fb_services::Service;
 use indexmap::IndexSet;
 use std::alloc::{AllocError, Global};
 
@@ -53,13 +59,13 @@ fn named(
     alloc: Global,
     certificate: &Certificate,
     path: &str,
-    names: &IndexSet<String>,
+    names: &Events,
 ) -> Result<Vec<Event>, AllocError>
-    ensures { IfOk result (λ v. Each (IsEventMade certificate.now path.now) (names_of names.now) v.items) }
+    ensures { IfOk result (λ v. Each (IsEventMade certificate.now path.now) (names_in_map names.now) v.items) }
 {
     let mut events = Vec::new(alloc);
     for index in 0..names.len() {
-        let Some(name) = names.get_index(index) else {
+        let Some((name, _)) = names.get_index(index) else {
             return Ok(events);
         };
         events.push(event(alloc, certificate, path, name.as_str())?)?;
@@ -67,18 +73,18 @@ fn named(
     Ok(events)
 }
 
-// The event inputs and arrivals of a body, in order.
+// The event inputs and arrivals of a body, in order. An INPUT has its arrival alone.
 fn events(
     alloc: Global,
     certificate: &Certificate,
     path: &str,
-    body: &fb_types::Body,
+    body: &fb_flat::Body,
 ) -> Result<Vec<Event>, AllocError>
-    ensures { IfOk result (λ v. Each (IsEventMade certificate.now path.now) (events_of (kind_of body.now)) v.items) }
+    ensures { CanRun (kind_of body.now) → IfOk result (λ v. Each (IsEventMade certificate.now path.now) (events_of (kind_of body.now)) v.items) }
 {
     match body {
-        fb_types::Body::Basic(block) => named(alloc, certificate, path, &block.event_inputs),
-        fb_types::Body::Input(_) => {
+        fb_flat::Body::Basic(block) => named(alloc, certificate, path, &block.face.event_inputs),
+        fb_flat::Body::Served(_) => {
             let mut events = Vec::new(alloc);
             events.push(event(alloc, certificate, path, "ARRIVE")?)?;
             Ok(events)
@@ -86,13 +92,23 @@ fn events(
     }
 }
 
+// The number of an INPUT, 0 of another service.
+fn input_number(service: &Service) -> u16
+    ensures { IsInputOf (service_of service.now) result }
+{
+    match service {
+        Service::Input(number, _) => *number,
+        _ => 0,
+    }
+}
+
 // What a block is made of.
-fn body(alloc: Global, source: &fb_types::Body) -> Result<Body, AllocError>
+fn body(alloc: Global, source: &fb_flat::Body) -> Result<Body, AllocError>
     ensures { IfOk result (λ x. IsBodyMade source.now x) }
 {
     match source {
-        fb_types::Body::Basic(block) => Ok(Body::Chart(chart(alloc, block)?)),
-        fb_types::Body::Input(number) => Ok(Body::Input(*number)),
+        fb_flat::Body::Basic(block) => Ok(Body::Chart(chart(alloc, block)?)),
+        fb_flat::Body::Served(service) => Ok(Body::Input(input_number(service))),
     }
 }
 

@@ -1,22 +1,23 @@
 //! Charts whose states, events and outputs are numbers.
 
 ghost use Rattle.std.specs.Prelude.{◌≡◌, IfOk};
-ghost use Rattle.fb_model.specs.Typing.{AreDistinct};
-ghost use Rattle.fb_types.specs.Views.{names_of};
-ghost use Rattle.fb_tables.specs.Filling.{Each, IsActionMade, IsStateMade, IsTransitionMade, IsChartMade, state_names};
+ghost use Rattle.fb_check.specs.fb_blocks.Answers.{names_in_map};
+ghost use Rattle.fb_tables.specs.Filling.{Each, IsActionMade, IsStateMade, IsTransitionMade, IsChartMade};
 
-use crate::names::{add, number, optional};
+use crate::names::{number_in, optional};
 use crate::table::{Action, Chart, State, Transition};
-use indexmap::IndexSet;
+use fb_check::fb_columns::fb_flat::fb_types::fb_networks::fb_services::fb_blocks;
+use fb_check::fb_columns::fb_flat::fb_types::fb_networks::fb_services::fb_blocks::Events;
+use indexmap::IndexMap;
 use std::alloc::{AllocError, Global};
 
 // Actions, in order.
 fn actions(
     alloc: Global,
-    outputs: &IndexSet<String>,
-    sources: &[fb_types::Action],
+    outputs: &Events,
+    sources: &[fb_blocks::Action],
 ) -> Result<Vec<Action>, AllocError>
-    ensures { IfOk result (λ v. Each (IsActionMade (names_of outputs.now)) sources.now v.items) }
+    ensures { IfOk result (λ v. Each (IsActionMade (names_in_map outputs.now)) sources.now v.items) }
 {
     let mut actions = Vec::new(alloc);
     for source in sources {
@@ -29,53 +30,46 @@ fn actions(
 // A state and its actions.
 fn state(
     alloc: Global,
-    outputs: &IndexSet<String>,
-    source: &fb_types::State,
+    outputs: &Events,
+    name: &String,
+    sources: &Vec<fb_blocks::Action>,
 ) -> Result<State, AllocError>
-    ensures { IfOk result (λ x. IsStateMade (names_of outputs.now) source.now x) }
+    ensures { IfOk result (λ x. IsStateMade (names_in_map outputs.now) (name.now, sources.now) x) }
 {
-    let name = source.name.clone()?;
-    let actions = actions(alloc, outputs, &source.actions)?;
+    let name = name.clone()?;
+    let actions = actions(alloc, outputs, sources)?;
     Ok(State { name, actions })
 }
 
 // States, in order.
 fn states(
     alloc: Global,
-    outputs: &IndexSet<String>,
-    sources: &[fb_types::State],
+    outputs: &Events,
+    sources: &IndexMap<String, Vec<fb_blocks::Action>>,
 ) -> Result<Vec<State>, AllocError>
-    ensures { IfOk result (λ v. Each (IsStateMade (names_of outputs.now)) sources.now v.items) }
+    ensures { IfOk result (λ v. Each (IsStateMade (names_in_map outputs.now)) sources.now.entries v.items) }
 {
     let mut states = Vec::new(alloc);
-    for source in sources {
-        states.push(state(alloc, outputs, source)?)?;
+    for index in 0..sources.len() {
+        let Some((name, actions)) = sources.get_index(index) else {
+            return Ok(states);
+        };
+        states.push(state(alloc, outputs, name, actions)?)?;
     }
     Ok(states)
 }
 
-// The names of states, in order.
-fn named(alloc: Global, states: &[fb_types::State]) -> Result<IndexSet<String>, AllocError>
-    ensures { AreDistinct (state_names states.now) → IfOk result (λ t. names_of t ≡ state_names states.now) }
-{
-    let mut names = IndexSet::new(alloc);
-    for state in states {
-        let _ = add(&mut names, &state.name)?;
-    }
-    Ok(names)
-}
-
 // A transition between states of these names, at an event of these.
 fn transition(
-    states: &IndexSet<String>,
-    events: &IndexSet<String>,
-    source: &fb_types::Transition,
+    states: &IndexMap<String, Vec<fb_blocks::Action>>,
+    events: &Events,
+    source: &fb_blocks::Transition,
 ) -> Transition
-    ensures { IsTransitionMade (names_of states.now) (names_of events.now) source.now result }
+    ensures { IsTransitionMade (names_in_map states.now) (names_in_map events.now) source.now result }
 {
     Transition {
-        source: number(states, source.source.as_str()),
-        target: number(states, source.target.as_str()),
+        source: number_in(states, source.source.as_str()),
+        target: number_in(states, source.target.as_str()),
         event: optional(events, &source.event),
     }
 }
@@ -83,11 +77,11 @@ fn transition(
 // Transitions, in order.
 fn transitions(
     alloc: Global,
-    states: &IndexSet<String>,
-    events: &IndexSet<String>,
-    sources: &[fb_types::Transition],
+    states: &IndexMap<String, Vec<fb_blocks::Action>>,
+    events: &Events,
+    sources: &[fb_blocks::Transition],
 ) -> Result<Vec<Transition>, AllocError>
-    ensures { IfOk result (λ v. Each (IsTransitionMade (names_of states.now) (names_of events.now)) sources.now v.items) }
+    ensures { IfOk result (λ v. Each (IsTransitionMade (names_in_map states.now) (names_in_map events.now)) sources.now v.items) }
 {
     let mut transitions = Vec::new(alloc);
     for source in sources {
@@ -96,13 +90,13 @@ fn transitions(
     Ok(transitions)
 }
 
-/// The chart of a basic block.
-pub fn chart(alloc: Global, block: &fb_types::Block) -> Result<Chart, AllocError>
+/// The chart of a basic block, without its algorithms and guards.
+pub fn chart(alloc: Global, block: &fb_blocks::Block) -> Result<Chart, AllocError>
     ensures { IfOk result (λ c. IsChartMade block.now c) }
 {
-    let names = named(alloc, &block.states)?;
-    let states = states(alloc, &block.event_outputs, &block.states)?;
-    let transitions = transitions(alloc, &names, &block.event_inputs, &block.transitions)?;
+    let face = &block.face;
+    let states = states(alloc, &face.event_outputs, &block.states)?;
+    let transitions = transitions(alloc, &block.states, &face.event_inputs, &block.transitions)?;
     Ok(Chart {
         states,
         transitions,

@@ -1,12 +1,11 @@
 //! Names and their numbers.
 
-ghost use Rattle.std.specs.Prelude.{◌≡◌, ◌≤◌, string_bytes, IfOk};
-ghost use Rattle.fb_types.specs.Answers.{Extends};
-ghost use Rattle.fb_types.specs.Views.{names_of};
+ghost use Rattle.std.specs.Prelude.{◌≡◌, ◌≤◌};
+ghost use Rattle.fb_check.specs.fb_blocks.Answers.{names_in_map};
+ghost use Rattle.fb_check.specs.fb_blocks.Views.{names_of};
 ghost use Rattle.fb_tables.specs.Filling.{IsNumber, IsOptional, most_numbers};
 
-use indexmap::IndexSet;
-use std::alloc::AllocError;
+use indexmap::{IndexMap, IndexSet};
 
 /// A number in two bytes, 0 where it does not fit.
 pub fn short(number: usize) -> u16
@@ -25,19 +24,22 @@ pub fn number(names: &IndexSet<String>, name: &str) -> u16
     }
 }
 
-/// The number of a name that may be left out.
-pub fn optional(names: &IndexSet<String>, name: &Option<String>) -> Option<u16>
-    ensures { IsOptional (names_of names.now) name.now result }
+/// The number of a name in a table, 0 where it is not there.
+pub fn number_in<V>(table: &IndexMap<String, V>, name: &str) -> u16
+    ensures { IsNumber (names_in_map table.now) name.now result }
 {
-    match name {
-        Some(name) => Some(number(names, name.as_str())),
-        None => None,
+    match table.get_index_of(name) {
+        Some(index) => short(index),
+        None => 0,
     }
 }
 
-/// Adds a name at the end, and says whether it was new.
-pub fn add(names: &mut IndexSet<String>, name: &String) -> Result<bool, AllocError>
-    ensures { IfOk result (λ added. Extends (names_of names.old) (string_bytes name.now) (names_of names.new) added) }
+/// The number of a name in a table, where there is a name.
+pub fn optional<V>(table: &IndexMap<String, V>, name: &Option<String>) -> Option<u16>
+    ensures { IsOptional (names_in_map table.now) name.now result }
 {
-    Ok(names.insert(name.clone()?)?)
+    match name {
+        Some(name) => Some(number_in(table, name.as_str())),
+        None => None,
+    }
 }

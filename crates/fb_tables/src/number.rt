@@ -1,20 +1,25 @@
 //! From what was checked to tables.
 
-ghost use Rattle.std.specs.Prelude.{◌≡◌, ◌<◌, length, Some, slice_get, IfOk};
+ghost use Rattle.std.specs.Prelude.{◌≡◌, ◌<◌, length, Some, slice_get, IfOk, IfErr};
+ghost use Rattle.std.specs.List.{AllByRecursion};
 ghost use Rattle.fb_model.specs.System.{Device};
-ghost use Rattle.fb_model.specs.Plain.{IsPlainDevice};
-ghost use Rattle.fb_cert.specs.Views.{certificate_of, depth_in};
-ghost use Rattle.fb_types.specs.Views.{device_of};
+ghost use Rattle.fb_model.specs.Wires.{Leaf, leaves};
+ghost use Rattle.fb_cert.specs.Views.{depth_in};
 ghost use Rattle.fb_check.specs.Verdicts.{system_in, certificate_in, IsChecked};
+ghost use Rattle.fb_tables.specs.Runnable.{CanRun, IsUnfit};
 ghost use Rattle.fb_tables.specs.Tables.{AreTables};
 ghost use Rattle.fb_tables.specs.Filling.{Each, IsResourceMade};
+ghost use Rattle.fb_tables.specs.declared.unfit.Unfit.TheVariants.{OutOfMemory};
 
 use crate::block::blocks;
+use crate::runnable::all_run;
 use crate::seat::{paths, seats};
 use crate::table::{Resource, Tables};
+use crate::unfit::Unfit;
 use fb_cert::Certificate;
+use fb_check::fb_columns::fb_flat::joined;
 use fb_check::Verified;
-use fb_flat::joined;
+use fb_check::fb_columns::fb_flat::fb_types;
 use std::alloc::{AllocError, Global};
 
 // The depth of a row, 0 where there is none.
@@ -62,15 +67,19 @@ fn resources(
 /// The tables of the device of this number, counted from 0.
 ///
 /// Its blocks are the leaves of the device, depth first in text order, and its numbers are those of the certificate.
-pub fn tables(alloc: Global, verified: &Verified, device: usize) -> Result<Tables, AllocError>
+/// Refused with `CannotRun` where there is a leaf that a device cannot run yet, at the first.
+pub fn tables(alloc: Global, verified: &Verified, device: usize) -> Result<Tables, Unfit>
     requires checked { IsChecked verified.now }
     requires within { device < length (system_in verified.now).devices }
-    ensures { (d : Device) → slice_get (system_in verified.now).devices device ≡ Some d → IfOk result (AreTables (certificate_in verified.now) d) }
+    ensures tables { (d : Device) → slice_get (system_in verified.now).devices device ≡ Some d → IfOk result (AreTables (certificate_in verified.now) d) }
+    ensures refused { (d : Device) → slice_get (system_in verified.now).devices device ≡ Some d → IfErr result (IsUnfit d) }
+    ensures runs { (d : Device) → slice_get (system_in verified.now).devices device ≡ Some d → AllByRecursion (λ (leaf : Leaf). CanRun leaf.kind) (leaves d) → IfErr result (λ f. f ≡ OutOfMemory) }
 {
     let certificate = verified.certificate();
     let flat = &verified.flat().devices[device];
     let typed = &verified.typed().devices[device];
     let seats = seats(alloc, &flat.resources)?;
+    all_run(&seats)?;
     let paths = paths(alloc, &seats)?;
     let blocks = blocks(alloc, certificate, &paths, &seats)?;
     let resources = resources(alloc, certificate, typed.name.as_str(), &typed.resources)?;

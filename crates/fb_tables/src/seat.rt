@@ -2,11 +2,12 @@
 
 ghost use Rattle.std.specs.Prelude.{◌≡◌, ◌≤◌, ◌++◌, length, map, IfOk, OnOk};
 ghost use Rattle.fb_model.specs.Typing.{AreDistinct};
-ghost use Rattle.fb_types.specs.Views.{names_of};
+ghost use Rattle.fb_check.specs.fb_blocks.Views.{names_of};
 ghost use Rattle.fb_tables.specs.Filling.{seats_of, numbered, numbered_from, paths_of, most_numbers};
 
-use crate::names::{add, short};
-use fb_flat::{FlatResource, Leaf};
+use crate::names::short;
+use fb_check::fb_columns::fb_flat::fb_types::fb_networks::fb_services::fb_blocks::insert;
+use fb_check::fb_columns::fb_flat::{FlatResource, Leaf};
 use indexmap::IndexSet;
 use std::alloc::{AllocError, Global};
 
@@ -48,7 +49,7 @@ pub fn paths(alloc: Global, seats: &[Seat]) -> Result<IndexSet<String>, AllocErr
 {
     let mut names = IndexSet::new(alloc);
     for seat in seats {
-        let _ = add(&mut names, &seat.leaf.path)?;
+        let _ = insert(&mut names, &seat.leaf.path)?;
     }
     Ok(names)
 }

@@ -2,25 +2,26 @@
 
 ghost use Rattle.std.specs.Prelude.{IfOk};
 ghost use Rattle.fb_model.specs.Certificates.{events_of};
-ghost use Rattle.fb_flat.specs.Leaves.{kind_of};
-ghost use Rattle.fb_types.specs.Views.{names_of};
+ghost use Rattle.fb_check.specs.fb_blocks.Views.{names_of};
+ghost use Rattle.fb_check.specs.fb_flat.Leaves.{kind_of};
+ghost use Rattle.fb_tables.specs.Runnable.{CanRun};
 ghost use Rattle.fb_tables.specs.Filling.{Each, IsNumber, IsPointMade, IsOutputMade, seats_of};
 
-use crate::names::number;
+use crate::names::{number, number_in};
 use crate::seat::Seat;
 use crate::table::{Output, Point};
-use fb_flat::Target;
-use fb_types::Body;
+use fb_check::fb_columns::fb_flat;
+use fb_check::fb_columns::fb_flat::{Body, Target};
 use indexmap::IndexSet;
 use std::alloc::{AllocError, Global};
 
-// The number of an event of a body.
+// The number of an event of a body. An INPUT has one.
 fn event(body: &Body, name: &str) -> u16
-    ensures { IsNumber (events_of (kind_of body.now)) name.now result }
+    ensures { CanRun (kind_of body.now) → IsNumber (events_of (kind_of body.now)) name.now result }
 {
     match body {
-        Body::Basic(block) => number(&block.event_inputs, name),
-        Body::Input(_) => 0,
+        Body::Basic(block) => number_in(&block.face.event_inputs, name),
+        Body::Served(_) => 0,
     }
 }
 

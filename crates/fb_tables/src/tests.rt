@@ -56,7 +56,7 @@ WEIGHT D.R.BUTTON.ARRIVE 25 6
 DEPTH D.R 8
 ";
 
-// The tables of the first device, or the words of the refusal.
+// The tables of the first device, or why there are none.
 fn told(alloc: Global, text: &str, certificate: &str) -> Result<String, Fail> {
     match check_text(alloc, text, certificate) {
         Ok(verified) => {
@@ -64,8 +64,10 @@ fn told(alloc: Global, text: &str, certificate: &str) -> Result<String, Fail> {
             if count < 1 {
                 return Ok(String::from_str(alloc, "no device")?);
             }
-            let found = tables(alloc, &verified, 0)?;
-            Ok(format!(in alloc; "{found:?}")?)
+            match tables(alloc, &verified, 0) {
+                Ok(found) => Ok(format!(in alloc; "{found:?}")?),
+                Err(unfit) => Ok(format!(in alloc; "{unfit:?}")?),
+            }
         }
         Err(refusal) => Ok(format!(in alloc; "{refusal}")?),
     }
@@ -98,6 +100,137 @@ fn a_device_without_resources(rt: HostRuntime) -> Result<(), Fail> {
     assert_eq!(rt;
         told(alloc, "SYSTEM S DEVICE D END_DEVICE END_SYSTEM", "CERT 1")?.as_str(),
         "Tables { blocks: [], resources: [] }"
+    );
+    Ok(())
+}
+
+// A composite joins what is outside to the second event of its merge.
+const NESTED: &str = "FUNCTION_BLOCK WRAP
+EVENT_INPUT EI; END_EVENT
+EVENT_OUTPUT EO; END_EVENT
+FBS M : E_MERGE; END_FBS
+EVENT_CONNECTIONS EI TO M.EI2; M.EO TO EO; END_CONNECTIONS
+END_FUNCTION_BLOCK
+FUNCTION_BLOCK CELL
+EVENT_INPUT EI; END_EVENT
+EC_STATES START; DONE; END_STATES
+EC_TRANSITIONS START TO DONE := EI; DONE TO START := 1; END_TRANSITIONS
+END_FUNCTION_BLOCK
+SYSTEM S DEVICE D RESOURCE R
+FBS BUTTON : INPUT(ID := 1); W : WRAP; C : CELL; END_FBS
+EVENT_CONNECTIONS BUTTON.IND TO W.EI; W.EO TO C.EI; END_CONNECTIONS
+END_RESOURCE END_DEVICE END_SYSTEM
+";
+
+const NESTED_ROWS: &str = "CERT 1
+CHARGE D.R.W.M.START 0 0
+CHARGE D.R.W.M.ACT 4 1
+CHARGE D.R.C.START 0 0
+CHARGE D.R.C.DONE 1 0
+WEIGHT D.R.BUTTON.ARRIVE 7 1
+WEIGHT D.R.W.M.EI1 8 2
+WEIGHT D.R.W.M.EI2 6 1
+WEIGHT D.R.C.EI 3 1
+DEPTH D.R 1
+";
+
+// Leaves inside a composite have paths through it, and outputs lead through it.
+#[test]
+fn a_composite(rt: HostRuntime) -> Result<(), Fail> {
+    let alloc = rt.alloc();
+    assert_eq!(rt;
+        told(alloc, NESTED, NESTED_ROWS)?.as_str(),
+        r#"Tables { blocks: [Block { path: "D.R.BUTTON", resource: 0, events: [Event { name: "ARRIVE", steps: 7, places: 1 }], outputs: [Output { name: "IND", targets: [Point { block: 1, event: 1 }] }], body: Input(1) }, Block { path: "D.R.W.M", resource: 0, events: [Event { name: "EI1", steps: 8, places: 2 }, Event { name: "EI2", steps: 6, places: 1 }], outputs: [Output { name: "EO", targets: [Point { block: 2, event: 0 }] }], body: Chart(Chart { states: [State { name: "START", actions: [] }, State { name: "ACT", actions: [Action { output: Some(0) }] }], transitions: [Transition { source: 0, target: 1, event: Some(0) }, Transition { source: 0, target: 1, event: Some(1) }, Transition { source: 1, target: 0, event: None }] }) }, Block { path: "D.R.C", resource: 0, events: [Event { name: "EI", steps: 3, places: 1 }], outputs: [], body: Chart(Chart { states: [State { name: "START", actions: [] }, State { name: "DONE", actions: [] }], transitions: [Transition { source: 0, target: 1, event: Some(0) }, Transition { source: 1, target: 0, event: None }] }) }], resources: [Resource { name: "R", depth: 1 }] }"#
+    );
+    Ok(())
+}
+
+const TWO: &str = "SYSTEM S DEVICE D
+RESOURCE A FBS X : INPUT(ID := 1); END_FBS END_RESOURCE
+RESOURCE B FBS Y : INPUT(ID := 2); END_FBS END_RESOURCE
+END_DEVICE END_SYSTEM
+";
+
+const TWO_ROWS: &str = "CERT 1
+WEIGHT D.A.X.ARRIVE 1 1
+WEIGHT D.B.Y.ARRIVE 2 1
+DEPTH D.A 1
+DEPTH D.B 2
+";
+
+// Blocks have the numbers of their resources.
+#[test]
+fn two_resources(rt: HostRuntime) -> Result<(), Fail> {
+    let alloc = rt.alloc();
+    assert_eq!(rt;
+        told(alloc, TWO, TWO_ROWS)?.as_str(),
+        r#"Tables { blocks: [Block { path: "D.A.X", resource: 0, events: [Event { name: "ARRIVE", steps: 1, places: 1 }], outputs: [Output { name: "IND", targets: [] }], body: Input(1) }, Block { path: "D.B.Y", resource: 1, events: [Event { name: "ARRIVE", steps: 2, places: 1 }], outputs: [Output { name: "IND", targets: [] }], body: Input(2) }], resources: [Resource { name: "A", depth: 1 }, Resource { name: "B", depth: 2 }] }"#
+    );
+    Ok(())
+}
+
+const VARIABLE: &str = "FUNCTION_BLOCK B
+EVENT_INPUT EI; END_EVENT
+VAR X : BOOL; END_VAR
+EC_STATES S1; S2; END_STATES
+EC_TRANSITIONS S1 TO S2 := EI; S2 TO S1 := 1; END_TRANSITIONS
+END_FUNCTION_BLOCK
+SYSTEM S DEVICE D RESOURCE R FBS C : B; END_FBS END_RESOURCE END_DEVICE END_SYSTEM
+";
+
+const VARIABLE_ROWS: &str = "CERT 1
+CHARGE D.R.C.S1 0 0
+CHARGE D.R.C.S2 1 0
+WEIGHT D.R.C.EI 3 1
+DEPTH D.R 1
+";
+
+const LAMP: &str = "SYSTEM S DEVICE D RESOURCE R
+FBS BUTTON : INPUT(ID := 1); LAMP : OUTPUT(ID := 1); END_FBS
+EVENT_CONNECTIONS BUTTON.IND TO LAMP.REQ; END_CONNECTIONS
+END_RESOURCE END_DEVICE END_SYSTEM
+";
+
+const LAMP_ROWS: &str = "CERT 1
+WEIGHT D.R.BUTTON.ARRIVE 2 1
+WEIGHT D.R.LAMP.REQ 1 1
+DEPTH D.R 1
+";
+
+const VALUED: &str = "FUNCTION_BLOCK CELL
+EVENT_INPUT EI; END_EVENT
+EC_STATES START; DONE; END_STATES
+EC_TRANSITIONS START TO DONE := EI; DONE TO START := 1; END_TRANSITIONS
+END_FUNCTION_BLOCK
+SYSTEM S DEVICE D RESOURCE R
+FBS C : CELL; SRC : INPUT[INT](ID := 1); END_FBS
+EVENT_CONNECTIONS SRC.IND TO C.EI; END_CONNECTIONS
+END_RESOURCE END_DEVICE END_SYSTEM
+";
+
+const VALUED_ROWS: &str = "CERT 1
+CHARGE D.R.C.START 0 0
+CHARGE D.R.C.DONE 1 0
+WEIGHT D.R.SRC.ARRIVE 4 1
+WEIGHT D.R.C.EI 3 1
+DEPTH D.R 1
+";
+
+// What a device cannot run yet is told with its path.
+#[test]
+fn leaves_that_cannot_run(rt: HostRuntime) -> Result<(), Fail> {
+    let alloc = rt.alloc();
+    assert_eq!(rt;
+        told(alloc, VARIABLE, VARIABLE_ROWS)?.as_str(),
+        r#"CannotRun("D.R.C")"#
+    );
+    assert_eq!(rt;
+        told(alloc, LAMP, LAMP_ROWS)?.as_str(),
+        r#"CannotRun("D.R.LAMP")"#
+    );
+    assert_eq!(rt;
+        told(alloc, VALUED, VALUED_ROWS)?.as_str(),
+        r#"CannotRun("D.R.SRC")"#
     );
     Ok(())
 }

@@ -1,7 +1,13 @@
-pub mod BlockSound
-pub mod SystemSound
+pub mod VariableSound
+pub mod NetworkSound
+pub mod ChartSound
+pub mod Sound
 pub mod Shorter
+pub mod VariableComplete
+pub mod NetworkComplete
+pub mod ChartComplete
 pub mod Complete
-pub mod Shallow
-pub mod Laws
+pub mod NetworkSteady
 pub mod Steady
+pub mod Opens
+pub mod Laws

@@ -1,25 +1,51 @@
 -- What the parser's answers say.
-use Rattle.std.specs.Prelude.{◌≡◌, ◌⊎◌, ℕ, List, ◌∷◌, ◌++◌, length, Result, Ok, Err}
+use Rattle.std.specs.Prelude.{ℕ, List, length, Result, Ok, Err}
 use Rattle.fb_lex.specs.declared.fault.TextFault.{TextFault}
 use Rattle.fb_lex.specs.declared.fault.TextFault.TheVariants as faults
 use Rattle.fb_lex.specs.Lexing.{Refuses}
-use Rattle.fb_model.specs.Tokens.{Token, token}
+use Rattle.fb_model.specs.Tokens.{Token}
 use Rattle.fb_model.specs.Spelling.{Spells}
-use Rattle.fb_model.specs.Trees.{SourceTree}
-use Rattle.fb_model.specs.Grammar.{IsFile}
-use Rattle.fb_text.specs.Reading.{whole_at}
-use Rattle.fb_read.specs.Reading.{syntax, too_deep}
-use Rattle.fb_read.specs.Faults.{offset_of}
+use Rattle.fb_model.specs.StructuredTextGrammar.{IsExpression, IsAlgorithm, most_nested, most_nested_statements}
+use Rattle.fb_model.specs.Declarations.{SourceTree}
+use Rattle.fb_model.specs.DeclarationGrammar.{IsFile}
+use Rattle.fb_read.specs.Whole.{Tells, Finds, PlacesSyntax, PlacesTooDeep}
 use Rattle.fb_text.specs.declared.tree.Source.{Source}
 use Rattle.fb_text.specs.Views.{source_of}
+use Rattle.fb_text.specs.Reading.{whole_at}
+
+-- ---- the trees of tokens
+
+-- all of the tokens are this tree, with expressions and statements nested at most so deep
+abbrev pub IsNested : ℕ → ℕ → List Token → SourceTree → Type 0
+IsNested n k ts x = IsFile (IsExpression n) (IsAlgorithm n k) ts x
+
+-- all of the tokens are a tree that nests no deeper than is read
+abbrev pub IsTree : List Token → SourceTree → Type 0
+IsTree ts x = IsNested most_nested most_nested_statements ts x
+
+-- all of the tokens are a tree, however deep it nests
+abbrev pub IsSomeTree : List Token → SourceTree → Type 0
+IsSomeTree ts x = (n : ℕ) × (k : ℕ) × IsNested n k ts x
+
+-- ---- what is answered of tokens
 
 -- the tree that is read of the tokens of a text with this end, or why and where there is none, unless memory ran out
 abbrev pub Reads : ℕ → List Token → Result Source TextFault → Type 0
-Reads end ts (Ok source) = whole_at ts ≡ Ok (source_of source)
-Reads end ts (Err faults.OutOfMemory) = Unit {0}
-Reads end ts (Err (faults.Syntax offset)) = (left : ℕ) × (whole_at ts ≡ Err (syntax left)) × (offset ≡ offset_of end ts left)
-Reads end ts (Err (faults.TooDeep offset)) = (left : ℕ) × (whole_at ts ≡ Err (too_deep left)) × (offset ≡ offset_of end ts left)
-Reads end ts (Err other) = ⊥
+Reads end ts answer = Tells source_of (whole_at ts) end ts answer
+
+-- the tree is found, unless memory runs out
+abbrev pub FindsTree : Result Source TextFault → SourceTree → Type 0
+FindsTree answer x = Finds source_of answer x
+
+-- where the answer is Syntax, it is at the end, or at a token with which no tree goes on, however deep
+abbrev pub SyntaxAt : ℕ → List Token → Result Source TextFault → Type 0
+SyntaxAt end ts answer = PlacesSyntax IsSomeTree end ts answer
+
+-- where the answer is TooDeep, it is at a token with which no tree within the limits goes on
+abbrev pub TooDeepAt : List Token → Result Source TextFault → Type 0
+TooDeepAt ts answer = PlacesTooDeep IsTree ts answer
+
+-- ---- what is answered of texts
 
 -- The tokens that the text spells are read so.
 pub record ReadsSpelled (text : List ℕ) (answer : Result Source TextFault) : Type 0 where
@@ -34,50 +60,24 @@ ReadsText text (Err (faults.Syntax offset)) = ReadsSpelled text (Err (faults.Syn
 ReadsText text (Err (faults.TooDeep offset)) = ReadsSpelled text (Err (faults.TooDeep offset))
 ReadsText text (Err other) = Refuses other text
 
--- ---- what the answers say of the grammar
+-- the text is spelled by tokens that are this tree, with expressions and statements nested at most so deep
+abbrev pub IsNestedSource : ℕ → ℕ → List ℕ → SourceTree → Type 0
+IsNestedSource n k text x = (ts : List Token) × Spells 0 text ts × IsNested n k ts x
 
--- the text is spelled by tokens that are this tree
+-- and the tree nests no deeper than is read
 abbrev pub IsSource : List ℕ → SourceTree → Type 0
-IsSource text x = (ts : List Token) × Spells 0 text ts × IsFile ts x
+IsSource text x = IsNestedSource most_nested most_nested_statements text x
 
--- the tree is found, unless memory runs out
-abbrev pub FindsTree : Result Source TextFault → SourceTree → Type 0
-FindsTree (Ok source) x = source_of source ≡ x
-FindsTree (Err faults.OutOfMemory) x = Unit {0}
-FindsTree (Err other) x = ⊥
-
--- where the answer is Syntax, this holds
-abbrev pub IfSyntax : Result Source TextFault → Type 0 → Type 0
-IfSyntax (Err (faults.Syntax offset)) P = P
-IfSyntax other P = Unit {0}
-
--- the nesting is not what is wrong
-abbrev pub IsNotDeep : Result Source TextFault → Type 0
-IsNotDeep (Err (faults.TooDeep offset)) = ⊥
-IsNotDeep other = Unit {0}
-
--- the text is spelled by tokens, and by those of no tree
+-- the text is spelled by tokens, and by those of no tree, however deep
 abbrev pub IsNoSource : List ℕ → Type 0
-IsNoSource text = ((ts : List Token) × Spells 0 text ts) × ((x : SourceTree) → IsSource text x → ⊥)
+IsNoSource text = ((ts : List Token) × Spells 0 text ts) × ((n k : ℕ) (x : SourceTree) → IsNestedSource n k text x → ⊥)
 
-abbrev pub start_of : Token → ℕ
-start_of (token k s e) = s
-
--- the token of the tokens that begins there cannot stand there: no tree begins with the tokens before it and with it
-pub record CannotStand (ts : List Token) (offset : ℕ) : Type 0 where
-  pub before : List Token
-  pub wrong : Token
-  pub behind : List Token
-  pub tokens_are : ts ≡ before ++ wrong ∷ behind
-  pub begins : offset ≡ start_of wrong
-  pub never : (others : List Token) (x : SourceTree) → IsFile (before ++ wrong ∷ others) x → ⊥
-
--- where the answer is Syntax, it is at the end, or at a token that cannot stand there
-abbrev pub SyntaxAt : ℕ → List Token → Result Source TextFault → Type 0
-SyntaxAt end ts (Err (faults.Syntax offset)) = (offset ≡ end) ⊎ CannotStand ts offset
-SyntaxAt end ts other = Unit {0}
-
--- the same of the tokens that the text spells
+-- where the answer is Syntax, it is at the text's end, or at a token of the text with which no tree goes on, however deep
 abbrev pub SyntaxIn : List ℕ → Result Source TextFault → Type 0
 SyntaxIn text (Err (faults.Syntax offset)) = (ts : List Token) × Spells 0 text ts × SyntaxAt (length text) ts (Err (faults.Syntax offset))
 SyntaxIn text other = Unit {0}
+
+-- where the answer is TooDeep, it is at a token of the text with which no tree within the limits goes on
+abbrev pub TooDeepIn : List ℕ → Result Source TextFault → Type 0
+TooDeepIn text (Err (faults.TooDeep offset)) = (ts : List Token) × Spells 0 text ts × TooDeepAt ts (Err (faults.TooDeep offset))
+TooDeepIn text other = Unit {0}

@@ -1,15 +1,15 @@
 //! Constants.
 
-ghost use Rattle.std.specs.Prelude.{◌≡◌, map, string_bytes};
+ghost use Rattle.std.specs.Prelude.{◌≡◌};
 ghost use Rattle.fb_lex.specs.Views.{tokens_of};
-ghost use Rattle.fb_read.specs.Answers.{Gives, word_of, optional};
-ghost use Rattle.fb_text.specs.Views.{constant_of};
+ghost use Rattle.fb_read.specs.Answers.{Gives};
+ghost use Rattle.st_tree.specs.Views.{constant_of};
 ghost use Rattle.fb_text.specs.Reading.{negative_at, marked_at, constant_at};
 
-use crate::tree::{Constant, Literal};
 use fb_lex::{Kind, Token};
 use fb_read::Stop;
 use fb_words::Mark;
+use st_tree::{Constant, Literal};
 
 /// A constant: a literal, or `-` and an untyped number.
 #[tactic(auto, unfolding(crate::specs::Reading::constant_at))]

@@ -1,16 +1,23 @@
-//! Application texts to source trees.
+//! Application texts to source trees, for the whole language.
 #![tactic(auto)]
 
 mod block;
+mod chart;
 mod constant;
+mod event;
+mod network;
+mod state;
 mod system;
 #[cfg(test)]
 mod tests;
 mod text;
 mod tree;
+mod variable;
+mod word;
 
 pub use text::{one_source, one_tree, parse, parse_tokens};
 pub use tree::{
-    ActionTree, BlockTree, ConnectionTree, Constant, DeviceTree, EventTree, InstanceTree, Literal,
-    ParameterTree, PortTree, ResourceTree, Source, StateTree, SystemTree, TransitionTree,
+    ActionTree, AlgorithmTree, BlockTree, BodyTree, BoundsTree, ChartTree, ConnectionTree,
+    DeviceTree, EventTree, GuardTree, InstanceTree, NetworkTree, ParameterTree, PortTree,
+    ResourceTree, Source, StartTree, StateTree, SystemTree, TransitionTree, VariableTree,
 };

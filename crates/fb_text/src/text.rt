@@ -3,12 +3,15 @@
 ghost use Rattle.std.specs.Prelude.{◌≡◌, ◌≤◌, ℕ, List, length, map, IfOk};
 ghost use Rattle.fb_lex.specs.Views.{tokens_of};
 ghost use Rattle.fb_read.specs.Answers.{Gives};
+ghost use Rattle.fb_read.specs.Whole.{IfSyntax};
+ghost use Rattle.st_expr.specs.Reading.{expression_at};
+ghost use Rattle.st_parse.specs.Reading.{algorithm_at};
 ghost use Rattle.fb_text.specs.Views.{source_of};
 ghost use Rattle.fb_text.specs.Reading.{file_at, whole_at};
-ghost use Rattle.fb_text.specs.Answers.{Reads, ReadsText, IsSource, FindsTree, IfSyntax, SyntaxAt, SyntaxIn, IsNotDeep, IsNoSource};
+ghost use Rattle.fb_text.specs.Answers.{Reads, ReadsText, IsNested, IsTree, IsNestedSource, IsSource, IsNoSource, FindsTree, SyntaxAt, TooDeepAt, SyntaxIn, TooDeepIn};
 ghost use Rattle.fb_model.specs.Tokens as book;
-ghost use Rattle.fb_model.specs.Trees.{SourceTree};
-ghost use Rattle.fb_model.specs.Grammar.{IsFile};
+ghost use Rattle.fb_model.specs.StructuredTextGrammar.{most_nested, most_nested_statements};
+ghost use Rattle.fb_model.specs.Declarations.{SourceTree};
 
 use crate::system::system;
 use crate::tree::{BlockTree, Source};
@@ -20,7 +23,7 @@ use std::alloc::Global;
 // Block types and the system, and what is left behind them.
 #[tactic(auto, unfolding(crate::specs::Reading::file_at))]
 fn file(alloc: Global, tokens: &[Token]) -> Result<(Source, &[Token]), Stop>
-    ensures { Gives (λ x. (source_of x.0, tokens_of x.1.now)) result (file_at (tokens_of tokens.now)) }
+    ensures { Gives (λ x. (source_of x.0, tokens_of x.1.now)) result (file_at (expression_at most_nested) (algorithm_at most_nested most_nested_statements) (tokens_of tokens.now)) }
 {
     let (blocks, rest) = many::<BlockTree>(alloc, tokens, Mark::System)?;
     let (system, rest) = system(alloc, rest)?;
@@ -41,14 +44,16 @@ fn whole(alloc: Global, tokens: &[Token]) -> Result<Source, Stop>
 
 /// The source tree of tokens, which are those of a text of so many bytes.
 ///
-/// A `Syntax` names the first token that cannot stand there, or the text's length where the tokens end too soon.
+/// `Syntax` names the first token that cannot stand there, or the text's length where the tokens end too soon; `TooDeep` the
+/// token that opens one nesting too many, where 64 brackets, calls and signs may nest in an expression, and 32 statements in an
+/// algorithm; `OutOfMemory` comes where memory ran out.
 pub fn parse_tokens(alloc: Global, tokens: &[Token], length: usize) -> Result<Source, TextFault>
     ensures reads { Reads length (tokens_of tokens.now) result }
-    ensures found { IfOk result (λ source. IsFile (tokens_of tokens.now) (source_of source)) }
-    ensures only { (x : SourceTree) → IsFile (tokens_of tokens.now) x → FindsTree result x }
-    ensures syntax { IfSyntax result ((x : SourceTree) → IsFile (tokens_of tokens.now) x → ⊥) }
+    ensures found { IfOk result (λ source. IsTree (tokens_of tokens.now) (source_of source)) }
+    ensures only { (x : SourceTree) → IsTree (tokens_of tokens.now) x → FindsTree result x }
+    ensures syntax { IfSyntax result ((n k : ℕ) (x : SourceTree) → IsNested n k (tokens_of tokens.now) x → ⊥) }
     ensures place { SyntaxAt length (tokens_of tokens.now) result }
-    ensures shallow { IsNotDeep result }
+    ensures deep { TooDeepAt (tokens_of tokens.now) result }
 {
     match whole(alloc, tokens) {
         Ok(source) => Ok(source),
@@ -58,26 +63,27 @@ pub fn parse_tokens(alloc: Global, tokens: &[Token], length: usize) -> Result<So
 
 /// The source tree of a text.
 ///
-/// The lexer's refusals come first: `TooLong`, `BadCharacter`, `BigNumber`. A text whose tokens are no application is refused
-/// with `Syntax`, at the first token that cannot stand where it does, or at the text's length where the tokens end too soon.
+/// The lexer's refusals come first: `TooLong`, `BadCharacter`, `BigNumber`. Then those of `parse_tokens`: `Syntax` at the first
+/// token that cannot stand where it does, or at the text's length where the tokens end too soon, and `TooDeep` at the token that
+/// opens one nesting too many.
 pub fn parse(alloc: Global, text: &str) -> Result<Source, TextFault>
     ensures reads { ReadsText text.now result }
     ensures found { IfOk result (λ source. IsSource text.now (source_of source)) }
     ensures only { (x : SourceTree) → IsSource text.now x → length text.now ≤ 1048576 → FindsTree result x }
     ensures syntax { IfSyntax result (IsNoSource text.now) }
     ensures place { SyntaxIn text.now result }
-    ensures shallow { IsNotDeep result }
+    ensures deep { TooDeepIn text.now result }
 {
     let tokens = lex(alloc, text)?;
     parse_tokens(alloc, &tokens, text.len())
 }
 
-/// No tokens are two trees.
+/// No tokens are two trees, however deep each nests.
 pub fn one_tree()
-    ensures { (ts : List book.Token) (x y : SourceTree) → IsFile ts x → IsFile ts y → x ≡ y }
+    ensures { (n k n' k' : ℕ) (ts : List book.Token) (x y : SourceTree) → IsNested n k ts x → IsNested n' k' ts y → x ≡ y }
 {}
 
-/// No text is two trees.
+/// No text is two trees, however deep each nests.
 pub fn one_source()
-    ensures { (text : List ℕ) (x y : SourceTree) → IsSource text x → IsSource text y → x ≡ y }
+    ensures { (n k n' k' : ℕ) (text : List ℕ) (x y : SourceTree) → IsNestedSource n k text x → IsNestedSource n' k' text y → x ≡ y }
 {}

@@ -1,32 +1,37 @@
-//! Source trees. A place is the offset of a token's first byte.
+//! Source trees of declarations. A place is the offset of a token's first byte.
 
 use fb_read::Name;
 use fb_words::ElemType;
+use st_tree::{Constant, Expr, Stmt};
 
-/// A literal: IEC 61131-3 edition 3, 6.3.
-#[derive(Clone, Copy, Debug, PartialEq, Eq)]
-pub enum Literal {
-    /// A number without a type, with a `-` directly before it or not, and its size.
-    Whole(bool, u64),
-    /// A number with its type: the sign and the size.
-    Typed(ElemType, bool, u64),
-    /// A TIME: the sign and the size in milliseconds.
-    Duration(bool, u64),
-    /// TRUE or FALSE.
-    Truth(bool),
-}
-
-/// A literal and its place, which is behind a `-` before it.
-#[derive(Clone, Copy, Debug, PartialEq, Eq)]
-pub struct Constant {
-    pub value: Literal,
-    pub at: usize,
-}
-
-/// An event of a block.
+/// An event of a block, and the variables that it is WITH.
 #[derive(Debug, Drop)]
 pub struct EventTree {
     pub name: Name,
+    pub carries: Vec<Name>,
+}
+
+/// The lowest and the highest index of an array.
+#[derive(Clone, Copy, Debug, PartialEq, Eq)]
+pub struct BoundsTree {
+    pub low: Constant,
+    pub high: Constant,
+}
+
+/// A start value, with the place of its `:=`.
+#[derive(Clone, Copy, Debug, PartialEq, Eq)]
+pub struct StartTree {
+    pub at: usize,
+    pub value: Constant,
+}
+
+/// Variables of one type, of an array's elements where there are bounds.
+#[derive(Debug, Drop)]
+pub struct VariableTree {
+    pub names: Vec<Name>,
+    pub bounds: Option<BoundsTree>,
+    pub of_type: ElemType,
+    pub start: Option<StartTree>,
 }
 
 /// An action: the algorithm that it runs and the event output that it emits.
@@ -43,22 +48,36 @@ pub struct StateTree {
     pub actions: Vec<ActionTree>,
 }
 
-/// A transition. Without an event its condition is 1.
+/// A guard, with the place of its `[`.
+#[derive(Debug, Drop)]
+pub struct GuardTree {
+    pub at: usize,
+    pub condition: Expr,
+}
+
+/// A transition. Without an event and without a guard its condition is 1.
 #[derive(Debug, Drop)]
 pub struct TransitionTree {
     pub source: Name,
     pub target: Name,
     pub event: Option<Name>,
+    pub guard: Option<GuardTree>,
 }
 
-/// The declaration of a basic block.
+/// An algorithm in Structured Text.
 #[derive(Debug, Drop)]
-pub struct BlockTree {
+pub struct AlgorithmTree {
     pub name: Name,
-    pub event_inputs: Vec<EventTree>,
-    pub event_outputs: Vec<EventTree>,
+    pub body: Vec<Stmt>,
+}
+
+/// What a basic block does.
+#[derive(Debug, Drop)]
+pub struct ChartTree {
+    pub internals: Vec<VariableTree>,
     pub states: Vec<StateTree>,
     pub transitions: Vec<TransitionTree>,
+    pub algorithms: Vec<AlgorithmTree>,
 }
 
 /// A parameter of an instance, with the place of its `:=`.
@@ -69,11 +88,12 @@ pub struct ParameterTree {
     pub value: Constant,
 }
 
-/// A function block instance.
+/// A function block instance: its parameters, and the types in square brackets, where these stand.
 #[derive(Debug, Drop)]
 pub struct InstanceTree {
     pub name: Name,
     pub of_type: Name,
+    pub types: Option<Vec<ElemType>>,
     pub parameters: Vec<ParameterTree>,
 }
 
@@ -92,12 +112,39 @@ pub struct ConnectionTree {
     pub target: PortTree,
 }
 
-/// A resource: its instances and their event connections.
+/// What composites and resources are made of: instances, and connections of events and of data.
+#[derive(Debug, Drop)]
+pub struct NetworkTree {
+    pub instances: Vec<InstanceTree>,
+    pub events: Vec<ConnectionTree>,
+    pub values: Vec<ConnectionTree>,
+}
+
+/// What a block type is made of.
+#[derive(Debug, Drop)]
+pub enum BodyTree {
+    /// A basic block.
+    Chart(ChartTree),
+    /// A composite.
+    Network(NetworkTree),
+}
+
+/// The declaration of a block type.
+#[derive(Debug, Drop)]
+pub struct BlockTree {
+    pub name: Name,
+    pub event_inputs: Vec<EventTree>,
+    pub event_outputs: Vec<EventTree>,
+    pub inputs: Vec<VariableTree>,
+    pub outputs: Vec<VariableTree>,
+    pub body: BodyTree,
+}
+
+/// A resource.
 #[derive(Debug, Drop)]
 pub struct ResourceTree {
     pub name: Name,
-    pub instances: Vec<InstanceTree>,
-    pub events: Vec<ConnectionTree>,
+    pub network: NetworkTree,
 }
 
 /// A device: its resources.

@@ -1,15 +1,19 @@
-//! What refusals and typed systems are, over the definitions alone.
+//! What systems and refusals are, over the definitions alone.
 
-ghost use Rattle.std.specs.Prelude.{◌≡◌};
-ghost use Rattle.fb_model.specs.System.{System};
-ghost use Rattle.fb_model.specs.Trees.{SourceTree};
-ghost use Rattle.fb_model.specs.Typing.{Elaborates};
+ghost use Rattle.std.specs.Prelude.{◌≡◌, List};
+ghost use Rattle.fb_model.specs.Declarations.{BlockTree, SourceTree};
+ghost use Rattle.fb_model.specs.System as book;
+ghost use Rattle.fb_model.specs.NetworkTyping.{ElaboratesWith};
+ghost use Rattle.fb_networks.specs.fb_blocks.declared.fault.TypeFault.{TypeFault};
+ghost use Rattle.fb_networks.specs.fb_blocks.declared.fault.TypeFault.TheVariants.{OutOfMemory};
 ghost use Rattle.fb_types.specs.Refusals.{IsSourceFault};
-ghost use Rattle.fb_types.specs.declared.fault.TypeFault.{TypeFault};
-ghost use Rattle.fb_types.specs.declared.fault.TypeFault.TheVariants.{OutOfMemory};
 
-/// A source with a fault is not well typed, unless the fault is that memory ran out. A well typed source has one system only.
+/// A source is one system at most, with the same event blocks.
+pub fn one_system()
+    ensures { (library : List BlockTree) (source : SourceTree) (s t : book.System) → ElaboratesWith library source s → ElaboratesWith library source t → s ≡ t }
+{}
+
+/// What is well typed has no fault that a refusal could name, unless it is that memory ran out.
 pub fn refusals_are_true()
-    ensures faults { (source : SourceTree) (system : System) (f : TypeFault) → IsSourceFault source f → (f ≡ OutOfMemory → ⊥) → Elaborates source system → ⊥ }
-    ensures one { (source : SourceTree) (a b : System) → Elaborates source a → Elaborates source b → a ≡ b }
+    ensures { (library : List BlockTree) (source : SourceTree) (s : book.System) (f : TypeFault) → ElaboratesWith library source s → IsSourceFault library source f → f ≡ OutOfMemory }
 {}

@@ -1,22 +1,32 @@
-//! Names, types and services: source trees to typed systems.
+//! Whole sources: from source trees to typed systems.
 #![tactic(auto)]
 
-mod block;
-mod connection;
-mod fault;
-mod instance;
+mod count;
+mod device;
+mod ends;
+mod event_blocks;
 mod laws;
-mod names;
-mod service;
-mod system;
+mod made;
+mod make;
+mod numbers;
+mod resource;
+mod shapes;
+mod source;
+mod table;
 #[cfg(test)]
 mod tests;
+#[cfg(test)]
+mod texts;
 mod typed;
+mod uses;
 
-pub use fault::TypeFault;
-pub use laws::refusals_are_true;
-pub use names::contains;
-pub use system::resolve;
-pub use typed::{
-    Action, Block, Body, Connection, Device, End, Instance, Resource, State, Transition, Typed,
-};
+pub use fb_networks;
+pub use count::few;
+pub use ends::{channels_alike, numbers_differ};
+pub use event_blocks::{EVENT_BLOCKS, resolve};
+pub use laws::{one_system, refusals_are_true};
+pub use numbers::{Kind, differ};
+pub use shapes::alike;
+pub use source::resolve_with;
+pub use typed::{Device, Resource, Typed};
+pub use uses::{Use, gather_all};

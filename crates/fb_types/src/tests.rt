@@ -1,449 +1,337 @@
-use crate::{Body, Resource, TypeFault, Typed, contains, resolve};
-use fb_text::parse;
-use std::alloc::Global;
+use crate::{EVENT_BLOCKS, Kind, Use, alike, differ, few, gather_all, resolve_with};
+use fb_networks::fb_services::fb_blocks::{Face, TypeFault, basic};
+use fb_networks::{Body, Instance, Network};
+use fb_networks::fb_services::Service;
+use fb_networks::fb_services::fb_blocks::fb_text::{BlockTree, BodyTree, parse};
+use fb_words::ElemType;
+use indexmap::IndexMap;
+use std::alloc::{AllocError, Global};
+use std::rc::Rc;
 use std::test::Fail;
 
-// `accepted`, or the refusal as it is printed.
-fn said(alloc: Global, text: &str) -> Result<String, Fail> {
-    match parse(alloc, text) {
-        Ok(source) => match resolve(alloc, source) {
-            Ok(_) => Ok(String::from_str(alloc, "accepted")?),
-            Err(fault) => Ok(format!(in alloc; "{fault}")?),
+// The types of a channel.
+fn types(alloc: Global, of_type: ElemType) -> Result<Vec<ElemType>, AllocError> {
+    Ok(vec![in alloc; of_type]?)
+}
+
+// An instance of this body, whose name stands at this place.
+fn instance(alloc: Global, at: usize, body: Body) -> Result<Instance, AllocError> {
+    let name = String::from_str(alloc, "X")?;
+    let parameters = Vec::new(alloc);
+    Ok(Instance {
+        name,
+        at,
+        parameters,
+        body,
+    })
+}
+
+// A composite without ports of one instance.
+fn wrapped(alloc: Global, inner: Instance) -> Result<Body, Fail> {
+    let face = Face {
+        event_inputs: IndexMap::new(alloc),
+        event_outputs: IndexMap::new(alloc),
+        inputs: IndexMap::new(alloc),
+        outputs: IndexMap::new(alloc),
+    };
+    let mut instances = Vec::new(alloc);
+    instances.push(inner)?;
+    let network = Network {
+        instances,
+        events: Vec::new(alloc),
+        values: Vec::new(alloc),
+    };
+    Ok(Body::Composite(Rc::new(alloc, face)?, Rc::new(alloc, network)?))
+}
+
+// `good`, or why not.
+fn said(alloc: Global, outcome: Result<(), TypeFault>) -> Result<String, AllocError> {
+    match outcome {
+        Ok(()) => String::from_str(alloc, "good"),
+        Err(fault) => format!(in alloc; "{fault}"),
+    }
+}
+
+#[test]
+fn two_inputs_of_one_number(rt: HostRuntime) -> Result<(), Fail> {
+    let alloc = rt.alloc();
+    let first = Service::Input(7, Vec::new(alloc));
+    let other = Service::Input(8, Vec::new(alloc));
+    let output = Service::Output(7, Vec::new(alloc));
+    let uses = [
+        Use {
+            at: 10,
+            service: &first,
         },
+        Use {
+            at: 20,
+            service: &other,
+        },
+        Use {
+            at: 30,
+            service: &output,
+        },
+        Use {
+            at: 40,
+            service: &first,
+        },
+    ];
+    let all = said(alloc, differ(alloc, Kind::Input, &uses))?;
+    assert_eq!(rt; all.as_str(), "17 40");
+    let three = said(alloc, differ(alloc, Kind::Input, &uses[..3]))?;
+    assert_eq!(rt; three.as_str(), "good");
+    Ok(())
+}
+
+#[test]
+fn a_channel_with_two_shapes(rt: HostRuntime) -> Result<(), Fail> {
+    let alloc = rt.alloc();
+    let sender = Service::Publish(3, types(alloc, ElemType::Int)?);
+    let taker = Service::Subscribe(3, types(alloc, ElemType::Int)?);
+    let stranger = Service::Subscribe(3, types(alloc, ElemType::Bool)?);
+    let uses = [
+        Use {
+            at: 10,
+            service: &sender,
+        },
+        Use {
+            at: 20,
+            service: &taker,
+        },
+        Use {
+            at: 30,
+            service: &stranger,
+        },
+    ];
+    let all = said(alloc, alike(alloc, &uses))?;
+    assert_eq!(rt; all.as_str(), "20 30");
+    let two = said(alloc, alike(alloc, &uses[..2]))?;
+    assert_eq!(rt; two.as_str(), "good");
+    Ok(())
+}
+
+#[test]
+fn services_in_a_composite(rt: HostRuntime) -> Result<(), Fail> {
+    let alloc = rt.alloc();
+    let inner = instance(alloc, 5, Body::Served(Service::Input(7, Vec::new(alloc))))?;
+    let outer = instance(alloc, 50, wrapped(alloc, inner)?)?;
+    let last = instance(alloc, 60, Body::Served(Service::Input(7, Vec::new(alloc))))?;
+    let mut instances = Vec::new(alloc);
+    instances.push(outer)?;
+    instances.push(last)?;
+    let mut uses = Vec::new(alloc);
+    let gathered = said(alloc, gather_all(&mut uses, &instances))?;
+    assert_eq!(rt; gathered.as_str(), "good");
+    let all = said(alloc, differ(alloc, Kind::Input, &uses))?;
+    assert_eq!(rt; all.as_str(), "17 60");
+    Ok(())
+}
+
+// A source with these event blocks: good, or the refusal as it is printed.
+fn resolved(alloc: Global, library: &[BlockTree], text: &str) -> Result<String, AllocError> {
+    match parse(alloc, text) {
+        Ok(source) => match resolve_with(alloc, library, &source) {
+            Ok(_) => String::from_str(alloc, "good"),
+            Err(fault) => format!(in alloc; "{fault}"),
+        },
+        Err(fault) => format!(in alloc; "unread {fault}"),
+    }
+}
+
+// A source of composites that nest this deep, the outermost first.
+fn nested(alloc: Global, deep: usize) -> Result<String, AllocError> {
+    let mut text = String::new(alloc);
+    for index in 0..deep {
+        let inner = deep - index;
+        text.push_str("FUNCTION_BLOCK T")?;
+        text.push_str(format!(in alloc; "{inner}")?.as_str())?;
+        text.push_str(" FBS ")?;
+        if inner > 1 {
+            text.push_str("X : T")?;
+            text.push_str(format!(in alloc; "{}", inner - 1)?.as_str())?;
+            text.push_str("; ")?;
+        }
+        text.push_str("END_FBS END_FUNCTION_BLOCK ")?;
+    }
+    text.push_str("SYSTEM S END_SYSTEM")?;
+    Ok(text)
+}
+
+#[test]
+fn declared_types(rt: HostRuntime) -> Result<(), Fail> {
+    let cases: [(&str, &str); 9] = [
+        (
+            "FUNCTION_BLOCK A FBS END_FBS END_FUNCTION_BLOCK SYSTEM S END_SYSTEM",
+            "good",
+        ),
+        (
+            "FUNCTION_BLOCK WRAP FBS INNER : WRAP; END_FBS END_FUNCTION_BLOCK SYSTEM S END_SYSTEM",
+            "18 32",
+        ),
+        (
+            "FUNCTION_BLOCK A FBS X : B; END_FBS END_FUNCTION_BLOCK FUNCTION_BLOCK B FBS Y : A; END_FBS END_FUNCTION_BLOCK SYSTEM S END_SYSTEM",
+            "18 80",
+        ),
+        (
+            "FUNCTION_BLOCK A FBS X : NONE; END_FBS END_FUNCTION_BLOCK SYSTEM S END_SYSTEM",
+            "10 25",
+        ),
+        (
+            "FUNCTION_BLOCK A FBS END_FBS END_FUNCTION_BLOCK FUNCTION_BLOCK A FBS END_FBS END_FUNCTION_BLOCK SYSTEM S END_SYSTEM",
+            "11 63",
+        ),
+        (
+            "FUNCTION_BLOCK INPUT FBS END_FBS END_FUNCTION_BLOCK SYSTEM S END_SYSTEM",
+            "11 15",
+        ),
+        (
+            "FUNCTION_BLOCK C VAR_INPUT X : INT; END_VAR FBS END_FBS END_FUNCTION_BLOCK FUNCTION_BLOCK W FBS I : C(X := 5); END_FBS END_FUNCTION_BLOCK SYSTEM S DEVICE D RESOURCE R FBS A : W; END_FBS END_RESOURCE END_DEVICE END_SYSTEM",
+            "good",
+        ),
+        (
+            "FUNCTION_BLOCK C VAR_INPUT X : INT; END_VAR FBS END_FBS END_FUNCTION_BLOCK FUNCTION_BLOCK W FBS I : C(Z := 5); END_FBS END_FUNCTION_BLOCK SYSTEM S END_SYSTEM",
+            "10 102",
+        ),
+        (
+            "FUNCTION_BLOCK W FBS A : INPUT(ID := 1); A : INPUT(ID := 2); END_FBS END_FUNCTION_BLOCK SYSTEM S END_SYSTEM",
+            "11 41",
+        ),
+    ];
+    for (text, wanted) in cases {
+        let said = resolved(rt.alloc(), &[], text)?;
+        assert_eq!(rt; said.as_str(), wanted);
+    }
+    Ok(())
+}
+
+#[test]
+fn composites_nest_sixteen_deep(rt: HostRuntime) -> Result<(), Fail> {
+    let alloc = rt.alloc();
+    let sixteen = resolved(alloc, &[], nested(alloc, 16)?.as_str())?;
+    assert_eq!(rt; sixteen.as_str(), "good");
+    let seventeen = resolved(alloc, &[], nested(alloc, 17)?.as_str())?;
+    assert_eq!(rt; seventeen.as_str(), "19 15");
+    Ok(())
+}
+
+#[test]
+fn resources_and_devices(rt: HostRuntime) -> Result<(), Fail> {
+    let cases: [(&str, &str); 10] = [
+        (
+            "SYSTEM S DEVICE D RESOURCE R FBS A : INPUT(ID := 7); B : OUTPUT(ID := 7); END_FBS END_RESOURCE END_DEVICE END_SYSTEM",
+            "good",
+        ),
+        (
+            "SYSTEM S DEVICE D RESOURCE R FBS A : INPUT(ID := 7); END_FBS END_RESOURCE RESOURCE Q FBS B : INPUT(ID := 7); END_FBS END_RESOURCE END_DEVICE END_SYSTEM",
+            "17 89",
+        ),
+        (
+            "SYSTEM S DEVICE D RESOURCE R FBS A : INPUT(ID := 7); END_FBS END_RESOURCE END_DEVICE DEVICE E RESOURCE R FBS B : INPUT(ID := 7); END_FBS END_RESOURCE END_DEVICE END_SYSTEM",
+            "good",
+        ),
+        (
+            "FUNCTION_BLOCK W FBS X : INPUT(ID := 1); END_FBS END_FUNCTION_BLOCK SYSTEM S DEVICE D RESOURCE R FBS A : W; B : W; END_FBS END_RESOURCE END_DEVICE END_SYSTEM",
+            "17 21",
+        ),
+        (
+            "SYSTEM S DEVICE D RESOURCE R FBS A : PUBLISH[INT](ID := 3); END_FBS END_RESOURCE END_DEVICE DEVICE E RESOURCE R FBS B : SUBSCRIBE[BOOL](ID := 3); END_FBS END_RESOURCE END_DEVICE END_SYSTEM",
+            "20 116",
+        ),
+        (
+            "SYSTEM S DEVICE D RESOURCE R FBS A : PUBLISH[INT](ID := 3); END_FBS END_RESOURCE END_DEVICE DEVICE E RESOURCE R FBS B : SUBSCRIBE[INT](ID := 3); END_FBS END_RESOURCE END_DEVICE END_SYSTEM",
+            "good",
+        ),
+        (
+            "SYSTEM S DEVICE D RESOURCE R END_RESOURCE RESOURCE R END_RESOURCE END_DEVICE END_SYSTEM",
+            "11 51",
+        ),
+        (
+            "SYSTEM S DEVICE D END_DEVICE DEVICE D END_DEVICE END_SYSTEM",
+            "11 36",
+        ),
+        (
+            "FUNCTION_BLOCK L FBS END_FBS END_FUNCTION_BLOCK FUNCTION_BLOCK T1 FBS A : L; B : L; C : L; D : L; END_FBS END_FUNCTION_BLOCK FUNCTION_BLOCK T2 FBS A : T1; B : T1; C : T1; D : T1; END_FBS END_FUNCTION_BLOCK FUNCTION_BLOCK T3 FBS A : T2; B : T2; C : T2; D : T2; END_FBS END_FUNCTION_BLOCK FUNCTION_BLOCK T4 FBS A : T3; B : T3; C : T3; D : T3; END_FBS END_FUNCTION_BLOCK SYSTEM S DEVICE D RESOURCE R FBS A : T4; B : T4; C : T4; END_FBS END_RESOURCE END_DEVICE END_SYSTEM",
+            "good",
+        ),
+        (
+            "FUNCTION_BLOCK L FBS END_FBS END_FUNCTION_BLOCK FUNCTION_BLOCK T1 FBS A : L; B : L; C : L; D : L; END_FBS END_FUNCTION_BLOCK FUNCTION_BLOCK T2 FBS A : T1; B : T1; C : T1; D : T1; END_FBS END_FUNCTION_BLOCK FUNCTION_BLOCK T3 FBS A : T2; B : T2; C : T2; D : T2; END_FBS END_FUNCTION_BLOCK FUNCTION_BLOCK T4 FBS A : T3; B : T3; C : T3; D : T3; END_FBS END_FUNCTION_BLOCK SYSTEM S DEVICE D RESOURCE R FBS A : T4; B : T4; C : T4; M : L; N : L; END_FBS END_RESOURCE END_DEVICE END_SYSTEM",
+            "19 432",
+        ),
+    ];
+    for (text, wanted) in cases {
+        let said = resolved(rt.alloc(), &[], text)?;
+        assert_eq!(rt; said.as_str(), wanted);
+    }
+    Ok(())
+}
+
+#[test]
+fn types_before_event_blocks(rt: HostRuntime) -> Result<(), Fail> {
+    let text =
+        "FUNCTION_BLOCK E_X EVENT_INPUT LIB; END_EVENT FBS END_FBS END_FUNCTION_BLOCK SYSTEM L END_SYSTEM";
+    let cases: [(&str, &str); 4] = [
+        (
+            "SYSTEM S DEVICE D RESOURCE R FBS A : E_X; B : INPUT(ID := 1); END_FBS EVENT_CONNECTIONS B.IND TO A.LIB; END_CONNECTIONS END_RESOURCE END_DEVICE END_SYSTEM",
+            "good",
+        ),
+        (
+            "SYSTEM S DEVICE D RESOURCE R FBS A : E_X; B : INPUT(ID := 1); END_FBS EVENT_CONNECTIONS B.IND TO A.OWN; END_CONNECTIONS END_RESOURCE END_DEVICE END_SYSTEM",
+            "10 99",
+        ),
+        (
+            "FUNCTION_BLOCK E_X EVENT_INPUT OWN; END_EVENT FBS END_FBS END_FUNCTION_BLOCK SYSTEM S DEVICE D RESOURCE R FBS A : E_X; B : INPUT(ID := 1); END_FBS EVENT_CONNECTIONS B.IND TO A.OWN; END_CONNECTIONS END_RESOURCE END_DEVICE END_SYSTEM",
+            "good",
+        ),
+        (
+            "FUNCTION_BLOCK E_X EVENT_INPUT OWN; END_EVENT FBS END_FBS END_FUNCTION_BLOCK SYSTEM S DEVICE D RESOURCE R FBS A : E_X; B : INPUT(ID := 1); END_FBS EVENT_CONNECTIONS B.IND TO A.LIB; END_CONNECTIONS END_RESOURCE END_DEVICE END_SYSTEM",
+            "10 176",
+        ),
+    ];
+    if let Ok(library) = parse(rt.alloc(), text) {
+        for (text, wanted) in cases {
+            let said = resolved(rt.alloc(), &library.blocks, text)?;
+            assert_eq!(rt; said.as_str(), wanted);
+        }
+        return Ok(());
+    }
+    assert_eq!(rt; "unread", "");
+    Ok(())
+}
+
+#[test]
+fn instances_are_few(rt: HostRuntime) -> Result<(), Fail> {
+    let alloc = rt.alloc();
+    let mut instances = Vec::new(alloc);
+    for index in 0..1024 {
+        instances.push(instance(alloc, index, Body::Served(Service::Delay))?)?;
+    }
+    let as_many = said(alloc, few(&instances))?;
+    assert_eq!(rt; as_many.as_str(), "good");
+    instances.push(instance(alloc, 5000, Body::Served(Service::Delay))?)?;
+    let more = said(alloc, few(&instances))?;
+    assert_eq!(rt; more.as_str(), "19 5000");
+    Ok(())
+}
+
+// How many event blocks are declared beforehand, each of them a well typed basic block, or what is refused as it is printed.
+fn beforehand(alloc: Global) -> Result<String, Fail> {
+    match parse(alloc, EVENT_BLOCKS) {
+        Ok(library) => {
+            for block in &library.blocks {
+                if let BodyTree::Chart(chart) = &block.body {
+                    if let Err(fault) = basic(alloc, block, chart) {
+                        return Ok(format!(in alloc; "{fault}")?);
+                    }
+                }
+            }
+            Ok(format!(in alloc; "{}", library.blocks.len())?)
+        }
         Err(fault) => Ok(format!(in alloc; "unread {fault}")?),
     }
 }
 
 #[test]
-fn unknown_names_of_a_block(rt: HostRuntime) -> Result<(), Fail> {
-    let cases: [(&str, &str); 7] = [
-        (
-            "FUNCTION_BLOCK B EC_STATES S; END_STATES EC_TRANSITIONS X TO S := 1; END_TRANSITIONS END_FUNCTION_BLOCK\nSYSTEM S END_SYSTEM",
-            "10 56",
-        ),
-        (
-            "FUNCTION_BLOCK B EC_STATES S; END_STATES EC_TRANSITIONS S TO X := 1; END_TRANSITIONS END_FUNCTION_BLOCK\nSYSTEM S END_SYSTEM",
-            "10 61",
-        ),
-        (
-            "FUNCTION_BLOCK B EC_STATES S; END_STATES EC_TRANSITIONS S TO S := EI; END_TRANSITIONS END_FUNCTION_BLOCK\nSYSTEM S END_SYSTEM",
-            "10 66",
-        ),
-        (
-            "FUNCTION_BLOCK B EVENT_OUTPUT EO; END_EVENT EC_STATES S; END_STATES EC_TRANSITIONS S TO S := EO; END_TRANSITIONS END_FUNCTION_BLOCK\nSYSTEM S END_SYSTEM",
-            "10 93",
-        ),
-        (
-            "FUNCTION_BLOCK B EC_STATES S : -> EO; END_STATES EC_TRANSITIONS END_TRANSITIONS END_FUNCTION_BLOCK\nSYSTEM S END_SYSTEM",
-            "10 34",
-        ),
-        (
-            "FUNCTION_BLOCK B EVENT_INPUT EI; END_EVENT EC_STATES S : -> EI; END_STATES EC_TRANSITIONS END_TRANSITIONS END_FUNCTION_BLOCK\nSYSTEM S END_SYSTEM",
-            "10 60",
-        ),
-        (
-            "FUNCTION_BLOCK B EC_STATES S : RUN; END_STATES EC_TRANSITIONS END_TRANSITIONS END_FUNCTION_BLOCK\nSYSTEM S END_SYSTEM",
-            "10 31",
-        ),
-    ];
-    for &(text, refusal) in &cases {
-        assert_eq!(rt; said(rt.alloc(), text)?.as_str(), refusal, "{text}");
-    }
-    Ok(())
-}
-
-#[test]
-fn unknown_names_of_a_resource(rt: HostRuntime) -> Result<(), Fail> {
-    let cases: [(&str, &str); 12] = [
-        (
-            "FUNCTION_BLOCK C EVENT_INPUT EI; END_EVENT EVENT_OUTPUT EO; END_EVENT EC_STATES S; END_STATES EC_TRANSITIONS END_TRANSITIONS END_FUNCTION_BLOCK\nSYSTEM S DEVICE D RESOURCE R FBS A : X; END_FBS END_RESOURCE END_DEVICE END_SYSTEM",
-            "10 181",
-        ),
-        (
-            "FUNCTION_BLOCK C EVENT_INPUT EI; END_EVENT EVENT_OUTPUT EO; END_EVENT EC_STATES S; END_STATES EC_TRANSITIONS END_TRANSITIONS END_FUNCTION_BLOCK\nSYSTEM S DEVICE D RESOURCE R FBS A : S; END_FBS END_RESOURCE END_DEVICE END_SYSTEM",
-            "10 181",
-        ),
-        (
-            "FUNCTION_BLOCK C EVENT_INPUT EI; END_EVENT EVENT_OUTPUT EO; END_EVENT EC_STATES S; END_STATES EC_TRANSITIONS END_TRANSITIONS END_FUNCTION_BLOCK\nSYSTEM S DEVICE D RESOURCE R FBS A : C(ID := 1); END_FBS END_RESOURCE END_DEVICE END_SYSTEM",
-            "10 183",
-        ),
-        (
-            "FUNCTION_BLOCK C EVENT_INPUT EI; END_EVENT EVENT_OUTPUT EO; END_EVENT EC_STATES S; END_STATES EC_TRANSITIONS END_TRANSITIONS END_FUNCTION_BLOCK\nSYSTEM S DEVICE D RESOURCE R FBS I : INPUT(NO := 1); END_FBS END_RESOURCE END_DEVICE END_SYSTEM",
-            "10 187",
-        ),
-        (
-            "FUNCTION_BLOCK C EVENT_INPUT EI; END_EVENT EVENT_OUTPUT EO; END_EVENT EC_STATES S; END_STATES EC_TRANSITIONS END_TRANSITIONS END_FUNCTION_BLOCK\nSYSTEM S DEVICE D RESOURCE R FBS I : INPUT(ID := 1, NO := 2); END_FBS END_RESOURCE END_DEVICE END_SYSTEM",
-            "10 196",
-        ),
-        (
-            "FUNCTION_BLOCK C EVENT_INPUT EI; END_EVENT EVENT_OUTPUT EO; END_EVENT EC_STATES S; END_STATES EC_TRANSITIONS END_TRANSITIONS END_FUNCTION_BLOCK\nSYSTEM S DEVICE D RESOURCE R FBS A : C; B : C; END_FBS EVENT_CONNECTIONS X.EO TO B.EI; END_CONNECTIONS END_RESOURCE END_DEVICE END_SYSTEM",
-            "10 217",
-        ),
-        (
-            "FUNCTION_BLOCK C EVENT_INPUT EI; END_EVENT EVENT_OUTPUT EO; END_EVENT EC_STATES S; END_STATES EC_TRANSITIONS END_TRANSITIONS END_FUNCTION_BLOCK\nSYSTEM S DEVICE D RESOURCE R FBS A : C; B : C; END_FBS EVENT_CONNECTIONS A.EO TO X.EI; END_CONNECTIONS END_RESOURCE END_DEVICE END_SYSTEM",
-            "10 225",
-        ),
-        (
-            "FUNCTION_BLOCK C EVENT_INPUT EI; END_EVENT EVENT_OUTPUT EO; END_EVENT EC_STATES S; END_STATES EC_TRANSITIONS END_TRANSITIONS END_FUNCTION_BLOCK\nSYSTEM S DEVICE D RESOURCE R FBS A : C; B : C; END_FBS EVENT_CONNECTIONS A.X TO B.EI; END_CONNECTIONS END_RESOURCE END_DEVICE END_SYSTEM",
-            "10 219",
-        ),
-        (
-            "FUNCTION_BLOCK C EVENT_INPUT EI; END_EVENT EVENT_OUTPUT EO; END_EVENT EC_STATES S; END_STATES EC_TRANSITIONS END_TRANSITIONS END_FUNCTION_BLOCK\nSYSTEM S DEVICE D RESOURCE R FBS A : C; B : C; END_FBS EVENT_CONNECTIONS A.EO TO B.X; END_CONNECTIONS END_RESOURCE END_DEVICE END_SYSTEM",
-            "10 227",
-        ),
-        (
-            "FUNCTION_BLOCK C EVENT_INPUT EI; END_EVENT EVENT_OUTPUT EO; END_EVENT EC_STATES S; END_STATES EC_TRANSITIONS END_TRANSITIONS END_FUNCTION_BLOCK\nSYSTEM S DEVICE D RESOURCE R FBS A : C; B : C; END_FBS EVENT_CONNECTIONS A TO B.EI; END_CONNECTIONS END_RESOURCE END_DEVICE END_SYSTEM",
-            "10 217",
-        ),
-        (
-            "FUNCTION_BLOCK C EVENT_INPUT EI; END_EVENT EVENT_OUTPUT EO; END_EVENT EC_STATES S; END_STATES EC_TRANSITIONS END_TRANSITIONS END_FUNCTION_BLOCK\nSYSTEM S DEVICE D RESOURCE R FBS A : C; B : C; END_FBS EVENT_CONNECTIONS A.EO TO EI; END_CONNECTIONS END_RESOURCE END_DEVICE END_SYSTEM",
-            "10 225",
-        ),
-        (
-            "FUNCTION_BLOCK C EVENT_INPUT EI; END_EVENT EVENT_OUTPUT EO; END_EVENT EC_STATES S; END_STATES EC_TRANSITIONS END_TRANSITIONS END_FUNCTION_BLOCK\nSYSTEM S DEVICE D RESOURCE R FBS I : INPUT(ID := 1); A : C; END_FBS EVENT_CONNECTIONS I.INIT TO A.EI; END_CONNECTIONS END_RESOURCE END_DEVICE END_SYSTEM",
-            "10 232",
-        ),
-    ];
-    for &(text, refusal) in &cases {
-        assert_eq!(rt; said(rt.alloc(), text)?.as_str(), refusal, "{text}");
-    }
-    Ok(())
-}
-
-#[test]
-fn names_declared_before(rt: HostRuntime) -> Result<(), Fail> {
-    let cases: [(&str, &str); 9] = [
-        (
-            "FUNCTION_BLOCK C EVENT_INPUT EI; END_EVENT EVENT_OUTPUT EO; END_EVENT EC_STATES S; END_STATES EC_TRANSITIONS END_TRANSITIONS END_FUNCTION_BLOCK\nFUNCTION_BLOCK C EC_STATES S; END_STATES EC_TRANSITIONS END_TRANSITIONS END_FUNCTION_BLOCK\nSYSTEM S END_SYSTEM",
-            "11 159",
-        ),
-        (
-            "FUNCTION_BLOCK INPUT EC_STATES S; END_STATES EC_TRANSITIONS END_TRANSITIONS END_FUNCTION_BLOCK\nSYSTEM S END_SYSTEM",
-            "11 15",
-        ),
-        (
-            "FUNCTION_BLOCK E_CYCLE EC_STATES S; END_STATES EC_TRANSITIONS END_TRANSITIONS END_FUNCTION_BLOCK\nSYSTEM S END_SYSTEM",
-            "11 15",
-        ),
-        (
-            "FUNCTION_BLOCK B EVENT_INPUT E; E; END_EVENT EC_STATES S; END_STATES EC_TRANSITIONS END_TRANSITIONS END_FUNCTION_BLOCK\nSYSTEM S END_SYSTEM",
-            "11 32",
-        ),
-        (
-            "FUNCTION_BLOCK B EVENT_OUTPUT E; F; E; END_EVENT EC_STATES S; END_STATES EC_TRANSITIONS END_TRANSITIONS END_FUNCTION_BLOCK\nSYSTEM S END_SYSTEM",
-            "11 36",
-        ),
-        (
-            "FUNCTION_BLOCK B EVENT_INPUT E; END_EVENT EVENT_OUTPUT E; END_EVENT EC_STATES S; END_STATES EC_TRANSITIONS END_TRANSITIONS END_FUNCTION_BLOCK\nSYSTEM S END_SYSTEM",
-            "11 55",
-        ),
-        (
-            "FUNCTION_BLOCK B EC_STATES S; T; S; END_STATES EC_TRANSITIONS END_TRANSITIONS END_FUNCTION_BLOCK\nSYSTEM S END_SYSTEM",
-            "11 33",
-        ),
-        (
-            "FUNCTION_BLOCK C EVENT_INPUT EI; END_EVENT EVENT_OUTPUT EO; END_EVENT EC_STATES S; END_STATES EC_TRANSITIONS END_TRANSITIONS END_FUNCTION_BLOCK\nSYSTEM S DEVICE D RESOURCE R FBS A : C; A : C; END_FBS END_RESOURCE END_DEVICE END_SYSTEM",
-            "11 184",
-        ),
-        (
-            "FUNCTION_BLOCK C EVENT_INPUT EI; END_EVENT EVENT_OUTPUT EO; END_EVENT EC_STATES S; END_STATES EC_TRANSITIONS END_TRANSITIONS END_FUNCTION_BLOCK\nSYSTEM S DEVICE D RESOURCE R FBS A : C; a : INPUT(ID := 1); END_FBS END_RESOURCE END_DEVICE END_SYSTEM",
-            "11 184",
-        ),
-    ];
-    for &(text, refusal) in &cases {
-        assert_eq!(rt; said(rt.alloc(), text)?.as_str(), refusal, "{text}");
-    }
-    Ok(())
-}
-
-#[test]
-fn connections_against_their_direction(rt: HostRuntime) -> Result<(), Fail> {
-    let cases: [(&str, &str); 4] = [
-        (
-            "FUNCTION_BLOCK C EVENT_INPUT EI; END_EVENT EVENT_OUTPUT EO; END_EVENT EC_STATES S; END_STATES EC_TRANSITIONS END_TRANSITIONS END_FUNCTION_BLOCK\nSYSTEM S DEVICE D RESOURCE R FBS A : C; B : C; END_FBS EVENT_CONNECTIONS A.EI TO B.EI; END_CONNECTIONS END_RESOURCE END_DEVICE END_SYSTEM",
-            "15 222",
-        ),
-        (
-            "FUNCTION_BLOCK C EVENT_INPUT EI; END_EVENT EVENT_OUTPUT EO; END_EVENT EC_STATES S; END_STATES EC_TRANSITIONS END_TRANSITIONS END_FUNCTION_BLOCK\nSYSTEM S DEVICE D RESOURCE R FBS A : C; B : C; END_FBS EVENT_CONNECTIONS A.EO TO B.EO; END_CONNECTIONS END_RESOURCE END_DEVICE END_SYSTEM",
-            "15 222",
-        ),
-        (
-            "FUNCTION_BLOCK C EVENT_INPUT EI; END_EVENT EVENT_OUTPUT EO; END_EVENT EC_STATES S; END_STATES EC_TRANSITIONS END_TRANSITIONS END_FUNCTION_BLOCK\nSYSTEM S DEVICE D RESOURCE R FBS A : C; B : C; END_FBS EVENT_CONNECTIONS A.EO TO B.EI; B.EI TO A.EI; END_CONNECTIONS END_RESOURCE END_DEVICE END_SYSTEM",
-            "15 236",
-        ),
-        (
-            "FUNCTION_BLOCK C EVENT_INPUT EI; END_EVENT EVENT_OUTPUT EO; END_EVENT EC_STATES S; END_STATES EC_TRANSITIONS END_TRANSITIONS END_FUNCTION_BLOCK\nSYSTEM S DEVICE D RESOURCE R FBS I : INPUT(ID := 1); A : C; END_FBS EVENT_CONNECTIONS A.EO TO I.IND; END_CONNECTIONS END_RESOURCE END_DEVICE END_SYSTEM",
-            "15 235",
-        ),
-    ];
-    for &(text, refusal) in &cases {
-        assert_eq!(rt; said(rt.alloc(), text)?.as_str(), refusal, "{text}");
-    }
-    Ok(())
-}
-
-#[test]
-fn numbers_of_an_input(rt: HostRuntime) -> Result<(), Fail> {
-    let cases: [(&str, &str); 11] = [
-        (
-            "FUNCTION_BLOCK C EVENT_INPUT EI; END_EVENT EVENT_OUTPUT EO; END_EVENT EC_STATES S; END_STATES EC_TRANSITIONS END_TRANSITIONS END_FUNCTION_BLOCK\nSYSTEM S DEVICE D RESOURCE R FBS I : INPUT; END_FBS END_RESOURCE END_DEVICE END_SYSTEM",
-            "17 177",
-        ),
-        (
-            "FUNCTION_BLOCK C EVENT_INPUT EI; END_EVENT EVENT_OUTPUT EO; END_EVENT EC_STATES S; END_STATES EC_TRANSITIONS END_TRANSITIONS END_FUNCTION_BLOCK\nSYSTEM S DEVICE D RESOURCE R FBS I : INPUT(ID := 1, ID := 1); END_FBS END_RESOURCE END_DEVICE END_SYSTEM",
-            "17 177",
-        ),
-        (
-            "FUNCTION_BLOCK C EVENT_INPUT EI; END_EVENT EVENT_OUTPUT EO; END_EVENT EC_STATES S; END_STATES EC_TRANSITIONS END_TRANSITIONS END_FUNCTION_BLOCK\nSYSTEM S DEVICE D RESOURCE R FBS I : INPUT(ID := 65536); END_FBS END_RESOURCE END_DEVICE END_SYSTEM",
-            "17 177",
-        ),
-        (
-            "FUNCTION_BLOCK C EVENT_INPUT EI; END_EVENT EVENT_OUTPUT EO; END_EVENT EC_STATES S; END_STATES EC_TRANSITIONS END_TRANSITIONS END_FUNCTION_BLOCK\nSYSTEM S DEVICE D RESOURCE R FBS I : INPUT(ID := UDINT#65536); END_FBS END_RESOURCE END_DEVICE END_SYSTEM",
-            "17 177",
-        ),
-        (
-            "FUNCTION_BLOCK C EVENT_INPUT EI; END_EVENT EVENT_OUTPUT EO; END_EVENT EC_STATES S; END_STATES EC_TRANSITIONS END_TRANSITIONS END_FUNCTION_BLOCK\nSYSTEM S DEVICE D RESOURCE R FBS I : INPUT(ID := INT#32768); END_FBS END_RESOURCE END_DEVICE END_SYSTEM",
-            "17 177",
-        ),
-        (
-            "FUNCTION_BLOCK C EVENT_INPUT EI; END_EVENT EVENT_OUTPUT EO; END_EVENT EC_STATES S; END_STATES EC_TRANSITIONS END_TRANSITIONS END_FUNCTION_BLOCK\nSYSTEM S DEVICE D RESOURCE R FBS I : INPUT(ID := -1); END_FBS END_RESOURCE END_DEVICE END_SYSTEM",
-            "17 177",
-        ),
-        (
-            "FUNCTION_BLOCK C EVENT_INPUT EI; END_EVENT EVENT_OUTPUT EO; END_EVENT EC_STATES S; END_STATES EC_TRANSITIONS END_TRANSITIONS END_FUNCTION_BLOCK\nSYSTEM S DEVICE D RESOURCE R FBS I : INPUT(ID := INT#-1); END_FBS END_RESOURCE END_DEVICE END_SYSTEM",
-            "17 177",
-        ),
-        (
-            "FUNCTION_BLOCK C EVENT_INPUT EI; END_EVENT EVENT_OUTPUT EO; END_EVENT EC_STATES S; END_STATES EC_TRANSITIONS END_TRANSITIONS END_FUNCTION_BLOCK\nSYSTEM S DEVICE D RESOURCE R FBS I : INPUT(ID := TRUE); END_FBS END_RESOURCE END_DEVICE END_SYSTEM",
-            "17 177",
-        ),
-        (
-            "FUNCTION_BLOCK C EVENT_INPUT EI; END_EVENT EVENT_OUTPUT EO; END_EVENT EC_STATES S; END_STATES EC_TRANSITIONS END_TRANSITIONS END_FUNCTION_BLOCK\nSYSTEM S DEVICE D RESOURCE R FBS I : INPUT(ID := T#1s); END_FBS END_RESOURCE END_DEVICE END_SYSTEM",
-            "17 177",
-        ),
-        (
-            "FUNCTION_BLOCK C EVENT_INPUT EI; END_EVENT EVENT_OUTPUT EO; END_EVENT EC_STATES S; END_STATES EC_TRANSITIONS END_TRANSITIONS END_FUNCTION_BLOCK\nSYSTEM S DEVICE D RESOURCE R FBS I : INPUT(ID := 1); J : INPUT(ID := 1); END_FBS END_RESOURCE END_DEVICE END_SYSTEM",
-            "17 197",
-        ),
-        (
-            "FUNCTION_BLOCK C EVENT_INPUT EI; END_EVENT EVENT_OUTPUT EO; END_EVENT EC_STATES S; END_STATES EC_TRANSITIONS END_TRANSITIONS END_FUNCTION_BLOCK\nSYSTEM S DEVICE D RESOURCE R FBS I : INPUT(ID := 1); A : C; J : INPUT(ID := UINT#1); END_FBS END_RESOURCE END_DEVICE END_SYSTEM",
-            "17 204",
-        ),
-    ];
-    for &(text, refusal) in &cases {
-        assert_eq!(rt; said(rt.alloc(), text)?.as_str(), refusal, "{text}");
-    }
-    Ok(())
-}
-
-#[test]
-fn one_device_with_one_resource(rt: HostRuntime) -> Result<(), Fail> {
-    let cases: [(&str, &str); 2] = [
-        (
-            "SYSTEM S DEVICE D END_DEVICE DEVICE E END_DEVICE END_SYSTEM",
-            "19 36",
-        ),
-        (
-            "SYSTEM S DEVICE D RESOURCE R END_RESOURCE RESOURCE Q END_RESOURCE END_DEVICE END_SYSTEM",
-            "19 51",
-        ),
-    ];
-    for &(text, refusal) in &cases {
-        assert_eq!(rt; said(rt.alloc(), text)?.as_str(), refusal, "{text}");
-    }
-    Ok(())
-}
-// `count` declarations: a word, a number from 0 on, and an ending.
-fn declarations(alloc: Global, word: &str, ending: &str, count: usize) -> Result<String, Fail> {
-    let mut text = String::new(alloc);
-    for number in 0..count {
-        let declaration = format!(in alloc; "{word}{number}{ending} ")?;
-        text.push_str(declaration.as_str())?;
-    }
-    Ok(text)
-}
-
-#[test]
-fn one_declaration_too_many(rt: HostRuntime) -> Result<(), Fail> {
-    let alloc = rt.alloc();
-    let basic = "EC_STATES S; END_STATES EC_TRANSITIONS END_TRANSITIONS END_FUNCTION_BLOCK";
-    let system = "SYSTEM S END_SYSTEM";
-    let block =
-        "FUNCTION_BLOCK B EC_STATES S; END_STATES EC_TRANSITIONS END_TRANSITIONS END_FUNCTION_BLOCK";
-    let inputs = format!(in alloc; "END_EVENT {basic} {system}")?;
-    let states = format!(in alloc;
-        "END_STATES EC_TRANSITIONS END_TRANSITIONS END_FUNCTION_BLOCK {system}"
-    )?;
-    let transitions = format!(in alloc; "END_TRANSITIONS END_FUNCTION_BLOCK {system}")?;
-    let resource = format!(in alloc; "{block} SYSTEM S DEVICE D RESOURCE R FBS ")?;
-    let cases: [(&str, &str, &str, &str, usize); 5] = [
-        (
-            "FUNCTION_BLOCK B EVENT_INPUT ",
-            "E",
-            ";",
-            inputs.as_str(),
-            64,
-        ),
-        (
-            "FUNCTION_BLOCK B EVENT_OUTPUT ",
-            "E",
-            ";",
-            inputs.as_str(),
-            64,
-        ),
-        (
-            "FUNCTION_BLOCK B EC_STATES ",
-            "S",
-            ";",
-            states.as_str(),
-            256,
-        ),
-        (
-            "FUNCTION_BLOCK B EC_STATES S1; END_STATES EC_TRANSITIONS ",
-            "S",
-            " TO S1 := 1;",
-            transitions.as_str(),
-            1024,
-        ),
-        (
-            resource.as_str(),
-            "I",
-            " : B;",
-            "END_FBS END_RESOURCE END_DEVICE END_SYSTEM",
-            1024,
-        ),
-    ];
-    for &(head, word, ending, tail, most) in &cases {
-        let fitting = declarations(alloc, word, ending, most)?;
-        let more = declarations(alloc, word, ending, most.wrapping_add(1))?;
-        let before = format!(in alloc; "{head}{fitting}")?;
-        let at = before.len();
-        let refusal = format!(in alloc; "19 {at}")?;
-        let text = format!(in alloc; "{head}{more}{tail}")?;
-        assert_eq!(rt; said(alloc, text.as_str())?.as_str(), refusal.as_str());
-    }
-    Ok(())
-}
-
-#[test]
-fn as_many_as_allowed(rt: HostRuntime) -> Result<(), Fail> {
-    let alloc = rt.alloc();
-    let inputs = declarations(alloc, "A", ";", 64)?;
-    let outputs = declarations(alloc, "B", ";", 64)?;
-    let states = declarations(alloc, "S", ";", 256)?;
-    let transitions = declarations(alloc, "S0 TO S0 := A1; (*", "*)", 1024)?;
-    let instances = declarations(alloc, "I", " : B;", 1024)?;
-    let block = format!(in alloc;
-        "FUNCTION_BLOCK B EVENT_INPUT {inputs} END_EVENT EVENT_OUTPUT {outputs} END_EVENT EC_STATES {states} END_STATES EC_TRANSITIONS {transitions} END_TRANSITIONS END_FUNCTION_BLOCK"
-    )?;
-    let text = format!(in alloc;
-        "{block} SYSTEM S DEVICE D RESOURCE R FBS {instances} END_FBS END_RESOURCE END_DEVICE END_SYSTEM"
-    )?;
-    assert_eq!(rt; said(alloc, text.as_str())?.as_str(), "accepted");
-    Ok(())
-}
-
-const BUTTON_AND_CELL: &str = "FUNCTION_BLOCK CELL
-EVENT_INPUT EI; END_EVENT
-EVENT_OUTPUT EO; END_EVENT
-EC_STATES START; DONE : -> EO; END_STATES
-EC_TRANSITIONS START TO DONE := EI; DONE TO START := 1; END_TRANSITIONS
-END_FUNCTION_BLOCK
-SYSTEM S DEVICE D RESOURCE R
-FBS BUTTON : INPUT(ID := UINT#65535); OTHER : INPUT(ID := 0); C : CELL; END_FBS
-EVENT_CONNECTIONS BUTTON.IND TO C.EI; C.EO TO C.EI; END_CONNECTIONS
-END_RESOURCE END_DEVICE END_SYSTEM
-";
-
-// The one resource of a system.
-fn resource(typed: &Typed) -> Option<&Resource> {
-    typed.devices.first()?.resources.first()
-}
-
-// The number of the INPUT at a place.
-fn number(resource: &Resource, place: usize) -> Option<u16> {
-    match &resource.instances.get(place)?.body {
-        Body::Input(number) => Some(*number),
-        Body::Basic(_) => None,
-    }
-}
-
-#[test]
-fn a_well_typed_system(rt: HostRuntime) -> Result<(), Fail> {
-    let alloc = rt.alloc();
-    let typed = resolve(alloc, parse(alloc, BUTTON_AND_CELL)?)?;
-    match resource(&typed) {
-        Some(resource) => {
-            assert_eq!(rt; resource.name.as_str(), "R");
-            assert_eq!(rt; resource.instances.len(), 3);
-            assert_eq!(rt; number(resource, 0), Some(65_535));
-            assert_eq!(rt; number(resource, 1), Some(0));
-            assert_eq!(rt; number(resource, 2), None);
-            assert_eq!(rt; resource.events.len(), 2);
-        }
-        None => assert!(rt; false, "no resource"),
-    }
-    Ok(())
-}
-
-#[test]
-fn the_block_of_an_instance(rt: HostRuntime) -> Result<(), Fail> {
-    let alloc = rt.alloc();
-    let typed = resolve(alloc, parse(alloc, BUTTON_AND_CELL)?)?;
-    for device in &typed.devices {
-        for resource in &device.resources {
-            for instance in &resource.instances {
-                match &instance.body {
-                    Body::Input(_) => assert!(rt; instance.name.as_str() != "C"),
-                    Body::Basic(block) => {
-                        assert_eq!(rt; instance.name.as_str(), "C");
-                        assert!(rt; contains(&block.event_inputs, "EI"));
-                        assert!(rt; !contains(&block.event_inputs, "EO"));
-                        assert_eq!(rt; block.states.len(), 2);
-                        assert_eq!(rt; block.transitions.len(), 2);
-                    }
-                }
-            }
-        }
-    }
-    Ok(())
-}
-
-#[test]
-fn the_connections_of_a_resource(rt: HostRuntime) -> Result<(), Fail> {
-    let alloc = rt.alloc();
-    let typed = resolve(alloc, parse(alloc, BUTTON_AND_CELL)?)?;
-    let mut words = String::new(alloc);
-    for device in &typed.devices {
-        for resource in &device.resources {
-            for event in &resource.events {
-                let source = event.source.port.as_str();
-                let target = event.target.port.as_str();
-                words.push_str(format!(in alloc;
-                    "{}.{source} {}.{target};",
-                    event.source.instance, event.target.instance
-                )?
-                .as_str())?;
-            }
-        }
-    }
-    assert_eq!(rt; words.as_str(), "BUTTON.IND C.EI;C.EO C.EI;");
-    Ok(())
-}
-
-#[test]
-fn codes_of_refusals(rt: HostRuntime) -> Result<(), Fail> {
-    assert_eq!(rt; TypeFault::OutOfMemory.code(), 9);
-    assert_eq!(rt; TypeFault::UnknownName(1).code(), 10);
-    assert_eq!(rt; TypeFault::DuplicateName(1).code(), 11);
-    assert_eq!(rt; TypeFault::TypeMismatch(1).code(), 12);
-    assert_eq!(rt; TypeFault::BadLiteral(1).code(), 13);
-    assert_eq!(rt; TypeFault::NotWritable(1).code(), 14);
-    assert_eq!(rt; TypeFault::BadConnection(1).code(), 15);
-    assert_eq!(rt; TypeFault::TwoSources(1).code(), 16);
-    assert_eq!(rt; TypeFault::BadService(1).code(), 17);
-    assert_eq!(rt; TypeFault::RecursiveComposite(1).code(), 18);
-    assert_eq!(rt; TypeFault::Limit(1).code(), 19);
-    assert_eq!(rt; TypeFault::ChannelShape(1).code(), 20);
+fn event_blocks_are_declared_beforehand(rt: HostRuntime) -> Result<(), Fail> {
+    assert_eq!(rt; beforehand(rt.alloc())?.as_str(), "7");
     Ok(())
 }

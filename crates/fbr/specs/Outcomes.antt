@@ -3,12 +3,14 @@ use Rattle.std.specs.Prelude.{◌≡◌, ◌≤◌, ℕ, true, ◌⊎◌, List, 
 use Rattle.std.specs.Io.KnownBytes.{Appends}
 use Rattle.std.specs.Fmt.{decimal}
 use Rattle.std.specs.Str.{is_utf8}
-use Rattle.fb_check.specs.Refusals as refusals
-use Rattle.fb_check.specs.Verdicts as verdicts
-use Rattle.fb_check.specs.declared.verified.Verified.{Verified}
+use Rattle.fb_script.specs.fb_types.declared.event_blocks.TheConstants.{EVENT_BLOCKS}
+use Rattle.fb_script.specs.fb_check.Refusals as refusals
+use Rattle.fb_script.specs.fb_device.Refusals as loading
+use Rattle.fb_script.specs.fb_check.Verdicts as verdicts
+use Rattle.fb_script.specs.fb_check.declared.verified.Verified.{Verified}
 use Rattle.fbr.specs.Halves.{divide}
 use Rattle.fbr.specs.declared.fault.Fault.{Fault}
-use Rattle.fbr.specs.declared.fault.Fault.TheVariants.{Memory, Input, File, Line, Usage, Refused}
+use Rattle.fbr.specs.declared.fault.Fault.TheVariants.{Memory, Input, File, Line, Usage, Refused, Unloaded}
 use Rattle.fbr.specs.Statuses.{status_of_code}
 
 pub record Outcome : Type 0 where
@@ -26,6 +28,7 @@ line_of (File name) = codes "refused 61 " ++ name.now
 line_of (Line number) = codes "refused 60 " ++ decimal number
 line_of Usage = codes "refused 63"
 line_of (Refused refusal) = codes "refused " ++ refusals.line_of refusal
+line_of (Unloaded refusal) = codes "refused " ++ loading.line_of refusal
 
 abbrev pub code_of : Fault → ℕ
 code_of Memory = 9
@@ -34,6 +37,7 @@ code_of (File name) = 61
 code_of (Line number) = 60
 code_of Usage = 63
 code_of (Refused refusal) = refusals.code_of refusal
+code_of (Unloaded refusal) = loading.code_of refusal
 
 abbrev pub status_of : Fault → ℕ
 status_of Memory = 4
@@ -42,6 +46,7 @@ status_of (File name) = 3
 status_of (Line number) = 2
 status_of Usage = 2
 status_of (Refused refusal) = status_of_code (refusals.code_of refusal)
+status_of (Unloaded refusal) = status_of_code (loading.code_of refusal)
 
 -- a refusal's line and status
 abbrev pub refusal : Fault → Outcome
@@ -57,9 +62,9 @@ Tells o old new status = (status ≡ o.status) × Appends old new (o.line ++ 10 
 
 -- two texts are accepted only where what was verified is theirs, and a fault of a text is one that the text has
 abbrev pub IsVerdict : {A : Type 0} → List ℕ → List ℕ → Result A Fault → Type 0
-IsVerdict app cert (Ok a) = (v : Verified) × verdicts.IsOfTexts app cert v
+IsVerdict app cert (Ok a) = (v : Verified) × verdicts.IsOfTexts EVENT_BLOCKS.now app cert v
 IsVerdict app cert (Err Memory) = Unit {0}
-IsVerdict app cert (Err (Refused refusal)) = verdicts.IsFaultOf app cert refusal
+IsVerdict app cert (Err (Refused refusal)) = verdicts.IsFaultOf EVENT_BLOCKS.now app cert refusal
 IsVerdict app cert (Err other) = ⊥
 
 -- bytes hold two texts: they are within the limit, and both halves are UTF-8

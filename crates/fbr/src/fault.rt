@@ -3,7 +3,7 @@
 ghost use Rattle.std.specs.Prelude.{◌≡◌, ◌≤◌};
 ghost use Rattle.fbr.specs.Statuses.{status_of_code};
 
-use fb_check::Refusal;
+use fb_script::fb_device::fb_tables::fb_check::Refusal;
 use std::alloc::AllocError;
 use std::fmt;
 
@@ -22,6 +22,8 @@ pub enum Fault<'a> {
     Usage,
     /// The checker refused. Status 1 where the certificate does not fit, status 2 where a text is at fault.
     Refused(Refusal),
+    /// The device of the system was not loaded. Status 2, or 4 where memory ran out.
+    Unloaded(fb_script::fb_device::Refusal),
 }
 
 impl Fault<'_> {
@@ -37,6 +39,7 @@ impl Fault<'_> {
             Fault::Line(_) => 60,
             Fault::Usage => 63,
             Fault::Refused(refusal) => refusal.code(),
+            Fault::Unloaded(refusal) => refusal.code(),
         }
     }
 
@@ -51,6 +54,7 @@ impl Fault<'_> {
             Fault::Line(_) => 2,
             Fault::Usage => 2,
             Fault::Refused(refusal) => status_of_code(refusal.code()),
+            Fault::Unloaded(refusal) => status_of_code(refusal.code()),
         }
     }
 }
@@ -87,6 +91,7 @@ impl fmt::Display for Fault<'_> {
             Fault::Line(number) => write!(f, "refused 60 {number}"),
             Fault::Usage => write!(f, "refused 63"),
             Fault::Refused(refusal) => write!(f, "refused {refusal}"),
+            Fault::Unloaded(refusal) => write!(f, "refused {refusal}"),
         }
     }
 }

@@ -1,15 +1,16 @@
 //! Checks two files, and runs a script on the device of the system.
 
 ghost use Rattle.std.specs.Prelude.{◌≡◌, ◌≤◌, ◌<◌, length, IfOk, MatchResult, string_bytes};
-ghost use Rattle.fb_check.specs.Verdicts.{IsChecked, system_in};
-ghost use Rattle.fbr.specs.Simulation.{IsVerified, IsScript, IsScriptFault, IsVerifiedTexts, TellsEnd, IsFresh, TellsRun, TellsRunFrom, TellsScript, TellsSim};
-ghost use Rattle.fb_check.specs.declared.verified.Verified as of_check;
+ghost use Rattle.fb_script.specs.fb_check.Verdicts.{IsChecked, system_in};
+ghost use Rattle.fbr.specs.Simulation.{IsVerified, IsScript, IsScriptFault, IsVerifiedTexts, TellsEnd, IsFresh, IsNamed, TellsRun, TellsRunFrom, TellsScript, TellsSim};
+ghost use Rattle.fb_script.specs.fb_check.declared.verified.Verified as of_check;
 
 use crate::check::{LIMIT, print_outcome, read_text, read_whole};
 use crate::fault::Fault;
 use crate::sources::{ReadFault, Sources};
-use fb_check::{Refusal, Verified, check_text};
-use fb_device::{Device, Ready, load_checked};
+use fb_script::fb_device::fb_tables::fb_check::{Refusal, Verified, check_text};
+use fb_script::fb_device;
+use fb_script::fb_device::{Device, Ready, load_checked};
 use fb_script::{End, first_line, simulate};
 use std::alloc::Global;
 use std::io;
@@ -101,7 +102,17 @@ fn run_ready<W: Write>(alloc: Global, ready: Ready, script: &str, output: &mut W
     run_device(alloc, &mut device, script, output)
 }
 
-// Runs a script on the device of what was verified, where it has one.
+// The refusal of a second device, by its name.
+fn second(alloc: Global, name: &str) -> fb_device::Refusal
+    ensures { IsNamed name.now result }
+{
+    match String::from_str(alloc, name) {
+        Ok(name) => fb_device::Refusal::CannotRun(name),
+        Err(_) => fb_device::Refusal::Checked(Refusal::OutOfMemory),
+    }
+}
+
+// Runs a script on the device of what was verified, where it has one and no second.
 fn run_script<W: Write>(
     alloc: Global,
     verified: Verified,
@@ -113,12 +124,17 @@ fn run_script<W: Write>(
     ensures told { IfOk result (λ status. TellsRun verified script.now (W.contents output.old) (W.contents output.new) status) }
     ensures status { IfOk result (λ status. status ≤ 4) }
 {
-    if verified.typed().devices.is_empty() {
+    let devices = verified.typed().devices.as_slice();
+    if devices.is_empty() {
         return print_end(first_line(alloc, script), output);
+    }
+    if devices.len() > 1 {
+        let refusal = second(alloc, devices[1].name.as_str());
+        return print_outcome(Err(Fault::Unloaded(refusal)), output);
     }
     match load_checked(alloc, verified, 0) {
         Ok(ready) => run_ready(alloc, ready, script, output),
-        Err(_) => print_end(End::OutOfMemory, output),
+        Err(refusal) => print_outcome(Err(Fault::Unloaded(refusal)), output),
     }
 }
 

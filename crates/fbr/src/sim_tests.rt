@@ -60,6 +60,12 @@ const FILES: &[(&str, &[u8])] = &[
     ("fork.cert", FORK_CERT),
     ("none.fb", b"SYSTEM S END_SYSTEM\n"),
     ("none.cert", b"CERT 1\n"),
+    ("two.fb", b"SYSTEM S DEVICE D END_DEVICE DEVICE E END_DEVICE END_SYSTEM\n"),
+    (
+        "lamp.fb",
+        b"SYSTEM S DEVICE D RESOURCE R FBS L : OUTPUT(ID := 1); END_FBS END_RESOURCE END_DEVICE END_SYSTEM\n",
+    ),
+    ("lamp.cert", b"CERT 1\nWEIGHT D.R.L.REQ 1 1\nDEPTH D.R 1\n"),
     ("bad", &[0xff]),
 ];
 
@@ -225,6 +231,27 @@ fn files_and_words(rt: HostRuntime) -> Result<(), Fail> {
     for case in &cases {
         let (words, script, status, answers) = *case;
         let (ended, text) = said(&rt, words, FILES, script)?;
+        assert_eq!(rt; (ended, text.as_str()), (status, answers));
+    }
+    Ok(())
+}
+
+// What is checked and does not run so far: a second device, and a service other than an INPUT.
+#[test]
+fn what_does_not_run(rt: HostRuntime) -> Result<(), Fail> {
+    let cases: [(&[&str], u8, &str); 4] = [
+        (&["fbr", "check", "two.fb", "none.cert"], 0, "accepted\n"),
+        (&["fbr", "sim", "two.fb", "none.cert"], 2, "refused 22 E\n"),
+        (&["fbr", "check", "lamp.fb", "lamp.cert"], 0, "accepted\n"),
+        (
+            &["fbr", "sim", "lamp.fb", "lamp.cert"],
+            2,
+            "refused 22 D.R.L\n",
+        ),
+    ];
+    for case in &cases {
+        let (words, status, answers) = *case;
+        let (ended, text) = said(&rt, words, FILES, b"offer D 1\n")?;
         assert_eq!(rt; (ended, text.as_str()), (status, answers));
     }
     Ok(())

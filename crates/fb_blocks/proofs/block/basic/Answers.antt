@@ -1,4 +1,4 @@
-use Rattle.fb_source.specs.Views as tree
+use Rattle.fb_text.specs.Views as tree
 use Rattle.fb_blocks.proofs.Blocks.{basic_only}
 use Rattle.fb_blocks.proofs.block.basic.Goals as goal
 

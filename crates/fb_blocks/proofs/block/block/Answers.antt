@@ -3,7 +3,7 @@ use Rattle.std.proofs.lemmas.Result.{err_from_is_err_and}
 use Rattle.fb_model.specs.BlockTyping.{AreDeclared, words_in}
 use Rattle.fb_model.specs.Typing.{AreDistinct, texts}
 use Rattle.st_types.specs.Views.{entries}
-use Rattle.fb_source.specs.Views as tree
+use Rattle.fb_text.specs.Views as tree
 use Rattle.fb_blocks.specs.Views.{declared_in, face_of}
 use Rattle.fb_blocks.specs.Refusals.{Among, IsVariableFault, no_memory_for_block, faulty_face, faulty_internal}
 use Rattle.fb_blocks.proofs.Refused.{either_of}

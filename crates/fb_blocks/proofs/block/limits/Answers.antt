@@ -1,6 +1,6 @@
 use Rattle.std.proofs.Common.{sym, subst}
 use Rattle.std.proofs.lemmas.Result.{err_from_is_err_and, IfErr-weaker}
-use Rattle.fb_source.specs.Views as tree
+use Rattle.fb_text.specs.Views as tree
 use Rattle.fb_blocks.specs.Refusals.{IsExcess, excess_state, excess_transition, excess_algorithm}
 use Rattle.fb_blocks.proofs.Lists.{map_map}
 use Rattle.fb_blocks.proofs.block.limits.Goals as goal

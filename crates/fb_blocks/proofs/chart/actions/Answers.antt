@@ -1,6 +1,6 @@
 use Rattle.std.proofs.Common.{inr}
 use Rattle.std.proofs.lemmas.Result.{err_from_is_err_and}
-use Rattle.fb_source.specs.Views as tree
+use Rattle.fb_text.specs.Views as tree
 use Rattle.fb_blocks.specs.Answers.{names_in_map}
 use Rattle.fb_blocks.specs.Refusals.{IsActionFault}
 use Rattle.fb_blocks.proofs.Refused.{any_at}

@@ -2,7 +2,7 @@ use Rattle.std.proofs.Common.{◌≡◌, ◌++◌, map, drop}
 use Rattle.std.specs.List.{AllByRecursion}
 use Rattle.fb_model.specs.BlockTyping.{IsActionTyped}
 use Rattle.fb_model.specs.Typing.{typed_action}
-use Rattle.fb_source.specs.Views as tree
+use Rattle.fb_text.specs.Views as tree
 use Rattle.fb_blocks.specs.Answers.{names_in_map}
 use Rattle.fb_blocks.specs.Views.{action_of}
 use Rattle.fb_blocks.proofs.chart.actions.Given as goal

@@ -2,7 +2,7 @@ use Rattle.std.proofs.Common.{◌≡◌, map, subst}
 use Rattle.std.proofs.lemmas.Result.{err_from_is_err_and}
 use Rattle.fb_model.specs.BlockTyping.{AreProcedures, AreTransitions}
 use Rattle.fb_model.specs.Typing.{typed_state}
-use Rattle.fb_source.specs.Views as tree
+use Rattle.fb_text.specs.Views as tree
 use Rattle.st_types.specs.Views.{entries}
 use Rattle.fb_blocks.specs.Answers.{names_in_map}
 use Rattle.fb_blocks.specs.Refusals.{Among, IsStateFault, IsTransitionFault, IsAlgorithmFault, in_actions, in_transitions, in_algorithms}

@@ -5,7 +5,7 @@ use Rattle.fb_model.specs.BlockTyping.{algorithm_texts}
 use Rattle.fb_model.specs.Typing.{AreNew}
 use Rattle.fb_model.specs.TextFaults.{SomeMisdone}
 use Rattle.st_tree.specs.Views.{body_of}
-use Rattle.fb_source.specs.Views as tree
+use Rattle.fb_text.specs.Views as tree
 use Rattle.st_types.specs.declared.whole.Algo.{Algo}
 use Rattle.st_types.specs.Views.{entries}
 use Rattle.st_types.specs.CommandViews.{commands_of}

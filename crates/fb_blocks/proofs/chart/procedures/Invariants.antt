@@ -1,7 +1,7 @@
 use Rattle.std.proofs.Common.{map, drop}
 use Rattle.fb_model.specs.BlockTyping.{algorithm_texts}
 use Rattle.fb_model.specs.Typing.{AreNew}
-use Rattle.fb_source.specs.Views as tree
+use Rattle.fb_text.specs.Views as tree
 use Rattle.st_types.specs.Views.{entries}
 use Rattle.fb_blocks.specs.Answers.{names_in_map}
 use Rattle.fb_blocks.specs.Views.{procedures_of}

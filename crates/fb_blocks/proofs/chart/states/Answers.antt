@@ -4,7 +4,7 @@ use Rattle.std.proofs.lemmas.Result.{err_from_is_err_and}
 use Rattle.fb_model.specs.System as book
 use Rattle.fb_model.specs.BlockTyping.{IsActionTyped}
 use Rattle.fb_model.specs.Typing.{AreNew, typed_state, state_texts}
-use Rattle.fb_source.specs.Views as tree
+use Rattle.fb_text.specs.Views as tree
 use Rattle.fb_blocks.specs.Answers.{names_in_map}
 use Rattle.fb_blocks.specs.Refusals.{IsStateFault}
 use Rattle.fb_blocks.specs.Views.{action_of, states_of}

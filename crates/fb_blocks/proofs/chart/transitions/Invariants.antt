@@ -1,5 +1,5 @@
 use Rattle.std.proofs.Common.{map, drop}
-use Rattle.fb_source.specs.Views as tree
+use Rattle.fb_text.specs.Views as tree
 use Rattle.st_types.specs.Views.{entries}
 use Rattle.fb_blocks.specs.Answers.{names_in_map}
 use Rattle.fb_blocks.specs.Views.{transition_of}

@@ -3,7 +3,7 @@ use Rattle.std.specs.List.{AllByRecursion}
 use Rattle.std.proofs.lemmas.Result.{err_from_is_err_and}
 use Rattle.fb_model.specs.BlockTyping.{AreKnown, typed_event, event_texts}
 use Rattle.fb_model.specs.Typing.{AreNew}
-use Rattle.fb_source.specs.Views as tree
+use Rattle.fb_text.specs.Views as tree
 use Rattle.fb_blocks.specs.Answers.{names_in_map}
 use Rattle.fb_blocks.specs.Refusals.{IsEventFault}
 use Rattle.fb_blocks.specs.Views.{event_of, events_of}

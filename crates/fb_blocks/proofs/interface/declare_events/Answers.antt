@@ -1,6 +1,6 @@
 use Rattle.std.proofs.Common.{map, string_bytes, subst}
 use Rattle.std.proofs.lemmas.Result.{err_from_is_err_and, IfErr-weaker}
-use Rattle.fb_source.specs.Views as tree
+use Rattle.fb_text.specs.Views as tree
 use Rattle.fb_blocks.specs.Answers.{event_words}
 use Rattle.fb_blocks.specs.Views.{names_of}
 use Rattle.fb_blocks.specs.Refusals.{IsRepetition}

@@ -2,7 +2,7 @@ use Rattle.std.proofs.Common.{map, refl}
 use Rattle.std.proofs.lemmas.Result.{err_from_is_err_and, IfErr-weaker}
 use Rattle.fb_model.specs.BlockTyping.{words_in}
 use Rattle.fb_model.specs.Typing.{texts}
-use Rattle.fb_source.specs.Views as tree
+use Rattle.fb_text.specs.Views as tree
 use Rattle.fb_blocks.specs.Views.{names_of}
 use Rattle.fb_blocks.proofs.Lists.{on_ok}
 use Rattle.fb_blocks.proofs.Repeated.{in_front, both_new, second_again}

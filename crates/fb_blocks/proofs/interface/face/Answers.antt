@@ -1,7 +1,7 @@
 use Rattle.std.proofs.Common.{subst}
 use Rattle.std.proofs.lemmas.Result.{err_from_is_err_and, IfOk-weaker}
 use Rattle.fb_model.specs.Typing.{AreDistinct}
-use Rattle.fb_source.specs.Views as tree
+use Rattle.fb_text.specs.Views as tree
 use Rattle.fb_blocks.specs.Views.{declared_in, face_of}
 use Rattle.fb_blocks.specs.Refusals.{repeated_name}
 use Rattle.fb_blocks.proofs.Faultless.{own_names_are, no_face_fault}

@@ -2,7 +2,7 @@ use Rattle.std.proofs.Common.{◌≡◌, ◌++◌, [], map, refl, ap, subst, ◌
 use Rattle.std.proofs.lemmas.Result.{err_from_is_err_and}
 use Rattle.fb_model.specs.BlockTyping.{words_in}
 use Rattle.fb_model.specs.Typing.{AreNew, texts}
-use Rattle.fb_source.specs.Views as tree
+use Rattle.fb_text.specs.Views as tree
 use Rattle.fb_blocks.specs.Answers.{event_words}
 use Rattle.fb_blocks.specs.Views.{names_of}
 use Rattle.fb_blocks.specs.Refusals.{IsRepetition}

@@ -4,7 +4,7 @@ use Rattle.std.proofs.lemmas.Result.{err_from_is_err_and}
 use Rattle.std.proofs.lemmas.List.{length-map}
 use Rattle.fb_model.specs.System as book
 use Rattle.fb_model.specs.BlockTyping.{AreKnown, words_in, typed_event, variable_of}
-use Rattle.fb_source.specs.Views as tree
+use Rattle.fb_text.specs.Views as tree
 use Rattle.fb_blocks.specs.Answers.{event_words}
 use Rattle.fb_blocks.specs.Views.{declared_in, events_of}
 use Rattle.fb_blocks.specs.Refusals.{Among, IsEventFault, no_memory_for_face, with_no_input, with_no_output}

@@ -2,7 +2,7 @@ use Rattle.std.proofs.Common.{◌≡◌, refl, w64, to_z, of_z, arith}
 use Rattle.std.proofs.Math.Facts.{to_z-of_z}
 use Rattle.std.proofs.lemmas.Result.{err_from_is_err_and}
 use Rattle.fb_model.specs.BlockTyping.{some_bounds}
-use Rattle.fb_source.specs.Views as tree
+use Rattle.fb_text.specs.Views as tree
 use Rattle.fb_blocks.specs.Refusals.{low_no_number, high_no_number, low_above_high, excess_element}
 use Rattle.fb_blocks.proofs.Numbers.{bound_found, bound_refused}
 use Rattle.fb_blocks.proofs.variable.bounds.Goals as goal

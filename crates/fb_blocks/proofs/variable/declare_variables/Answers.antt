@@ -3,7 +3,7 @@ use Rattle.std.proofs.lemmas.Result.{err_from_is_err_and}
 use Rattle.fb_read.specs.Answers.{word_of}
 use Rattle.fb_model.specs.BlockTyping.{words_in}
 use Rattle.fb_model.specs.Typing.{AreNew, texts}
-use Rattle.fb_source.specs.Views as tree
+use Rattle.fb_text.specs.Views as tree
 use Rattle.fb_blocks.specs.Views.{names_of}
 use Rattle.fb_blocks.specs.Refusals.{repeated}
 use Rattle.fb_blocks.proofs.Repeated.{declared_step, declared_again}

@@ -1,7 +1,7 @@
 use Rattle.std.proofs.Common.{◌≡◌, ◌++◌, map, drop}
 use Rattle.fb_model.specs.BlockTyping.{words_in}
 use Rattle.fb_model.specs.Typing.{AreNew, texts}
-use Rattle.fb_source.specs.Views as tree
+use Rattle.fb_text.specs.Views as tree
 use Rattle.fb_blocks.specs.Views.{names_of}
 use Rattle.fb_blocks.specs.Refusals.{repeated}
 use Rattle.fb_blocks.proofs.variable.declare_variables.Given as goal

@@ -4,7 +4,7 @@ use Rattle.std.proofs.lemmas.Result.{err_from_is_err_and}
 use Rattle.std.proofs.lemmas.List.{length-map, length-append}
 use Rattle.fb_read.specs.Answers.{word_of}
 use Rattle.fb_model.specs.BlockTyping.{words_in}
-use Rattle.fb_source.specs.Views as tree
+use Rattle.fb_text.specs.Views as tree
 use Rattle.fb_blocks.proofs.Variables.{words_left, excess_left, get_behind}
 use Rattle.fb_blocks.proofs.variable.few_variables.Goals as goal
 

@@ -1,7 +1,7 @@
 use Rattle.std.proofs.Common.{◌≡◌, ◌+◌, map, drop, length}
 use Rattle.std.specs.Prelude.{slice_get}
 use Rattle.fb_model.specs.BlockTyping.{words_in}
-use Rattle.fb_source.specs.Views as tree
+use Rattle.fb_text.specs.Views as tree
 use Rattle.fb_blocks.proofs.variable.few_variables.Given as goal
 
 -- what is left of the names stands against what is left of the number

@@ -1,7 +1,7 @@
 use Rattle.std.proofs.Common.{Some, sym, subst, w64}
 use Rattle.std.proofs.Math.Facts.{to_z-of_z}
 use Rattle.fb_model.specs.BlockTyping.{IsStart, no_start, a_start}
-use Rattle.fb_source.specs.Views as tree
+use Rattle.fb_text.specs.Views as tree
 use Rattle.fb_blocks.proofs.variable.start.Goals as goal
 
 pub returns-in_ok-constant-in-Some-clause-found : goal.returns-in_ok-constant-in-Some-clause-found

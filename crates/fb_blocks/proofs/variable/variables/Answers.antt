@@ -2,7 +2,7 @@ use Rattle.std.proofs.Common.{◌≡◌, ◌++◌, map, drop, ◌+◌, subst, ar
 use Rattle.fb_read.specs.Answers.{word_of}
 use Rattle.fb_model.specs.BlockTyping.{declared, names_in, words_in}
 use Rattle.fb_model.specs.Typing.{AreNew, texts}
-use Rattle.fb_source.specs.Views as tree
+use Rattle.fb_text.specs.Views as tree
 use Rattle.fb_blocks.specs.Views.{declared_in}
 use Rattle.fb_blocks.proofs.Variables.{Left, words_left, left_step, left_none, first_new, others_new}
 use Rattle.fb_blocks.proofs.Refused.{drop_step, drop_all}

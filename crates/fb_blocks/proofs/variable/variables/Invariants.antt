@@ -1,7 +1,7 @@
 use Rattle.std.proofs.Common.{◌++◌, List, map, drop}
 use Rattle.fb_model.specs.BlockTyping.{Declared, AreDeclared, names_in, words_in}
 use Rattle.fb_model.specs.Typing.{AreNew, texts}
-use Rattle.fb_source.specs.Views as tree
+use Rattle.fb_text.specs.Views as tree
 use Rattle.fb_blocks.specs.Views.{declared_in}
 use Rattle.fb_blocks.proofs.variable.variables.Given as goal
 

@@ -1,8 +1,15 @@
-use Rattle.std.proofs.Common.{subst, sym}
-use Rattle.fb_text.specs.Views.{source_of}
+use Rattle.std.proofs.Common.{◌∙◌, subst, sym}
+use Rattle.fb_columns.specs.fb_text.Views.{source_of}
+use Rattle.fb_columns.specs.fb_types.Views.{system_of}
 use Rattle.fb_check.specs.Verdicts.{IsTypingFault}
-use Rattle.fb_check.proofs.Reading.{typing_fault}
+use Rattle.fb_check.proofs.Reading.{typing_fault, no_space}
 use Rattle.fb_check.proofs.texts.resolved.Goals as goal
 
+pub returns-in-Ok-clause-accepts : goal.returns-in-Ok-clause-accepts
+returns-in-Ok-clause-accepts c = λ system is. c.in-Ok.ensures.only is.library is.spelled system is.typed
+
 pub returns-in-Err-clause-refused : goal.returns-in-Err-clause-refused
-returns-in-Err-clause-refused c = subst (IsTypingFault (source_of c.args.source)) (sym c.from.ensures) (typing_fault (source_of c.args.source) c.in-Err.fault c.in-Err.ensures.refused)
+returns-in-Err-clause-refused c = subst (IsTypingFault _ (source_of c.args.source.now)) (sym c.from.ensures) (typing_fault _ (source_of c.args.source.now) c.in-Err.fault c.in-Err.ensures.refused)
+
+pub returns-in-Err-clause-accepts : goal.returns-in-Err-clause-accepts
+returns-in-Err-clause-accepts c = λ system is. c.from.ensures ∙ no_space system_of c.in-Err.fault system (c.in-Err.ensures.only is.library is.spelled system is.typed)

@@ -1,32 +1,52 @@
-use Rattle.std.proofs.lemmas.Result.{err_from_is_err_and, IfErr-weaker}
-use Rattle.fb_types.specs.Views.{system_of}
-use Rattle.fb_model.proofs.Fitted.{leaves_plain}
-use Rattle.fb_check.specs.declared.column.Column.TheVariants.{Steps, Places}
-use Rattle.fb_check.proofs.Composed.{all_plain, fits_by}
-use Rattle.fb_check.proofs.Loops.{on_ok}
-use Rattle.fb_check.proofs.Denied.{of_rows, of_column, of_depth}
+use Rattle.std.proofs.Common.{◌∙◌, subst, sym}
+use Rattle.std.proofs.lemmas.Result.{err_from_is_err_and}
+use Rattle.fb_cert.specs.Views.{certificate_of}
+use Rattle.fb_columns.specs.fb_types.Views.{system_of}
+use Rattle.fb_columns.specs.declared.column.Column.TheVariants.{Steps, Places}
+use Rattle.fb_check.proofs.Reading.{words}
+use Rattle.fb_check.proofs.Composed.{tables_are, known, fits_by}
+use Rattle.fb_check.proofs.Denied.{of_rows, of_idle, of_column, of_depth}
 use Rattle.fb_check.proofs.verdict.tables_fit.Goals as goal
 
 pub returns-in_err-rows_match-clause-refused : goal.returns-in_err-rows_match-clause-refused
-returns-in_err-rows_match-clause-refused c = λ typed w a.
+returns-in_err-rows_match-clause-refused c = λ typed w e.
     let p = err_from_is_err_and c.from_residual.result c.from_residual.ensures.1 in
-    let plain = all_plain (system_of typed).devices (leaves_plain (system_of typed) w) in
-    rw (p.1, p.2) (of_rows typed _ c.in_err-rows_match.field-0.0 (c.in_err-rows_match.ensures.refused (system_of typed) a w.plain plain))
+    let s = system_of typed in
+    let a = tables_are s c.args.flat.now.devices.items w e in
+    rw (p.1, p.2) (of_rows typed (certificate_of c.args.certificate.now) c.in_err-rows_match.field-0.0 (c.in_err-rows_match.ensures.refused s a (words s w)))
+
+pub returns-in_err-leaves_idle-clause-refused : goal.returns-in_err-leaves_idle-clause-refused
+returns-in_err-leaves_idle-clause-refused c = λ typed w e.
+    let p = err_from_is_err_and c.from_residual-in_err-leaves_idle.result c.from_residual-in_err-leaves_idle.ensures.1 in
+    let s = system_of typed in
+    let a = tables_are s c.args.flat.now.devices.items w e in
+    rw (p.1, p.2) (of_idle typed (certificate_of c.args.certificate.now) c.in_err-leaves_idle.field-0.0 (c.in_err-leaves_idle.ensures.refused s a))
 
 pub returns-in_err-column_pays-clause-refused : goal.returns-in_err-column_pays-clause-refused
-returns-in_err-column_pays-clause-refused c = λ typed w a.
+returns-in_err-column_pays-clause-refused c = λ typed w e.
     let p = err_from_is_err_and c.from_residual-in_err-column_pays.result c.from_residual-in_err-column_pays.ensures.1 in
-    rw (p.1, p.2) (of_column typed c.args.certificate.now Steps c.in_err-column_pays.field-0.0 c.args.flat.now.devices.items c.in_err-column_pays.ensures.kind c.in_err-column_pays.ensures.refused a (leaves_plain (system_of typed) w))
+    let s = system_of typed in
+    let a = tables_are s c.args.flat.now.devices.items w e in
+    rw (p.1, p.2) (of_column typed (certificate_of c.args.certificate.now) Steps c.in_err-column_pays.field-0.0 (c.in_err-column_pays.ensures.refused s a (known s w (c.in_ok-leaves_idle.ensures.idle s a))))
 
 pub returns-in_err-column_pays-2-clause-refused : goal.returns-in_err-column_pays-2-clause-refused
-returns-in_err-column_pays-2-clause-refused c = λ typed w a.
+returns-in_err-column_pays-2-clause-refused c = λ typed w e.
     let p = err_from_is_err_and c.from_residual-in_err-column_pays-2.result c.from_residual-in_err-column_pays-2.ensures.1 in
-    rw (p.1, p.2) (of_column typed c.args.certificate.now Places c.in_err-column_pays-2.field-0.0 c.args.flat.now.devices.items c.in_err-column_pays-2.ensures.kind c.in_err-column_pays-2.ensures.refused a (leaves_plain (system_of typed) w))
+    let s = system_of typed in
+    let a = tables_are s c.args.flat.now.devices.items w e in
+    rw (p.1, p.2) (of_column typed (certificate_of c.args.certificate.now) Places c.in_err-column_pays-2.field-0.0 (c.in_err-column_pays-2.ensures.refused s a (known s w (c.in_ok-leaves_idle.ensures.idle s a))))
+
+pub returns-in_err-depths_fit-clause-refused : goal.returns-in_err-depths_fit-clause-refused
+returns-in_err-depths_fit-clause-refused c = λ typed w e.
+    let p = err_from_is_err_and c.from_residual-in_err-depths_fit.result c.from_residual-in_err-depths_fit.ensures.1 in
+    let s = system_of typed in
+    let a = tables_are s c.args.flat.now.devices.items w e in
+    rw (p.1, p.2) (of_depth typed (certificate_of c.args.certificate.now) c.in_err-depths_fit.field-0.0 (c.in_err-depths_fit.ensures.refused s a))
 
 pub returns-clause-fits : goal.returns-clause-fits
-returns-clause-fits c = λ s w a few once.
-    let rows = c.in_ok-rows_match.ensures.rows s a w.plain (all_plain s.devices (leaves_plain s w)) once in
-    on_ok c.depths_fit.result (λ arrive. fits_by s c.args.certificate.now c.args.flat.now.devices.items w a few rows c.in_ok-column_pays.ensures.pays c.in_ok-column_pays-2.ensures.pays arrive) c.depths_fit.ensures.fits
-
-pub returns-clause-refused : goal.returns-clause-refused
-returns-clause-refused c = λ typed w a. IfErr-weaker c.depths_fit.result _ _ (λ f h. of_depth typed c.args.certificate.now f c.args.flat.now.devices.items h a) c.depths_fit.ensures.refused
+returns-clause-fits c = λ s w e few once.
+    let a = tables_are s c.args.flat.now.devices.items w e in
+    let rows = c.in_ok-rows_match.ensures.rows s a (words s w) once in
+    let idle = c.in_ok-leaves_idle.ensures.idle s a in
+    let k = known s w idle in
+    (fits_by s c.args.certificate.now w few rows idle (c.in_ok-column_pays.ensures.pays s a k) (c.in_ok-column_pays-2.ensures.pays s a k) (c.in_ok-depths_fit.ensures.fits s a), idle)

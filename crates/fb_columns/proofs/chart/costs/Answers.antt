@@ -1,7 +1,7 @@
 use Rattle.std.proofs.Common.{List, subst}
 use Rattle.std.specs.List.{sum_by}
-use Rattle.fb_blocks.specs.declared.typed.Action.{Action}
-use Rattle.fb_blocks.proofs.Lists.{mapped_more}
+use Rattle.fb_flat.specs.fb_blocks.declared.typed.Action.{Action}
+use Rattle.fb_flat.proofs.of_fb_blocks.Lists.{mapped_more}
 use Rattle.fb_columns.specs.Sums.{IsSum}
 use Rattle.fb_columns.specs.Reckoning.{Entry, emitted, own_of, table_names}
 use Rattle.fb_columns.proofs.Each.{got}

@@ -1,9 +1,9 @@
 use Rattle.std.proofs.Common.{sym, ap, ◌∙◌, string_bytes, map}
 use Rattle.fb_model.specs.Names.{is_in}
-use Rattle.fb_wires.specs.declared.flat.Body.{Body}
-use Rattle.fb_wires.specs.declared.flat.Output.{Output}
-use Rattle.fb_wires.specs.Leaves.{kind_of, outputs_of}
-use Rattle.fb_services.specs.Views.{service_of}
+use Rattle.fb_flat.specs.declared.flat.Body.{Body}
+use Rattle.fb_flat.specs.declared.flat.Output.{Output}
+use Rattle.fb_flat.specs.Leaves.{kind_of, outputs_of}
+use Rattle.fb_flat.specs.fb_services.Views.{service_of}
 use Rattle.fb_columns.specs.Reckoning.{load_of}
 use Rattle.fb_columns.proofs.Leaves.{accepted, refused, chart_fits, chart_fails, service_fits, service_fails}
 use Rattle.fb_columns.proofs.leaf.leaf_pays.Goals as goal

@@ -1,6 +1,6 @@
 use Rattle.std.proofs.Common.{◌≡◌, ap, subst}
-use Rattle.fb_services.specs.Views.{service_of}
-use Rattle.fb_wires.specs.Leaves.{kind_of}
+use Rattle.fb_flat.specs.fb_services.Views.{service_of}
+use Rattle.fb_flat.specs.Leaves.{kind_of}
 use Rattle.fb_cert.specs.Views.{certificate_of}
 use Rattle.fb_depths.specs.Depths.{arrival_of, IsMost}
 use Rattle.fb_depths.proofs.Arriving.{served}

@@ -1,6 +1,6 @@
 use Rattle.std.proofs.Common.{inl, arith, rules}
 use Rattle.fb_model.specs.Wires as wires
-use Rattle.fb_wires.specs.Tables.{IsLeaf}
+use Rattle.fb_flat.specs.Tables.{IsLeaf}
 use Rattle.fb_depths.specs.Depths.{depth_of, Arrives, LeafArrives}
 use Rattle.fb_depths.proofs.Loops.{all_in, any_in}
 use Rattle.fb_depths.proofs.resource.arrivals_fit.Goals as goal

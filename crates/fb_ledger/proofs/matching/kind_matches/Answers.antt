@@ -1,6 +1,6 @@
 use Rattle.std.proofs.lemmas.Result.{err_from_is_err_and}
-use Rattle.fb_blocks.specs.Views.{names_of}
-use Rattle.fb_blocks.proofs.Lists.{on_ok}
+use Rattle.fb_flat.specs.fb_blocks.Views.{names_of}
+use Rattle.fb_flat.proofs.of_fb_blocks.Lists.{on_ok}
 use Rattle.fb_cert.specs.Views.{rows_of}
 use Rattle.fb_ledger.specs.Texts.{paths_of, texts_of}
 use Rattle.fb_ledger.specs.Faults.{IsDifference}

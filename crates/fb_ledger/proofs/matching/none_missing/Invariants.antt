@@ -1,5 +1,5 @@
 use Rattle.std.proofs.Common.{map, drop, string_bytes}
-use Rattle.fb_blocks.specs.Views.{names_of}
+use Rattle.fb_flat.specs.fb_blocks.Views.{names_of}
 use Rattle.fb_cert.specs.Views.{rows_of}
 use Rattle.fb_ledger.specs.Members.{AreAmong}
 use Rattle.fb_ledger.specs.Texts.{paths_of}

@@ -1,4 +1,4 @@
-use Rattle.fb_blocks.proofs.Lists.{on_ok}
+use Rattle.fb_flat.proofs.of_fb_blocks.Lists.{on_ok}
 use Rattle.fb_cert.specs.Views.{rows_of, book_of}
 use Rattle.fb_ledger.specs.Texts.{HaveOtherRows}
 use Rattle.fb_ledger.specs.Faults.{IsRowFault}

@@ -1,6 +1,6 @@
 use Rattle.std.proofs.Common.{refl, string_bytes}
-use Rattle.fb_blocks.specs.Views.{names_of}
-use Rattle.fb_blocks.proofs.Lists.{with_key}
+use Rattle.fb_flat.specs.fb_blocks.Views.{names_of}
+use Rattle.fb_flat.proofs.of_fb_blocks.Lists.{with_key}
 use Rattle.fb_ledger.proofs.Members.{extended}
 use Rattle.fb_ledger.proofs.required.require.Goals as goal
 

@@ -1,6 +1,6 @@
 use Rattle.std.proofs.Common.{◌≡◌, ◌++◌, map, OnOk, sym, ap, subst, ◌∙◌, string_bytes}
 use Rattle.fb_model.specs.Wires.{Charted}
-use Rattle.fb_blocks.specs.Views.{names_of, block_of}
+use Rattle.fb_flat.specs.fb_blocks.Views.{names_of, block_of}
 use Rattle.fb_ledger.specs.Members.{HasSame}
 use Rattle.fb_ledger.specs.Texts.{texts_in, row_names}
 use Rattle.fb_ledger.proofs.Tables.{state_names_are, event_names_are}

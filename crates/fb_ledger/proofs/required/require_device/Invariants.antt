@@ -1,6 +1,6 @@
 use Rattle.std.proofs.Common.{◌++◌, drop}
 use Rattle.std.specs.List.{flat_map}
-use Rattle.fb_blocks.specs.Views.{names_of}
+use Rattle.fb_flat.specs.fb_blocks.Views.{names_of}
 use Rattle.fb_ledger.specs.Members.{HasSame}
 use Rattle.fb_ledger.specs.Texts.{resource_texts, device_texts}
 use Rattle.fb_ledger.proofs.required.require_device.Given as goal

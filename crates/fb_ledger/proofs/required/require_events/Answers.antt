@@ -1,10 +1,10 @@
 use Rattle.std.proofs.Common.{◌≡◌, ◌∷◌, ◌++◌, [], OnOk, sym, ap, subst, ◌∙◌, map}
 use Rattle.std.proofs.lemmas.List.{map-append}
 use Rattle.fb_model.specs.Services.{service_event_inputs, service_events, arrivals}
-use Rattle.fb_blocks.specs.Views.{names_of}
-use Rattle.fb_blocks.proofs.Lists.{on_ok}
-use Rattle.fb_services.specs.Views.{service_of, listed}
-use Rattle.fb_wires.specs.Sites.{dotted}
+use Rattle.fb_flat.specs.fb_blocks.Views.{names_of}
+use Rattle.fb_flat.proofs.of_fb_blocks.Lists.{on_ok}
+use Rattle.fb_flat.specs.fb_services.Views.{service_of, listed}
+use Rattle.fb_flat.specs.Sites.{dotted}
 use Rattle.fb_ledger.specs.Members.{HasSame}
 use Rattle.fb_ledger.specs.Texts.{texts_in}
 use Rattle.fb_ledger.proofs.Members.{same_behind}

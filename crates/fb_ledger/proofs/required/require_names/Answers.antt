@@ -1,7 +1,7 @@
 use Rattle.std.proofs.Common.{Bor}
 use Rattle.fb_model.specs.Names.{Name}
-use Rattle.fb_blocks.specs.Views.{names_of}
-use Rattle.fb_wires.specs.Sites.{dotted}
+use Rattle.fb_flat.specs.fb_blocks.Views.{names_of}
+use Rattle.fb_flat.specs.Sites.{dotted}
 use Rattle.fb_ledger.proofs.Members.{next_item, rest_got}
 use Rattle.fb_ledger.proofs.required.require_names.Goals as goal
 

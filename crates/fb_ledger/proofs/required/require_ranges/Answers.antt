@@ -1,8 +1,8 @@
 use Rattle.std.proofs.Common.{◌≡◌, ◌++◌, sym, ap, subst, ◌∙◌}
 use Rattle.std.proofs.lemmas.List.{map-append}
-use Rattle.fb_blocks.specs.Views.{names_of, variables_of}
-use Rattle.fb_blocks.proofs.Lists.{on_ok}
-use Rattle.fb_wires.specs.Sites.{dotted}
+use Rattle.fb_flat.specs.fb_blocks.Views.{names_of, variables_of}
+use Rattle.fb_flat.proofs.of_fb_blocks.Lists.{on_ok}
+use Rattle.fb_flat.specs.Sites.{dotted}
 use Rattle.fb_ledger.specs.Members.{HasSame}
 use Rattle.fb_ledger.specs.Texts.{texts_in, ranged_names}
 use Rattle.fb_ledger.proofs.Members.{same_both}

@@ -1,6 +1,6 @@
 use Rattle.std.proofs.Common.{◌∷◌, ◌++◌, map, sym, subst, string_bytes}
-use Rattle.fb_blocks.specs.Views.{names_of}
-use Rattle.fb_wires.specs.Sites.{dotted}
+use Rattle.fb_flat.specs.fb_blocks.Views.{names_of}
+use Rattle.fb_flat.specs.Sites.{dotted}
 use Rattle.fb_ledger.specs.Members.{HasSame}
 use Rattle.fb_ledger.specs.Texts.{texts_in}
 use Rattle.fb_ledger.proofs.Members.{next_item, rest_at}

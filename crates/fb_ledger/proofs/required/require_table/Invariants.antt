@@ -1,5 +1,5 @@
 use Rattle.std.proofs.Common.{◌++◌, map, drop, string_bytes}
-use Rattle.fb_blocks.specs.Views.{names_of}
+use Rattle.fb_flat.specs.fb_blocks.Views.{names_of}
 use Rattle.fb_ledger.specs.Members.{HasSame}
 use Rattle.fb_ledger.specs.Texts.{texts_in}
 use Rattle.fb_ledger.proofs.required.require_table.Given as goal

@@ -1,9 +1,9 @@
 use Rattle.std.proofs.Common.{◌≡◌, ◌∷◌, ◌++◌, ◌+◌, true, false, not, drop, map, sym, ap, subst, ◌∙◌, string_bytes}
 use Rattle.std.specs.declared.string.String.{String}
 use Rattle.std.specs.declared.alloc.Global.{Global}
-use Rattle.fb_blocks.specs.declared.typed.Variable.{Variable}
-use Rattle.fb_blocks.specs.Views.{names_of}
-use Rattle.fb_wires.specs.Sites.{dotted}
+use Rattle.fb_flat.specs.fb_blocks.declared.typed.Variable.{Variable}
+use Rattle.fb_flat.specs.fb_blocks.Views.{names_of}
+use Rattle.fb_flat.specs.Sites.{dotted}
 use Rattle.fb_ledger.specs.Members.{HasSame}
 use Rattle.fb_ledger.specs.Texts.{texts_in, ranged_names}
 use Rattle.fb_ledger.proofs.Members.{rest_at}

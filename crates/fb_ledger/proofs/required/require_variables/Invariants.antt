@@ -1,5 +1,5 @@
 use Rattle.std.proofs.Common.{◌++◌, drop}
-use Rattle.fb_blocks.specs.Views.{names_of, variables_of}
+use Rattle.fb_flat.specs.fb_blocks.Views.{names_of, variables_of}
 use Rattle.fb_ledger.specs.Members.{HasSame}
 use Rattle.fb_ledger.specs.Texts.{texts_in, ranged_names}
 use Rattle.fb_ledger.proofs.Tables.{listed}

@@ -1,6 +1,6 @@
 use Rattle.std.proofs.Common.{◌∙◌}
 use Rattle.fb_model.specs.NetworkTyping.{variable_named}
-use Rattle.fb_blocks.specs.Views.{face_of}
+use Rattle.fb_services.specs.fb_blocks.Views.{face_of}
 use Rattle.fb_networks.proofs.Ends.{carries}
 use Rattle.fb_networks.proofs.end.own_port.Goals as goal
 

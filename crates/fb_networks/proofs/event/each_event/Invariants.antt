@@ -1,6 +1,6 @@
 use Rattle.std.proofs.Common.{map, drop}
-use Rattle.fb_blocks.specs.Views.{face_of}
-use Rattle.fb_source.specs.Views as trees_of
+use Rattle.fb_services.specs.fb_blocks.Views.{face_of}
+use Rattle.fb_services.specs.fb_text.Views as trees_of
 use Rattle.fb_networks.specs.Views.{names_of, connection_of}
 use Rattle.fb_networks.specs.Ends.{inner_of, IsTabled}
 use Rattle.fb_networks.proofs.Loops.{EventsSo}

@@ -1,7 +1,7 @@
 use Rattle.std.proofs.Common.{sym, ◌∙◌, refl}
 use Rattle.std.proofs.lemmas.Result.{err_from_is_err_and}
-use Rattle.fb_source.specs.Views as trees_of
-use Rattle.fb_blocks.specs.Views.{face_of}
+use Rattle.fb_services.specs.fb_text.Views as trees_of
+use Rattle.fb_services.specs.fb_blocks.Views.{face_of}
 use Rattle.fb_networks.specs.Views.{end_of}
 use Rattle.fb_networks.specs.Ends.{inner_of}
 use Rattle.fb_networks.specs.Refusals.{faulty_source, faulty_target, passing}

@@ -1,7 +1,7 @@
 use Rattle.std.proofs.Common.{[], subst}
 use Rattle.std.proofs.lemmas.Result.{err_from_is_err_and}
-use Rattle.fb_source.specs.Views as trees_of
-use Rattle.fb_blocks.proofs.Refused.{either_of}
+use Rattle.fb_services.specs.fb_text.Views as trees_of
+use Rattle.fb_services.proofs.of_fb_blocks.Refused.{either_of}
 use Rattle.fb_model.specs.Wires.{inputs_of}
 use Rattle.fb_networks.specs.Views.{body_of}
 use Rattle.fb_networks.specs.Refusals.{IsParametersFault, no_memory_for_plain, faulty_parameters}

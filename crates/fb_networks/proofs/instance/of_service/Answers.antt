@@ -1,5 +1,5 @@
 use Rattle.std.proofs.lemmas.Result.{err_from_is_err_and}
-use Rattle.fb_blocks.proofs.Refused.{either_of}
+use Rattle.fb_services.proofs.of_fb_blocks.Refused.{either_of}
 use Rattle.fb_services.specs.Views.{service_of}
 use Rattle.fb_networks.specs.Refusals.{no_memory_for_served, faulty_values}
 use Rattle.fb_networks.proofs.instance.of_service.Goals as goal

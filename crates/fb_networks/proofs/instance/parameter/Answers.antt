@@ -3,10 +3,10 @@ use Rattle.std.proofs.Math.Facts.{to_z-of_z}
 use Rattle.std.proofs.lemmas.Result.{err_from_is_err_and}
 use Rattle.st_tree.specs.Views.{constant_of}
 use Rattle.fb_model.specs.NetworkTyping.{variable_named}
-use Rattle.fb_blocks.specs.Refusals.{IsMisgiven}
+use Rattle.fb_services.specs.fb_blocks.Refusals.{IsMisgiven}
 use Rattle.fb_networks.specs.Answers.{inputs_in}
 use Rattle.fb_networks.specs.Refusals.{misgiven}
-use Rattle.fb_source.specs.Views as trees_of
+use Rattle.fb_services.specs.fb_text.Views as trees_of
 use Rattle.fb_networks.specs.Views.{names_of}
 use Rattle.fb_networks.proofs.Taken.{newly}
 use Rattle.fb_networks.proofs.Parameters.{with_type, parameter_of_parts}

@@ -1,7 +1,7 @@
 use Rattle.std.proofs.Common.{◌≡◌, ◌++◌, ◌∷◌, [], map, drop, ◌+◌, inr, sym, subst, ◌∙◌}
 use Rattle.std.proofs.lemmas.List.{map_push}
 use Rattle.std.proofs.lemmas.Result.{err_from_is_err_and}
-use Rattle.fb_source.specs.Views as trees_of
+use Rattle.fb_services.specs.fb_text.Views as trees_of
 use Rattle.fb_networks.specs.Views.{names_of, parameter_of}
 use Rattle.fb_networks.specs.Answers.{inputs_in, reserved_in}
 use Rattle.fb_networks.proofs.Loops.{next_left, none_left}

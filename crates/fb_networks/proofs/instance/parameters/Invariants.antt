@@ -1,5 +1,5 @@
 use Rattle.std.proofs.Common.{map, drop}
-use Rattle.fb_source.specs.Views as trees_of
+use Rattle.fb_services.specs.fb_text.Views as trees_of
 use Rattle.fb_networks.specs.Views.{names_of, parameter_of}
 use Rattle.fb_networks.specs.Answers.{inputs_in, reserved_in}
 use Rattle.fb_networks.proofs.Parameters.{ParametersSo}

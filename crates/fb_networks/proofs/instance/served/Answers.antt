@@ -1,4 +1,4 @@
-use Rattle.fb_source.specs.Views as trees_of
+use Rattle.fb_services.specs.fb_text.Views as trees_of
 use Rattle.fb_networks.proofs.Networks.{served_found}
 use Rattle.fb_networks.proofs.instance.served.Goals as goal
 

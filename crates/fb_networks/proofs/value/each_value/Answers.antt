@@ -1,8 +1,8 @@
 use Rattle.std.proofs.Common.{◌≡◌, ◌++◌, ◌∷◌, [], map, drop, ◌+◌, inr, subst}
 use Rattle.std.proofs.lemmas.List.{map_push}
 use Rattle.std.proofs.lemmas.Result.{err_from_is_err_and}
-use Rattle.fb_blocks.specs.Views.{face_of}
-use Rattle.fb_source.specs.Views as trees_of
+use Rattle.fb_services.specs.fb_blocks.Views.{face_of}
+use Rattle.fb_services.specs.fb_text.Views as trees_of
 use Rattle.fb_networks.specs.Views.{connection_of}
 use Rattle.fb_networks.specs.Ends.{inner_of, ends_of}
 use Rattle.fb_networks.proofs.Loops.{ValuesSo, values_more, values_done, values_wrong, next_left, none_left}

@@ -1,9 +1,9 @@
 use Rattle.std.proofs.Common.{map, drop, ◌+◌, sym, subst, ◌∙◌}
 use Rattle.fb_model.specs.Typing.{AreNew}
-use Rattle.fb_source.specs.Views as trees_of
+use Rattle.fb_services.specs.fb_text.Views as trees_of
 use Rattle.fb_read.specs.Answers.{word_of}
-use Rattle.fb_blocks.specs.Views.{face_of}
-use Rattle.fb_blocks.proofs.Lists.{map_map}
+use Rattle.fb_services.specs.fb_blocks.Views.{face_of}
+use Rattle.fb_services.proofs.of_fb_blocks.Lists.{map_map}
 use Rattle.fb_networks.specs.Views.{names_of}
 use Rattle.fb_networks.specs.Answers.{own_names}
 use Rattle.fb_networks.proofs.Loops.{next_left, none_left}

@@ -1,8 +1,8 @@
 use Rattle.std.proofs.Common.{map}
 use Rattle.std.proofs.lemmas.Result.{err_from_is_err_and}
-use Rattle.fb_source.specs.Views as trees_of
-use Rattle.fb_blocks.specs.Views.{face_of}
-use Rattle.fb_blocks.proofs.Refused.{either_of}
+use Rattle.fb_services.specs.fb_text.Views as trees_of
+use Rattle.fb_services.specs.fb_blocks.Views.{face_of}
+use Rattle.fb_services.proofs.of_fb_blocks.Refused.{either_of}
 use Rattle.fb_model.specs.NetworkTyping.{given_in}
 use Rattle.fb_networks.specs.Views.{names_of, connection_of, wired_of}
 use Rattle.fb_networks.specs.Ends.{inner_of, ends_of}

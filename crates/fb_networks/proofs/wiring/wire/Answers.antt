@@ -1,6 +1,6 @@
 use Rattle.std.proofs.Common.{map}
-use Rattle.fb_source.specs.Views as trees_of
-use Rattle.fb_blocks.specs.Views.{face_of}
+use Rattle.fb_services.specs.fb_text.Views as trees_of
+use Rattle.fb_services.specs.fb_blocks.Views.{face_of}
 use Rattle.fb_networks.specs.Views.{placed_of}
 use Rattle.fb_networks.proofs.Networks.{wired_found}
 use Rattle.fb_networks.proofs.wiring.wire.Goals as goal

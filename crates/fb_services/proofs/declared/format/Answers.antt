@@ -1,7 +1,7 @@
 use Rattle.std.proofs.Common.{refl, sym, subst, pos}
 use Rattle.fb_model.specs.Typing.{IsWhole}
 use Rattle.fb_model.specs.NetworkTyping.{IsFormat, unsaid, first_format}
-use Rattle.fb_source.specs.Views.{parameter_of}
+use Rattle.fb_blocks.specs.fb_text.Views.{parameter_of}
 use Rattle.fb_services.proofs.Services.{another_format}
 use Rattle.fb_services.proofs.declared.format.Goals as goal
 

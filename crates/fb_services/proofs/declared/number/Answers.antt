@@ -2,7 +2,7 @@ use Rattle.std.proofs.Common.{refl, sym, subst, map, arith}
 use Rattle.fb_model.specs.Typing.{IsId, an_id}
 use Rattle.fb_model.specs.NetworkTyping.{id}
 use Rattle.fb_services.proofs.Services.{too_large, has_name}
-use Rattle.fb_source.specs.Views.{parameter_of}
+use Rattle.fb_blocks.specs.fb_text.Views.{parameter_of}
 use Rattle.fb_services.proofs.declared.number.Goals as goal
 
 pub returns-then-number-gt-MOST_ID-clause-refused : goal.returns-then-number-gt-MOST_ID-clause-refused

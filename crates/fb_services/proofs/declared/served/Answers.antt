@@ -1,4 +1,4 @@
-use Rattle.fb_source.specs.Views.{instance_of}
+use Rattle.fb_blocks.specs.fb_text.Views.{instance_of}
 use Rattle.fb_services.proofs.Services.{finds}
 use Rattle.fb_services.proofs.declared.served.Goals as goal
 

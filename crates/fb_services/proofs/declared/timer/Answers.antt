@@ -2,7 +2,7 @@ use Rattle.std.proofs.Common.{sym, subst, ◌∙◌}
 use Rattle.fb_services.proofs.declared.timer.Goals as goal
 use Rattle.fb_services.proofs.declared.timer.Goals.{in-E_DELAY, in-E_CYCLE, in-E_RESTART}
 use Rattle.fb_model.specs.NetworkTyping.{IsService, a_delay, a_cycle, a_restart}
-use Rattle.fb_source.specs.Views.{instance_of}
+use Rattle.fb_blocks.specs.fb_text.Views.{instance_of}
 use Rattle.fb_services.specs.Views.{service_of}
 
 pub returns-clause-is : goal.returns-clause-is

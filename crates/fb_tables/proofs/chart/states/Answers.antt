@@ -1,9 +1,11 @@
-use Rattle.fb_types.specs.Views.{names_of}
-use Rattle.fb_tables.specs.Filling.{IsStateMade}
-use Rattle.fb_tables.proofs.Lists.{each_more}
+use Rattle.fb_check.specs.fb_blocks.Answers.{names_in_map}
+use Rattle.fb_tables.specs.Filling.{Entry, IsStateMade}
+use Rattle.fb_tables.proofs.Lists.{got, each_more}
 use Rattle.fb_tables.proofs.chart.states.Goals as goal
 
-pub loop-source-preserved : goal.loop-source-preserved
-loop-source-preserved c =
-    each_more (IsStateMade (names_of c.args.outputs.now)) c.args.sources.now c.loop-source.source-index c.source-item.result c.loop-source.states.items c.push.new.self.items _
-    c.loop-source-test.true c.source-item.is c.in_ok-push.ensures.items c.loop-source.invariant c.in_ok-state.ensures
+pub loop-index-preserved : goal.loop-index-preserved
+loop-index-preserved c =
+    let s : Entry = (c.in-Some.name.now, c.in-Some.actions.now) in
+    let g = got c.args.sources.now.entries c.loop-index.index s c.in-Some.ensures.entry in
+    each_more (IsStateMade (names_in_map c.args.outputs.now)) c.args.sources.now.entries c.loop-index.index s c.loop-index.states.items c.push.new.self.items c.in_ok-state.field-0
+    g.0 g.1 c.in_ok-push.ensures.items c.loop-index.invariant c.in_ok-state.ensures

@@ -1,7 +1,7 @@
 use Rattle.std.proofs.Common.{take}
-use Rattle.fb_types.specs.Views.{names_of}
+use Rattle.fb_check.specs.fb_blocks.Answers.{names_in_map}
 use Rattle.fb_tables.specs.Filling.{Each, IsStateMade}
 use Rattle.fb_tables.proofs.chart.states.Given as goal
 
-abbrev pub invariant-loop-source : goal.invariant-loop-source
-invariant-loop-source l = Each (IsStateMade (names_of l.outputs)) (take l.source-index l.sources) l.states.items
+abbrev pub invariant-loop-index : goal.invariant-loop-index
+invariant-loop-index l = Each (IsStateMade (names_in_map l.outputs)) (take l.index l.sources.entries) l.states.items

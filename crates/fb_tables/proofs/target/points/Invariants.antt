@@ -1,5 +1,5 @@
 use Rattle.std.proofs.Common.{take}
-use Rattle.fb_types.specs.Views.{names_of}
+use Rattle.fb_check.specs.fb_blocks.Views.{names_of}
 use Rattle.fb_tables.specs.Filling.{Each, IsPointMade, seats_of}
 use Rattle.fb_tables.proofs.target.points.Given as goal
 

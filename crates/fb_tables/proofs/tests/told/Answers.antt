@@ -1,11 +1,11 @@
 use Rattle.std.proofs.Common.{ap, length, arith}
 use Rattle.std.proofs.lemmas.List.{length-map}
-use Rattle.fb_types.specs.Views.{device_of}
+use Rattle.fb_check.specs.fb_types.Views.{device_of}
 use Rattle.fb_check.proofs.Reading.{checked}
 use Rattle.fb_tables.proofs.tests.told.Goals as goal
 
 pub tables-requires-clause-checked : goal.tables-requires-clause-checked
-tables-requires-clause-checked c = checked c.args.text.now c.args.certificate.now c.in-Ok.verified c.in-Ok.ensures.accepted
+tables-requires-clause-checked c = checked _ _ _ c.in-Ok.verified c.in-Ok.ensures.accepted
 
 pub tables-requires-clause-within : goal.tables-requires-clause-within
 tables-requires-clause-within c =

@@ -1,0 +1,101 @@
+-- Services of well typed systems have few values, so all data inputs are written.
+use Rattle.std.proofs.Common.{◌≡◌, ℕ, ◌+◌, ◌≤◌, List, [], ◌∷◌, ◌++◌, length, Some, refl, ap, arith}
+use Rattle.std.specs.List.{AllByRecursion}
+use Rattle.std.proofs.lemmas.Bool.{le-ltb}
+use Rattle.std.specs.Prelude.{if◌then◌else◌}
+use Rattle.fb_model.specs.Names.{Name, Path, Place}
+use Rattle.fb_model.specs.Declarations.{BlockTree, InstanceTree, ResourceTree, DeviceTree, SourceTree}
+use Rattle.fb_model.specs.System.{Service, Parameter, Body, Basic, Served, Composite, Instances, nothing, instance, Resource, Device, System, constant}
+use Rattle.fb_model.specs.Services.{service_inputs}
+use Rattle.fb_model.specs.Store.{variable_names, inputs}
+use Rattle.fb_model.specs.Wires.{Leaf, Source, Constant, Serviced, followed, entered_in, fed, given_in, inputs_of, leaves_of, leaves_in, resource_leaves, leaves_from, leaves}
+use Rattle.fb_model.specs.NetworkTyping.{most_types, IsService, an_input, an_output, a_publisher, a_subscriber, a_delay, a_cycle, a_restart, IsServed, a_service, IsMade, a_basic, a_composite, IsInstance, of_type, of_service, AreInstances, no_instance, an_instance, AreResources, no_resource, a_resource, IsDevice, AreDevices, no_device, a_device, ElaboratesWith}
+use Rattle.fb_model.proofs.Lists.{all_append}
+use Rattle.fb_types.specs.fb_services.Views.{values_of}
+use Rattle.fb_flat.specs.Sources.{written_inputs}
+
+-- ---- one service
+
+abbrev IsSmall : Service → Type 0
+IsSmall s = length (values_of s) ≤ most_types
+
+small : (i : InstanceTree) (s : Service) → IsService i s → IsSmall s
+small i s (an_input _ few _) = few
+small i s (an_output _ few _) = few
+small i s (a_publisher _ few _ _) = few
+small i s (a_subscriber _ few _ _) = few
+small i s (a_delay _ _) = omega arith
+small i s (a_cycle _ _) = omega arith
+small i s (a_restart _ _) = omega arith
+
+-- all data inputs of a leaf are written
+abbrev IsWritten : Leaf → Type 0
+IsWritten leaf = written_inputs leaf.kind ≡ variable_names (inputs leaf.kind)
+
+all_written : (s : Service) → IsSmall s → written_inputs (Serviced s) ≡ variable_names (service_inputs s)
+all_written s h = ap (λ b. if b then [] else variable_names (service_inputs s)) (le-ltb 99 (length (values_of s)) (omega (arith, h)))
+
+-- ---- bodies
+
+-- each service in it is small
+abbrev mutual
+  IsSmallBody : Body → Type 0
+  IsSmallBody (Basic block) = Unit {0}
+  IsSmallBody (Served service) = IsSmall service
+  IsSmallBody (Composite face inner events values) = AreSmall inner
+
+  AreSmall : Instances → Type 0
+  AreSmall nothing = Unit {0}
+  AreSmall (instance name parameters body rest) = IsSmallBody body × AreSmall rest
+
+mutual
+  body_small : (bs : List BlockTree) (n : ℕ) (b : BlockTree) (body : Body) → IsMade bs n b body → IsSmallBody body
+  body_small bs n b body (a_basic e h) = tt
+  body_small bs n b body (a_composite {d = d} {n = net} {inner = inner} e face names instances events values) = all_small bs d net.instances inner instances
+
+  one_small : (bs : List BlockTree) (n : ℕ) (i : InstanceTree) (qs : List Parameter) (body : Body) → IsInstance bs n i qs body → IsSmallBody body
+  one_small bs n i qs body (of_type {b = b} _ found _ m ps) = body_small bs n b body m
+  one_small bs n i qs body (of_service {s = s} h) = served s h where
+    served : (s : Service) → IsServed i s qs → IsSmall s
+    served s (a_service is ps) = small i s is
+
+  all_small : (bs : List BlockTree) (n : ℕ) (is : List InstanceTree) (inner : Instances) → AreInstances bs n is inner → AreSmall inner
+  all_small bs n is inner no_instance = tt
+  all_small bs n is inner (an_instance {i = i} {is = js} {qs = qs} {body = body} {rest = rest} h more) = (one_small bs n i qs body h, all_small bs n js rest more)
+
+-- ---- leaves
+
+mutual
+  leaves_written : (body : Body) (home : ℕ) (path : Path) (targets : Name → List Place) (source : Name → Source) → IsSmallBody body → AllByRecursion IsWritten (leaves_of body home path targets source)
+  leaves_written (Basic block) home path targets source h = (refl, tt)
+  leaves_written (Served service) home path targets source h = (all_written service h, tt)
+  leaves_written (Composite face inner events values) home path targets source h =
+      leaves_written_in inner home path (λ j port. followed events (Some j) port (entered_in inner path) targets) (λ j port other. fed values (Some j) port (given_in inner path) source other) h
+
+  leaves_written_in : (inner : Instances) (home : ℕ) (path : Path) (targets : Name → Name → List Place) (source : Name → Name → Source → Source) → AreSmall inner → AllByRecursion IsWritten (leaves_in inner home path targets source)
+  leaves_written_in nothing home path targets source h = tt
+  leaves_written_in (instance name parameters body rest) home path targets source h =
+      all_append IsWritten _ _
+      (leaves_written body home (path ++ name ∷ []) (targets name) (λ port. source name port (Constant (constant parameters (inputs_of body) port))) h.0)
+      (leaves_written_in rest home path targets source h.1)
+
+-- ---- devices
+
+resources_small : (bs : List BlockTree) (rs : List ResourceTree) (qs : List Resource) → AreResources bs rs qs → AllByRecursion (λ (q : Resource). AreSmall q.inner) qs
+resources_small bs rs qs no_resource = tt
+resources_small bs rs qs (a_resource {r = r} {rs = ts} {q = q} {qs = others} h more) = (all_small bs _ r.network.instances q.inner h.instances, resources_small bs ts others more)
+
+written_from : (n : ℕ) (path : Path) (rs : List Resource) → AllByRecursion (λ (r : Resource). AreSmall r.inner) rs → AllByRecursion IsWritten (leaves_from n path rs)
+written_from n path [] h = tt
+written_from n path (r ∷ rs) h = all_append IsWritten (resource_leaves n path r) (leaves_from (n + 1) path rs) (leaves_written_in r.inner n (path ++ r.name ∷ []) _ _ h.0) (written_from (n + 1) path rs h.1)
+
+device_written : (bs : List BlockTree) (d : DeviceTree) (e : Device) → IsDevice bs d e → AllByRecursion IsWritten (leaves e)
+device_written bs d e h = written_from 0 (e.name ∷ []) e.resources (resources_small bs d.resources e.resources h.resources)
+
+devices_written : (bs : List BlockTree) (ds : List DeviceTree) (es : List Device) → AreDevices bs ds es → AllByRecursion (λ (e : Device). AllByRecursion IsWritten (leaves e)) es
+devices_written bs ds es no_device = tt
+devices_written bs ds es (a_device {d = d} {ds = others} {e = e} {es = rest} h more) = (device_written bs d e h, devices_written bs others rest more)
+
+pub inputs_written : (library : List BlockTree) (source : SourceTree) (system : System) → ElaboratesWith library source system
+    → AllByRecursion (λ (d : Device). AllByRecursion (λ (leaf : Leaf). written_inputs leaf.kind ≡ variable_names (inputs leaf.kind)) (leaves d)) system.devices
+inputs_written library source system h = devices_written (source.blocks ++ library) source.system.devices system.devices h.devices

@@ -1,0 +1,26 @@
+-- Networks with indexes: the places of names, the connections of ends, and the networks inside.
+use Rattle.std.specs.Prelude.{ℕ, suc, ◌≡◌, List, [], ◌∷◌, Option, None, Some, string_bytes, if◌then◌else◌}
+use Rattle.std.specs.Option.{option_map}
+use Rattle.std.specs.HashMap.{get_by_text}
+use Rattle.std.specs.Str.{bytes_eq}
+use Rattle.std.specs.declared.string.String.{String}
+use Rattle.std.specs.declared.alloc.Global.{Global}
+use Rattle.indexmap.specs.IndexMap.{IndexMap}
+use Rattle.fb_model.specs.Names.{Name}
+use Rattle.fb_types.specs.fb_networks.declared.typed.Instance.{Instance}
+
+-- ---- names
+
+-- the place of the first instance of a name
+abbrev pub place_named : List Instance → Name → Option ℕ
+place_named [] x = None
+place_named (i ∷ is) x = if bytes_eq (string_bytes i.name) x then Some 0 else option_map suc (place_named is x)
+
+-- the first instance of a name
+abbrev pub first_named : List Instance → Name → Option Instance
+first_named [] x = None
+first_named (i ∷ is) x = if bytes_eq (string_bytes i.name) x then Some i else first_named is x
+
+-- a table has the places of names
+abbrev pub AreNames : {S : Type 0} → List Instance → IndexMap (String Global) ℕ S → Type 0
+AreNames is t = (x : Name) → get_by_text t x ≡ place_named is x

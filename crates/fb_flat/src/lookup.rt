@@ -1,0 +1,130 @@
+//! Networks with indexes.
+
+ghost use Rattle.std.specs.Prelude.{◌≡◌, ◌<◌, [], Some, Option, length, map, slice_get, None, IfOk, IfSome, MatchOption};
+ghost use Rattle.std.specs.Option.{option_map_or};
+ghost use Rattle.fb_model.specs.Names.{Name};
+ghost use Rattle.fb_types.specs.fb_networks.declared.typed.Body.{out-Body};
+ghost use Rattle.fb_types.specs.fb_networks.declared.typed.Instance.{Instance};
+ghost use Rattle.fb_types.specs.fb_networks.declared.typed.Network.{out-Network};
+ghost use Rattle.fb_flat.specs.Sites.{events_in};
+ghost use Rattle.fb_flat.specs.Leaves.{values_in};
+ghost use Rattle.fb_flat.specs.Placed.{first_named};
+ghost use Rattle.fb_flat.specs.Bundled.{key_of, seen, ending, source_of, target_of};
+ghost use Rattle.fb_flat.specs.Indexes.{IsInside};
+
+use crate::bundle::{Bundles, at, by_source, by_target};
+use crate::place::{Places, places};
+use fb_networks::fb_services::fb_blocks::Face;
+use fb_networks::{Body, Connection, Instance, Network};
+use std::alloc::{AllocError, Global};
+use std::marker::Model;
+
+/// A network with indexes: the places of its instances by name, its connections by their ends, and what is inside its instances.
+#[derive(Drop)]
+#[cycle(indexed)]
+pub struct Indexed<'a> {
+    network: &'a Network,
+    places: Places,
+    events: Bundles<'a>,
+    values: Bundles<'a>,
+    inside: Vec<Inside<'a>>,
+}
+
+/// What is inside an instance: nothing in a leaf; in a composite its interface and its network.
+#[derive(Drop)]
+#[cycle(indexed)]
+pub enum Inside<'a> {
+    Leaf,
+    Composite(&'a Face, Indexed<'a>),
+}
+
+impl<'a> Model for Indexed<'a> {
+    ghost use Rattle.fb_types.specs.fb_networks.declared.typed.Network.{Network, out-Network};
+    ghost use Rattle.fb_types.specs.fb_networks.contracts.typed.Network as e;
+    ghost use Rattle.std.specs.Coded.{codes};
+
+    ghost Value = { Network };
+
+    ghost coded = { Prim.hlevel (codes, e.the_row.coded) };
+
+    ghost use Rattle.fb_flat.specs.Indexes.{IsIndexed, size_of};
+
+    ghost view = { λ a. a.network.now };
+
+    ghost invariant = { λ a. IsIndexed (out-Network a.network.now) a.places a.events a.values a.inside.items };
+
+    ghost size = { size_of };
+
+    ghost use Rattle.fb_flat.specs.Sizes.{inside_smaller};
+
+    ghost size_decreases = { λ a h. inside_smaller a.network.now a.inside.items h.inside_are };
+}
+
+// What is inside an instance, with indexes.
+#[cycle(indexing)]
+fn within<'a>(alloc: Global, instance: &'a Instance) -> Result<Inside<'a>, AllocError>
+    ensures { IfOk result (λ x. IsInside (out-Body instance.now.body) x) }
+{
+    match &instance.body {
+        Body::Basic(_) => Ok(Inside::Leaf),
+        Body::Served(_) => Ok(Inside::Leaf),
+        Body::Composite(face, network) => Ok(Inside::Composite(face, index(alloc, network)?)),
+    }
+}
+
+/// A network with its indexes.
+#[cycle(indexing)]
+pub fn index<'a>(alloc: Global, network: &'a Network) -> Result<Indexed<'a>, AllocError>
+    ensures { IfOk result (λ i. i ≡ network.now) }
+{
+    let mut inside = Vec::new(alloc);
+    for instance in &network.instances {
+        inside.push(within(alloc, instance)?)?;
+    }
+    Ok(Indexed {
+        network,
+        places: places(alloc, &network.instances)?,
+        events: by_source(alloc, &network.events)?,
+        values: by_target(alloc, &network.values)?,
+        inside,
+    })
+}
+
+impl<'a> Indexed<'a> {
+    /// The instances, in text order.
+    pub fn instances(&self) -> &'a [Instance]
+        ensures { result.now ≡ (out-Network self.now).instances.items }
+    {
+        &self.network.instances
+    }
+
+    /// What is inside the instance at a place.
+    pub fn inside(&self, place: usize) -> &Inside<'a>
+        requires { place < length (out-Network self.now).instances.items }
+        ensures { (i : Instance) → slice_get (out-Network self.now).instances.items place ≡ Some i → IsInside (out-Body i.body) result.now }
+    {
+        &self.inside[place]
+    }
+
+    /// The place of the first instance of a name.
+    pub fn place(&self, name: &str) -> Option<usize>
+        ensures first { MatchOption result (first_named (out-Network self.now).instances.items name.now ≡ None) (λ k. slice_get (out-Network self.now).instances.items k ≡ first_named (out-Network self.now).instances.items name.now) }
+        ensures within { IfSome result (λ k. k < length (out-Network self.now).instances.items) }
+    {
+        self.places.get(name).copied()
+    }
+
+    /// Event connections, in text order, among which are all whose source has this text.
+    pub fn events(&self, key: &str) -> Option<&Vec<&'a Connection>>
+        ensures { (i : Option Name) (port : Name) → key.now ≡ key_of i port → ending source_of i port (map seen (option_map_or (λ v. v.now.items) result [])) ≡ ending source_of i port (events_in self.now) }
+    {
+        at(&self.events, key)
+    }
+
+    /// Data connections, in text order, among which are all whose target has this text.
+    pub fn values(&self, key: &str) -> Option<&Vec<&'a Connection>>
+        ensures { (i : Option Name) (port : Name) → key.now ≡ key_of i port → ending target_of i port (map seen (option_map_or (λ v. v.now.items) result [])) ≡ ending target_of i port (values_in self.now) }
+    {
+        at(&self.values, key)
+    }
+}

@@ -1,5 +1,0 @@
-use Rattle.fb_systems.proofs.Whole.{one_whole}
-use Rattle.fb_systems.proofs.laws.one_system.Goals as goal
-
-pub returns : goal.returns
-returns c = one_whole

@@ -1,7 +1,0 @@
-use Rattle.std.proofs.Common.{◌≡◌, map, take}
-use Rattle.fb_systems.specs.Made.{tree_of}
-use Rattle.fb_systems.proofs.make.extended.Given as goal
-
--- the copy has those so far
-abbrev pub invariant-loop-outer : goal.invariant-loop-outer
-invariant-loop-outer l = map tree_of l.longer.items ≡ map tree_of (take l.outer-index l.initial.path)

@@ -1,7 +1,0 @@
-use Rattle.std.proofs.Common.{map}
-use Rattle.fb_systems.specs.Uses.{use_of}
-use Rattle.fb_systems.proofs.Numbered.{only_memory}
-use Rattle.fb_systems.proofs.numbers.differ.Goals as goal
-
-pub returns-clause-only : goal.returns-clause-only
-returns-clause-only c = λ new. only_memory c.args.kind (map use_of c.args.uses.now) c.each_differs.result new c.each_differs.ensures.refused

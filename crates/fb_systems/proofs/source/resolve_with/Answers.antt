@@ -1,7 +1,0 @@
-use Rattle.std.proofs.Common.{map}
-use Rattle.fb_source.specs.Views as trees_of
-use Rattle.fb_systems.proofs.Whole.{only_whole}
-use Rattle.fb_systems.proofs.source.resolve_with.Goals as goal
-
-pub returns-clause-only : goal.returns-clause-only
-returns-clause-only c = only_whole (map trees_of.block_of c.args.library.now) (trees_of.source_of c.args.source.now) c.resolved.result c.resolved.ensures.typed c.resolved.ensures.refused

@@ -1,0 +1,32 @@
+//! Why there are no tables of a device.
+
+ghost use Rattle.std.specs.Prelude.{◌≡◌};
+ghost use Rattle.fb_tables.specs.declared.unfit.Unfit.TheVariants.{OutOfMemory};
+
+use std::alloc::{AllocError, AllocFailed};
+
+/// Why there are no tables of a device.
+#[derive(Debug, Drop)]
+pub enum Unfit {
+    /// Memory ran out.
+    OutOfMemory,
+    /// A device cannot run the leaf of this path yet: a block with a variable, an algorithm or a guard, or a service other than an INPUT
+    /// without values. The path is in upper case, its names joined by dots, as in `D.R.MOTOR`.
+    CannotRun(String),
+}
+
+impl From<AllocError> for Unfit {
+    ghost from_gives = { λ _ e. e ≡ OutOfMemory };
+
+    fn from(_: AllocError) -> Unfit {
+        Unfit::OutOfMemory
+    }
+}
+
+impl<T: Drop> From<AllocFailed<T>> for Unfit {
+    ghost from_gives = { λ _ e. e ≡ OutOfMemory };
+
+    fn from(_: AllocFailed<T>) -> Unfit {
+        Unfit::OutOfMemory
+    }
+}

@@ -1,0 +1,92 @@
+use Rattle.std.proofs.Common.{◌≤◌, ◌++◌, [], map, length, sym, ap, subst, ◌∙◌}
+use Rattle.std.specs.List.{AllByRecursion, Contains}
+use Rattle.std.proofs.lemmas.List.{length-map}
+use Rattle.std.proofs.lemmas.Result.{err_from_is_err_and}
+use Rattle.fb_model.specs.Typing.{AreDistinct}
+use Rattle.fb_model.specs.NetworkTyping.{most_devices, IsProper, AreDevices, AreAlike, all_services}
+use Rattle.fb_networks.specs.fb_text.Views as trees_of
+use Rattle.fb_networks.specs.fb_blocks.Refusals.{IsRepetition, IsExcess}
+use Rattle.fb_types.specs.Shapes.{IsUnlike}
+use Rattle.fb_types.specs.Nesting.{DevicesProvide}
+use Rattle.fb_types.specs.Refusals.{repeated_type, faulty_declaration, repeated_device, excess_device, faulty_device, unlike_channels}
+use Rattle.fb_types.specs.Made.{IsTable, IsMemo, IsNamed}
+use Rattle.fb_types.specs.Views.{device_of, system_uses}
+use Rattle.fb_types.proofs.Systems.{block_words, block_names, device_words, device_names, nothing_made}
+use Rattle.fb_types.proofs.Whole.{all_named}
+use Rattle.fb_types.proofs.source.resolved.Goals as goal
+
+pub returns-in_err-table-clause-refused : goal.returns-in_err-table-clause-refused
+returns-in_err-table-clause-refused c =
+    let p = err_from_is_err_and c.from_residual.result c.from_residual.ensures.1 in
+    let f = c.in_err-table.field-0.0 in
+    rw (p.1, p.2) (repeated_type (block_words (λ ws. IsRepetition [] ws f) c.args.source.now.blocks.items c.deref.result.now c.deref.ensures.value c.in_err-table.ensures.refused))
+
+pub returns-in_err-all_declared-clause-refused : goal.returns-in_err-all_declared-clause-refused
+returns-in_err-all_declared-clause-refused c =
+    let p = err_from_is_err_and c.from_residual-in_err-all_declared.result c.from_residual-in_err-all_declared.ensures.1 in
+    let xs = c.args.source.now.blocks.items in
+    let bs = map trees_of.block_of xs ++ map trees_of.block_of c.args.library.now in
+    let table : IsTable bs c.in_ok-types.types = subst (λ l. IsTable (map trees_of.block_of l ++ map trees_of.block_of c.args.library.now) c.in_ok-types.types) c.deref-2.ensures.value c.in_ok-types.ensures in
+    let memo : IsMemo bs c.new-memo.result = nothing_made bs c.new-memo.result c.new-memo.ensures.empty in
+    let distinct : AreDistinct (map (λ b. b.name.text) (map trees_of.block_of xs)) = block_names AreDistinct xs c.deref.result.now c.deref.ensures.value c.in_ok-table.ensures.distinct in
+    let named = subst (λ l. AllByRecursion (IsNamed bs) (map trees_of.block_of l)) (sym c.deref-3.ensures.value) (all_named (map trees_of.block_of xs) (map trees_of.block_of c.args.library.now) distinct) in
+    let h = c.in_err-all_declared.ensures.refused bs table memo named in
+    rw (p.1, p.2) (faulty_declaration (subst (λ l. Contains (map trees_of.block_of l) h.0) c.deref-3.ensures.value h.1) h.2)
+
+pub returns-in_err-at_most-clause-refused : goal.returns-in_err-at_most-clause-refused
+returns-in_err-at_most-clause-refused c =
+    let p = err_from_is_err_and c.from_residual-in_err-at_most.result c.from_residual-in_err-at_most.ensures.1 in
+    let f = c.in_err-at_most.field-0.0 in
+    rw (p.1, p.2) (excess_device (device_words (λ ws. IsExcess most_devices ws f) c.args.source.now.system.devices.items c.deref-4.result.now c.deref-4.ensures.value c.in_err-at_most.ensures.refused))
+
+pub returns-in_err-table-2-clause-refused : goal.returns-in_err-table-2-clause-refused
+returns-in_err-table-2-clause-refused c =
+    let p = err_from_is_err_and c.from_residual-in_err-table-2.result c.from_residual-in_err-table-2.ensures.1 in
+    let f = c.in_err-table-2.field-0.0 in
+    rw (p.1, p.2) (repeated_device (device_words (λ ws. IsRepetition [] ws f) c.args.source.now.system.devices.items c.deref-5.result.now c.deref-5.ensures.value c.in_err-table-2.ensures.refused))
+
+pub returns-in_err-devices-clause-refused : goal.returns-in_err-devices-clause-refused
+returns-in_err-devices-clause-refused c =
+    let p = err_from_is_err_and c.from_residual-in_err-devices.result c.from_residual-in_err-devices.ensures.1 in
+    let xs = c.args.source.now.blocks.items in
+    let bs = map trees_of.block_of xs ++ map trees_of.block_of c.args.library.now in
+    let table : IsTable bs c.in_ok-types.types = subst (λ l. IsTable (map trees_of.block_of l ++ map trees_of.block_of c.args.library.now) c.in_ok-types.types) c.deref-2.ensures.value c.in_ok-types.ensures in
+    let memo : IsMemo bs c.new-memo.result = nothing_made bs c.new-memo.result c.new-memo.ensures.empty in
+    let distinct : AreDistinct (map (λ b. b.name.text) (map trees_of.block_of xs)) = block_names AreDistinct xs c.deref.result.now c.deref.ensures.value c.in_ok-table.ensures.distinct in
+    let named = subst (λ l. AllByRecursion (IsNamed bs) (map trees_of.block_of l)) (sym c.deref-3.ensures.value) (all_named (map trees_of.block_of xs) (map trees_of.block_of c.args.library.now) distinct) in
+    let kept = c.in_ok-all_declared.ensures.kept bs table memo named in
+    let h = c.in_err-devices.ensures.refused bs table kept in
+    rw (p.1, p.2) (faulty_device (subst (λ l. Contains (map trees_of.device_of l) h.0) c.deref-6.ensures.value h.1) h.2)
+
+pub returns-in_err-channels_alike-clause-refused : goal.returns-in_err-channels_alike-clause-refused
+returns-in_err-channels_alike-clause-refused c =
+    let p = err_from_is_err_and c.from_residual-in_err-channels_alike.result c.from_residual-in_err-channels_alike.ensures.1 in
+    let xs = c.args.source.now.blocks.items in
+    let bs = map trees_of.block_of xs ++ map trees_of.block_of c.args.library.now in
+    let table : IsTable bs c.in_ok-types.types = subst (λ l. IsTable (map trees_of.block_of l ++ map trees_of.block_of c.args.library.now) c.in_ok-types.types) c.deref-2.ensures.value c.in_ok-types.ensures in
+    let memo : IsMemo bs c.new-memo.result = nothing_made bs c.new-memo.result c.new-memo.ensures.empty in
+    let distinct : AreDistinct (map (λ b. b.name.text) (map trees_of.block_of xs)) = block_names AreDistinct xs c.deref.result.now c.deref.ensures.value c.in_ok-table.ensures.distinct in
+    let named = subst (λ l. AllByRecursion (IsNamed bs) (map trees_of.block_of l)) (sym c.deref-3.ensures.value) (all_named (map trees_of.block_of xs) (map trees_of.block_of c.args.library.now) distinct) in
+    let kept = c.in_ok-all_declared.ensures.kept bs table memo named in
+    let f = c.in_err-channels_alike.field-0.0 in
+    let uses = subst (λ l. DevicesProvide bs (map trees_of.device_of l) (system_uses c.in_ok-devices.devices.items)) c.deref-6.ensures.value (c.in_ok-devices.ensures.uses bs table kept) in
+    rw (p.1, p.2) (unlike_channels uses (subst (λ l. IsUnlike (system_uses l) f) c.deref-7.ensures.value c.in_err-channels_alike.ensures.refused))
+
+pub returns-clause-typed : goal.returns-clause-typed
+returns-clause-typed c =
+    let xs = c.args.source.now.blocks.items in
+    let bs = map trees_of.block_of xs ++ map trees_of.block_of c.args.library.now in
+    let table : IsTable bs c.in_ok-types.types = subst (λ l. IsTable (map trees_of.block_of l ++ map trees_of.block_of c.args.library.now) c.in_ok-types.types) c.deref-2.ensures.value c.in_ok-types.ensures in
+    let memo : IsMemo bs c.new-memo.result = nothing_made bs c.new-memo.result c.new-memo.ensures.empty in
+    let distinct : AreDistinct (map (λ b. b.name.text) (map trees_of.block_of xs)) = block_names AreDistinct xs c.deref.result.now c.deref.ensures.value c.in_ok-table.ensures.distinct in
+    let named = subst (λ l. AllByRecursion (IsNamed bs) (map trees_of.block_of l)) (sym c.deref-3.ensures.value) (all_named (map trees_of.block_of xs) (map trees_of.block_of c.args.library.now) distinct) in
+    let kept = c.in_ok-all_declared.ensures.kept bs table memo named in
+    let ds = c.args.source.now.system.devices.items in
+    record {
+      names = distinct;
+      blocks = subst (λ l. AllByRecursion (IsProper bs) (map trees_of.block_of l)) c.deref-3.ensures.value (c.in_ok-all_declared.ensures.proper bs table memo named);
+      device_names = device_names AreDistinct ds c.deref-5.result.now c.deref-5.ensures.value c.in_ok-table-2.ensures.distinct;
+      few = subst (λ n. n ≤ most_devices) (ap length c.deref-4.ensures.value ∙ sym (length-map ds trees_of.device_of)) c.in_ok-at_most.ensures.few;
+      devices = subst (λ l. AreDevices bs (map trees_of.device_of l) (map device_of c.in_ok-devices.devices.items)) c.deref-6.ensures.value (c.in_ok-devices.ensures.typed bs table kept);
+      channels = subst (λ l. AreAlike (all_services (map device_of l))) c.deref-7.ensures.value c.in_ok-channels_alike.ensures.alike;
+    }

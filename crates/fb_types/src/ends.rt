@@ -1,0 +1,80 @@
+//! The services of devices and of systems together: this project's profile of IEC 61499-1 edition 2, 6.1.
+
+ghost use Rattle.std.specs.Prelude.{◌≡◌, ◌++◌, [], map, OnOk, IfErr};
+ghost use Rattle.fb_model.specs.Typing.{AreNewNumbers};
+ghost use Rattle.fb_model.specs.NetworkTyping.{inputs, outputs, subscribed, device_services, all_services, AreAlike};
+ghost use Rattle.fb_networks.specs.fb_blocks.declared.fault.TypeFault.TheVariants.{OutOfMemory};
+ghost use Rattle.fb_types.specs.Uses.{use_of, service_in};
+ghost use Rattle.fb_types.specs.declared.numbers.Kind.TheVariants.{Input, Output, Subscriber};
+ghost use Rattle.fb_types.specs.Numbers.{numbers_in};
+ghost use Rattle.fb_types.specs.Views.{resource_of, device_of, device_uses, system_uses};
+ghost use Rattle.fb_types.specs.Ends.{IsNumberFault};
+ghost use Rattle.fb_types.specs.Shapes.{IsUnlike};
+
+use crate::numbers::{Kind, differ};
+use crate::shapes::alike;
+use crate::typed::{Device, Resource};
+use crate::uses::{Use, gather_all};
+use fb_networks::fb_services::fb_blocks::TypeFault;
+use std::alloc::Global;
+
+// Adds the services of resources at the end.
+fn of_resources<'a>(uses: &mut Vec<Use<'a>>, resources: &'a [Resource]) -> Result<(), TypeFault>
+    ensures added { OnOk result (map use_of uses.new.items ≡ map use_of uses.old.items ++ device_uses resources.now) }
+    ensures services { OnOk result (map service_in uses.new.items ≡ map service_in uses.old.items ++ device_services (map resource_of resources.now)) }
+    ensures refused { IfErr result (λ f. f ≡ OutOfMemory) }
+{
+    for resource in resources {
+        gather_all(uses, &resource.network.instances)?;
+    }
+    Ok(())
+}
+
+// Adds the services of devices at the end.
+fn of_devices<'a>(uses: &mut Vec<Use<'a>>, devices: &'a [Device]) -> Result<(), TypeFault>
+    ensures added { OnOk result (map use_of uses.new.items ≡ map use_of uses.old.items ++ system_uses devices.now) }
+    ensures services { OnOk result (map service_in uses.new.items ≡ map service_in uses.old.items ++ all_services (map device_of devices.now)) }
+    ensures refused { IfErr result (λ f. f ≡ OutOfMemory) }
+{
+    for device in devices {
+        of_resources(uses, &device.resources)?;
+    }
+    Ok(())
+}
+
+// Refuses a number that two services of a kind have.
+fn all_differ(alloc: Global, uses: &[Use]) -> Result<(), TypeFault>
+    ensures inputs { OnOk result (AreNewNumbers [] (numbers_in Input (map use_of uses.now))) }
+    ensures outputs { OnOk result (AreNewNumbers [] (numbers_in Output (map use_of uses.now))) }
+    ensures channels { OnOk result (AreNewNumbers [] (numbers_in Subscriber (map use_of uses.now))) }
+    ensures refused { IfErr result (IsNumberFault (map use_of uses.now)) }
+{
+    differ(alloc, Kind::Input, uses)?;
+    differ(alloc, Kind::Output, uses)?;
+    differ(alloc, Kind::Subscriber, uses)
+}
+
+/// Refuses a number that two INPUTs or two OUTPUTs of a device have, with `BadService`, and a channel that two SUBSCRIBEs of it have, with
+/// `ChannelShape`: at the name of the later instance.
+pub fn numbers_differ(alloc: Global, resources: &[Resource]) -> Result<(), TypeFault>
+    ensures inputs { OnOk result (AreNewNumbers [] (inputs (device_services (map resource_of resources.now)))) }
+    ensures outputs { OnOk result (AreNewNumbers [] (outputs (device_services (map resource_of resources.now)))) }
+    ensures channels { OnOk result (AreNewNumbers [] (subscribed (device_services (map resource_of resources.now)))) }
+    ensures refused { IfErr result (IsNumberFault (device_uses resources.now)) }
+    ensures only { AreNewNumbers [] (inputs (device_services (map resource_of resources.now))) → AreNewNumbers [] (outputs (device_services (map resource_of resources.now))) → AreNewNumbers [] (subscribed (device_services (map resource_of resources.now))) → IfErr result (λ f. f ≡ OutOfMemory) }
+{
+    let mut uses = Vec::new(alloc);
+    of_resources(&mut uses, resources)?;
+    all_differ(alloc, &uses)
+}
+
+/// Refuses ends of one channel that have other types, with `ChannelShape` at the name of the later instance.
+pub fn channels_alike(alloc: Global, devices: &[Device]) -> Result<(), TypeFault>
+    ensures alike { OnOk result (AreAlike (all_services (map device_of devices.now))) }
+    ensures refused { IfErr result (IsUnlike (system_uses devices.now)) }
+    ensures only { AreAlike (all_services (map device_of devices.now)) → IfErr result (λ f. f ≡ OutOfMemory) }
+{
+    let mut uses = Vec::new(alloc);
+    of_devices(&mut uses, devices)?;
+    alike(alloc, &uses)
+}

@@ -1,0 +1,93 @@
+//! Numbers of services, which differ in a device: this project's profile of IEC 61499-1 edition 2, 6.1.
+
+ghost use Rattle.std.specs.Prelude.{◌≡◌, ◌++◌, [], map, OnOk, IfErr};
+ghost use Rattle.fb_model.specs.Typing.{AreNewNumbers};
+ghost use Rattle.fb_networks.specs.fb_blocks.declared.fault.TypeFault.TheVariants.{OutOfMemory};
+ghost use Rattle.fb_networks.specs.fb_services.Views.{service_of};
+ghost use Rattle.fb_types.specs.Uses.{use_of};
+ghost use Rattle.fb_types.specs.Numbers.{given, number_of, numbers_in, taken_fault, IsTaken, IsRepeated};
+
+use crate::uses::Use;
+use fb_networks::fb_services::fb_blocks::TypeFault;
+use fb_networks::fb_services::Service;
+use indexmap::IndexSet;
+use std::alloc::Global;
+
+/// What has a number of its own in a device: INPUTs, OUTPUTs, and the channels of SUBSCRIBEs.
+#[derive(Clone, Copy, Debug, PartialEq, Eq)]
+pub enum Kind {
+    Input,
+    Output,
+    Subscriber,
+}
+
+// The number that a service has of a kind.
+fn number(kind: Kind, service: &Service) -> Option<u16>
+    ensures { result ≡ number_of kind (service_of service.now) }
+{
+    match kind {
+        Kind::Input => match service {
+            Service::Input(number, _) => Some(*number),
+            _ => None,
+        },
+        Kind::Output => match service {
+            Service::Output(number, _) => Some(*number),
+            _ => None,
+        },
+        Kind::Subscriber => match service {
+            Service::Subscribe(number, _) => Some(*number),
+            _ => None,
+        },
+    }
+}
+
+// The refusal of a number that is taken, by an instance whose name stands at this place.
+fn taken(kind: Kind, at: usize) -> TypeFault
+    ensures { result ≡ taken_fault kind at }
+{
+    match kind {
+        Kind::Input => TypeFault::BadService(at),
+        Kind::Output => TypeFault::BadService(at),
+        Kind::Subscriber => TypeFault::ChannelShape(at),
+    }
+}
+
+// Adds the number of a service, which has to be new.
+fn enter(numbers: &mut IndexSet<u16>, kind: Kind, used: &Use) -> Result<(), TypeFault>
+    ensures new { OnOk result (AreNewNumbers numbers.old.keys (given (number_of kind ((use_of used.now).1)))) }
+    ensures added { OnOk result (numbers.new.keys ≡ numbers.old.keys ++ given (number_of kind ((use_of used.now).1))) }
+    ensures refused { IfErr result (IsTaken kind numbers.old.keys (use_of used.now)) }
+{
+    match number(kind, used.service) {
+        None => Ok(()),
+        Some(number) => {
+            if numbers.insert(number)? {
+                Ok(())
+            } else {
+                Err(taken(kind, used.at))
+            }
+        }
+    }
+}
+
+// Refuses a number that an earlier service of the kind has.
+fn each_differs(alloc: Global, kind: Kind, uses: &[Use]) -> Result<(), TypeFault>
+    ensures new { OnOk result (AreNewNumbers [] (numbers_in kind (map use_of uses.now))) }
+    ensures refused { IfErr result (IsRepeated kind [] (map use_of uses.now)) }
+{
+    let mut numbers = IndexSet::new(alloc);
+    for used in uses {
+        enter(&mut numbers, kind, used)?;
+    }
+    Ok(())
+}
+
+/// Refuses a number that an earlier service of the kind has, at the later instance's name: of INPUTs and OUTPUTs with `BadService`,
+/// of SUBSCRIBEs with `ChannelShape`.
+pub fn differ(alloc: Global, kind: Kind, uses: &[Use]) -> Result<(), TypeFault>
+    ensures new { OnOk result (AreNewNumbers [] (numbers_in kind (map use_of uses.now))) }
+    ensures refused { IfErr result (IsRepeated kind [] (map use_of uses.now)) }
+    ensures only { AreNewNumbers [] (numbers_in kind (map use_of uses.now)) → IfErr result (λ f. f ≡ OutOfMemory) }
+{
+    each_differs(alloc, kind, uses)
+}

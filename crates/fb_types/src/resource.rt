@@ -1,0 +1,108 @@
+//! Resources.
+
+ghost use Rattle.std.specs.Prelude.{◌≡◌, ◌++◌, [], List, map, OnOk, IfOk, IfErr};
+ghost use Rattle.std.specs.List.{Contains};
+ghost use Rattle.fb_model.specs.Declarations as decl;
+ghost use Rattle.fb_model.specs.NetworkTyping.{IsResource, AreResources, no_face};
+ghost use Rattle.fb_networks.specs.fb_text.Views as trees_of;
+ghost use Rattle.fb_networks.specs.fb_blocks.Views.{face_of};
+ghost use Rattle.fb_types.specs.Views.{resource_of, resource_uses, device_uses};
+ghost use Rattle.fb_types.specs.Nesting.{AllProvide, ResourcesProvide};
+ghost use Rattle.fb_types.specs.Refusals.{IsTypeFault, IsInstanceFault, IsResourceFault};
+ghost use Rattle.fb_types.specs.Made.{IsTable, IsMemo, IsUnmade, IsHalted, AreMade};
+
+use crate::count::few;
+use crate::made::{Memo, Unmade};
+use crate::make::parts;
+use crate::table::Types;
+use crate::typed::Resource;
+use fb_networks::fb_services::fb_blocks::{Face, TypeFault};
+use fb_networks::{Instance, wire};
+use fb_networks::fb_services::fb_blocks::fb_text::{InstanceTree, ResourceTree};
+use indexmap::IndexMap;
+use std::alloc::Global;
+
+/// The most composites that nest in one another.
+pub const DEEP: usize = 16;
+
+/// The refusal, where this many composites may nest.
+pub(crate) fn refusal(unmade: Unmade) -> TypeFault
+    ensures of_type { (bs : List decl.BlockTree) (b : decl.BlockTree) → IsUnmade bs DEEP b unmade → IsTypeFault bs b result }
+    ensures of_instance { (bs : List decl.BlockTree) (i : decl.InstanceTree) → IsHalted bs [] DEEP i unmade → IsInstanceFault bs i result }
+{
+    match unmade {
+        Unmade::Fault(fault) => fault,
+        Unmade::TooDeep(at) => TypeFault::Limit(at),
+    }
+}
+
+// An interface without ports.
+fn without_ports(alloc: Global) -> Face
+    ensures { face_of result ≡ no_face }
+{
+    Face {
+        event_inputs: IndexMap::new(alloc),
+        event_outputs: IndexMap::new(alloc),
+        inputs: IndexMap::new(alloc),
+        outputs: IndexMap::new(alloc),
+    }
+}
+
+// The instances of a resource.
+fn instances<'a>(
+    alloc: Global,
+    types: &Types<'a>,
+    memo: &mut Memo,
+    sources: &'a [InstanceTree],
+) -> Result<Vec<Instance>, TypeFault>
+    ensures made { (bs : List decl.BlockTree) → IsTable bs types.now → IsMemo bs memo.old → IfOk result (λ v. AreMade bs (map trees_of.instance_of sources.now) v.items) }
+    ensures kept { (bs : List decl.BlockTree) → IsTable bs types.now → IsMemo bs memo.old → OnOk result (IsMemo bs memo.new) }
+    ensures refused { (bs : List decl.BlockTree) → IsTable bs types.now → IsMemo bs memo.old → IfErr result (λ f. (i : decl.InstanceTree) × Contains (map trees_of.instance_of sources.now) i × IsInstanceFault bs i f) }
+{
+    match parts(alloc, types, memo, &[], DEEP, sources) {
+        Ok((instances, _)) => Ok(instances),
+        Err(unmade) => Err(refusal(unmade)),
+    }
+}
+
+// A resource.
+fn resource<'a>(
+    alloc: Global,
+    types: &Types<'a>,
+    memo: &mut Memo,
+    source: &'a ResourceTree,
+) -> Result<Resource, TypeFault>
+    ensures typed { (bs : List decl.BlockTree) → IsTable bs types.now → IsMemo bs memo.old → IfOk result (λ q. IsResource bs (trees_of.resource_of source.now) (resource_of q)) }
+    ensures uses { (bs : List decl.BlockTree) → IsTable bs types.now → IsMemo bs memo.old → IfOk result (λ q. AllProvide bs (trees_of.resource_of source.now).network.instances (resource_uses q)) }
+    ensures kept { (bs : List decl.BlockTree) → IsTable bs types.now → IsMemo bs memo.old → OnOk result (IsMemo bs memo.new) }
+    ensures refused { (bs : List decl.BlockTree) → IsTable bs types.now → IsMemo bs memo.old → IfErr result (IsResourceFault bs (trees_of.resource_of source.now)) }
+{
+    let instances = instances(alloc, types, memo, &source.network.instances)?;
+    few(&instances)?;
+    let network = wire(alloc, &without_ports(alloc), instances, &source.network)?;
+    let name = source.name.text.clone()?;
+    Ok(Resource {
+        name,
+        at: source.name.at,
+        network,
+    })
+}
+
+/// The resources of a device, in text order.
+pub(crate) fn resources<'a>(
+    alloc: Global,
+    types: &Types<'a>,
+    memo: &mut Memo,
+    sources: &'a [ResourceTree],
+) -> Result<Vec<Resource>, TypeFault>
+    ensures typed { (bs : List decl.BlockTree) → IsTable bs types.now → IsMemo bs memo.old → IfOk result (λ v. AreResources bs (map trees_of.resource_of sources.now) (map resource_of v.items)) }
+    ensures uses { (bs : List decl.BlockTree) → IsTable bs types.now → IsMemo bs memo.old → IfOk result (λ v. ResourcesProvide bs (map trees_of.resource_of sources.now) (device_uses v.items)) }
+    ensures kept { (bs : List decl.BlockTree) → IsTable bs types.now → IsMemo bs memo.old → OnOk result (IsMemo bs memo.new) }
+    ensures refused { (bs : List decl.BlockTree) → IsTable bs types.now → IsMemo bs memo.old → IfErr result (λ f. (r : decl.ResourceTree) × Contains (map trees_of.resource_of sources.now) r × IsResourceFault bs r f) }
+{
+    let mut resources = Vec::new(alloc);
+    for source in sources {
+        resources.push(resource(alloc, types, memo, source)?)?;
+    }
+    Ok(resources)
+}

@@ -1,5 +1,0 @@
-pub mod Lookups
-pub mod Idling
-pub mod Reading
-pub mod Composed
-pub mod Denied

@@ -1,6 +1,0 @@
-pub mod Refusals
-pub mod Lookups
-pub mod Fits
-pub mod Idle
-pub mod Faults
-pub mod Verdicts

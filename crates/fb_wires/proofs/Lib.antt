@@ -1,9 +1,0 @@
-pub mod Collecting
-pub mod Dotted
-pub mod Following
-pub mod Sources
-pub mod Sourced
-pub mod Few
-pub mod Read
-pub mod Systems
-pub mod Texts

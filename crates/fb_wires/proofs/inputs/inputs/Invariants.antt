@@ -1,8 +1,0 @@
-use Rattle.std.proofs.Common.{◌≡◌, ◌++◌, map, drop, string_bytes}
-use Rattle.fb_wires.specs.Sources.{input_of, fed_by}
-use Rattle.fb_wires.specs.Leaves.{held_by}
-use Rattle.fb_wires.proofs.inputs.inputs.Given as goal
-
--- the inputs so far, with those left, are all
-abbrev pub invariant-loop-name : goal.invariant-loop-name
-invariant-loop-name l = map input_of l.inputs.items ++ fed_by (held_by l.around) (map string_bytes (drop l.name-index l.names)) ≡ fed_by (held_by l.around) (map string_bytes l.names)

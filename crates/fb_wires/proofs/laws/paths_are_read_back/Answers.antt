@@ -1,5 +1,0 @@
-use Rattle.fb_wires.proofs.Dotted.{names_back}
-use Rattle.fb_wires.proofs.laws.paths_are_read_back.Goals as goal
-
-pub returns : goal.returns
-returns c = names_back

@@ -1,5 +1,0 @@
-use Rattle.fb_wires.proofs.Read.{devices_are}
-use Rattle.fb_wires.proofs.laws.tables_are_leaves.Goals as goal
-
-pub returns : goal.returns
-returns c = λ devices system. devices_are devices system.devices

@@ -1,0 +1,13 @@
+pub mod Types
+pub mod Results
+pub mod Names
+pub mod Terms
+pub mod Narrowing
+pub mod Turns
+pub mod Rowed
+pub mod Runs
+pub mod Loops
+pub mod Sound
+pub mod Ends
+pub mod Typed
+pub mod Samples
