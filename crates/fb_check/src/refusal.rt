@@ -3,9 +3,9 @@
 ghost use Rattle.std.specs.Prelude.{◌≡◌};
 ghost use Rattle.fb_check.specs.declared.refusal.Refusal.TheVariants.{OutOfMemory};
 
-use fb_columns::fb_flat::fb_types::fb_networks::fb_services::fb_blocks::TypeFault;
 use fb_cert::CertFault;
 use fb_columns::Shortfall;
+use fb_columns::fb_flat::fb_types::fb_networks::fb_services::fb_blocks::TypeFault;
 use fb_depths::Shallow;
 use fb_ledger::RowFault;
 use fb_lex::TextFault;

@@ -24,11 +24,11 @@ use crate::refusal::Refusal;
 use crate::texts::{read_certificate, read_system};
 use crate::verified::Verified;
 use fb_cert::Certificate;
+use fb_columns::fb_flat::fb_types::{EVENT_BLOCKS, Typed};
+use fb_columns::fb_flat::{Flat, flatten};
 use fb_columns::{Column, column_pays};
 use fb_depths::depths_fit;
 use fb_ledger::rows_match;
-use fb_columns::fb_flat::fb_types::{EVENT_BLOCKS, Typed};
-use fb_columns::fb_flat::{Flat, flatten};
 use std::alloc::Global;
 
 // The rows are those that the system must have, nothing runs that is not decided, and the rows pay in both columns and at each queue.

@@ -6,8 +6,8 @@ ghost use Rattle.fb_cert.specs.Views.{rows_of};
 ghost use Rattle.fb_check.specs.Lookups.{is_same_path, row_at};
 
 use fb_cert::{Amount, Certificate};
-use fb_columns::fb_flat::fb_types::Typed;
 use fb_columns::fb_flat::Flat;
+use fb_columns::fb_flat::fb_types::Typed;
 
 /// A system, its leaves with their wires, and a certificate that [`check`](crate::check) has accepted for it.
 ///

@@ -11,8 +11,8 @@ ghost use Rattle.fb_columns.specs.Paying.{IsMemory, IsCharge, IsWeight, Names, N
 use crate::column::{Column, plus};
 use crate::fault::Shortfall;
 use crate::weights::{charge, charged, weighed, weight};
-use fb_flat::fb_types::fb_networks::fb_services::fb_blocks::{Action, Block, Events, Transition};
 use fb_cert::Certificate;
+use fb_flat::fb_types::fb_networks::fb_services::fb_blocks::{Action, Block, Events, Transition};
 use indexmap::IndexMap;
 use std::alloc::Global;
 

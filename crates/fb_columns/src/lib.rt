@@ -10,9 +10,9 @@ mod pays;
 mod service;
 mod weights;
 
-pub use fb_flat;
 pub use column::Column;
 pub use fault::Shortfall;
+pub use fb_flat;
 pub use laws::refusals_deny;
 pub use pays::column_pays;
 

@@ -11,8 +11,8 @@ use crate::column::{Column, plus};
 use crate::fault::Shortfall;
 use crate::weights::{loads_named, weighed, weight};
 use fb_cert::Certificate;
-use fb_flat::fb_types::fb_networks::fb_services::Service;
 use fb_flat::Output;
+use fb_flat::fb_types::fb_networks::fb_services::Service;
 use std::alloc::Global;
 
 // The weight of an event input or arrival pays for its dispatch, and for all that it can emit.

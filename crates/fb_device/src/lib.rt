@@ -16,8 +16,8 @@ mod spending;
 #[cfg(test)]
 mod tests;
 
-pub use fb_tables;
 pub use answer::{Answer, Denied, Ended, Opening, Ran, Step, Turned};
 pub use device::Device;
+pub use fb_tables;
 pub use loading::{Ready, load, load_checked};
 pub use refusal::Refusal;

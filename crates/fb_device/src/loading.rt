@@ -25,8 +25,8 @@ use crate::entry::Entry;
 use crate::names::is_same;
 use crate::program::{Program, Running};
 use crate::refusal::Refusal;
-use fb_tables::fb_check::{Verified, check_text};
 use fb_tables::fb_check::fb_columns::fb_flat::fb_types::EVENT_BLOCKS;
+use fb_tables::fb_check::{Verified, check_text};
 use fb_tables::{Resource, Tables, tables};
 use std::alloc::{AllocError, Global};
 

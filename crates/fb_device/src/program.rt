@@ -1,8 +1,8 @@
 //! What a device runs, and how far it has come.
 
 use crate::entry::{Entry, Spent};
-use fb_tables::fb_check::Verified;
 use fb_tables::Tables;
+use fb_tables::fb_check::Verified;
 
 /// What was checked, the number of the device in it, and its tables.
 #[derive(Drop)]

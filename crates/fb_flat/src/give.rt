@@ -17,8 +17,8 @@ use crate::flat::Source;
 use crate::lookup::{Indexed, Inside};
 use crate::site::{Trail, text};
 use crate::walk::is_own;
-use fb_networks::fb_services::fb_blocks::Face;
 use fb_networks::Instance;
+use fb_networks::fb_services::fb_blocks::Face;
 use std::alloc::{AllocError, Global};
 
 // A data output of the leaf on a trail.

@@ -12,8 +12,8 @@ ghost use Rattle.fb_flat.specs.Leaves.{held_by};
 use crate::flat::Input;
 use crate::hold::hold;
 use crate::site::Around;
-use fb_networks::fb_services::fb_blocks::Variables;
 use fb_networks::fb_services::Service;
+use fb_networks::fb_services::fb_blocks::Variables;
 use std::alloc::{AllocError, Global};
 
 // The name of the variable at an index.

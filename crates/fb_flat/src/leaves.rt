@@ -27,9 +27,9 @@ use crate::leave::leave;
 use crate::lookup::{Indexed, Inside, index};
 use crate::site::{Around, Trail, text};
 use crate::walk::{Stop, Walk};
+use fb_networks::fb_services::Service;
 use fb_networks::fb_services::fb_blocks::{Block, Events, TypeFault};
 use fb_networks::{Instance, Network};
-use fb_networks::fb_services::Service;
 use fb_types::{Device, Resource, Typed};
 use fb_words::ElemType;
 use std::alloc::{AllocError, Global};
@@ -222,9 +222,7 @@ fn add_leaf(
 {
     match &instance.body {
         fb_networks::Body::Basic(block) => add_block(table, block, trail, around, alloc),
-        fb_networks::Body::Served(service) => add_service(
-            table, service, trail, around, alloc,
-        ),
+        fb_networks::Body::Served(service) => add_service(table, service, trail, around, alloc),
         fb_networks::Body::Composite(_, _) => unreachable!(),
     }
 }

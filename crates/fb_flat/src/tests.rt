@@ -1,8 +1,8 @@
 use crate::{Flat, Source, flatten};
-use fb_networks::fb_services::fb_blocks::{Face, TypeFault};
-use fb_networks::{Body, Connection, End, Instance, Network};
 use fb_networks::fb_services::Service;
 use fb_networks::fb_services::fb_blocks::fb_text::parse;
+use fb_networks::fb_services::fb_blocks::{Face, TypeFault};
+use fb_networks::{Body, Connection, End, Instance, Network};
 use fb_types::{Device, Resource, Typed, resolve_with};
 use indexmap::IndexMap;
 use std::alloc::{AllocError, Global};

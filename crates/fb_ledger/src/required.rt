@@ -14,8 +14,8 @@ ghost use Rattle.fb_ledger.specs.Faults.{IsMemory};
 
 use crate::fault::RowFault;
 use crate::kind::RowKind;
-use fb_flat::fb_types::fb_networks::fb_services::fb_blocks::{Block, Variables};
 use fb_flat::fb_types::fb_networks::fb_services::Service;
+use fb_flat::fb_types::fb_networks::fb_services::fb_blocks::{Block, Variables};
 use fb_flat::{Body, Flat, FlatDevice, FlatResource, Leaf, joined};
 use fb_words::ElemType;
 use indexmap::{IndexMap, IndexSet};

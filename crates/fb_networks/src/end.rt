@@ -15,9 +15,9 @@ ghost use Rattle.fb_networks.specs.Refusals.{IsWrongPort, IsOwnFault, IsInnerFau
 
 use crate::face::{has_event, type_in};
 use crate::typed::{Body, End, Instance};
-use fb_services::fb_blocks::{Face, TypeFault};
 use fb_read::Name;
 use fb_services::fb_blocks::fb_text::PortTree;
+use fb_services::fb_blocks::{Face, TypeFault};
 use fb_words::ElemType;
 use indexmap::IndexSet;
 

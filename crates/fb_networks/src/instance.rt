@@ -18,9 +18,9 @@ ghost use Rattle.fb_networks.specs.Answers.{inputs_in, reserved_in, IsParameter,
 ghost use Rattle.fb_networks.specs.Refusals.{IsParameterFault, IsParametersFault, IsPlainFault, IsServedFault};
 
 use crate::typed::{Body, Instance, Parameter};
+use fb_services::fb_blocks::fb_text::{InstanceTree, ParameterTree};
 use fb_services::fb_blocks::{TypeFault, constant, insert};
 use fb_services::{Service, bare, served as service_of_tree};
-use fb_services::fb_blocks::fb_text::{InstanceTree, ParameterTree};
 use fb_words::ElemType;
 use indexmap::IndexSet;
 use std::alloc::{AllocError, Global};

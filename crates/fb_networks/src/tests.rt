@@ -1,6 +1,6 @@
 use crate::{Body, Instance, Network, plain, served, wire};
-use fb_services::fb_blocks::{Face, TypeFault};
 use fb_services::fb_blocks::fb_text::{NetworkTree, parse};
+use fb_services::fb_blocks::{Face, TypeFault};
 use indexmap::IndexMap;
 use std::alloc::{AllocError, Global};
 use std::rc::Rc;

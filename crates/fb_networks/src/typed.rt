@@ -1,7 +1,7 @@
 //! Typed networks.
 
-use fb_services::fb_blocks::{Block, Face};
 use fb_services::Service;
+use fb_services::fb_blocks::{Block, Face};
 use std::rc::Rc;
 
 /// The value of a data input of an instance.

@@ -16,8 +16,8 @@ use crate::event::passes;
 use crate::typed::{Connection, End};
 use fb_services::fb_blocks::TypeFault;
 use fb_services::fb_blocks::fb_text::ConnectionTree;
-use indexmap::IndexSet;
 use fb_services::fb_blocks::st_types::widens;
+use indexmap::IndexSet;
 use std::alloc::{AllocError, Global};
 
 /// Ends that have a value.

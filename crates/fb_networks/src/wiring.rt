@@ -19,8 +19,8 @@ use crate::event::events;
 use crate::face::{has_event, has_variable};
 use crate::typed::{Connection, End, Instance, Network};
 use crate::value::{Taken, take, values};
-use fb_services::fb_blocks::{Face, TypeFault, insert};
 use fb_services::fb_blocks::fb_text::{InstanceTree, NetworkTree};
+use fb_services::fb_blocks::{Face, TypeFault, insert};
 use indexmap::IndexSet;
 use std::alloc::{AllocError, Global};
 

@@ -9,6 +9,6 @@ mod service;
 #[cfg(test)]
 mod tests;
 
-pub use fb_blocks;
 pub use declared::{bare, served};
+pub use fb_blocks;
 pub use service::Service;

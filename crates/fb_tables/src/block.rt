@@ -15,10 +15,10 @@ use crate::seat::Seat;
 use crate::table::{Block, Body, Event};
 use crate::target::outputs;
 use fb_cert::{Amount, Certificate};
-use fb_check::fb_columns::fb_flat::fb_types::fb_networks::fb_services::fb_blocks::Events;
 use fb_check::fb_columns::fb_flat;
-use fb_check::fb_columns::fb_flat::joined;
 use fb_check::fb_columns::fb_flat::fb_types::fb_networks::fb_services::Service;
+use fb_check::fb_columns::fb_flat::fb_types::fb_networks::fb_services::fb_blocks::Events;
+use fb_check::fb_columns::fb_flat::joined;
 use indexmap::IndexSet;
 use std::alloc::{AllocError, Global};
 

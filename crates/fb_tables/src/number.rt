@@ -17,9 +17,8 @@ use crate::seat::{paths, seats};
 use crate::table::{Resource, Tables};
 use crate::unfit::Unfit;
 use fb_cert::Certificate;
-use fb_check::fb_columns::fb_flat::joined;
 use fb_check::Verified;
-use fb_check::fb_columns::fb_flat::fb_types;
+use fb_check::fb_columns::fb_flat::{fb_types, joined};
 use std::alloc::{AllocError, Global};
 
 // The depth of a row, 0 where there is none.

@@ -11,9 +11,11 @@ ghost use Rattle.fb_tables.specs.Filling.{seats_of, Runs, IsStopped};
 
 use crate::seat::Seat;
 use crate::unfit::Unfit;
-use fb_check::fb_columns::fb_flat::fb_types::fb_networks::fb_services::fb_blocks::{Action, Block, Events, Transition};
 use fb_check::fb_columns::fb_flat::Body;
 use fb_check::fb_columns::fb_flat::fb_types::fb_networks::fb_services::Service;
+use fb_check::fb_columns::fb_flat::fb_types::fb_networks::fb_services::fb_blocks::{
+    Action, Block, Events, Transition,
+};
 use indexmap::IndexMap;
 
 // No event carries a value.

@@ -15,8 +15,8 @@ use crate::made::Memo;
 use crate::resource::resources;
 use crate::table::Types;
 use crate::typed::Device;
-use fb_networks::fb_services::fb_blocks::{TypeFault, at_most, table};
 use fb_networks::fb_services::fb_blocks::fb_text::DeviceTree;
+use fb_networks::fb_services::fb_blocks::{TypeFault, at_most, table};
 use std::alloc::Global;
 
 /// The most resources of a device.

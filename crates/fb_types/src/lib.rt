@@ -20,10 +20,10 @@ mod texts;
 mod typed;
 mod uses;
 
-pub use fb_networks;
 pub use count::few;
 pub use ends::{channels_alike, numbers_differ};
 pub use event_blocks::{EVENT_BLOCKS, resolve};
+pub use fb_networks;
 pub use laws::{one_system, refusals_are_true};
 pub use numbers::{Kind, differ};
 pub use shapes::alike;

@@ -17,9 +17,11 @@ ghost use Rattle.fb_types.specs.Made.{tree_of, IsTable, IsMemo, IsNamed, IsOpen,
 
 use crate::made::{Made, Memo, Shape, Unmade, body, recall, remember};
 use crate::table::{Types, type_of};
+use fb_networks::fb_services::fb_blocks::fb_text::{
+    BlockTree, BodyTree, ChartTree, InstanceTree, NetworkTree,
+};
 use fb_networks::fb_services::fb_blocks::{Face, TypeFault, basic, face};
 use fb_networks::{Body, Instance, plain, served, wire};
-use fb_networks::fb_services::fb_blocks::fb_text::{BlockTree, BodyTree, ChartTree, InstanceTree, NetworkTree};
 use std::alloc::{AllocError, Global};
 use std::rc::Rc;
 

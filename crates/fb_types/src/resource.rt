@@ -16,9 +16,9 @@ use crate::made::{Memo, Unmade};
 use crate::make::parts;
 use crate::table::Types;
 use crate::typed::Resource;
+use fb_networks::fb_services::fb_blocks::fb_text::{InstanceTree, ResourceTree};
 use fb_networks::fb_services::fb_blocks::{Face, TypeFault};
 use fb_networks::{Instance, wire};
-use fb_networks::fb_services::fb_blocks::fb_text::{InstanceTree, ResourceTree};
 use indexmap::IndexMap;
 use std::alloc::Global;
 

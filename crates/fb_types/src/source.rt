@@ -20,8 +20,8 @@ use crate::make::body_of_type;
 use crate::resource::{DEEP, refusal};
 use crate::table::{Types, table_of};
 use crate::typed::Typed;
-use fb_networks::fb_services::fb_blocks::{TypeFault, at_most, table};
 use fb_networks::fb_services::fb_blocks::fb_text::{BlockTree, Source};
+use fb_networks::fb_services::fb_blocks::{TypeFault, at_most, table};
 use indexmap::IndexMap;
 use std::alloc::Global;
 

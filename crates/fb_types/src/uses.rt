@@ -7,9 +7,9 @@ ghost use Rattle.fb_networks.specs.fb_blocks.declared.fault.TypeFault.TheVariant
 ghost use Rattle.fb_networks.specs.fb_services.Views.{service_of};
 ghost use Rattle.fb_types.specs.Uses.{use_of, service_in, uses_of, uses_in};
 
+use fb_networks::fb_services::Service;
 use fb_networks::fb_services::fb_blocks::TypeFault;
 use fb_networks::{Body, Instance};
-use fb_networks::fb_services::Service;
 use std::alloc::Global;
 
 /// A service of an instance, with the place of the instance's name.

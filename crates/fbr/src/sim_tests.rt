@@ -60,7 +60,10 @@ const FILES: &[(&str, &[u8])] = &[
     ("fork.cert", FORK_CERT),
     ("none.fb", b"SYSTEM S END_SYSTEM\n"),
     ("none.cert", b"CERT 1\n"),
-    ("two.fb", b"SYSTEM S DEVICE D END_DEVICE DEVICE E END_DEVICE END_SYSTEM\n"),
+    (
+        "two.fb",
+        b"SYSTEM S DEVICE D END_DEVICE DEVICE E END_DEVICE END_SYSTEM\n",
+    ),
     (
         "lamp.fb",
         b"SYSTEM S DEVICE D RESOURCE R FBS L : OUTPUT(ID := 1); END_FBS END_RESOURCE END_DEVICE END_SYSTEM\n",
