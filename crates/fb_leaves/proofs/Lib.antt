@@ -6,5 +6,6 @@ pub mod Wired
 pub mod Lying
 pub mod Ports
 pub mod Values
+pub mod Charts
 pub mod Closed
 pub mod Few

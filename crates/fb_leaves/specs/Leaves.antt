@@ -43,6 +43,10 @@ pub record IsClosedBlock (block : Block) : Type 0 where
   pub few_outputs : length block.event_outputs ≤ most_ports
   pub few_states : length block.states ≤ most_states
 
+-- something holds of a chart's block
+abbrev pub OnChart : (Block → Type 0) → Kind → Type 0
+OnChart P (Charted block) = P block
+OnChart P (Serviced service) = Unit {0}
+
 abbrev pub IsClosed : Kind → Type 0
-IsClosed (Charted block) = IsClosedBlock block
-IsClosed (Serviced service) = Unit {0}
+IsClosed kind = OnChart IsClosedBlock kind
