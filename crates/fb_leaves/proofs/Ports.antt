@@ -1,11 +1,11 @@
 -- The variables of services: their names differ, and what services write has their types.
-use Rattle.std.proofs.Common.{◌≡◌, ℕ, ◌+◌, ◌-◌, ◌*◌, ◌/◌, ◌%◌, ◌<◌, pos, sym, ap, subst, refl, Bool, true, false, List, [], ◌∷◌, ◌++◌, None, Some, ◌∙◌, nat_lt, arith}
+use Rattle.std.proofs.Common.{◌≡◌, ℕ, ◌+◌, ◌-◌, ◌*◌, ◌/◌, ◌%◌, ◌<◌, pos, sym, ap, subst, refl, Bool, true, false, ◌||◌, List, [], ◌∷◌, ◌++◌, None, Some, ◌∙◌, nat_lt, arith}
 use Rattle.std.specs.Prelude.{if◌then◌else◌}
 use Rattle.std.specs.List.{AllByRecursion}
 use Rattle.std.specs.Str.{bytes_eq}
 use Rattle.fb_words.specs.declared.elem_type.ElemType.{ElemType}
 use Rattle.fb_words.specs.declared.elem_type.ElemType.TheVariants as t
-use Rattle.fb_model.specs.Names.{Name}
+use Rattle.fb_model.specs.Names.{Name, is_in}
 use Rattle.fb_model.specs.Values.{One}
 use Rattle.fb_model.specs.System.{Variable, Service, Input, Output, Publish, Subscribe, Delay, Cycle, Restart}
 use Rattle.fb_model.specs.Services.{qi, qo, digits, received, sent, ports, service_inputs, service_outputs}
@@ -113,7 +113,7 @@ bit_suits : (v : Variable) (b : Bool) → v.type ≡ t.Bool → Suits (Some v) (
 bit_suits v true e = subst (λ a. HasType a (One (pos 1))) (sym e) (bit_fits true, tt)
 bit_suits v false e = subst (λ a. HasType a (One (pos 0))) (sym e) (bit_fits false, tt)
 
-abbrev qo_port : Variable
+abbrev pub qo_port : Variable
 qo_port = record { name = qo; type = t.Bool; length = None; start = None }
 
 -- QO is a BOOL, where it is a variable
@@ -125,6 +125,24 @@ bits_suit (Subscribe channel types) b = subst (λ o. Suits o (bit b)) (sym (serv
 bits_suit Delay b = tt
 bits_suit Cycle b = tt
 bits_suit Restart b = tt
+
+none_named : (x : Name) (vs : List Variable) → NoneIs x vs → is_in x (variable_names vs) ≡ false
+none_named x [] h = refl
+none_named x (v ∷ vs) h = ap (λ b. b || is_in x (variable_names vs)) h.0 ∙ none_named x vs h.1
+
+none_ports : (f : ℕ → Name) (x : Name) → ((n : ℕ) → bytes_eq x (f n) ≡ false) → (n : ℕ) (types : List ElemType) → NoneIs x (ports f n types)
+none_ports f x d n [] = tt
+none_ports f x d n (type ∷ types) = (d n, none_ports f x d (n + 1) types)
+
+-- where QO is an output, it is the variable of its name
+pub qo_named : (s : Service) → is_in qo (variable_names (service_outputs s)) ≡ true → variable_named (variables (Serviced s)) qo ≡ Some qo_port
+qo_named (Input number types) h = absurd (let e : is_in qo (variable_names (ports received 1 types)) ≡ false = none_named qo (ports received 1 types) (none_ports received qo (λ n. refl) 1 types) in let c : true ≡ false = sym h ∙ e in cc)
+qo_named (Output number types) h = absurd cc
+qo_named (Publish channel types) h = (service_good (Publish channel types)).outputs_first.0
+qo_named (Subscribe channel types) h = (service_good (Subscribe channel types)).outputs_first.0
+qo_named Delay h = absurd cc
+qo_named Cycle h = absurd cc
+qo_named Restart h = absurd cc
 
 -- the outputs that take values from outside
 pub receivers : (s : Service) → AreFirst (variables (Serviced s)) (ports received 1 (types_of (Serviced s)))

@@ -18,7 +18,7 @@ use Rattle.fb_model.specs.Ranges.{IsBetween, Lies, AllLie, types_of, WritesFit, 
 use Rattle.fb_model.specs.Serving.{bit, set_value, receive}
 use Rattle.fb_model.specs.Certificates.{leaf_at}
 use Rattle.fb_model.specs.System.{instance_names}
-use Rattle.fb_model.proofs.Lists.{all_append, all_weaker, same_name, same_path}
+use Rattle.fb_model.proofs.Lists.{all_append, all_weaker, all_both, same_name, same_path}
 use Rattle.fb_model.proofs.Placed.{Apart, name_same, all_left, all_right}
 use Rattle.fb_leaves.specs.Leaves.{AreApart, LiesByTypes}
 use Rattle.fb_leaves.proofs.Made.{HasType, IsWider, StartsFit, variables, AreFirst, IsGoodKind, in_body, end_variable, IsValueLink, IsParameter, IsWellMade, AreWellMade, IsWellResource, IsWellDevice}
@@ -43,22 +43,27 @@ through a b c v w = (le_through _ _ _ w.0 v.0, le_through _ _ _ v.1 w.1)
 -- ---- what a source gives
 
 -- an output of a leaf, whose type the other type widens
-record IsGivenBy (all : List Leaf) (a : ElemType) (from : Path) (y : Name) : Type 0 where
-  leaf : Leaf
-  found : leaf_at all from ≡ Some leaf
-  variable : Variable
-  is : variable_named (outputs leaf.kind) y ≡ Some variable
-  wider : IsWider variable.type a
+pub record IsGivenBy (all : List Leaf) (a : ElemType) (from : Path) (y : Name) : Type 0 where
+  pub leaf : Leaf
+  pub found : leaf_at all from ≡ Some leaf
+  pub variable : Variable
+  pub is : variable_named (outputs leaf.kind) y ≡ Some variable
+  pub wider : IsWider variable.type a
 
 -- a source of values of a type
-abbrev Yields : List Leaf → ElemType → Source → Type 0
+abbrev pub Yields : List Leaf → ElemType → Source → Type 0
 Yields all a (Output_of from y) = IsGivenBy all a from y
 Yields all a (Constant value) = HasType a value
 
 -- a source for a variable, if there is one, and else 0
-abbrev Feeds : List Leaf → Option Variable → Source → Type 0
+abbrev pub Feeds : List Leaf → Option Variable → Source → Type 0
 Feeds all None s = s ≡ Constant (One (pos 0))
 Feeds all (Some v) s = Yields all v.type s
+
+-- the names of its variables differ, first values lie in their types, and each input takes what has its type
+pub record IsFed (all : List Leaf) (leaf : Leaf) : Type 0 where
+  pub good : IsGoodKind leaf.kind
+  pub feeds : (x : Name) → Feeds all (variable_named (inputs leaf.kind) x) (leaf.source x)
 
 yields_wider : (all : List Leaf) (a b : ElemType) (s : Source) → IsWider a b → Yields all a s → Yields all b s
 yields_wider all a b (Output_of from y) w h = record { leaf = h.leaf; found = h.found; variable = h.variable; is = h.is; wider = through h.variable.type a b h.wider w }
@@ -259,35 +264,43 @@ abbrev Feeding : List Leaf → Instances → (Name → Name → Source → Sourc
 Feeding all whole source = (j x : Name) (other : Source) → Feeds all (in_body inputs_of (body_named whole j) x) other → Feeds all (in_body inputs_of (body_named whole j) x) (source j x other)
 
 mutual
-  lies_of : (all : List Leaf) → AreApart all → (body : Body) (home : ℕ) (path : Path) (targets : Name → List Place) (source : Name → Source) → IsWellMade body → AreFound all (leaves_of body home path targets source)
-      → ((x : Name) → Feeds all (variable_named (inputs_of body) x) (source x)) → AllByRecursion (LiesByTypes (all_typed all) all) (leaves_of body home path targets source)
-  lies_of all a (Basic block) home path targets source m f h = (leaf_lies all a (record { home = home; path = path; kind = Charted block; targets = targets; source = source }) f.0 m h, tt)
-  lies_of all a (Served service) home path targets source m f h = (leaf_lies all a (record { home = home; path = path; kind = Serviced service; targets = targets; source = source }) f.0 (service_good service) h, tt)
-  lies_of all a (Composite face inner events values) home path targets source m f h =
+  fed_of : (all : List Leaf) → (body : Body) (home : ℕ) (path : Path) (targets : Name → List Place) (source : Name → Source) → IsWellMade body → AreFound all (leaves_of body home path targets source)
+      → ((x : Name) → Feeds all (variable_named (inputs_of body) x) (source x)) → AllByRecursion (IsFed all) (leaves_of body home path targets source)
+  fed_of all (Basic block) home path targets source m f h = (record { good = m; feeds = h }, tt)
+  fed_of all (Served service) home path targets source m f h = (record { good = service_good service; feeds = h }, tt)
+  fed_of all (Composite face inner events values) home path targets source m f h =
       let given = given_of_in all inner home path (λ j port. followed events (Some j) port (entered_in inner path) targets) (λ j port other. fed values (Some j) port (given_in inner path) source other) m.0 f in
-      lies_in all a inner inner home path (λ j port. followed events (Some j) port (entered_in inner path) targets) (λ j port other. fed values (Some j) port (given_in inner path) source other) m.0 f (each_named inner m.1.apart)
+      fed_in all inner inner home path (λ j port. followed events (Some j) port (entered_in inner path) targets) (λ j port other. fed values (Some j) port (given_in inner path) source other) m.0 f (each_named inner m.1.apart)
       (λ j x other o. fed_feeds all face inner (given_in inner path) source given (λ y v e. feeds_yields all (variable_named face.inputs y) v (source y) e (h y)) values m.1.value_links (Some j) x other o)
 
-  lies_in : (all : List Leaf) → AreApart all → (whole inner : Instances) (home : ℕ) (path : Path) (targets : Name → Name → List Place) (source : Name → Name → Source → Source) → AreWellMade inner → AreFound all (leaves_in inner home path targets source)
-      → AreNamed whole inner → Feeding all whole source → AllByRecursion (LiesByTypes (all_typed all) all) (leaves_in inner home path targets source)
-  lies_in all a whole nothing home path targets source m f n h = tt
-  lies_in all a whole (instance name parameters body rest) home path targets source m f n h =
-      all_append (LiesByTypes (all_typed all) all) _ _
-      (lies_of all a body home (path ++ name ∷ []) (targets name) (λ port. source name port (Constant (constant parameters (inputs_of body) port))) m.0 (all_left _ _ (leaves_in rest home path targets source) f)
+  fed_in : (all : List Leaf) → (whole inner : Instances) (home : ℕ) (path : Path) (targets : Name → Name → List Place) (source : Name → Name → Source → Source) → AreWellMade inner → AreFound all (leaves_in inner home path targets source)
+      → AreNamed whole inner → Feeding all whole source → AllByRecursion (IsFed all) (leaves_in inner home path targets source)
+  fed_in all whole nothing home path targets source m f n h = tt
+  fed_in all whole (instance name parameters body rest) home path targets source m f n h =
+      all_append (IsFed all) _ _
+      (fed_of all body home (path ++ name ∷ []) (targets name) (λ port. source name port (Constant (constant parameters (inputs_of body) port))) m.0 (all_left _ _ (leaves_in rest home path targets source) f)
       (λ x. subst (λ o. Feeds all (in_body inputs_of o x) (source name x (Constant (constant parameters (inputs_of body) x)))) n.0
       (h name x (Constant (constant parameters (inputs_of body) x)) (subst (λ o. Feeds all (in_body inputs_of o x) (Constant (constant parameters (inputs_of body) x))) (sym n.0) (constant_feeds all (inputs_of body) parameters x (inputs_made body m.0) m.1)))))
-      (lies_in all a whole rest home path targets source m.2 (all_right _ (leaves_of body home (path ++ name ∷ []) (targets name) (λ port. source name port (Constant (constant parameters (inputs_of body) port)))) _ f) n.1 h)
+      (fed_in all whole rest home path targets source m.2 (all_right _ (leaves_of body home (path ++ name ∷ []) (targets name) (λ port. source name port (Constant (constant parameters (inputs_of body) port)))) _ f) n.1 h)
 
 -- ---- devices
 
-lies_from : (all : List Leaf) → AreApart all → (n : ℕ) (path : Path) (rs : List Resource) → AllByRecursion IsWellResource rs → AreFound all (leaves_from n path rs) → AllByRecursion (LiesByTypes (all_typed all) all) (leaves_from n path rs)
-lies_from all a n path [] m f = tt
-lies_from all a n path (r ∷ rs) m f =
-    all_append (LiesByTypes (all_typed all) all) _ _ (lies_of all a (resource_body r) n (path ++ r.name ∷ []) (λ o. []) (λ i. Constant (One (pos 0))) m.0 (all_left _ (resource_leaves n path r) (leaves_from (n + 1) path rs) f) (λ x. refl))
-    (lies_from all a (n + 1) path rs m.1 (all_right _ (resource_leaves n path r) (leaves_from (n + 1) path rs) f))
+fed_from : (all : List Leaf) → (n : ℕ) (path : Path) (rs : List Resource) → AllByRecursion IsWellResource rs → AreFound all (leaves_from n path rs) → AllByRecursion (IsFed all) (leaves_from n path rs)
+fed_from all n path [] m f = tt
+fed_from all n path (r ∷ rs) m f =
+    all_append (IsFed all) _ _ (fed_of all (resource_body r) n (path ++ r.name ∷ []) (λ o. []) (λ i. Constant (One (pos 0))) m.0 (all_left _ (resource_leaves n path r) (leaves_from (n + 1) path rs) f) (λ x. refl))
+    (fed_from all (n + 1) path rs m.1 (all_right _ (resource_leaves n path r) (leaves_from (n + 1) path rs) f))
+
+device_fed : (d : Device) → IsWellDevice d → AllByRecursion (IsFed (leaves d)) (leaves d)
+device_fed d m = fed_from (leaves d) 0 (d.name ∷ []) d.resources m.resources (all_found (leaves d) (device_apart d m))
+
+pub all_fed : (library : List BlockTree) (source : SourceTree) (system : System) → ElaboratesWith library source system → AllByRecursion (λ (d : Device). AllByRecursion (IsFed (leaves d)) (leaves d)) system.devices
+all_fed library source system e = all_weaker IsWellDevice (λ (d : Device). AllByRecursion (IsFed (leaves d)) (leaves d)) system.devices device_fed (devices_made library source system e)
 
 device_lies : (d : Device) → IsWellDevice d → AllByRecursion (LiesByTypes (all_typed (leaves d)) (leaves d)) (leaves d)
-device_lies d m = let a = device_apart d m in lies_from (leaves d) a 0 (d.name ∷ []) d.resources m.resources (all_found (leaves d) a)
+device_lies d m =
+    let a = device_apart d m in
+    all_both (λ (leaf : Leaf). leaf_at (leaves d) leaf.path ≡ Some leaf) (IsFed (leaves d)) (LiesByTypes (all_typed (leaves d)) (leaves d)) (leaves d) (λ leaf f h. leaf_lies (leaves d) a leaf f h.good h.feeds) (all_found (leaves d) a) (device_fed d m)
 
 pub all_lie : (library : List BlockTree) (source : SourceTree) (system : System) → ElaboratesWith library source system → AllByRecursion (λ (d : Device). AllByRecursion (LiesByTypes (all_typed (leaves d)) (leaves d)) (leaves d)) system.devices
 all_lie library source system e = all_weaker IsWellDevice (λ (d : Device). AllByRecursion (LiesByTypes (all_typed (leaves d)) (leaves d)) (leaves d)) system.devices device_lies (devices_made library source system e)

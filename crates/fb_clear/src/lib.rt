@@ -1,0 +1,23 @@
+//! A law about the leaves of well typed systems: where all is clear under their rows, they keep these.
+#![tactic(auto)]
+
+ghost use Rattle.std.specs.Prelude.{ℕ, List};
+ghost use Rattle.std.specs.List.{AllByRecursion};
+ghost use Rattle.fb_model.specs.Tokens.{Token};
+ghost use Rattle.fb_model.specs.StructuredTextGrammar.{IsExpression, IsAlgorithm};
+ghost use Rattle.fb_model.specs.Declarations.{SourceTree};
+ghost use Rattle.fb_model.specs.DeclarationGrammar.{IsFile};
+ghost use Rattle.fb_model.specs.NetworkTyping.{ElaboratesWith};
+ghost use Rattle.fb_model.specs.System.{Device, System};
+ghost use Rattle.fb_model.specs.Wires.{leaves};
+ghost use Rattle.fb_model.specs.Ranges.{Range};
+ghost use Rattle.fb_clear.specs.Rows.{LeafLies, LeafClears};
+
+/// In a system that stands in texts, whose rows lie in the types of their variables and hold what these begin with and what inputs take, and
+/// whose algorithms and guards are all clear under the rows, every leaf keeps its values in the rows, whatever happens: no algorithm and no
+/// guard traps, and no algorithm takes more steps than it costs.
+pub fn clear_systems_lie()
+    ensures { (ts us : List Token) (n k m l : ℕ) (library source : SourceTree) (system : System)
+        → IsFile (IsExpression n) (IsAlgorithm n k) ts library → IsFile (IsExpression m) (IsAlgorithm m l) us source → ElaboratesWith library.blocks source system
+        → (ranges : List Range) → AllByRecursion (λ (d : Device). AllByRecursion (LeafClears ranges (leaves d)) (leaves d)) system.devices → AllByRecursion (λ (d : Device). AllByRecursion (LeafLies ranges (leaves d)) (leaves d)) system.devices }
+{}
