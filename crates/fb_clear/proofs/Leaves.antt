@@ -1,7 +1,8 @@
 -- Leaves of a well typed system whose rows are kept lie in them.
-use Rattle.std.proofs.Common.{◌≡◌, ℕ, ℤ, pos, sym, subst, refl, true, List, [], ◌∷◌, ◌++◌, None, Some, ◌∙◌}
+use Rattle.std.proofs.Common.{◌≡◌, ℕ, ℤ, sym, subst, refl, true, List, [], ◌∷◌, ◌++◌, None, Some, ◌∙◌}
 use Rattle.std.specs.Prelude.{if◌then◌else◌}
 use Rattle.std.specs.List.{AllByRecursion}
+use Rattle.fb_words.specs.declared.elem_type.ElemType.TheVariants as t
 use Rattle.fb_model.specs.Names.{Name, Path, is_in}
 use Rattle.fb_model.specs.Values.{numbers_of}
 use Rattle.fb_model.specs.Tokens.{Token}
@@ -78,7 +79,7 @@ module _ (ranges : List Range) (all : List Leaf) where
       let same : fits.0 ≡ leaf = cc in
       let w_in : within (rows ranges from leaf.kind y) (row_at ranges path v) ≡ true = subst (λ (m : Leaf). within (rows ranges from m.kind y) (row_at ranges path v) ≡ true) same fits.2 in
       let v_in : within (row_of ranges from leaf.kind w) (row_at ranges path v) ≡ true =
-      subst (λ o. within (elim o [ None ↦ record { low = pos 0; high = pos 0 } | Some u ↦ row_of ranges from leaf.kind u ]) (row_at ranges path v) ≡ true) g w_in in
+      subst (λ o. within (elim o [ None ↦ whole t.Lint | Some u ↦ row_of ranges from leaf.kind u ]) (row_at ranges path v) ≡ true) g w_in in
       inside (row_of ranges from leaf.kind w) (row_at ranges path v) n v_in h
   row_in_row (Serviced service) path source c x v e from y s leaf f l p w g d n h =
       wider_whole w.type v.type n d (row_in_type leaf.kind from leaf.source (subst (λ q. KindClears ranges all q leaf.source leaf.kind) p l) y w g n h)
@@ -89,7 +90,7 @@ module _ (ranges : List Range) (all : List Leaf) where
   kind_fits (Charted block) path source s c = block_clear ranges path block s.0 s.1 c.algorithms c.guards
   kind_fits (Serviced service) path source s c = writes_fit ranges path service
 
-  module _ (fed : AllByRecursion (IsFed all) all) (formed : AllByRecursion IsFormed all) (clear : AllByRecursion (LeafClears ranges all) all) (leaf : Leaf) (f : IsFed all leaf) (g : IsFormed leaf) (t : TakesInputs leaf.kind) (s : OnChart IsShapely leaf.kind)
+  module _ (fed : AllByRecursion (IsFed all) all) (formed : AllByRecursion IsFormed all) (clear : AllByRecursion (LeafClears ranges all) all) (leaf : Leaf) (f : IsFed all leaf) (g : IsFormed leaf) (taking : TakesInputs leaf.kind) (s : OnChart IsShapely leaf.kind)
       (c : LeafClears ranges all leaf) where
     first_form : (x : Name) (v : Variable) (o : Source) → variable_named (inputs leaf.kind) x ≡ Some v → IsSingle o → HasLength v.length (first_input o (start_of v))
     first_form x v (Output_of from y) e h = (named_one (λ (v : Variable). HasLength v.length (start_of v)) (variables leaf.kind) x v g.start (named_left (inputs leaf.kind) (outputs leaf.kind ++ internals leaf.kind) x v e)).0
@@ -156,7 +157,7 @@ module _ (ranges : List Range) (all : List Leaf) where
     leaf_lies =
         record {
           starts = record { own = own_lies; issued = issued_lies };
-          links = λ e x i. let k = found_listed (inputs leaf.kind) x (t e x i) in link_fits x k.0 k.1 (leaf.source x) refl;
+          links = λ e x i. let k = found_listed (inputs leaf.kind) x (taking e x i) in link_fits x k.0 k.1 (leaf.source x) refl;
           kind = kind_fits leaf.kind leaf.path leaf.source s c;
         }
 

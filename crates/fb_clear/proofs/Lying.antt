@@ -64,28 +64,28 @@ abbrev pub Suits : List Range → Path → Kind → Option Variable → Value �
 Suits ranges path kind None value = value ≡ One (pos 0)
 Suits ranges path kind (Some v) value = HasLength v.length value × HoldsIn (row_of ranges path kind v) value
 
-zero_in : IsIn (span (pos 0) (pos 0)) (pos 0)
-zero_in = record { least = omega (arith, ints); most = omega (arith, ints) }
+zero_in : IsIn (whole t.Lint) (pos 0)
+zero_in = in_whole t.Lint (pos 0) (in_range t.Lint (pos 0) refl)
 
 pub lies_by : (ranges : List Range) (path : Path) (kind : Kind) (x : Name) (value : Value) (o : Option Variable) → variable_named (variables kind) x ≡ o → Suits ranges path kind o value → Lies ranges path kind x value
 lies_by ranges path kind x value None e s =
     let form : HasLength (given None (λ (v : Variable). v.length)) value = subst (HasLength None) (sym s) tt in
-    let numbers : AllByRecursion (IsIn (span (pos 0) (pos 0))) (numbers_of value) = subst (λ w. AllByRecursion (IsIn (span (pos 0) (pos 0))) (numbers_of w)) (sym s) (zero_in, tt) in
+    let numbers : AllByRecursion (IsIn (whole t.Lint)) (numbers_of value) = subst (λ w. AllByRecursion (IsIn (whole t.Lint)) (numbers_of w)) (sym s) (zero_in, tt) in
     record {
       form = subst (λ o. HasLength (given o (λ (v : Variable). v.length)) value) (sym e) form;
-      numbers = subst (λ o. AllByRecursion (IsIn (elim o [ None ↦ span (pos 0) (pos 0) | Some v ↦ row_of ranges path kind v ])) (numbers_of value)) (sym e) numbers;
+      numbers = subst (λ o. AllByRecursion (IsIn (elim o [ None ↦ whole t.Lint | Some v ↦ row_of ranges path kind v ])) (numbers_of value)) (sym e) numbers;
     }
 lies_by ranges path kind x value (Some v) e s =
     record {
       form = subst (λ o. HasLength (given o (λ (v : Variable). v.length)) value) (sym e) s.0;
-      numbers = subst (λ o. AllByRecursion (IsIn (elim o [ None ↦ span (pos 0) (pos 0) | Some v ↦ row_of ranges path kind v ])) (numbers_of value)) (sym e) s.1;
+      numbers = subst (λ o. AllByRecursion (IsIn (elim o [ None ↦ whole t.Lint | Some v ↦ row_of ranges path kind v ])) (numbers_of value)) (sym e) s.1;
     }
 
 -- and what a value that lies is
 pub lies_is : (ranges : List Range) (path : Path) (kind : Kind) (x : Name) (value : Value) (v : Variable) → variable_named (variables kind) x ≡ Some v → Lies ranges path kind x value → HasLength v.length value × HoldsIn (row_of ranges path kind v) value
 lies_is ranges path kind x value v e l = (
   subst (λ o. HasLength (given o (λ (v : Variable). v.length)) value) e l.form,
-  subst (λ o. AllByRecursion (IsIn (elim o [ None ↦ span (pos 0) (pos 0) | Some v ↦ row_of ranges path kind v ])) (numbers_of value)) e l.numbers,
+  subst (λ o. AllByRecursion (IsIn (elim o [ None ↦ whole t.Lint | Some v ↦ row_of ranges path kind v ])) (numbers_of value)) e l.numbers,
 )
 
 -- ---- algorithms and guards

@@ -1,8 +1,9 @@
 -- When the leaves of a system keep their values in rows, and what is asked of rows for that.
 -- This project's profile; the types are those of IEC 61131-3 edition 3, 6.4.2.
-use Rattle.std.specs.Prelude.{ℕ, ◌≡◌, ◌≤◌, ℤ, pos, Bool, true, ◌&&◌, List, [], ◌∷◌, ◌++◌, length, Option, Some, None, if◌then◌else◌}
+use Rattle.std.specs.Prelude.{ℕ, ◌≡◌, ◌≤◌, ℤ, Bool, true, ◌&&◌, List, [], ◌∷◌, ◌++◌, length, Option, Some, None, if◌then◌else◌}
 use Rattle.std.specs.List.{AllByRecursion}
 use Rattle.std.specs.Str.{bytes_eq}
+use Rattle.fb_words.specs.declared.elem_type.ElemType.TheVariants as t
 use Rattle.fb_model.specs.Names.{Name, Path, path_eq, is_in}
 use Rattle.fb_model.specs.Values.{Value, One, Many, Values, numbers_of}
 use Rattle.fb_model.specs.Language.{Guard, Algorithm, Outcome, Done, Trap}
@@ -42,9 +43,9 @@ abbrev pub row_of : List Range → Path → Kind → Variable → Span
 row_of ranges path (Charted block) v = row_at ranges path v
 row_of ranges path (Serviced service) v = whole v.type
 
--- the rows of the variables of a leaf; what is no variable holds 0
+-- the rows of the variables of a leaf, and all numbers of LINT for what is no variable
 abbrev pub rows : List Range → Path → Kind → Spans
-rows ranges path kind x = elim (variable_named (variables kind) x) [ None ↦ span (pos 0) (pos 0) | Some v ↦ row_of ranges path kind v ]
+rows ranges path kind x = elim (variable_named (variables kind) x) [ None ↦ whole t.Lint | Some v ↦ row_of ranges path kind v ]
 
 -- a value has the form of a variable, and lies in its row
 pub record Lies (ranges : List Range) (path : Path) (kind : Kind) (x : Name) (value : Value) : Type 0 where
