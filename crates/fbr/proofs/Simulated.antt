@@ -1,5 +1,7 @@
 -- What is told of a simulation.
 use Rattle.std.proofs.Common.{◌≡◌, ◌∙◌, ◌<◌, ℕ, List, [], ◌∷◌, map, length, get_or, sym, ap, arith, inl, inr, refl, subst, Option, Some, Result, Ok, Err, IfOk, slice_get}
+use Rattle.std.specs.Option.{option_map}
+use Rattle.std.proofs.lemmas.Option.{slice_get-map}
 use Rattle.fb_script.specs.fb_check.Verdicts.{IsChecked, system_in}
 use Rattle.fb_script.specs.fb_check.declared.verified.Verified.{Verified}
 use Rattle.fb_script.specs.declared.run.End.TheVariants as ends
@@ -48,10 +50,8 @@ pub not_loaded : {E : Type 0} (v : Verified) (script : List ℕ) (f : Refusal) (
 not_loaded v script f old new (Ok status) is h = inr (f, is, h)
 not_loaded v script f old new (Err e) is h = tt
 
-pub second_stands : (ds : List RustDevice) (x : RustDevice) → 1 < length ds → x ≡ get_or ds 1 x → slice_get (map device_of ds) 1 ≡ Some (device_of x)
-second_stands [] x h e = absurd (omega (arith, h))
-second_stands (a ∷ []) x h e = absurd (omega (arith, h))
-second_stands (a ∷ b ∷ ds) x h e = ap (λ (y : RustDevice). Some (device_of y)) (sym e)
+pub second_stands : (ds : List RustDevice) (x : RustDevice) → slice_get ds 1 ≡ Some x → slice_get (map device_of ds) 1 ≡ Some (device_of x)
+second_stands ds x e = slice_get-map device_of ds 1 ∙ ap (option_map device_of) e
 
 -- the second device is not simulated
 pub second_named : (v : Verified) (d : Device) (name : List ℕ) (f : Refusal) → slice_get (system_in v).devices 1 ≡ Some d → name ≡ d.name → IsNamed name f → IsSecond v f

@@ -1,8 +1,8 @@
 //! Checks two files, and runs a script on the device of the system.
 
-ghost use Rattle.std.specs.Prelude.{◌≡◌, ◌≤◌, ◌<◌, length, IfOk, MatchResult, string_bytes};
+ghost use Rattle.std.specs.Prelude.{◌≡◌, ◌≤◌, ◌<◌, length, IfOk, IfSome, MatchResult, string_bytes};
 ghost use Rattle.fb_script.specs.fb_check.Verdicts.{IsChecked, system_in};
-ghost use Rattle.fbr.specs.Simulation.{IsVerified, IsScript, IsScriptFault, IsVerifiedTexts, TellsEnd, IsFresh, IsNamed, TellsRun, TellsRunFrom, TellsScript, TellsSim};
+ghost use Rattle.fbr.specs.Simulation.{IsVerified, IsScript, IsScriptFault, IsVerifiedTexts, TellsEnd, IsFresh, IsNamed, IsSecond, TellsRun, TellsRunFrom, TellsScript, TellsSim};
 ghost use Rattle.fb_script.specs.fb_check.declared.verified.Verified as of_check;
 
 use crate::check::{LIMIT, print_outcome, read_text, read_whole};
@@ -101,13 +101,23 @@ fn run_ready<W: Write>(alloc: Global, ready: Ready, script: &str, output: &mut W
     run_device(alloc, &mut device, script, output)
 }
 
-// The refusal of a second device, by its name.
-fn second(alloc: Global, name: &str) -> fb_device::Refusal
+// A refusal that names a device.
+fn named(alloc: Global, name: &str) -> fb_device::Refusal
     ensures { IsNamed name.now result }
 {
     match String::from_str(alloc, name) {
         Ok(name) => fb_device::Refusal::CannotRun(name),
         Err(_) => fb_device::Refusal::Checked(Refusal::OutOfMemory),
+    }
+}
+
+// The refusal of a second device, where there is one.
+fn second(alloc: Global, verified: &Verified) -> Option<fb_device::Refusal>
+    ensures { IfSome result (IsSecond verified.now) }
+{
+    match verified.typed().devices.get(1) {
+        Some(device) => Some(named(alloc, device.name.as_str())),
+        None => None,
     }
 }
 
@@ -123,13 +133,12 @@ fn run_script<W: Write>(
     ensures told { IfOk result (λ status. TellsRun verified script.now (W.contents output.old) (W.contents output.new) status) }
     ensures status { IfOk result (λ status. status ≤ 4) }
 {
-    let devices = verified.typed().devices.as_slice();
-    if devices.is_empty() {
+    if verified.typed().devices.is_empty() {
         return print_end(first_line(alloc, script), output);
     }
-    if devices.len() > 1 {
-        let refusal = second(alloc, devices[1].name.as_str());
-        return print_outcome(Err(Fault::Unloaded(refusal)), output);
+    match second(alloc, &verified) {
+        Some(refusal) => return print_outcome(Err(Fault::Unloaded(refusal)), output),
+        None => {}
     }
     match load_checked(alloc, verified, 0) {
         Ok(ready) => run_ready(alloc, ready, script, output),
