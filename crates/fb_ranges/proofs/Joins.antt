@@ -1,0 +1,106 @@
+-- Ranges that are copied, joined and set, a name at a time.
+use Rattle.std.proofs.Common.{◌≡◌, ℕ, zero, suc, ◌+◌, ◌<◌, Bool, true, false, ◌||◌, List, [], ◌∷◌, ◌++◌, length, take, get_or, Some, None, refl, sym, ap, ap₂, ◌∙◌, arith}
+use Rattle.std.proofs.Math.Path.{fun_ext}
+use Rattle.std.specs.Prelude.{if◌then◌else◌, string_bytes, slice_get}
+use Rattle.std.specs.List.{AllZip}
+use Rattle.st_types.specs.CommandViews.{busy_of}
+use Rattle.std.specs.Str.{bytes_eq}
+use Rattle.std.specs.declared.string.String.{String}
+use Rattle.std.specs.declared.alloc.Global.{Global}
+use Rattle.std.proofs.lemmas.List.{map_push, take_more}
+use Rattle.fb_words.specs.declared.elem_type.ElemType.TheVariants as t
+use Rattle.fb_model.specs.Names.{Name, is_in}
+use Rattle.fb_model.proofs.Lists.{same_name}
+use Rattle.st_clear.specs.Spans.{Span, joined, whole}
+use Rattle.st_clear.specs.Clear.{Spans, changed, reset}
+use Rattle.st_clear.proofs.Names.{eq_turned}
+use Rattle.fb_ranges.specs.declared.interval.Interval.{Interval}
+use Rattle.fb_ranges.specs.Views.{row_of, spans_in, names_in}
+use Rattle.fb_ranges.proofs.Tables.{shown}
+
+or_none : (b : Bool) → (b || false) ≡ b
+or_none true = refl
+or_none false = refl
+
+or_again : (a b c : Bool) → (a || (b || c)) ≡ ((a || b) || c)
+or_again true b c = refl
+or_again false b c = refl
+
+in_push : (y x : Name) (xs : List Name) → is_in y (xs ++ x ∷ []) ≡ (is_in y xs || bytes_eq y x)
+in_push y x [] = or_none (bytes_eq y x)
+in_push y x (z ∷ xs) = ap (λ b. bytes_eq y z || b) (in_push y x xs) ∙ or_again (bytes_eq y z) (is_in y xs) (bytes_eq y x)
+
+-- one more variable has its row
+pub reset_push : (xs : List Name) (x : Name) (rows spans : Spans) → reset (xs ++ x ∷ []) rows spans ≡ changed x (λ r. rows x) (reset xs rows spans)
+reset_push xs x rows spans = fun_ext (λ y. ap (λ b. if b then rows y else spans y) (in_push y x xs ∙ ap (λ b. is_in y xs || b) (eq_turned y x)) ∙ by y (is_in y xs) (bytes_eq x y) refl) where
+  by : (y : Name) (a b : Bool) → bytes_eq x y ≡ b → (if a || b then rows y else spans y) ≡ (if b then rows x else if a then rows y else spans y)
+  by y true true e = ap rows (sym (same_name x y e))
+  by y false true e = ap rows (sym (same_name x y e))
+  by y true false e = refl
+  by y false false e = refl
+
+-- ---- rows of a table
+
+absent : (x : Name) (rows : List (String Global × Interval)) → is_in x (names_in rows) ≡ false → row_of rows x ≡ None
+absent x [] h = refl
+absent x (e ∷ rows) h = by (bytes_eq x (string_bytes e.0)) h (absent x rows) where
+  by : (b : Bool) → (b || is_in x (names_in rows)) ≡ false → (is_in x (names_in rows) ≡ false → row_of rows x ≡ None) → (if b then Some e.1 else row_of rows x) ≡ None
+  by true h next = cc
+  by false h next = next h
+
+-- both ranges of all variables, from those with a row in one of the two tables
+pub join_both : (r s : List (String Global × Interval)) → (let both : Spans = λ x. joined (spans_in r x) (spans_in s x) in reset (names_in s) both (reset (names_in r) both (spans_in [])) ≡ both)
+join_both r s = fun_ext (λ x. by x (is_in x (names_in s)) (is_in x (names_in r)) refl refl) where
+  none : (x : Name) (rows : List (String Global × Interval)) → is_in x (names_in rows) ≡ false → spans_in rows x ≡ whole t.Lint
+  none x rows h = ap shown (absent x rows h)
+
+  by : (x : Name) (a b : Bool) → is_in x (names_in s) ≡ a → is_in x (names_in r) ≡ b → (if a then joined (spans_in r x) (spans_in s x) else if b then joined (spans_in r x) (spans_in s x) else whole t.Lint) ≡ joined (spans_in r x) (spans_in s x)
+  by x true b e f = refl
+  by x false true e f = refl
+  by x false false e f = sym (ap₂ joined (none x r f) (none x s e))
+
+-- ---- copies
+
+-- entries of the same names and values
+abbrev pub Same : String Global × Interval → String Global × Interval → Type 0
+Same p q = (string_bytes q.0 ≡ string_bytes p.0) × (q.1 ≡ p.1)
+
+row_same : (es fs : List (String Global × Interval)) → AllZip Same es fs → (x : Name) → row_of fs x ≡ row_of es x
+row_same [] [] h x = refl
+row_same [] (f ∷ fs) h x = absurd h
+row_same (e ∷ es) [] h x = absurd h
+row_same (e ∷ es) (f ∷ fs) h x =
+    ap₂ (λ n i. if bytes_eq x n then Some i else row_of fs x) h.0.0 h.0.1 ∙ ap (λ o. if bytes_eq x (string_bytes e.0) then Some e.1 else o) (row_same es fs h.1 x)
+
+pub copy_spans : (es fs : List (String Global × Interval)) → AllZip Same es fs → spans_in fs ≡ spans_in es
+copy_spans es fs h = fun_ext (λ x. ap shown (row_same es fs h x))
+
+-- ---- a name at a time
+
+take_get : {X : Type 0} (xs : List X) (i : ℕ) (e : X) → Some e ≡ slice_get xs i → take (i + 1) xs ≡ take i xs ++ e ∷ []
+take_get [] zero e h = cc
+take_get [] (suc i) e h = cc
+take_get (x ∷ xs) zero e h = let same : e ≡ x = cc in ap (λ y. y ∷ []) (sym same)
+take_get (x ∷ xs) (suc i) e h = ap (λ n. take n (x ∷ xs)) (let f : suc i + 1 ≡ suc (i + 1) = omega arith in f) ∙ ap (λ ys. x ∷ ys) (take_get xs i e h)
+
+-- the variable of the next row gets its range
+pub next_row : (rows : List (String Global × Interval)) (i : ℕ) (e : String Global × Interval) (both : Spans) (before now old : Spans) (x : Name) (r : Span)
+    → Some e ≡ slice_get rows i → x ≡ string_bytes e.0 → r ≡ both x → before ≡ reset (names_in (take i rows)) both old → now ≡ changed x (λ s. r) before
+    → now ≡ reset (names_in (take (i + 1) rows)) both old
+next_row rows i e both before now old x r is name range start put =
+    put
+    ∙ ap₂ (λ y z. changed y (λ s. z) before) name (range ∙ ap both name)
+    ∙ ap (λ z. changed (string_bytes e.0) (λ s. both (string_bytes e.0)) z) start
+    ∙ sym (reset_push (names_in (take i rows)) (string_bytes e.0) both old)
+    ∙ ap (λ ns. reset ns both old) (sym (ap names_in (take_get rows i e is) ∙ map_push (λ (p : String Global × Interval). string_bytes p.0) (take i rows) e))
+
+-- the next of listed variables gets its row
+pub next_name : (names : List (String Global)) (i : ℕ) (n : String Global) (rows : Spans) (before now old : Spans) (x : Name) (r : Span)
+    → i < length names → n ≡ get_or names i n → x ≡ string_bytes n → r ≡ rows x → before ≡ reset (busy_of (take i names)) rows old → now ≡ changed x (λ s. r) before
+    → now ≡ reset (busy_of (take (i + 1) names)) rows old
+next_name names i n rows before now old x r lt is name range start put =
+    put
+    ∙ ap₂ (λ y z. changed y (λ s. z) before) name (range ∙ ap rows name)
+    ∙ ap (λ z. changed (string_bytes n) (λ s. rows (string_bytes n)) z) start
+    ∙ sym (reset_push (busy_of (take i names)) (string_bytes n) rows old)
+    ∙ ap (λ ns. reset ns rows old) (sym (ap busy_of (take_more names i n lt ∙ ap (λ m. take i names ++ m ∷ []) (sym is)) ∙ map_push string_bytes (take i names) n))

@@ -1,0 +1,10 @@
+pub mod Spans
+pub mod Tables
+pub mod Chains
+pub mod Sides
+pub mod Conditions
+pub mod Counting
+pub mod Joins
+pub mod Ways
+pub mod Blocks
+pub mod Laws

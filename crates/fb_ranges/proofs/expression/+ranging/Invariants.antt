@@ -1,0 +1,16 @@
+use Rattle.std.proofs.Common.{◌≡◌, ◌+◌, ◌*◌, drop, map}
+use denote.Param.Weighed.{most}
+use Rattle.st_types.specs.Views.{tail_of}
+use Rattle.fb_ranges.specs.Views.{span_of, spans_of, linked}
+use Rattle.st_types.proofs.term.TypedExpr.TheLaws.{the_size as expr_size}
+use Rattle.st_types.proofs.term.TypedLink.TheLaws.{the_size as link_size}
+use Rattle.fb_ranges.proofs.expression.+ranging.Given as goal
+
+abbrev pub decreases-range : goal.decreases-range
+decreases-range l = 2 * expr_size l.expr.now
+
+abbrev pub decreases-range_links : goal.decreases-range_links
+decreases-range_links l = 2 * most link_size l.links.now + 1
+
+abbrev pub invariant-range_links-loop-link : goal.invariant-range_links-loop-link
+invariant-range_links-loop-link l = linked (spans_of l.ranges) (map tail_of (drop l.link-index l.links)) (span_of l.all) ≡ linked (spans_of l.ranges) (map tail_of l.links) (span_of l.initial.all)

@@ -1,0 +1,16 @@
+use Rattle.std.proofs.Common.{◌≡◌, to_z, of_z, w64, arith, ap₂, subst, ◌∙◌}
+use Rattle.std.specs.Prelude.{OnOk}
+use Rattle.std.proofs.lemmas.Int.{ints}
+use Rattle.st_clear.specs.Clear.{Spans, meets}
+use Rattle.fb_ranges.specs.Views.{span_of, spans_of}
+use Rattle.fb_ranges.proofs.Sides.{changed_known}
+use Rattle.fb_ranges.proofs.narrow.narrow_variable.Goals as goal
+
+pub returns : goal.returns
+returns c =
+    let x = c.args.name.now in
+    let f = meets c.args.operator c.args.number in
+    let spans = spans_of c.args.ranges.now in
+    let k : to_z w64 (of_z w64 c.args.number) ≡ c.args.number = omega (arith, ints) in
+    let e : span_of c.meets.result ≡ f (spans x) = c.meets.ensures ∙ ap₂ (λ z r. meets c.args.operator z r) k c.find-before.ensures in
+    subst (λ (s : Spans). OnOk c.insert.result (spans_of c.insert.new.self ≡ s)) (changed_known x f spans (span_of c.meets.result) e) c.insert.ensures.set

@@ -1,0 +1,6 @@
+pub mod Views
+pub mod Narrowing
+pub mod Answers
+pub mod Faults
+pub mod Steps
+pub mod Finding

@@ -1,0 +1,38 @@
+-- What the code's ranges are in the book.
+use Rattle.std.specs.Prelude.{map, string_bytes, List, [], ◌∷◌, Option, Some}
+use Rattle.std.specs.Option.{option_map, unwrap_or}
+use Rattle.std.specs.Map.{lookup}
+use Rattle.std.specs.Str.{bytes_eq}
+use Rattle.std.specs.declared.string.String.{String}
+use Rattle.std.specs.declared.alloc.Global.{Global}
+use Rattle.fb_words.specs.declared.elem_type.ElemType.TheVariants as t
+use Rattle.fb_model.specs.Names.{Name}
+use Rattle.st_clear.specs.Spans.{Span, span, whole, range_two}
+use Rattle.fb_model.specs.Language.{given}
+use Rattle.st_types.specs.Views.{Tail}
+use Rattle.st_clear.specs.Clear.{Spans, range_of}
+use Rattle.fb_ranges.specs.declared.interval.Interval.{Interval}
+use Rattle.fb_ranges.specs.declared.rows.Ranges.{Ranges}
+
+abbrev pub span_of : Interval → Span
+span_of i = span i.low i.high
+
+-- the range of the variable of a name
+abbrev pub row_of : List (String Global × Interval) → Name → Option Interval
+row_of rows x = lookup (λ y. bytes_eq x (string_bytes y)) rows
+
+-- the ranges of all variables: all numbers of LINT for one without a row
+abbrev pub spans_in : List (String Global × Interval) → Spans
+spans_in rows = λ x. unwrap_or (option_map span_of (row_of rows x)) (whole t.Lint)
+
+abbrev pub spans_of : Ranges → Spans
+spans_of ranges = spans_in ranges.rows.entries
+
+-- the range of what has one, behind which operations stand, each with its second operand
+abbrev pub linked : Spans → List Tail → Span → Option Span
+linked spans [] r = Some r
+linked spans (l ∷ ls) r = given (range_of l.2 spans) (λ s. given (range_two l.0 l.1 r s) (linked spans ls))
+
+-- the variables that have a row
+abbrev pub names_in : List (String Global × Interval) → List Name
+names_in rows = map (λ p. string_bytes p.0) rows

@@ -1,0 +1,96 @@
+//! The variables that statements assign.
+
+ghost use Rattle.std.specs.Prelude.{◌≡◌, ◌++◌, ◌∷◌, [], IfOk, OnOk, string_bytes};
+ghost use Rattle.st_clear.specs.Clear as book;
+ghost use Rattle.st_types.specs.Views.{term_of};
+ghost use Rattle.st_types.specs.CommandViews.{busy_of, cases_of, choices_of, command_of, commands_of};
+
+use crate::side::number;
+use crate::turns::turns;
+use st_types::{Counting, TypedArm, TypedBranch, TypedStmt};
+use std::alloc::{AllocError, Global};
+
+// Whether a FOR between two spelled numbers has no turn.
+fn is_idle(counting: &Counting) -> bool
+    ensures { result ≡ book.is_idle counting.now.plain (term_of counting.now.first) (term_of counting.now.last) counting.now.step }
+{
+    if !counting.plain {
+        return false;
+    }
+    match (number(&counting.first), number(&counting.last)) {
+        (Some(first), Some(last)) => turns(first, last, counting.step) == 0,
+        _ => false,
+    }
+}
+
+fn pushed(name: &String, names: &mut Vec<String>) -> Result<(), AllocError>
+    ensures { OnOk result (busy_of names.new.items ≡ busy_of names.old.items ++ string_bytes name.now ∷ []) }
+{
+    names.push(name.clone()?)?;
+    Ok(())
+}
+
+/// The variables that statements assign, as they stand in the text.
+pub(crate) fn names_assigned(alloc: Global, list: &[TypedStmt]) -> Result<Vec<String>, AllocError>
+    ensures { IfOk result (λ names. busy_of names.items ≡ book.assigned (commands_of list.now)) }
+{
+    let mut names = Vec::new(alloc);
+    assigned(list, &mut names)?;
+    Ok(names)
+}
+
+// Adds the variables that statements assign to others.
+#[cycle(assigning)]
+fn assigned(list: &[TypedStmt], names: &mut Vec<String>) -> Result<(), AllocError>
+    ensures { OnOk result (busy_of names.new.items ≡ busy_of names.old.items ++ book.assigned (commands_of list.now)) }
+{
+    for statement in list {
+        assigned_one(statement, names)?;
+    }
+    Ok(())
+}
+
+#[cycle(assigning)]
+fn assigned_one(statement: &TypedStmt, names: &mut Vec<String>) -> Result<(), AllocError>
+    ensures { OnOk result (busy_of names.new.items ≡ busy_of names.old.items ++ book.assigned_one (command_of statement.now)) }
+{
+    match statement {
+        TypedStmt::Set(name, _) => pushed(name, names),
+        TypedStmt::SetElement(_, _, _, _, _) => Ok(()),
+        TypedStmt::If(branches, other) => {
+            assigned_branches(branches, names)?;
+            assigned(other, names)
+        }
+        TypedStmt::Case(_, arms, other) => {
+            assigned_arms(arms, names)?;
+            assigned(other, names)
+        }
+        TypedStmt::For(counting, body) => {
+            if is_idle(counting) {
+                return Ok(());
+            }
+            pushed(&counting.variable, names)?;
+            assigned(body, names)
+        }
+    }
+}
+
+#[cycle(assigning)]
+fn assigned_branches(list: &[TypedBranch], names: &mut Vec<String>) -> Result<(), AllocError>
+    ensures { OnOk result (busy_of names.new.items ≡ busy_of names.old.items ++ book.assigned_choices (choices_of list.now)) }
+{
+    for branch in list {
+        assigned(&branch.body, names)?;
+    }
+    Ok(())
+}
+
+#[cycle(assigning)]
+fn assigned_arms(list: &[TypedArm], names: &mut Vec<String>) -> Result<(), AllocError>
+    ensures { OnOk result (busy_of names.new.items ≡ busy_of names.old.items ++ book.assigned_cases (cases_of list.now)) }
+{
+    for arm in list {
+        assigned(&arm.body, names)?;
+    }
+    Ok(())
+}

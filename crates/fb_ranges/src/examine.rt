@@ -1,0 +1,265 @@
+//! The examination of statements: what ranges they leave, and how many steps they take at most.
+
+ghost use Rattle.std.specs.Prelude.{◌≡◌, ◌<◌, true, false, if◌then◌else◌};
+ghost use Rattle.fb_model.specs.TypedText.{Command, Commands};
+ghost use Rattle.st_clear.specs.Clear as book;
+ghost use Rattle.st_clear.specs.Clear.{Clear, Leaves, Traps, with_range};
+ghost use Rattle.st_clear.specs.Spans.{within, span};
+ghost use Rattle.st_types.specs.Views.{term_of};
+ghost use Rattle.st_types.specs.CommandViews.{busy_of, case_of, cases_of, choice_of, choices_of, command_of, commands_of, counted_command, counting_of};
+ghost use Rattle.fb_ranges.specs.Finding.{Costs, Finds, FindsWay};
+ghost use Rattle.fb_ranges.specs.Views.{span_of, spans_of};
+
+use crate::assigned::names_assigned;
+use crate::expression::{is_between, range};
+use crate::fault::RangeFault;
+use crate::interval::Interval;
+use crate::join::{are_kept, copied, reset};
+use crate::merge::{closed, merged};
+use crate::narrow::narrow;
+use crate::rows::Ranges;
+use crate::span::is_within;
+use crate::steps::{added, of_turns};
+use crate::turns::{left_with, most_turns, taken};
+use crate::way::Way;
+use st_types::{Counting, TypedArm, TypedBranch, TypedExpr, TypedStmt};
+use std::alloc::Global;
+
+// A variable gets a value.
+fn examine_set(name: &str, value: &TypedExpr, ranges: &mut Ranges) -> Result<u64, RangeFault>
+    ensures { Finds result (spans_of ranges.new) (with_range (book.range_of (term_of value.now) (spans_of ranges.old)) (λ r. Clear (book.changed name.now (λ b. r) (spans_of ranges.old)) 1)) }
+{
+    let Some(value) = range(value, ranges) else {
+        return Err(RangeFault::Traps);
+    };
+    ranges.insert(name, value)?;
+    Ok(1)
+}
+
+// An element of an array gets a value.
+fn examine_element(
+    rows: &Ranges,
+    name: &str,
+    low: i64,
+    high: i64,
+    index: &TypedExpr,
+    value: &TypedExpr,
+    ranges: &Ranges,
+) -> Result<u64, RangeFault>
+    ensures { Finds result (spans_of ranges.now) (with_range (book.range_of (term_of index.now) (spans_of ranges.now)) (λ k. with_range (book.range_of (term_of value.now) (spans_of ranges.now)) (λ r. if within k (span low high) then (if within r (spans_of rows.now name.now) then Clear (spans_of ranges.now) 1 else Leaves) else Traps))) }
+{
+    let Some(index) = range(index, ranges) else {
+        return Err(RangeFault::Traps);
+    };
+    let Some(value) = range(value, ranges) else {
+        return Err(RangeFault::Traps);
+    };
+    if !is_between(index, low, high) {
+        return Err(RangeFault::Traps);
+    }
+    if !is_within(value, rows.find(name)) {
+        return Err(RangeFault::Leaves);
+    }
+    Ok(1)
+}
+
+/// What statements make of ranges, under the rows of the variables; and the most steps that they take.
+///
+/// Refused with `Leaves` or `Traps`, as the first statement that is not clear; then nothing is said of the ranges.
+#[cycle(examining)]
+pub(crate) fn examine(
+    alloc: Global,
+    rows: &Ranges,
+    list: &[TypedStmt],
+    ranges: &mut Ranges,
+) -> Result<u64, RangeFault>
+    ensures { Finds result (spans_of ranges.new) (book.examine (spans_of rows.now) (commands_of list.now) (spans_of ranges.old)) }
+{
+    let mut steps = 0;
+    for statement in list {
+        steps = added(steps, examine_one(alloc, rows, statement, ranges)?);
+    }
+    Ok(steps)
+}
+
+#[cycle(examining)]
+fn examine_one(
+    alloc: Global,
+    rows: &Ranges,
+    statement: &TypedStmt,
+    ranges: &mut Ranges,
+) -> Result<u64, RangeFault>
+    ensures { Finds result (spans_of ranges.new) (book.examine_one (spans_of rows.now) (command_of statement.now) (spans_of ranges.old)) }
+{
+    match statement {
+        TypedStmt::Set(name, value) => examine_set(name.as_str(), value, ranges),
+        TypedStmt::SetElement(name, low, high, index, value) => {
+            examine_element(rows, name.as_str(), *low, *high, index, value, ranges)
+        }
+        TypedStmt::If(branches, other) => {
+            let steps = examine_branches(alloc, rows, branches, other, ranges)?;
+            Ok(added(1, steps))
+        }
+        TypedStmt::Case(selector, arms, other) => {
+            if range(selector, ranges).is_none() {
+                return Err(RangeFault::Traps);
+            }
+            let steps = examine_arms(alloc, rows, arms, other, ranges)?;
+            Ok(added(1, steps))
+        }
+        TypedStmt::For(counting, body) => examine_for(alloc, rows, counting, body, ranges),
+    }
+}
+
+// IF: each condition where the earlier ones are false.
+#[cycle(examining)]
+fn examine_branches(
+    alloc: Global,
+    rows: &Ranges,
+    branches: &[TypedBranch],
+    other: &[TypedStmt],
+    ranges: &mut Ranges,
+) -> Result<u64, RangeFault>
+    ensures { Finds result (spans_of ranges.new) (book.examine_choices (spans_of rows.now) (choices_of branches.now) (book.examine (spans_of rows.now) (commands_of other.now)) (spans_of ranges.old)) }
+{
+    let mut before: Option<Way> = None;
+    for branch in branches {
+        let way = examine_branch(alloc, rows, branch, ranges)?;
+        before = Some(merged(before, way)?);
+        narrow(&branch.condition, false, ranges)?;
+    }
+    let steps = examine(alloc, rows, other, ranges)?;
+    Ok(closed(before, ranges, steps)?)
+}
+
+#[cycle(examining)]
+fn examine_branch(
+    alloc: Global,
+    rows: &Ranges,
+    branch: &TypedBranch,
+    ranges: &Ranges,
+) -> Result<Way, RangeFault>
+    ensures { FindsWay result (with_range (book.range_of (choice_of branch.now).0 (spans_of ranges.now)) (λ r. book.examine (spans_of rows.now) (choice_of branch.now).1 (book.narrowed (choice_of branch.now).0 true (spans_of ranges.now)))) }
+{
+    if range(&branch.condition, ranges).is_none() {
+        return Err(RangeFault::Traps);
+    }
+    let mut inside = copied(ranges)?;
+    narrow(&branch.condition, true, &mut inside)?;
+    let steps = examine(alloc, rows, &branch.body, &mut inside)?;
+    Ok(Way {
+        ranges: inside,
+        steps,
+    })
+}
+
+// CASE, which narrows nothing.
+#[cycle(examining)]
+fn examine_arms(
+    alloc: Global,
+    rows: &Ranges,
+    arms: &[TypedArm],
+    other: &[TypedStmt],
+    ranges: &mut Ranges,
+) -> Result<u64, RangeFault>
+    ensures { Finds result (spans_of ranges.new) (book.examine_cases (spans_of rows.now) (cases_of arms.now) (book.examine (spans_of rows.now) (commands_of other.now) (spans_of ranges.old)) (spans_of ranges.old)) }
+{
+    let mut before: Option<Way> = None;
+    for arm in arms {
+        let way = examine_arm(alloc, rows, arm, ranges)?;
+        before = Some(merged(before, way)?);
+    }
+    let steps = examine(alloc, rows, other, ranges)?;
+    Ok(closed(before, ranges, steps)?)
+}
+
+#[cycle(examining)]
+fn examine_arm(
+    alloc: Global,
+    rows: &Ranges,
+    arm: &TypedArm,
+    ranges: &Ranges,
+) -> Result<Way, RangeFault>
+    ensures { FindsWay result (book.examine (spans_of rows.now) (case_of arm.now).1 (spans_of ranges.now)) }
+{
+    let mut inside = copied(ranges)?;
+    let steps = examine(alloc, rows, &arm.body, &mut inside)?;
+    Ok(Way {
+        ranges: inside,
+        steps,
+    })
+}
+
+// FOR: its bounds, once.
+#[cycle(examining)]
+fn examine_for(
+    alloc: Global,
+    rows: &Ranges,
+    counting: &Counting,
+    body: &[TypedStmt],
+    ranges: &mut Ranges,
+) -> Result<u64, RangeFault>
+    ensures { Finds result (spans_of ranges.new) (book.examine_one (spans_of rows.now) (counted_command (counting_of counting.now) (commands_of body.now)) (spans_of ranges.old)) }
+{
+    let Some(first) = range(&counting.first, ranges) else {
+        return Err(RangeFault::Traps);
+    };
+    let Some(last) = range(&counting.last, ranges) else {
+        return Err(RangeFault::Traps);
+    };
+    if most_turns(first, last, counting.step) == 0 {
+        return Ok(1);
+    }
+    let name = counting.variable.as_str();
+    examine_turns(alloc, rows, name, first, last, counting.step, body, ranges)
+}
+
+// The turns of a FOR, of which there are some.
+#[cycle(examining)]
+fn examine_turns(
+    alloc: Global,
+    rows: &Ranges,
+    name: &str,
+    first: Interval,
+    last: Interval,
+    step: i64,
+    body: &[TypedStmt],
+    ranges: &mut Ranges,
+) -> Result<u64, RangeFault>
+    requires { 0 < book.most_turns (span_of first) (span_of last) step }
+    ensures { Finds result (spans_of ranges.new) (book.looped (book.most_turns (span_of first) (span_of last) step) (book.assigned (commands_of body.now)) (spans_of rows.now) (book.examine (spans_of rows.now) (commands_of body.now)) name.now (span_of first) (span_of last) step (spans_of ranges.old)) }
+{
+    let turns = most_turns(first, last, step);
+    let names = names_assigned(alloc, body)?;
+    if !are_kept(&names, rows, ranges) {
+        return Err(RangeFault::Leaves);
+    }
+    reset(&names, rows, ranges)?;
+    let own = taken(first, last, step, turns);
+    let steps = examine_body(alloc, rows, name, own, &names, body, ranges)?;
+    let before = ranges.find(name);
+    ranges.insert(name, left_with(first, last, step, turns, before))?;
+    Ok(of_turns(turns, steps))
+}
+
+// The body of a FOR, once for all turns; it has to keep the rows of these variables.
+#[cycle(examining)]
+fn examine_body(
+    alloc: Global,
+    rows: &Ranges,
+    name: &str,
+    own: Interval,
+    names: &[String],
+    body: &[TypedStmt],
+    ranges: &Ranges,
+) -> Result<u64, RangeFault>
+    ensures { Costs result (book.kept (spans_of rows.now) (busy_of names.now) (book.examine (spans_of rows.now) (commands_of body.now) (book.changed name.now (λ b. span_of own) (spans_of ranges.now)))) }
+{
+    let mut inside = copied(ranges)?;
+    inside.insert(name, own)?;
+    let steps = examine(alloc, rows, body, &mut inside)?;
+    if !are_kept(names, rows, &inside) {
+        return Err(RangeFault::Leaves);
+    }
+    Ok(steps)
+}

@@ -1,0 +1,12 @@
+//! Rows of variables.
+
+use crate::interval::Interval;
+use indexmap::IndexMap;
+use std::alloc::Global;
+
+/// The ranges of a block's variables, by their names. A variable without one has all numbers of LINT.
+#[derive(Debug, Drop)]
+pub struct Ranges {
+    pub(crate) alloc: Global,
+    pub(crate) rows: IndexMap<String, Interval>,
+}

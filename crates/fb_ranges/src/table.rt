@@ -1,0 +1,48 @@
+//! The ranges of a block's variables, by their names.
+
+ghost use Rattle.std.specs.Prelude.{◌≡◌, OnErr, OnOk};
+ghost use Rattle.fb_words.specs.declared.elem_type.ElemType.TheVariants as t;
+ghost use Rattle.st_clear.specs.Spans.{whole};
+ghost use Rattle.st_clear.specs.Clear.{changed};
+ghost use Rattle.fb_ranges.specs.Views.{span_of, spans_of};
+
+use crate::interval::Interval;
+use crate::rows::Ranges;
+use crate::span::whole;
+use fb_words::ElemType;
+use indexmap::IndexMap;
+use std::alloc::{AllocError, Global};
+
+impl Ranges {
+    /// No ranges.
+    pub fn new(alloc: Global) -> Ranges
+        ensures { spans_of result ≡ (λ x. whole t.Lint) }
+    {
+        Ranges {
+            alloc,
+            rows: IndexMap::new(alloc),
+        }
+    }
+
+    /// The range of the variable of a name: all numbers of LINT where it has no row.
+    pub(crate) fn find(&self, name: &str) -> Interval
+        ensures { span_of result ≡ spans_of self.now name.now }
+    {
+        match self.rows.get(name) {
+            Some(row) => *row,
+            None => whole(ElemType::Lint),
+        }
+    }
+
+    /// Gives the variable of a name a range, in place of any that it has.
+    ///
+    /// Fails where memory runs out; then the ranges are as before.
+    pub fn insert(&mut self, name: &str, interval: Interval) -> Result<(), AllocError>
+        ensures set { OnOk result (spans_of self.new ≡ changed name.now (λ _. span_of interval) (spans_of self.old)) }
+        ensures unchanged { OnErr result (spans_of self.new ≡ spans_of self.old) }
+    {
+        let key = String::from_str(self.alloc, name)?;
+        self.rows.insert(key, interval)?;
+        Ok(())
+    }
+}

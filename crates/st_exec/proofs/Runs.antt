@@ -1,0 +1,120 @@
+-- Runs in pieces, as the loops of the program make them.
+use Rattle.std.proofs.Common.{◌≡◌, ℕ, zero, suc, ◌+◌, ◌≤◌, ℤ, pos, ◌+ℤ◌, ◌*ℤ◌, ◌≤ℤ◌, int_le, ◌&&◌, Bool, true, false, Option, Some, None, IsSome, refl, sym, ◌∙◌, ap, subst, arith, add_assoc, zero-add}
+use Rattle.std.specs.Prelude.{if◌then◌else◌}
+use Rattle.std.proofs.lemmas.Int.{ints}
+use Rattle.st_clear.proofs.Types.{le_is}
+use Rattle.fb_model.specs.Names.{Name}
+use Rattle.fb_model.specs.Values.{One, Values}
+use Rattle.fb_model.specs.Language.{Outcome, Done, Trap, more, after, with_value, setting, setting_part, turn_count, turns}
+use Rattle.st_exec.specs.Runs.{IsWithin}
+
+pub more_zero : (o : Outcome) → more 0 o ≡ o
+more_zero (Done values n) = ap (Done values) (zero-add n)
+more_zero Trap = refl
+
+pub more_more : (m n : ℕ) (o : Outcome) → more m (more n o) ≡ more (m + n) o
+more_more m n (Done values k) = ap (Done values) (sym (add_assoc m n k))
+more_more m n Trap = refl
+
+pub within_more : (limit n : ℕ) (o : Outcome) → IsWithin limit (more n o) → IsWithin limit o
+within_more limit n (Done values k) h = omega arith
+within_more limit n Trap h = h
+
+within_after : (limit n : ℕ) (o : Outcome) (f : Values → Outcome) → IsWithin limit (more n (after o f)) → IsWithin limit o
+within_after limit n (Done values k) f h = within_two limit n k (f values) h
+  where
+    within_two : (limit n k : ℕ) (o : Outcome) → IsWithin limit (more n (more k o)) → k ≤ limit
+    within_two limit n k (Done after m) h = omega arith
+    within_two limit n k Trap h = absurd h
+within_after limit n Trap f h = h
+
+-- so far n steps were taken, o comes next and then f
+pub part_within : (limit n : ℕ) (o whole : Outcome) (f : Values → Outcome) → more n (after o f) ≡ whole → IsWithin limit whole → IsWithin limit o
+part_within limit n o whole f e h = within_after limit n o f (subst (IsWithin limit) (sym e) h)
+
+-- the same after o has come to its end
+pub one_more : (n m : ℕ) (o whole : Outcome) (f : Values → Outcome) (values : Values) → more n (after o f) ≡ whole → o ≡ Done values m → more (n + m) (f values) ≡ whole
+one_more n m o whole f values e d = sym (more_more n m (f values)) ∙ ap (λ x. more n (after x f)) (sym d) ∙ e
+
+pub done_within : (limit n : ℕ) (o : Outcome) → IsWithin limit (more n o) → n ≤ limit
+done_within limit n (Done values k) h = omega arith
+done_within limit n Trap h = absurd h
+
+pub steps_within : (limit n : ℕ) (o whole : Outcome) → more n o ≡ whole → IsWithin limit whole → n ≤ limit
+steps_within limit n o whole e h = done_within limit n o (subst (IsWithin limit) (sym e) h)
+
+-- the steps of a run that is done
+pub done_steps : (limit : ℕ) (o : Outcome) (values : Values) (n : ℕ) → IsWithin limit o → o ≡ Done values n → n ≤ limit
+done_steps limit o values n h e = subst (IsWithin limit) e h
+
+-- ---- one statement
+
+pub value_within : (limit : ℕ) (o : Option ℤ) (f : ℤ → Outcome) → IsWithin limit (with_value o f) → IsSome o
+value_within limit None f h = absurd h
+value_within limit (Some v) f h = refl
+
+pub given_within : (limit : ℕ) (o : Option ℤ) (v : ℤ) (f : ℤ → Outcome) → o ≡ Some v → IsWithin limit (with_value o f) → IsWithin limit (f v)
+given_within limit o v f e h = subst (λ p. IsWithin limit (with_value p f)) e h
+
+pub index_within : (limit n : ℕ) (values : Values) (x : Name) (low high k v : ℤ) → IsWithin limit (more n (setting_part values x low high k v)) → (low ≤ℤ k) × (k ≤ℤ high)
+index_within limit n values x low high k v h = by (int_le low k) (int_le k high) refl refl _ h where
+  by : (b c : Bool) → int_le low k ≡ b → int_le k high ≡ c → (o : Outcome) → IsWithin limit (more n (if b && c then o else Trap)) → (low ≤ℤ k) × (k ≤ℤ high)
+  by true true e f o h = (le_is low k e, le_is k high f)
+  by true false e f o h = absurd h
+  by false true e f o h = absurd h
+  by false false e f o h = absurd h
+
+-- ---- turns
+
+after_at_least : (limit m r : ℕ) (o : Outcome) (f : Values → Outcome) → ((j : ℕ) (values : Values) → IsWithin limit (more (m + j) (f values)) → m + j + r ≤ limit) → IsWithin limit (more m (after o f)) → m + r ≤ limit
+after_at_least limit m r (Done values j) f go h = let a = go j values (subst (IsWithin limit) (more_more m j (f values)) h) in omega arith
+after_at_least limit m r Trap f go h = absurd h
+
+turns_more : (limit m n : ℕ) (body : Values → Outcome) (x : Name) (v k : ℤ) (values : Values) → IsWithin limit (more m (turns n body x v k values)) → m + n ≤ limit
+turns_more limit m zero body x v k values h = h
+turns_more limit m (suc n) body x v k values h =
+    let f = turns n body x (v +ℤ k) k in
+    let o = body (setting values x (One v)) in
+    let g = subst (IsWithin limit) (more_more m 1 (after o f)) h in
+    let a : m + 1 + n ≤ limit = after_at_least limit (m + 1) n o f (λ j s r. turns_more limit (m + 1 + j) n body x (v +ℤ k) k s r) g in
+    omega (arith, a)
+
+-- a FOR makes no more turns than it takes steps
+pub turns_within : (limit n : ℕ) (body : Values → Outcome) (x : Name) (v k : ℤ) (values : Values) → IsWithin limit (turns n body x v k values) → n ≤ limit
+turns_within limit n body x v k values h =
+    let a = turns_more limit 0 n body x v k values (subst (IsWithin limit) (sym (more_zero (turns n body x v k values))) h) in omega (arith, a)
+
+pub turns_from : (e n : ℕ) (body : Values → Outcome) (x : Name) (v w k : ℤ) (values : Values) → e ≡ n → v ≡ w → more 0 (turns e body x v k values) ≡ turns n body x w k values
+turns_from e n body x v w k values p q = more_zero (turns e body x v k values) ∙ ap (λ j. turns j body x v k values) p ∙ ap (λ z. turns n body x z k values) q
+
+-- one turn of a FOR, after m steps, with r turns left and then one fewer
+module _ (m r r' : ℕ) (x : Name) (body : Values → Outcome) (v w k : ℤ) (values put : Values) (whole : Outcome) (e : more m (turns r body x v k values) ≡ whole) (left : r ≡ suc r') (same : w ≡ v) (now : put ≡ setting values x (One w)) where
+  turn_begun : more (m + 1) (after (body put) (turns r' body x (v +ℤ k) k)) ≡ whole
+  turn_begun =
+      ap (λ s. more (m + 1) (after (body s) (turns r' body x (v +ℤ k) k))) (now ∙ ap (λ z. setting values x (One z)) same)
+      ∙ sym (more_more m 1 (after (body (setting values x (One v))) (turns r' body x (v +ℤ k) k)))
+      ∙ ap (λ j. more m (turns j body x v k values)) (sym left) ∙ e
+
+  pub turn_within : (limit : ℕ) → IsWithin limit whole → IsWithin limit (body put)
+  turn_within limit h = part_within limit (m + 1) (body put) whole (turns r' body x (v +ℤ k) k) turn_begun h
+
+  pub turn_done : (b : ℕ) (end : Values) (v' : ℤ) → body put ≡ Done end b → v' ≡ v +ℤ k → more (m + 1 + b) (turns r' body x v' k end) ≡ whole
+  turn_done b end v' d q = ap (λ z. more (m + 1 + b) (turns r' body x z k end)) q ∙ one_more (m + 1) b (body put) whole (turns r' body x (v +ℤ k) k) end turn_begun d
+
+  pub turn_steps : (limit b : ℕ) (end : Values) → IsWithin limit whole → body put ≡ Done end b → m + 1 + b ≤ limit
+  turn_steps limit b end h d = steps_within limit (m + 1 + b) (turns r' body x (v +ℤ k) k end) whole (turn_done b end (v +ℤ k) d refl) h
+
+pub turns_end : (m r : ℕ) (x : Name) (body : Values → Outcome) (v k : ℤ) (values : Values) (whole : Outcome) → more m (turns r body x v k values) ≡ whole → r ≡ 0 → whole ≡ Done values m
+turns_end m r x body v k values whole e z = sym e ∙ ap (λ j. more m (turns j body x v k values)) z ∙ ap (Done values) (omega arith)
+
+pub next_value : (v k : ℤ) (i : ℕ) → v +ℤ pos (i + 1) *ℤ k ≡ v +ℤ pos i *ℤ k +ℤ k
+next_value v k i = omega (arith, ints)
+
+-- the whole of a FOR, with its bounds in other words
+pub same_whole : (first first' last last' step step' : ℤ) (body : Values → Outcome) (x : Name) (n : ℕ) (values : Values) → first' ≡ first → last' ≡ last → step' ≡ step → n ≡ turn_count first' last' step'
+    → turns n body x first' step' values ≡ turns (turn_count first last step) body x first step values
+same_whole first first' last last' step step' body x n values f l k e =
+    ap (λ j. turns j body x first' step' values) e
+    ∙ ap (λ z. turns (turn_count z last' step') body x z step' values) f
+    ∙ ap (λ z. turns (turn_count first z step') body x first step' values) l
+    ∙ ap (λ z. turns (turn_count first last z) body x first z values) k

@@ -1,0 +1,94 @@
+-- What is asked of the parts of an algorithm.
+use Rattle.std.proofs.Common.{◌≡◌, ℤ, Bool, true, false, ◌||◌, ◌&&◌, List, [], ◌∷◌, ◌++◌, None, refl, sym, ap, subst}
+use Rattle.std.specs.List.{list_all}
+use Rattle.std.specs.Str.{bytes_eq}
+use Rattle.fb_words.specs.declared.elem_type.ElemType.{ElemType}
+use Rattle.fb_model.specs.Names.{Name, is_in}
+use Rattle.fb_model.proofs.Lists.{same_name}
+use Rattle.fb_model.proofs.Placed.{name_same}
+use Rattle.fb_model.specs.TypedText.{Term, constant, Command, set, choose, match_on, count, Commands, then_do, Choices, no_choice, choice, Cases, no_case, a_case}
+use Rattle.st_clear.specs.Shapes.{written, written_choices, written_cases}
+use Rattle.st_exec.specs.Cells.{Form, shape_in, names_in}
+use Rattle.st_exec.specs.Runs.{AreAmong, Serves, ServesOne}
+
+in_front : (x : Name) (xs ys : List Name) → is_in x xs ≡ true → is_in x (xs ++ ys) ≡ true
+in_front x [] ys h = absurd (cc)
+in_front x (z ∷ xs) ys h = by (bytes_eq x z) h (in_front x xs ys) where
+  by : (b : Bool) → (b || is_in x xs) ≡ true → (is_in x xs ≡ true → is_in x (xs ++ ys) ≡ true) → (b || is_in x (xs ++ ys)) ≡ true
+  by true h again = refl
+  by false h again = again h
+
+in_back : (x : Name) (xs ys : List Name) → is_in x ys ≡ true → is_in x (xs ++ ys) ≡ true
+in_back x [] ys h = h
+in_back x (z ∷ xs) ys h = by (bytes_eq x z) (in_back x xs ys h) where
+  by : (b : Bool) → is_in x (xs ++ ys) ≡ true → (b || is_in x (xs ++ ys)) ≡ true
+  by true again = refl
+  by false again = again
+
+-- what is behind a part is behind it in a longer list
+deeper : (x : Name) (xs ys zs : List Name) → is_in x (ys ++ zs) ≡ true → is_in x ((xs ++ ys) ++ zs) ≡ true
+deeper x [] ys zs h = h
+deeper x (w ∷ xs) ys zs h = by (bytes_eq x w) (deeper x xs ys zs h) where
+  by : (b : Bool) → is_in x ((xs ++ ys) ++ zs) ≡ true → (b || is_in x ((xs ++ ys) ++ zs)) ≡ true
+  by true again = refl
+  by false again = again
+
+among_front : (xs ys zs : List Name) → AreAmong (xs ++ ys) zs → AreAmong xs zs
+among_front xs ys zs h = λ x e. h x (in_front x xs ys e)
+
+among_back : (xs ys zs : List Name) → AreAmong (xs ++ ys) zs → AreAmong ys zs
+among_back xs ys zs h = λ x e. h x (in_back x xs ys e)
+
+first_among : (x : Name) (xs zs : List Name) → AreAmong (x ∷ xs) zs → is_in x zs ≡ true
+first_among x xs zs h = h x (ap (λ b. b || is_in x xs) (name_same x))
+
+-- names that are all found among others, by a test
+pub among_all : (xs ys : List Name) → list_all (λ x. is_in x ys) xs ≡ true → AreAmong xs ys
+among_all [] ys h = λ y e. absurd (cc)
+among_all (x ∷ xs) ys h = λ y e. by (is_in x ys) (bytes_eq y x) y refl refl h e (among_all xs ys) where
+  by : (b c : Bool) (y : Name) → is_in x ys ≡ b → bytes_eq y x ≡ c → (b && list_all (λ x. is_in x ys) xs) ≡ true → (c || is_in y xs) ≡ true → (list_all (λ x. is_in x ys) xs ≡ true → AreAmong xs ys) → is_in y ys ≡ true
+  by true true y f g h e again = subst (λ z. is_in z ys ≡ true) (sym (same_name y x g)) f
+  by true false y f g h e again = again h y e
+  by false c y f g h e again = absurd (cc)
+
+module _ (forms : List Form) where
+  pub first_served : (c : Command) (cs : Commands) → Serves forms (then_do c cs) → ServesOne forms c
+  first_served c cs s = (s.0.0, among_front _ (written cs) (names_in forms) s.1)
+
+  pub rest_served : (c : Command) (cs : Commands) → Serves forms (then_do c cs) → Serves forms cs
+  rest_served c cs s = (s.0.1, among_back _ (written cs) (names_in forms) s.1)
+
+  pub set_served : (x : Name) (e : Term) → ServesOne forms (set x e) → (is_in x (names_in forms) ≡ true) × (shape_in forms x ≡ None)
+  set_served x e s = (first_among x [] (names_in forms) s.1, s.0.0)
+
+  -- ---- a choice
+
+  pub choice_served : (e : Term) (body : Commands) (rest : Choices) (other : Commands) → ServesOne forms (choose (choice e body rest) other) → Serves forms body
+  choice_served e body rest other s =
+      (s.0.0.1, among_front (written body) (written_choices rest) (names_in forms) (among_front (written body ++ written_choices rest) (written other) (names_in forms) s.1))
+
+  pub choices_served : (e : Term) (body : Commands) (rest : Choices) (other : Commands) → ServesOne forms (choose (choice e body rest) other) → ServesOne forms (choose rest other)
+  choices_served e body rest other s = ((s.0.0.2, s.0.1), λ x h. s.1 x (deeper x (written body) (written_choices rest) (written other) h))
+
+  pub other_served : (other : Commands) → ServesOne forms (choose no_choice other) → Serves forms other
+  other_served other s = (s.0.1, s.1)
+
+  -- ---- a case
+
+  pub case_served : (e : Term) (ls : List (ℤ × ℤ)) (body : Commands) (rest : Cases) (other : Commands) → ServesOne forms (match_on e (a_case ls body rest) other) → Serves forms body
+  case_served e ls body rest other s =
+      (s.0.1.0, among_front (written body) (written_cases rest) (names_in forms) (among_front (written body ++ written_cases rest) (written other) (names_in forms) s.1))
+
+  pub cases_served : (e : Term) (ls : List (ℤ × ℤ)) (body : Commands) (rest : Cases) (other : Commands) → ServesOne forms (match_on e (a_case ls body rest) other) → ServesOne forms (match_on e rest other)
+  cases_served e ls body rest other s = ((s.0.0, s.0.1.1, s.0.2), λ x h. s.1 x (deeper x (written body) (written_cases rest) (written other) h))
+
+  pub no_case_served : (e : Term) (other : Commands) → ServesOne forms (match_on e no_case other) → Serves forms other
+  no_case_served e other s = (s.0.2, s.1)
+
+  pub selected_served : (e : Term) (k : ℤ) (cases : Cases) (other : Commands) → ServesOne forms (match_on e cases other) → ServesOne forms (match_on (constant k) cases other)
+  selected_served e k cases other s = ((tt, s.0.1, s.0.2), s.1)
+
+  -- ---- a FOR
+
+  pub count_served : (x : Name) (a : ElemType) (e g : Term) (k : ℤ) (plain : Bool) (body : Commands) → ServesOne forms (count x a e g k plain body) → (is_in x (names_in forms) ≡ true) × (shape_in forms x ≡ None) × Serves forms body
+  count_served x a e g k plain body s = (first_among x (written body) (names_in forms) s.1, s.0.0, (s.0.4, among_back (x ∷ []) (written body) (names_in forms) s.1))

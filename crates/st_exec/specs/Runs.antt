@@ -1,0 +1,24 @@
+-- What is asked of an algorithm that runs over a store.
+use Rattle.std.specs.Prelude.{ℕ, ◌≤◌, ◌≡◌, true, List}
+use Rattle.fb_model.specs.Names.{Name, is_in}
+use Rattle.fb_model.specs.TypedText.{Command}
+use Rattle.fb_model.specs.Language.{Algorithm, Outcome, Done, Trap}
+use Rattle.st_clear.specs.Shapes.{CommandFits, AlgorithmFits, written_one, written}
+use Rattle.st_exec.specs.Cells.{Form, shape_in, names_in}
+
+-- the run is done within n steps
+abbrev pub IsWithin : ℕ → Outcome → Type 0
+IsWithin n (Done after m) = m ≤ n
+IsWithin n Trap = ⊥
+
+-- each of these names is among the others
+abbrev pub AreAmong : List Name → List Name → Type 0
+AreAmong names others = (x : Name) → is_in x names ≡ true → is_in x others ≡ true
+
+-- an algorithm reads and writes variables as they are declared, and those that it writes are declared
+abbrev pub Serves : List Form → Algorithm → Type 0
+Serves forms a = AlgorithmFits (shape_in forms) a × AreAmong (written a) (names_in forms)
+
+-- the same of one statement
+abbrev pub ServesOne : List Form → Command → Type 0
+ServesOne forms c = CommandFits (shape_in forms) c × AreAmong (written_one c) (names_in forms)
