@@ -22,13 +22,13 @@ use Rattle.fb_model.proofs.Lists.{all_append}
 use Rattle.fb_model.proofs.Running.{at_leaf}
 use Rattle.fb_leaves.specs.Leaves.{OnChart}
 use Rattle.fb_leaves.proofs.Made.{HasType, IsWider, IsGoodKind}
-use Rattle.fb_leaves.proofs.Values.{IsGivenBy, Yields, Feeds, IsFed}
+use Rattle.fb_leaves.proofs.Values.{Feeds, IsFed, IsGivenBy, Yields, is_listed, named_left}
 use Rattle.fb_leaves.proofs.Values.{all_fed}
 use Rattle.fb_shapes.specs.Shaped.{IsShapely}
 use Rattle.fb_shapes.proofs.Blocks.{all_charts_shapely}
 use Rattle.fb_clear.proofs.Plain.{blocks_plain}
 use Rattle.fb_clear.proofs.Formed.{IsSingle, IsFormed, all_leaves_formed}
-use Rattle.fb_clear.proofs.Named.{named_one, named_left, named_right, Finds, one, none, finds, found_listed, is_listed, start_named, start_unnamed}
+use Rattle.fb_clear.proofs.Named.{named_one, named_right, Finds, one, none, finds, found_listed, start_named, start_unnamed}
 use Rattle.fb_clear.proofs.Taking.{TakesInputs, all_take_inputs}
 use Rattle.fb_clear.proofs.Lying.{inside, all_inside, wider_whole, holds_whole, lies_by, lies_is, block_clear, writes_fit}
 

@@ -136,7 +136,7 @@ names_join : (xs ys : List Variable) → variable_names (xs ++ ys) ≡ variable_
 names_join [] ys = refl
 names_join (x ∷ xs) ys = ap (λ ns. x.name ∷ ns) (names_join xs ys)
 
-names_declared : (ds : List Declared) → variable_names (map variable_of ds) ≡ names_in ds
+pub names_declared : (ds : List Declared) → variable_names (map variable_of ds) ≡ names_in ds
 names_declared [] = refl
 names_declared (d ∷ ds) = ap (λ ns. d.name ∷ ns) (names_declared ds)
 

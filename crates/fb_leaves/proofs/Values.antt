@@ -150,14 +150,14 @@ mutual
 
 -- ---- one leaf
 
-named_left : (vs ws : List Variable) (x : Name) (v : Variable) → variable_named vs x ≡ Some v → variable_named (vs ++ ws) x ≡ Some v
+pub named_left : (vs ws : List Variable) (x : Name) (v : Variable) → variable_named vs x ≡ Some v → variable_named (vs ++ ws) x ≡ Some v
 named_left [] ws x v e = absurd cc
 named_left (u ∷ vs) ws x v e = by (bytes_eq x u.name) e (named_left vs ws x v) where
   by : (b : Bool) → (if b then Some u else variable_named vs x) ≡ Some v → (variable_named vs x ≡ Some v → variable_named (vs ++ ws) x ≡ Some v) → (if b then Some u else variable_named (vs ++ ws) x) ≡ Some v
   by true e next = e
   by false e next = next e
 
-is_listed : (vs : List Variable) (x : Name) (v : Variable) → variable_named vs x ≡ Some v → is_in x (variable_names vs) ≡ true
+pub is_listed : (vs : List Variable) (x : Name) (v : Variable) → variable_named vs x ≡ Some v → is_in x (variable_names vs) ≡ true
 is_listed [] x v e = absurd cc
 is_listed (u ∷ vs) x v e = by (bytes_eq x u.name) e (is_listed vs x v) where
   by : (b : Bool) → (if b then Some u else variable_named vs x) ≡ Some v → (variable_named vs x ≡ Some v → is_in x (variable_names vs) ≡ true) → (b || is_in x (variable_names vs)) ≡ true
