@@ -59,9 +59,10 @@ def nested(size):
             + "EVENT_CONNECTIONS EI TO A.%s; A.EO TO EO; END_CONNECTIONS END_FUNCTION_BLOCK\n" % port
         )
 
-    last = size // len(part(1000)) // 15 * 15 - 16
+    blocks = filled(size - 120, "", part, "")
+    last = blocks.count("FUNCTION_BLOCK W") - 1
     end = "SYSTEM S DEVICE D RESOURCE R FBS X : W%d; END_FBS END_RESOURCE END_DEVICE END_SYSTEM" % last
-    return filled(size, "", part, end), "refused 33 D.R.X" + ".A" * (last % 15 + 1) + ".START\n"
+    return blocks + end, "refused 33 D.R.X" + ".A" * (last % 15 + 1) + ".START\n"
 
 
 def algorithms(size):
