@@ -12,9 +12,10 @@ use Rattle.fb_model.specs.System.{Action, State, Transition, Block, Device, Syst
 use Rattle.fb_model.specs.Typing.{IsKnown, AreNew, AreDistinct, most_ports, most_states, state_texts, typed_action, typed_state}
 use Rattle.fb_model.specs.BlockTyping.{names_in, event_texts, typed_event, algorithm_texts, IsActionTyped, AreTransitions, no_transition, a_transition, IsBasic}
 use Rattle.fb_model.specs.NetworkTyping.{ElaboratesWith}
-use Rattle.fb_model.specs.Wires.{Leaf, leaves}
+use Rattle.fb_model.specs.Wires.{Serviced, Charted, Kind, Leaf, leaves}
 use Rattle.fb_model.specs.Certificates.{names, event_names}
-use Rattle.fb_leaves.specs.Leaves.{IsListed, IsClosedBlock, IsClosed}
+use Rattle.fb_model.proofs.Lists.{all_weaker}
+use Rattle.fb_leaves.specs.Leaves.{IsListed, IsClosedBlock, OnChart, IsClosed}
 use Rattle.fb_leaves.proofs.Charts.{on_charts}
 
 -- ---- one block
@@ -86,5 +87,11 @@ block_closed b c k h =
 
 -- ---- leaves
 
+leaf_closed : (kind : Kind) → OnChart IsClosedBlock kind → IsClosed kind
+leaf_closed (Charted block) h = h
+leaf_closed (Serviced service) h = tt
+
 pub all_charts_closed : (library : List BlockTree) (source : SourceTree) (system : System) → ElaboratesWith library source system → AllByRecursion (λ (d : Device). AllByRecursion (λ (leaf : Leaf). IsClosed leaf.kind) (leaves d)) system.devices
-all_charts_closed library source system h = on_charts IsClosedBlock block_closed library source system h
+all_charts_closed library source system h =
+    all_weaker (λ (d : Device). AllByRecursion (λ (leaf : Leaf). OnChart IsClosedBlock leaf.kind) (leaves d)) (λ (d : Device). AllByRecursion (λ (leaf : Leaf). IsClosed leaf.kind) (leaves d)) system.devices
+    (λ d a. all_weaker (λ (leaf : Leaf). OnChart IsClosedBlock leaf.kind) (λ (leaf : Leaf). IsClosed leaf.kind) (leaves d) (λ leaf o. leaf_closed leaf.kind o) a) (on_charts IsClosedBlock block_closed library source system h)

@@ -49,4 +49,5 @@ OnChart P (Charted block) = P block
 OnChart P (Serviced service) = Unit {0}
 
 abbrev pub IsClosed : Kind → Type 0
-IsClosed kind = OnChart IsClosedBlock kind
+IsClosed (Charted block) = IsClosedBlock block
+IsClosed (Serviced service) = Unit {0}
