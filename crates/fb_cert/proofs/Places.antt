@@ -9,12 +9,15 @@ use Rattle.fb_model.specs.Names.{Path, Place, path_eq, place_eq}
 use Rattle.fb_model.specs.Certificates as book
 use Rattle.fb_model.specs.CertificateText.{names_in, place_of, all_but_last, last_name}
 use Rattle.fb_cert.specs.declared.certificate.Amount.{Amount}
-use Rattle.fb_cert.specs.Views.{Table, first_at, amount_rows, depth_rows, steps_in, places_in, depth_in}
+use Rattle.fb_cert.specs.Views.{Table, first_at, range_rows, amount_rows, depth_rows, steps_in, places_in, depth_in}
 use Rattle.fb_cert.proofs.Deciding.{both_true, text_is}
 use Rattle.fb_cert.proofs.Tables.{entries_of}
 use Rattle.std.specs.declared.string.String.{String}
 use Rattle.std.specs.declared.alloc.Global.{Global}
-use Rattle.std.specs.Option.{option_map}
+use Rattle.std.specs.Option.{option_map, unwrap_or}
+use Rattle.fb_model.specs.Ranges.{row_at}
+use Rattle.fb_model.specs.Spans.{Span, span, whole}
+use Rattle.fb_model.specs.System.{Variable}
 use Rattle.std.proofs.lemmas.Option.{slice_get-map}
 
 -- two tests that tell the same are the same
@@ -94,6 +97,19 @@ depth_step true true a n r e h = refl
 depth_step false false a n r e h = h
 depth_step true false a n r e h = absurd (cc)
 depth_step false true a n r e h = absurd (cc)
+
+span_step : (b c : Bool) (s t d : Span) (r : Option Span) → b ≡ c → t ≡ unwrap_or r d → cond b s t ≡ unwrap_or (cond c (Some s) r) d
+span_step true true s t d r e h = refl
+span_step false false s t d r e h = h
+span_step true false s t d r e h = absurd (cc)
+span_step false true s t d r e h = absurd (cc)
+
+pub span_same : (rows : Table Span) (path : List ℕ) (v : Variable) → v.name ≡ last_name (names_in path) → row_at (range_rows rows) (all_but_last (names_in path)) v ≡ unwrap_or (first_at path rows) (whole v.type)
+span_same [] path v e = refl
+span_same (r ∷ rs) path v e =
+    let front : Bool = path_eq (all_but_last (names_in r.0)) (all_but_last (names_in path)) in
+    let test : (front && bytes_eq (last_name (names_in r.0)) v.name) ≡ bytes_eq path r.0 = ap (λ n. front && bytes_eq (last_name (names_in r.0)) n) e ∙ place_same r.0 path in
+    span_step (front && bytes_eq (last_name (names_in r.0)) v.name) (bytes_eq path r.0) (span r.1.low r.1.high) _ (whole v.type) (first_at path rs) test (span_same rs path v e)
 
 pub steps_same : (rows : Table Amount) (path : List ℕ) → book.amount (λ r. r.steps) (amount_rows rows) (place_of path) ≡ steps_in (first_at path rows)
 steps_same [] path = refl

@@ -1,11 +1,15 @@
 -- Tables of rows against maps.
-use Rattle.std.proofs.Common.{◌≡◌, ℕ, Bool, true, false, not, cond, ◌||◌, List, [], ◌∷◌, ◌++◌, map, Option, Some, is_some, refl, sym, ap, subst, ◌∙◌, string_bytes}
+use Rattle.std.proofs.Common.{◌≡◌, ℕ, Bool, true, false, not, cond, ◌||◌, List, [], ◌∷◌, ◌++◌, map, Option, Some, is_some, Result, Ok, Err, IfOk, refl, sym, ap, subst, ◌∙◌, string_bytes}
 use Rattle.std.specs.Map.{lookup}
 use Rattle.std.specs.Str.{bytes_eq}
 use Rattle.std.specs.declared.string.String.{String}
 use Rattle.std.specs.declared.alloc.Global.{Global}
 use Rattle.indexmap.specs.IndexMap.{insert_entry}
-use Rattle.fb_cert.specs.Views.{Table, first_at, has_path, Adds}
+use Rattle.fb_model.specs.Spans.{Span}
+use Rattle.fb_model.specs.CertificateText.{range}
+use Rattle.std.specs.Option.{option_map}
+use Rattle.fb_cert.specs.declared.bounds.Bounds.{Bounds}
+use Rattle.fb_cert.specs.Views.{Table, Rows, first_at, has_path, Adds, AddsRow, span_of, spans_of}
 
 abbrev pub entries_of : {V : Type 0} → List (String Global × V) → Table V
 entries_of es = map (λ e. (string_bytes e.0, e.1)) es
@@ -39,3 +43,37 @@ pub adds : {V : Type 0} (es new : List (String Global × V)) (k : String Global)
 adds es new k path v e h n =
     let g : has_path (string_bytes k) (entries_of es) ≡ false = subst (λ p. has_path p (entries_of es) ≡ false) (sym e) h in
     (sym (ap not h), ap entries_of n ∙ subst (λ p. entries_of (insert_entry (λ a b. bytes_eq (string_bytes a) (string_bytes b)) es k v) ≡ entries_of es ++ (p, v) ∷ []) e (entries_with es k v g))
+
+-- ---- bounds by their spans
+
+first_step : (b : Bool) (v : Bounds) (o : Option Bounds) (p : Option Span) → option_map span_of o ≡ p → option_map span_of (cond b (Some v) o) ≡ cond b (Some (span_of v)) p
+first_step true v o p h = refl
+first_step false v o p h = h
+
+pub first_span : (path : List ℕ) (rows : Table Bounds) → option_map span_of (first_at path rows) ≡ first_at path (spans_of rows)
+first_span path [] = refl
+first_span path (r ∷ rs) = first_step (bytes_eq path r.0) r.1 (first_at path rs) (first_at path (spans_of rs)) (first_span path rs)
+
+has_span : (path : List ℕ) (rows : Table Bounds) → has_path path (spans_of rows) ≡ has_path path rows
+has_span path [] = refl
+has_span path (r ∷ rs) = ap (λ b. bytes_eq path r.0 || b) (has_span path rs)
+
+with_span : (rows : Table Bounds) (path : List ℕ) (v : Bounds) → spans_of (rows ++ (path, v) ∷ []) ≡ spans_of rows ++ (path, span_of v) ∷ []
+with_span [] path v = refl
+with_span (r ∷ rs) path v = ap (λ x. (r.0, span_of r.1) ∷ x) (with_span rs path v)
+
+spans_step : (said : Bool) (rows : Table Bounds) (path : List ℕ) (v : Bounds) → spans_of (cond said (rows ++ (path, v) ∷ []) rows) ≡ cond said (spans_of rows ++ (path, span_of v) ∷ []) (spans_of rows)
+spans_step true rows path v = with_span rows path v
+spans_step false rows path v = refl
+
+-- what is added to bounds is added to their spans
+pub adds_span : (old new : Table Bounds) (path : List ℕ) (v : Bounds) (said : Bool) → Adds old path v new said → Adds (spans_of old) path (span_of v) (spans_of new) said
+adds_span old new path v said h = (h.0 ∙ ap not (sym (has_span path old)), ap spans_of h.1 ∙ spans_step said old path v)
+
+pub range_added : (old : Rows) (path : List ℕ) (v : Bounds) (new : Table Span) (said : Bool) → Adds old.ranges path (span_of v) new said → AddsRow old (range path v.low v.high) (record old { ranges = new }) said
+range_added old path v new true h = (h.0, ap (λ r. record old { ranges = r }) h.1)
+range_added old path v new false h = (h.0, ap (λ r. record old { ranges = r }) h.1)
+
+pub ok_so : {X E : Type 0} {P Q : X → Type 0} → ((x : X) → P x → Q x) → (r : Result X E) → IfOk r P → IfOk r Q
+ok_so f (Ok x) h = f x h
+ok_so f (Err e) h = tt

@@ -1,9 +1,11 @@
 -- Reading a certificate text from front to back, on lists.
-use Rattle.std.specs.Prelude.{ℕ, ◌+◌, ◌-◌, ◌*◌, ◌==◌, Bool, true, false, not, ◌&&◌, ◌||◌, List, [], ◌∷◌, length, nat_lt, codes, Option, Some, None, is_some, Result, Ok, Err, if◌then◌else◌}
+use Rattle.std.specs.Prelude.{ℕ, ◌+◌, ◌-◌, ◌*◌, ◌==◌, Bool, true, false, not, ◌&&◌, ◌||◌, List, [], ◌∷◌, length, nat_lt, codes, Option, Some, None, is_some, Result, Ok, Err, if◌then◌else◌, ℤ, pos, neg_ℤ, int_le}
+use Rattle.std.specs.Option.{option_map}
 use Rattle.std.specs.Str.{bytes_eq}
 use Rattle.std.specs.Str.Lines.{lines}
 use Rattle.fb_model.specs.Spelling.{is_digit, is_start, upper}
-use Rattle.fb_model.specs.CertificateText.{Entry, charge, weight, depth, words, begins_cert, most_steps, most_places, most_characters}
+use Rattle.fb_model.specs.CertificateText.{Entry, range, charge, weight, depth, words, begins_cert, most_steps, most_places, most_lint, most_characters}
+use Rattle.fb_model.specs.Spans.{Span, span}
 use Rattle.fb_cert.specs.declared.certificate.Amount.{Amount}
 use Rattle.fb_cert.specs.declared.fault.CertFault.{CertFault}
 use Rattle.fb_cert.specs.declared.fault.CertFault.TheVariants.{TooLong, Row, DuplicateRow}
@@ -23,6 +25,11 @@ at_least low (Some n) = if nat_lt n low then None else Some n
 abbrev pub number_in : ℕ → ℕ → List ℕ → Option ℕ
 number_in low high cs = if length cs == 0 then None else at_least low (digits_to high 0 cs)
 
+-- the number of LINT that digits write, perhaps behind a minus
+abbrev pub whole_in : List ℕ → Option ℤ
+whole_in [] = None
+whole_in (c ∷ cs) = if c == 45 then option_map (λ n. neg_ℤ (pos n)) (number_in 0 (most_lint + 1) cs) else option_map pos (number_in 0 most_lint (c ∷ cs))
+
 -- what is left of a path, where a name begins or goes on
 abbrev pub path_from : Bool → List ℕ → Bool
 path_from begins [] = not begins
@@ -41,6 +48,18 @@ both (Some s) (Some k) = Some (amount s k)
 abbrev pub amount_in : List ℕ → List ℕ → Option Amount
 amount_in s k = both (number_in 0 most_steps s) (number_in 0 most_places k)
 
+abbrev pub between : Option ℤ → Option ℤ → Option Span
+between None h = None
+between (Some l) None = None
+between (Some l) (Some h) = if int_le l h then Some (span l h) else None
+
+abbrev pub bounds_in : List ℕ → List ℕ → Option Span
+bounds_in l h = between (whole_in l) (whole_in h)
+
+abbrev pub with_bounds : List ℕ → Option Span → Option Entry
+with_bounds p None = None
+with_bounds p (Some s) = Some (range p s.low s.high)
+
 abbrev pub with_depth : List ℕ → Option ℕ → Option Entry
 with_depth p None = None
 with_depth p (Some n) = Some (depth p n)
@@ -53,7 +72,7 @@ with_amount w p None = None
 with_amount w p (Some a) = if bytes_eq w (codes "CHARGE") then Some (charge p a.steps a.places) else (if bytes_eq w (codes "WEIGHT") then Some (weight p a.steps a.places) else None)
 
 abbrev pub row_of_four : List ℕ → List ℕ → List ℕ → List ℕ → Option Entry
-row_of_four w p s k = if is_path p then with_amount w p (amount_in s k) else None
+row_of_four w p a b = if is_path p then (if bytes_eq w (codes "RANGE") then with_bounds p (bounds_in a b) else with_amount w p (amount_in a b)) else None
 
 abbrev pub entry_at : List (List ℕ) → Option Entry
 entry_at (w ∷ p ∷ d ∷ []) = row_of_three w p d

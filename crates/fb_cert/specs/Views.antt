@@ -1,17 +1,22 @@
 -- What certificates are, without where they lie in memory.
 use Rattle.std.specs.Prelude.{◌≡◌, ℕ, Bool, not, List, [], ◌∷◌, ◌++◌, map, string_bytes, Option, Some, None, if◌then◌else◌}
 use Rattle.std.specs.List.{list_any}
+use Rattle.std.specs.Option.{option_map, unwrap_or}
 use Rattle.std.specs.Str.{bytes_eq}
 use Rattle.std.specs.declared.string.String.{String}
 use Rattle.std.specs.declared.alloc.Global.{Global}
 use Rattle.indexmap.specs.IndexMap.{IndexMap}
+use Rattle.fb_cert.specs.declared.bounds.Bounds.{Bounds}
 use Rattle.fb_cert.specs.declared.certificate.Amount.{Amount}
 use Rattle.fb_cert.specs.declared.certificate.Certificate.{Certificate}
 use denote.Ref.{Bor}
 use Rattle.fb_model.specs.Certificates as book
-use Rattle.fb_model.specs.CertificateText.{row_of, depth_row, Entry, charge, weight, depth}
+use Rattle.fb_model.specs.Ranges.{Range}
+use Rattle.fb_model.specs.Spans.{Span, span, whole}
+use Rattle.fb_model.specs.System.{Variable}
+use Rattle.fb_model.specs.CertificateText.{range_row, row_of, depth_row, Entry, range, charge, weight, depth}
 use Rattle.fb_cert.specs.declared.row.Row.{Row}
-use Rattle.fb_cert.specs.declared.row.Row.TheVariants.{Charge, Weight, Depth}
+use Rattle.fb_cert.specs.declared.row.Row.TheVariants as kinds
 
 -- the rows of a kind, each by its path
 abbrev pub Table : Type 0 → Type 0
@@ -32,17 +37,28 @@ has_path path rows = list_any (λ r. bytes_eq path r.0) rows
 abbrev pub Adds : {V : Type 0} → Table V → List ℕ → V → Table V → Bool → Type 0
 Adds old path value new said = (said ≡ not (has_path path old)) × (new ≡ (if said then old ++ (path, value) ∷ [] else old))
 
+abbrev pub span_of : Bounds → Span
+span_of b = span b.low b.high
+
+-- the paths with the spans of their bounds
+abbrev pub spans_of : Table Bounds → Table Span
+spans_of rows = map (λ r. (r.0, span_of r.1)) rows
+
 -- the rows of a text by their kinds
 pub record Rows : Type 0 where
+  pub ranges : Table Span
   pub charges : Table Amount
   pub weights : Table Amount
   pub depths : Table ℕ
 
 abbrev pub no_rows : Rows
-no_rows = record { charges = []; weights = []; depths = [] }
+no_rows = record { ranges = []; charges = []; weights = []; depths = [] }
 
 abbrev pub rows_of : Certificate → Rows
-rows_of c = record { charges = texts_of c.charges; weights = texts_of c.weights; depths = texts_of c.depths }
+rows_of c = record { ranges = spans_of (texts_of c.ranges); charges = texts_of c.charges; weights = texts_of c.weights; depths = texts_of c.depths }
+
+abbrev pub range_rows : Table Span → List Range
+range_rows rows = map (λ r. range_row r.0 r.1.low r.1.high) rows
 
 abbrev pub amount_rows : Table Amount → List book.Row
 amount_rows rows = map (λ r. row_of r.0 r.1.steps r.1.places) rows
@@ -51,7 +67,7 @@ abbrev pub depth_rows : Table ℕ → List book.DepthRow
 depth_rows rows = map (λ r. depth_row r.0 r.1) rows
 
 abbrev pub book_of : Rows → book.Certificate
-book_of rows = record { ranges = []; charges = amount_rows rows.charges; weights = amount_rows rows.weights; depths = depth_rows rows.depths; repeats = None; fars = []; far_states = []; channels = [] }
+book_of rows = record { ranges = range_rows rows.ranges; charges = amount_rows rows.charges; weights = amount_rows rows.weights; depths = depth_rows rows.depths; repeats = None; fars = []; far_states = []; channels = [] }
 
 -- the certificate that the checker speaks of
 abbrev pub certificate_of : Certificate → book.Certificate
@@ -64,9 +80,10 @@ abbrev pub texts : List (Bor (List ℕ)) → List (List ℕ)
 texts words = map (λ w. w.now) words
 
 abbrev pub entry_of : Row → Entry
-entry_of (Charge path a) = charge path.now a.steps a.places
-entry_of (Weight path a) = weight path.now a.steps a.places
-entry_of (Depth path n) = depth path.now n
+entry_of (kinds.Range path b) = range path.now b.low b.high
+entry_of (kinds.Charge path a) = charge path.now a.steps a.places
+entry_of (kinds.Weight path a) = weight path.now a.steps a.places
+entry_of (kinds.Depth path n) = depth path.now n
 
 abbrev pub row_seen : Option Row → Option Entry
 row_seen None = None
@@ -77,15 +94,17 @@ amount steps places = record { steps = steps; places = places }
 
 -- the row's path stands already in a row of its kind
 abbrev pub has_row : Entry → Rows → Bool
+has_row (range p l h) rows = has_path p rows.ranges
 has_row (charge p s k) rows = has_path p rows.charges
 has_row (weight p s k) rows = has_path p rows.weights
 has_row (depth p n) rows = has_path p rows.depths
 
 -- the rows with one more at the end
 abbrev pub with_row : Entry → Rows → Rows
-with_row (charge p s k) rows = record { charges = rows.charges ++ (p, amount s k) ∷ []; weights = rows.weights; depths = rows.depths }
-with_row (weight p s k) rows = record { charges = rows.charges; weights = rows.weights ++ (p, amount s k) ∷ []; depths = rows.depths }
-with_row (depth p n) rows = record { charges = rows.charges; weights = rows.weights; depths = rows.depths ++ (p, n) ∷ [] }
+with_row (range p l h) rows = record { ranges = rows.ranges ++ (p, span l h) ∷ []; charges = rows.charges; weights = rows.weights; depths = rows.depths }
+with_row (charge p s k) rows = record { ranges = rows.ranges; charges = rows.charges ++ (p, amount s k) ∷ []; weights = rows.weights; depths = rows.depths }
+with_row (weight p s k) rows = record { ranges = rows.ranges; charges = rows.charges; weights = rows.weights ++ (p, amount s k) ∷ []; depths = rows.depths }
+with_row (depth p n) rows = record { ranges = rows.ranges; charges = rows.charges; weights = rows.weights; depths = rows.depths ++ (p, n) ∷ [] }
 
 abbrev pub AddsRow : Rows → Entry → Rows → Bool → Type 0
 AddsRow old e new said = (said ≡ not (has_row e old)) × (new ≡ (if said then with_row e old else old))
@@ -104,9 +123,20 @@ abbrev pub depth_in : Option ℕ → ℕ
 depth_in None = 0
 depth_in (Some n) = n
 
+-- where a variable has no row, all numbers of its type
+abbrev pub span_in : Variable → Option Bounds → Span
+span_in v b = unwrap_or (option_map span_of b) (whole v.type)
+
+-- a row of a range, by its span
+abbrev pub span_shown : (Bor (List ℕ)) × Bounds → (List ℕ) × Span
+span_shown p = (p.0.now, span_of p.1)
+
 -- a row in the book's form
 abbrev pub row_shown : (Bor (List ℕ)) × Amount → book.Row
 row_shown p = row_of p.0.now p.1.steps p.1.places
 
 abbrev pub depth_shown : (Bor (List ℕ)) × ℕ → book.DepthRow
 depth_shown p = depth_row p.0.now p.1
+
+abbrev pub range_shown : (Bor (List ℕ)) × Bounds → Range
+range_shown p = range_row p.0.now p.1.low p.1.high

@@ -2,10 +2,13 @@
 
 ghost use Rattle.std.specs.Prelude.{◌≡◌, ◌<◌, length, slice_get, IfOk, OnOk, Some, None};
 ghost use Rattle.std.specs.Option.{option_map};
-ghost use Rattle.fb_cert.specs.Views.{rows_of, no_rows, texts_of, first_at, Adds, AddsRow, entry_of, shown, row_shown, depth_shown, certificate_of, steps_in, places_in, depth_in};
+ghost use Rattle.fb_cert.specs.Views.{rows_of, no_rows, texts_of, first_at, Adds, AddsRow, entry_of, shown, span_of, span_shown, row_shown, depth_shown, range_shown, certificate_of, steps_in, places_in, depth_in, span_in};
 ghost use Rattle.fb_model.specs.Certificates as book;
-ghost use Rattle.fb_model.specs.CertificateText.{place_of, names_in};
+ghost use Rattle.fb_model.specs.CertificateText.{place_of, names_in, all_but_last, last_name};
+ghost use Rattle.fb_model.specs.Ranges.{row_at};
+ghost use Rattle.fb_model.specs.System.{Variable};
 
+use crate::bounds::Bounds;
 use crate::row::Row;
 use indexmap::IndexMap;
 use std::alloc::{AllocError, Global};
@@ -20,6 +23,7 @@ pub struct Amount {
 /// The rows of a certificate in text order, by the path that each names. Paths are in upper case, their names joined by dots.
 #[derive(Drop)]
 pub struct Certificate {
+    ranges: IndexMap<String, Bounds>,
     charges: IndexMap<String, Amount>,
     weights: IndexMap<String, Amount>,
     depths: IndexMap<String, u64>,
@@ -47,6 +51,7 @@ impl Certificate {
         ensures { rows_of result ≡ no_rows }
     {
         Certificate {
+            ranges: IndexMap::new(alloc),
             charges: IndexMap::new(alloc),
             weights: IndexMap::new(alloc),
             depths: IndexMap::new(alloc),
@@ -58,10 +63,19 @@ impl Certificate {
         ensures { IfOk result (λ new. AddsRow (rows_of self.old) (entry_of row.entry) (rows_of self.new) new) }
     {
         match row {
+            Row::Range(path, bounds) => add(alloc, &mut self.ranges, path, bounds),
             Row::Charge(path, amount) => add(alloc, &mut self.charges, path, amount),
             Row::Weight(path, amount) => add(alloc, &mut self.weights, path, amount),
             Row::Depth(path, depth) => add(alloc, &mut self.depths, path, depth),
         }
+    }
+
+    /// The row `RANGE` of a variable.
+    pub fn range(&self, path: &str) -> Option<Bounds>
+        ensures row { option_map span_of result ≡ first_at path.now (rows_of self.now).ranges }
+        ensures span { (v : Variable) → v.name ≡ last_name (names_in path.now) → span_in v result ≡ row_at (certificate_of self.now).ranges (all_but_last (names_in path.now)) v }
+    {
+        self.ranges.get(path).copied()
     }
 
     /// The row `CHARGE` of a state.
@@ -90,6 +104,13 @@ impl Certificate {
         self.depths.get(path).copied()
     }
 
+    /// How many rows `RANGE` there are.
+    pub fn range_count(&self) -> usize
+        ensures { result ≡ length (rows_of self.now).ranges }
+    {
+        self.ranges.len()
+    }
+
     /// How many rows `CHARGE` there are.
     pub fn charge_count(&self) -> usize
         ensures { result ≡ length (rows_of self.now).charges }
@@ -109,6 +130,15 @@ impl Certificate {
         ensures { result ≡ length (rows_of self.now).depths }
     {
         self.depths.len()
+    }
+
+    /// The row `RANGE` at an index in text order, with its path.
+    pub fn range_at(&self, index: usize) -> Option<(&str, Bounds)>
+        ensures row { option_map span_shown result ≡ slice_get (rows_of self.now).ranges index }
+        ensures book { option_map range_shown result ≡ slice_get (certificate_of self.now).ranges index }
+    {
+        let (path, bounds) = self.ranges.get_index(index)?;
+        Some((path.as_str(), *bounds))
     }
 
     /// The row `CHARGE` at an index in text order, with its path.

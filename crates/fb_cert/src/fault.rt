@@ -14,7 +14,8 @@ pub enum CertFault {
     /// The text has more than 16,777,216 bytes. Code 4.
     TooLong,
     /// The row in the line cannot stand there: the first is not `CERT 1`, its first word is none of a row, it has too few or too
-    /// many words, or one of them is no path or no number within bounds. It is line 1 if the text has no rows. Code 30.
+    /// many words, one of them is no path or no number within bounds, or the least number of a range is above its greatest. It is
+    /// line 1 if the text has no rows. Code 30.
     Row(usize),
     /// The row in the line is a second `CERT`, or names the path of an earlier row of its kind. Code 31.
     DuplicateRow(usize),

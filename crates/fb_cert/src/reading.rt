@@ -108,11 +108,11 @@ fn read_text(alloc: Global, text: &str) -> Result<Certificate, CertFault>
     read_lines(alloc, upper.as_str())
 }
 
-/// The certificate that a text spells: `CERT 1`, and then a row a line, as `CHARGE D.R.C.START 0 0`, `WEIGHT D.R.C.EI 3 1` or
-/// `DEPTH D.R 1`. Letter case has no meaning.
+/// The certificate that a text spells: `CERT 1`, and then a row a line, as `RANGE D.R.C.V -1 9`, `CHARGE D.R.C.START 0 0`,
+/// `WEIGHT D.R.C.EI 3 1` or `DEPTH D.R 1`. Letter case has no meaning.
 ///
-/// Steps are at most 1,000,000,000,000 and places at most 4096; a depth is 1 to 4096. Words stand between spaces, and lines without
-/// words have no meaning but are counted.
+/// The two numbers of a range are those of LINT, the second no less than the first. Steps are at most 1,000,000,000,000 and places
+/// at most 4096; a depth is 1 to 4096. Words stand between spaces, and lines without words have no meaning but are counted.
 pub fn parse_cert(alloc: Global, text: &str) -> Result<Certificate, CertFault>
     // What is answered is what the text spells, and the text is not too long.
     ensures found { IfOk result (λ c. Spells text.now (certificate_of c)) }

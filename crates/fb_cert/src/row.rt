@@ -1,11 +1,13 @@
 //! Rows of a certificate text, from the words of a line in upper case.
 
-ghost use Rattle.std.specs.Prelude.{◌≡◌, ◌≤◌, ◌<◌, ◌^◌};
+ghost use Rattle.std.specs.Prelude.{◌≡◌, ◌≤◌, ◌+◌, pos, neg_ℤ};
+ghost use Rattle.std.specs.Option.{option_map};
 ghost use Rattle.fb_model.specs.Spelling.{is_digit, is_start};
-ghost use Rattle.fb_model.specs.CertificateText.{most_steps, begins_cert};
-ghost use Rattle.fb_cert.specs.Views.{texts, row_seen};
-ghost use Rattle.fb_cert.specs.Reading.{number_in, path_from, is_path, amount_in, row_of_three, row_of_four, entry_at, is_head};
+ghost use Rattle.fb_model.specs.CertificateText.{most_lint, begins_cert};
+ghost use Rattle.fb_cert.specs.Views.{span_of, texts, row_seen};
+ghost use Rattle.fb_cert.specs.Reading.{number_in, whole_in, bounds_in, path_from, is_path, amount_in, row_of_three, row_of_four, entry_at, is_head};
 
+use crate::bounds::Bounds;
 use crate::certificate::Amount;
 
 /// The most steps of a row.
@@ -14,9 +16,13 @@ const MOST_STEPS: u64 = 1_000_000_000_000;
 /// The most places of a row, and the most depth.
 const MOST_PLACES: u64 = 4096;
 
+/// The greatest number of LINT.
+const MOST_LINT: u64 = 9_223_372_036_854_775_807;
+
 /// A row after the first.
 #[derive(Clone, Copy, Debug)]
 pub(crate) enum Row<'a> {
+    Range(&'a str, Bounds),
     Charge(&'a str, Amount),
     Weight(&'a str, Amount),
     Depth(&'a str, u64),
@@ -36,23 +42,58 @@ fn is_start(byte: u8) -> bool
 
 // The number that digits write, if it lies within the bounds.
 fn read_number(word: &str, low: u64, high: u64) -> Option<u64>
-    requires { high ≤ most_steps }
     ensures { result ≡ number_in low high word.now }
 {
-    let mut number = 0;
+    let mut number: u128 = 0;
     for byte in word.as_bytes() {
         if !is_digit(*byte) {
             return None;
         }
-        number = number * 10 + (*byte - b'0') as u64;
-        if number > high {
+        number = number * 10 + (*byte - b'0') as u128;
+        if number > high as u128 {
             return None;
         }
     }
-    if word.is_empty() || number < low {
+    if word.is_empty() || number < low as u128 {
         return None;
     }
-    Some(number)
+    Some(number as u64)
+}
+
+// The number below 0, or 0, of a size.
+fn negative(size: u64) -> i64
+    requires { size ≤ most_lint + 1 }
+    ensures { result ≡ neg_ℤ (pos size) }
+{
+    (-i128::from(size)) as i64
+}
+
+// The number of LINT whose digits stand behind a minus.
+#[tactic(auto, using(crate::proofs::Numbers::number_most))]
+fn read_negative(digits: &str) -> Option<i64>
+    ensures { result ≡ option_map (λ n. neg_ℤ (pos n)) (number_in 0 (most_lint + 1) digits.now) }
+{
+    let size = read_number(digits, 0, MOST_LINT + 1)?;
+    Some(negative(size))
+}
+
+// The number of LINT that digits write.
+#[tactic(auto, using(crate::proofs::Numbers::number_most))]
+fn read_plain(digits: &str) -> Option<i64>
+    ensures { result ≡ option_map pos (number_in 0 most_lint digits.now) }
+{
+    let size = read_number(digits, 0, MOST_LINT)?;
+    Some(size as i64)
+}
+
+// The number of LINT that digits write, perhaps behind a minus.
+fn read_whole(word: &str) -> Option<i64>
+    ensures { result ≡ whole_in word.now }
+{
+    match word.strip_prefix('-') {
+        Some(digits) => read_negative(digits),
+        None => read_plain(word),
+    }
 }
 
 // Whether names stand there, joined by dots.
@@ -83,6 +124,14 @@ fn read_amount(steps: &str, places: &str) -> Option<Amount>
     Some(Amount { steps, places })
 }
 
+fn read_bounds(low: &str, high: &str) -> Option<Bounds>
+    ensures { option_map span_of result ≡ bounds_in low.now high.now }
+{
+    let low = read_whole(low)?;
+    let high = read_whole(high)?;
+    Bounds::new(low, high)
+}
+
 fn row_of_three<'a>(word: &str, path: &'a str, depth: &str) -> Option<Row<'a>>
     ensures { row_seen result ≡ row_of_three word.now path.now depth.now }
 {
@@ -93,13 +142,16 @@ fn row_of_three<'a>(word: &str, path: &'a str, depth: &str) -> Option<Row<'a>>
     Some(Row::Depth(path, depth))
 }
 
-fn row_of_four<'a>(word: &str, path: &'a str, steps: &str, places: &str) -> Option<Row<'a>>
-    ensures { row_seen result ≡ row_of_four word.now path.now steps.now places.now }
+fn row_of_four<'a>(word: &str, path: &'a str, first: &str, second: &str) -> Option<Row<'a>>
+    ensures { row_seen result ≡ row_of_four word.now path.now first.now second.now }
 {
     if !is_path(path) {
         return None;
     }
-    let amount = read_amount(steps, places)?;
+    if word == "RANGE" {
+        return Some(Row::Range(path, read_bounds(first, second)?));
+    }
+    let amount = read_amount(first, second)?;
     if word == "CHARGE" {
         return Some(Row::Charge(path, amount));
     }
@@ -115,7 +167,7 @@ pub(crate) fn read_row<'a>(words: &[&'a str]) -> Option<Row<'a>>
 {
     match words {
         [word, path, depth] => row_of_three(word, path, depth),
-        [word, path, steps, places] => row_of_four(word, path, steps, places),
+        [word, path, first, second] => row_of_four(word, path, first, second),
         _ => None,
     }
 }

@@ -1,4 +1,4 @@
-use super::{Amount, CertFault, parse_cert};
+use super::{Amount, Bounds, CertFault, parse_cert};
 use std::test::Fail;
 
 const SAMPLE: &str =
@@ -130,6 +130,53 @@ fn holds_the_bounds(rt: HostRuntime) {
     assert_eq!(rt; refusal(alloc, "CERT 1\nDEPTH D.R 4096"), OK);
 }
 
+#[test]
+fn reads_ranges(rt: HostRuntime) -> Result<(), Fail> {
+    let certificate = parse_cert(
+        rt.alloc(),
+        "CERT 1\nRANGE D.R.C.CV 0 9\nrange d.r.c.low -9223372036854775808 -0\nRANGE D.R.C.HIGH -007 09223372036854775807\nCHARGE D.R.C.CV 1 0\n",
+    )?;
+    assert_eq!(rt; certificate.range_count(), 3);
+    assert_eq!(rt; certificate.range("D.R.C.CV"), Bounds::new(0, 9));
+    assert_eq!(rt;
+        certificate.range("D.R.C.LOW"),
+        Bounds::new(-9_223_372_036_854_775_808, 0)
+    );
+    let (path, bounds) = certificate.range_at(2).ok_or("three ranges")?;
+    assert_eq!(rt; path, "D.R.C.HIGH");
+    assert_eq!(rt; bounds.low, -7);
+    assert_eq!(rt; bounds.high, 9_223_372_036_854_775_807);
+    assert_eq!(rt; certificate.range("D.R.C.OTHER"), None);
+    assert!(rt; certificate.range_at(3).is_none());
+    assert_eq!(rt; certificate.charge_count(), 1);
+    Ok(())
+}
+
+#[test]
+fn holds_the_bounds_of_a_range(rt: HostRuntime) -> Result<(), Fail> {
+    let alloc = rt.alloc();
+    let cases: [(&str, (u8, usize)); 12] = [
+        ("5 5", OK),
+        ("5 4", (30, 3)),
+        ("1 -1", (30, 3)),
+        ("-9223372036854775808 9223372036854775807", OK),
+        ("-9223372036854775809 0", (30, 3)),
+        ("0 9223372036854775808", (30, 3)),
+        ("0 36893488147419103232", (30, 3)),
+        ("- 0", (30, 3)),
+        ("--1 0", (30, 3)),
+        ("+1 2", (30, 3)),
+        ("0 1-", (30, 3)),
+        ("0x0 9", (30, 3)),
+    ];
+    for case in &cases {
+        let (numbers, wanted) = *case;
+        let text = format!(in alloc; "CERT 1\n\nRANGE D.R.C.X {numbers}\n")?;
+        assert_eq!(rt; refusal(alloc, text.as_str()), wanted);
+    }
+    Ok(())
+}
+
 fn line_feeds(alloc: std::alloc::Global, count: usize) -> Result<String, std::alloc::AllocError> {
     "\n".repeat(alloc, count)
 }
@@ -168,7 +215,10 @@ fn wants_the_first_row(rt: HostRuntime) {
 #[test]
 fn refuses_what_is_no_row(rt: HostRuntime) {
     let alloc = rt.alloc();
-    assert_eq!(rt; refusal(alloc, "CERT 1\nRANGE D.R.C.X 0 9"), (30, 2));
+    assert_eq!(rt; refusal(alloc, "CERT 1\nSPAN D.R.C.X 0 9"), (30, 2));
+    assert_eq!(rt; refusal(alloc, "CERT 1\nRANGE D.R.C.X 0"), (30, 2));
+    assert_eq!(rt; refusal(alloc, "CERT 1\nRANGE D.R.C.X 0 9 9"), (30, 2));
+    assert_eq!(rt; refusal(alloc, "CERT 1\nCHARGE D.R.C.X -1 0"), (30, 2));
     assert_eq!(rt; refusal(alloc, "CERT 1\nDEPTH D..R 1"), (30, 2));
     assert_eq!(rt; refusal(alloc, "CERT 1\nDEPTH D.R. 1"), (30, 2));
     assert_eq!(rt; refusal(alloc, "CERT 1\nDEPTH 1D 1"), (30, 2));
@@ -193,6 +243,14 @@ fn refuses_rows_that_repeat(rt: HostRuntime) {
     assert_eq!(rt;
         refusal(alloc, "CERT 1\nDEPTH D.R 1\n\nDEPTH D.R 2"),
         (31, 4)
+    );
+    assert_eq!(rt;
+        refusal(alloc, "CERT 1\nRANGE D.R.C.X 0 9\nrange d.r.c.x 0 8"),
+        (31, 3)
+    );
+    assert_eq!(rt;
+        refusal(alloc, "CERT 1\nCHARGE D.R.C.X 1 0\nRANGE D.R.C.X 0 9"),
+        OK
     );
 }
 

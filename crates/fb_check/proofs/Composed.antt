@@ -2,16 +2,16 @@
 use Rattle.std.proofs.Common.{◌≡◌, ℕ, List, [], ◌∷◌, map}
 use Rattle.std.specs.List.{AllByRecursion}
 use Rattle.fb_model.specs.System.{Device, System}
-use Rattle.fb_model.specs.Wires.{Leaf, leaves}
-use Rattle.fb_model.specs.Ranges.{Range, LeafLies, all_typed}
+use Rattle.fb_model.specs.StructuredTextGrammar.{most_nested, most_nested_statements}
+use Rattle.fb_model.specs.Wires.{Kind, Charted, Serviced, Leaf, leaves}
+use Rattle.fb_model.specs.Ranges.{Range, LeafLies, LeafClears, KindClears}
 use Rattle.fb_model.specs.Certificates as book
-use Rattle.fb_model.specs.Certificates.{IsWired, ColumnFits, DeviceFits, AllRows, all_ranges, steps_of, places_of}
+use Rattle.fb_model.specs.Certificates.{IsWired, ColumnFits, DeviceFits, AllRows, steps_of, places_of}
 use Rattle.fb_model.proofs.Lists.{all_both, all_weaker}
 use Rattle.fb_spelled.specs.Words.{IsWordyLeaf, IsWordyDevice}
-use Rattle.fb_leaves.specs.Leaves.{LiesByTypes, IsIdle, IsClosed}
+use Rattle.fb_leaves.specs.Leaves.{IsClosed}
 use Rattle.fb_leaves.proofs.Wired.{all_wired}
-use Rattle.fb_leaves.proofs.Values.{all_lie}
-use Rattle.fb_leaves.proofs.Idle.{lies}
+use Rattle.fb_clear.proofs.Leaves.{clear_systems_lie}
 use Rattle.fb_leaves.proofs.Closed.{all_charts_closed}
 use Rattle.fb_cert.specs.declared.certificate.Certificate.{Certificate}
 use Rattle.fb_cert.specs.Views.{certificate_of}
@@ -21,10 +21,10 @@ use Rattle.fb_columns.specs.fb_flat.Tables.{AreDevices}
 use Rattle.fb_columns.proofs.of_fb_flat.Read.{devices_are}
 use Rattle.fb_columns.specs.Columns.{column_of}
 use Rattle.fb_columns.specs.declared.column.Column.TheVariants.{Steps, Places}
-use Rattle.fb_columns.specs.Fitting.{IsKnownLeaf, AreKnown, AllPay}
+use Rattle.fb_rows.specs.Fitting.{AllClear, IsKnownLeaf as IsPlainLeaf, AreKnown as ArePlain}
+use Rattle.fb_columns.specs.Fitting.{AlgorithmsClear, IsKnownLeaf, AreKnown, AllPay}
 use Rattle.fb_depths.specs.Depths.{IsDeep}
 use Rattle.fb_model.specs.Certificates.{FollowsFew, Fits}
-use Rattle.fb_check.specs.Idle.{AreIdle}
 use Rattle.fb_check.specs.Verdicts.{IsWritten}
 use Rattle.fb_check.proofs.Reading.{words}
 
@@ -32,42 +32,54 @@ use Rattle.fb_check.proofs.Reading.{words}
 pub tables_are : (s : System) (fs : List FlatDevice) → IsWritten s → map flat_device fs ≡ map written_device s.devices → AreDevices fs s.devices
 tables_are s fs w e = devices_are fs s.devices e (words s w)
 
-known_leaves : (ds : List Device) → AllByRecursion IsWordyDevice ds → AllByRecursion (λ (d : Device). AllByRecursion (λ (leaf : Leaf). IsClosed leaf.kind) (leaves d)) ds → AllByRecursion (λ (d : Device). AllByRecursion (λ (leaf : Leaf). IsIdle leaf.kind) (leaves d)) ds
-    → AllByRecursion (λ (d : Device). AllByRecursion IsKnownLeaf (leaves d)) ds
-known_leaves [] w c i = tt
-known_leaves (d ∷ ds) w c i = (
-  all_both IsWordyLeaf (λ (leaf : Leaf). IsClosed leaf.kind × IsIdle leaf.kind) IsKnownLeaf (leaves d) (λ leaf a b. record { words = a; closed = b.0; idle = b.1 }) w.0.leaves
-      (all_both (λ (leaf : Leaf). IsClosed leaf.kind) (λ (leaf : Leaf). IsIdle leaf.kind) (λ (leaf : Leaf). IsClosed leaf.kind × IsIdle leaf.kind) (leaves d) (λ leaf a b. (a, b)) c.0 i.0),
-  known_leaves ds w.1 c.1 i.1,
+-- where all is clear under rows, leaves keep these
+lies : (s : System) (ranges : List Range) → IsWritten s → AllClear ranges s → AllByRecursion (λ (d : Device). AllByRecursion (LeafLies ranges (leaves d)) (leaves d)) s.devices
+lies s ranges (beforehand, text, is) clear =
+    let l = is.typed.spelled in
+    let x = is.source_is in
+    clear_systems_lie l.0 x.0 most_nested most_nested_statements most_nested most_nested_statements is.typed.library is.source s l.2 x.2 is.typed.typed ranges clear
+
+algorithms : (ranges : List Range) (all : List Leaf) (leaf : Leaf) (kind : Kind) → KindClears ranges all leaf.path leaf.source kind → AlgorithmsClear ranges leaf.path kind
+algorithms ranges all leaf (Charted block) h = h.algorithms
+algorithms ranges all leaf (Serviced service) h = tt
+
+plain_leaves : (ds : List Device) → AllByRecursion IsWordyDevice ds → AllByRecursion (λ (d : Device). AllByRecursion (λ (leaf : Leaf). IsClosed leaf.kind) (leaves d)) ds → AllByRecursion (λ (d : Device). AllByRecursion IsPlainLeaf (leaves d)) ds
+plain_leaves [] w c = tt
+plain_leaves (d ∷ ds) w c = (all_both IsWordyLeaf (λ (leaf : Leaf). IsClosed leaf.kind) IsPlainLeaf (leaves d) (λ leaf a b. record { words = a; closed = b }) w.0.leaves c.0, plain_leaves ds w.1 c.1)
+
+-- what is known of the leaves of a system that stands in texts
+pub plain : (s : System) → IsWritten s → ArePlain s
+plain s w = plain_leaves s.devices (words s w) (all_charts_closed _ _ s w.2.typed.typed)
+
+known_leaves : (ranges : List Range) (ds : List Device) → AllByRecursion (λ (d : Device). AllByRecursion IsPlainLeaf (leaves d)) ds → AllByRecursion (λ (d : Device). AllByRecursion (LeafClears ranges (leaves d)) (leaves d)) ds
+    → AllByRecursion (λ (d : Device). AllByRecursion (IsKnownLeaf ranges) (leaves d)) ds
+known_leaves ranges [] p l = tt
+known_leaves ranges (d ∷ ds) p l = (
+  all_both IsPlainLeaf (LeafClears ranges (leaves d)) (IsKnownLeaf ranges) (leaves d) (λ leaf a b. record { words = a.words; closed = a.closed; clear = algorithms ranges (leaves d) leaf leaf.kind b }) p.0 l.0,
+  known_leaves ranges ds p.1 l.1,
 )
 
--- what is known of the leaves of a system that stands in texts and is idle
-pub known : (s : System) → IsWritten s → AreIdle s → AreKnown s
-known s w i = known_leaves s.devices (words s w) (all_charts_closed _ _ s w.2.typed.typed) i
+-- and where all is clear under rows
+pub known : (s : System) (ranges : List Range) → IsWritten s → AllClear ranges s → AreKnown ranges s
+known s ranges w l = known_leaves ranges s.devices (plain s w) l
 
-devices_fit : (cert : Certificate) (ds : List Device)
+devices_fit : (cert : book.Certificate) (ds : List Device)
     → AllByRecursion (λ (d : Device). AllByRecursion (IsWired (leaves d)) (leaves d)) ds
-    → AllByRecursion (λ (d : Device). AllByRecursion (LiesByTypes (all_typed (leaves d)) (leaves d)) (leaves d)) ds
-    → AllByRecursion (λ (d : Device). AllByRecursion (λ (leaf : Leaf). IsIdle leaf.kind) (leaves d)) ds
-    → AllByRecursion (λ (d : Device). (ranges : List Range) → ColumnFits (steps_of (certificate_of cert)) ranges (leaves d)) ds
-    → AllByRecursion (λ (d : Device). (ranges : List Range) → ColumnFits (places_of (certificate_of cert)) ranges (leaves d)) ds
-    → AllByRecursion (IsDeep (certificate_of cert)) ds
-    → AllByRecursion (DeviceFits (certificate_of cert)) ds
-devices_fit cert [] w l i s p a = tt
-devices_fit cert (d ∷ ds) w l i s p a = (
-  record {
-    wired = w.0;
-    ranges = all_both (LiesByTypes (all_typed (leaves d)) (leaves d)) (λ (leaf : Leaf). IsIdle leaf.kind) (LeafLies (all_ranges (certificate_of cert) d) (leaves d)) (leaves d) (λ leaf x y. lies (all_typed (leaves d)) (leaves d) leaf x y) l.0 i.0;
-    steps = s.0 (all_ranges (certificate_of cert) d);
-    places = p.0 (all_ranges (certificate_of cert) d);
-    arrivals = a.0.arrivals;
-    begins = a.0.begins;
-  },
-  devices_fit cert ds w.1 l.1 i.1 s.1 p.1 a.1,
-)
+    → AllByRecursion (λ (d : Device). AllByRecursion (LeafLies cert.ranges (leaves d)) (leaves d)) ds
+    → AllByRecursion (λ (d : Device). ColumnFits (steps_of cert) cert.ranges (leaves d)) ds
+    → AllByRecursion (λ (d : Device). ColumnFits (places_of cert) cert.ranges (leaves d)) ds
+    → AllByRecursion (IsDeep cert) ds
+    → AllByRecursion (DeviceFits cert) ds
+devices_fit cert [] w l s p a = tt
+devices_fit cert (d ∷ ds) w l s p a = (record { wired = w.0; ranges = l.0; steps = s.0; places = p.0; arrivals = a.0.arrivals; begins = a.0.begins }, devices_fit cert ds w.1 l.1 s.1 p.1 a.1)
 
 -- all parts hold, so the certificate fits
-pub fits_by : (s : System) (cert : Certificate) → IsWritten s → AllByRecursion FollowsFew s.devices → AllRows s (certificate_of cert) → AreIdle s
-    → AllPay (column_of Steps (certificate_of cert)) s → AllPay (column_of Places (certificate_of cert)) s → AllByRecursion (IsDeep (certificate_of cert)) s.devices → Fits s (certificate_of cert)
-fits_by s cert w few rows idle steps places deep =
-    record { followed = few; rows = rows; devices = devices_fit cert s.devices (all_wired _ _ s w.2.typed.typed) (all_lie _ _ s w.2.typed.typed) idle steps places deep }
+pub fits_by : (s : System) (cert : Certificate) → IsWritten s → AllByRecursion FollowsFew s.devices → AllRows s (certificate_of cert) → AllClear (certificate_of cert).ranges s
+    → AllPay (column_of Steps (certificate_of cert)) (certificate_of cert).ranges s → AllPay (column_of Places (certificate_of cert)) (certificate_of cert).ranges s → AllByRecursion (IsDeep (certificate_of cert)) s.devices → Fits s (certificate_of cert)
+fits_by s cert w few rows clear steps places deep =
+    record {
+      followed = few;
+      rows = rows;
+      clear = clear;
+      devices = devices_fit (certificate_of cert) s.devices (all_wired _ _ s w.2.typed.typed) (lies s (certificate_of cert).ranges w clear) steps places deep;
+    }

@@ -7,10 +7,9 @@ use Rattle.fb_model.specs.Wires as wires
 use Rattle.fb_model.specs.Wires.{Kind, Charted, Serviced, leaves}
 use Rattle.fb_model.specs.Ranges.{Range}
 use Rattle.fb_model.specs.Certificates as certs
-use Rattle.fb_model.specs.Certificates.{ColumnFits, DeviceFits, all_ranges}
+use Rattle.fb_model.specs.Certificates.{ColumnFits, DeviceFits}
 use Rattle.fb_model.specs.CertificateText.{names_in, place_of}
 use Rattle.fb_model.proofs.Lists.{all_weaker}
-use Rattle.fb_leaves.specs.Leaves.{IsIdle}
 use Rattle.fb_columns.specs.fb_blocks.declared.fault.TypeFault.{TypeFault}
 use Rattle.fb_columns.specs.fb_blocks.declared.fault.TypeFault.TheVariants as faults
 use Rattle.fb_columns.specs.fb_types.declared.typed.Typed.{Typed}
@@ -22,24 +21,26 @@ use Rattle.fb_columns.specs.fb_flat.Leaves.{IsFull, IsLimitAt}
 use Rattle.fb_model.specs.Wires.{most_followed}
 use Rattle.fb_ledger.specs.declared.fault.RowFault.{RowFault}
 use Rattle.fb_ledger.specs.declared.fault.RowFault.TheVariants as rows
-use Rattle.fb_ledger.specs.Faults.{IsUnknown, IsMissing, unknown_charge, unknown_weight, unknown_depth, missing_charge, missing_weight, missing_range, missing_depth, IsRowFault}
+use Rattle.fb_ledger.specs.Faults.{IsUnknown, IsMissing, unknown_charge, unknown_weight, unknown_range, unknown_depth, missing_charge, missing_weight, missing_range, missing_depth, IsRowFault}
+use Rattle.fb_rows.specs.declared.fault.Unclear.{Unclear}
+use Rattle.fb_rows.specs.declared.fault.Unclear.TheVariants as unclear
+use Rattle.fb_rows.specs.Fitting.{IsUnclear}
+use Rattle.fb_rows.proofs.Denied.{denied as unclear_denies}
 use Rattle.fb_columns.specs.declared.column.Column.{Column}
 use Rattle.fb_columns.specs.declared.column.Column.TheVariants.{Steps, Places}
 use Rattle.fb_columns.specs.declared.fault.Shortfall.{Shortfall}
 use Rattle.fb_columns.specs.declared.fault.Shortfall.TheVariants as short
 use Rattle.fb_columns.specs.Columns.{column_of}
-use Rattle.fb_columns.specs.Fitting.{IsUnpaid}
+use Rattle.fb_columns.specs.Fitting.{IsUnpaid, AllPay}
 use Rattle.fb_columns.proofs.Denied.{denied as unpaid_denies}
 use Rattle.fb_depths.specs.declared.shallow.Shallow.{Shallow}
 use Rattle.fb_depths.specs.declared.shallow.Shallow.TheVariants as shallow
 use Rattle.fb_depths.specs.Depths.{Some as SomeOf, IsDeep, IsShallowFault}
 use Rattle.fb_depths.proofs.Systems.{some_of, none_lacks, denied as shallow_denies}
 use Rattle.fb_check.specs.declared.refusal.Refusal.{Refusal}
-use Rattle.fb_check.specs.declared.refusal.Refusal.TheVariants.{OutOfMemory, Text, Typing, Certificate as Spelling, UnknownRow, MissingRow, IndexOrDivisor, Charge, Weight, Depth}
-use Rattle.fb_check.specs.Refusals.{of_row, of_type, of_shortfall, of_shallow}
+use Rattle.fb_check.specs.declared.refusal.Refusal.TheVariants.{OutOfMemory, Text, Typing, Certificate as Spelling, UnknownRow, MissingRow, RangeStart, RangeLink, RangeKept, IndexOrDivisor, Charge, Weight, Depth}
+use Rattle.fb_check.specs.Refusals.{of_row, of_type, of_unclear as told, of_shortfall, of_shallow}
 use Rattle.fb_model.specs.Certificates.{FollowsFew, Fits}
-use Rattle.fb_check.specs.Idle.{AreIdle}
-use Rattle.fb_check.specs.Idle.{IsBusyLeaf, HasBusy, IsUndecided, IsIdleFault}
 use Rattle.fb_check.specs.Faults.{IsCrowded, IsFitFault}
 
 -- ---- from the parts to the whole
@@ -49,19 +50,14 @@ of_rows typed cert rows.OutOfMemory h = tt
 of_rows typed cert (rows.Unknown path) h = h
 of_rows typed cert (rows.Missing path) h = h
 
-pub of_idle : (typed : Typed) (cert : certs.Certificate) (f : Refusal) → IsIdleFault (system_of typed) f → IsFitFault typed cert f
-of_idle typed cert OutOfMemory h = tt
-of_idle typed cert (IndexOrDivisor row) h = h
-of_idle typed cert (Text x) h = absurd h
-of_idle typed cert (Typing x) h = absurd h
-of_idle typed cert (Spelling x) h = absurd h
-of_idle typed cert (UnknownRow x) h = absurd h
-of_idle typed cert (MissingRow x) h = absurd h
-of_idle typed cert (Charge x) h = absurd h
-of_idle typed cert (Weight x) h = absurd h
-of_idle typed cert (Depth x) h = absurd h
+pub of_unclear : (typed : Typed) (cert : certs.Certificate) (f : Unclear) → IsUnclear cert.ranges (system_of typed) f → IsFitFault typed cert (told f)
+of_unclear typed cert unclear.OutOfMemory h = tt
+of_unclear typed cert (unclear.Start path) h = h
+of_unclear typed cert (unclear.Link path) h = h
+of_unclear typed cert (unclear.Kept path) h = h
+of_unclear typed cert (unclear.IndexOrDivisor path) h = h
 
-pub of_column : (typed : Typed) (cert : certs.Certificate) (column : Column) (f : Shortfall) → IsUnpaid (column_of column cert) (system_of typed) f → IsFitFault typed cert (of_shortfall f)
+pub of_column : (typed : Typed) (cert : certs.Certificate) (column : Column) (f : Shortfall) → IsUnpaid (column_of column cert) cert.ranges (system_of typed) f → IsFitFault typed cert (of_shortfall f)
 of_column typed cert column short.OutOfMemory h = tt
 of_column typed cert column (short.Charge path) h = (column, h)
 of_column typed cert column (short.Weight path) h = (column, h)
@@ -115,48 +111,36 @@ crowded_denied typed cert (faults.ChannelShape at) h fits = h
 unknown_denied : (s : book.System) (cert : certs.Certificate) (path : List ℕ) → IsUnknown s cert path → Fits s cert → ⊥
 unknown_denied s cert path (unknown_charge a b) fits = let e = fits.rows.charges.same (place_of path) in absurd cc
 unknown_denied s cert path (unknown_weight a b) fits = let e = fits.rows.weights.same (place_of path) in absurd cc
+unknown_denied s cert path (unknown_range a b) fits = let e = fits.rows.ranges.same (place_of path) in absurd cc
 unknown_denied s cert path (unknown_depth a b) fits = let e = fits.rows.depths (names_in path) in absurd cc
 
 missing_denied : (s : book.System) (cert : certs.Certificate) (path : List ℕ) → IsMissing s cert path → Fits s cert → ⊥
 missing_denied s cert path (missing_charge a b) fits = let e = fits.rows.charges.same (place_of path) in absurd cc
 missing_denied s cert path (missing_weight a b) fits = let e = fits.rows.weights.same (place_of path) in absurd cc
-missing_denied s cert path (missing_range p w a b) fits = let e = fits.rows.ranges.same p in absurd cc
+missing_denied s cert path (missing_range a b) fits = let e = fits.rows.ranges.same (place_of path) in absurd cc
 missing_denied s cert path (missing_depth a b) fits = let e = fits.rows.depths (names_in path) in absurd cc
-
--- ---- idle leaves
-
-one_guard : (x : Name) (ts : List book.Transition) → AllByRecursion (λ (t : book.Transition). t.guard ≡ None) ts → SomeOf (λ (t : book.Transition). (t.source ≡ x) × (t.guard ≡ None → ⊥)) ts → ⊥
-one_guard x ts a s = none_lacks (λ (t : book.Transition). t.guard ≡ None) (λ (t : book.Transition). (t.source ≡ x) × (t.guard ≡ None → ⊥)) ts (λ t e h. h.1 e) a s
-
-kind_denied : (k : Kind) (x : Name) → IsIdle k → HasBusy k x → ⊥
-kind_denied (Serviced service) x i h = h
-kind_denied (Charted block) x i (inl h) =
-    let none : is_in x [] ≡ true = subst (λ (ps : List book.Procedure). is_in x (map (λ (p : book.Procedure). p.name) ps) ≡ true) i.0 h in absurd cc
-kind_denied (Charted block) x i (inr h) = one_guard x block.transitions i.1 (some_of (λ (t : book.Transition). (t.source ≡ x) × (t.guard ≡ None → ⊥)) block.transitions h)
-
-idle_denied : (s : book.System) (row : Name) → IsUndecided s row → AreIdle s → ⊥
-idle_denied s row u i =
-    none_lacks (λ (d : book.Device). AllByRecursion (λ (leaf : wires.Leaf). IsIdle leaf.kind) (leaves d)) (λ (d : book.Device). SomeOf (IsBusyLeaf row) (leaves d)) s.devices
-    (λ d a q. none_lacks (λ (leaf : wires.Leaf). IsIdle leaf.kind) (IsBusyLeaf row) (leaves d) (λ leaf x h. kind_denied leaf.kind h.1 x h.4) a q) i u
 
 -- ---- columns and depths
 
-paid : (column : Column) (s : book.System) (cert : certs.Certificate) → Fits s cert → AllByRecursion (λ (d : book.Device). (ranges : List Range) × ColumnFits (column_of column cert) ranges (leaves d)) s.devices
-paid Steps s cert fits = all_weaker (DeviceFits cert) (λ (d : book.Device). (ranges : List Range) × ColumnFits (certs.steps_of cert) ranges (leaves d)) s.devices (λ d h. (all_ranges cert d, h.steps)) fits.devices
-paid Places s cert fits = all_weaker (DeviceFits cert) (λ (d : book.Device). (ranges : List Range) × ColumnFits (certs.places_of cert) ranges (leaves d)) s.devices (λ d h. (all_ranges cert d, h.places)) fits.devices
+paid : (column : Column) (s : book.System) (cert : certs.Certificate) → Fits s cert → AllPay (column_of column cert) cert.ranges s
+paid Steps s cert fits = all_weaker (DeviceFits cert) (λ (d : book.Device). ColumnFits (certs.steps_of cert) cert.ranges (leaves d)) s.devices (λ d h. h.steps) fits.devices
+paid Places s cert fits = all_weaker (DeviceFits cert) (λ (d : book.Device). ColumnFits (certs.places_of cert) cert.ranges (leaves d)) s.devices (λ d h. h.places) fits.devices
 
 deep : (s : book.System) (cert : certs.Certificate) → Fits s cert → AllByRecursion (IsDeep cert) s.devices
 deep s cert fits = all_weaker (DeviceFits cert) (IsDeep cert) s.devices (λ d h. record { arrivals = h.arrivals; begins = h.begins }) fits.devices
 
--- a true refusal denies that the certificate fits an idle system, unless memory ran out
-pub denied : (typed : Typed) (cert : certs.Certificate) (f : Refusal) → IsFitFault typed cert f → AreIdle (system_of typed) → Fits (system_of typed) cert → f ≡ OutOfMemory
-denied typed cert OutOfMemory h i fits = refl
-denied typed cert (Text x) h i fits = absurd h
-denied typed cert (Typing x) h i fits = absurd (crowded_denied typed cert x h fits)
-denied typed cert (Spelling x) h i fits = absurd h
-denied typed cert (UnknownRow path) h i fits = absurd (unknown_denied (system_of typed) cert (string_bytes path) h fits)
-denied typed cert (MissingRow path) h i fits = absurd (missing_denied (system_of typed) cert (string_bytes path) h fits)
-denied typed cert (IndexOrDivisor path) h i fits = absurd (idle_denied (system_of typed) (string_bytes path) h i)
-denied typed cert (Charge path) h i fits = absurd (let e : short.Charge path ≡ short.OutOfMemory = unpaid_denies (column_of h.0 cert) (system_of typed) (short.Charge path) h.1 (paid h.0 (system_of typed) cert fits) in cc)
-denied typed cert (Weight path) h i fits = absurd (let e : short.Weight path ≡ short.OutOfMemory = unpaid_denies (column_of h.0 cert) (system_of typed) (short.Weight path) h.1 (paid h.0 (system_of typed) cert fits) in cc)
-denied typed cert (Depth path) h i fits = absurd (let e : shallow.Depth path ≡ shallow.OutOfMemory = shallow_denies cert (system_of typed) (shallow.Depth path) h (deep (system_of typed) cert fits) in cc)
+-- a true refusal denies that the certificate fits, unless memory ran out
+pub denied : (typed : Typed) (cert : certs.Certificate) (f : Refusal) → IsFitFault typed cert f → Fits (system_of typed) cert → f ≡ OutOfMemory
+denied typed cert OutOfMemory h fits = refl
+denied typed cert (Text x) h fits = absurd h
+denied typed cert (Typing x) h fits = absurd (crowded_denied typed cert x h fits)
+denied typed cert (Spelling x) h fits = absurd h
+denied typed cert (UnknownRow path) h fits = absurd (unknown_denied (system_of typed) cert (string_bytes path) h fits)
+denied typed cert (MissingRow path) h fits = absurd (missing_denied (system_of typed) cert (string_bytes path) h fits)
+denied typed cert (RangeStart path) h fits = absurd (let e : unclear.Start path ≡ unclear.OutOfMemory = unclear_denies cert.ranges (system_of typed) (unclear.Start path) h fits.clear in cc)
+denied typed cert (RangeLink path) h fits = absurd (let e : unclear.Link path ≡ unclear.OutOfMemory = unclear_denies cert.ranges (system_of typed) (unclear.Link path) h fits.clear in cc)
+denied typed cert (RangeKept path) h fits = absurd (let e : unclear.Kept path ≡ unclear.OutOfMemory = unclear_denies cert.ranges (system_of typed) (unclear.Kept path) h fits.clear in cc)
+denied typed cert (IndexOrDivisor path) h fits = absurd (let e : unclear.IndexOrDivisor path ≡ unclear.OutOfMemory = unclear_denies cert.ranges (system_of typed) (unclear.IndexOrDivisor path) h fits.clear in cc)
+denied typed cert (Charge path) h fits = absurd (let e : short.Charge path ≡ short.OutOfMemory = unpaid_denies (column_of h.0 cert) cert.ranges (system_of typed) (short.Charge path) h.1 (paid h.0 (system_of typed) cert fits) in cc)
+denied typed cert (Weight path) h fits = absurd (let e : short.Weight path ≡ short.OutOfMemory = unpaid_denies (column_of h.0 cert) cert.ranges (system_of typed) (short.Weight path) h.1 (paid h.0 (system_of typed) cert fits) in cc)
+denied typed cert (Depth path) h fits = absurd (let e : shallow.Depth path ≡ shallow.OutOfMemory = shallow_denies cert (system_of typed) (shallow.Depth path) h (deep (system_of typed) cert fits) in cc)

@@ -5,7 +5,6 @@ pub use Rattle.fb_columns.proofs.of_fb_services as of_fb_services
 pub use Rattle.fb_columns.proofs.of_fb_text as of_fb_text
 pub use Rattle.fb_columns.proofs.of_fb_types as of_fb_types
 pub mod Lookups
-pub mod Idling
 pub mod Reading
 pub mod Composed
 pub mod Denied

@@ -22,10 +22,9 @@ use Rattle.fb_cert.specs.Answers.{Refuses, Finds}
 use Rattle.fb_columns.specs.fb_text.Answers.{IsSource, ReadsText, FindsTree}
 use Rattle.fb_check.specs.declared.verified.Verified.{Verified}
 use Rattle.fb_check.specs.declared.refusal.Refusal.{Refusal}
-use Rattle.fb_check.specs.declared.refusal.Refusal.TheVariants.{OutOfMemory, Text, Typing, Certificate as Spelling, UnknownRow, MissingRow, IndexOrDivisor, Charge, Weight, Depth}
+use Rattle.fb_check.specs.declared.refusal.Refusal.TheVariants.{OutOfMemory, Text, Typing, Certificate as Spelling, UnknownRow, MissingRow, RangeStart, RangeLink, RangeKept, IndexOrDivisor, Charge, Weight, Depth}
 use Rattle.fb_check.specs.Refusals.{of_text, of_type, of_certificate}
 use Rattle.fb_model.specs.Certificates.{Fits}
-use Rattle.fb_check.specs.Idle.{AreIdle}
 use Rattle.fb_check.specs.Verdicts.{IsSystemOf, IsWritten, IsTypingFault, IsTextFault, IsCertificateFault, IsOfTexts, IsChecked, AreTables, system_in, certificate_in}
 
 pub typing_fault : (beforehand : List ℕ) (source : SourceTree) (f : TypeFault) → ((library : SourceTree) → IsSource beforehand library → IsSourceFault library.blocks source f) → IsTypingFault beforehand source (of_type f)
@@ -64,6 +63,9 @@ tree_fault beforehand text source (Text x) s h = absurd h
 tree_fault beforehand text source (Spelling x) s h = absurd h
 tree_fault beforehand text source (UnknownRow x) s h = absurd h
 tree_fault beforehand text source (MissingRow x) s h = absurd h
+tree_fault beforehand text source (RangeStart x) s h = absurd h
+tree_fault beforehand text source (RangeLink x) s h = absurd h
+tree_fault beforehand text source (RangeKept x) s h = absurd h
 tree_fault beforehand text source (IndexOrDivisor x) s h = absurd h
 tree_fault beforehand text source (Charge x) s h = absurd h
 tree_fault beforehand text source (Weight x) s h = absurd h
@@ -113,17 +115,16 @@ along beforehand x y system e h = subst (λ s. IsResolved beforehand s system) (
 
 -- what is verified of a system and a certificate that stand in texts
 pub accepted_by : (beforehand text certificate : List ℕ) (system : System) (rows : book.Certificate) (r : Result Verified Refusal) → IsSystemOf beforehand text system → Spells certificate rows
-    → IfOk r (λ v. (system_in v ≡ system) × (certificate_in v ≡ rows)) → IfOk r AreTables → OnOk r (Fits system rows × AreIdle system) → IfOk r (IsOfTexts beforehand text certificate)
+    → IfOk r (λ v. (system_in v ≡ system) × (certificate_in v ≡ rows)) → IfOk r AreTables → OnOk r (Fits system rows) → IfOk r (IsOfTexts beforehand text certificate)
 accepted_by beforehand text certificate system rows (Ok v) s c same tables fits =
     record {
       system_is = subst (IsSystemOf beforehand text) (sym same.0) s;
       certificate_is = subst (Spells certificate) (sym same.1) c;
-      fits = subst (λ x. Fits x (certificate_in v)) (sym same.0) (subst (Fits system) (sym same.1) fits.0);
-      idle = subst AreIdle (sym same.0) fits.1;
+      fits = subst (λ x. Fits x (certificate_in v)) (sym same.0) (subst (Fits system) (sym same.1) fits);
       tables = tables;
     }
 accepted_by beforehand text certificate system rows (Err f) s c same tables fits = tt
 
 -- whoever runs what was accepted relies on it
 pub checked : (beforehand text certificate : List ℕ) (v : Verified) → IsOfTexts beforehand text certificate v → IsChecked v
-checked beforehand text certificate v h = record { written = (beforehand, text, h.system_is); fits = h.fits; idle = h.idle; tables = h.tables }
+checked beforehand text certificate v h = record { written = (beforehand, text, h.system_is); fits = h.fits; tables = h.tables }

@@ -8,6 +8,8 @@ use Rattle.fb_columns.specs.fb_types.declared.typed.Typed.{Typed}
 use Rattle.fb_columns.specs.fb_types.Views.{system_of}
 use Rattle.fb_columns.specs.fb_flat.Leaves.{IsFull}
 use Rattle.fb_ledger.specs.Faults.{IsUnknown, IsMissing}
+use Rattle.fb_rows.specs.declared.fault.Unclear.TheVariants as unclear
+use Rattle.fb_rows.specs.Fitting.{IsUnclear}
 use Rattle.fb_columns.specs.declared.column.Column.{Column}
 use Rattle.fb_columns.specs.declared.fault.Shortfall.TheVariants as short
 use Rattle.fb_columns.specs.Columns.{column_of}
@@ -15,8 +17,7 @@ use Rattle.fb_columns.specs.Fitting.{IsUnpaid}
 use Rattle.fb_depths.specs.declared.shallow.Shallow.TheVariants as shallow
 use Rattle.fb_depths.specs.Depths.{IsShallowFault}
 use Rattle.fb_check.specs.declared.refusal.Refusal.{Refusal}
-use Rattle.fb_check.specs.declared.refusal.Refusal.TheVariants.{OutOfMemory, Text, Typing, Certificate as Spelling, UnknownRow, MissingRow, IndexOrDivisor, Charge, Weight, Depth}
-use Rattle.fb_check.specs.Idle.{IsUndecided}
+use Rattle.fb_check.specs.declared.refusal.Refusal.TheVariants.{OutOfMemory, Text, Typing, Certificate as Spelling, UnknownRow, MissingRow, RangeStart, RangeLink, RangeKept, IndexOrDivisor, Charge, Weight, Depth}
 
 -- more connections are followed in a resource whose place is this one
 abbrev pub IsCrowded : Typed → TypeFault → Type 0
@@ -31,7 +32,10 @@ IsFitFault typed cert (Typing fault) = IsCrowded typed fault
 IsFitFault typed cert (Spelling fault) = ⊥
 IsFitFault typed cert (UnknownRow path) = IsUnknown (system_of typed) cert (string_bytes path)
 IsFitFault typed cert (MissingRow path) = IsMissing (system_of typed) cert (string_bytes path)
-IsFitFault typed cert (IndexOrDivisor path) = IsUndecided (system_of typed) (string_bytes path)
-IsFitFault typed cert (Charge path) = (column : Column) × IsUnpaid (column_of column cert) (system_of typed) (short.Charge path)
-IsFitFault typed cert (Weight path) = (column : Column) × IsUnpaid (column_of column cert) (system_of typed) (short.Weight path)
+IsFitFault typed cert (RangeStart path) = IsUnclear cert.ranges (system_of typed) (unclear.Start path)
+IsFitFault typed cert (RangeLink path) = IsUnclear cert.ranges (system_of typed) (unclear.Link path)
+IsFitFault typed cert (RangeKept path) = IsUnclear cert.ranges (system_of typed) (unclear.Kept path)
+IsFitFault typed cert (IndexOrDivisor path) = IsUnclear cert.ranges (system_of typed) (unclear.IndexOrDivisor path)
+IsFitFault typed cert (Charge path) = (column : Column) × IsUnpaid (column_of column cert) cert.ranges (system_of typed) (short.Charge path)
+IsFitFault typed cert (Weight path) = (column : Column) × IsUnpaid (column_of column cert) cert.ranges (system_of typed) (short.Weight path)
 IsFitFault typed cert (Depth path) = IsShallowFault cert (system_of typed) (shallow.Depth path)

@@ -6,6 +6,5 @@ pub use Rattle.fb_columns.specs.fb_text as fb_text
 pub use Rattle.fb_columns.specs.fb_types as fb_types
 pub mod Refusals
 pub mod Lookups
-pub mod Idle
 pub mod Faults
 pub mod Verdicts

@@ -11,12 +11,14 @@ use Rattle.fb_cert.specs.declared.fault.CertFault.{CertFault}
 use Rattle.fb_cert.specs.declared.fault.CertFault.TheVariants as certs
 use Rattle.fb_ledger.specs.declared.fault.RowFault.{RowFault}
 use Rattle.fb_ledger.specs.declared.fault.RowFault.TheVariants as rows
+use Rattle.fb_rows.specs.declared.fault.Unclear.{Unclear}
+use Rattle.fb_rows.specs.declared.fault.Unclear.TheVariants as unclear
 use Rattle.fb_columns.specs.declared.fault.Shortfall.{Shortfall}
 use Rattle.fb_columns.specs.declared.fault.Shortfall.TheVariants as short
 use Rattle.fb_depths.specs.declared.shallow.Shallow.{Shallow}
 use Rattle.fb_depths.specs.declared.shallow.Shallow.TheVariants as shallow
 use Rattle.fb_check.specs.declared.refusal.Refusal.{Refusal}
-use Rattle.fb_check.specs.declared.refusal.Refusal.TheVariants.{OutOfMemory, Text, Typing, Certificate, UnknownRow, MissingRow, IndexOrDivisor, Charge, Weight, Depth}
+use Rattle.fb_check.specs.declared.refusal.Refusal.TheVariants.{OutOfMemory, Text, Typing, Certificate, UnknownRow, MissingRow, RangeStart, RangeLink, RangeKept, IndexOrDivisor, Charge, Weight, Depth}
 
 abbrev pub code_of : Refusal → ℕ
 code_of OutOfMemory = 9
@@ -25,6 +27,9 @@ code_of (Typing fault) = types.code_of fault
 code_of (Certificate fault) = cert.code_of fault
 code_of (UnknownRow path) = 32
 code_of (MissingRow path) = 33
+code_of (RangeStart path) = 34
+code_of (RangeLink path) = 35
+code_of (RangeKept path) = 36
 code_of (IndexOrDivisor path) = 37
 code_of (Charge path) = 38
 code_of (Weight path) = 39
@@ -38,6 +43,9 @@ line_of (Typing fault) = types.line_of fault
 line_of (Certificate fault) = cert.line_of fault
 line_of (UnknownRow path) = codes "32 " ++ string_bytes path
 line_of (MissingRow path) = codes "33 " ++ string_bytes path
+line_of (RangeStart path) = codes "34 " ++ string_bytes path
+line_of (RangeLink path) = codes "35 " ++ string_bytes path
+line_of (RangeKept path) = codes "36 " ++ string_bytes path
 line_of (IndexOrDivisor path) = codes "37 " ++ string_bytes path
 line_of (Charge path) = codes "38 " ++ string_bytes path
 line_of (Weight path) = codes "39 " ++ string_bytes path
@@ -60,6 +68,13 @@ abbrev pub of_row : RowFault → Refusal
 of_row rows.OutOfMemory = OutOfMemory
 of_row (rows.Unknown path) = UnknownRow path
 of_row (rows.Missing path) = MissingRow path
+
+abbrev pub of_unclear : Unclear → Refusal
+of_unclear unclear.OutOfMemory = OutOfMemory
+of_unclear (unclear.Start path) = RangeStart path
+of_unclear (unclear.Link path) = RangeLink path
+of_unclear (unclear.Kept path) = RangeKept path
+of_unclear (unclear.IndexOrDivisor path) = IndexOrDivisor path
 
 abbrev pub of_shortfall : Shortfall → Refusal
 of_shortfall short.OutOfMemory = OutOfMemory

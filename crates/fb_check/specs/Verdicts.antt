@@ -16,7 +16,6 @@ use Rattle.fb_check.specs.declared.verified.Verified.{Verified}
 use Rattle.fb_check.specs.declared.refusal.Refusal.{Refusal}
 use Rattle.fb_check.specs.declared.refusal.Refusal.TheVariants.{OutOfMemory, Text, Typing, Certificate}
 use Rattle.fb_model.specs.Certificates.{Fits}
-use Rattle.fb_check.specs.Idle.{AreIdle}
 use Rattle.fb_check.specs.Faults.{IsFitFault}
 
 -- the system and the certificate that were verified
@@ -40,19 +39,21 @@ pub record IsSystemOf (beforehand text : List ℕ) (system : System) : Type 0 wh
 abbrev pub IsWritten : System → Type 0
 IsWritten system = (beforehand text : List ℕ) × IsSystemOf beforehand text system
 
--- the system is that of the application's text, the certificate is that of the other, it fits, nothing runs that is not decided, and the tables are the system's
+-- the certificate stands in a text
+abbrev pub IsTold : book.Certificate → Type 0
+IsTold certificate = (text : List ℕ) × Spells text certificate
+
+-- the system is that of the application's text, the certificate is that of the other, it fits, and the tables are the system's
 pub record IsOfTexts (beforehand text certificate : List ℕ) (v : Verified) : Type 0 where
   pub system_is : IsSystemOf beforehand text (system_in v)
   pub certificate_is : Spells certificate (certificate_in v)
   pub fits : Fits (system_in v) (certificate_in v)
-  pub idle : AreIdle (system_in v)
   pub tables : AreTables v
 
--- what whoever runs a system relies on: it stands in texts, its certificate fits, nothing runs that is not decided, and its tables are its own
+-- what whoever runs a system relies on: it stands in texts, its certificate fits, and its tables are its own
 pub record IsChecked (v : Verified) : Type 0 where
   pub written : IsWritten (system_in v)
   pub fits : Fits (system_in v) (certificate_in v)
-  pub idle : AreIdle (system_in v)
   pub tables : AreTables v
 
 -- what is at fault in a source tree, with the event blocks that a text spells

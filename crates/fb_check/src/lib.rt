@@ -1,7 +1,6 @@
 //! The checker: whether a certificate fits a system.
 #![tactic(auto)]
 
-mod idle;
 mod refusal;
 mod texts;
 mod verdict;

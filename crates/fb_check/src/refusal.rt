@@ -9,6 +9,7 @@ use fb_columns::fb_flat::fb_types::fb_networks::fb_services::fb_blocks::TypeFaul
 use fb_depths::Shallow;
 use fb_ledger::RowFault;
 use fb_lex::TextFault;
+use fb_rows::Unclear;
 use std::alloc::{AllocError, AllocFailed};
 use std::fmt;
 
@@ -27,8 +28,13 @@ pub enum Refusal {
     UnknownRow(String),
     /// The system has this place, and the certificate has no row for it. Code 33.
     MissingRow(String),
-    /// The algorithm of this path, or a guard of a transition that leaves the state of this path, is not known to keep its indices and divisors
-    /// in their bounds. So far no algorithm and no guard is. Code 37.
+    /// The row of this variable is not within its type, or its start value, or the constant that it always holds, is not in its row. Code 34.
+    RangeStart(String),
+    /// What this input takes may be outside its row. Code 35.
+    RangeLink(String),
+    /// This algorithm may take a variable out of its row. Code 36.
+    RangeKept(String),
+    /// The algorithm of this path, or a guard of a transition that leaves the state of this path, may divide by 0 or index out of bounds. Code 37.
     IndexOrDivisor(String),
     /// The charge of this state is less than its actions and the free transitions from it need. Code 38.
     Charge(String),
@@ -52,6 +58,9 @@ impl Refusal {
             Refusal::Certificate(fault) => fault.code(),
             Refusal::UnknownRow(_) => 32,
             Refusal::MissingRow(_) => 33,
+            Refusal::RangeStart(_) => 34,
+            Refusal::RangeLink(_) => 35,
+            Refusal::RangeKept(_) => 36,
             Refusal::IndexOrDivisor(_) => 37,
             Refusal::Charge(_) => 38,
             Refusal::Weight(_) => 39,
@@ -75,6 +84,9 @@ impl fmt::Display for Refusal {
             Refusal::Certificate(fault) => write!(f, "{fault}"),
             Refusal::UnknownRow(path) => write!(f, "32 {path}"),
             Refusal::MissingRow(path) => write!(f, "33 {path}"),
+            Refusal::RangeStart(path) => write!(f, "34 {path}"),
+            Refusal::RangeLink(path) => write!(f, "35 {path}"),
+            Refusal::RangeKept(path) => write!(f, "36 {path}"),
             Refusal::IndexOrDivisor(path) => write!(f, "37 {path}"),
             Refusal::Charge(path) => write!(f, "38 {path}"),
             Refusal::Weight(path) => write!(f, "39 {path}"),
@@ -156,6 +168,24 @@ impl From<RowFault> for Refusal {
             RowFault::OutOfMemory => Refusal::OutOfMemory,
             RowFault::Unknown(path) => Refusal::UnknownRow(path),
             RowFault::Missing(path) => Refusal::MissingRow(path),
+        }
+    }
+}
+
+/// A row that is not clear is told with the path of the variable, the algorithm or the state.
+impl From<Unclear> for Refusal {
+    ghost use Rattle.std.specs.Prelude.{◌≡◌};
+    ghost use Rattle.fb_check.specs.Refusals.{of_unclear};
+
+    ghost from_gives = { λ f r. r ≡ of_unclear f };
+
+    fn from(fault: Unclear) -> Refusal {
+        match fault {
+            Unclear::OutOfMemory => Refusal::OutOfMemory,
+            Unclear::Start(path) => Refusal::RangeStart(path),
+            Unclear::Link(path) => Refusal::RangeLink(path),
+            Unclear::Kept(path) => Refusal::RangeKept(path),
+            Unclear::IndexOrDivisor(path) => Refusal::IndexOrDivisor(path),
         }
     }
 }

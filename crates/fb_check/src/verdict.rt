@@ -12,14 +12,11 @@ ghost use Rattle.fb_columns.specs.fb_types.declared.typed.Typed as systems;
 ghost use Rattle.fb_columns.specs.fb_types.Views.{system_of};
 ghost use Rattle.fb_columns.specs.fb_types.Beforehand.{IsResolved};
 ghost use Rattle.fb_columns.specs.fb_flat.Leaves.{flat_device, written_device};
-ghost use Rattle.fb_ledger.specs.Faults.{HasNoRowTwice};
 ghost use Rattle.fb_model.specs.Certificates.{FollowsFew, Fits};
-ghost use Rattle.fb_check.specs.Idle.{AreIdle};
 ghost use Rattle.fb_check.specs.Faults.{IsFitFault};
-ghost use Rattle.fb_check.specs.Verdicts.{system_in, certificate_in, IsWritten, AreTables, IsOfTexts, IsFaultOf};
+ghost use Rattle.fb_check.specs.Verdicts.{system_in, certificate_in, IsWritten, IsTold, AreTables, IsOfTexts, IsFaultOf};
 ghost use Rattle.fb_check.specs.declared.refusal.Refusal.TheVariants.{OutOfMemory};
 
-use crate::idle::leaves_idle;
 use crate::refusal::Refusal;
 use crate::texts::{read_certificate, read_system};
 use crate::verified::Verified;
@@ -29,15 +26,16 @@ use fb_columns::fb_flat::{Flat, flatten};
 use fb_columns::{Column, column_pays};
 use fb_depths::depths_fit;
 use fb_ledger::rows_match;
+use fb_rows::rows_clear;
 use std::alloc::Global;
 
-// The rows are those that the system must have, nothing runs that is not decided, and the rows pay in both columns and at each queue.
+// The rows are those that the system must have, all is clear under them, and they pay in both columns and at each queue.
 fn tables_fit(alloc: Global, flat: &Flat, certificate: &Certificate) -> Result<(), Refusal>
-    ensures fits { (s : System) → IsWritten s → map flat_device flat.now.devices.items ≡ map written_device s.devices → AllByRecursion FollowsFew s.devices → HasNoRowTwice (certificate_of certificate.now) → OnOk result (Fits s (certificate_of certificate.now) × AreIdle s) }
-    ensures refused { (typed : systems.Typed) → IsWritten (system_of typed) → map flat_device flat.now.devices.items ≡ map written_device (system_of typed).devices → IfErr result (IsFitFault typed (certificate_of certificate.now)) }
+    ensures fits { (s : System) → IsWritten s → IsTold (certificate_of certificate.now) → map flat_device flat.now.devices.items ≡ map written_device s.devices → AllByRecursion FollowsFew s.devices → OnOk result (Fits s (certificate_of certificate.now)) }
+    ensures refused { (typed : systems.Typed) → IsWritten (system_of typed) → IsTold (certificate_of certificate.now) → map flat_device flat.now.devices.items ≡ map written_device (system_of typed).devices → IfErr result (IsFitFault typed (certificate_of certificate.now)) }
 {
     rows_match(alloc, flat, certificate)?;
-    leaves_idle(alloc, flat)?;
+    rows_clear(alloc, flat, certificate)?;
     column_pays(alloc, flat, certificate, Column::Steps)?;
     column_pays(alloc, flat, certificate, Column::Places)?;
     depths_fit(alloc, flat, certificate)?;
@@ -48,8 +46,8 @@ fn tables_fit(alloc: Global, flat: &Flat, certificate: &Certificate) -> Result<(
 fn verified(alloc: Global, typed: Typed, certificate: Certificate) -> Result<Verified, Refusal>
     ensures same { IfOk result (λ v. (system_in v ≡ system_of typed) × (certificate_in v ≡ certificate_of certificate)) }
     ensures tables { IfOk result AreTables }
-    ensures fits { IsWritten (system_of typed) → HasNoRowTwice (certificate_of certificate) → OnOk result (Fits (system_of typed) (certificate_of certificate) × AreIdle (system_of typed)) }
-    ensures refused { IsWritten (system_of typed) → IfErr result (IsFitFault typed (certificate_of certificate)) }
+    ensures fits { IsWritten (system_of typed) → IsTold (certificate_of certificate) → OnOk result (Fits (system_of typed) (certificate_of certificate)) }
+    ensures refused { IsWritten (system_of typed) → IsTold (certificate_of certificate) → IfErr result (IsFitFault typed (certificate_of certificate)) }
 {
     let flat = flatten(alloc, &typed)?;
     tables_fit(alloc, &flat, &certificate)?;
@@ -60,31 +58,31 @@ fn verified(alloc: Global, typed: Typed, certificate: Certificate) -> Result<Ver
     })
 }
 
-/// Whether a certificate fits a system that stands in texts: its rows are exactly those that the system must have, and all inequalities hold,
-/// over whole numbers, in the steps column and in the places column, and for each depth.
+/// Whether a certificate fits a system, which both stand in texts: its rows are exactly those that the system must have, every variable keeps in its
+/// range whatever happens and nothing traps, and all inequalities hold, over whole numbers, in the steps column and in the places column, and for
+/// each depth.
 ///
-/// Refused with `UnknownRow`, `MissingRow`, `Charge`, `Weight`, `Depth`, or with `Limit` where too many connections are followed: each only
-/// where it is so, and none, unless memory runs out, where the certificate fits. So far algorithms and guards are refused with
-/// `IndexOrDivisor`.
+/// Refused with `UnknownRow`, `MissingRow`, `RangeStart`, `RangeLink`, `RangeKept`, `IndexOrDivisor`, `Charge`, `Weight`, `Depth`, or with `Limit`
+/// where too many connections are followed: each only where it is so, and none, unless memory runs out, where the certificate fits.
 pub fn check(alloc: Global, typed: Typed, certificate: Certificate) -> Result<Verified, Refusal>
     ensures same { IfOk result (λ v. (system_in v ≡ system_of typed) × (certificate_in v ≡ certificate_of certificate)) }
     ensures tables { IfOk result AreTables }
-    ensures fits { IsWritten (system_of typed) → HasNoRowTwice (certificate_of certificate) → OnOk result (Fits (system_of typed) (certificate_of certificate) × AreIdle (system_of typed)) }
-    ensures refused { IsWritten (system_of typed) → IfErr result (IsFitFault typed (certificate_of certificate)) }
-    ensures accepts { IsWritten (system_of typed) → AreIdle (system_of typed) → Fits (system_of typed) (certificate_of certificate) → IfErr result (λ f. f ≡ OutOfMemory) }
+    ensures fits { IsWritten (system_of typed) → IsTold (certificate_of certificate) → OnOk result (Fits (system_of typed) (certificate_of certificate)) }
+    ensures refused { IsWritten (system_of typed) → IsTold (certificate_of certificate) → IfErr result (IsFitFault typed (certificate_of certificate)) }
+    ensures accepts { IsWritten (system_of typed) → IsTold (certificate_of certificate) → Fits (system_of typed) (certificate_of certificate) → IfErr result (λ f. f ≡ OutOfMemory) }
 {
     verified(alloc, typed, certificate)
 }
 
 /// The verdict over the text of an application and the text of a certificate.
 ///
-/// It accepts just where the first is spelled and well typed and runs no algorithm and no guard, the second is spelled, and the certificate
-/// fits, unless memory runs out or a text is too long. What a refusal says is so.
+/// It accepts just where the first is spelled and well typed, the second is spelled, and the certificate fits, unless memory runs out or a text is
+/// too long. What a refusal says is so.
 pub fn check_text(alloc: Global, text: &str, certificate: &str) -> Result<Verified, Refusal>
     ensures accepted { IfOk result (IsOfTexts EVENT_BLOCKS.now text.now certificate.now) }
     ensures refused { IfErr result (IsFaultOf EVENT_BLOCKS.now text.now certificate.now) }
     ensures accepts { (source : SourceTree) (system : System) (rows : book.Certificate) → length text.now ≤ 1048576 → length certificate.now ≤ most_characters
-        → IsSource text.now source → IsResolved EVENT_BLOCKS.now source system → Spells certificate.now rows → AreIdle system → Fits system rows → IfErr result (λ f. f ≡ OutOfMemory) }
+        → IsSource text.now source → IsResolved EVENT_BLOCKS.now source system → Spells certificate.now rows → Fits system rows → IfErr result (λ f. f ≡ OutOfMemory) }
 {
     match read_system(alloc, text) {
         Ok(typed) => match read_certificate(alloc, certificate) {

@@ -1,36 +1,33 @@
 -- Leaves of a well typed system whose rows are kept lie in them.
-use Rattle.std.proofs.Common.{◌≡◌, ℕ, ℤ, sym, subst, refl, true, List, [], ◌∷◌, ◌++◌, None, Some, ◌∙◌}
+use Rattle.std.proofs.Common.{◌≡◌, ℕ, ℤ, pos, sym, ap, subst, refl, Bool, true, false, List, [], ◌∷◌, ◌++◌, Option, None, Some, ◌∙◌}
 use Rattle.std.specs.Prelude.{if◌then◌else◌}
 use Rattle.std.specs.List.{AllByRecursion}
+use Rattle.fb_words.specs.declared.elem_type.ElemType.{ElemType}
 use Rattle.fb_words.specs.declared.elem_type.ElemType.TheVariants as t
 use Rattle.fb_model.specs.Names.{Name, Path, is_in}
-use Rattle.fb_model.specs.Values.{numbers_of}
+use Rattle.fb_model.specs.Values.{Value, One, numbers_of}
 use Rattle.fb_model.specs.Tokens.{Token}
 use Rattle.fb_model.specs.StructuredTextGrammar.{IsExpression, IsAlgorithm}
 use Rattle.fb_model.specs.Declarations.{SourceTree}
 use Rattle.fb_model.specs.DeclarationGrammar.{IsFile}
-use Rattle.fb_model.specs.System.{Variable, Device, System, start_of, start_in}
+use Rattle.fb_model.specs.System.{Variable, Block, Service, Device, System, start_of, start_in}
 use Rattle.fb_model.specs.NetworkTyping.{variable_named, ElaboratesWith}
-use Rattle.fb_model.specs.Wires.{Source, Output_of, Constant, Kind, Charted, Serviced, Leaf, leaves}
-use Rattle.fb_model.specs.Certificates.{leaf_at}
-use Rattle.fb_model.specs.Store.{variable_names, inputs, outputs, internals, first_input, first_cells}
-use Rattle.st_clear.specs.Spans.{within, whole}
-use Rattle.st_clear.specs.Shapes.{IsIn}
-use Rattle.fb_model.specs.Ranges.{Range}
-use Rattle.fb_clear.specs.Rows.{variables, HasLength, row_at, row_of, rows, Lies, KindFits, LinkFits, LeafLies, HoldsIn, SourceFits, KindClears, LeafClears}
-use Rattle.fb_model.proofs.Lists.{all_append}
+use Rattle.fb_model.specs.Wires.{Source, Output_of, Constant, Kind, Charted, Serviced, Leaf, leaf_at, leaves}
+use Rattle.fb_model.specs.Store.{variable_names, inputs, outputs, internals, takes, first_input, first_cells}
+use Rattle.fb_model.specs.Spans.{Span, within, whole}
+use Rattle.fb_model.specs.Shapes.{IsIn}
+use Rattle.fb_model.specs.Ranges.{Range, variables, HasLength, row_at, row_of, rows, Lies, KindFits, LinkFits, LeafLies, HoldsIn, SourceFits, ChartClears, KindClears, LeafClears}
+use Rattle.fb_model.proofs.Lists.{all_append, all_weaker, all_both}
 use Rattle.fb_model.proofs.Running.{at_leaf}
-use Rattle.fb_leaves.specs.Leaves.{OnChart}
-use Rattle.fb_leaves.proofs.Made.{HasType, IsWider, IsGoodKind}
-use Rattle.fb_leaves.proofs.Values.{Feeds, IsFed, IsGivenBy, Yields, is_listed, named_left}
+use Rattle.fb_leaves.specs.Leaves.{HasType, IsWider, IsGoodKind, IsGivenBy, Yields, Feeds, IsFed, OnChart}
 use Rattle.fb_leaves.proofs.Values.{all_fed}
 use Rattle.fb_shapes.specs.Shaped.{IsShapely}
 use Rattle.fb_shapes.proofs.Blocks.{all_charts_shapely}
-use Rattle.fb_clear.proofs.Plain.{blocks_plain}
-use Rattle.fb_clear.proofs.Formed.{IsSingle, IsFormed, all_leaves_formed}
-use Rattle.fb_clear.proofs.Named.{named_one, named_right, Finds, one, none, finds, found_listed, start_named, start_unnamed}
+use Rattle.fb_clear.proofs.Plain.{IsPlain, blocks_plain}
+use Rattle.fb_clear.proofs.Formed.{AreSingle, AreFormed, IsSingle, IsFormed, all_leaves_formed}
+use Rattle.fb_clear.proofs.Named.{named_one, named_left, named_right, Finds, one, none, finds, found_listed, is_listed, start_named, start_unnamed}
 use Rattle.fb_clear.proofs.Taking.{TakesInputs, all_take_inputs}
-use Rattle.fb_clear.proofs.Lying.{inside, all_inside, wider_whole, holds_whole, lies_by, lies_is, block_clear, writes_fit}
+use Rattle.fb_clear.proofs.Lying.{inside, all_inside, wider_whole, lies_by, lies_is, block_clear, writes_fit}
 
 -- the variable of an output's name is that output
 output_named : (kind : Kind) → IsGoodKind kind → (y : Name) (w : Variable) → variable_named (outputs kind) y ≡ Some w → variable_named (variables kind) y ≡ Some w
@@ -47,18 +44,18 @@ module _ (ranges : List Range) (all : List Leaf) where
       let k = named_one (λ (v : Variable). HoldsIn (row_at ranges path v) (first_input (source v.name) (start_of v))) block.inputs x v c.inputs_begin e in
       subst (λ y. HoldsIn (row_at ranges path v) (first_input (source y) (start_of v))) (sym k.1) k.0
   input_begins (Serviced service) path source g f c x v e = by (source x) (subst (λ o. Feeds all o (source x)) e (f x)) where
-    begins : HoldsIn (whole v.type) (start_of v)
-    begins = holds_whole v.type (start_of v) (named_one (λ (v : Variable). HasType v.type (start_of v)) (inputs (Serviced service)) x v g.inputs_start e).0
+    begins : HasType v.type (start_of v)
+    begins = (named_one (λ (v : Variable). HasType v.type (start_of v)) (inputs (Serviced service)) x v g.inputs_start e).0
 
     by : (s : Source) → Yields all v.type s → HoldsIn (whole v.type) (first_input s (start_of v))
     by (Output_of from y) h = begins
-    by (Constant value) h = holds_whole v.type value h
+    by (Constant value) h = h
 
   other_begins : (kind : Kind) (path : Path) (source : Name → Source) → IsGoodKind kind → KindClears ranges all path source kind
       → (x : Name) (w : Variable) → variable_named (outputs kind ++ internals kind) x ≡ Some w → HoldsIn (row_of ranges path kind w) (start_of w)
   other_begins (Charted block) path source g c x w e = (named_one (λ (v : Variable). HoldsIn (row_at ranges path v) (start_of v)) (block.outputs ++ block.internals) x w c.others_begin e).0
   other_begins (Serviced service) path source g c x w e =
-      holds_whole w.type (start_of w) (named_one (λ (v : Variable). HasType v.type (start_of v)) (outputs (Serviced service) ++ internals (Serviced service)) x w
+      (named_one (λ (v : Variable). HasType v.type (start_of v)) (outputs (Serviced service) ++ internals (Serviced service)) x w
       (all_append (λ (v : Variable). HasType v.type (start_of v)) (outputs (Serviced service)) (internals (Serviced service)) g.outputs_start g.internals_start) e).0
 
   -- ---- rows of sources

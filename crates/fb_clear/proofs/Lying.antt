@@ -1,5 +1,5 @@
 -- A leaf whose rows are kept lies in them.
-use Rattle.std.proofs.Common.{◌≡◌, ℕ, ◌+◌, ℤ, pos, sym, ap, subst, refl, inl, inr, Bool, true, false, List, [], ◌∷◌, Option, None, Some, arith, ◌∙◌}
+use Rattle.std.proofs.Common.{◌≡◌, ◌≤◌, ℕ, ◌+◌, ℤ, pos, sym, ap, ap₂, subst, refl, inl, inr, Bool, true, false, ◌&&◌, List, [], ◌∷◌, ◌++◌, Option, None, Some, length, arith, ◌∙◌}
 use Rattle.std.specs.Prelude.{if◌then◌else◌, int_le}
 use Rattle.std.specs.List.{AllByRecursion}
 use Rattle.std.specs.Option.{option_map}
@@ -9,28 +9,32 @@ use Rattle.fb_words.specs.declared.elem_type.ElemType.{ElemType}
 use Rattle.fb_words.specs.declared.elem_type.ElemType.TheVariants as t
 use Rattle.fb_model.specs.Names.{Name, Path, is_in}
 use Rattle.fb_model.specs.Values.{Value, One, Many, Values, numbers_of, lowest, highest, in_type, all_in}
-use Rattle.fb_model.specs.System.{Variable, Transition, Procedure, Block, Service}
-use Rattle.fb_model.specs.Language.{Guard, Algorithm, Outcome, Done, Trap, given, run}
+use Rattle.fb_model.specs.System.{Variable, Transition, Procedure, Block, Service, start_of, start_in}
+use Rattle.fb_model.specs.Language.{Guard, Algorithm, Outcome, Done, Trap, given, run, holds}
 use Rattle.fb_model.specs.Services.{qo, received, ports, service_outputs}
 use Rattle.fb_model.specs.BlockTyping.{extent}
 use Rattle.fb_model.specs.NetworkTyping.{variable_named}
-use Rattle.fb_model.specs.Wires.{Kind, Charted, Serviced}
-use Rattle.fb_model.specs.Store.{variable_names}
+use Rattle.fb_model.specs.Wires.{Source, Output_of, Constant, Kind, Charted, Serviced, Leaf, leaf_at}
+use Rattle.fb_model.specs.Store.{variable_names, inputs, outputs, internals, takes, first_input, first_cells}
 use Rattle.fb_model.specs.Charts.{named, algorithm_of, work, tested}
 use Rattle.fb_model.specs.Serving.{bit, set_value, receive}
-use Rattle.st_clear.specs.Spans.{Span, span, within, whole}
-use Rattle.st_clear.specs.Clear.{Spans, examined}
-use Rattle.st_clear.specs.Shapes as shapes
-use Rattle.st_clear.specs.Shapes.{IsIn, Shape, HasForm, AlgorithmFits, written}
-use Rattle.fb_model.specs.Ranges.{Range, IsBetween, types_of}
-use Rattle.fb_clear.specs.Rows.{variables, HasLength, row_of, rows, Lies, AllLie, found_cost, cost_of, Keeps, IsClear, WritesFit, HoldsIn, IsClearGuard, IsClearAlgorithm}
-use Rattle.fb_model.proofs.Lists.{all_weaker, same_name}
-use Rattle.st_clear.proofs.Sound.{algorithms_keep}
-use Rattle.st_clear.proofs.Terms.{guard_answers}
-use Rattle.fb_leaves.proofs.Made.{HasType, IsWider, AreFirst}
+use Rattle.fb_model.specs.Spans.{Span, span, within, whole}
+use Rattle.fb_model.specs.Clear.{Spans, Clear, examined, found_cost, guard_range}
+use Rattle.fb_model.specs.Shapes as shapes
+use Rattle.fb_model.specs.Shapes.{IsIn, Shape, HasForm, AlgorithmFits, written}
+use Rattle.fb_model.specs.Ranges.{Range, variables, length_in, HasLength, row_at, row_of, rows, Lies, AllLie, CellsLie, cost_of, Keeps, IsClear, types_of, IsMessage, WritesFit, KindFits, IsGiven, LinkFits, LeafLies, HoldsIn, SourceFits, IsClearGuard, IsClearAlgorithm, ChartClears, KindClears, LeafClears}
+use Rattle.fb_model.proofs.Lists.{all_append, all_weaker, same_name}
+use Rattle.fb_model.proofs.Placed.{all_left, all_right}
+use Rattle.fb_model.proofs.Running.{at_leaf}
+use Rattle.fb_model.proofs.Sound.{algorithms_keep}
+use Rattle.fb_model.proofs.Terms.{guard_answers}
+use Rattle.fb_leaves.specs.Leaves.{HasType, IsWider, AreFirst, IsGoodKind, IsGivenBy, Yields, Feeds, IsFed, OnChart}
 use Rattle.fb_leaves.proofs.Typed.{both, in_range, bit_fits}
 use Rattle.fb_leaves.proofs.Ports.{qo_port, qo_named, receivers}
-use Rattle.fb_shapes.specs.Shaped.{GuardFits, IsShaped}
+use Rattle.fb_shapes.specs.Shaped.{GuardFits, IsShaped, IsShapely}
+use Rattle.fb_clear.proofs.Formed.{AreSingle, AreFormed, IsSingle, IsFormed}
+use Rattle.fb_clear.proofs.Named.{named_one, named_left, named_right, Finds, one, none, finds, found_listed, is_listed, start_named, start_unnamed}
+use Rattle.fb_clear.proofs.Taking.{TakesInputs}
 
 -- ---- ranges in ranges
 
@@ -50,13 +54,6 @@ all_inside r s ns f h = all_weaker (IsIn r) (IsIn s) ns f h
 pub wider_whole : (a b : ElemType) (n : ℤ) → IsWider a b → IsIn (whole a) n → IsIn (whole b) n
 wider_whole a b n w h = record { least = omega (arith, ints, w.0, h.least); most = omega (arith, ints, w.1, h.most) }
 
--- what lies between the ends of a type lies in its range
-in_whole : (a : ElemType) (n : ℤ) → IsBetween (lowest a) (highest a) n → IsIn (whole a) n
-in_whole a n h = record { least = h.0; most = h.1 }
-
-pub holds_whole : (a : ElemType) (value : Value) → HasType a value → HoldsIn (whole a) value
-holds_whole a value h = all_weaker (IsBetween (lowest a) (highest a)) (IsIn (whole a)) (numbers_of value) (in_whole a) h
-
 -- ---- values of variables
 
 -- what a value of the variable, if there is one, has to be
@@ -65,7 +62,7 @@ Suits ranges path kind None value = value ≡ One (pos 0)
 Suits ranges path kind (Some v) value = HasLength v.length value × HoldsIn (row_of ranges path kind v) value
 
 zero_in : IsIn (whole t.Lint) (pos 0)
-zero_in = in_whole t.Lint (pos 0) (in_range t.Lint (pos 0) refl)
+zero_in = in_range t.Lint (pos 0) refl
 
 pub lies_by : (ranges : List Range) (path : Path) (kind : Kind) (x : Name) (value : Value) (o : Option Variable) → variable_named (variables kind) x ≡ o → Suits ranges path kind o value → Lies ranges path kind x value
 lies_by ranges path kind x value None e s =
@@ -168,11 +165,11 @@ module _ (ranges : List Range) (path : Path) (service : Service) where
   receive_lies (type ∷ types) n (v ∷ ns) values f e h =
       let k = both (in_type type v) (all_in types ns) e in
       receive_lies types (n + 1) ns (set_value (received n) (One v) values) f.1 k.1
-      (set_lies (received n) (One v) values (lies_by ranges path (Serviced service) (received n) (One v) _ f.0 (tt, (in_whole type v (in_range type v k.0), tt))) h)
+      (set_lies (received n) (One v) values (lies_by ranges path (Serviced service) (received n) (One v) _ f.0 (tt, (in_range type v k.0, tt))) h)
 
   bit_in : (b : Bool) → HoldsIn (whole t.Bool) (bit b)
-  bit_in true = (in_whole t.Bool (pos 1) (bit_fits true), tt)
-  bit_in false = (in_whole t.Bool (pos 0) (bit_fits false), tt)
+  bit_in true = (bit_fits true, tt)
+  bit_in false = (bit_fits false, tt)
 
   bit_single : (b : Bool) → HasLength None (bit b)
   bit_single true = tt

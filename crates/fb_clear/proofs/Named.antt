@@ -10,7 +10,6 @@ use Rattle.fb_model.specs.NetworkTyping.{variable_named}
 use Rattle.fb_model.specs.Store.{variable_names}
 use Rattle.fb_model.proofs.Lists.{same_name}
 use Rattle.fb_leaves.proofs.Typed.{eq_sym}
-use Rattle.fb_leaves.proofs.Values.{is_listed}
 
 -- what is so of each variable is so of the one of a name
 pub named_one : (P : Variable → Type 0) (vs : List Variable) (x : Name) (v : Variable) → AllByRecursion P vs → variable_named vs x ≡ Some v → P v × (x ≡ v.name)
@@ -20,11 +19,25 @@ named_one P (u ∷ vs) x v h e = by (bytes_eq x u.name) refl e (named_one P vs x
   by true t f next = let same : u ≡ v = cc in (subst P same h.0, subst (λ (w : Variable). x ≡ w.name) same (same_name x u.name t))
   by false t f next = next f
 
+pub named_left : (vs ws : List Variable) (x : Name) (v : Variable) → variable_named vs x ≡ Some v → variable_named (vs ++ ws) x ≡ Some v
+named_left [] ws x v e = absurd cc
+named_left (u ∷ vs) ws x v e = by (bytes_eq x u.name) e (named_left vs ws x v) where
+  by : (b : Bool) → (if b then Some u else variable_named vs x) ≡ Some v → (variable_named vs x ≡ Some v → variable_named (vs ++ ws) x ≡ Some v) → (if b then Some u else variable_named (vs ++ ws) x) ≡ Some v
+  by true e next = e
+  by false e next = next e
+
 pub named_right : (vs ws : List Variable) (x : Name) → variable_named vs x ≡ None → variable_named (vs ++ ws) x ≡ variable_named ws x
 named_right [] ws x e = refl
 named_right (u ∷ vs) ws x e = by (bytes_eq x u.name) e (named_right vs ws x) where
   by : (b : Bool) → (if b then Some u else variable_named vs x) ≡ None → (variable_named vs x ≡ None → variable_named (vs ++ ws) x ≡ variable_named ws x) → (if b then Some u else variable_named (vs ++ ws) x) ≡ variable_named ws x
   by true e next = absurd cc
+  by false e next = next e
+
+pub is_listed : (vs : List Variable) (x : Name) (v : Variable) → variable_named vs x ≡ Some v → is_in x (variable_names vs) ≡ true
+is_listed [] x v e = absurd cc
+is_listed (u ∷ vs) x v e = by (bytes_eq x u.name) e (is_listed vs x v) where
+  by : (b : Bool) → (if b then Some u else variable_named vs x) ≡ Some v → (variable_named vs x ≡ Some v → is_in x (variable_names vs) ≡ true) → (b || is_in x (variable_names vs)) ≡ true
+  by true e next = refl
   by false e next = next e
 
 not_listed : (vs : List Variable) (x : Name) → variable_named vs x ≡ None → is_in x (variable_names vs) ≡ false

@@ -7,17 +7,16 @@ use Rattle.fb_words.specs.declared.elem_type.ElemType.{ElemType}
 use Rattle.fb_model.specs.Names.{Name, is_in}
 use Rattle.fb_model.specs.Productions.{Word}
 use Rattle.fb_model.specs.Declarations.{EventTree, ChartTree, BlockTree, SourceTree}
-use Rattle.fb_model.specs.System.{Block, Service, Input, Output, Publish, Subscribe, Delay, Cycle, Restart, Device, System}
-use Rattle.fb_model.specs.Services.{qi, dt, req, arrive, start, numbered, sent, ports, service_inputs}
+use Rattle.fb_model.specs.System.{Block, Service, Input, Output, Publish, Subscribe, Delay, Cycle, Restart, Device, System, Variable}
+use Rattle.fb_model.specs.Services.{qi, dt, req, arrive, start, numbered, sent, ports, service_inputs, service_takes}
 use Rattle.fb_model.specs.Typing.{texts}
-use Rattle.fb_model.specs.BlockTyping.{names_in, typed_event, AreKnown, IsBasic}
+use Rattle.fb_model.specs.BlockTyping.{Declared, names_in, typed_event, AreKnown, variable_of, IsBasic}
 use Rattle.fb_model.specs.NetworkTyping.{ElaboratesWith}
 use Rattle.fb_model.specs.Wires.{Kind, Charted, Serviced, Leaf, leaves}
 use Rattle.fb_model.specs.Store.{variable_names, inputs, carried, takes}
 use Rattle.fb_model.proofs.Lists.{all_weaker, same_name}
 use Rattle.fb_leaves.specs.Leaves.{OnChart}
 use Rattle.fb_leaves.proofs.Charts.{on_charts}
-use Rattle.fb_leaves.proofs.Typed.{names_declared}
 
 -- what is sampled are data inputs
 abbrev pub TakesInputs : Kind → Type 0
@@ -36,6 +35,10 @@ carried_in names (t ∷ es) e x h i = by (bytes_eq t.name.text e) i (carried_in 
   by : (b : Bool) → is_in x (if b then texts t.carries else carried (map typed_event es) e) ≡ true → (is_in x (carried (map typed_event es) e) ≡ true → is_in x names ≡ true) → is_in x names ≡ true
   by true f next = known_in names t.carries x h.0 f
   by false f next = next f
+
+names_declared : (ds : List Declared) → variable_names (map variable_of ds) ≡ names_in ds
+names_declared [] = refl
+names_declared (d ∷ ds) = ap (λ ns. d.name ∷ ns) (names_declared ds)
 
 block_takes : (b : BlockTree) (c : ChartTree) (k : Block) → IsBasic b c k → TakesInputs (Charted k)
 block_takes b c k h e x i =

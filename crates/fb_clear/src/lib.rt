@@ -10,8 +10,7 @@ ghost use Rattle.fb_model.specs.DeclarationGrammar.{IsFile};
 ghost use Rattle.fb_model.specs.NetworkTyping.{ElaboratesWith};
 ghost use Rattle.fb_model.specs.System.{Device, System};
 ghost use Rattle.fb_model.specs.Wires.{leaves};
-ghost use Rattle.fb_model.specs.Ranges.{Range};
-ghost use Rattle.fb_clear.specs.Rows.{LeafLies, LeafClears};
+ghost use Rattle.fb_model.specs.Ranges.{Range, LeafLies, LeafClears};
 
 /// In a system that stands in texts, whose rows lie in the types of their variables and hold what these begin with and what inputs take, and
 /// whose algorithms and guards are all clear under the rows, every leaf keeps its values in the rows, whatever happens: no algorithm and no

@@ -1,13 +1,16 @@
 -- The rows of the tables and the numbers of the book.
-use Rattle.std.proofs.Common.{◌≡◌, ◌+◌, List, [], ◌∷◌, ◌++◌, map, Option, None, Some, refl, sym, ap, ◌∙◌, string_bytes}
+use Rattle.std.proofs.Common.{◌≡◌, ◌≤◌, ◌+◌, ℕ, Bool, true, false, cond, arith, subst, List, [], ◌∷◌, ◌++◌, map, Option, None, Some, refl, sym, ap, ◌∙◌, string_bytes}
+use Rattle.std.specs.Prelude.{min}
 use Rattle.std.specs.List.{sum_by, AllByRecursion}
 use Rattle.std.proofs.lemmas.List.Sums.{sum_by-cons}
-use Rattle.fb_model.specs.Names.{Name, Path, Place, at_place}
+use Rattle.fb_model.specs.Names.{Name, Path, Place, at_place, place_eq}
 use Rattle.fb_model.specs.Spelling.{IsWord}
-use Rattle.fb_model.specs.CertificateText.{names_in, place_of, all_but_last, last_name}
+use Rattle.fb_model.specs.CertificateText.{names_in, place_of, all_but_last, last_name, most_steps, most_places}
+use Rattle.fb_model.specs.Certificates as book
+use Rattle.fb_model.proofs.Lists.{all_weaker}
 use Rattle.fb_cert.specs.declared.certificate.Amount.{Amount}
 use Rattle.fb_cert.specs.declared.certificate.Certificate.{Certificate}
-use Rattle.fb_cert.specs.Views.{first_at, rows_of, certificate_of, steps_in, places_in}
+use Rattle.fb_cert.specs.Views.{Table, amount_rows, first_at, rows_of, certificate_of, steps_in, places_in}
 use Rattle.fb_cert.proofs.Places.{steps_same, places_same}
 use Rattle.fb_flat.specs.declared.flat.Target.{Target}
 use Rattle.fb_flat.specs.Tables.{target_place}
@@ -16,6 +19,7 @@ use Rattle.fb_flat.proofs.Dotted.{names_dotted}
 use Rattle.fb_columns.specs.declared.column.Column.{Column}
 use Rattle.fb_columns.specs.declared.column.Column.TheVariants.{Steps, Places}
 use Rattle.fb_columns.specs.Columns.{unit_of, column_of}
+use Rattle.fb_columns.specs.Fitting.{IsSmall, AreSmall}
 use Rattle.fb_columns.specs.Reckoning.{number_of, weight_of, charge_of, target_weight, load_of}
 
 front : (ns : Path) (n : Name) → all_but_last (ns ++ n ∷ []) ≡ ns
@@ -33,34 +37,55 @@ place_dotted path x h =
     let e = names_dotted path x h in
     ap (λ ns. at_place (all_but_last ns) (last_name ns)) e ∙ ap (λ p. at_place p (last_name (names_in path ++ x ∷ []))) (front (names_in path) x) ∙ ap (at_place (names_in path)) (end (names_in path) x)
 
-in_steps : (o : Option Amount) → steps_in o ≡ number_of Steps o
-in_steps None = refl
-in_steps (Some a) = refl
+least : (n m : ℕ) → n ≤ m → n ≡ min n m
+least n m h = omega (arith, h)
 
-in_places : (o : Option Amount) → places_in o ≡ number_of Places o
-in_places None = refl
-in_places (Some a) = refl
+-- what is said of the first row of a place is no more than what is said of all
+amount_small : (f : book.Row → ℕ) (most : ℕ) (rows : List book.Row) (p : Place) → AllByRecursion (λ (r : book.Row). f r ≤ most) rows → book.amount f rows p ≤ most
+amount_small f most [] p h = omega arith
+amount_small f most (r ∷ rs) p h = by (place_eq r.place p) (amount_small f most rs p h.1) where
+  by : (b : Bool) → book.amount f rs p ≤ most → cond b (f r) (book.amount f rs p) ≤ most
+  by true others = h.0
+  by false others = others
 
-pub charge_is : (c : Column) (cert : Certificate) (path x : Name) → IsWord x → (column_of c (certificate_of cert)).charge (at_place (names_in path) x) ≡ charge_of c cert path x
-charge_is Steps cert path x h =
-    ap (column_of Steps (certificate_of cert)).charge (sym (place_dotted path x h)) ∙ steps_same (rows_of cert).charges (dotted path x) ∙ in_steps (first_at (dotted path x) (rows_of cert).charges)
-charge_is Places cert path x h =
-    ap (column_of Places (certificate_of cert)).charge (sym (place_dotted path x h)) ∙ places_same (rows_of cert).charges (dotted path x) ∙ in_places (first_at (dotted path x) (rows_of cert).charges)
+in_steps : (o : Option Amount) → steps_in o ≤ most_steps → steps_in o ≡ number_of Steps o
+in_steps None h = refl
+in_steps (Some a) h = least a.steps most_steps h
 
-pub weight_is : (c : Column) (cert : Certificate) (path x : Name) → IsWord x → (column_of c (certificate_of cert)).weight (at_place (names_in path) x) ≡ weight_of c cert path x
-weight_is Steps cert path x h =
-    ap (column_of Steps (certificate_of cert)).weight (sym (place_dotted path x h)) ∙ steps_same (rows_of cert).weights (dotted path x) ∙ in_steps (first_at (dotted path x) (rows_of cert).weights)
-weight_is Places cert path x h =
-    ap (column_of Places (certificate_of cert)).weight (sym (place_dotted path x h)) ∙ places_same (rows_of cert).weights (dotted path x) ∙ in_places (first_at (dotted path x) (rows_of cert).weights)
+in_places : (o : Option Amount) → places_in o ≤ most_places → places_in o ≡ number_of Places o
+in_places None h = refl
+in_places (Some a) h = least a.places most_steps (few a.places h) where
+  few : (n : ℕ) → n ≤ most_places → n ≤ most_steps
+  few n h = omega (arith, h)
+
+steps_are : (rows : Table Amount) (path : List ℕ) → AllByRecursion IsSmall (amount_rows rows) → book.amount (λ r. r.steps) (amount_rows rows) (place_of path) ≡ number_of Steps (first_at path rows)
+steps_are rows path h =
+    let same = steps_same rows path in
+    let few = amount_small (λ r. r.steps) most_steps (amount_rows rows) (place_of path) (all_weaker IsSmall (λ (r : book.Row). r.steps ≤ most_steps) (amount_rows rows) (λ r k. k.0) h) in
+    same ∙ in_steps (first_at path rows) (subst (λ n. n ≤ most_steps) same few)
+
+places_are : (rows : Table Amount) (path : List ℕ) → AllByRecursion IsSmall (amount_rows rows) → book.amount (λ r. r.places) (amount_rows rows) (place_of path) ≡ number_of Places (first_at path rows)
+places_are rows path h =
+    let same = places_same rows path in
+    let few = amount_small (λ r. r.places) most_places (amount_rows rows) (place_of path) (all_weaker IsSmall (λ (r : book.Row). r.places ≤ most_places) (amount_rows rows) (λ r k. k.1) h) in
+    same ∙ in_places (first_at path rows) (subst (λ n. n ≤ most_places) same few)
+
+pub charge_is : (c : Column) (cert : Certificate) → AreSmall (certificate_of cert) → (path x : Name) → IsWord x → (column_of c (certificate_of cert)).charge (at_place (names_in path) x) ≡ charge_of c cert path x
+charge_is Steps cert small path x h = ap (column_of Steps (certificate_of cert)).charge (sym (place_dotted path x h)) ∙ steps_are (rows_of cert).charges (dotted path x) small.charges
+charge_is Places cert small path x h = ap (column_of Places (certificate_of cert)).charge (sym (place_dotted path x h)) ∙ places_are (rows_of cert).charges (dotted path x) small.charges
+
+pub weight_is : (c : Column) (cert : Certificate) → AreSmall (certificate_of cert) → (path x : Name) → IsWord x → (column_of c (certificate_of cert)).weight (at_place (names_in path) x) ≡ weight_of c cert path x
+weight_is Steps cert small path x h = ap (column_of Steps (certificate_of cert)).weight (sym (place_dotted path x h)) ∙ steps_are (rows_of cert).weights (dotted path x) small.weights
+weight_is Places cert small path x h = ap (column_of Places (certificate_of cert)).weight (sym (place_dotted path x h)) ∙ places_are (rows_of cert).weights (dotted path x) small.weights
 
 pub unit_is : (c : Column) (cert : Certificate) → (column_of c (certificate_of cert)).unit ≡ unit_of c
 unit_is Steps cert = refl
 unit_is Places cert = refl
 
 -- the weights of all targets
-pub load_is : (c : Column) (cert : Certificate) (ts : List Target) → AllByRecursion (λ (p : Place). IsWord p.event) (map target_place ts) → load_of c cert ts ≡ sum_by (column_of c (certificate_of cert)).weight (map target_place ts)
-load_is c cert [] h = refl
-load_is c cert (t ∷ ts) h =
+pub load_is : (c : Column) (cert : Certificate) (small : AreSmall (certificate_of cert)) (ts : List Target) → AllByRecursion (λ (p : Place). IsWord p.event) (map target_place ts) → load_of c cert ts ≡ sum_by (column_of c (certificate_of cert)).weight (map target_place ts)
+load_is c cert small [] h = refl
+load_is c cert small (t ∷ ts) h =
     let w = (column_of c (certificate_of cert)).weight in
-    let one : target_weight c cert t ≡ w (target_place t) = sym (weight_is c cert (string_bytes t.path) (string_bytes t.event) h.0) in
-    sum_by-cons (target_weight c cert) t ts ∙ ap (λ n. n + load_of c cert ts) one ∙ ap (λ n. w (target_place t) + n) (load_is c cert ts h.1) ∙ sym (sum_by-cons w (target_place t) (map target_place ts))
+    let one : target_weight c cert t ≡ w (target_place t) = sym (weight_is c cert small (string_bytes t.path) (string_bytes t.event) h.0) in
+    sum_by-cons (target_weight c cert) t ts ∙ ap (λ n. n + load_of c cert ts) one ∙ ap (λ n. w (target_place t) + n) (load_is c cert small ts h.1) ∙ sym (sum_by-cons w (target_place t) (map target_place ts))

@@ -7,12 +7,11 @@ use Rattle.fb_model.specs.Names.{Name, is_in}
 use Rattle.fb_model.specs.System as book
 use Rattle.fb_model.specs.Spelling.{AreWords}
 use Rattle.fb_model.specs.Typing.{names_of}
-use Rattle.fb_model.specs.Wires.{Charted}
 use Rattle.fb_model.specs.Certificates.{names, event_names}
 use Rattle.fb_flat.specs.fb_blocks.declared.typed.Transition.{Transition}
 use Rattle.fb_flat.specs.fb_blocks.declared.typed.Block.{Block}
 use Rattle.fb_flat.specs.fb_blocks.Views.{event_of, action_of, transition_of, block_of}
-use Rattle.fb_leaves.specs.Leaves.{IsListed, IsClosedBlock, IsIdle}
+use Rattle.fb_leaves.specs.Leaves.{IsListed, IsClosedBlock}
 use Rattle.fb_columns.specs.Reckoning.{Entry, table_names}
 use Rattle.fb_columns.specs.Paying.{outputs_in, inputs_in}
 use Rattle.fb_columns.proofs.Lists.{all_source}
@@ -50,7 +49,6 @@ pub record IsTabled (k : Block) : Type 0 where
   pub transitions : AllByRecursion (λ (t : Transition). IsCrossing (states_in k) (inputs_in k) (transition_of t)) k.transitions.items
   pub inputs : AreWords (inputs_in k)
   pub states : AreWords (states_in k)
-  pub idle : (block_of k).procedures ≡ []
 
 crossing : (states inputs : List Name) (ts : List book.Transition)
     → AllByRecursion (λ (t : book.Transition). is_in t.source states ≡ true) ts → AllByRecursion (λ (t : book.Transition). is_in t.target states ≡ true) ts → AllByRecursion (λ (t : book.Transition). IsListed inputs t.event) ts
@@ -58,8 +56,8 @@ crossing : (states inputs : List Name) (ts : List book.Transition)
 crossing states inputs [] s t e = tt
 crossing states inputs (x ∷ xs) s t e = ((s.0, t.0, e.0), crossing states inputs xs s.1 t.1 e.1)
 
-pub tabled : (k : Block) → IsClosedBlock (block_of k) → IsIdle (Charted (block_of k)) → AreWords (names (block_of k).states) → AreWords (event_names (block_of k).event_inputs) → IsTabled k
-tabled k closed idle states inputs =
+pub tabled : (k : Block) → IsClosedBlock (block_of k) → AreWords (names (block_of k).states) → AreWords (event_names (block_of k).event_inputs) → IsTabled k
+tabled k closed states inputs =
     let ts = map transition_of k.transitions.items in
     let ss = map state_of k.states.entries in
     let states_are : names ss ≡ states_in k = state_names_are k.states.entries in
@@ -75,5 +73,4 @@ tabled k closed idle states inputs =
       transitions = all_source (λ (x : Transition). IsCrossing (states_in k) (inputs_in k) (transition_of x)) (IsCrossing (states_in k) (inputs_in k)) transition_of k.transitions.items (λ x a. a) crossings;
       inputs = subst (λ (ns : List Name). AreWords ns) inputs_are inputs;
       states = subst (λ (ns : List Name). AreWords ns) states_are states;
-      idle = idle.0;
     }

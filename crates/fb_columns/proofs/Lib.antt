@@ -18,3 +18,5 @@ pub mod Serving
 pub mod Leaves
 pub mod Composed
 pub mod Denied
+pub mod Small
+pub mod Costing

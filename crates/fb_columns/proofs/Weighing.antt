@@ -8,7 +8,7 @@ use Rattle.std.specs.declared.string.String.{String}
 use Rattle.std.specs.declared.alloc.Global.{Global}
 use Rattle.fb_model.specs.Names.{Name, Place, at_place, is_in}
 use Rattle.fb_model.specs.Spelling.{IsWord}
-use Rattle.fb_model.specs.Language.{Limits}
+use Rattle.fb_model.specs.Clear.{Spans}
 use Rattle.fb_model.specs.System as book
 use Rattle.fb_model.specs.Charts.{actions_of, emission, algorithm_of, named, is_open}
 use Rattle.fb_model.specs.Ranges.{cost_of}
@@ -25,7 +25,7 @@ use Rattle.fb_flat.specs.fb_blocks.Views.{name_of, action_of, transition_of, blo
 use Rattle.fb_leaves.specs.Leaves.{IsListed}
 use Rattle.fb_columns.specs.declared.column.Column.{Column}
 use Rattle.fb_columns.specs.Columns.{unit_of, crossing_need}
-use Rattle.fb_columns.specs.Reckoning.{weight_of, charge_of, value_at, Entry, emitted, own_of, cost_at}
+use Rattle.fb_columns.specs.Reckoning.{weight_of, charge_of, value_at, table_names, Costs, Entry, acted, own_of, cost_at}
 use Rattle.fb_columns.specs.Paying.{StatePays, SourcePays, Pays, InputPays, EventPays, outputs_in, inputs_in, costs_in, most_in, ChartPays, StateOwes, EventOwes}
 use Rattle.fb_columns.specs.Fitting.{ChargeFails, WeightFails}
 use Rattle.fb_columns.proofs.Lists.{is_text, bytes_turned, in_at, each_in, all_image, all_source, all_here, all_at, any_image}
@@ -37,10 +37,11 @@ use Rattle.fb_columns.proofs.Crossings.{IsWithin, each_within, most_within}
 pub le_along : (a b m n : ℕ) → a ≡ b → m ≡ n → a ≤ m → b ≤ n
 le_along a b m n e f h = omega arith
 
-costless : (u m n : ℕ) → m ≡ 0 → n ≡ u * m + n
-costless u m n e = rw e (zero_cost u n) where
-  zero_cost : (u n : ℕ) → n ≡ u * 0 + n
-  zero_cost u n = omega arith
+nothing : (u : ℕ) → 0 ≡ u * 0
+nothing u = omega arith
+
+two : (a b m n : ℕ) → a ≡ b → m ≡ n → a + m ≡ b + n
+two a b m n e f = omega arith
 
 three : (a b m n x y : ℕ) → a ≡ b → m ≡ n → x ≡ y → a + m + x ≡ b + n + y
 three a b m n x y e f g = omega arith
@@ -57,43 +58,43 @@ re_named o e = ap name_of e
 
 -- ---- a block, in a column of the book whose numbers are those of the tables
 
-module _ (c : Column) (rows : Certificate) (path : Name) (col : cert.Column) (limits : Limits) (targets : Name → List Place) (k : Block) (ns : List ℕ)
+module _ (c : Column) (rows : Certificate) (path : Name) (col : cert.Column) (spans : Spans) (targets : Name → List Place) (k : Block) (ns : Costs)
     (unit_same : col.unit ≡ unit_of c)
     (charge_same : (x : Name) → IsWord x → col.charge (at_place (names_in path) x) ≡ charge_of c rows path x)
     (weight_same : (x : Name) → IsWord x → col.weight (at_place (names_in path) x) ≡ weight_of c rows path x)
-    (loads_same : (o : Name) → is_in o (outputs_in k) ≡ true → value_at (outputs_in k) ns 0 o ≡ sum_by col.weight (targets o))
+    (loads_same : (o : Name) → is_in o (outputs_in k) ≡ true → value_at (outputs_in k) ns.outputs 0 o ≡ sum_by col.weight (targets o))
+    (algorithms_same : (x : Name) → value_at (table_names k.procedures) ns.algorithms 0 x ≡ col.unit * cost_of spans (named (block_of k).procedures x))
     (tables : IsTabled k) where
-  -- no algorithm costs anything, since there is none
-  no_cost : (a : Option Name) → cost_of limits (algorithm_of (block_of k) a) ≡ 0
-  no_cost None = refl
-  no_cost (Some a) = ap (λ ps. cost_of limits (named ps a)) tables.idle
+  ran : (a : Option (String Global)) → (elim a [ None ↦ 0 | Some x ↦ value_at (table_names k.procedures) ns.algorithms 0 (string_bytes x) ]) ≡ col.unit * cost_of spans (algorithm_of (block_of k) (name_of a))
+  ran None = nothing col.unit
+  ran (Some x) = algorithms_same (string_bytes x)
 
   sent : (output : Option (String Global)) → IsListed (outputs_in k) (name_of output)
-      → (elim output [ None ↦ 0 | Some o ↦ value_at (outputs_in k) ns 0 (string_bytes o) ]) ≡ sent_weight col targets (emission (name_of output))
+      → (elim output [ None ↦ 0 | Some o ↦ value_at (outputs_in k) ns.outputs 0 (string_bytes o) ]) ≡ sent_weight col targets (emission (name_of output))
   sent None h = refl
   sent (Some o) h = loads_same (string_bytes o) h ∙ ap (sum_by col.weight) (sym (append-nil (targets (string_bytes o))))
 
-  acts : (a : Action) → IsEmitting (outputs_in k) (action_of a) → emitted (outputs_in k) ns a ≡ action_load col limits targets (block_of k) (action_of a)
-  acts a h = sent a.output h ∙ costless col.unit (cost_of limits (algorithm_of (block_of k) (name_of a.algorithm))) (sent_weight col targets (emission (name_of a.output))) (no_cost (name_of a.algorithm))
+  acts : (a : Action) → IsEmitting (outputs_in k) (action_of a) → acted k ns a ≡ action_load col spans targets (block_of k) (action_of a)
+  acts a h = two _ _ _ _ (ran a.algorithm) (sent a.output h)
 
-  own_same : (xs : List Action) → AllByRecursion (IsEmitting (outputs_in k)) (map action_of xs) → sum_by (emitted (outputs_in k) ns) xs ≡ own col limits targets (block_of k) (map action_of xs)
+  own_same : (xs : List Action) → AllByRecursion (IsEmitting (outputs_in k)) (map action_of xs) → sum_by (acted k ns) xs ≡ own col spans targets (block_of k) (map action_of xs)
   own_same [] h = refl
   own_same (a ∷ xs) h =
-      let f = emitted (outputs_in k) ns in
-      let g = action_load col limits targets (block_of k) in
+      let f = acted k ns in
+      let g = action_load col spans targets (block_of k) in
       let one : f a ≡ g (action_of a) = acts a h.0 in
       sum_by-cons f a xs ∙ ap (λ n. n + sum_by f xs) one ∙ ap (λ n. g (action_of a) + n) (own_same xs h.1) ∙ sym (sum_by-cons g (action_of a) (map action_of xs))
 
   costs_same : (ss : List Entry) → AllByRecursion (λ (s : Entry). AllByRecursion (IsEmitting (outputs_in k)) (map action_of s.1.items)) ss → (x : Name)
-      → cost_at (outputs_in k) ns ss x ≡ own col limits targets (block_of k) (actions_of (map state_of ss) x)
+      → cost_at k ns ss x ≡ own col spans targets (block_of k) (actions_of (map state_of ss) x)
   costs_same [] h x = refl
   costs_same (s ∷ ss) h x = by (bytes_eq x (string_bytes s.0)) refl (costs_same ss h.1 x) where
-    by : (b : Bool) → bytes_eq x (string_bytes s.0) ≡ b → cost_at (outputs_in k) ns ss x ≡ own col limits targets (block_of k) (actions_of (map state_of ss) x)
-        → cond b (own_of (outputs_in k) ns s) (cost_at (outputs_in k) ns ss x)
-        ≡ own col limits targets (block_of k) (cond (bytes_eq (string_bytes s.0) x) (map action_of s.1.items) (actions_of (map state_of ss) x))
+    by : (b : Bool) → bytes_eq x (string_bytes s.0) ≡ b → cost_at k ns ss x ≡ own col spans targets (block_of k) (actions_of (map state_of ss) x)
+        → cond b (own_of k ns s) (cost_at k ns ss x)
+        ≡ own col spans targets (block_of k) (cond (bytes_eq (string_bytes s.0) x) (map action_of s.1.items) (actions_of (map state_of ss) x))
     by true e others =
-        own_same s.1.items h.0 ∙ ap (λ t. own col limits targets (block_of k) (cond t (map action_of s.1.items) (actions_of (map state_of ss) x))) (sym (bytes_turned x (string_bytes s.0) true e))
-    by false e others = others ∙ ap (λ t. own col limits targets (block_of k) (cond t (map action_of s.1.items) (actions_of (map state_of ss) x))) (sym (bytes_turned x (string_bytes s.0) false e))
+        own_same s.1.items h.0 ∙ ap (λ t. own col spans targets (block_of k) (cond t (map action_of s.1.items) (actions_of (map state_of ss) x))) (sym (bytes_turned x (string_bytes s.0) true e))
+    by false e others = others ∙ ap (λ t. own col spans targets (block_of k) (cond t (map action_of s.1.items) (actions_of (map state_of ss) x))) (sym (bytes_turned x (string_bytes s.0) false e))
 
   state_word : (x : Name) → is_in x (states_in k) ≡ true → IsWord x
   state_word x h = at_listed IsWord (states_in k) x tables.states h
@@ -106,10 +107,10 @@ module _ (c : Column) (rows : Certificate) (path : Name) (col : cert.Column) (li
   abbrev Acting : Entry → Type 0
   Acting s = IsWord (string_bytes s.0) × AllByRecursion (IsEmitting (outputs_in k)) (map action_of s.1.items)
 
-  state_fits : (s : Entry) → Acting s → StatePays c rows path (outputs_in k) ns s → StateFits col limits targets (names_in path) (block_of k) (state_of s)
+  state_fits : (s : Entry) → Acting s → StatePays c rows path k ns s → StateFits col spans targets (names_in path) (block_of k) (state_of s)
   state_fits s a p = le_along _ _ _ _ (own_same s.1.items a.1) (sym (charge_same (string_bytes s.0) a.0)) p
 
-  state_pays : (s : Entry) → Acting s → StateFits col limits targets (names_in path) (block_of k) (state_of s) → StatePays c rows path (outputs_in k) ns s
+  state_pays : (s : Entry) → Acting s → StateFits col spans targets (names_in path) (block_of k) (state_of s) → StatePays c rows path k ns s
   state_pays s a p = le_along _ _ _ _ (sym (own_same s.1.items a.1)) (charge_same (string_bytes s.0) a.0) p
 
   -- ---- free transitions
@@ -118,13 +119,13 @@ module _ (c : Column) (rows : Certificate) (path : Name) (col : cert.Column) (li
   Crossing t = IsCrossing (states_in k) (inputs_in k) (transition_of t)
 
   need_same : (t : Transition) → Crossing t → costs_in k ns (string_bytes t.source) + unit_of c + charge_of c rows path (string_bytes t.target)
-      ≡ own col limits targets (block_of k) (actions_of (map state_of k.states.entries) (string_bytes t.source)) + col.unit + col.charge (at_place (names_in path) (string_bytes t.target))
+      ≡ own col spans targets (block_of k) (actions_of (map state_of k.states.entries) (string_bytes t.source)) + col.unit + col.charge (at_place (names_in path) (string_bytes t.target))
   need_same t a = three _ _ _ _ _ _ (costs_same k.states.entries tables.actions (string_bytes t.source)) (sym unit_same) (sym (charge_same (string_bytes t.target) (state_word (string_bytes t.target) a.1)))
 
-  free_fits : (t : Transition) → Crossing t → SourcePays c rows path (costs_in k ns) t → FreeFits col limits targets (names_in path) (block_of k) (transition_of t)
+  free_fits : (t : Transition) → Crossing t → SourcePays c rows path (costs_in k ns) t → FreeFits col spans targets (names_in path) (block_of k) (transition_of t)
   free_fits t a p = λ none. le_along _ _ _ _ (need_same t a) (sym (charge_same (string_bytes t.source) (state_word (string_bytes t.source) a.0))) (p (un_named t.event none))
 
-  free_pays : (t : Transition) → Crossing t → FreeFits col limits targets (names_in path) (block_of k) (transition_of t) → SourcePays c rows path (costs_in k ns) t
+  free_pays : (t : Transition) → Crossing t → FreeFits col spans targets (names_in path) (block_of k) (transition_of t) → SourcePays c rows path (costs_in k ns) t
   free_pays t a p = λ none. le_along _ _ _ _ (sym (need_same t a)) (charge_same (string_bytes t.source) (state_word (string_bytes t.source) a.0)) (p (re_named t.event none))
 
   -- ---- event inputs
@@ -194,14 +195,14 @@ module _ (c : Column) (rows : Certificate) (path : Name) (col : cert.Column) (li
   inputs_are : event_names (block_of k).event_inputs ≡ inputs_in k
   inputs_are = event_names_are k.face.event_inputs.entries
 
-  pub chart_weighs : ChartPays c rows path k ns → ChartFits col limits targets (names_in path) (block_of k)
+  pub chart_weighs : ChartPays c rows path k ns → ChartFits col spans targets (names_in path) (block_of k)
   chart_weighs p =
       record {
         states =
-            all_image (λ (s : Entry). Acting s × StatePays c rows path (outputs_in k) ns s) (StateFits col limits targets (names_in path) (block_of k)) state_of k.states.entries (λ s q. state_fits s q.0 q.1)
-            (all_both Acting (StatePays c rows path (outputs_in k) ns) (λ (s : Entry). Acting s × StatePays c rows path (outputs_in k) ns s) k.states.entries (λ s a q. (a, q)) acting p.states);
+            all_image (λ (s : Entry). Acting s × StatePays c rows path k ns s) (StateFits col spans targets (names_in path) (block_of k)) state_of k.states.entries (λ s q. state_fits s q.0 q.1)
+            (all_both Acting (StatePays c rows path k ns) (λ (s : Entry). Acting s × StatePays c rows path k ns s) k.states.entries (λ s a q. (a, q)) acting p.states);
         free =
-            all_image (λ (t : Transition). Crossing t × SourcePays c rows path (costs_in k ns) t) (FreeFits col limits targets (names_in path) (block_of k)) transition_of k.transitions.items (λ t q. free_fits t q.0 q.1)
+            all_image (λ (t : Transition). Crossing t × SourcePays c rows path (costs_in k ns) t) (FreeFits col spans targets (names_in path) (block_of k)) transition_of k.transitions.items (λ t q. free_fits t q.0 q.1)
             (all_both Crossing (SourcePays c rows path (costs_in k ns)) (λ (t : Transition). Crossing t × SourcePays c rows path (costs_in k ns) t) k.transitions.items (λ t a q. (a, q)) tables.transitions p.sources);
         weights =
             subst (λ (es : List Name). AllByRecursion (InputFits col (names_in path) (block_of k)) es) (sym inputs_are)
@@ -213,14 +214,14 @@ module _ (c : Column) (rows : Certificate) (path : Name) (col : cert.Column) (li
   state_named x (inl a) = subst IsWord a.4.0 (all_here Acting k.states.entries a.0 a.1 acting a.2 a.3).0
   state_named x (inr a) = subst IsWord a.4.0 (state_word (string_bytes a.1.source) (all_here Crossing k.transitions.items a.0 a.1 tables.transitions a.2 a.3).0)
 
-  pub state_fails : (x : Name) → StateOwes c rows path k ns x → ChargeFails col limits targets (names_in path) (Charted (block_of k)) x
+  pub state_fails : (x : Name) → StateOwes c rows path k ns x → ChargeFails col spans targets (names_in path) (Charted (block_of k)) x
   state_fails x (inl a) =
       inl
-      (any_image Acting (λ (s : Entry). (string_bytes s.0 ≡ x) × (StatePays c rows path (outputs_in k) ns s → ⊥)) (λ (s : book.State). (s.name ≡ x) × (StateFits col limits targets (names_in path) (block_of k) s → ⊥)) state_of k.states.entries acting
+      (any_image Acting (λ (s : Entry). (string_bytes s.0 ≡ x) × (StatePays c rows path k ns s → ⊥)) (λ (s : book.State). (s.name ≡ x) × (StateFits col spans targets (names_in path) (block_of k) s → ⊥)) state_of k.states.entries acting
       (λ s t p. (p.0, λ f. p.1 (state_pays s t f))) a)
   state_fails x (inr a) =
       inr
-      (any_image Crossing (λ (t : Transition). (string_bytes t.source ≡ x) × (SourcePays c rows path (costs_in k ns) t → ⊥)) (λ (t : book.Transition). (t.source ≡ x) × (FreeFits col limits targets (names_in path) (block_of k) t → ⊥)) transition_of k.transitions.items
+      (any_image Crossing (λ (t : Transition). (string_bytes t.source ≡ x) × (SourcePays c rows path (costs_in k ns) t → ⊥)) (λ (t : book.Transition). (t.source ≡ x) × (FreeFits col spans targets (names_in path) (block_of k) t → ⊥)) transition_of k.transitions.items
       tables.transitions (λ t h p. (p.0, λ f. p.1 (free_pays t h f))) a)
 
   abbrev Fails : Name → Type 0

@@ -13,7 +13,7 @@ use Rattle.fb_columns.specs.declared.column.Column.{Column}
 use Rattle.fb_columns.specs.declared.fault.Shortfall.{Shortfall}
 use Rattle.fb_columns.specs.declared.fault.Shortfall.TheVariants.{OutOfMemory, Charge, Weight}
 use Rattle.fb_columns.specs.Columns.{unit_of, crossing_need}
-use Rattle.fb_columns.specs.Reckoning.{weight_of, charge_of, load_at, table_names, Entry, own_of, cost_at, most_free}
+use Rattle.fb_columns.specs.Reckoning.{weight_of, charge_of, load_at, table_names, Costs, Entry, own_of, cost_at, most_free}
 
 -- ---- refusals
 
@@ -46,8 +46,8 @@ NamesOne Says name P xs r = MatchResult r (λ u. AllByRecursion P xs) (Says (λ 
 -- ---- what has to be paid
 
 -- the charge of a state pays for its actions
-abbrev pub StatePays : Column → Certificate → Name → List Name → List ℕ → Entry → Type 0
-StatePays c cert path outputs loads s = own_of outputs loads s ≤ charge_of c cert path (string_bytes s.0)
+abbrev pub StatePays : Column → Certificate → Name → Block → Costs → Entry → Type 0
+StatePays c cert path block costs s = own_of block costs s ≤ charge_of c cert path (string_bytes s.0)
 
 -- the charge of a state pays for a free transition that leaves it
 abbrev pub SourcePays : Column → Certificate → Name → (Name → ℕ) → Transition → Type 0
@@ -77,24 +77,24 @@ outputs_in block = table_names block.face.event_outputs
 abbrev pub inputs_in : Block → List Name
 inputs_in block = table_names block.face.event_inputs
 
-abbrev pub costs_in : Block → List ℕ → Name → ℕ
-costs_in block loads = cost_at (outputs_in block) loads block.states.entries
+abbrev pub costs_in : Block → Costs → Name → ℕ
+costs_in block costs = cost_at block costs block.states.entries
 
 abbrev pub most_in : Column → Certificate → Name → Block → Option ℕ
 most_in c cert path block = most_free (charge_of c cert path) None block.transitions.items
 
--- the rows of a block pay, where its outputs have these loads
-pub record ChartPays (c : Column) (cert : Certificate) (path : Name) (block : Block) (loads : List ℕ) : Type 0 where
-  pub states : AllByRecursion (StatePays c cert path (outputs_in block) loads) block.states.entries
-  pub sources : AllByRecursion (SourcePays c cert path (costs_in block loads)) block.transitions.items
+-- the rows of a block pay, where the parts of its actions cost this
+pub record ChartPays (c : Column) (cert : Certificate) (path : Name) (block : Block) (costs : Costs) : Type 0 where
+  pub states : AllByRecursion (StatePays c cert path block costs) block.states.entries
+  pub sources : AllByRecursion (SourcePays c cert path (costs_in block costs)) block.transitions.items
   pub inputs : AllByRecursion (InputPays c cert path (most_in c cert path block)) (inputs_in block)
   pub events : AllByRecursion (EventPays c cert path) block.transitions.items
 
 -- the charge of a state of this name does not pay
-abbrev pub StateOwes : Column → Certificate → Name → Block → List ℕ → Name → Type 0
-StateOwes c cert path block loads x =
-    Any (λ s. (string_bytes s.0 ≡ x) × (StatePays c cert path (outputs_in block) loads s → ⊥)) block.states.entries
-    ⊎ Any (λ t. (string_bytes t.source ≡ x) × (SourcePays c cert path (costs_in block loads) t → ⊥)) block.transitions.items
+abbrev pub StateOwes : Column → Certificate → Name → Block → Costs → Name → Type 0
+StateOwes c cert path block costs x =
+    Any (λ s. (string_bytes s.0 ≡ x) × (StatePays c cert path block costs s → ⊥)) block.states.entries
+    ⊎ Any (λ t. (string_bytes t.source ≡ x) × (SourcePays c cert path (costs_in block costs) t → ⊥)) block.transitions.items
 
 -- the weight of an event of this name does not pay
 abbrev pub EventOwes : Column → Certificate → Name → Block → Name → Type 0
@@ -103,10 +103,10 @@ EventOwes c cert path block e =
     ⊎ Any (λ t. (event_named t ≡ e) × (EventPays c cert path t → ⊥)) block.transitions.items
 
 -- a row of the block that is named does not pay
-abbrev pub IsOwing : Column → Certificate → Name → Block → List ℕ → Shortfall → Type 0
-IsOwing c cert path block loads OutOfMemory = Unit {0}
-IsOwing c cert path block loads (Charge row) = IsCharge path (StateOwes c cert path block loads) (Charge row)
-IsOwing c cert path block loads (Weight row) = IsWeight path (EventOwes c cert path block) (Weight row)
+abbrev pub IsOwing : Column → Certificate → Name → Block → Costs → Shortfall → Type 0
+IsOwing c cert path block costs OutOfMemory = Unit {0}
+IsOwing c cert path block costs (Charge row) = IsCharge path (StateOwes c cert path block costs) (Charge row)
+IsOwing c cert path block costs (Weight row) = IsWeight path (EventOwes c cert path block) (Weight row)
 
 -- ---- a service
 

@@ -1,5 +1,5 @@
 -- What is reckoned with, in one column of a certificate.
-use Rattle.std.specs.Prelude.{ℕ, List, [], ◌∷◌, Option, None, Some, map, string_bytes, if◌then◌else◌}
+use Rattle.std.specs.Prelude.{ℕ, ◌+◌, min, List, [], ◌∷◌, Option, None, Some, map, string_bytes, if◌then◌else◌}
 use Rattle.std.specs.List.{sum_by}
 use Rattle.std.specs.Str.{bytes_eq}
 use Rattle.std.specs.declared.string.String.{String}
@@ -7,6 +7,7 @@ use Rattle.std.specs.declared.vec.Vec.{Vec}
 use Rattle.std.specs.declared.alloc.Global.{Global}
 use Rattle.indexmap.specs.IndexMap.{IndexMap}
 use Rattle.fb_model.specs.Names.{Name}
+use Rattle.fb_model.specs.CertificateText.{most_steps}
 use Rattle.fb_cert.specs.declared.certificate.Amount.{Amount}
 use Rattle.fb_cert.specs.declared.certificate.Certificate.{Certificate}
 use Rattle.fb_cert.specs.Views.{first_at, rows_of}
@@ -15,16 +16,18 @@ use Rattle.fb_flat.specs.declared.flat.Output.{Output}
 use Rattle.fb_flat.specs.Sites.{dotted}
 use Rattle.fb_flat.specs.fb_blocks.declared.typed.Action.{Action}
 use Rattle.fb_flat.specs.fb_blocks.declared.typed.Transition.{Transition}
+use Rattle.fb_flat.specs.fb_blocks.declared.typed.Block.{Block}
 use Rattle.fb_columns.specs.declared.column.Column.{Column}
+use Rattle.fb_columns.specs.declared.cost.Prices.{Prices}
 use Rattle.fb_columns.specs.Columns.{number_in}
 use Rattle.fb_columns.specs.Sums.{IsSum, greater}
 
 -- ---- rows
 
--- the number of a row, 0 where there is no row
+-- the number of a row, 0 where there is no row; no row says more than the most steps
 abbrev pub number_of : Column → Option Amount → ℕ
 number_of c None = 0
-number_of c (Some a) = number_in c a
+number_of c (Some a) = min (number_in c a) most_steps
 
 -- the weight of an event input or arrival, and the charge of a state
 abbrev pub weight_of : Column → Certificate → Name → Name → ℕ
@@ -68,21 +71,37 @@ AreSums (s ∷ ss) [] = ⊥
 
 -- ---- states
 
+-- what the parts of actions cost: each algorithm of a block, and each of its event outputs, in their orders
+pub record Costs : Type 0 where
+  pub algorithms : List ℕ
+  pub outputs : List ℕ
+
+-- the prices are these
+abbrev pub ArePrices : Prices → Costs → Type 0
+ArePrices prices costs = AreSums prices.algorithms.items costs.algorithms × AreSums prices.outputs.items costs.outputs
+
 -- a state of the tables: its name and its actions
 abbrev pub Entry : Type 0
 Entry = String Global × Vec Action Global
 
--- the load of what an action emits
-abbrev pub emitted : List Name → List ℕ → Action → ℕ
-emitted outputs loads a = elim a.output [ None ↦ 0 | Some o ↦ value_at outputs loads 0 (string_bytes o) ]
+-- the cost of the algorithm that an action runs
+abbrev pub worked : Block → Costs → Action → ℕ
+worked k costs a = elim a.algorithm [ None ↦ 0 | Some x ↦ value_at (table_names k.procedures) costs.algorithms 0 (string_bytes x) ]
 
--- what the actions of a state cost by themselves: the loads of all outputs that they emit
-abbrev pub own_of : List Name → List ℕ → Entry → ℕ
-own_of outputs loads s = sum_by (emitted outputs loads) s.1.items
+-- the load of what an action emits
+abbrev pub emitted : Block → Costs → Action → ℕ
+emitted k costs a = elim a.output [ None ↦ 0 | Some o ↦ value_at (table_names k.face.event_outputs) costs.outputs 0 (string_bytes o) ]
+
+abbrev pub acted : Block → Costs → Action → ℕ
+acted k costs a = worked k costs a + emitted k costs a
+
+-- what the actions of a state cost by themselves
+abbrev pub own_of : Block → Costs → Entry → ℕ
+own_of k costs s = sum_by (acted k costs) s.1.items
 
 -- the same of the first state of a name, 0 where there is none
-abbrev pub cost_at : List Name → List ℕ → List Entry → Name → ℕ
-cost_at outputs loads states x = value_at (map (λ s. string_bytes s.0) states) (map (own_of outputs loads) states) 0 x
+abbrev pub cost_at : Block → Costs → List Entry → Name → ℕ
+cost_at k costs states x = value_at (map (λ s. string_bytes s.0) states) (map (own_of k costs) states) 0 x
 
 -- ---- free transitions
 

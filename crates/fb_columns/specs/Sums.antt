@@ -1,9 +1,10 @@
--- Sums that may be too large for 64 bits.
-use Rattle.std.specs.Prelude.{◌≡◌, ℕ, ◌≤◌, ◌^◌, max, Option, None, Some}
+-- Sums that may be more than any row can pay.
+use Rattle.std.specs.Prelude.{◌≡◌, ℕ, ◌<◌, max, Option, None, Some}
+use Rattle.fb_model.specs.CertificateText.{most_steps}
 
--- the number, or nothing where it is 2 ^ 64 or more
+-- the number; nothing stands for one that is more than the most steps of a row
 abbrev pub IsSum : Option ℕ → ℕ → Type 0
-IsSum None v = 2 ^ 64 ≤ v
+IsSum None v = most_steps < v
 IsSum (Some n) v = n ≡ v
 
 -- the greater of two numbers, where there are any

@@ -3,12 +3,13 @@
 ghost use Rattle.std.specs.Prelude.{◌≡◌, ◌≤◌, ◌+◌, ℕ, List, None, Some, IfOk, IfErr, OnOk, MatchResult, map, string_bytes};
 ghost use Rattle.std.specs.List.{sum_by};
 ghost use Rattle.fb_model.specs.Names.{Name};
-ghost use Rattle.fb_columns.specs.Reckoning.{table_names, charge_of, value_at, AreSums, emitted, own_of, free_next, most_free};
+ghost use Rattle.fb_columns.specs.Reckoning.{table_names, charge_of, value_at, AreSums, Costs, ArePrices, acted, own_of, free_next, most_free};
 ghost use Rattle.fb_columns.specs.Sums.{IsSum, greater};
 ghost use Rattle.fb_columns.specs.Columns.{crossing_need};
 ghost use Rattle.fb_columns.specs.Paying.{IsMemory, IsCharge, IsWeight, Names, NamesOne, StatePays, SourcePays, InputPays, EventPays, event_named, ChartPays, IsOwing};
 
 use crate::column::{Column, plus};
+use crate::cost::{Prices, acted, at};
 use crate::fault::Shortfall;
 use crate::weights::{charge, charged, weighed, weight};
 use fb_cert::Certificate;
@@ -16,36 +17,13 @@ use fb_flat::fb_types::fb_networks::fb_services::fb_blocks::{Action, Block, Even
 use indexmap::IndexMap;
 use std::alloc::Global;
 
-// The sum at the place of a name, 0 where the name has none.
-fn at<V>(table: &IndexMap<String, V>, sums: &[Option<u64>], name: &str) -> Option<u64>
-    ensures { result ≡ value_at (table_names table.now) sums.now (Some 0) name.now }
-{
-    match table.get_index_of(name) {
-        Some(index) => match sums.get(index) {
-            Some(sum) => *sum,
-            None => Some(0),
-        },
-        None => Some(0),
-    }
-}
-
-// The load of the output that an action emits, if it emits one.
-fn emitted(outputs: &Events, loads: &[Option<u64>], action: &Action) -> Option<u64>
-    ensures { (ns : List ℕ) → AreSums loads.now ns → IsSum result (emitted (table_names outputs.now) ns action.now) }
-{
-    match &action.output {
-        Some(output) => at(outputs, loads, output.as_str()),
-        None => Some(0),
-    }
-}
-
-// What the actions of a state cost by themselves: the loads of all outputs that they emit.
-fn own(outputs: &Events, loads: &[Option<u64>], actions: &[Action]) -> Option<u64>
-    ensures { (ns : List ℕ) → AreSums loads.now ns → IsSum result (sum_by (emitted (table_names outputs.now) ns) actions.now) }
+// What the actions of a state cost by themselves.
+fn own(block: &Block, prices: &Prices, actions: &[Action]) -> Option<u64>
+    ensures { (costs : Costs) → ArePrices prices.now costs → IsSum result (sum_by (acted block.now costs) actions.now) }
 {
     let mut sum = Some(0);
     for action in actions {
-        sum = plus(sum, emitted(outputs, loads, action));
+        sum = plus(sum, acted(block, prices, action));
     }
     sum
 }
@@ -53,11 +31,11 @@ fn own(outputs: &Events, loads: &[Option<u64>], actions: &[Action]) -> Option<u6
 // What each state costs by itself, in the order of the states.
 fn costs(
     alloc: Global,
-    outputs: &Events,
-    loads: &[Option<u64>],
+    block: &Block,
+    prices: &Prices,
     states: &IndexMap<String, Vec<Action>>,
 ) -> Result<Vec<Option<u64>>, Shortfall>
-    ensures values { (ns : List ℕ) → AreSums loads.now ns → IfOk result (λ v. AreSums v.items (map (own_of (table_names outputs.now) ns) states.now.entries)) }
+    ensures values { (costs : Costs) → ArePrices prices.now costs → IfOk result (λ v. AreSums v.items (map (own_of block.now costs) states.now.entries)) }
     ensures refused { IfErr result IsMemory }
 {
     let mut costs = Vec::new(alloc);
@@ -65,7 +43,7 @@ fn costs(
         let Some((_, actions)) = states.get_index(index) else {
             return Ok(costs);
         };
-        costs.push(own(outputs, loads, actions.as_slice()))?;
+        costs.push(own(block, prices, actions.as_slice()))?;
     }
     Ok(costs)
 }
@@ -91,17 +69,17 @@ fn states_pay(
     certificate: &Certificate,
     column: Column,
     path: &str,
-    outputs: &Events,
-    loads: &[Option<u64>],
+    block: &Block,
+    prices: &Prices,
     states: &IndexMap<String, Vec<Action>>,
 ) -> Result<(), Shortfall>
-    ensures { (ns : List ℕ) → AreSums loads.now ns → NamesOne (IsCharge path.now) (λ s. string_bytes s.0) (StatePays column certificate.now path.now (table_names outputs.now) ns) states.now.entries result }
+    ensures { (costs : Costs) → ArePrices prices.now costs → NamesOne (IsCharge path.now) (λ s. string_bytes s.0) (StatePays column certificate.now path.now block.now costs) states.now.entries result }
 {
     for index in 0..states.len() {
         let Some((name, actions)) = states.get_index(index) else {
             return Ok(());
         };
-        let cost = own(outputs, loads, actions.as_slice());
+        let cost = own(block, prices, actions.as_slice());
         state_pays(alloc, certificate, column, path, name.as_str(), cost)?;
     }
     Ok(())
@@ -283,22 +261,21 @@ fn events_pay(
     Ok(())
 }
 
-/// The rows of a basic block pay in a column, where its outputs have these loads.
+/// The rows of a basic block pay in a column, where the parts of its actions have these prices.
 pub(crate) fn chart_pays(
     alloc: Global,
     certificate: &Certificate,
     column: Column,
     path: &str,
     block: &Block,
-    loads: &[Option<u64>],
+    prices: &Prices,
 ) -> Result<(), Shortfall>
-    ensures { (ns : List ℕ) → AreSums loads.now ns → MatchResult result (λ u. ChartPays column certificate.now path.now block.now ns) (IsOwing column certificate.now path.now block.now ns) }
+    ensures { (costs : Costs) → ArePrices prices.now costs → MatchResult result (λ u. ChartPays column certificate.now path.now block.now costs) (IsOwing column certificate.now path.now block.now costs) }
 {
-    let outputs = &block.face.event_outputs;
     let states = &block.states;
     let transitions = block.transitions.as_slice();
-    states_pay(alloc, certificate, column, path, outputs, loads, states)?;
-    let costs = costs(alloc, outputs, loads, states)?;
+    states_pay(alloc, certificate, column, path, block, prices, states)?;
+    let costs = costs(alloc, block, prices, states)?;
     sources_pay(
         alloc,
         certificate,

@@ -1,6 +1,7 @@
 //! Columns of a certificate, and sums in them.
 
 ghost use Rattle.std.specs.Prelude.{◌≡◌, ◌≤◌, ◌+◌, ◌↔◌, ℕ, IsTrue};
+ghost use Rattle.fb_model.specs.CertificateText.{most_steps};
 ghost use Rattle.fb_columns.specs.Columns.{unit_of, number_in};
 ghost use Rattle.fb_columns.specs.Sums.{IsSum};
 
@@ -36,7 +37,7 @@ impl Column {
     }
 }
 
-/// The sum of two numbers; `None` stands for one of 2^64 or more.
+/// The sum of two numbers; `None` stands for one that is more than the most steps of a row.
 pub fn plus(a: Option<u64>, b: Option<u64>) -> Option<u64>
     ensures { (v w : ℕ) → IsSum a v → IsSum b w → IsSum result (v + w) }
 {
@@ -51,6 +52,7 @@ pub fn plus(a: Option<u64>, b: Option<u64>) -> Option<u64>
 
 /// Whether a sum is at most this number.
 pub fn is_within(sum: Option<u64>, most: u64) -> bool
+    requires { most ≤ most_steps }
     ensures { (v : ℕ) → IsSum sum v → IsTrue result ↔ (v ≤ most) }
 {
     match sum {

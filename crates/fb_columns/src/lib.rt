@@ -3,6 +3,7 @@
 
 mod chart;
 mod column;
+mod cost;
 mod fault;
 mod laws;
 mod leaf;

@@ -197,3 +197,39 @@ fn two_services(rt: HostRuntime) -> Result<(), Fail> {
     }
     Ok(())
 }
+
+const COUNTER: &str = "FUNCTION_BLOCK COUNTER
+EVENT_INPUT CU; END_EVENT
+EVENT_OUTPUT CUO; END_EVENT
+VAR CV : INT; END_VAR
+EC_STATES START; ADD : INC -> CUO, INC; END_STATES
+EC_TRANSITIONS START TO ADD := CU; ADD TO START := 1; END_TRANSITIONS
+ALGORITHM INC IN ST: IF CV < 9 THEN CV := CV + 1; END_IF; END_ALGORITHM
+END_FUNCTION_BLOCK
+SYSTEM S DEVICE D RESOURCE R
+FBS COUNT : COUNTER; LAMP : OUTPUT(ID := 1); END_FBS
+EVENT_CONNECTIONS COUNT.CUO TO LAMP.REQ; END_CONNECTIONS
+END_RESOURCE END_DEVICE END_SYSTEM
+";
+
+// A state that runs an algorithm of two steps twice, and emits once, needs six steps with the free transition out of it, and one place.
+#[test]
+fn a_counter(rt: HostRuntime) -> Result<(), Fail> {
+    let alloc = rt.alloc();
+    let cases: [(&str, &str, &str); 3] = [
+        ("6 1", "pays", "pays"),
+        ("5 1", "38 D.R.COUNT.ADD", "pays"),
+        ("6 0", "pays", "38 D.R.COUNT.ADD"),
+    ];
+    for case in &cases {
+        let (charge, steps, places) = *case;
+        let certificate = format!(in alloc;
+            "CERT 1\nRANGE D.R.COUNT.CV 0 9\nCHARGE D.R.COUNT.START 0 0\nCHARGE D.R.COUNT.ADD {charge}\nWEIGHT D.R.COUNT.CU 8 1\nWEIGHT D.R.LAMP.REQ 1 1\nDEPTH D.R 1\n"
+        )?;
+        let words = said(alloc, COUNTER, certificate.as_str(), Column::Steps)?;
+        assert_eq!(rt; words.as_str(), steps);
+        let words = said(alloc, COUNTER, certificate.as_str(), Column::Places)?;
+        assert_eq!(rt; words.as_str(), places);
+    }
+    Ok(())
+}

@@ -2,6 +2,7 @@
 
 ghost use Rattle.std.specs.Prelude.{◌≡◌, ◌≤◌, ◌+◌, ℕ, List, map, IfOk, IfErr};
 ghost use Rattle.std.specs.List.{sum_by};
+ghost use Rattle.fb_model.specs.CertificateText.{most_steps};
 ghost use Rattle.fb_columns.specs.Sums.{IsSum};
 ghost use Rattle.fb_columns.specs.Reckoning.{number_of, weight_of, charge_of, load_of, load_at, AreSums};
 ghost use Rattle.fb_columns.specs.Paying.{IsMemory, IsCharge, IsWeight, Names, Pays};
@@ -12,12 +13,16 @@ use fb_cert::{Amount, Certificate};
 use fb_flat::{Output, Target, joined};
 use std::alloc::Global;
 
+/// The most that a row says.
+const MOST: u64 = 1_000_000_000_000;
+
 // The number of a row in a column, 0 where there is no row.
 fn number(row: Option<Amount>, column: Column) -> u64
-    ensures { result ≡ number_of column row }
+    ensures value { result ≡ number_of column row }
+    ensures small { result ≤ most_steps }
 {
     match row {
-        Some(amount) => column.number(amount),
+        Some(amount) => column.number(amount).min(MOST),
         None => 0,
     }
 }
@@ -31,6 +36,7 @@ pub(crate) fn weight(
     event: &str,
 ) -> Result<u64, Shortfall>
     ensures value { IfOk result (λ n. n ≡ weight_of column certificate.now path.now event.now) }
+    ensures small { IfOk result (λ n. n ≤ most_steps) }
     ensures refused { IfErr result IsMemory }
 {
     let row = joined(alloc, path, event)?;
@@ -46,6 +52,7 @@ pub(crate) fn charge(
     state: &str,
 ) -> Result<u64, Shortfall>
     ensures value { IfOk result (λ n. n ≡ charge_of column certificate.now path.now state.now) }
+    ensures small { IfOk result (λ n. n ≤ most_steps) }
     ensures refused { IfErr result IsMemory }
 {
     let row = joined(alloc, path, state)?;
@@ -139,6 +146,7 @@ pub(crate) fn charged(
     need: Option<u64>,
     charge: u64,
 ) -> Result<(), Shortfall>
+    requires { charge ≤ most_steps }
     ensures { (v : ℕ) → IsSum need v → Names (IsCharge path.now) state.now (v ≤ charge) result }
 {
     if is_within(need, charge) {
@@ -156,6 +164,7 @@ pub(crate) fn weighed(
     need: Option<u64>,
     weight: u64,
 ) -> Result<(), Shortfall>
+    requires { weight ≤ most_steps }
     ensures { (v : ℕ) → IsSum need v → Names (IsWeight path.now) event.now (Pays weight v) result }
 {
     if weight >= 1 && is_within(need, weight) {

@@ -4,8 +4,8 @@ use Rattle.std.specs.List.{AllByRecursion}
 use Rattle.std.specs.Str.{bytes_eq}
 use Rattle.std.proofs.lemmas.List.{length-map}
 use Rattle.fb_model.specs.Names.{Name, Place, at_place, is_in}
-use Rattle.fb_model.specs.Wires.{Leaf}
-use Rattle.fb_model.specs.Certificates.{Certificate, events_of, leaf_at, has_event, is_input, IsWired}
+use Rattle.fb_model.specs.Wires.{Leaf, leaf_at}
+use Rattle.fb_model.specs.Certificates.{Certificate, events_of, has_event, is_input, IsWired}
 use Rattle.fb_model.specs.Devices.{steps_row, places_row}
 use Rattle.fb_model.proofs.Placed.{name_same}
 use Rattle.fb_tables.specs.declared.table.Point.{Point}

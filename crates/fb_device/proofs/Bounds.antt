@@ -6,12 +6,12 @@ use Rattle.fb_model.specs.Names.{Place, at_place, is_in}
 use Rattle.fb_model.specs.System as book
 use Rattle.fb_model.specs.System.{Device}
 use Rattle.fb_model.specs.Services.{ind}
-use Rattle.fb_model.specs.Wires.{Kind, Charted, Serviced, Leaf, leaves}
+use Rattle.fb_model.specs.Wires.{Kind, Charted, Serviced, Leaf, leaves, leaf_at}
 use Rattle.fb_model.specs.Store.{sampled}
-use Rattle.fb_model.specs.Ranges.{CellsLie, limits, LeafLies, KindFits, IsClear}
+use Rattle.fb_model.specs.Ranges.{CellsLie, rows, LeafLies, KindFits, IsClear}
 use Rattle.fb_model.specs.Charts.{Moment, At, Reaches, dispatched}
 use Rattle.fb_model.specs.Serving.{Serves}
-use Rattle.fb_model.specs.Certificates.{Certificate, steps_of, depth_of, reached, sent_weight, leaf_at, has_event, events_of, event_names, IsWired, KindWeighs, InputFits, DeviceFits, all_ranges}
+use Rattle.fb_model.specs.Certificates.{Certificate, steps_of, depth_of, reached, sent_weight, has_event, events_of, event_names, IsWired, KindWeighs, InputFits, DeviceFits}
 use Rattle.fb_model.specs.Devices.{Entry, Machine, Dispatch, Ran, Runs, steps_row, follow_ups}
 use Rattle.fb_model.specs.Headline.{IsKnown, IsSound}
 use Rattle.fb_model.proofs.Lists.{at_listed}
@@ -35,31 +35,31 @@ module _ (cert : Certificate) (device : Device) (fits : DeviceFits cert device) 
   path_is : leaf.path ≡ first.place.path
   path_is = (at_leaf (IsWired (leaves device)) (leaves device) first.place.path leaf fits.wired found).1
 
-  steps_for : (kind : Kind) (block : book.Block) → kind ≡ Charted block → KindWeighs (steps_of cert) (limits (all_ranges cert device) leaf.path) leaf.targets leaf.path kind → KindFits (all_ranges cert device) leaf.path kind
-      → is_in first.place.event (events_of kind) ≡ true → CellsLie (all_ranges cert device) leaf.path kind (sampled old.store leaf first.place.event).cells
+  steps_for : (kind : Kind) (block : book.Block) → kind ≡ Charted block → KindWeighs (steps_of cert) (rows cert.ranges leaf.path kind) leaf.targets leaf.path kind → KindFits cert.ranges leaf.path kind
+      → is_in first.place.event (events_of kind) ≡ true → CellsLie cert.ranges leaf.path kind (sampled old.store leaf first.place.event).cells
       → (m : Moment) → Reaches block (dispatched (sampled old.store leaf first.place.event) first.place.event) m → steps_at m ≤ steps_row cert first.place
   steps_for kind block is w k l lies m r =
       go
-      (subst (λ x. KindWeighs (steps_of cert) (limits (all_ranges cert device) leaf.path) leaf.targets leaf.path x) is w)
-      (subst (λ x. KindFits (all_ranges cert device) leaf.path x) is k)
+      (subst (λ x. KindWeighs (steps_of cert) (rows cert.ranges leaf.path x) leaf.targets leaf.path x) is w)
+      (subst (λ x. KindFits cert.ranges leaf.path x) is k)
       (subst (λ x. is_in first.place.event (events_of x) ≡ true) is l)
-      (subst (λ x. CellsLie (all_ranges cert device) leaf.path x (sampled old.store leaf first.place.event).cells) is lies) m r
+      (subst (λ x. CellsLie cert.ranges leaf.path x (sampled old.store leaf first.place.event).cells) is lies) m r
     where
-      go : KindWeighs (steps_of cert) (limits (all_ranges cert device) leaf.path) leaf.targets leaf.path (Charted block) → IsClear (all_ranges cert device) leaf.path block → is_in first.place.event (event_names block.event_inputs) ≡ true
-          → CellsLie (all_ranges cert device) leaf.path (Charted block) (sampled old.store leaf first.place.event).cells → (m : Moment) → Reaches block (dispatched (sampled old.store leaf first.place.event) first.place.event) m → steps_at m ≤ steps_row cert first.place
+      go : KindWeighs (steps_of cert) (rows cert.ranges leaf.path (Charted block)) leaf.targets leaf.path (Charted block) → IsClear cert.ranges leaf.path block → is_in first.place.event (event_names block.event_inputs) ≡ true
+          → CellsLie cert.ranges leaf.path (Charted block) (sampled old.store leaf first.place.event).cells → (m : Moment) → Reaches block (dispatched (sampled old.store leaf first.place.event) first.place.event) m → steps_at m ≤ steps_row cert first.place
       go cf clear li ly (At st c phase n out) r =
           let listed_in : InputFits (steps_of cert) leaf.path block first.place.event = at_listed (InputFits (steps_of cert) leaf.path block) (event_names block.event_inputs) first.place.event cf.weights li in
-          let within = within_all (steps_of cert) (all_ranges cert device) leaf.targets leaf.path block cf clear first.place.event listed_in (dispatched (sampled old.store leaf first.place.event) first.place.event) (At st c phase n out) r ly (refl, refl, refl) in
-          let spent : 1 * n + sent_weight (steps_of cert) leaf.targets out ≤ steps_row cert (at_place leaf.path first.place.event) = spent_le (steps_of cert) (all_ranges cert device) leaf.targets leaf.path block cf clear first.place.event listed_in phase st c n out within (omega arith) in
+          let within = within_all (steps_of cert) cert.ranges leaf.targets leaf.path block cf clear first.place.event listed_in (dispatched (sampled old.store leaf first.place.event) first.place.event) (At st c phase n out) r ly (refl, refl, refl) in
+          let spent : 1 * n + sent_weight (steps_of cert) leaf.targets out ≤ steps_row cert (at_place leaf.path first.place.event) = spent_le (steps_of cert) cert.ranges leaf.targets leaf.path block cf clear first.place.event listed_in phase st c n out within (omega arith) in
           let place_is : steps_row cert (at_place leaf.path first.place.event) ≡ steps_row cert first.place = ap (λ p. steps_row cert (at_place p first.place.event)) path_is in
           omega (arith, spent, place_is)
 
   steps_within : (block : book.Block) → leaf.kind ≡ Charted block → (m : Moment) → Reaches block (dispatched (sampled old.store leaf first.place.event) first.place.event) m → steps_at m ≤ steps_row cert first.place
   steps_within block is m r =
-      let own = at_leaf (LeafLies (all_ranges cert device) (leaves device)) (leaves device) first.place.path leaf fits.ranges found in
-      let lies = sampled_lies (all_ranges cert device) old.store (leaves device) leaf first.place.event s.lies
-      (at_leaf (λ leaf. CellsLie (all_ranges cert device) leaf.path leaf.kind (old.store leaf.path).cells) (leaves device) first.place.path leaf s.lies found).0 own.0 in
-      let w = (at_leaf (λ leaf. KindWeighs (steps_of cert) (limits (all_ranges cert device) leaf.path) leaf.targets leaf.path leaf.kind) (leaves device) first.place.path leaf fits.steps found).0 in
+      let own = at_leaf (LeafLies cert.ranges (leaves device)) (leaves device) first.place.path leaf fits.ranges found in
+      let lies = sampled_lies cert.ranges old.store (leaves device) leaf first.place.event s.lies
+      (at_leaf (λ leaf. CellsLie cert.ranges leaf.path leaf.kind (old.store leaf.path).cells) (leaves device) first.place.path leaf s.lies found).0 own.0 in
+      let w = (at_leaf (λ leaf. KindWeighs (steps_of cert) (rows cert.ranges leaf.path leaf.kind) leaf.targets leaf.path leaf.kind) (leaves device) first.place.path leaf fits.steps found).0 in
       steps_for leaf.kind block is w own.0.kind listed lies m r
 
   -- however far it comes

@@ -5,11 +5,9 @@ use Rattle.fb_model.specs.System.{Device, System}
 use Rattle.fb_model.specs.Wires.{Kind, Charted, Serviced, Leaf, leaves}
 use Rattle.std.specs.declared.string.String.{String}
 use Rattle.std.specs.declared.alloc.Global.{Global}
-use Rattle.fb_leaves.specs.Leaves.{IsIdle}
 use Rattle.fb_tables.specs.Runnable.{CanRun, IsUnfit}
 use Rattle.fb_tables.specs.declared.unfit.Unfit.{Unfit}
 use Rattle.fb_tables.specs.declared.unfit.Unfit.TheVariants as unfit
-use Rattle.fb_tables.specs.fb_check.Idle.{AreIdle}
 use Rattle.fb_tables.specs.fb_types.declared.typed.Device.{Device as RustDevice}
 use Rattle.fb_tables.specs.fb_types.Views.{device_of}
 use Rattle.fb_tables.specs.fb_check.declared.verified.Verified.{Verified}
@@ -51,6 +49,9 @@ missing_so v name (Checked (checks.Typing x)) a h = absurd h
 missing_so v name (Checked (checks.Certificate x)) a h = absurd h
 missing_so v name (Checked (checks.UnknownRow x)) a h = absurd h
 missing_so v name (Checked (checks.MissingRow x)) a h = absurd h
+missing_so v name (Checked (checks.RangeStart x)) a h = absurd h
+missing_so v name (Checked (checks.RangeLink x)) a h = absurd h
+missing_so v name (Checked (checks.RangeKept x)) a h = absurd h
 missing_so v name (Checked (checks.IndexOrDivisor x)) a h = absurd h
 missing_so v name (Checked (checks.Charge x)) a h = absurd h
 missing_so v name (Checked (checks.Weight x)) a h = absurd h
@@ -66,6 +67,9 @@ unready_so v name number (Checked (checks.Typing x)) d e n h = absurd h
 unready_so v name number (Checked (checks.Certificate x)) d e n h = absurd h
 unready_so v name number (Checked (checks.UnknownRow x)) d e n h = absurd h
 unready_so v name number (Checked (checks.MissingRow x)) d e n h = absurd h
+unready_so v name number (Checked (checks.RangeStart x)) d e n h = absurd h
+unready_so v name number (Checked (checks.RangeLink x)) d e n h = absurd h
+unready_so v name number (Checked (checks.RangeKept x)) d e n h = absurd h
 unready_so v name number (Checked (checks.IndexOrDivisor x)) d e n h = absurd h
 unready_so v name number (Checked (checks.Charge x)) d e n h = absurd h
 unready_so v name number (Checked (checks.Weight x)) d e n h = absurd h
@@ -96,6 +100,9 @@ fault_so beforehand text certificate name v (Checked (checks.Typing x)) t h = ab
 fault_so beforehand text certificate name v (Checked (checks.Certificate x)) t h = absurd h
 fault_so beforehand text certificate name v (Checked (checks.UnknownRow x)) t h = absurd h
 fault_so beforehand text certificate name v (Checked (checks.MissingRow x)) t h = absurd h
+fault_so beforehand text certificate name v (Checked (checks.RangeStart x)) t h = absurd h
+fault_so beforehand text certificate name v (Checked (checks.RangeLink x)) t h = absurd h
+fault_so beforehand text certificate name v (Checked (checks.RangeKept x)) t h = absurd h
 fault_so beforehand text certificate name v (Checked (checks.IndexOrDivisor x)) t h = absurd h
 fault_so beforehand text certificate name v (Checked (checks.Charge x)) t h = absurd h
 fault_so beforehand text certificate name v (Checked (checks.Weight x)) t h = absurd h
@@ -117,23 +124,10 @@ memory_so v name (Checked (checks.Typing x)) t h = absurd h
 memory_so v name (Checked (checks.Certificate x)) t h = absurd h
 memory_so v name (Checked (checks.UnknownRow x)) t h = absurd h
 memory_so v name (Checked (checks.MissingRow x)) t h = absurd h
+memory_so v name (Checked (checks.RangeStart x)) t h = absurd h
+memory_so v name (Checked (checks.RangeLink x)) t h = absurd h
+memory_so v name (Checked (checks.RangeKept x)) t h = absurd h
 memory_so v name (Checked (checks.IndexOrDivisor x)) t h = absurd h
 memory_so v name (Checked (checks.Charge x)) t h = absurd h
 memory_so v name (Checked (checks.Weight x)) t h = absurd h
 memory_so v name (Checked (checks.Depth x)) t h = absurd h
-
--- ---- a system that runs is idle
-
-idle_run : (kind : Kind) → CanRun kind → IsIdle kind
-idle_run (Charted block) h = (h.1.procedures, h.1.guards)
-idle_run (Serviced service) h = tt
-
-pub all_idle : (s : System) → AllRun s → AreIdle s
-all_idle s h = devices_idle s.devices h where
-  leaves_idle : (ls : List Leaf) → AllByRecursion (λ (leaf : Leaf). CanRun leaf.kind) ls → AllByRecursion (λ (leaf : Leaf). IsIdle leaf.kind) ls
-  leaves_idle [] h = tt
-  leaves_idle (l ∷ ls) h = (idle_run l.kind h.0, leaves_idle ls h.1)
-
-  devices_idle : (ds : List Device) → AllByRecursion (λ (d : Device). AllByRecursion (λ (leaf : Leaf). CanRun leaf.kind) (leaves d)) ds → AllByRecursion (λ (d : Device). AllByRecursion (λ (leaf : Leaf). IsIdle leaf.kind) (leaves d)) ds
-  devices_idle [] h = tt
-  devices_idle (d ∷ ds) h = (leaves_idle (leaves d) h.0, devices_idle ds h.1)

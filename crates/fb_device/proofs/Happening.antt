@@ -7,10 +7,10 @@ use Rattle.std.proofs.lemmas.List.{length-map}
 use Rattle.std.proofs.lemmas.Bool.{cond-true}
 use Rattle.fb_model.specs.Names.{Place}
 use Rattle.fb_model.specs.System.{Device}
-use Rattle.fb_model.specs.Wires.{Kind, Charted, Leaf, leaves}
+use Rattle.fb_model.specs.Wires.{Kind, Charted, Leaf, leaves, leaf_at}
 use Rattle.fb_model.specs.Store.{sampled, takes, with_leaf}
 use Rattle.fb_model.specs.Serving.{Serves}
-use Rattle.fb_model.specs.Certificates.{Certificate, depth_of, reached, leaf_at, events_of}
+use Rattle.fb_model.specs.Certificates.{Certificate, depth_of, reached, events_of}
 use Rattle.fb_model.specs.Devices as book
 use Rattle.fb_model.specs.Devices.{Machine, Runs, put, is_pending, follow_ups, steps_row}
 use Rattle.fb_model.specs.Headline.{IsKnown, pending_of}

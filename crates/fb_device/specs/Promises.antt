@@ -1,10 +1,10 @@
 -- What holds from every state that a device comes to, whatever is offered and dispatched.
 use Rattle.std.specs.Prelude.{ℕ, ◌≡◌, ◌≤◌, length, List, ◌∷◌, Some}
 use Rattle.fb_model.specs.System.{Device, Block}
-use Rattle.fb_model.specs.Wires.{Leaf, Charted, leaves}
+use Rattle.fb_model.specs.Wires.{Leaf, Charted, leaves, leaf_at}
 use Rattle.fb_model.specs.Store.{sampled}
 use Rattle.fb_model.specs.Charts.{Moment, Reaches, dispatched}
-use Rattle.fb_model.specs.Certificates.{Certificate, depth_of, leaf_at}
+use Rattle.fb_model.specs.Certificates.{Certificate, depth_of}
 use Rattle.fb_model.specs.Devices.{Entry, Machine}
 use Rattle.fb_model.specs.Headline.{BoundsSteps, Drains, EndsInTime, IsFine, Answers}
 

@@ -1,9 +1,7 @@
-pub mod Idle
 pub mod Made
 pub mod Typed
 pub mod Paths
 pub mod Wired
-pub mod Lying
 pub mod Ports
 pub mod Values
 pub mod Charts

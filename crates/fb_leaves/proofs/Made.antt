@@ -9,37 +9,9 @@ use Rattle.fb_model.specs.Typing.{names_of, event_inputs_of, body_named}
 use Rattle.fb_model.specs.NetworkTyping.{variable_named, outputs_of, no_face}
 use Rattle.fb_model.specs.Wires.{Kind, Charted, inputs_of}
 use Rattle.fb_model.specs.Store.{inputs, outputs, internals}
-use Rattle.fb_model.specs.Ranges.{IsBetween}
+use Rattle.fb_leaves.specs.Leaves.{HasType, IsWider, StartsFit, IsGoodKind}
 use Rattle.fb_model.specs.System.{instance_names}
 use Rattle.fb_model.proofs.Placed.{Apart}
-
--- each number of a value lies in a type
-abbrev pub HasType : ElemType → Value → Type 0
-HasType a v = AllByRecursion (IsBetween (lowest a) (highest a)) (numbers_of v)
-
--- a type has all values of another
-abbrev pub IsWider : ElemType → ElemType → Type 0
-IsWider a b = (lowest b ≤ℤ lowest a) × (highest a ≤ℤ highest b)
-
--- the start values of variables lie in their types
-abbrev pub StartsFit : List Variable → Type 0
-StartsFit vs = AllByRecursion (λ (v : Variable). HasType v.type (start_of v)) vs
-
-abbrev pub variables : Kind → List Variable
-variables kind = inputs kind ++ (outputs kind ++ internals kind)
-
--- each of these variables is the first one of its name in a list
-abbrev pub AreFirst : List Variable → List Variable → Type 0
-AreFirst whole vs = AllByRecursion (λ (v : Variable). variable_named whole v.name ≡ Some v) vs
-
--- the names of the variables differ, and their start values lie in their types
-pub record IsGoodKind (kind : Kind) : Type 0 where
-  pub inputs_first : AreFirst (variables kind) (inputs kind)
-  pub outputs_first : AreFirst (variables kind) (outputs kind)
-  pub internals_first : AreFirst (variables kind) (internals kind)
-  pub inputs_start : StartsFit (inputs kind)
-  pub outputs_start : StartsFit (outputs kind)
-  pub internals_start : StartsFit (internals kind)
 
 -- the variable at an end of a data connection
 abbrev pub in_body : (Body → List Variable) → Option Body → Name → Option Variable

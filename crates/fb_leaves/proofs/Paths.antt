@@ -8,8 +8,7 @@ use Rattle.fb_model.specs.Values.{One}
 use Rattle.fb_model.specs.Declarations.{BlockTree, SourceTree}
 use Rattle.fb_model.specs.System.{Body, Basic, Served, Composite, Instances, nothing, instance, Resource, Device, System, constant}
 use Rattle.fb_model.specs.NetworkTyping.{no_face, ElaboratesWith}
-use Rattle.fb_model.specs.Wires.{Leaf, Source, Constant, followed, entered_in, fed, given_in, inputs_of, leaves_of, leaves_in, leaves_from, leaves}
-use Rattle.fb_model.specs.Certificates.{leaf_at}
+use Rattle.fb_model.specs.Wires.{Leaf, Source, Constant, followed, entered_in, fed, given_in, inputs_of, leaves_of, leaves_in, leaves_from, leaves, leaf_at}
 use Rattle.fb_model.specs.System.{instance_names}
 use Rattle.fb_model.proofs.Lists.{all_append, all_both, all_weaker}
 use Rattle.fb_model.proofs.Placed.{Apart, path_front, path_same}

@@ -13,12 +13,11 @@ use Rattle.fb_model.specs.NetworkTyping.{variable_named}
 use Rattle.fb_model.specs.Wires.{Serviced}
 use Rattle.fb_model.specs.Store.{variable_names}
 use Rattle.fb_model.specs.Ranges.{types_of}
-use Rattle.fb_model.specs.Serving.{bit}
 use Rattle.fb_model.proofs.Lists.{same_name}
 use Rattle.fb_model.proofs.Placed.{Apart}
-use Rattle.fb_leaves.proofs.Made.{HasType, StartsFit, variables, AreFirst, IsGoodKind}
-use Rattle.fb_leaves.proofs.Typed.{good, zero_fits, bit_fits}
-use Rattle.fb_leaves.proofs.Lying.{Suits}
+use Rattle.fb_model.specs.Ranges.{variables}
+use Rattle.fb_leaves.specs.Leaves.{HasType, StartsFit, AreFirst, IsGoodKind}
+use Rattle.fb_leaves.proofs.Typed.{good, zero_fits}
 
 -- ---- numbered names differ
 
@@ -109,22 +108,8 @@ outputs_start Restart = tt
 pub service_good : (s : Service) → IsGoodKind (Serviced s)
 service_good s = good (Serviced s) (service_apart s) (inputs_start s) (outputs_start s) tt
 
-bit_suits : (v : Variable) (b : Bool) → v.type ≡ t.Bool → Suits (Some v) (bit b)
-bit_suits v true e = subst (λ a. HasType a (One (pos 1))) (sym e) (bit_fits true, tt)
-bit_suits v false e = subst (λ a. HasType a (One (pos 0))) (sym e) (bit_fits false, tt)
-
 abbrev pub qo_port : Variable
 qo_port = record { name = qo; type = t.Bool; length = None; start = None }
-
--- QO is a BOOL, where it is a variable
-pub bits_suit : (s : Service) (b : Bool) → Suits (variable_named (variables (Serviced s)) qo) (bit b)
-bits_suit (Input number types) b = subst (λ o. Suits o (bit b)) (sym (passed_by received qo [] (λ n. refl) 1 types)) tt
-bits_suit (Output number types) b = subst (λ o. Suits o (bit b)) (sym (passed_by sent qo [] (λ n. refl) 1 types)) tt
-bits_suit (Publish channel types) b = subst (λ o. Suits o (bit b)) (sym (service_good (Publish channel types)).outputs_first.0) (bit_suits qo_port b refl)
-bits_suit (Subscribe channel types) b = subst (λ o. Suits o (bit b)) (sym (service_good (Subscribe channel types)).outputs_first.0) (bit_suits qo_port b refl)
-bits_suit Delay b = tt
-bits_suit Cycle b = tt
-bits_suit Restart b = tt
 
 none_named : (x : Name) (vs : List Variable) → NoneIs x vs → is_in x (variable_names vs) ≡ false
 none_named x [] h = refl
@@ -134,7 +119,7 @@ none_ports : (f : ℕ → Name) (x : Name) → ((n : ℕ) → bytes_eq x (f n) �
 none_ports f x d n [] = tt
 none_ports f x d n (type ∷ types) = (d n, none_ports f x d (n + 1) types)
 
--- where QO is an output, it is the variable of its name
+-- QO is a BOOL, where it is an output
 pub qo_named : (s : Service) → is_in qo (variable_names (service_outputs s)) ≡ true → variable_named (variables (Serviced s)) qo ≡ Some qo_port
 qo_named (Input number types) h = absurd (let e : is_in qo (variable_names (ports received 1 types)) ≡ false = none_named qo (ports received 1 types) (none_ports received qo (λ n. refl) 1 types) in let c : true ≡ false = sym h ∙ e in cc)
 qo_named (Output number types) h = absurd cc

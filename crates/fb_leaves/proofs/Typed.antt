@@ -25,11 +25,14 @@ use Rattle.fb_model.specs.Typing.{names_of, event_inputs_of}
 use Rattle.fb_model.specs.NetworkTyping.{variable_named, AreParameters, no_parameter, a_parameter, IsServed, a_service, outputs_of, given_in, IsEnd, own_port, port_of, AreEventConnections, no_event, an_event, IsValueEnd, own_value, value_at, IsValueConnection, AreValueConnections, no_value, a_value, instance_texts, IsMade, a_basic, a_composite, IsInstance, of_type, of_service, AreInstances, no_instance, an_instance, no_face, IsResource, AreResources, no_resource, a_resource, IsDevice, AreDevices, no_device, a_device, ElaboratesWith}
 use Rattle.fb_model.specs.Wires.{Kind, Charted, inputs_of}
 use Rattle.fb_model.specs.Store.{variable_names, inputs, outputs, internals}
-use Rattle.fb_model.specs.Ranges.{IsBetween}
+use Rattle.fb_model.specs.Spans.{whole}
+use Rattle.fb_model.specs.Shapes.{IsIn}
+use Rattle.fb_model.specs.Ranges.{variables}
+use Rattle.fb_leaves.specs.Leaves.{HasType, IsWider, StartsFit, AreFirst, IsGoodKind}
 use Rattle.fb_model.specs.System.{instance_names}
 use Rattle.fb_model.proofs.Lists.{all_append, same_name}
 use Rattle.fb_model.proofs.Placed.{Apart, apart, name_same, all_left, all_right}
-use Rattle.fb_leaves.proofs.Made.{HasType, IsWider, StartsFit, variables, AreFirst, IsGoodKind, in_body, end_variable, body_has, end_known, IsEventLink, IsValueLink, IsParameter, IsWellMade, AreWellMade, IsWellResource, IsWellDevice}
+use Rattle.fb_leaves.proofs.Made.{in_body, end_variable, body_has, end_known, IsEventLink, IsValueLink, IsParameter, IsWellMade, AreWellMade, IsWellResource, IsWellDevice}
 
 -- ---- types
 
@@ -57,19 +60,19 @@ wider a b h = by (same_type a b) refl h where
 pub le_through : (m n o : ℤ) → m ≤ℤ n → n ≤ℤ o → m ≤ℤ o
 le_through m n o h k = omega (arith, ints)
 
-pub in_wider : (a b : ElemType) (n : ℤ) → IsWider a b → IsBetween (lowest a) (highest a) n → IsBetween (lowest b) (highest b) n
-in_wider a b n w h = (le_through _ _ _ w.0 h.0, le_through _ _ _ h.1 w.1)
+pub in_wider : (a b : ElemType) (n : ℤ) → IsWider a b → IsIn (whole a) n → IsIn (whole b) n
+in_wider a b n w h = record { least = le_through _ _ _ w.0 h.least; most = le_through _ _ _ h.most w.1 }
 
-pub in_range : (a : ElemType) (n : ℤ) → in_type a n ≡ true → IsBetween (lowest a) (highest a) n
-in_range a n h = let k = both (int_le (lowest a) n) (int_le n (highest a)) h in (le_of (lowest a) n k.0, le_of n (highest a) k.1)
+pub in_range : (a : ElemType) (n : ℤ) → in_type a n ≡ true → IsIn (whole a) n
+in_range a n h = let k = both (int_le (lowest a) n) (int_le n (highest a)) h in record { least = le_of (lowest a) n k.0; most = le_of n (highest a) k.1 }
 
 -- ---- constants
 
 abbrev OperandFits : Operand → Type 0
-OperandFits (fixed b (constant n)) = IsBetween (lowest b) (highest b) n
+OperandFits (fixed b (constant n)) = IsIn (whole b) n
 OperandFits p = Unit {0}
 
-pub bit_fits : (b : Bool) → IsBetween (lowest t.Bool) (highest t.Bool) (bit b)
+pub bit_fits : (b : Bool) → IsIn (whole t.Bool) (bit b)
 bit_fits true = in_range t.Bool (pos 1) refl
 bit_fits false = in_range t.Bool (pos 0) refl
 
@@ -82,16 +85,16 @@ literal_fits env c p (a_truth {b = b}) = bit_fits b
 settled : (a : ElemType) (l : Loose) (n : ℤ) → Settles a l (constant n) → in_type a n ≡ true
 settled a l n (a_number h) = h
 
-taken_fits : (a : ElemType) (p : Operand) (n : ℤ) → Takes a p (constant n) → OperandFits p → IsBetween (lowest a) (highest a) n
+taken_fits : (a : ElemType) (p : Operand) (n : ℤ) → Takes a p (constant n) → OperandFits p → IsIn (whole a) n
 taken_fits a p n (widened {b = b} w) h = in_wider b a n (wider b a w) h
 taken_fits a p n (settles {l = l} s) h = in_range a n (settled a l n s)
 
-given_fits : (a : ElemType) (c : Constant) (n : ℤ) → IsGiven a c n → IsBetween (lowest a) (highest a) n
+given_fits : (a : ElemType) (c : Constant) (n : ℤ) → IsGiven a c n → IsIn (whole a) n
 given_fits a c n g = taken_fits a g.operand n g.taken (literal_fits [] c g.operand g.typed)
 
 -- ---- variables
 
-pub zero_fits : (a : ElemType) → IsBetween (lowest a) (highest a) (pos 0)
+pub zero_fits : (a : ElemType) → IsIn (whole a) (pos 0)
 zero_fits t.Bool = in_range t.Bool (pos 0) refl
 zero_fits t.Sint = in_range t.Sint (pos 0) refl
 zero_fits t.Int = in_range t.Int (pos 0) refl
@@ -102,7 +105,7 @@ zero_fits t.Uint = in_range t.Uint (pos 0) refl
 zero_fits t.Udint = in_range t.Udint (pos 0) refl
 zero_fits t.Time = in_range t.Time (pos 0) refl
 
-zeros_in : (a : ElemType) (n : ℕ) → AllByRecursion (IsBetween (lowest a) (highest a)) (replicate n (pos 0))
+zeros_in : (a : ElemType) (n : ℕ) → AllByRecursion (IsIn (whole a)) (replicate n (pos 0))
 zeros_in a zero = tt
 zeros_in a (suc n) = (zero_fits a, zeros_in a n)
 
@@ -136,7 +139,7 @@ names_join : (xs ys : List Variable) → variable_names (xs ++ ys) ≡ variable_
 names_join [] ys = refl
 names_join (x ∷ xs) ys = ap (λ ns. x.name ∷ ns) (names_join xs ys)
 
-pub names_declared : (ds : List Declared) → variable_names (map variable_of ds) ≡ names_in ds
+names_declared : (ds : List Declared) → variable_names (map variable_of ds) ≡ names_in ds
 names_declared [] = refl
 names_declared (d ∷ ds) = ap (λ ns. d.name ∷ ns) (names_declared ds)
 

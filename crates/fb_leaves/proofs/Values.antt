@@ -12,25 +12,24 @@ use Rattle.fb_model.specs.System.{Variable, Service, Connection, Parameter, Face
 use Rattle.fb_model.specs.Services.{qo, received, ports}
 use Rattle.fb_model.specs.Typing.{body_named}
 use Rattle.fb_model.specs.NetworkTyping.{variable_named, outputs_of, ElaboratesWith}
-use Rattle.fb_model.specs.Wires.{is_own, is_end, Source, Output_of, Constant, Charted, Serviced, Leaf, followed, entered_in, fed, given_by, given_in, inputs_of, leaves_of, leaves_in, resource_leaves, leaves_from, leaves}
+use Rattle.fb_model.specs.Wires.{is_own, is_end, Source, Output_of, Constant, Charted, Serviced, Leaf, leaf_at, followed, entered_in, fed, given_by, given_in, inputs_of, leaves_of, leaves_in, resource_leaves, leaves_from, leaves}
 use Rattle.fb_model.specs.Store.{variable_names, inputs, outputs, internals, first_input, first_cells}
-use Rattle.fb_model.specs.Ranges.{IsBetween, Lies, AllLie, types_of, WritesFit, IsOutput, LinkFits, all_typed}
+use Rattle.fb_model.specs.Spans.{whole}
+use Rattle.fb_model.specs.Shapes.{IsIn}
 use Rattle.fb_model.specs.Serving.{bit, set_value, receive}
-use Rattle.fb_model.specs.Certificates.{leaf_at}
 use Rattle.fb_model.specs.System.{instance_names}
-use Rattle.fb_model.proofs.Lists.{all_append, all_weaker, all_both, same_name, same_path}
+use Rattle.fb_model.proofs.Lists.{all_append, all_weaker, same_name, same_path}
 use Rattle.fb_model.proofs.Placed.{Apart, name_same, all_left, all_right}
-use Rattle.fb_leaves.specs.Leaves.{AreApart, LiesByTypes}
-use Rattle.fb_leaves.proofs.Made.{HasType, IsWider, StartsFit, variables, AreFirst, IsGoodKind, in_body, end_variable, IsValueLink, IsParameter, IsWellMade, AreWellMade, IsWellResource, IsWellDevice}
+use Rattle.fb_leaves.specs.Leaves.{AreApart, HasType, IsWider, StartsFit, IsGivenBy, Yields, Feeds, IsFed}
+use Rattle.fb_leaves.proofs.Made.{in_body, end_variable, IsValueLink, IsParameter, IsWellMade, AreWellMade, IsWellResource, IsWellDevice}
 use Rattle.fb_leaves.proofs.Typed.{both, eq_sym, in_range, in_wider, le_through, devices_made}
 use Rattle.fb_leaves.proofs.Paths.{resource_body, device_apart, AreFound, all_found}
 use Rattle.fb_leaves.proofs.Wired.{eq_turned}
-use Rattle.fb_leaves.proofs.Lying.{Suits, suits_zero, lies_where, lies_gives}
-use Rattle.fb_leaves.proofs.Ports.{inputs_start, service_good, bits_suit, receivers}
+use Rattle.fb_leaves.proofs.Ports.{inputs_start, service_good}
 
 -- ---- wider types
 
-all_wider : (a b : ElemType) (ns : List ℤ) → IsWider a b → AllByRecursion (IsBetween (lowest a) (highest a)) ns → AllByRecursion (IsBetween (lowest b) (highest b)) ns
+all_wider : (a b : ElemType) (ns : List ℤ) → IsWider a b → AllByRecursion (IsIn (whole a)) ns → AllByRecursion (IsIn (whole b)) ns
 all_wider a b [] w h = tt
 all_wider a b (n ∷ ns) w h = (in_wider a b n w h.0, all_wider a b ns w h.1)
 
@@ -41,29 +40,6 @@ through : (a b c : ElemType) → IsWider a b → IsWider b c → IsWider a c
 through a b c v w = (le_through _ _ _ w.0 v.0, le_through _ _ _ v.1 w.1)
 
 -- ---- what a source gives
-
--- an output of a leaf, whose type the other type widens
-pub record IsGivenBy (all : List Leaf) (a : ElemType) (from : Path) (y : Name) : Type 0 where
-  pub leaf : Leaf
-  pub found : leaf_at all from ≡ Some leaf
-  pub variable : Variable
-  pub is : variable_named (outputs leaf.kind) y ≡ Some variable
-  pub wider : IsWider variable.type a
-
--- a source of values of a type
-abbrev pub Yields : List Leaf → ElemType → Source → Type 0
-Yields all a (Output_of from y) = IsGivenBy all a from y
-Yields all a (Constant value) = HasType a value
-
--- a source for a variable, if there is one, and else 0
-abbrev pub Feeds : List Leaf → Option Variable → Source → Type 0
-Feeds all None s = s ≡ Constant (One (pos 0))
-Feeds all (Some v) s = Yields all v.type s
-
--- the names of its variables differ, first values lie in their types, and each input takes what has its type
-pub record IsFed (all : List Leaf) (leaf : Leaf) : Type 0 where
-  pub good : IsGoodKind leaf.kind
-  pub feeds : (x : Name) → Feeds all (variable_named (inputs leaf.kind) x) (leaf.source x)
 
 yields_wider : (all : List Leaf) (a b : ElemType) (s : Source) → IsWider a b → Yields all a s → Yields all b s
 yields_wider all a b (Output_of from y) w h = record { leaf = h.leaf; found = h.found; variable = h.variable; is = h.is; wider = through h.variable.type a b h.wider w }
@@ -148,97 +124,6 @@ mutual
         by true h here there = here h
         by false h here there = there h
 
--- ---- one leaf
-
-pub named_left : (vs ws : List Variable) (x : Name) (v : Variable) → variable_named vs x ≡ Some v → variable_named (vs ++ ws) x ≡ Some v
-named_left [] ws x v e = absurd cc
-named_left (u ∷ vs) ws x v e = by (bytes_eq x u.name) e (named_left vs ws x v) where
-  by : (b : Bool) → (if b then Some u else variable_named vs x) ≡ Some v → (variable_named vs x ≡ Some v → variable_named (vs ++ ws) x ≡ Some v) → (if b then Some u else variable_named (vs ++ ws) x) ≡ Some v
-  by true e next = e
-  by false e next = next e
-
-pub is_listed : (vs : List Variable) (x : Name) (v : Variable) → variable_named vs x ≡ Some v → is_in x (variable_names vs) ≡ true
-is_listed [] x v e = absurd cc
-is_listed (u ∷ vs) x v e = by (bytes_eq x u.name) e (is_listed vs x v) where
-  by : (b : Bool) → (if b then Some u else variable_named vs x) ≡ Some v → (variable_named vs x ≡ Some v → is_in x (variable_names vs) ≡ true) → (b || is_in x (variable_names vs)) ≡ true
-  by true e next = refl
-  by false e next = next e
-
-is_output : (all : List Leaf) (path : Path) (leaf : Leaf) (y : Name) → leaf_at all path ≡ Some leaf → is_in y (variable_names (outputs leaf.kind)) ≡ true → IsOutput all path y
-is_output [] path leaf y f h = absurd cc
-is_output (l ∷ rest) path leaf y f h = by (path_eq l.path path) refl f (λ g. is_output rest path leaf y g h) where
-  by : (b : Bool) → path_eq l.path path ≡ b → (if b then Some l else leaf_at rest path) ≡ Some leaf → (leaf_at rest path ≡ Some leaf → IsOutput rest path y) → IsOutput (l ∷ rest) path y
-  by true e g next = let same : leaf ≡ l = cc in inl (same_path l.path path e, subst (λ (k : Leaf). is_in y (variable_names (outputs k.kind)) ≡ true) same h)
-  by false e g next = inr (next g)
-
-start_suits : (whole vs : List Variable) (x : Name) → AreFirst whole vs → StartsFit vs → Suits (variable_named whole x) (start_in vs x)
-start_suits whole [] x f s = suits_zero (variable_named whole x)
-start_suits whole (v ∷ vs) x f s = by (bytes_eq v.name x) refl (start_suits whole vs x f.1 s.1) where
-  by : (b : Bool) → bytes_eq v.name x ≡ b → Suits (variable_named whole x) (start_in vs x) → Suits (variable_named whole x) (if b then start_of v else start_in vs x)
-  by true e next = subst (λ o. Suits o (start_of v)) (sym (ap (variable_named whole) (sym (same_name v.name x e)) ∙ f.0)) s.0
-  by false e next = next
-
-received_suits : (o : Option Variable) (v : Variable) (n : ℤ) → o ≡ Some v → in_type v.type n ≡ true → Suits o (One n)
-received_suits o v n e h = subst (λ o. Suits o (One n)) (sym e) (in_range v.type n h, tt)
-
-module _ (all : List Leaf) (apart : AreApart all) (leaf : Leaf) (found : leaf_at all leaf.path ≡ Some leaf) (good : IsGoodKind leaf.kind) where
-  lies_here : (x : Name) (value : Value) → Suits (variable_named (variables leaf.kind) x) value → Lies (all_typed all) leaf.path x value
-  lies_here x value s = lies_where all leaf x value apart found good s
-
-  input_suits : (x : Name) (v : Variable) (value : Value) → variable_named (inputs leaf.kind) x ≡ Some v → HasType v.type value → Suits (variable_named (variables leaf.kind) x) value
-  input_suits x v value e h = subst (λ o. Suits o value) (sym (named_left (inputs leaf.kind) (outputs leaf.kind ++ internals leaf.kind) x v e)) h
-
-  link : (x : Name) (o : Option Variable) (s : Source) → variable_named (inputs leaf.kind) x ≡ o → Feeds all o s → LinkFits (all_typed all) all leaf.path x s
-  link x None s e h = subst (λ s. LinkFits (all_typed all) all leaf.path x s) (sym h) (lies_here x (One (pos 0)) (suits_zero (variable_named (variables leaf.kind) x)))
-  link x (Some v) (Constant value) e h = lies_here x value (input_suits x v value e h)
-  link x (Some v) (Output_of from y) e h = (
-    is_output all from h.leaf y h.found (is_listed (outputs h.leaf.kind) y h.variable h.is),
-    λ value l. lies_here x value (input_suits x v value e (has_wider h.variable.type v.type value h.wider (lies_gives all from h.leaf y h.variable value h.found h.is l))),
-  )
-
-  starts_lie : (x : Name) (vs : List Variable) → AreFirst (variables leaf.kind) vs → StartsFit vs → Lies (all_typed all) leaf.path x (start_in vs x)
-  starts_lie x vs f s = lies_here x (start_in vs x) (start_suits (variables leaf.kind) vs x f s)
-
-  first_lies : (x : Name) (s : Source) → LinkFits (all_typed all) all leaf.path x s → Lies (all_typed all) leaf.path x (first_input s (start_in (inputs leaf.kind) x))
-  first_lies x (Output_of from y) h = starts_lie x (inputs leaf.kind) good.inputs_first good.inputs_start
-  first_lies x (Constant value) h = h
-
-  own_lie : ((x : Name) → LinkFits (all_typed all) all leaf.path x (leaf.source x)) → (x : Name) → Lies (all_typed all) leaf.path x ((first_cells leaf).own x)
-  own_lie links x = by (is_in x (variable_names (inputs leaf.kind))) where
-    by : (b : Bool) → Lies (all_typed all) leaf.path x (if b then first_input (leaf.source x) (start_in (inputs leaf.kind) x) else start_in (outputs leaf.kind ++ internals leaf.kind) x)
-    by true = first_lies x (leaf.source x) (links x)
-    by false =
-        starts_lie x (outputs leaf.kind ++ internals leaf.kind) (all_append _ (outputs leaf.kind) (internals leaf.kind) good.outputs_first good.internals_first) (all_append _ (outputs leaf.kind) (internals leaf.kind) good.outputs_start good.internals_start)
-
-  set_lies : (x : Name) (value : Value) (values : Values) → Suits (variable_named (variables leaf.kind) x) value → AllLie (all_typed all) leaf.path values → AllLie (all_typed all) leaf.path (set_value x value values)
-  set_lies x value values s h y = by (bytes_eq y x) refl where
-    by : (b : Bool) → bytes_eq y x ≡ b → Lies (all_typed all) leaf.path y (if b then value else values y)
-    by true e = subst (λ z. Lies (all_typed all) leaf.path z value) (sym (same_name y x e)) (lies_here x value s)
-    by false e = h y
-
-  receive_lies : (types : List ElemType) (n : ℕ) (ns : List ℤ) (values : Values) → AreFirst (variables leaf.kind) (ports received n types) → all_in types ns ≡ true → AllLie (all_typed all) leaf.path values → AllLie (all_typed all) leaf.path (receive n ns values)
-  receive_lies [] n [] values f e h = h
-  receive_lies [] n (v ∷ ns) values f e h = absurd cc
-  receive_lies (type ∷ types) n [] values f e h = absurd cc
-  receive_lies (type ∷ types) n (v ∷ ns) values f e h =
-      let k = both (in_type type v) (all_in types ns) e in
-      receive_lies types (n + 1) ns (set_value (received n) (One v) values) f.1 k.1 (set_lies (received n) (One v) values (received_suits (variable_named (variables leaf.kind) (received n)) _ v f.0 k.0) h)
-
-  writes_fit : (service : Service) → leaf.kind ≡ Serviced service → WritesFit (all_typed all) leaf.path service
-  writes_fit service e =
-      record {
-        bits = λ b. lies_here qo (bit b) (subst (λ k. Suits (variable_named (variables k) qo) (bit b)) (sym e) (bits_suit service b));
-        numbers = λ ns values m h. elim m [
-          | inl none ↦ subst (λ xs. AllLie (all_typed all) leaf.path (receive 1 xs values)) (sym none) h
-          | inr each ↦ receive_lies (types_of (Serviced service)) 1 ns values (subst (λ k. AreFirst (variables k) (ports received 1 (types_of (Serviced service)))) (sym e) (receivers service)) each h
-        ];
-      }
-
-  leaf_lies : ((x : Name) → Feeds all (variable_named (inputs leaf.kind) x) (leaf.source x)) → LiesByTypes (all_typed all) all leaf
-  leaf_lies feeds =
-      let links : (x : Name) → LinkFits (all_typed all) all leaf.path x (leaf.source x) = λ x. link x (variable_named (inputs leaf.kind) x) (leaf.source x) refl (feeds x) in
-      record { starts = record { own = own_lie links; issued = λ y e. starts_lie y (outputs leaf.kind) good.outputs_first good.outputs_start }; links = links; writes = writes_fit }
-
 -- ---- bodies
 
 -- each instance is the first one of its name in a network
@@ -270,18 +155,18 @@ mutual
   fed_of all (Served service) home path targets source m f h = (record { good = service_good service; feeds = h }, tt)
   fed_of all (Composite face inner events values) home path targets source m f h =
       let given = given_of_in all inner home path (λ j port. followed events (Some j) port (entered_in inner path) targets) (λ j port other. fed values (Some j) port (given_in inner path) source other) m.0 f in
-      fed_in all inner inner home path (λ j port. followed events (Some j) port (entered_in inner path) targets) (λ j port other. fed values (Some j) port (given_in inner path) source other) m.0 f (each_named inner m.1.apart)
+      fed_in_net all inner inner home path (λ j port. followed events (Some j) port (entered_in inner path) targets) (λ j port other. fed values (Some j) port (given_in inner path) source other) m.0 f (each_named inner m.1.apart)
       (λ j x other o. fed_feeds all face inner (given_in inner path) source given (λ y v e. feeds_yields all (variable_named face.inputs y) v (source y) e (h y)) values m.1.value_links (Some j) x other o)
 
-  fed_in : (all : List Leaf) → (whole inner : Instances) (home : ℕ) (path : Path) (targets : Name → Name → List Place) (source : Name → Name → Source → Source) → AreWellMade inner → AreFound all (leaves_in inner home path targets source)
+  fed_in_net : (all : List Leaf) → (whole inner : Instances) (home : ℕ) (path : Path) (targets : Name → Name → List Place) (source : Name → Name → Source → Source) → AreWellMade inner → AreFound all (leaves_in inner home path targets source)
       → AreNamed whole inner → Feeding all whole source → AllByRecursion (IsFed all) (leaves_in inner home path targets source)
-  fed_in all whole nothing home path targets source m f n h = tt
-  fed_in all whole (instance name parameters body rest) home path targets source m f n h =
+  fed_in_net all whole nothing home path targets source m f n h = tt
+  fed_in_net all whole (instance name parameters body rest) home path targets source m f n h =
       all_append (IsFed all) _ _
       (fed_of all body home (path ++ name ∷ []) (targets name) (λ port. source name port (Constant (constant parameters (inputs_of body) port))) m.0 (all_left _ _ (leaves_in rest home path targets source) f)
       (λ x. subst (λ o. Feeds all (in_body inputs_of o x) (source name x (Constant (constant parameters (inputs_of body) x)))) n.0
       (h name x (Constant (constant parameters (inputs_of body) x)) (subst (λ o. Feeds all (in_body inputs_of o x) (Constant (constant parameters (inputs_of body) x))) (sym n.0) (constant_feeds all (inputs_of body) parameters x (inputs_made body m.0) m.1)))))
-      (fed_in all whole rest home path targets source m.2 (all_right _ (leaves_of body home (path ++ name ∷ []) (targets name) (λ port. source name port (Constant (constant parameters (inputs_of body) port)))) _ f) n.1 h)
+      (fed_in_net all whole rest home path targets source m.2 (all_right _ (leaves_of body home (path ++ name ∷ []) (targets name) (λ port. source name port (Constant (constant parameters (inputs_of body) port)))) _ f) n.1 h)
 
 -- ---- devices
 
@@ -296,11 +181,3 @@ device_fed d m = fed_from (leaves d) 0 (d.name ∷ []) d.resources m.resources (
 
 pub all_fed : (library : List BlockTree) (source : SourceTree) (system : System) → ElaboratesWith library source system → AllByRecursion (λ (d : Device). AllByRecursion (IsFed (leaves d)) (leaves d)) system.devices
 all_fed library source system e = all_weaker IsWellDevice (λ (d : Device). AllByRecursion (IsFed (leaves d)) (leaves d)) system.devices device_fed (devices_made library source system e)
-
-device_lies : (d : Device) → IsWellDevice d → AllByRecursion (LiesByTypes (all_typed (leaves d)) (leaves d)) (leaves d)
-device_lies d m =
-    let a = device_apart d m in
-    all_both (λ (leaf : Leaf). leaf_at (leaves d) leaf.path ≡ Some leaf) (IsFed (leaves d)) (LiesByTypes (all_typed (leaves d)) (leaves d)) (leaves d) (λ leaf f h. leaf_lies (leaves d) a leaf f h.good h.feeds) (all_found (leaves d) a) (device_fed d m)
-
-pub all_lie : (library : List BlockTree) (source : SourceTree) (system : System) → ElaboratesWith library source system → AllByRecursion (λ (d : Device). AllByRecursion (LiesByTypes (all_typed (leaves d)) (leaves d)) (leaves d)) system.devices
-all_lie library source system e = all_weaker IsWellDevice (λ (d : Device). AllByRecursion (LiesByTypes (all_typed (leaves d)) (leaves d)) (leaves d)) system.devices device_lies (devices_made library source system e)

@@ -10,8 +10,8 @@ use Rattle.fb_model.specs.System.{Event, Service, Input, Output, Publish, Subscr
 use Rattle.fb_model.specs.Services.{arrive, expire, service_event_inputs, service_events}
 use Rattle.fb_model.specs.Typing.{names_of, event_inputs_of, body_named}
 use Rattle.fb_model.specs.NetworkTyping.{ElaboratesWith}
-use Rattle.fb_model.specs.Wires.{Leaf, Source, Constant, is_end, followed, entered, entered_in, fed, given_in, inputs_of, leaves_of, leaves_in, resource_leaves, leaves_from, leaves}
-use Rattle.fb_model.specs.Certificates.{leaf_at, is_input, has_event, event_names, IsWired}
+use Rattle.fb_model.specs.Wires.{Leaf, Source, Constant, is_end, followed, entered, entered_in, fed, given_in, inputs_of, leaves_of, leaves_in, resource_leaves, leaves_from, leaves, leaf_at}
+use Rattle.fb_model.specs.Certificates.{is_input, has_event, event_names, IsWired}
 use Rattle.fb_model.proofs.Lists.{all_append, all_both, all_weaker}
 use Rattle.fb_model.proofs.Placed.{all_left, all_right}
 use Rattle.fb_leaves.proofs.Made.{body_has, end_known, IsEventLink, IsWellMade, AreWellMade, IsWellResource, IsWellDevice}

@@ -1,13 +1,18 @@
--- What is so of the leaves of well typed systems by their types alone: paths that differ, values in their types, and idle leaves.
+-- What is so of the leaves of well typed systems by their types alone: paths that differ, values in their types, and charts that name what they have.
 -- IEC 61499-1 edition 2, 5.3 (composite types and their connections).
-use Rattle.std.specs.Prelude.{◌≡◌, ◌≤◌, true, false, List, [], ◌∷◌, ◌++◌, length, Option, None, Some}
+use Rattle.std.specs.Prelude.{◌≡◌, ◌≤◌, pos, ◌≤ℤ◌, true, false, List, [], ◌∷◌, ◌++◌, length, Option, None, Some}
 use Rattle.std.specs.List.{AllByRecursion}
-use Rattle.fb_model.specs.Names.{Name, path_eq, is_in}
-use Rattle.fb_model.specs.System.{Action, State, Transition, Block, Service}
+use Rattle.fb_words.specs.declared.elem_type.ElemType.{ElemType}
+use Rattle.fb_model.specs.Names.{Name, Path, path_eq, is_in}
+use Rattle.fb_model.specs.Values.{Value, One, lowest, highest, numbers_of}
+use Rattle.fb_model.specs.System.{Variable, Action, State, Transition, Block, start_of}
 use Rattle.fb_model.specs.Typing.{AreDistinct, most_ports, most_states}
-use Rattle.fb_model.specs.Wires.{Kind, Charted, Serviced, Leaf}
-use Rattle.fb_model.specs.Store.{first_cells}
-use Rattle.fb_model.specs.Ranges.{Range, CellsLie, LinkFits, WritesFit}
+use Rattle.fb_model.specs.NetworkTyping.{variable_named}
+use Rattle.fb_model.specs.Wires.{Kind, Charted, Serviced, Source, Output_of, Constant, Leaf, leaf_at}
+use Rattle.fb_model.specs.Store.{inputs, outputs, internals}
+use Rattle.fb_model.specs.Spans.{whole}
+use Rattle.fb_model.specs.Shapes.{IsIn}
+use Rattle.fb_model.specs.Ranges.{variables}
 use Rattle.fb_model.specs.Certificates.{names, event_names}
 
 -- the paths of leaves are all different
@@ -15,16 +20,57 @@ abbrev pub AreApart : List Leaf → Type 0
 AreApart [] = Unit {0}
 AreApart (leaf ∷ rest) = AllByRecursion (λ (other : Leaf). path_eq leaf.path other.path ≡ false) rest × AreApart rest
 
--- by its types alone: its first values lie in these ranges, what its inputs take lies there, and what a service writes
-pub record LiesByTypes (ranges : List Range) (all : List Leaf) (leaf : Leaf) : Type 0 where
-  pub starts : CellsLie ranges leaf.path leaf.kind (first_cells leaf)
-  pub links : (x : Name) → LinkFits ranges all leaf.path x (leaf.source x)
-  pub writes : (service : Service) → leaf.kind ≡ Serviced service → WritesFit ranges leaf.path service
+-- ---- types
 
--- a block without algorithms and guards; and any service
-abbrev pub IsIdle : Kind → Type 0
-IsIdle (Charted block) = (block.procedures ≡ []) × AllByRecursion (λ (t : Transition). t.guard ≡ None) block.transitions
-IsIdle (Serviced service) = Unit {0}
+-- each number of a value lies in a type
+abbrev pub HasType : ElemType → Value → Type 0
+HasType a v = AllByRecursion (IsIn (whole a)) (numbers_of v)
+
+-- a type has all values of another
+abbrev pub IsWider : ElemType → ElemType → Type 0
+IsWider a b = (lowest b ≤ℤ lowest a) × (highest a ≤ℤ highest b)
+
+-- the start values of variables lie in their types
+abbrev pub StartsFit : List Variable → Type 0
+StartsFit vs = AllByRecursion (λ (v : Variable). HasType v.type (start_of v)) vs
+
+-- each of these variables is the first one of its name in a list
+abbrev pub AreFirst : List Variable → List Variable → Type 0
+AreFirst whole vs = AllByRecursion (λ (v : Variable). variable_named whole v.name ≡ Some v) vs
+
+-- the names of the variables differ, and their start values lie in their types
+pub record IsGoodKind (kind : Kind) : Type 0 where
+  pub inputs_first : AreFirst (variables kind) (inputs kind)
+  pub outputs_first : AreFirst (variables kind) (outputs kind)
+  pub internals_first : AreFirst (variables kind) (internals kind)
+  pub inputs_start : StartsFit (inputs kind)
+  pub outputs_start : StartsFit (outputs kind)
+  pub internals_start : StartsFit (internals kind)
+
+-- ---- where data come from
+
+-- an output of a leaf, whose type the other type widens
+pub record IsGivenBy (all : List Leaf) (a : ElemType) (from : Path) (y : Name) : Type 0 where
+  pub leaf : Leaf
+  pub found : leaf_at all from ≡ Some leaf
+  pub variable : Variable
+  pub is : variable_named (outputs leaf.kind) y ≡ Some variable
+  pub wider : IsWider variable.type a
+
+-- a source of values of a type
+abbrev pub Yields : List Leaf → ElemType → Source → Type 0
+Yields all a (Output_of from y) = IsGivenBy all a from y
+Yields all a (Constant value) = HasType a value
+
+-- a source for a variable, if there is one, and else 0
+abbrev pub Feeds : List Leaf → Option Variable → Source → Type 0
+Feeds all None s = s ≡ Constant (One (pos 0))
+Feeds all (Some v) s = Yields all v.type s
+
+-- the names of its variables differ, first values lie in their types, and each input takes what has its type
+pub record IsFed (all : List Leaf) (leaf : Leaf) : Type 0 where
+  pub good : IsGoodKind leaf.kind
+  pub feeds : (x : Name) → Feeds all (variable_named (inputs leaf.kind) x) (leaf.source x)
 
 -- a name that may be left out is one of these
 abbrev pub IsListed : List Name → Option Name → Type 0

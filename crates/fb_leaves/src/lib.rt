@@ -1,4 +1,4 @@
-//! Laws about the leaves of well typed systems: their paths differ, outputs lead to event inputs, and values lie in their types.
+//! Laws about the leaves of well typed systems: their paths differ, outputs lead to event inputs, and inputs take values of their types.
 #![tactic(auto)]
 
 ghost use Rattle.std.specs.Prelude.{List, length, ◌≤◌};
@@ -7,9 +7,8 @@ ghost use Rattle.fb_model.specs.Declarations.{BlockTree, SourceTree};
 ghost use Rattle.fb_model.specs.System.{Device, System};
 ghost use Rattle.fb_model.specs.NetworkTyping.{ElaboratesWith};
 ghost use Rattle.fb_model.specs.Wires.{Leaf, leaves};
-ghost use Rattle.fb_model.specs.Ranges.{Range, LeafLies, all_typed};
 ghost use Rattle.fb_model.specs.Certificates.{IsWired};
-ghost use Rattle.fb_leaves.specs.Leaves.{AreApart, LiesByTypes, IsIdle, IsClosed};
+ghost use Rattle.fb_leaves.specs.Leaves.{AreApart, IsFed, IsClosed};
 
 /// The paths of a device's leaves are all different.
 pub fn paths_differ()
@@ -21,14 +20,10 @@ pub fn outputs_lead_to_inputs()
     ensures { (library : List BlockTree) (source : SourceTree) (system : System) → ElaboratesWith library source system → AllByRecursion (λ (d : Device). AllByRecursion (IsWired (leaves d)) (leaves d)) system.devices }
 {}
 
-/// The first values of leaves lie in their types, what an input takes has a type that widens to the input's own, and services write values of their types.
-pub fn values_lie_in_types()
-    ensures { (library : List BlockTree) (source : SourceTree) (system : System) → ElaboratesWith library source system → AllByRecursion (λ (d : Device). AllByRecursion (LiesByTypes (all_typed (leaves d)) (leaves d)) (leaves d)) system.devices }
-{}
-
-/// A leaf that lies by its types and runs no algorithm and no guard keeps its values.
-pub fn idle_leaves_lie()
-    ensures { (ranges : List Range) (all : List Leaf) (leaf : Leaf) → LiesByTypes ranges all leaf → IsIdle leaf.kind → LeafLies ranges all leaf }
+/// The names of a leaf's variables differ, their first values lie in their types, and each input takes a constant of its type, or an output of a
+/// leaf whose type widens to the input's own.
+pub fn inputs_take_their_types()
+    ensures { (library : List BlockTree) (source : SourceTree) (system : System) → ElaboratesWith library source system → AllByRecursion (λ (d : Device). AllByRecursion (IsFed (leaves d)) (leaves d)) system.devices }
 {}
 
 /// The charts of a device's leaves name states, events and outputs of their own block alone, which are few and apart.

@@ -1,15 +1,13 @@
 -- Texts of paths against places and paths of names.
-use Rattle.std.proofs.Common.{◌≡◌, Bool, true, false, ◌||◌, List, [], ◌∷◌, ◌++◌, map, refl, sym, ap, subst, ◌∙◌}
+use Rattle.std.proofs.Common.{◌≡◌, Bool, true, false, ◌||◌, List, [], ◌∷◌, map, refl, sym, ap, subst, ◌∙◌}
 use Rattle.std.specs.List.{list_any}
 use Rattle.std.specs.Str.{bytes_eq}
 use Rattle.fb_model.specs.Names.{Name, Path, Place, at_place, path_eq, place_eq, is_in}
-use Rattle.fb_model.specs.Spelling.{IsWord}
 use Rattle.fb_model.specs.Certificates.{places_in}
 use Rattle.fb_model.specs.CertificateText.{names_in, place_of}
 use Rattle.fb_model.specs.Spelling.{AreWords}
 use Rattle.fb_model.proofs.Lists.{same_name}
 use Rattle.fb_flat.proofs.of_fb_blocks.Lists.{any_map}
-use Rattle.fb_flat.specs.Sites.{dotted}
 use Rattle.fb_flat.proofs.Dotted.{placed_at}
 use Rattle.fb_ledger.proofs.Names.{bytes_same, bytes_turned}
 use Rattle.fb_cert.proofs.Places.{place_same, path_same}

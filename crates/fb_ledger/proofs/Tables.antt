@@ -1,5 +1,5 @@
 -- Tables of certificates by their paths.
-use Rattle.std.proofs.Common.{◌≡◌, ℕ, ◌+◌, Bool, true, false, ◌||◌, ◌++◌, cond, List, [], ◌∷◌, drop, subst, map, Option, Some, is_some, refl, sym, ap, ◌∙◌, string_bytes}
+use Rattle.std.proofs.Common.{◌≡◌, ℕ, ◌+◌, Bool, true, false, ◌||◌, ◌++◌, cond, List, [], ◌∷◌, drop, subst, map, Option, None, Some, is_some, refl, sym, ap, ◌∙◌, string_bytes}
 use Rattle.std.specs.List.{list_any}
 use Rattle.std.specs.Str.{bytes_eq}
 use Rattle.std.specs.declared.string.String.{String}
@@ -14,8 +14,9 @@ use Rattle.fb_model.specs.System as book
 use Rattle.fb_model.specs.Services.{service_events, service_event_inputs, arrivals}
 use Rattle.fb_model.specs.BlockTyping.{variable_of}
 use Rattle.fb_flat.proofs.of_fb_blocks.Lists.{any_map}
-use Rattle.fb_cert.specs.Views.{Table, first_at, Rows}
-use Rattle.fb_ledger.specs.declared.kind.RowKind.{RowKind}
+use Rattle.std.specs.Option.{option_map}
+use Rattle.fb_cert.specs.declared.bounds.Bounds.{Bounds}
+use Rattle.fb_cert.specs.Views.{Table, first_at, Rows, span_of}
 use Rattle.fb_ledger.specs.declared.kind.RowKind.TheVariants.{Charge, Weight, Range, Depth}
 use Rattle.fb_flat.specs.declared.flat.FlatDevice.{FlatDevice}
 use Rattle.fb_ledger.specs.Members.{HasSame}
@@ -30,6 +31,11 @@ has_first path (r ∷ rows) = by (bytes_eq path r.0) r.1 (first_at path rows) (i
   by : {V : Type 0} (t : Bool) (v : V) (o : Option V) (u : Bool) → is_some o ≡ u → is_some (cond t (Some v) o) ≡ (t || u)
   by true v o u h = refl
   by false v o u h = h
+
+-- bounds are there just where their span is
+pub some_spanned : (o : Option Bounds) → is_some o ≡ is_some (option_map span_of o)
+some_spanned None = refl
+some_spanned (Some b) = refl
 
 -- whether a set of texts has a name
 pub known : (x : Name) (keys : List (String Global)) (t : Bool) → t ≡ list_any (λ k. bytes_eq x (string_bytes k)) keys → is_in x (map string_bytes keys) ≡ t

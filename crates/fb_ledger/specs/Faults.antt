@@ -5,7 +5,6 @@ use Rattle.fb_model.specs.Names.{Name, Path, Place, path_eq, place_eq, is_in}
 use Rattle.fb_model.specs.System.{System}
 use Rattle.fb_model.specs.Certificates.{Certificate, all_leaves, each_leaf, places_in, state_names, events_of, ranged, row_places, range_places, depth_rows, depth_paths, AreDifferent}
 use Rattle.fb_model.specs.CertificateText.{place_of, names_in}
-use Rattle.fb_flat.specs.Sites.{dotted}
 use Rattle.fb_ledger.specs.declared.fault.RowFault.{RowFault}
 use Rattle.fb_ledger.specs.declared.fault.RowFault.TheVariants.{OutOfMemory, Unknown, Missing}
 
@@ -16,6 +15,10 @@ charge_places s = each_leaf (λ leaf. places_in leaf.path (state_names leaf.kind
 -- the places of its rows WEIGHT
 abbrev pub weight_places : System → List Place
 weight_places s = each_leaf (λ leaf. places_in leaf.path (events_of leaf.kind)) (all_leaves s.devices)
+
+-- the places of its rows RANGE
+abbrev pub variable_places : System → List Place
+variable_places s = ranged (all_leaves s.devices)
 
 -- a path as it is written is one of these places
 abbrev pub is_at : List ℕ → List Place → Bool
@@ -29,19 +32,14 @@ is_among path paths = list_any (path_eq (names_in path)) paths
 pub data IsUnknown (s : System) (cert : Certificate) (path : List ℕ) : Type 0 where
   unknown_charge : is_at path (row_places cert.charges) ≡ true → is_at path (charge_places s) ≡ false → IsUnknown s cert path
   unknown_weight : is_at path (row_places cert.weights) ≡ true → is_at path (weight_places s) ≡ false → IsUnknown s cert path
+  unknown_range : is_at path (range_places cert.ranges) ≡ true → is_at path (variable_places s) ≡ false → IsUnknown s cert path
   unknown_depth : is_among path (depth_rows cert.depths) ≡ true → is_among path (depth_paths s.devices) ≡ false → IsUnknown s cert path
-
--- a path as it is written is that of this place
-pub record IsWritten (path : List ℕ) (p : Place) : Type 0 where
-  pub front : List ℕ
-  pub front_is : names_in front ≡ p.path
-  pub path_is : path ≡ dotted front p.event
 
 -- the system must have a row of this path, and the certificate has none
 pub data IsMissing (s : System) (cert : Certificate) (path : List ℕ) : Type 0 where
   missing_charge : is_at path (row_places cert.charges) ≡ false → is_at path (charge_places s) ≡ true → IsMissing s cert path
   missing_weight : is_at path (row_places cert.weights) ≡ false → is_at path (weight_places s) ≡ true → IsMissing s cert path
-  missing_range : (p : Place) → IsWritten path p → list_any (place_eq p) (range_places cert.ranges) ≡ false → list_any (place_eq p) (ranged (all_leaves s.devices)) ≡ true → IsMissing s cert path
+  missing_range : is_at path (range_places cert.ranges) ≡ false → is_at path (variable_places s) ≡ true → IsMissing s cert path
   missing_depth : is_among path (depth_rows cert.depths) ≡ false → is_among path (depth_paths s.devices) ≡ true → IsMissing s cert path
 
 -- what a refusal says is so
@@ -50,10 +48,11 @@ IsRowFault s cert OutOfMemory = Unit {0}
 IsRowFault s cert (Unknown path) = IsUnknown s cert (string_bytes path)
 IsRowFault s cert (Missing path) = IsMissing s cert (string_bytes path)
 
--- no two rows CHARGE and no two rows WEIGHT of the certificate have one place
+-- no two rows CHARGE, no two rows WEIGHT and no two rows RANGE of the certificate have one place
 pub record HasNoRowTwice (cert : Certificate) : Type 0 where
   pub charges : AreDifferent (row_places cert.charges)
   pub weights : AreDifferent (row_places cert.weights)
+  pub ranges : AreDifferent (range_places cert.ranges)
 
 -- ---- by texts alone
 

@@ -23,11 +23,11 @@ use Rattle.fb_ledger.specs.Faults.{IsDifference}
 abbrev pub paths : {V : Type 0} → Table V → List Name
 paths rows = map (λ r. r.0) rows
 
--- the paths of the rows of a kind. No row RANGE is read yet
+-- the paths of the rows of a kind
 abbrev pub paths_of : RowKind → Rows → List Name
 paths_of Charge rows = paths rows.charges
 paths_of Weight rows = paths rows.weights
-paths_of Range rows = []
+paths_of Range rows = paths rows.ranges
 paths_of Depth rows = paths rows.depths
 
 -- ---- leaf tables

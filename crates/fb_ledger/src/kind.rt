@@ -8,7 +8,7 @@ ghost use Rattle.fb_ledger.specs.Texts.{paths_of};
 
 use fb_cert::Certificate;
 
-/// A kind of rows. No row of the kind `Range` is read yet.
+/// A kind of rows.
 #[derive(Clone, Copy, Debug)]
 pub enum RowKind {
     Charge,
@@ -24,7 +24,7 @@ pub fn has_row(certificate: &Certificate, kind: RowKind, path: &str) -> bool
     match kind {
         RowKind::Charge => certificate.charge(path).is_some(),
         RowKind::Weight => certificate.weight(path).is_some(),
-        RowKind::Range => false,
+        RowKind::Range => certificate.range(path).is_some(),
         RowKind::Depth => certificate.depth(path).is_some(),
     }
 }
@@ -36,7 +36,7 @@ pub fn row_count(certificate: &Certificate, kind: RowKind) -> usize
     match kind {
         RowKind::Charge => certificate.charge_count(),
         RowKind::Weight => certificate.weight_count(),
-        RowKind::Range => 0,
+        RowKind::Range => certificate.range_count(),
         RowKind::Depth => certificate.depth_count(),
     }
 }
@@ -48,7 +48,7 @@ pub fn path_at(certificate: &Certificate, kind: RowKind, index: usize) -> Option
     match kind {
         RowKind::Charge => Some(certificate.charge_at(index)?.0),
         RowKind::Weight => Some(certificate.weight_at(index)?.0),
-        RowKind::Range => None,
+        RowKind::Range => Some(certificate.range_at(index)?.0),
         RowKind::Depth => Some(certificate.depth_at(index)?.0),
     }
 }

@@ -86,22 +86,69 @@ fn rows_of_charts_and_services(rt: HostRuntime) -> Result<(), Fail> {
 }
 
 const COUNTER: &str = "FUNCTION_BLOCK COUNTER
-EVENT_INPUT CU; END_EVENT VAR_OUTPUT CV : INT; FULL : BOOL; END_VAR
-EC_STATES START; END_STATES EC_TRANSITIONS END_TRANSITIONS
+EVENT_INPUT CU; END_EVENT EVENT_OUTPUT CUO WITH CV; END_EVENT
+VAR_OUTPUT CV : INT; FULL : BOOL; END_VAR
+VAR PAUSE : TIME; LAST : ARRAY [0..3] OF USINT; READY : BOOL; END_VAR
+EC_STATES START; ADD : INC -> CUO; END_STATES
+EC_TRANSITIONS START TO ADD := CU; ADD TO START := 1; END_TRANSITIONS
+ALGORITHM INC IN ST: CV := CV + 1; END_ALGORITHM
 END_FUNCTION_BLOCK
 SYSTEM S DEVICE D RESOURCE R
-FBS COUNT : COUNTER; END_FBS
+FBS COUNT : COUNTER; BUTTON : INPUT[INT](ID := 1); END_FBS
 END_RESOURCE END_DEVICE END_SYSTEM
 ";
 
-// A range of CV has to be there, which no certificate spells so far; none of FULL, which is a truth value.
+const COUNTER_ROWS: &str =
+    "CERT 1\nCHARGE D.R.COUNT.START 0 0\nCHARGE D.R.COUNT.ADD 2 1\nWEIGHT D.R.COUNT.CU 4 1\nWEIGHT D.R.BUTTON.ARRIVE 1 1\nDEPTH D.R 1\n";
+
+// A range of each integer or TIME variable of a basic block has to be there, and no other.
 #[test]
 fn rows_of_variables(rt: HostRuntime) -> Result<(), Fail> {
     let alloc = rt.alloc();
-    let certificate = "CERT 1\nCHARGE D.R.COUNT.START 0 0\nWEIGHT D.R.COUNT.CU 1 1\nDEPTH D.R 1\n";
-    assert_eq!(rt;
-        said(alloc, COUNTER, certificate)?.as_str(),
-        "33 D.R.COUNT.CV"
-    );
+    let cases: [(&str, &str, &str); 7] = [
+        (
+            "RANGE D.R.COUNT.CV 0 9\n",
+            "RANGE D.R.COUNT.PAUSE 0 0\nRANGE D.R.COUNT.LAST 0 255\n",
+            "same",
+        ),
+        (
+            "",
+            "RANGE D.R.COUNT.PAUSE 0 0\nRANGE D.R.COUNT.LAST 0 255\n",
+            "33 D.R.COUNT.CV",
+        ),
+        (
+            "RANGE D.R.COUNT.CV 0 9\n",
+            "RANGE D.R.COUNT.LAST 0 255\n",
+            "33 D.R.COUNT.PAUSE",
+        ),
+        (
+            "RANGE D.R.COUNT.CV 0 9\n",
+            "RANGE D.R.COUNT.PAUSE 0 0\n",
+            "33 D.R.COUNT.LAST",
+        ),
+        (
+            "RANGE D.R.COUNT.CV 0 9\nRANGE D.R.COUNT.FULL 0 1\n",
+            "RANGE D.R.COUNT.PAUSE 0 0\nRANGE D.R.COUNT.LAST 0 255\n",
+            "32 D.R.COUNT.FULL",
+        ),
+        (
+            "RANGE D.R.COUNT.CV 0 9\nRANGE D.R.COUNT.NOWHERE 0 1\n",
+            "RANGE D.R.COUNT.PAUSE 0 0\nRANGE D.R.COUNT.LAST 0 255\n",
+            "32 D.R.COUNT.NOWHERE",
+        ),
+        (
+            "RANGE D.R.COUNT.CV 0 9\nRANGE D.R.BUTTON.RD_1 0 1\n",
+            "RANGE D.R.COUNT.PAUSE 0 0\nRANGE D.R.COUNT.LAST 0 255\n",
+            "32 D.R.BUTTON.RD_1",
+        ),
+    ];
+    for case in &cases {
+        let (first, others, wanted) = *case;
+        let certificate = format!(in alloc; "{COUNTER_ROWS}{first}{others}")?;
+        assert_eq!(rt;
+            said(alloc, COUNTER, certificate.as_str())?.as_str(),
+            wanted
+        );
+    }
     Ok(())
 }

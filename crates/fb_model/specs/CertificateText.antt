@@ -1,10 +1,11 @@
 -- How a certificate is written: this project's profile.
-use Rattle.std.specs.Prelude.{◌≡◌, ℕ, ◌+◌, ◌-◌, ◌*◌, ◌<◌, ◌≤◌, ◌==◌, Bool, true, false, not, List, [], ◌∷◌, ◌++◌, length, filter, codes, None, if◌then◌else◌}
+use Rattle.std.specs.Prelude.{◌≡◌, ℕ, ◌+◌, ◌-◌, ◌*◌, ◌<◌, ◌≤◌, ◌==◌, ℤ, pos, neg_ℤ, int_le, Bool, true, false, not, List, [], ◌∷◌, ◌++◌, length, filter, codes, None, if◌then◌else◌}
 use Rattle.std.specs.List.{slice_split, list_any, AllByRecursion}
 use Rattle.std.specs.Str.{bytes_eq}
 use Rattle.std.specs.Str.Lines.{lines}
 use Rattle.fb_model.specs.Names.{Name, Path, Place, at_place}
 use Rattle.fb_model.specs.Spelling.{is_digit, upper, IsWord}
+use Rattle.fb_model.specs.Ranges.{Range}
 use Rattle.fb_model.specs.Certificates.{Certificate, Row, DepthRow}
 
 -- ---- lines and words
@@ -54,6 +55,15 @@ most_steps = 1000000000000
 abbrev pub most_places : ℕ
 most_places = 4096
 
+-- the greatest number of LINT
+abbrev pub most_lint : ℕ
+most_lint = 9223372036854775807
+
+-- a number of LINT: digits, perhaps behind a minus
+pub data IsWhole : List ℕ → ℤ → Type 0 where
+  plain : {cs : List ℕ} {n : ℕ} → IsNumberIn 0 most_lint cs n → IsWhole cs (pos n)
+  negative : {cs : List ℕ} {n : ℕ} → IsNumberIn 0 (most_lint + 1) cs n → IsWhole (45 ∷ cs) (neg_ℤ (pos n))
+
 -- what stands between the dots
 abbrev pub names_in : List ℕ → Path
 names_in cs = slice_split (λ c. c == 46) cs
@@ -82,6 +92,7 @@ place_of cs = at_place (all_but_last (names_in cs)) (last_name (names_in cs))
 
 -- a row after the first, with its path as it is written
 pub data Entry : Type 0 where
+  range : List ℕ → ℤ → ℤ → Entry
   charge : List ℕ → ℕ → ℕ → Entry
   weight : List ℕ → ℕ → ℕ → Entry
   depth : List ℕ → ℕ → Entry
@@ -92,6 +103,7 @@ pub data IsHead : List (List ℕ) → Type 0 where
 
 -- the words of a row after the first
 pub data IsEntry : List (List ℕ) → Entry → Type 0 where
+  a_range : {p l h : List ℕ} {low high : ℤ} → IsDotted p → IsWhole l low → IsWhole h high → int_le low high ≡ true → IsEntry (codes "RANGE" ∷ p ∷ l ∷ h ∷ []) (range p low high)
   a_charge : {p s k : List ℕ} {steps places : ℕ} → IsDotted p → IsNumberIn 0 most_steps s steps → IsNumberIn 0 most_places k places → IsEntry (codes "CHARGE" ∷ p ∷ s ∷ k ∷ []) (charge p steps places)
   a_weight : {p s k : List ℕ} {steps places : ℕ} → IsDotted p → IsNumberIn 0 most_steps s steps → IsNumberIn 0 most_places k places → IsEntry (codes "WEIGHT" ∷ p ∷ s ∷ k ∷ []) (weight p steps places)
   a_depth : {p d : List ℕ} {n : ℕ} → IsDotted p → IsNumberIn 1 most_places d n → IsEntry (codes "DEPTH" ∷ p ∷ d ∷ []) (depth p n)
@@ -103,6 +115,7 @@ pub data AreEntries : List Written → List Entry → Type 0 where
 
 -- two rows of one kind have one path
 abbrev pub is_same : Entry → Entry → Bool
+is_same (range p a b) (range q c d) = bytes_eq p q
 is_same (charge p s k) (charge q t l) = bytes_eq p q
 is_same (weight p s k) (weight q t l) = bytes_eq p q
 is_same (depth p n) (depth q m) = bytes_eq p q
@@ -112,6 +125,10 @@ is_same e d = false
 abbrev pub NoneTwice : List Entry → Type 0
 NoneTwice es = (before after : List Entry) (e : Entry) → es ≡ before ++ e ∷ after → list_any (is_same e) before ≡ false
 
+-- a row of a range in the certificate: the last name is the variable's, those before it the block's
+abbrev pub range_row : List ℕ → ℤ → ℤ → Range
+range_row path low high = record { path = all_but_last (names_in path); variable = last_name (names_in path); low = low; high = high }
+
 -- a row in the certificate, by its place
 abbrev pub row_of : List ℕ → ℕ → ℕ → Row
 row_of path steps places = record { place = place_of path; steps = steps; places = places }
@@ -120,9 +137,18 @@ row_of path steps places = record { place = place_of path; steps = steps; places
 abbrev pub depth_row : List ℕ → ℕ → DepthRow
 depth_row path n = record { path = names_in path; depth = n }
 
+-- the rows RANGE in text order
+abbrev pub ranges_of : List Entry → List Range
+ranges_of [] = []
+ranges_of (range p low high ∷ es) = range_row p low high ∷ ranges_of es
+ranges_of (charge p s k ∷ es) = ranges_of es
+ranges_of (weight p s k ∷ es) = ranges_of es
+ranges_of (depth p n ∷ es) = ranges_of es
+
 -- the rows CHARGE in text order
 abbrev pub charges_of : List Entry → List Row
 charges_of [] = []
+charges_of (range p low high ∷ es) = charges_of es
 charges_of (charge p s k ∷ es) = row_of p s k ∷ charges_of es
 charges_of (weight p s k ∷ es) = charges_of es
 charges_of (depth p n ∷ es) = charges_of es
@@ -130,6 +156,7 @@ charges_of (depth p n ∷ es) = charges_of es
 -- the rows WEIGHT in text order
 abbrev pub weights_of : List Entry → List Row
 weights_of [] = []
+weights_of (range p low high ∷ es) = weights_of es
 weights_of (charge p s k ∷ es) = weights_of es
 weights_of (weight p s k ∷ es) = row_of p s k ∷ weights_of es
 weights_of (depth p n ∷ es) = weights_of es
@@ -137,13 +164,14 @@ weights_of (depth p n ∷ es) = weights_of es
 -- the rows DEPTH in text order
 abbrev pub depths_of : List Entry → List DepthRow
 depths_of [] = []
+depths_of (range p low high ∷ es) = depths_of es
 depths_of (charge p s k ∷ es) = depths_of es
 depths_of (weight p s k ∷ es) = depths_of es
 depths_of (depth p n ∷ es) = depth_row p n ∷ depths_of es
 
 -- rows of the same kind in text order
 abbrev pub certificate_in : List Entry → Certificate
-certificate_in es = record { ranges = []; charges = charges_of es; weights = weights_of es; depths = depths_of es; repeats = None; fars = []; far_states = []; channels = [] }
+certificate_in es = record { ranges = ranges_of es; charges = charges_of es; weights = weights_of es; depths = depths_of es; repeats = None; fars = []; far_states = []; channels = [] }
 
 -- ---- whole texts
 

@@ -23,6 +23,11 @@ pub mod Store
 pub mod Charts
 pub mod Messages
 pub mod Serving
+pub mod Spans
+pub mod Clear
+pub mod Shapes
+pub mod Exact
+pub mod Counts
 pub mod Ranges
 pub mod Certificates
 pub mod Devices

@@ -7,8 +7,8 @@ use Rattle.std.specs.declared.string.String.{String}
 use Rattle.std.specs.declared.alloc.Global.{Global}
 use Rattle.fb_model.specs.Names.{Name}
 use Rattle.fb_model.specs.TypedText.{Term, set, set_part}
-use Rattle.st_clear.specs.Spans.{Span}
-use Rattle.st_clear.specs.Clear.{Spans, changed, range_of, narrowed, Found, Clear, Leaves, Traps, onward, with_range, either, are_kept, reset, taken, left_with, looped, examine, examine_one, examine_choices, kept}
+use Rattle.fb_model.specs.Spans.{Span}
+use Rattle.fb_model.specs.Clear.{Spans, changed, range_of, narrowed, Found, Clear, Leaves, Traps, onward, with_range, either, are_kept, reset, taken, left_with, looped, examine, examine_one, examine_choices, kept}
 use Rattle.st_types.specs.declared.command.TypedStmt.{TypedStmt, the_lemmas}
 use Rattle.st_types.specs.declared.command.TypedStmt.TheVariants.{Set, SetElement}
 use Rattle.st_types.specs.declared.command.TypedBranch.{TypedBranch}

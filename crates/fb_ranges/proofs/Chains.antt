@@ -4,8 +4,8 @@ use Rattle.std.specs.declared.alloc.Global.{Global}
 use Rattle.std.specs.declared.boxed.Box.{Box}
 use Rattle.fb_model.specs.Language.{given}
 use Rattle.fb_model.specs.TypedText.{Term, double}
-use Rattle.st_clear.specs.Spans.{range_two}
-use Rattle.st_clear.specs.Clear.{Spans, range_of}
+use Rattle.fb_model.specs.Spans.{range_two}
+use Rattle.fb_model.specs.Clear.{Spans, range_of}
 use Rattle.st_types.specs.declared.term.TypedExpr.{TypedExpr, Chain}
 use Rattle.st_types.specs.declared.term.TypedLink.{TypedLink}
 use Rattle.st_types.specs.Views.{Tail, joined, term_of, tail_of}

@@ -8,7 +8,7 @@ use Rattle.fb_words.specs.declared.operator.Operator.TheVariants as o
 use Rattle.fb_words.specs.declared.operator.Operation.{Operation}
 use Rattle.fb_words.specs.declared.operator.Operation.TheVariants.{Infix, Negate, Not, Abs, Min, Max, Limit, Convert}
 use Rattle.fb_model.specs.TypedText.{Term, constant, read, part, single, double}
-use Rattle.st_clear.specs.Clear.{Spans, is_truth, opposite, related, narrowed}
+use Rattle.fb_model.specs.Clear.{Spans, is_truth, opposite, related, narrowed}
 use Rattle.st_types.specs.declared.term.TypedExpr.{the_lemmas}
 use Rattle.st_types.specs.declared.term.TypedLink.{TypedLink}
 use Rattle.st_types.specs.Views.{joined, term_of, tail_of}

@@ -11,9 +11,9 @@ use Rattle.std.proofs.lemmas.List.{map_push, take_more}
 use Rattle.fb_words.specs.declared.elem_type.ElemType.TheVariants as t
 use Rattle.fb_model.specs.Names.{Name, is_in}
 use Rattle.fb_model.proofs.Lists.{same_name}
-use Rattle.st_clear.specs.Spans.{Span, joined, whole}
-use Rattle.st_clear.specs.Clear.{Spans, changed, reset}
-use Rattle.st_clear.proofs.Names.{eq_turned}
+use Rattle.fb_model.specs.Spans.{Span, joined, whole}
+use Rattle.fb_model.specs.Clear.{Spans, changed, reset}
+use Rattle.fb_model.proofs.Names.{eq_turned}
 use Rattle.fb_ranges.specs.declared.interval.Interval.{Interval}
 use Rattle.fb_ranges.specs.Views.{row_of, spans_in, names_in}
 use Rattle.fb_ranges.proofs.Tables.{shown}

@@ -3,11 +3,11 @@ use Rattle.std.proofs.Common.{◌≡◌, ℕ, Bool, true, false, Option, Some, N
 use Rattle.std.specs.Prelude.{if◌then◌else◌, nat_le}
 use Rattle.fb_model.specs.Values.{Values}
 use Rattle.fb_model.specs.Language.{Algorithm, Guard, holds, run}
-use Rattle.st_clear.specs.Spans.{Span}
-use Rattle.st_clear.specs.Clear.{Spans, Found, Clear, Leaves, Traps, examined, guard_range}
-use Rattle.st_clear.specs.Shapes.{AlgorithmFits, HasShape, Keeps, Lies, Shape, TermFits, written}
-use Rattle.st_clear.proofs.Sound.{algorithms_keep}
-use Rattle.st_clear.proofs.Terms.{guard_answers}
+use Rattle.fb_model.specs.Spans.{Span}
+use Rattle.fb_model.specs.Clear.{Spans, Found, Clear, Leaves, Traps, examined, guard_range}
+use Rattle.fb_model.specs.Shapes.{AlgorithmFits, HasShape, Keeps, Lies, Shape, TermFits, written}
+use Rattle.fb_model.proofs.Sound.{algorithms_keep}
+use Rattle.fb_model.proofs.Terms.{guard_answers}
 use Rattle.fb_ranges.specs.Answers.{IsClear, most_steps}
 
 pub guards : (rows : Spans) (shape : Shape) (g : Guard) (values : Values) → IsSome (guard_range rows g) → TermFits shape g → HasShape shape values → Lies rows values → (b : Bool) × (holds g values ≡ Some b)

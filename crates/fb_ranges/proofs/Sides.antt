@@ -10,8 +10,8 @@ use Rattle.fb_words.specs.declared.operator.Operation.{Operation}
 use Rattle.fb_model.specs.Names.{Name}
 use Rattle.fb_model.specs.TypedText.{Term, double}
 use Rattle.fb_model.proofs.Lists.{same_name}
-use Rattle.st_clear.specs.Spans.{Span}
-use Rattle.st_clear.specs.Clear.{Spans, changed}
+use Rattle.fb_model.specs.Spans.{Span}
+use Rattle.fb_model.specs.Clear.{Spans, changed}
 use Rattle.st_types.specs.declared.term.TypedExpr.{TypedExpr, Chain}
 use Rattle.st_types.specs.declared.term.TypedLink.{TypedLink}
 use Rattle.st_types.specs.Views.{Tail, joined, term_of, tail_of}

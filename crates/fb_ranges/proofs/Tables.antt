@@ -6,8 +6,8 @@ use Rattle.std.specs.Option.{option_map, unwrap_or}
 use Rattle.std.specs.Str.{bytes_eq}
 use Rattle.fb_words.specs.declared.elem_type.ElemType.TheVariants as t
 use Rattle.fb_model.specs.Names.{Name}
-use Rattle.st_clear.specs.Spans.{Span, whole}
-use Rattle.st_clear.specs.Clear.{changed}
+use Rattle.fb_model.specs.Spans.{Span, whole}
+use Rattle.fb_model.specs.Clear.{changed}
 use Rattle.fb_ranges.specs.declared.interval.Interval.{Interval}
 use Rattle.std.specs.declared.string.String.{String}
 use Rattle.std.specs.declared.alloc.Global.{Global}

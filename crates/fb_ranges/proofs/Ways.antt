@@ -2,8 +2,8 @@
 use Rattle.std.proofs.Common.{◌≡◌, ℕ, max, refl, sym, ap, ap₂, ◌∙◌, arith}
 use Rattle.std.proofs.Math.Path.{fun_ext}
 use Rattle.std.proofs.lemmas.Int.{ints, clamps}
-use Rattle.st_clear.specs.Spans.{Span, span, joined}
-use Rattle.st_clear.specs.Clear.{Spans, Found, Clear, Leaves, Traps, either}
+use Rattle.fb_model.specs.Spans.{Span, span, joined}
+use Rattle.fb_model.specs.Clear.{Spans, Found, Clear, Leaves, Traps, either}
 use Rattle.fb_ranges.specs.Finding.{IsFound}
 use Rattle.fb_ranges.specs.Steps.{counted}
 

@@ -2,8 +2,8 @@
 use Rattle.std.specs.Prelude.{◌≡◌, ℕ, nat_le, if◌then◌else◌, Option, None, Some, IsSome, Result, Ok, Err}
 use Rattle.fb_ranges.specs.declared.fault.RangeFault.{RangeFault}
 use Rattle.fb_ranges.specs.declared.fault.RangeFault.TheVariants as f
-use Rattle.st_clear.specs.Spans.{Span}
-use Rattle.st_clear.specs.Clear.{Spans, Found, Clear, Leaves, Traps}
+use Rattle.fb_model.specs.Spans.{Span}
+use Rattle.fb_model.specs.Clear.{Spans, Found, Clear, Leaves, Traps}
 
 -- what was found is clear
 abbrev pub IsClear : Found → Type 0

@@ -1,6 +1,6 @@
 -- What the code finds, in the words of the definitions.
 use Rattle.std.specs.Prelude.{◌≡◌, ℕ, Option, None, Some, Result, Ok, Err}
-use Rattle.st_clear.specs.Clear.{Spans, Found, Clear, Leaves, Traps, either}
+use Rattle.fb_model.specs.Clear.{Spans, Found, Clear, Leaves, Traps, either}
 use Rattle.fb_ranges.specs.declared.fault.RangeFault.{RangeFault}
 use Rattle.fb_ranges.specs.declared.fault.RangeFault.TheVariants as f
 use Rattle.fb_ranges.specs.declared.way.Way.{Way}

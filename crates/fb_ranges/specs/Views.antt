@@ -7,10 +7,10 @@ use Rattle.std.specs.declared.string.String.{String}
 use Rattle.std.specs.declared.alloc.Global.{Global}
 use Rattle.fb_words.specs.declared.elem_type.ElemType.TheVariants as t
 use Rattle.fb_model.specs.Names.{Name}
-use Rattle.st_clear.specs.Spans.{Span, span, whole, range_two}
+use Rattle.fb_model.specs.Spans.{Span, span, whole, range_two}
 use Rattle.fb_model.specs.Language.{given}
 use Rattle.st_types.specs.Views.{Tail}
-use Rattle.st_clear.specs.Clear.{Spans, range_of}
+use Rattle.fb_model.specs.Clear.{Spans, range_of}
 use Rattle.fb_ranges.specs.declared.interval.Interval.{Interval}
 use Rattle.fb_ranges.specs.declared.rows.Ranges.{Ranges}
 

@@ -1,7 +1,7 @@
 //! Algorithms that are clear.
 
 ghost use Rattle.std.specs.Prelude.{◌≡◌, IfOk};
-ghost use Rattle.st_clear.specs.Clear as book;
+ghost use Rattle.fb_model.specs.Clear as book;
 ghost use Rattle.st_types.specs.CommandViews.{commands_of};
 ghost use Rattle.fb_ranges.specs.Answers.{IsExamined, most_steps};
 ghost use Rattle.fb_ranges.specs.Finding.{Costs};

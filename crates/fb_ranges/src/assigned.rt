@@ -1,7 +1,7 @@
 //! The variables that statements assign.
 
 ghost use Rattle.std.specs.Prelude.{◌≡◌, ◌++◌, ◌∷◌, [], IfOk, OnOk, string_bytes};
-ghost use Rattle.st_clear.specs.Clear as book;
+ghost use Rattle.fb_model.specs.Clear as book;
 ghost use Rattle.st_types.specs.Views.{term_of};
 ghost use Rattle.st_types.specs.CommandViews.{busy_of, cases_of, choices_of, command_of, commands_of};
 

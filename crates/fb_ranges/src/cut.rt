@@ -3,8 +3,8 @@
 ghost use Rattle.std.specs.Prelude.{◌≡◌, ◌≤ℤ◌, ◌+ℤ◌, ◌-ℤ◌, ◌&&◌, int_le, pos, if◌then◌else◌};
 ghost use Rattle.fb_words.specs.declared.elem_type.ElemType.TheVariants as t;
 ghost use Rattle.fb_model.specs.Values.{lowest, highest};
-ghost use Rattle.st_clear.specs.Clear as book;
-ghost use Rattle.st_clear.specs.Spans.{span};
+ghost use Rattle.fb_model.specs.Clear as book;
+ghost use Rattle.fb_model.specs.Spans.{span};
 ghost use Rattle.fb_ranges.specs.Views.{span_of};
 
 use crate::interval::Interval;

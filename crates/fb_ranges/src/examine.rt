@@ -2,9 +2,9 @@
 
 ghost use Rattle.std.specs.Prelude.{◌≡◌, ◌<◌, true, false, if◌then◌else◌};
 ghost use Rattle.fb_model.specs.TypedText.{Command, Commands};
-ghost use Rattle.st_clear.specs.Clear as book;
-ghost use Rattle.st_clear.specs.Clear.{Clear, Leaves, Traps, with_range};
-ghost use Rattle.st_clear.specs.Spans.{within, span};
+ghost use Rattle.fb_model.specs.Clear as book;
+ghost use Rattle.fb_model.specs.Clear.{Clear, Leaves, Traps, with_range};
+ghost use Rattle.fb_model.specs.Spans.{within, span};
 ghost use Rattle.st_types.specs.Views.{term_of};
 ghost use Rattle.st_types.specs.CommandViews.{busy_of, case_of, cases_of, choice_of, choices_of, command_of, commands_of, counted_command, counting_of};
 ghost use Rattle.fb_ranges.specs.Finding.{Costs, Finds, FindsWay};

@@ -2,8 +2,8 @@
 
 ghost use Rattle.std.specs.Prelude.{◌≡◌, map, if◌then◌else◌, None, Some};
 ghost use Rattle.std.specs.Option.{option_map};
-ghost use Rattle.st_clear.specs.Clear as book;
-ghost use Rattle.st_clear.specs.Spans.{within, span};
+ghost use Rattle.fb_model.specs.Clear as book;
+ghost use Rattle.fb_model.specs.Spans.{within, span};
 ghost use Rattle.st_types.specs.Views.{term_of, tail_of};
 ghost use Rattle.fb_ranges.specs.Views.{span_of, spans_of, linked};
 

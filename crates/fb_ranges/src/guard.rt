@@ -1,6 +1,6 @@
 //! Guards that are clear.
 
-ghost use Rattle.st_clear.specs.Clear.{guard_range};
+ghost use Rattle.fb_model.specs.Clear.{guard_range};
 ghost use Rattle.st_types.specs.Views.{term_of};
 ghost use Rattle.fb_ranges.specs.Answers.{IsGuard};
 ghost use Rattle.fb_ranges.specs.Views.{spans_of};

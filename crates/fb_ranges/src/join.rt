@@ -1,8 +1,8 @@
 //! Ranges of variables, copied, joined and set.
 
 ghost use Rattle.std.specs.Prelude.{◌≡◌, IfOk, OnOk};
-ghost use Rattle.st_clear.specs.Clear as book;
-ghost use Rattle.st_clear.specs.Spans as spans;
+ghost use Rattle.fb_model.specs.Clear as book;
+ghost use Rattle.fb_model.specs.Spans as spans;
 ghost use Rattle.st_types.specs.CommandViews.{busy_of};
 ghost use Rattle.fb_ranges.specs.Views.{names_in, spans_of};
 

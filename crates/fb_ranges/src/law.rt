@@ -3,8 +3,8 @@
 ghost use Rattle.std.specs.Prelude.{◌≡◌, ℕ, Bool, IsSome, Some};
 ghost use Rattle.fb_model.specs.Language.{holds, run};
 ghost use Rattle.fb_model.specs.Values.{Values};
-ghost use Rattle.st_clear.specs.Clear.{examined, guard_range};
-ghost use Rattle.st_clear.specs.Shapes.{AlgorithmFits, HasShape, Keeps, Lies, Shape, TermFits, written};
+ghost use Rattle.fb_model.specs.Clear.{examined, guard_range};
+ghost use Rattle.fb_model.specs.Shapes.{AlgorithmFits, HasShape, Keeps, Lies, Shape, TermFits, written};
 ghost use Rattle.st_types.specs.Views.{term_of};
 ghost use Rattle.st_types.specs.CommandViews.{commands_of};
 ghost use Rattle.st_types.specs.declared.term.TypedExpr.{TypedExpr};

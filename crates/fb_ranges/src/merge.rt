@@ -1,7 +1,7 @@
 //! Ways that meet.
 
 ghost use Rattle.std.specs.Prelude.{◌≡◌, IfOk, Ok, Some, Result};
-ghost use Rattle.st_clear.specs.Clear.{Found, either};
+ghost use Rattle.fb_model.specs.Clear.{Found, either};
 ghost use Rattle.fb_ranges.specs.Finding.{Finds, FindsWay, Leads};
 ghost use Rattle.fb_ranges.specs.Views.{spans_of};
 

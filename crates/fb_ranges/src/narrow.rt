@@ -2,8 +2,8 @@
 
 ghost use Rattle.std.specs.Prelude.{◌≡◌, ◌<◌, ◌≤◌, ◌-◌, ℕ, [], ◌∷◌, OnOk, length, map, take, true, false, slice_index_or};
 ghost use Rattle.st_types.specs.declared.term.TypedLink.{TypedLink};
-ghost use Rattle.st_clear.specs.Clear as book;
-ghost use Rattle.st_clear.specs.Clear.{changed};
+ghost use Rattle.fb_model.specs.Clear as book;
+ghost use Rattle.fb_model.specs.Clear.{changed};
 ghost use Rattle.st_types.specs.Views.{joined, term_of, tail_of};
 ghost use Rattle.fb_ranges.specs.Narrowing.{splits};
 ghost use Rattle.fb_ranges.specs.Views.{span_of, spans_of};

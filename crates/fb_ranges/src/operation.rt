@@ -3,7 +3,7 @@
 ghost use Rattle.std.specs.Prelude.{◌≡◌, None, Some, if◌then◌else◌, int_div};
 ghost use Rattle.std.specs.Option.{option_map};
 ghost use Rattle.fb_words.specs.declared.operator.Operation.TheVariants.{Convert, Infix};
-ghost use Rattle.st_clear.specs.Spans as book;
+ghost use Rattle.fb_model.specs.Spans as book;
 ghost use Rattle.fb_ranges.specs.Views.{span_of};
 
 use crate::interval::Interval;

@@ -2,7 +2,7 @@
 
 ghost use Rattle.std.specs.Prelude.{◌≡◌, ◌≢◌, ◌-◌, ◌+ℤ◌, ◌-ℤ◌, ◌*ℤ◌, ◌≤ℤ◌, ◌&&◌, ℤ, int_div, max, neg_ℤ, pos, unsigned_abs, false};
 ghost use Rattle.std.specs.Int.{int_min, int_max};
-ghost use Rattle.st_clear.specs.Spans as book;
+ghost use Rattle.fb_model.specs.Spans as book;
 ghost use Rattle.fb_ranges.specs.Views.{span_of};
 
 use crate::interval::{Interval, Wide};

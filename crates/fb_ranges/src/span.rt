@@ -3,8 +3,8 @@
 ghost use Rattle.std.specs.Prelude.{◌≡◌};
 ghost use Rattle.fb_words.specs.declared.elem_type.ElemType.TheVariants as t;
 ghost use Rattle.fb_model.specs.Values.{lowest, highest};
-ghost use Rattle.st_clear.specs.Spans as book;
-ghost use Rattle.st_clear.specs.Spans.{span};
+ghost use Rattle.fb_model.specs.Spans as book;
+ghost use Rattle.fb_model.specs.Spans.{span};
 ghost use Rattle.fb_ranges.specs.Views.{span_of};
 
 use crate::interval::{Interval, Wide};
@@ -38,7 +38,7 @@ fn highest(of: ElemType) -> i64
 }
 
 /// The numbers of a type.
-#[tactic(auto, using(st_clear::proofs::Types::bounded))]
+#[tactic(auto, using(fb_model::proofs::Types::bounded))]
 pub(crate) fn whole(of: ElemType) -> Interval
     ensures value { span_of result ≡ book.whole of }
     ensures low { result.low ≡ lowest of }

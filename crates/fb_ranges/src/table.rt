@@ -2,8 +2,8 @@
 
 ghost use Rattle.std.specs.Prelude.{◌≡◌, OnErr, OnOk};
 ghost use Rattle.fb_words.specs.declared.elem_type.ElemType.TheVariants as t;
-ghost use Rattle.st_clear.specs.Spans.{whole};
-ghost use Rattle.st_clear.specs.Clear.{changed};
+ghost use Rattle.fb_model.specs.Spans.{whole};
+ghost use Rattle.fb_model.specs.Clear.{changed};
 ghost use Rattle.fb_ranges.specs.Views.{span_of, spans_of};
 
 use crate::interval::Interval;

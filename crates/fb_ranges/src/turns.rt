@@ -4,8 +4,8 @@ ghost use Rattle.std.specs.Prelude.{◌≡◌, ◌<◌, ◌^◌, ◌+◌, ◌&&�
 ghost use Rattle.fb_words.specs.declared.elem_type.ElemType.TheVariants as t;
 ghost use Rattle.fb_model.specs.Values.{lowest, highest};
 ghost use Rattle.fb_model.specs.Language.{turn_count};
-ghost use Rattle.st_clear.specs.Clear as book;
-ghost use Rattle.st_clear.specs.Spans.{span};
+ghost use Rattle.fb_model.specs.Clear as book;
+ghost use Rattle.fb_model.specs.Spans.{span};
 ghost use Rattle.fb_ranges.specs.Views.{span_of};
 
 use crate::interval::Interval;

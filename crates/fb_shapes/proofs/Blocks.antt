@@ -11,14 +11,15 @@ use Rattle.fb_model.specs.System.{Variable, Transition, Procedure, Block, Device
 use Rattle.fb_model.specs.BlockTyping.{extent, variable_of, scope, IsGuard, no_guard, a_guard, AreTransitions, no_transition, a_transition, AreProcedures, no_procedure, a_procedure, IsBasic}
 use Rattle.fb_model.specs.NetworkTyping.{ElaboratesWith}
 use Rattle.fb_model.specs.Store.{variable_names}
-use Rattle.fb_model.specs.Wires.{Leaf, leaves}
+use Rattle.fb_model.specs.Wires.{Charted, Leaf, leaves}
 use Rattle.fb_model.proofs.Lists.{all_weaker}
-use Rattle.st_clear.specs.Shapes.{AlgorithmFits, written}
-use Rattle.st_clear.specs.Typed.{shape_of}
-use Rattle.st_clear.proofs.Typed.{typed_algorithm_fits, typed_guard_fits}
+use Rattle.fb_model.specs.Shapes.{AlgorithmFits, written}
+use Rattle.fb_model.specs.Shapes.{shape_of}
+use Rattle.fb_model.proofs.Typed.{typed_algorithm_fits, typed_guard_fits}
 use Rattle.fb_leaves.specs.Leaves.{OnChart}
 use Rattle.fb_leaves.proofs.Charts.{on_charts}
-use Rattle.fb_shapes.specs.Shaped.{all_variables, length_in, GuardFits, AreOwn, IsShapely}
+use Rattle.fb_model.specs.Ranges.{variables, length_in}
+use Rattle.fb_shapes.specs.Shaped.{GuardFits, AreOwn, IsShapely}
 use Rattle.fb_shapes.proofs.Writing.{IsWritable, commands_write}
 use Rattle.fb_shapes.proofs.Lengths.{scope_lengths, writable_own}
 
@@ -44,7 +45,7 @@ block_shapely b c k h =
     let ins : k.inputs ≡ map variable_of h.ins = ap (λ f. f.inputs) h.face.face in
     let outs : k.outputs ≡ map variable_of h.outs = ap (λ f. f.outputs) h.face.face in
     let own : k.outputs ++ k.internals ≡ map variable_of h.outs ++ map variable_of h.inner = ap₂ (λ (x : List Variable) (y : List Variable). x ++ y) outs h.internals_are in
-    let whole : all_variables k ≡ map variable_of h.ins ++ (map variable_of h.outs ++ map variable_of h.inner) = ap₂ (λ (x : List Variable) (y : List Variable). x ++ y) ins own in
+    let whole : variables (Charted k) ≡ map variable_of h.ins ++ (map variable_of h.outs ++ map variable_of h.inner) = ap₂ (λ (x : List Variable) (y : List Variable). x ++ y) ins own in
     let writes : (x : Name) → IsWritable env x → is_in x (variable_names (k.outputs ++ k.internals)) ≡ true =
     λ x w. subst (λ (vs : List Variable). is_in x (variable_names vs) ≡ true) (sym own) (writable_own h.ins h.outs h.inner x w) in (
       shape_of env,

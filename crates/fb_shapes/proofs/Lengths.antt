@@ -10,8 +10,8 @@ use Rattle.fb_model.specs.TextTyping.{Entry, found}
 use Rattle.fb_model.specs.BlockTyping.{Declared, extent, variable_of, entry_of, scope}
 use Rattle.fb_model.specs.NetworkTyping.{variable_named}
 use Rattle.fb_model.specs.Store.{variable_names}
-use Rattle.st_clear.specs.Typed.{shape_of}
-use Rattle.fb_shapes.specs.Shaped.{length_in}
+use Rattle.fb_model.specs.Shapes.{shape_of}
+use Rattle.fb_model.specs.Ranges.{length_in}
 use Rattle.fb_shapes.proofs.Writing.{IsWritable}
 
 abbrev entry_length : Entry → Option ℕ

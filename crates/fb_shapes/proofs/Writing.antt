@@ -8,7 +8,7 @@ use Rattle.fb_model.specs.TypedText.{Command, Choices, Cases}
 use Rattle.fb_model.specs.Language.{Algorithm}
 use Rattle.fb_model.specs.TextTyping.{Entry, found, IsAssignable, IsCommand, an_assignment, to_element, a_choice, a_selection, an_iteration, AreCommands, no_command, a_command, AreChoices, no_choices, more_choices, AreCases, no_cases, more_cases}
 use Rattle.fb_model.proofs.Lists.{all_append}
-use Rattle.st_clear.specs.Shapes.{written_one, written, written_choices, written_cases}
+use Rattle.fb_model.specs.Shapes.{written_one, written, written_choices, written_cases}
 
 -- a variable that may be assigned
 abbrev pub IsWritable : List Entry → Name → Type 0

@@ -4,19 +4,13 @@ use Rattle.std.specs.Prelude.{ℕ, ◌≡◌, true, List, ◌++◌, Option, None
 use Rattle.std.specs.List.{AllByRecursion}
 use Rattle.std.specs.Option.{option_map}
 use Rattle.fb_model.specs.Names.{Name, is_in}
-use Rattle.fb_model.specs.Language.{Guard, given}
-use Rattle.fb_model.specs.System.{Variable, Transition, Procedure, Block}
+use Rattle.fb_model.specs.Language.{Guard}
+use Rattle.fb_model.specs.System.{Transition, Procedure, Block}
 use Rattle.fb_model.specs.BlockTyping.{extent}
-use Rattle.fb_model.specs.NetworkTyping.{variable_named}
+use Rattle.fb_model.specs.Wires.{Charted}
 use Rattle.fb_model.specs.Store.{variable_names}
-use Rattle.st_clear.specs.Shapes.{Shape, TermFits, AlgorithmFits, written}
-
-abbrev pub all_variables : Block → List Variable
-all_variables block = block.inputs ++ (block.outputs ++ block.internals)
-
--- how many elements the variable of a name has, if it is an array
-abbrev pub length_in : List Variable → Name → Option ℕ
-length_in vs x = given (variable_named vs x) (λ v. v.length)
+use Rattle.fb_model.specs.Ranges.{variables, length_in}
+use Rattle.fb_model.specs.Shapes.{Shape, TermFits, AlgorithmFits, written}
 
 -- there is no guard, or it reads variables as they are
 abbrev pub GuardFits : Shape → Option Guard → Type 0
@@ -29,7 +23,7 @@ AreOwn block xs = AllByRecursion (λ x. is_in x (variable_names (block.outputs +
 
 -- the variables have this shape, algorithms and guards use them so, and no algorithm writes an input
 pub record IsShaped (block : Block) (shape : Shape) : Type 0 where
-  pub lengths : (x : Name) → length_in (all_variables block) x ≡ option_map extent (shape x)
+  pub lengths : (x : Name) → length_in (variables (Charted block)) x ≡ option_map extent (shape x)
   pub algorithms : AllByRecursion (λ (p : Procedure). AlgorithmFits shape p.algorithm) block.procedures
   pub guards : AllByRecursion (λ (t : Transition). GuardFits shape t.guard) block.transitions
   pub writes : AllByRecursion (λ (p : Procedure). AreOwn block (written p.algorithm)) block.procedures

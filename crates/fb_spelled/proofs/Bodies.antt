@@ -1,19 +1,23 @@
 -- The names in the bodies that source trees elaborate to are words.
-use Rattle.std.proofs.Common.{◌≡◌, ℕ, sym, ap, subst, true, false, Bool, List, [], ◌∷◌, map, Some}
+use Rattle.std.proofs.Common.{◌≡◌, ℕ, ℤ, sym, ap, subst, true, false, Bool, List, [], ◌∷◌, ◌++◌, map, Option, Some}
 use Rattle.std.specs.Prelude.{if◌then◌else◌}
 use Rattle.std.specs.List.{AllByRecursion}
 use Rattle.std.specs.Str.{bytes_eq}
 use Rattle.fb_model.specs.Names.{Name}
 use Rattle.fb_model.specs.Spelling.{IsWord}
+use Rattle.fb_words.specs.declared.elem_type.ElemType.{ElemType}
+use Rattle.fb_model.specs.Productions.{Word}
 use Rattle.fb_model.specs.Trees.{StateTree, PortTree, ConnectionTree}
-use Rattle.fb_model.specs.Declarations.{EventTree, ChartTree, InstanceTree, Chart, BlockTree}
-use Rattle.fb_model.specs.System.{Block, End, Connection, Face, Parameter, Body, Basic, Served, Composite, Instances, nothing, instance}
+use Rattle.fb_model.specs.Declarations.{EventTree, VariableTree, AlgorithmTree, ChartTree, InstanceTree, Chart, BlockTree}
+use Rattle.fb_model.specs.System.{Variable, Procedure, Block, End, Connection, Face, Parameter, Body, Basic, Served, Composite, Instances, nothing, instance}
 use Rattle.fb_model.specs.Typing.{typed_state}
-use Rattle.fb_model.specs.BlockTyping.{typed_event, IsBasic}
+use Rattle.fb_model.specs.BlockTyping.{Declared, declared, variable_of, AreDeclared, none, more, AreProcedures, no_procedure, a_procedure, typed_event, IsBasic}
+use Rattle.fb_model.specs.TextTyping.{Entry}
+use Rattle.fb_model.specs.Store.{variable_names}
 use Rattle.fb_model.specs.NetworkTyping.{IsEnd, own_port, port_of, AreEventConnections, no_event, an_event, type_named, IsMade, a_basic, a_composite, IsInstance, of_type, of_service, AreInstances, no_instance, an_instance}
 use Rattle.fb_model.specs.Certificates.{event_names, names}
 use Rattle.fb_model.specs.Spelling.{AreWords}
-use Rattle.fb_spelled.proofs.Declared.{port_text, HasNetworkWords, HasBodyWords, HasBlockWords}
+use Rattle.fb_spelled.proofs.Declared.{port_text, HasVariableWords, HasChartWords, HasNetworkWords, HasBodyWords, HasBlockWords}
 
 -- ---- bodies
 
@@ -21,10 +25,17 @@ use Rattle.fb_spelled.proofs.Declared.{port_text, HasNetworkWords, HasBodyWords,
 abbrev pub LeadToWords : List Connection → Type 0
 LeadToWords cs = AllByRecursion (λ (c : Connection). IsWord c.target.port) cs
 
--- the names of states, of event inputs and of instances are words, and of the ports that event connections lead to
+-- the names of a basic block's variables, algorithms, states and event inputs
+pub record IsWordyBlock (block : Block) : Type 0 where
+  pub variables : AreWords (variable_names (block.inputs ++ (block.outputs ++ block.internals)))
+  pub algorithms : AreWords (map (λ (p : Procedure). p.name) block.procedures)
+  pub states : AreWords (names block.states)
+  pub events : AreWords (event_names block.event_inputs)
+
+-- the names of basic blocks and of instances are words, and of the ports that event connections lead to
 abbrev mutual
   pub IsWordyBody : Body → Type 0
-  IsWordyBody (Basic block) = AreWords (names block.states) × AreWords (event_names block.event_inputs)
+  IsWordyBody (Basic block) = IsWordyBlock block
   IsWordyBody (Served service) = Unit {0}
   IsWordyBody (Composite face inner events values) = AreWordyBodies inner × LeadToWords events
 
@@ -42,12 +53,36 @@ state_words : (ss : List StateTree) → AllByRecursion (λ (x : StateTree). IsWo
 state_words [] h = tt
 state_words (x ∷ xs) h = (h.0, state_words xs h.1)
 
-wordy_block : (b : BlockTree) (c : ChartTree) (k : Block) → HasBlockWords b → b.body ≡ Chart c → IsBasic b c k → IsWordyBody (Basic k)
+texts_words : (a : ElemType) (b : Option (ℤ × ℤ)) (n : Option ℤ) (ws : List Word) (ds : List Declared) → AllByRecursion (λ (x : Word). IsWord x.text) ws → AreWords (variable_names (map variable_of ds))
+    → AreWords (variable_names (map variable_of (map (declared a b n) ws ++ ds)))
+texts_words a b n [] ds h k = k
+texts_words a b n (w ∷ ws) ds h k = (h.0, texts_words a b n ws ds h.1 k)
+
+declared_words : (vs : List VariableTree) (ds : List Declared) → AreDeclared vs ds → AllByRecursion HasVariableWords vs → AreWords (variable_names (map variable_of ds))
+declared_words _ _ none h = tt
+declared_words _ _ (more {v = v} {vs = vs} {b = b} {n = n} {ds = ds} _ _ others) h = texts_words v.type b n v.names ds h.0 (declared_words vs ds others h.1)
+
+both_words : (vs ws : List Variable) → AreWords (variable_names vs) → AreWords (variable_names ws) → AreWords (variable_names (vs ++ ws))
+both_words [] ws h k = k
+both_words (v ∷ vs) ws h k = (h.0, both_words vs ws h.1 k)
+
+procedure_words : (env : List Entry) (fs : List AlgorithmTree) (ps : List Procedure) → AllByRecursion (λ (x : AlgorithmTree). IsWord x.name.text) fs → AreProcedures env fs ps → AreWords (map (λ (p : Procedure). p.name) ps)
+procedure_words env _ _ h no_procedure = tt
+procedure_words env _ _ h (a_procedure {rest = rest} {ps = ps} e body others) = (subst IsWord (sym e) h.0, procedure_words env rest ps h.1 others)
+
+wordy_block : (b : BlockTree) (c : ChartTree) (k : Block) → HasBlockWords b → b.body ≡ Chart c → IsBasic b c k → IsWordyBlock k
 wordy_block b c k h e is =
-    let states : AllByRecursion (λ (x : StateTree). IsWord x.name.text) c.states = subst HasBodyWords e h.body in (
-      subst (λ ss. AreWords (names ss)) (sym is.states) (state_words c.states states),
-      subst (λ es. AreWords (event_names es)) (sym (ap (λ (f : Face). f.event_inputs) is.face.face)) (event_words b.event_inputs h.inputs),
-    )
+    let chart : HasChartWords c = subst HasBodyWords e h.body in
+    let Wordy : List Variable → Type 0 = λ vs. AreWords (variable_names vs) in
+    let ins : Wordy k.inputs = subst Wordy (sym (ap (λ (f : Face). f.inputs) is.face.face)) (declared_words b.inputs is.ins is.face.inputs h.values_in) in
+    let outs : Wordy k.outputs = subst Wordy (sym (ap (λ (f : Face). f.outputs) is.face.face)) (declared_words b.outputs is.outs is.face.outputs h.values_out) in
+    let inner : Wordy k.internals = subst Wordy (sym is.internals_are) (declared_words c.internals is.inner is.internals chart.internals) in
+    record {
+      variables = both_words k.inputs (k.outputs ++ k.internals) ins (both_words k.outputs k.internals outs inner);
+      algorithms = procedure_words _ c.algorithms k.procedures chart.algorithms is.procedures;
+      states = subst (λ ss. AreWords (names ss)) (sym is.states) (state_words c.states chart.states);
+      events = subst (λ es. AreWords (event_names es)) (sym (ap (λ (f : Face). f.event_inputs) is.face.face)) (event_words b.event_inputs h.inputs);
+    }
 
 -- ---- connections
 
@@ -57,7 +92,7 @@ end_word own ports inner q e (port_of f k) h = h
 
 pub lead_to_words : (f : Face) (inner : Instances) (cs : List ConnectionTree) (ds : List Connection) → AreEventConnections f inner cs ds → AllByRecursion (λ (x : ConnectionTree). IsWord (port_text x.target)) cs → LeadToWords ds
 lead_to_words f inner cs ds no_event h = tt
-lead_to_words f inner cs ds (an_event {c = c} {cs = more} {d = d} {ds = rest} is others) h = (end_word _ _ inner c.target d.target is.target h.0, lead_to_words f inner more rest others h.1)
+lead_to_words f inner cs ds (an_event {c = c} {cs = ts} {d = d} {ds = rest} is others) h = (end_word _ _ inner c.target d.target is.target h.0, lead_to_words f inner ts rest others h.1)
 
 -- ---- types
 

@@ -7,7 +7,7 @@ use Rattle.fb_model.specs.Spelling.{IsWord}
 use Rattle.fb_model.specs.Productions as p
 use Rattle.fb_model.specs.Productions.{Gram, Word}
 use Rattle.fb_model.specs.Trees.{StateTree, PortTree, ConnectionTree}
-use Rattle.fb_model.specs.Declarations.{EventTree, ChartTree, InstanceTree, NetworkTree, BodyTree, Chart, Network, BlockTree, ResourceTree, DeviceTree, SystemTree, SourceTree}
+use Rattle.fb_model.specs.Declarations.{EventTree, VariableTree, AlgorithmTree, ChartTree, InstanceTree, NetworkTree, BodyTree, Chart, Network, BlockTree, ResourceTree, DeviceTree, SystemTree, SourceTree}
 use Rattle.fb_model.specs.StructuredText.{Expression, Statements}
 use Rattle.fb_model.specs.Grammar.{IsConstant, negative, plain, with_type, time, yes, no, IsAction, runs, runs_and_emits, emits, IsState, bare, acting, IsStates, some_states, IsParameter, a_parameter, IsPort, own, inner, IsConnection, a_connection}
 use Rattle.fb_model.specs.DeclarationGrammar.{IsKind, unsaid, said, IsWith, alone, along, IsEvent, an_event, IsTypeName, a_type, IsStart, no_start, a_start, IsVariable, of_type, IsBounds, some_bounds, IsInternal, a_variable, an_array, IsTypeList, no_types, some_types, IsTypes, no_brackets, in_brackets, IsParameters, no_parameters, some_parameters, IsInstance, an_instance, IsNetwork, a_network, IsGuard, a_guard, IsCondition, always, on_event, on_event_where, guarded, IsTransition, a_transition, IsTransitions, some_transitions, IsProcedure, a_procedure, IsChart, a_chart, IsBody, basic, composite, IsBlock, a_block, IsResource, a_resource, IsDevice, a_device, IsSystem, a_system, IsFile, a_file}
@@ -25,12 +25,23 @@ pub record HasNetworkWords (n : NetworkTree) : Type 0 where
   pub instances : AllByRecursion (λ (x : InstanceTree). IsWord x.name.text) n.instances
   pub targets : AllByRecursion (λ (x : ConnectionTree). IsWord (port_text x.target)) n.events
 
+-- the names that a declaration of variables gives
+abbrev pub HasVariableWords : VariableTree → Type 0
+HasVariableWords v = AllByRecursion (λ (x : Word). IsWord x.text) v.names
+
+pub record HasChartWords (c : ChartTree) : Type 0 where
+  pub internals : AllByRecursion HasVariableWords c.internals
+  pub states : AllByRecursion (λ (x : StateTree). IsWord x.name.text) c.states
+  pub algorithms : AllByRecursion (λ (x : AlgorithmTree). IsWord x.name.text) c.algorithms
+
 abbrev pub HasBodyWords : BodyTree → Type 0
-HasBodyWords (Chart c) = AllByRecursion (λ (x : StateTree). IsWord x.name.text) c.states
+HasBodyWords (Chart c) = HasChartWords c
 HasBodyWords (Network n) = HasNetworkWords n
 
 pub record HasBlockWords (b : BlockTree) : Type 0 where
   pub inputs : AllByRecursion (λ (x : EventTree). IsWord x.name.text) b.event_inputs
+  pub values_in : AllByRecursion HasVariableWords b.inputs
+  pub values_out : AllByRecursion HasVariableWords b.outputs
   pub body : HasBodyWords b.body
 
 pub record HasResourceWords (r : ResourceTree) : Type 0 where
@@ -75,21 +86,21 @@ start_takes : Takes Any IsStart
 start_takes ts x rest no_start h = (tt, h)
 start_takes ts x rest (a_start {ts = on} {c = c} g) h = (tt, (constant_takes on c rest g h.1).1)
 
-variable_takes : Takes Any IsVariable
+variable_takes : Takes HasVariableWords IsVariable
 variable_takes ts x rest (of_type {ts₁ = ts₁} {ts₂ = ts₂} {a = a} {c = c} gs t s) h =
     let b = takes_separated _ name_takes gs h in
     let d = type_takes ts₁ a ts₂ t b.1.1 in
-    (tt, (start_takes ts₂ c _ s d.1).1.1)
+    (b.0, (start_takes ts₂ c _ s d.1).1.1)
 
 bounds_take : Takes Any IsBounds
 bounds_take ts x rest (some_bounds {ts = on} {mid = mid} {c = c} {d = d} g i) h = (tt, (integer_takes mid d _ i (integer_takes on c _ g h.1).1.1).1.1)
 
-internal_takes : Takes Any IsInternal
+internal_takes : Takes HasVariableWords IsInternal
 internal_takes ts x rest (a_variable g) h = variable_takes ts x rest g h
 internal_takes ts x rest (an_array {ts₁ = ts₁} {ts₂ = ts₂} {b = b} {a = a} gs g t) h =
     let c = takes_separated _ name_takes gs h in
     let d = bounds_take ts₁ b _ g c.1.1.1 in
-    (tt, (type_takes ts₂ a _ t d.1.1).1.1)
+    (c.0, (type_takes ts₂ a _ t d.1.1).1.1)
 
 -- ---- instances and connections
 
@@ -158,15 +169,16 @@ module _ (E : Gram Expression) (expr : Takes Any E) (L : Gram Statements) (list 
   transitions_take : Takes Any (IsTransitions E L)
   transitions_take ts xs rest (some_transitions s) h = (tt, (takes_many Any transition_takes s h.1).1.1)
 
-  procedure_takes : Takes Any (IsProcedure E L)
-  procedure_takes ts x rest (a_procedure {mid = mid} {xs = xs} p.a_name s) h = (tt, (list mid xs _ s h.1.1.1.1.1).1.1)
+  procedure_takes : Takes (λ (x : AlgorithmTree). IsWord x.name.text) (IsProcedure E L)
+  procedure_takes ts x rest (a_procedure {mid = mid} {xs = xs} p.a_name s) h = (h.1.0, (list mid xs _ s h.1.1.1.1.1).1.1)
 
-  chart_takes : Takes (λ (c : ChartTree). AllByRecursion (λ (x : StateTree). IsWord x.name.text) c.states) (IsChart E L)
+  chart_takes : Takes HasChartWords (IsChart E L)
   chart_takes ts x rest (a_chart {ts₁ = ts₁} {ts₂ = ts₂} {ts₃ = ts₃} {ss = ss} {cs = cs} vs states transitions fs) h =
-      let a = takes_section Any internal_takes vs h in
+      let a = takes_section _ internal_takes vs h in
       let b = states_take ts₁ ss ts₂ states a.1 in
       let c = transitions_take ts₂ cs ts₃ transitions b.1 in
-      (b.0, (takes_many Any procedure_takes fs c.1).1)
+      let d = takes_many _ procedure_takes fs c.1 in
+      (record { internals = a.0; states = b.0; algorithms = d.0 }, d.1)
 
   body_takes : Takes HasBodyWords (IsBody E L)
   body_takes ts x rest (basic {c = c} g) h = chart_takes ts c rest g h
@@ -176,10 +188,10 @@ module _ (E : Gram Expression) (expr : Takes Any E) (L : Gram Statements) (list 
   block_takes ts x rest (a_block {ts₅ = ts₅} {b = b} p.a_name is os us vs g) h =
       let a = takes_section _ event_takes is h.1.1 in
       let c = takes_section _ event_takes os a.1 in
-      let d = takes_section Any variable_takes us c.1 in
-      let e = takes_section Any variable_takes vs d.1 in
+      let d = takes_section _ variable_takes us c.1 in
+      let e = takes_section _ variable_takes vs d.1 in
       let f = body_takes ts₅ b _ g e.1 in
-      (record { inputs = a.0; body = f.0 }, f.1.1)
+      (record { inputs = a.0; values_in = d.0; values_out = e.0; body = f.0 }, f.1.1)
 
 -- ---- systems
 

@@ -87,8 +87,8 @@ mutual
 
 mutual
   body_leaves : (x : Body) (home : ℕ) (path : Path) (targets : Name → List Place) (source : Name → Source) → IsWordyBody x → AreWords path → ((o : Name) → AllByRecursion IsWordyPlace (targets o)) → AllByRecursion IsWordyLeaf (leaves_of x home path targets source)
-  body_leaves (Basic block) home path targets source h k w = (record { path = k; states = h.0; events = h.1; targets = w }, tt)
-  body_leaves (Served service) home path targets source h k w = (record { path = k; states = tt; events = service_words service; targets = w }, tt)
+  body_leaves (Basic block) home path targets source h k w = (record { path = k; variables = h.variables; algorithms = h.algorithms; states = h.states; events = h.events; targets = w }, tt)
+  body_leaves (Served service) home path targets source h k w = (record { path = k; variables = tt; algorithms = tt; states = tt; events = service_words service; targets = w }, tt)
   body_leaves (Composite face inner events values) home path targets source h k w =
       inner_leaves inner home path (λ j port. followed events (Some j) port (entered_in inner path) targets) (λ j port other. fed values (Some j) port (given_in inner path) source other) h.0 k
       (λ j o. followed_words events (Some j) o (entered_in inner path) targets h.1 (λ i u v. inner_words inner path i u h.0 k v) w)

@@ -8,8 +8,8 @@ use Rattle.fb_model.specs.System as book
 use Rattle.fb_model.specs.Spelling.{AreWords}
 use Rattle.fb_model.specs.Typing.{AreDistinct, names_of}
 use Rattle.fb_model.specs.Wires as wires
-use Rattle.fb_model.specs.Wires.{Kind, Charted, Serviced}
-use Rattle.fb_model.specs.Certificates.{event_names, events_of, leaf_at, has_event, is_input, IsWired}
+use Rattle.fb_model.specs.Wires.{Kind, Charted, Serviced, leaf_at}
+use Rattle.fb_model.specs.Certificates.{event_names, events_of, has_event, is_input, IsWired}
 use Rattle.fb_model.specs.CertificateText.{names_in}
 use Rattle.fb_model.proofs.Lists.{all_both, all_weaker, same_name}
 use Rattle.fb_model.proofs.Placed.{Apart, apart, name_same}

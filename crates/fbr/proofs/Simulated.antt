@@ -23,7 +23,7 @@ use Rattle.fb_script.specs.declared.run.End.{End}
 use Rattle.fbr.proofs.Verdicts.{files_memory}
 
 pub checked : (one two : List ℕ) (held_one held_two : Option (List ℕ)) (v : Verified) → IsVerified one two held_one held_two (Ok v) → IsChecked v
-checked one two held_one held_two v h = record { written = (EVENT_BLOCKS.now, h.0, h.4.system_is); fits = h.4.fits; idle = h.4.idle; tables = h.4.tables }
+checked one two held_one held_two v h = record { written = (EVENT_BLOCKS.now, h.0, h.4.system_is); fits = h.4.fits; tables = h.4.tables }
 
 pub files_refused : {E : Type 0} (one two : List ℕ) (held_one held_two held : Option (List ℕ)) (f : Fault) (old new : Option (List ℕ)) (r : Result ℕ E)
     → IsFilesOutcome {A = Unit {0}} one two held_one held_two (Err f) → IfOk r (λ status. Tells (refusal f) old new status) → IfOk r (λ status. TellsSim one two held_one held_two held old new status)
@@ -63,6 +63,9 @@ second_named v d name (Checked (checks.Typing x)) e n h = absurd h
 second_named v d name (Checked (checks.Certificate x)) e n h = absurd h
 second_named v d name (Checked (checks.UnknownRow x)) e n h = absurd h
 second_named v d name (Checked (checks.MissingRow x)) e n h = absurd h
+second_named v d name (Checked (checks.RangeStart x)) e n h = absurd h
+second_named v d name (Checked (checks.RangeLink x)) e n h = absurd h
+second_named v d name (Checked (checks.RangeKept x)) e n h = absurd h
 second_named v d name (Checked (checks.IndexOrDivisor x)) e n h = absurd h
 second_named v d name (Checked (checks.Charge x)) e n h = absurd h
 second_named v d name (Checked (checks.Weight x)) e n h = absurd h

@@ -11,7 +11,7 @@ use Rattle.fb_model.specs.System.{zeros}
 use Rattle.fb_model.specs.BlockTyping.{extent}
 use Rattle.fb_model.specs.Language.{setting}
 use Rattle.fb_model.proofs.Lists.{same_name}
-use Rattle.st_clear.proofs.Names.{eq_turned, or_left, or_right}
+use Rattle.fb_model.proofs.Names.{eq_turned, or_left, or_right}
 use Rattle.st_exec.specs.Cells.{Cell, Form, values_of, forms_of, names_of, filled, declared}
 
 value_declared : (cells : List Cell) (x : Name) (b : Option (ℤ × ℤ)) (v : ℤ) (y : Name) → is_in x (names_of cells) ≡ false → values_of (cells ++ declared x b v ∷ []) y ≡ setting (values_of cells) x (filled b v) y

@@ -3,7 +3,7 @@ use Rattle.std.proofs.Common.{◌≡◌, ℕ, zero, suc, ◌+◌, ◌<◌, ◌�
 use Rattle.std.specs.Prelude.{slice_get, if◌then◌else◌}
 use Rattle.std.proofs.lemmas.Option.{slice_get_read}
 use Rattle.std.proofs.lemmas.List.{length-take-le}
-use Rattle.st_clear.specs.Shapes.{HasForm, HasShape}
+use Rattle.fb_model.specs.Shapes.{HasForm, HasShape}
 use Rattle.fb_model.specs.Names.{Name}
 use Rattle.fb_model.specs.Values.{Value, One, numbers_of, number_of}
 use Rattle.fb_model.specs.BlockTyping.{extent}

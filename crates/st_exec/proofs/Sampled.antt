@@ -4,7 +4,7 @@ use Rattle.std.specs.Prelude.{codes, slice_get, slice_set}
 use Rattle.fb_model.specs.Values.{Many, Values, numbers_of}
 use Rattle.fb_model.specs.TypedText.{Commands}
 use Rattle.fb_model.specs.Language.{Done, setting, run}
-use Rattle.st_clear.specs.Shapes.{AlgorithmFits, written}
+use Rattle.fb_model.specs.Shapes.{AlgorithmFits, written}
 use Rattle.st_exec.specs.Cells.{Cell, values_of, shape_of, names_of}
 use Rattle.st_exec.specs.Runs.{IsWithin, AreAmong}
 use Rattle.st_exec.proofs.Serving.{among_all}

@@ -7,7 +7,7 @@ use Rattle.fb_model.specs.Names.{Name, is_in}
 use Rattle.fb_model.proofs.Lists.{same_name}
 use Rattle.fb_model.proofs.Placed.{name_same}
 use Rattle.fb_model.specs.TypedText.{Term, constant, Command, set, choose, match_on, count, Commands, then_do, Choices, no_choice, choice, Cases, no_case, a_case}
-use Rattle.st_clear.specs.Shapes.{written, written_choices, written_cases}
+use Rattle.fb_model.specs.Shapes.{written, written_choices, written_cases}
 use Rattle.st_exec.specs.Cells.{Form, shape_in, names_in}
 use Rattle.st_exec.specs.Runs.{AreAmong, Serves, ServesOne}
 

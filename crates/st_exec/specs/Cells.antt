@@ -5,7 +5,7 @@ use Rattle.std.specs.Str.{bytes_eq}
 use Rattle.fb_model.specs.Names.{Name, is_in}
 use Rattle.fb_model.specs.Values.{Value, One, Many, Values}
 use Rattle.fb_model.specs.BlockTyping.{extent}
-use Rattle.st_clear.specs.Shapes.{Shape}
+use Rattle.fb_model.specs.Shapes.{Shape}
 
 -- a variable, with its lowest and its highest index where it is an array
 pub record Cell : Type 0 where

@@ -3,7 +3,7 @@ use Rattle.std.specs.Prelude.{ℕ, ◌≤◌, ◌≡◌, true, List}
 use Rattle.fb_model.specs.Names.{Name, is_in}
 use Rattle.fb_model.specs.TypedText.{Command}
 use Rattle.fb_model.specs.Language.{Algorithm, Outcome, Done, Trap}
-use Rattle.st_clear.specs.Shapes.{CommandFits, AlgorithmFits, written_one, written}
+use Rattle.fb_model.specs.Shapes.{CommandFits, AlgorithmFits, written_one, written}
 use Rattle.st_exec.specs.Cells.{Form, shape_in, names_in}
 
 -- the run is done within n steps

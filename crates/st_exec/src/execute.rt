@@ -4,7 +4,7 @@ ghost use Rattle.std.specs.Prelude.{◌≡◌, ◌<◌, ◌^◌, ◌+ℤ◌, ◌
 ghost use Rattle.fb_model.specs.TypedText.{choose, match_on, constant};
 ghost use Rattle.fb_model.specs.Language.{Done, labelled, turn_count, turns, run_one, run, run_choices, run_cases};
 ghost use Rattle.st_types.specs.CommandViews.{command_of, commands_of, choices_of, cases_of};
-ghost use Rattle.st_clear.specs.Shapes.{AlgorithmFits, written};
+ghost use Rattle.fb_model.specs.Shapes.{AlgorithmFits, written};
 ghost use Rattle.st_exec.specs.Cells.{values_of, forms_of, names_of, shape_of, IsDeclared};
 ghost use Rattle.st_exec.specs.Runs.{IsWithin, AreAmong, Serves, ServesOne};
 

@@ -4,7 +4,7 @@ ghost use Rattle.std.specs.Prelude.{◌≡◌, ◌≤ℤ◌, ◌++◌, [], ◌�
 ghost use Rattle.fb_model.specs.Values.{One, number_of, numbers_of};
 ghost use Rattle.fb_model.specs.Language.{element_at, setting, setting_part, Done};
 ghost use Rattle.fb_model.specs.Names.{is_in};
-ghost use Rattle.st_clear.specs.Shapes.{HasShape};
+ghost use Rattle.fb_model.specs.Shapes.{HasShape};
 ghost use Rattle.st_exec.specs.Cells.{values_of, forms_of, names_of, shape_of, length_of, IsDeclared, declared};
 
 use crate::place::{Place, find, give, slot_count, write};

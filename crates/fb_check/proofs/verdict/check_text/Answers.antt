@@ -2,9 +2,7 @@ use Rattle.std.proofs.Common.{◌≡◌, subst, sym}
 use Rattle.std.proofs.lemmas.Result.{IfErr-weaker}
 use Rattle.fb_cert.specs.Views.{certificate_of}
 use Rattle.fb_columns.specs.fb_types.Views.{system_of}
-use Rattle.fb_ledger.proofs.Spelled.{spelled}
 use Rattle.fb_model.specs.Certificates.{Fits}
-use Rattle.fb_check.specs.Idle.{AreIdle}
 use Rattle.fb_check.specs.Verdicts.{of_both}
 use Rattle.fb_check.proofs.Reading.{accepted_by}
 use Rattle.fb_check.proofs.verdict.check_text.Goals as goal
@@ -15,22 +13,22 @@ returns-in-Ok-read_certificate-clause-accepted c =
     let rows = certificate_of c.in-Ok-read_certificate.rows in
     accepted_by _ c.args.text.now c.args.certificate.now system rows c.check.result c.in-Ok.ensures.typed c.in-Ok-read_certificate.ensures.spelled c.check.ensures.same
     c.check.ensures.tables
-    (c.check.ensures.fits (_, c.args.text.now, c.in-Ok.ensures.typed) (spelled c.args.certificate.now rows c.in-Ok-read_certificate.ensures.spelled))
+    (c.check.ensures.fits (_, c.args.text.now, c.in-Ok.ensures.typed) (c.args.certificate.now, c.in-Ok-read_certificate.ensures.spelled))
 
 pub returns-in-Ok-read_certificate-clause-refused : goal.returns-in-Ok-read_certificate-clause-refused
 returns-in-Ok-read_certificate-clause-refused c =
     IfErr-weaker c.check.result _ _
     (λ f h. of_both (record { typed = c.in-Ok.typed; rows = certificate_of c.in-Ok-read_certificate.rows; system_is = c.in-Ok.ensures.typed; certificate_is = c.in-Ok-read_certificate.ensures.spelled; fault = h }))
-    (c.check.ensures.refused (_, c.args.text.now, c.in-Ok.ensures.typed))
+    (c.check.ensures.refused (_, c.args.text.now, c.in-Ok.ensures.typed) (c.args.certificate.now, c.in-Ok-read_certificate.ensures.spelled))
 
 pub returns-in-Ok-read_certificate-clause-accepts : goal.returns-in-Ok-read_certificate-clause-accepts
-returns-in-Ok-read_certificate-clause-accepts c = λ source system rows short few is e written_is idle fits.
+returns-in-Ok-read_certificate-clause-accepts c = λ source system rows short few is e written_is fits.
     let s : system_of c.in-Ok.typed ≡ system = c.in-Ok.ensures.accepts source system short is e in
     let r : certificate_of c.in-Ok-read_certificate.rows ≡ rows = c.in-Ok-read_certificate.ensures.accepts rows few written_is in
-    c.check.ensures.accepts (_, c.args.text.now, c.in-Ok.ensures.typed) (subst AreIdle (sym s) idle) (subst (λ x. Fits x (certificate_of c.in-Ok-read_certificate.rows)) (sym s) (subst (Fits system) (sym r) fits))
+    c.check.ensures.accepts (_, c.args.text.now, c.in-Ok.ensures.typed) (c.args.certificate.now, c.in-Ok-read_certificate.ensures.spelled) (subst (λ x. Fits x (certificate_of c.in-Ok-read_certificate.rows)) (sym s) (subst (Fits system) (sym r) fits))
 
 pub returns-in-Err-read_certificate-clause-accepts : goal.returns-in-Err-read_certificate-clause-accepts
-returns-in-Err-read_certificate-clause-accepts c = λ source system rows short few is e written_is idle fits. c.in-Err-read_certificate.ensures.accepts rows few written_is
+returns-in-Err-read_certificate-clause-accepts c = λ source system rows short few is e written_is fits. c.in-Err-read_certificate.ensures.accepts rows few written_is
 
 pub returns-in-Err-clause-accepts : goal.returns-in-Err-clause-accepts
-returns-in-Err-clause-accepts c = λ source system rows short few is e written_is idle fits. c.in-Err.ensures.accepts source system short is e
+returns-in-Err-clause-accepts c = λ source system rows short few is e written_is fits. c.in-Err.ensures.accepts source system short is e

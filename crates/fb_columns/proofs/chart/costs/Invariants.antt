@@ -1,7 +1,7 @@
 use Rattle.std.proofs.Common.{ℕ, List, map, take}
-use Rattle.fb_columns.specs.Reckoning.{AreSums, own_of, table_names}
+use Rattle.fb_columns.specs.Reckoning.{AreSums, Costs, ArePrices, own_of}
 use Rattle.fb_columns.proofs.chart.costs.Given as goal
 
 -- the costs so far are those of the states so far
 abbrev pub invariant-loop-index : goal.invariant-loop-index
-invariant-loop-index l = (ns : List ℕ) → AreSums l.loads ns → AreSums l.costs.items (map (own_of (table_names l.outputs) ns) (take l.index l.states.entries))
+invariant-loop-index l = (ns : Costs) → ArePrices l.prices ns → AreSums l.costs.items (map (own_of l.block ns) (take l.index l.states.entries))

@@ -12,4 +12,4 @@ returns-in_err-leaf_pays-clause-refused c =
 pub loop-leaf-preserved : goal.loop-leaf-preserved
 loop-leaf-preserved c =
     all_on (LeafPays c.args.column c.args.certificate.now) c.args.leaves.now c.loop-leaf.leaf-index c.leaf-item.result c.loop-leaf-test.true c.leaf-item.is
-    (λ leaf limits is known. c.in_ok-leaf_pays.ensures.pays leaf limits is known) c.loop-leaf.invariant
+    (λ leaf small is known. c.in_ok-leaf_pays.ensures.pays leaf small is known) c.loop-leaf.invariant

@@ -3,7 +3,7 @@ use Rattle.fb_tables.specs.fb_check.Verdicts.{system_in}
 use Rattle.fb_tables.proofs.of_fb_check.Reading.{checked}
 use Rattle.std.proofs.Common.{ap}
 use Rattle.fb_device.specs.declared.refusal.Refusal.TheVariants.{Checked}
-use Rattle.fb_device.proofs.Found.{loaded_so, fault_so, memory_so, all_idle}
+use Rattle.fb_device.proofs.Found.{loaded_so, fault_so, memory_so}
 use Rattle.fb_device.proofs.loading.load.Goals as goal
 
 pub made_ready-requires : goal.made_ready-requires
@@ -21,5 +21,4 @@ returns-in-Ok-clause-accepts c = λ source system rows short few is e written fi
 
 pub returns-in-Err-clause-accepts : goal.returns-in-Err-clause-accepts
 returns-in-Err-clause-accepts c = λ source system rows short few is e written fits there.
-    let runs = there system (record { source = source; source_is = is; typed = e }) in
-    ap Checked (c.in-Err.ensures.accepts source system rows short few is e written (all_idle system runs.1) fits)
+    ap Checked (c.in-Err.ensures.accepts source system rows short few is e written fits)

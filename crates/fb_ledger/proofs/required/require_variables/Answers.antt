@@ -1,4 +1,4 @@
-use Rattle.std.proofs.Common.{◌≡◌, ◌∷◌, ◌++◌, ◌+◌, true, false, not, drop, map, sym, ap, subst, ◌∙◌, string_bytes}
+use Rattle.std.proofs.Common.{◌∷◌, ◌++◌, ◌+◌, drop, sym, subst, ◌∙◌}
 use Rattle.std.specs.declared.string.String.{String}
 use Rattle.std.specs.declared.alloc.Global.{Global}
 use Rattle.fb_flat.specs.fb_blocks.declared.typed.Variable.{Variable}

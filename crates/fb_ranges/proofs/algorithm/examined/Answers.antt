@@ -1,6 +1,6 @@
 use Rattle.std.proofs.Common.{◌≡◌, List, true, sym, ap, ap₂, ◌∙◌}
 use Rattle.st_types.specs.declared.command.TypedStmt.{TypedStmt}
-use Rattle.st_clear.specs.Clear.{Spans, Clear, are_kept, assigned, examine}
+use Rattle.fb_model.specs.Clear.{Spans, Clear, are_kept, assigned, examine}
 use Rattle.st_types.specs.CommandViews.{busy_of, commands_of}
 use Rattle.fb_ranges.specs.Views.{spans_of}
 use Rattle.fb_ranges.proofs.Blocks.{kept_by}

@@ -1,6 +1,6 @@
 use Rattle.std.proofs.Common.{◌≡◌, ◌+◌, ◌*◌, ◌++◌, drop}
 use denote.Param.Weighed.{most}
-use Rattle.st_clear.specs.Clear.{assigned, assigned_choices, assigned_cases}
+use Rattle.fb_model.specs.Clear.{assigned, assigned_choices, assigned_cases}
 use Rattle.st_types.specs.CommandViews.{busy_of, commands_of, choices_of, cases_of}
 use Rattle.st_types.proofs.command.TypedStmt.TheLaws.{the_size as stmt_size}
 use Rattle.st_types.proofs.command.TypedBranch.TheLaws.{the_size as branch_size}

@@ -1,8 +1,8 @@
 use Rattle.std.proofs.Common.{◌≡◌, to_z, of_z, arith, ap₂, ◌∙◌}
 use Rattle.std.specs.Int.{w128, int_min, int_max}
 use Rattle.std.proofs.lemmas.Int.{ints, clamps}
-use Rattle.st_clear.specs.Spans.{span}
-use Rattle.st_clear.specs.Clear.{cut}
+use Rattle.fb_model.specs.Spans.{span}
+use Rattle.fb_model.specs.Clear.{cut}
 use Rattle.fb_ranges.specs.Views.{span_of}
 use Rattle.fb_ranges.proofs.cut.just.Goals as goal
 

@@ -2,8 +2,8 @@ use Rattle.std.proofs.Common.{◌≡◌, pos, ◌+ℤ◌, ◌-ℤ◌, ◌&&◌, 
 use Rattle.std.specs.Int.{w128}
 use Rattle.std.specs.Prelude.{if◌then◌else◌}
 use Rattle.std.proofs.lemmas.Int.{ints}
-use Rattle.st_clear.specs.Spans.{span}
-use Rattle.st_clear.specs.Clear.{cut}
+use Rattle.fb_model.specs.Spans.{span}
+use Rattle.fb_model.specs.Clear.{cut}
 use Rattle.fb_ranges.specs.Views.{span_of}
 use Rattle.fb_ranges.proofs.cut.without.Goals as goal
 

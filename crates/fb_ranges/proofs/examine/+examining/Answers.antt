@@ -3,7 +3,7 @@ use Rattle.std.specs.Prelude.{string_bytes}
 use Rattle.std.proofs.lemmas.Int.{ints}
 use Rattle.std.proofs.lemmas.Result.{err_from_is_err_and}
 use Rattle.fb_model.specs.Names.{Name}
-use Rattle.st_clear.specs.Clear.{Spans, Found, Clear, changed, narrowed, reset, either, range_of, with_range, are_kept, kept, taken, left_with, most_turns, looped, assigned, examine, examine_one, examine_choices}
+use Rattle.fb_model.specs.Clear.{Spans, Found, Clear, changed, narrowed, reset, either, range_of, with_range, are_kept, kept, taken, left_with, most_turns, looped, assigned, examine, examine_one, examine_choices}
 use Rattle.st_types.specs.Views.{term_of}
 use Rattle.st_types.specs.CommandViews.{Chosen, busy_of, command_of, commands_of, choice_of, choices_of}
 use Rattle.fb_ranges.specs.Finding.{Costs, Fails, Finds, IsFound, Leads}

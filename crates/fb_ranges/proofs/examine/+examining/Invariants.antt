@@ -1,6 +1,6 @@
 use Rattle.std.proofs.Common.{◌≡◌, ℕ, ◌+◌, ◌*◌, max, drop}
 use denote.Param.Weighed.{most}
-use Rattle.st_clear.specs.Clear.{Clear, onward, examine, examine_choices, examine_cases}
+use Rattle.fb_model.specs.Clear.{Clear, onward, examine, examine_choices, examine_cases}
 use Rattle.st_types.specs.CommandViews.{commands_of, choices_of, cases_of}
 use Rattle.fb_ranges.specs.Finding.{Leads}
 use Rattle.fb_ranges.specs.Steps.{counted}

@@ -1,8 +1,8 @@
 use Rattle.std.proofs.Common.{◌≡◌, true, to_z, of_z, w64, arith, refl, sym, ap, ap₂, ◌∙◌}
 use Rattle.std.specs.Prelude.{if◌then◌else◌}
 use Rattle.std.proofs.lemmas.Int.{ints}
-use Rattle.st_clear.specs.Spans.{span, within}
-use Rattle.st_clear.specs.Clear.{Clear, Leaves, Traps, range_of, with_range}
+use Rattle.fb_model.specs.Spans.{span, within}
+use Rattle.fb_model.specs.Clear.{Clear, Leaves, Traps, range_of, with_range}
 use Rattle.st_types.specs.Views.{term_of}
 use Rattle.fb_ranges.specs.Views.{span_of, spans_of}
 use Rattle.fb_ranges.proofs.examine.examine_element.Goals as goal

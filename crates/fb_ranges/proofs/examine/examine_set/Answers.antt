@@ -1,5 +1,5 @@
 use Rattle.std.proofs.Common.{refl, sym, ap, ◌∙◌}
-use Rattle.st_clear.specs.Clear.{Clear, changed, with_range}
+use Rattle.fb_model.specs.Clear.{Clear, changed, with_range}
 use Rattle.fb_ranges.specs.Views.{spans_of}
 use Rattle.fb_ranges.proofs.examine.examine_set.Goals as goal
 

@@ -1,5 +1,5 @@
 use Rattle.std.proofs.Common.{◌≡◌, drop}
-use Rattle.st_clear.specs.Clear.{are_kept}
+use Rattle.fb_model.specs.Clear.{are_kept}
 use Rattle.st_types.specs.CommandViews.{busy_of}
 use Rattle.fb_ranges.specs.Views.{spans_of}
 use Rattle.fb_ranges.proofs.join.are_kept.Given as goal

@@ -1,6 +1,6 @@
 use Rattle.std.proofs.Common.{ap, ◌∙◌}
-use Rattle.st_clear.specs.Spans.{joined}
-use Rattle.st_clear.specs.Clear.{Spans, reset}
+use Rattle.fb_model.specs.Spans.{joined}
+use Rattle.fb_model.specs.Clear.{Spans, reset}
 use Rattle.fb_ranges.specs.Views.{names_in, spans_in}
 use Rattle.fb_ranges.proofs.Joins.{join_both}
 use Rattle.fb_ranges.proofs.join.join.Goals as goal

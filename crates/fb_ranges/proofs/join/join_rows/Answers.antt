@@ -1,7 +1,7 @@
 use Rattle.std.proofs.Common.{◌≡◌, ◌≤◌, length, ap, ap₂, ◌∙◌, arith}
 use Rattle.std.proofs.lemmas.List.{take_all}
-use Rattle.st_clear.specs.Spans.{joined}
-use Rattle.st_clear.specs.Clear.{Spans, reset}
+use Rattle.fb_model.specs.Spans.{joined}
+use Rattle.fb_model.specs.Clear.{Spans, reset}
 use Rattle.fb_ranges.specs.Views.{names_in, spans_of, span_of}
 use Rattle.fb_ranges.proofs.Joins.{next_row}
 use Rattle.fb_ranges.proofs.join.join_rows.Goals as goal

@@ -1,6 +1,6 @@
 use Rattle.std.proofs.Common.{◌≡◌, take}
-use Rattle.st_clear.specs.Spans.{joined}
-use Rattle.st_clear.specs.Clear.{reset}
+use Rattle.fb_model.specs.Spans.{joined}
+use Rattle.fb_model.specs.Clear.{reset}
 use Rattle.fb_ranges.specs.Views.{names_in, spans_of}
 use Rattle.fb_ranges.proofs.join.join_rows.Given as goal
 

@@ -1,5 +1,5 @@
 use Rattle.std.proofs.Common.{◌≡◌, take}
-use Rattle.st_clear.specs.Clear.{reset}
+use Rattle.fb_model.specs.Clear.{reset}
 use Rattle.st_types.specs.CommandViews.{busy_of}
 use Rattle.fb_ranges.specs.Views.{spans_of}
 use Rattle.fb_ranges.proofs.join.reset.Given as goal

@@ -1,6 +1,6 @@
 use Rattle.std.proofs.Common.{subst}
 use Rattle.std.specs.Prelude.{Some}
-use Rattle.st_clear.specs.Clear.{either}
+use Rattle.fb_model.specs.Clear.{either}
 use Rattle.fb_ranges.specs.Finding.{Leads}
 use Rattle.fb_ranges.specs.Views.{spans_of}
 use Rattle.fb_ranges.proofs.Ways.{meets_next}

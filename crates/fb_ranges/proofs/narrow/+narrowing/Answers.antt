@@ -1,5 +1,5 @@
 use Rattle.std.proofs.Common.{◌≡◌, true, subst, ◌≤◌, map, take, sym, ap, ◌∙◌, arith}
-use Rattle.st_clear.specs.Clear.{narrowed}
+use Rattle.fb_model.specs.Clear.{narrowed}
 use Rattle.st_types.specs.Views.{Tail, term_of, tail_of, joined}
 use Rattle.fb_ranges.specs.Narrowing.{splits}
 use Rattle.fb_ranges.specs.Views.{spans_of}

@@ -1,7 +1,7 @@
 use Rattle.std.proofs.Common.{◌≡◌, ◌+◌, ◌*◌, take, map, max}
 use denote.Param.Weighed.{most}
 use Rattle.st_types.specs.Views.{joined, term_of, tail_of}
-use Rattle.st_clear.specs.Clear.{narrowed}
+use Rattle.fb_model.specs.Clear.{narrowed}
 use Rattle.fb_ranges.specs.Views.{spans_of}
 use Rattle.st_types.proofs.term.TypedExpr.TheLaws.{the_size as expr_size}
 use Rattle.st_types.proofs.term.TypedLink.TheLaws.{the_size as link_size}

@@ -1,7 +1,7 @@
 use Rattle.std.proofs.Common.{◌≡◌, to_z, of_z, w64, inl, inr, arith}
 use Rattle.std.proofs.lemmas.Int.{ints}
-use Rattle.st_clear.specs.Clear.{is_single}
-use Rattle.st_clear.proofs.Results.{and_left}
+use Rattle.fb_model.specs.Clear.{is_single}
+use Rattle.fb_model.proofs.Results.{and_left}
 use Rattle.fb_ranges.specs.Views.{span_of}
 use Rattle.fb_ranges.proofs.Counting.{last_between}
 use Rattle.fb_ranges.proofs.turns.end.Goals as goal

@@ -1,7 +1,7 @@
 use Rattle.std.proofs.Common.{◌≡◌, ◌&&◌, true, false, to_z, of_z, w64, arith, sym, ap, ◌∙◌}
 use Rattle.std.proofs.lemmas.Int.{ints}
-use Rattle.st_clear.specs.Spans.{Span, joined}
-use Rattle.st_clear.specs.Clear.{is_single, taken, may_skip}
+use Rattle.fb_model.specs.Spans.{Span, joined}
+use Rattle.fb_model.specs.Clear.{is_single, taken, may_skip}
 use Rattle.fb_ranges.specs.Views.{span_of}
 use Rattle.fb_ranges.proofs.Counting.{left_by}
 use Rattle.fb_ranges.proofs.turns.left_with.Goals as goal

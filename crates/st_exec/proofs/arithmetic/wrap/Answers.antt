@@ -3,7 +3,7 @@ use Rattle.std.specs.Int.{w128, int_rem_euclid}
 use Rattle.std.proofs.lemmas.Int.{ints}
 use Rattle.fb_model.specs.Values.{highest}
 use Rattle.fb_model.specs.Language.{size, wrapped}
-use Rattle.st_clear.proofs.Types.{bounded, wrapped_above, wrapped_within}
+use Rattle.fb_model.proofs.Types.{bounded, wrapped_above, wrapped_within}
 use Rattle.st_exec.proofs.arithmetic.wrap.Goals as goal
 
 pub returns-then-from-rest : goal.returns-then-from-rest

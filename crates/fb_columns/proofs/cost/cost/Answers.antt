@@ -1,0 +1,8 @@
+use Rattle.std.proofs.Common.{◌≡◌, ◌*◌, sym, subst}
+use Rattle.fb_model.specs.Clear.{examined}
+use Rattle.st_types.specs.CommandViews.{commands_of}
+use Rattle.fb_ranges.specs.Views.{spans_of}
+use Rattle.fb_columns.specs.Columns.{unit_of}
+use Rattle.fb_columns.specs.Sums.{IsSum}
+use Rattle.fb_columns.proofs.Costing.{most_cost}
+use Rattle.fb_columns.proofs.cost.cost.Goals as goal

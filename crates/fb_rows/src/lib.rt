@@ -1,0 +1,21 @@
+//! Whether the rows of a system's variables are clear: within their types, kept by what runs, and wide enough for what comes in.
+#![tactic(auto)]
+
+mod begin;
+mod clear;
+mod fault;
+mod law;
+mod leaf;
+mod link;
+mod place;
+mod row;
+mod run;
+mod span;
+#[cfg(test)]
+mod tests;
+
+pub use clear::rows_clear;
+pub use fault::Unclear;
+pub use fb_flat;
+pub use law::refusals_deny;
+pub use row::block_rows;

@@ -1,5 +1,0 @@
-use Rattle.st_clear.proofs.Turns.{turns_most, all_taken}
-use Rattle.st_clear.proofs.counts_stay_in_ranges.Goals as goal
-
-pub returns : goal.returns
-returns c = record { turns = turns_most; numbers = all_taken }
