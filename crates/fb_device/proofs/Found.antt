@@ -22,7 +22,7 @@ use Rattle.fb_device.specs.Loads.{IsLoaded, IsLoadFault, IsThere, AllRun, IsUnru
 use Rattle.fb_device.specs.Finding.{first_named}
 use Rattle.fb_tables.proofs.of_fb_blocks.Faultless.{any_all}
 use Rattle.fb_device.proofs.Lists.{same_at}
-use Rattle.fb_device.proofs.Crossing.{all_stand}
+use Rattle.fb_device.proofs.Lists.{all_stand}
 use Rattle.fb_device.proofs.Finding.{none_named, one_named, unmapped, all_unmapped}
 
 -- names of devices, in the code and in the book

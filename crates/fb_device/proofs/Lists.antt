@@ -1,9 +1,9 @@
 -- Elements of lists, by their places.
-use Rattle.std.proofs.Common.{◌≡◌, ℕ, zero, suc, ◌<◌, List, [], ◌∷◌, ◌++◌, length, take, drop, get_or, set, slice_get, Some, eqb, eq-eqb, refl, sym, ◌∙◌, ap, arith}
+use Rattle.std.proofs.Common.{◌≡◌, ℕ, zero, suc, ◌<◌, List, [], ◌∷◌, ◌++◌, length, take, drop, get_or, set, slice_get, Some, eqb, eq-eqb, refl, sym, ◌∙◌, ap, subst, arith}
 use Rattle.std.specs.List.{AllByRecursion}
 use Rattle.std.proofs.lemmas.Bool.{cond-true}
 use Rattle.std.proofs.lemmas.Option.{slice_get-get_or}
-use Rattle.fb_device.specs.declared.entry.Spent.{Spent}
+use Rattle.fb_device.specs.declared.spending.Spent.{Spent}
 use Rattle.fb_device.specs.Numbers.{with_steps}
 
 -- what holds of all holds at a place
@@ -34,3 +34,22 @@ stands_at xs i x d l h = slice_get-get_or xs i d l ∙ ap Some (sym h)
 -- it is one
 pub same_at : {X : Type 0} (xs : List X) (i : ℕ) (x y : X) → slice_get xs i ≡ Some x → slice_get xs i ≡ Some y → x ≡ y
 same_at xs i x y a b = let e : Some x ≡ Some y = sym a ∙ b in cc
+
+-- what holds of each element holds of one
+pub all_stand : {X : Type 0} (P : X → Type 0) (xs : List X) (i : ℕ) (x : X) → AllByRecursion P xs → slice_get xs i ≡ Some x → P x
+all_stand P [] i x h e = cc
+all_stand P (y ∷ ys) zero x h e = (let f : y ≡ x = cc in subst P f h.0)
+all_stand P (y ∷ ys) (suc i) x h e = all_stand P ys i x h.1 e
+
+-- an element that was set, and the others
+pub set_stands : {X : Type 0} (xs : List X) (i : ℕ) (x y : X) → slice_get xs i ≡ Some x → slice_get (set xs i y) i ≡ Some y
+set_stands [] i x y h = cc
+set_stands (z ∷ zs) zero x y h = refl
+set_stands (z ∷ zs) (suc i) x y h = set_stands zs i x y h
+
+pub get_other : {X : Type 0} (xs : List X) (i j : ℕ) (y : X) → (i ≡ j → ⊥) → slice_get (set xs i y) j ≡ slice_get xs j
+get_other [] i j y n = refl
+get_other (x ∷ xs) zero zero y n = absurd (n refl)
+get_other (x ∷ xs) zero (suc j) y n = refl
+get_other (x ∷ xs) (suc i) zero y n = refl
+get_other (x ∷ xs) (suc i) (suc j) y n = get_other xs i j y (λ e. n (ap suc e))

@@ -82,15 +82,15 @@ fn a_fork_call_by_call(rt: HostRuntime) -> Result<(), Fail> {
     );
     assert_eq!(rt;
         dispatched(alloc, &mut device)?.as_str(),
-        "Ran(Ran { cause: 1, block: 0, event: 0, steps: 1, ended: None })"
+        "Ran(Ran { cause: 1, block: 0, event: 0, steps: 1, written: None, ended: None })"
     );
     assert_eq!(rt;
         dispatched(alloc, &mut device)?.as_str(),
-        "Ran(Ran { cause: 1, block: 1, event: 0, steps: 3, ended: None })"
+        "Ran(Ran { cause: 1, block: 1, event: 0, steps: 3, written: None, ended: None })"
     );
     assert_eq!(rt;
         dispatched(alloc, &mut device)?.as_str(),
-        "Ran(Ran { cause: 1, block: 2, event: 0, steps: 3, ended: None })"
+        "Ran(Ran { cause: 1, block: 2, event: 0, steps: 3, written: None, ended: None })"
     );
     assert_eq!(rt;
         offered(alloc, &mut device)?.as_str(),
@@ -98,7 +98,7 @@ fn a_fork_call_by_call(rt: HostRuntime) -> Result<(), Fail> {
     );
     assert_eq!(rt;
         dispatched(alloc, &mut device)?.as_str(),
-        "Ran(Ran { cause: 1, block: 3, event: 0, steps: 3, ended: Some(Ended { total: 10, bound: 10 }) })"
+        "Ran(Ran { cause: 1, block: 3, event: 0, steps: 3, written: None, ended: Some(Ended { total: 10, bound: 10 }) })"
     );
     assert_eq!(rt; offered(alloc, &mut device)?.as_str(), "Ok(2)");
     Ok(())
@@ -122,12 +122,15 @@ fn a_fork_in_one_run(rt: HostRuntime) -> Result<(), Fail> {
         Step::Offer(1, Vec::new(alloc)),
         Step::Dispatch(7),
     ];
-    let mut answers = [Answer::Admitted(Err(Denied::Spent)); 9];
+    let mut answers = Vec::new(alloc);
+    for _ in 0..9 {
+        answers.push(Answer::Admitted(Err(Denied::Spent)))?;
+    }
     device.run(&steps, &mut answers);
     let told = format!(in alloc; "{answers:?}")?;
     assert_eq!(rt;
         told.as_str(),
-        "[Admitted(Ok(1)), Admitted(Err(NoCredit { needs: 2, free: 1 })), Served(Ran(Ran { cause: 1, block: 0, event: 0, steps: 1, ended: None })), Served(Ran(Ran { cause: 1, block: 1, event: 0, steps: 3, ended: None })), Served(Ran(Ran { cause: 1, block: 2, event: 0, steps: 3, ended: None })), Served(Ran(Ran { cause: 1, block: 3, event: 0, steps: 3, ended: Some(Ended { total: 10, bound: 10 }) })), Admitted(Ok(2)), Served(Idle), Admitted(Err(Spent))]"
+        "[Admitted(Ok(1)), Admitted(Err(NoCredit { needs: 2, free: 1 })), Served(Ran(Ran { cause: 1, block: 0, event: 0, steps: 1, written: None, ended: None })), Served(Ran(Ran { cause: 1, block: 1, event: 0, steps: 3, written: None, ended: None })), Served(Ran(Ran { cause: 1, block: 2, event: 0, steps: 3, written: None, ended: None })), Served(Ran(Ran { cause: 1, block: 3, event: 0, steps: 3, written: None, ended: Some(Ended { total: 10, bound: 10 }) })), Admitted(Ok(2)), Served(Idle), Admitted(Err(Spent))]"
     );
     Ok(())
 }
@@ -139,8 +142,7 @@ fn what_a_device_tells(rt: HostRuntime) -> Result<(), Fail> {
         panic!(rt; "not loaded");
     };
     let mut device = ready.start();
-    let idle = device.dispatch(0);
-    assert!(rt; idle == Turned::Idle);
+    assert_eq!(rt; dispatched(alloc, &mut device)?.as_str(), "Idle");
     let unknown = device.offer(2, &[]);
     assert!(rt; unknown == Err(Denied::UnknownInput));
     let counted = device.offer(1, &[5]);
@@ -180,8 +182,8 @@ fn refusals_and_their_places(rt: HostRuntime) -> Result<(), Fail> {
     Ok(())
 }
 
-// A button before a split, which leads to an output and a cell.
-const LAMP: &str = "FUNCTION_BLOCK CELL
+// A button before a delay, which leads to a cell.
+const DELAYED: &str = "FUNCTION_BLOCK CELL
 EVENT_INPUT EI; END_EVENT
 EC_STATES START; DONE; END_STATES
 EC_TRANSITIONS START TO DONE := EI; DONE TO START := 1; END_TRANSITIONS
@@ -189,35 +191,160 @@ END_FUNCTION_BLOCK
 SYSTEM S
 DEVICE E END_DEVICE
 DEVICE D RESOURCE R
-FBS BUTTON : INPUT(ID := 1); SPL : E_SPLIT; C : CELL; L : OUTPUT(ID := 1); END_FBS
-EVENT_CONNECTIONS BUTTON.IND TO SPL.EI; SPL.EO1 TO C.EI; SPL.EO2 TO L.REQ; END_CONNECTIONS
+FBS BUTTON : INPUT(ID := 1); W : E_DELAY(DT := T#1s); C : CELL; END_FBS
+EVENT_CONNECTIONS BUTTON.IND TO W.START; W.EO TO C.EI; END_CONNECTIONS
 END_RESOURCE END_DEVICE END_SYSTEM
 ";
 
-const LAMP_ROWS: &str = "CERT 1
-CHARGE D.R.SPL.START 0 0
-CHARGE D.R.SPL.ACT 5 2
+const DELAYED_ROWS: &str = "CERT 1
 CHARGE D.R.C.START 0 0
 CHARGE D.R.C.DONE 1 0
-WEIGHT D.R.BUTTON.ARRIVE 8 2
-WEIGHT D.R.SPL.EI 7 2
+WEIGHT D.R.BUTTON.ARRIVE 2 1
+WEIGHT D.R.W.START 1 1
+WEIGHT D.R.W.STOP 1 1
+WEIGHT D.R.W.EXPIRE 4 1
 WEIGHT D.R.C.EI 3 1
-WEIGHT D.R.L.REQ 1 1
-DEPTH D.R 2
+DEPTH D.R 1
 ";
 
 #[test]
 fn leaves_beyond_devices(rt: HostRuntime) -> Result<(), Fail> {
     let alloc = rt.alloc();
-    let Err(beyond) = load(alloc, LAMP, LAMP_ROWS, "d") else {
+    let Err(beyond) = load(alloc, DELAYED, DELAYED_ROWS, "d") else {
         panic!(rt; "loaded");
     };
     assert!(rt; beyond.code() == 22);
-    assert_eq!(rt; format!(in alloc; "{beyond}")?.as_str(), "22 D.R.L");
-    let Ok(ready) = load(alloc, LAMP, LAMP_ROWS, "e") else {
+    assert_eq!(rt; format!(in alloc; "{beyond}")?.as_str(), "22 D.R.W");
+    let Ok(ready) = load(alloc, DELAYED, DELAYED_ROWS, "e") else {
         panic!(rt; "not loaded");
     };
     let mut empty = ready.start();
     assert_eq!(rt; offered(alloc, &mut empty)?.as_str(), "Err(UnknownInput)");
+    Ok(())
+}
+
+// A button that counts up to nine, and a lamp that shows the count.
+const COUNTER: &str = "FUNCTION_BLOCK COUNTER
+EVENT_INPUT CU; END_EVENT
+EVENT_OUTPUT CUO WITH CV; END_EVENT
+VAR_OUTPUT CV : UINT; END_VAR
+EC_STATES START; ADD : INC -> CUO; END_STATES
+EC_TRANSITIONS START TO ADD := CU; ADD TO START := 1; END_TRANSITIONS
+ALGORITHM INC IN ST: IF CV < 9 THEN CV := CV + 1; END_IF; END_ALGORITHM
+END_FUNCTION_BLOCK
+SYSTEM S DEVICE D RESOURCE R
+FBS button : INPUT(ID := 1); count : COUNTER; lamp : OUTPUT[UINT](ID := 1); END_FBS
+EVENT_CONNECTIONS button.IND TO count.CU; count.CUO TO lamp.REQ; END_CONNECTIONS
+DATA_CONNECTIONS count.CV TO lamp.SD_1; END_CONNECTIONS
+END_RESOURCE END_DEVICE END_SYSTEM
+";
+
+const COUNTER_ROWS: &str = "CERT 1
+RANGE D.R.COUNT.CV 0 9
+CHARGE D.R.COUNT.START 0 0
+CHARGE D.R.COUNT.ADD 4 1
+WEIGHT D.R.BUTTON.ARRIVE 7 1
+WEIGHT D.R.COUNT.CU 6 1
+WEIGHT D.R.LAMP.REQ 1 1
+DEPTH D.R 1
+";
+
+// The steps, the value that the lamp shows and the end of one round of the counter, as text.
+fn round(alloc: Global, device: &mut Device) -> Result<String, Fail> {
+    let admitted = device.offer(1, &[]);
+    let _ = device.dispatch(0);
+    let counted = device.dispatch(0);
+    let shown = device.dispatch(0);
+    match (counted, shown) {
+        (Turned::Ran(one), Turned::Ran(two)) => {
+            Ok(format!(in alloc;
+                "{admitted:?} {} {} {:?} {:?}",
+                one.steps, two.steps, two.written, two.ended
+            )?)
+        }
+        _ => Err(Fail::from("idle")),
+    }
+}
+
+#[test]
+fn a_counter(rt: HostRuntime) -> Result<(), Fail> {
+    let alloc = rt.alloc();
+    let Ok(ready) = load(alloc, COUNTER, COUNTER_ROWS, "D") else {
+        panic!(rt; "not loaded");
+    };
+    let mut device = ready.start();
+    assert_eq!(rt;
+        round(alloc, &mut device)?.as_str(),
+        "Ok(1) 5 1 Some(Written { number: 1, values: [1] }) Some(Ended { total: 7, bound: 7 })"
+    );
+    for _ in 0..8 {
+        let _ = round(alloc, &mut device)?;
+    }
+    assert_eq!(rt;
+        round(alloc, &mut device)?.as_str(),
+        "Ok(10) 4 1 Some(Written { number: 1, values: [9] }) Some(Ended { total: 6, bound: 7 })"
+    );
+    Ok(())
+}
+
+// Two numbers from outside, of which one is divided by the other where that is more than 0.
+const DIVIDE: &str = "FUNCTION_BLOCK DIVIDE
+EVENT_INPUT REQ WITH X, D; END_EVENT
+EVENT_OUTPUT CNF WITH Q; END_EVENT
+VAR_INPUT X, D : INT; END_VAR
+VAR_OUTPUT Q : INT; END_VAR
+EC_STATES START; ACT : CALC -> CNF; END_STATES
+EC_TRANSITIONS START TO ACT := REQ; ACT TO START := 1; END_TRANSITIONS
+ALGORITHM CALC IN ST: IF D > 0 THEN Q := X / D; END_IF; END_ALGORITHM
+END_FUNCTION_BLOCK
+SYSTEM S DEVICE D RESOURCE R
+FBS SRC : INPUT[INT, INT](ID := 1); Q1 : DIVIDE; LAMP : OUTPUT[INT](ID := 2); END_FBS
+EVENT_CONNECTIONS SRC.IND TO Q1.REQ; Q1.CNF TO LAMP.REQ; END_CONNECTIONS
+DATA_CONNECTIONS SRC.RD_1 TO Q1.X; SRC.RD_2 TO Q1.D; Q1.Q TO LAMP.SD_1; END_CONNECTIONS
+END_RESOURCE END_DEVICE END_SYSTEM
+";
+
+const DIVIDE_ROWS: &str = "CERT 1
+RANGE D.R.Q1.X -32768 32767
+RANGE D.R.Q1.D -32768 32767
+RANGE D.R.Q1.Q -32768 32767
+CHARGE D.R.Q1.START 0 0
+CHARGE D.R.Q1.ACT 4 1
+WEIGHT D.R.SRC.ARRIVE 7 1
+WEIGHT D.R.Q1.REQ 6 1
+WEIGHT D.R.LAMP.REQ 1 1
+DEPTH D.R 1
+";
+
+#[test]
+fn values_from_outside(rt: HostRuntime) -> Result<(), Fail> {
+    let alloc = rt.alloc();
+    let Ok(ready) = load(alloc, DIVIDE, DIVIDE_ROWS, "D") else {
+        panic!(rt; "not loaded");
+    };
+    let mut device = ready.start();
+    let few = device.offer(1, &[7]);
+    assert!(rt; few == Err(Denied::BadCount));
+    let wide = device.offer(1, &[7, 32_768]);
+    assert!(rt; wide == Err(Denied::BadValue(2)));
+    let cases: [(i64, i64, &str); 3] = [
+        (-7, 2, "Some(Written { number: 2, values: [-3] })"),
+        (7, 0, "Some(Written { number: 2, values: [-3] })"),
+        (32_767, 1, "Some(Written { number: 2, values: [32767] })"),
+    ];
+    for case in &cases {
+        let (x, d, text) = *case;
+        let admitted = device.offer(1, &[x, d]);
+        assert!(rt; admitted.is_ok());
+        let _ = device.dispatch(0);
+        let _ = device.dispatch(0);
+        match device.dispatch(0) {
+            Turned::Ran(ran) => {
+                let written = format!(in alloc; "{:?}", ran.written)?;
+                assert_eq!(rt; written.as_str(), text);
+            }
+            Turned::Idle => return Err(Fail::from("idle")),
+        }
+    }
     Ok(())
 }

@@ -4,7 +4,7 @@ use Rattle.std.specs.List.{Any, AllByRecursion}
 use Rattle.std.proofs.lemmas.List.{take_more}
 use Rattle.std.proofs.Math.Seq.{drop-cons}
 use Rattle.fb_model.proofs.Lists.{all_append}
-use Rattle.fb_tables.specs.Filling.{Each}
+use Rattle.fb_invoke.specs.Tables.{Each}
 
 pub each_push : {X Y : Type 0} (R : X → Y → Type 0) (xs : List X) (ys : List Y) (x : X) (y : Y) → Each R xs ys → R x y → Each R (xs ++ x ∷ []) (ys ++ y ∷ [])
 each_push R [] [] x y h r = (r, tt)
@@ -80,6 +80,13 @@ each_map R S [] [] f h = tt
 each_map R S [] (y ∷ ys) f h = absurd h
 each_map R S (x ∷ xs) [] f h = absurd h
 each_map R S (x ∷ xs) (y ∷ ys) f h = (f x y h.0, each_map R S xs ys f h.1)
+
+-- the same of images
+pub each_image : {X Y Z : Type 0} (R : Z → Y → Type 0) (f : X → Z) (xs : List X) (ys : List Y) → Each (λ x y. R (f x) y) xs ys → Each R (map f xs) ys
+each_image R f [] [] h = tt
+each_image R f [] (y ∷ ys) h = absurd h
+each_image R f (x ∷ xs) [] h = absurd h
+each_image R f (x ∷ xs) (y ∷ ys) h = (h.0, each_image R f xs ys h.1)
 
 -- ---- indices
 
