@@ -21,7 +21,7 @@ use Rattle.fb_columns.specs.fb_flat.Tables.{AreDevices}
 use Rattle.fb_columns.proofs.of_fb_flat.Read.{devices_are}
 use Rattle.fb_columns.specs.Columns.{column_of}
 use Rattle.fb_columns.specs.declared.column.Column.TheVariants.{Steps, Places}
-use Rattle.fb_rows.specs.Fitting.{AllClear, IsKnownLeaf as IsPlainLeaf, AreKnown as ArePlain}
+use Rattle.fb_columns.specs.fb_rows.Fitting.{AllClear, IsKnownLeaf as IsPlainLeaf, AreKnown as ArePlain}
 use Rattle.fb_columns.specs.Fitting.{AlgorithmsClear, IsKnownLeaf, AreKnown, AllPay}
 use Rattle.fb_depths.specs.Depths.{IsDeep}
 use Rattle.fb_model.specs.Certificates.{FollowsFew, Fits}

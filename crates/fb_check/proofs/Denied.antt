@@ -22,10 +22,10 @@ use Rattle.fb_model.specs.Wires.{most_followed}
 use Rattle.fb_ledger.specs.declared.fault.RowFault.{RowFault}
 use Rattle.fb_ledger.specs.declared.fault.RowFault.TheVariants as rows
 use Rattle.fb_ledger.specs.Faults.{IsUnknown, IsMissing, unknown_charge, unknown_weight, unknown_range, unknown_depth, missing_charge, missing_weight, missing_range, missing_depth, IsRowFault}
-use Rattle.fb_rows.specs.declared.fault.Unclear.{Unclear}
-use Rattle.fb_rows.specs.declared.fault.Unclear.TheVariants as unclear
-use Rattle.fb_rows.specs.Fitting.{IsUnclear}
-use Rattle.fb_rows.proofs.Denied.{denied as unclear_denies}
+use Rattle.fb_columns.specs.fb_rows.declared.fault.Unclear.{Unclear}
+use Rattle.fb_columns.specs.fb_rows.declared.fault.Unclear.TheVariants as unclear
+use Rattle.fb_columns.specs.fb_rows.Fitting.{IsUnclear}
+use Rattle.fb_columns.proofs.of_fb_rows.Denied.{denied as unclear_denies}
 use Rattle.fb_columns.specs.declared.column.Column.{Column}
 use Rattle.fb_columns.specs.declared.column.Column.TheVariants.{Steps, Places}
 use Rattle.fb_columns.specs.declared.fault.Shortfall.{Shortfall}

@@ -4,6 +4,7 @@ pub use Rattle.fb_columns.proofs.of_fb_networks as of_fb_networks
 pub use Rattle.fb_columns.proofs.of_fb_services as of_fb_services
 pub use Rattle.fb_columns.proofs.of_fb_text as of_fb_text
 pub use Rattle.fb_columns.proofs.of_fb_types as of_fb_types
+pub use Rattle.fb_columns.proofs as of_fb_columns
 pub mod Lookups
 pub mod Reading
 pub mod Composed

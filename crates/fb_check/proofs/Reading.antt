@@ -127,4 +127,4 @@ accepted_by beforehand text certificate system rows (Err f) s c same tables fits
 
 -- whoever runs what was accepted relies on it
 pub checked : (beforehand text certificate : List ℕ) (v : Verified) → IsOfTexts beforehand text certificate v → IsChecked v
-checked beforehand text certificate v h = record { written = (beforehand, text, h.system_is); fits = h.fits; tables = h.tables }
+checked beforehand text certificate v h = record { written = (beforehand, text, h.system_is); told = (certificate, h.certificate_is); fits = h.fits; tables = h.tables }

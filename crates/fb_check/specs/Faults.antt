@@ -8,8 +8,8 @@ use Rattle.fb_columns.specs.fb_types.declared.typed.Typed.{Typed}
 use Rattle.fb_columns.specs.fb_types.Views.{system_of}
 use Rattle.fb_columns.specs.fb_flat.Leaves.{IsFull}
 use Rattle.fb_ledger.specs.Faults.{IsUnknown, IsMissing}
-use Rattle.fb_rows.specs.declared.fault.Unclear.TheVariants as unclear
-use Rattle.fb_rows.specs.Fitting.{IsUnclear}
+use Rattle.fb_columns.specs.fb_rows.declared.fault.Unclear.TheVariants as unclear
+use Rattle.fb_columns.specs.fb_rows.Fitting.{IsUnclear}
 use Rattle.fb_columns.specs.declared.column.Column.{Column}
 use Rattle.fb_columns.specs.declared.fault.Shortfall.TheVariants as short
 use Rattle.fb_columns.specs.Columns.{column_of}

@@ -11,8 +11,8 @@ use Rattle.fb_cert.specs.declared.fault.CertFault.{CertFault}
 use Rattle.fb_cert.specs.declared.fault.CertFault.TheVariants as certs
 use Rattle.fb_ledger.specs.declared.fault.RowFault.{RowFault}
 use Rattle.fb_ledger.specs.declared.fault.RowFault.TheVariants as rows
-use Rattle.fb_rows.specs.declared.fault.Unclear.{Unclear}
-use Rattle.fb_rows.specs.declared.fault.Unclear.TheVariants as unclear
+use Rattle.fb_columns.specs.fb_rows.declared.fault.Unclear.{Unclear}
+use Rattle.fb_columns.specs.fb_rows.declared.fault.Unclear.TheVariants as unclear
 use Rattle.fb_columns.specs.declared.fault.Shortfall.{Shortfall}
 use Rattle.fb_columns.specs.declared.fault.Shortfall.TheVariants as short
 use Rattle.fb_depths.specs.declared.shallow.Shallow.{Shallow}

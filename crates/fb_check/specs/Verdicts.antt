@@ -50,9 +50,10 @@ pub record IsOfTexts (beforehand text certificate : List ℕ) (v : Verified) : T
   pub fits : Fits (system_in v) (certificate_in v)
   pub tables : AreTables v
 
--- what whoever runs a system relies on: it stands in texts, its certificate fits, and its tables are its own
+-- what whoever runs a system relies on: it stands in texts and its certificate in another, this fits, and the tables are the system's own
 pub record IsChecked (v : Verified) : Type 0 where
   pub written : IsWritten (system_in v)
+  pub told : IsTold (certificate_in v)
   pub fits : Fits (system_in v) (certificate_in v)
   pub tables : AreTables v
 

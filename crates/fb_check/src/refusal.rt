@@ -6,10 +6,10 @@ ghost use Rattle.fb_check.specs.declared.refusal.Refusal.TheVariants.{OutOfMemor
 use fb_cert::CertFault;
 use fb_columns::Shortfall;
 use fb_columns::fb_flat::fb_types::fb_networks::fb_services::fb_blocks::TypeFault;
+use fb_columns::fb_rows::Unclear;
 use fb_depths::Shallow;
 use fb_ledger::RowFault;
 use fb_lex::TextFault;
-use fb_rows::Unclear;
 use std::alloc::{AllocError, AllocFailed};
 use std::fmt;
 

@@ -23,10 +23,10 @@ use crate::verified::Verified;
 use fb_cert::Certificate;
 use fb_columns::fb_flat::fb_types::{EVENT_BLOCKS, Typed};
 use fb_columns::fb_flat::{Flat, flatten};
+use fb_columns::fb_rows::rows_clear;
 use fb_columns::{Column, column_pays};
 use fb_depths::depths_fit;
 use fb_ledger::rows_match;
-use fb_rows::rows_clear;
 use std::alloc::Global;
 
 // The rows are those that the system must have, all is clear under them, and they pay in both columns and at each queue.

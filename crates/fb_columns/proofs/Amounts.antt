@@ -12,10 +12,10 @@ use Rattle.fb_cert.specs.declared.certificate.Amount.{Amount}
 use Rattle.fb_cert.specs.declared.certificate.Certificate.{Certificate}
 use Rattle.fb_cert.specs.Views.{Table, amount_rows, first_at, rows_of, certificate_of, steps_in, places_in}
 use Rattle.fb_cert.proofs.Places.{steps_same, places_same}
-use Rattle.fb_flat.specs.declared.flat.Target.{Target}
-use Rattle.fb_flat.specs.Tables.{target_place}
-use Rattle.fb_flat.specs.Sites.{dotted}
-use Rattle.fb_flat.proofs.Dotted.{names_dotted}
+use Rattle.fb_rows.specs.fb_flat.declared.flat.Target.{Target}
+use Rattle.fb_rows.specs.fb_flat.Tables.{target_place}
+use Rattle.fb_rows.specs.fb_flat.Sites.{dotted}
+use Rattle.fb_rows.proofs.of_fb_flat.Dotted.{names_dotted}
 use Rattle.fb_columns.specs.declared.column.Column.{Column}
 use Rattle.fb_columns.specs.declared.column.Column.TheVariants.{Steps, Places}
 use Rattle.fb_columns.specs.Columns.{unit_of, column_of}
@@ -41,7 +41,7 @@ least : (n m : ℕ) → n ≤ m → n ≡ min n m
 least n m h = omega (arith, h)
 
 -- what is said of the first row of a place is no more than what is said of all
-amount_small : (f : book.Row → ℕ) (most : ℕ) (rows : List book.Row) (p : Place) → AllByRecursion (λ (r : book.Row). f r ≤ most) rows → book.amount f rows p ≤ most
+pub amount_small : (f : book.Row → ℕ) (most : ℕ) (rows : List book.Row) (p : Place) → AllByRecursion (λ (r : book.Row). f r ≤ most) rows → book.amount f rows p ≤ most
 amount_small f most [] p h = omega arith
 amount_small f most (r ∷ rs) p h = by (place_eq r.place p) (amount_small f most rs p h.1) where
   by : (b : Bool) → book.amount f rs p ≤ most → cond b (f r) (book.amount f rs p) ≤ most

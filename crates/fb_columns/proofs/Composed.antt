@@ -10,10 +10,10 @@ use Rattle.fb_model.proofs.Lists.{all_append}
 use Rattle.fb_model.proofs.Placed.{all_left, all_right}
 use Rattle.fb_cert.specs.declared.certificate.Certificate.{Certificate}
 use Rattle.fb_cert.specs.Views.{certificate_of}
-use Rattle.fb_flat.specs.declared.flat.Leaf.{Leaf}
-use Rattle.fb_flat.specs.declared.flat.FlatResource.{FlatResource}
-use Rattle.fb_flat.specs.declared.flat.FlatDevice.{FlatDevice}
-use Rattle.fb_flat.specs.Tables.{AreLeaves, AreResources, AreDevices}
+use Rattle.fb_rows.specs.fb_flat.declared.flat.Leaf.{Leaf}
+use Rattle.fb_rows.specs.fb_flat.declared.flat.FlatResource.{FlatResource}
+use Rattle.fb_rows.specs.fb_flat.declared.flat.FlatDevice.{FlatDevice}
+use Rattle.fb_rows.specs.fb_flat.Tables.{AreLeaves, AreResources, AreDevices}
 use Rattle.fb_columns.specs.declared.column.Column.{Column}
 use Rattle.fb_columns.specs.declared.fault.Shortfall.{Shortfall}
 use Rattle.fb_columns.specs.Columns.{column_of}

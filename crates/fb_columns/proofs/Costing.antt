@@ -11,12 +11,12 @@ use Rattle.fb_model.specs.System as book
 use Rattle.fb_model.specs.Charts.{named}
 use Rattle.fb_model.specs.Clear.{Spans, Found, Clear, examined, found_cost, cost}
 use Rattle.fb_model.specs.Ranges.{cost_of, IsClearAlgorithm}
-use Rattle.st_types.specs.declared.whole.Algo.{Algo}
-use Rattle.st_types.specs.CommandViews.{commands_of}
-use Rattle.fb_ranges.specs.Answers.{most_steps}
+use Rattle.fb_rows.specs.st_types.declared.whole.Algo.{Algo}
+use Rattle.fb_rows.specs.st_types.CommandViews.{commands_of}
+use Rattle.fb_rows.specs.fb_ranges.Answers.{most_steps}
 use Rattle.fb_columns.specs.Sums.{IsSum}
 use Rattle.fb_columns.specs.Reckoning.{value_at}
-use Rattle.fb_flat.proofs.of_fb_blocks.Lists.{mapped_more}
+use Rattle.fb_rows.proofs.of_fb_blocks.Lists.{mapped_more}
 use Rattle.fb_columns.proofs.Lists.{bytes_turned}
 
 abbrev pub procedure_of : String Global × Algo → book.Procedure

@@ -5,7 +5,7 @@ use Rattle.std.specs.List.{AllByRecursion}
 use Rattle.std.specs.declared.string.String.{String}
 use Rattle.std.specs.declared.alloc.Global.{Global}
 use Rattle.fb_model.specs.Names.{Name}
-use Rattle.fb_flat.specs.fb_blocks.declared.typed.Transition.{Transition}
+use Rattle.fb_rows.specs.fb_blocks.declared.typed.Transition.{Transition}
 use Rattle.fb_columns.specs.declared.column.Column.{Column}
 use Rattle.fb_columns.specs.Columns.{unit_of, crossing_need}
 use Rattle.fb_columns.specs.Sums.{greater}

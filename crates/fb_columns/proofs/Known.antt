@@ -8,9 +8,9 @@ use Rattle.fb_model.specs.System as book
 use Rattle.fb_model.specs.Spelling.{AreWords}
 use Rattle.fb_model.specs.Typing.{names_of}
 use Rattle.fb_model.specs.Certificates.{names, event_names}
-use Rattle.fb_flat.specs.fb_blocks.declared.typed.Transition.{Transition}
-use Rattle.fb_flat.specs.fb_blocks.declared.typed.Block.{Block}
-use Rattle.fb_flat.specs.fb_blocks.Views.{event_of, action_of, transition_of, block_of}
+use Rattle.fb_rows.specs.fb_blocks.declared.typed.Transition.{Transition}
+use Rattle.fb_rows.specs.fb_blocks.declared.typed.Block.{Block}
+use Rattle.fb_rows.specs.fb_blocks.Views.{event_of, action_of, transition_of, block_of}
 use Rattle.fb_leaves.specs.Leaves.{IsListed, IsClosedBlock}
 use Rattle.fb_columns.specs.Reckoning.{Entry, table_names}
 use Rattle.fb_columns.specs.Paying.{outputs_in, inputs_in}

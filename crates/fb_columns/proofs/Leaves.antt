@@ -21,12 +21,12 @@ use Rattle.fb_model.proofs.Lists.{all_weaker, all_both, at_listed}
 use Rattle.fb_leaves.specs.Leaves.{IsClosed}
 use Rattle.fb_cert.specs.declared.certificate.Certificate as tables
 use Rattle.fb_cert.specs.Views.{certificate_of}
-use Rattle.fb_flat.specs.fb_blocks.declared.typed.Block.{Block}
-use Rattle.fb_flat.specs.fb_blocks.Views.{block_of}
-use Rattle.fb_flat.specs.declared.flat.Output.{Output}
-use Rattle.fb_flat.specs.Tables.{target_place, output_names, targets_of}
-use Rattle.fb_flat.specs.Sites.{dotted}
-use Rattle.fb_flat.proofs.Dotted.{names_dotted}
+use Rattle.fb_rows.specs.fb_blocks.declared.typed.Block.{Block}
+use Rattle.fb_rows.specs.fb_blocks.Views.{block_of}
+use Rattle.fb_rows.specs.fb_flat.declared.flat.Output.{Output}
+use Rattle.fb_rows.specs.fb_flat.Tables.{target_place, output_names, targets_of}
+use Rattle.fb_rows.specs.fb_flat.Sites.{dotted}
+use Rattle.fb_rows.proofs.of_fb_flat.Dotted.{names_dotted}
 use Rattle.fb_columns.specs.declared.column.Column.{Column}
 use Rattle.fb_columns.specs.declared.fault.Shortfall.{Shortfall}
 use Rattle.fb_columns.specs.declared.fault.Shortfall.TheVariants.{OutOfMemory, Charge, Weight}

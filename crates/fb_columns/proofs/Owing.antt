@@ -4,7 +4,7 @@ use Rattle.std.specs.Prelude.{MatchResult}
 use Rattle.std.specs.List.{AllByRecursion}
 use Rattle.fb_model.specs.Names.{Name}
 use Rattle.fb_cert.specs.declared.certificate.Certificate as cert
-use Rattle.fb_flat.specs.fb_blocks.declared.typed.Block.{Block}
+use Rattle.fb_rows.specs.fb_blocks.declared.typed.Block.{Block}
 use Rattle.fb_columns.specs.declared.column.Column.{Column}
 use Rattle.fb_columns.specs.declared.fault.Shortfall.{Shortfall}
 use Rattle.fb_columns.specs.declared.fault.Shortfall.TheVariants.{OutOfMemory, Charge, Weight}

@@ -1,9 +1,12 @@
 -- A certificate that a text spells says no more than a row can.
 use Rattle.std.proofs.Common.{◌≡◌, ◌≤◌, ℕ, List, [], ◌∷◌, sym, subst}
 use Rattle.std.specs.List.{AllByRecursion}
-use Rattle.fb_model.specs.Certificates.{Certificate}
-use Rattle.fb_model.specs.CertificateText.{Entry, range, charge, weight, depth, IsEntry, a_range, a_charge, a_weight, a_depth, Written, AreEntries, no_entry, entry, row_of, charges_of, weights_of, certificate_in, Spells}
+use Rattle.fb_model.specs.Names.{Place}
+use Rattle.fb_model.specs.Certificates.{Row, Certificate, steps_of}
+use Rattle.fb_model.specs.CertificateText.{Entry, range, charge, weight, depth, IsEntry, a_range, a_charge, a_weight, a_depth, Written, most_steps, AreEntries, no_entry, entry, row_of, charges_of, weights_of, certificate_in, Spells}
+use Rattle.fb_model.proofs.Lists.{all_weaker}
 use Rattle.fb_columns.specs.Fitting.{IsSmall, AreSmall}
+use Rattle.fb_columns.proofs.Amounts.{amount_small}
 
 charge_small : (ws : List (List ℕ)) (p : List ℕ) (s k : ℕ) → IsEntry ws (charge p s k) → IsSmall (row_of p s k)
 charge_small ws p s k (a_charge d m n) = (m.at_most, n.at_most)
@@ -32,3 +35,7 @@ weights_small (w ∷ ws) (depth p n ∷ es) (entry h rest) = weights_small ws es
 pub small : (text : List ℕ) (cert : Certificate) → Spells text cert → AreSmall cert
 small text cert h =
     subst AreSmall (sym h.certificate_is) (record { charges = charges_small h.others h.entries h.others_are; weights = weights_small h.others h.entries h.others_are })
+
+-- no event weighs more steps than a row can say
+pub weights_at_most : (text : List ℕ) (cert : Certificate) → Spells text cert → (p : Place) → (steps_of cert).weight p ≤ most_steps
+weights_at_most text cert h p = amount_small (λ (r : Row). r.steps) most_steps cert.weights p (all_weaker IsSmall (λ (r : Row). r.steps ≤ most_steps) cert.weights (λ r k. k.0) (small text cert h).weights)

@@ -5,7 +5,7 @@ use Rattle.std.proofs.Math.Seq.{drop-cons}
 use Rattle.std.specs.List.{sum_by}
 use Rattle.std.proofs.lemmas.List.Sums.{sum_by-drop_more, sum_by-cons}
 use Rattle.fb_model.specs.Names.{Name}
-use Rattle.fb_flat.proofs.of_fb_networks.Places.{place}
+use Rattle.fb_rows.proofs.of_fb_networks.Places.{place}
 use Rattle.fb_columns.specs.Sums.{IsSum}
 use Rattle.fb_columns.specs.Reckoning.{value_at, AreSums}
 

@@ -18,10 +18,10 @@ use Rattle.fb_model.specs.CertificateText.{names_in}
 use Rattle.fb_model.specs.Wires.{Charted}
 use Rattle.fb_model.proofs.Lists.{same_name, at_listed, all_weaker, all_both}
 use Rattle.fb_cert.specs.declared.certificate.Certificate.{Certificate}
-use Rattle.fb_flat.specs.fb_blocks.declared.typed.Action.{Action}
-use Rattle.fb_flat.specs.fb_blocks.declared.typed.Transition.{Transition}
-use Rattle.fb_flat.specs.fb_blocks.declared.typed.Block.{Block}
-use Rattle.fb_flat.specs.fb_blocks.Views.{name_of, action_of, transition_of, block_of}
+use Rattle.fb_rows.specs.fb_blocks.declared.typed.Action.{Action}
+use Rattle.fb_rows.specs.fb_blocks.declared.typed.Transition.{Transition}
+use Rattle.fb_rows.specs.fb_blocks.declared.typed.Block.{Block}
+use Rattle.fb_rows.specs.fb_blocks.Views.{name_of, action_of, transition_of, block_of}
 use Rattle.fb_leaves.specs.Leaves.{IsListed}
 use Rattle.fb_columns.specs.declared.column.Column.{Column}
 use Rattle.fb_columns.specs.Columns.{unit_of, crossing_need}

@@ -5,10 +5,10 @@ use Rattle.fb_model.specs.Names.{Name, is_in}
 use Rattle.fb_model.specs.System.{Service}
 use Rattle.fb_model.specs.Services.{can_emit}
 use Rattle.fb_cert.specs.declared.certificate.Certificate.{Certificate}
-use Rattle.fb_flat.specs.declared.flat.Output.{Output}
-use Rattle.fb_flat.specs.Sites.{dotted}
-use Rattle.fb_flat.specs.fb_blocks.declared.typed.Transition.{Transition}
-use Rattle.fb_flat.specs.fb_blocks.declared.typed.Block.{Block}
+use Rattle.fb_rows.specs.fb_flat.declared.flat.Output.{Output}
+use Rattle.fb_rows.specs.fb_flat.Sites.{dotted}
+use Rattle.fb_rows.specs.fb_blocks.declared.typed.Transition.{Transition}
+use Rattle.fb_rows.specs.fb_blocks.declared.typed.Block.{Block}
 use Rattle.fb_columns.specs.declared.column.Column.{Column}
 use Rattle.fb_columns.specs.declared.fault.Shortfall.{Shortfall}
 use Rattle.fb_columns.specs.declared.fault.Shortfall.TheVariants.{OutOfMemory, Charge, Weight}

@@ -11,12 +11,12 @@ use Rattle.fb_model.specs.CertificateText.{most_steps}
 use Rattle.fb_cert.specs.declared.certificate.Amount.{Amount}
 use Rattle.fb_cert.specs.declared.certificate.Certificate.{Certificate}
 use Rattle.fb_cert.specs.Views.{first_at, rows_of}
-use Rattle.fb_flat.specs.declared.flat.Target.{Target}
-use Rattle.fb_flat.specs.declared.flat.Output.{Output}
-use Rattle.fb_flat.specs.Sites.{dotted}
-use Rattle.fb_flat.specs.fb_blocks.declared.typed.Action.{Action}
-use Rattle.fb_flat.specs.fb_blocks.declared.typed.Transition.{Transition}
-use Rattle.fb_flat.specs.fb_blocks.declared.typed.Block.{Block}
+use Rattle.fb_rows.specs.fb_flat.declared.flat.Target.{Target}
+use Rattle.fb_rows.specs.fb_flat.declared.flat.Output.{Output}
+use Rattle.fb_rows.specs.fb_flat.Sites.{dotted}
+use Rattle.fb_rows.specs.fb_blocks.declared.typed.Action.{Action}
+use Rattle.fb_rows.specs.fb_blocks.declared.typed.Transition.{Transition}
+use Rattle.fb_rows.specs.fb_blocks.declared.typed.Block.{Block}
 use Rattle.fb_columns.specs.declared.column.Column.{Column}
 use Rattle.fb_columns.specs.declared.cost.Prices.{Prices}
 use Rattle.fb_columns.specs.Columns.{number_in}

@@ -5,10 +5,10 @@ use Rattle.fb_model.specs.Ranges.{rows}
 use Rattle.fb_model.specs.Certificates.{KindWeighs}
 use Rattle.fb_cert.specs.declared.certificate.Certificate.{Certificate}
 use Rattle.fb_cert.specs.Views.{certificate_of}
-use Rattle.fb_flat.specs.declared.flat.Leaf.{Leaf}
-use Rattle.fb_flat.specs.declared.flat.FlatResource.{FlatResource}
-use Rattle.fb_flat.specs.declared.flat.FlatDevice.{FlatDevice}
-use Rattle.fb_flat.specs.Tables.{IsLeaf}
+use Rattle.fb_rows.specs.fb_flat.declared.flat.Leaf.{Leaf}
+use Rattle.fb_rows.specs.fb_flat.declared.flat.FlatResource.{FlatResource}
+use Rattle.fb_rows.specs.fb_flat.declared.flat.FlatDevice.{FlatDevice}
+use Rattle.fb_rows.specs.fb_flat.Tables.{IsLeaf}
 use Rattle.fb_columns.specs.declared.column.Column.{Column}
 use Rattle.fb_columns.specs.declared.fault.Shortfall.{Shortfall}
 use Rattle.fb_columns.specs.Columns.{column_of}

@@ -13,7 +13,9 @@ use crate::cost::{Prices, acted, at};
 use crate::fault::Shortfall;
 use crate::weights::{charge, charged, weighed, weight};
 use fb_cert::Certificate;
-use fb_flat::fb_types::fb_networks::fb_services::fb_blocks::{Action, Block, Events, Transition};
+use fb_rows::fb_flat::fb_types::fb_networks::fb_services::fb_blocks::{
+    Action, Block, Events, Transition,
+};
 use indexmap::IndexMap;
 use std::alloc::Global;
 

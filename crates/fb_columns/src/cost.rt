@@ -9,9 +9,9 @@ ghost use Rattle.fb_model.specs.Ranges.{rows, IsClearAlgorithm};
 ghost use Rattle.fb_model.specs.Clear.{cost};
 ghost use Rattle.fb_model.specs.CertificateText.{names_in};
 ghost use Rattle.fb_cert.specs.Views.{certificate_of};
-ghost use Rattle.st_types.specs.CommandViews.{commands_of};
-ghost use Rattle.fb_ranges.specs.Views.{spans_of};
-ghost use Rattle.fb_flat.specs.fb_blocks.Views.{block_of, procedures_of};
+ghost use Rattle.fb_rows.specs.st_types.CommandViews.{commands_of};
+ghost use Rattle.fb_rows.specs.fb_ranges.Views.{spans_of};
+ghost use Rattle.fb_rows.specs.fb_blocks.Views.{block_of, procedures_of};
 ghost use Rattle.fb_columns.specs.Columns.{unit_of};
 ghost use Rattle.fb_columns.specs.Fitting.{IsKnownLeaf};
 ghost use Rattle.fb_columns.specs.Paying.{IsMemory};
@@ -21,11 +21,11 @@ ghost use Rattle.fb_columns.specs.Sums.{IsSum};
 use crate::column::{Column, plus};
 use crate::fault::Shortfall;
 use fb_cert::Certificate;
-use fb_flat::fb_types::fb_networks::fb_services::fb_blocks::{Action, Block};
-use fb_ranges::{Ranges, max_steps};
 use fb_rows::block_rows;
+use fb_rows::fb_flat::fb_types::fb_networks::fb_services::fb_blocks::st_types::Algo;
+use fb_rows::fb_flat::fb_types::fb_networks::fb_services::fb_blocks::{Action, Block};
+use fb_rows::fb_ranges::{Ranges, max_steps};
 use indexmap::IndexMap;
-use st_types::Algo;
 use std::alloc::Global;
 
 /// What the algorithms of a block cost, and its event outputs, in their orders.

@@ -5,7 +5,7 @@ ghost use Rattle.fb_model.specs.Wires as book;
 ghost use Rattle.fb_model.specs.Ranges.{rows};
 ghost use Rattle.fb_model.specs.Certificates.{KindWeighs};
 ghost use Rattle.fb_cert.specs.Views.{certificate_of};
-ghost use Rattle.fb_flat.specs.Tables.{IsLeaf};
+ghost use Rattle.fb_rows.specs.fb_flat.Tables.{IsLeaf};
 ghost use Rattle.fb_columns.specs.Columns.{column_of};
 ghost use Rattle.fb_columns.specs.Fitting.{AreSmall, IsKnownLeaf, IsLeafFault};
 
@@ -16,7 +16,7 @@ use crate::fault::Shortfall;
 use crate::service::service_pays;
 use crate::weights::loads;
 use fb_cert::Certificate;
-use fb_flat::{Body, Leaf};
+use fb_rows::fb_flat::{Body, Leaf};
 use std::alloc::Global;
 
 /// The rows of a leaf pay in a column.

@@ -13,7 +13,8 @@ mod weights;
 
 pub use column::Column;
 pub use fault::Shortfall;
-pub use fb_flat;
+pub use fb_rows;
+pub use fb_rows::fb_flat;
 pub use laws::refusals_deny;
 pub use pays::column_pays;
 

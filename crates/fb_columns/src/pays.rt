@@ -4,7 +4,7 @@ ghost use Rattle.std.specs.Prelude.{IfErr, OnOk};
 ghost use Rattle.std.specs.List.{AllByRecursion, Any};
 ghost use Rattle.fb_model.specs.System.{System};
 ghost use Rattle.fb_cert.specs.Views.{certificate_of};
-ghost use Rattle.fb_flat.specs.Tables.{AreDevices};
+ghost use Rattle.fb_rows.specs.fb_flat.Tables.{AreDevices};
 ghost use Rattle.fb_columns.specs.Columns.{column_of};
 ghost use Rattle.fb_columns.specs.Tables.{LeafPays, LeafFails, ResourcePays, ResourceFails, DevicePays, DeviceFails};
 ghost use Rattle.fb_columns.specs.Fitting.{IsUnpaid, AllPay, AreKnown, AreSmall};
@@ -13,7 +13,7 @@ use crate::column::Column;
 use crate::fault::Shortfall;
 use crate::leaf::leaf_pays;
 use fb_cert::Certificate;
-use fb_flat::{Flat, FlatDevice, FlatResource, Leaf};
+use fb_rows::fb_flat::{Flat, FlatDevice, FlatResource, Leaf};
 use std::alloc::Global;
 
 // The rows of all leaves of a resource pay.

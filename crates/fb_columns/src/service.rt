@@ -4,15 +4,15 @@ ghost use Rattle.std.specs.Prelude.{◌≡◌, List, map, MatchResult};
 ghost use Rattle.std.specs.List.{AllByRecursion};
 ghost use Rattle.fb_model.specs.Names.{Name};
 ghost use Rattle.fb_model.specs.Services.{service_events};
-ghost use Rattle.fb_flat.specs.fb_services.Views.{service_of};
+ghost use Rattle.fb_rows.specs.fb_services.Views.{service_of};
 ghost use Rattle.fb_columns.specs.Paying.{IsWeight, Names, DispatchPays, OneOwes};
 
 use crate::column::{Column, plus};
 use crate::fault::Shortfall;
 use crate::weights::{loads_named, weighed, weight};
 use fb_cert::Certificate;
-use fb_flat::Output;
-use fb_flat::fb_types::fb_networks::fb_services::Service;
+use fb_rows::fb_flat::Output;
+use fb_rows::fb_flat::fb_types::fb_networks::fb_services::Service;
 use std::alloc::Global;
 
 // The weight of an event input or arrival pays for its dispatch, and for all that it can emit.

@@ -10,7 +10,7 @@ ghost use Rattle.fb_columns.specs.Paying.{IsMemory, IsCharge, IsWeight, Names, P
 use crate::column::{Column, is_within, plus};
 use crate::fault::Shortfall;
 use fb_cert::{Amount, Certificate};
-use fb_flat::{Output, Target, joined};
+use fb_rows::fb_flat::{Output, Target, joined};
 use std::alloc::Global;
 
 /// The most that a row says.

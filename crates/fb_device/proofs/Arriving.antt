@@ -1,5 +1,5 @@
 -- An arrival by numbers is one of the book's machine.
-use Rattle.std.proofs.Common.{◌≡◌, ℕ, zero, suc, ◌+◌, ◌-◌, ◌<◌, ◌≤◌, ◌^◌, Bool, true, false, cond, ◌||◌, List, [], ◌∷◌, ◌++◌, map, length, length-append, set, slice_get, Option, Some, None, eqb, eq-eqb, Vec, vec_capacity, refl, sym, ◌∙◌, ap, subst, arith, inl, inr}
+use Rattle.std.proofs.Common.{◌≡◌, ℕ, ℤ, zero, suc, ◌+◌, ◌-◌, ◌<◌, ◌≤◌, ◌^◌, Bool, true, false, cond, ◌||◌, List, [], ◌∷◌, ◌++◌, map, length, length-append, set, slice_get, Option, Some, None, eqb, eq-eqb, Vec, vec_capacity, refl, sym, ◌∙◌, ap, subst, arith, inl, inr}
 use Rattle.std.proofs.Math.Path.{fun_ext}
 use Rattle.std.specs.Prelude.{IfSome}
 use Rattle.std.specs.Option.{SomeIff}
@@ -9,11 +9,11 @@ use Rattle.std.specs.declared.alloc.Global.{Global}
 use Rattle.std.proofs.lemmas.List.{length-map, map-append, map-set}
 use Rattle.std.proofs.lemmas.List.Sums.{sum_by-cons}
 use Rattle.std.proofs.lemmas.Bool.{cond-true, cond-false, cases_eq, ne_eqb}
+use Rattle.arrayvec.specs.ArrayVec.{ArrayVec}
 use Rattle.fb_model.specs.Names.{Place, at_place}
 use Rattle.fb_model.specs.System as system
 use Rattle.fb_model.specs.System.{Device}
 use Rattle.fb_model.specs.Services.{arrive}
-use Rattle.fb_model.specs.Values.{all_in}
 use Rattle.fb_model.specs.Wires.{Leaf, leaves}
 use Rattle.fb_model.specs.Certificates.{Certificate, depth_of}
 use Rattle.fb_model.specs.Devices as book
@@ -24,21 +24,21 @@ use Rattle.fb_model.proofs.Homes.{homes}
 use Rattle.fb_model.proofs.Admitting.{sound_next}
 use Rattle.fb_model.proofs.Ending.{keeps_bounds}
 use Rattle.fb_model.proofs.Holding.{held_offer}
-use Rattle.fb_tables.specs.declared.table.Point.{Point}
-use Rattle.fb_tables.specs.declared.table.Block.{Block}
+use Rattle.fb_invoke.specs.declared.table.Point.{Point}
+use Rattle.fb_invoke.specs.declared.table.Block.{Block}
 use Rattle.fb_tables.specs.declared.table.Resource.{Resource}
 use Rattle.fb_tables.specs.Views.{place_in, place_at}
 use Rattle.fb_tables.specs.Tables.{AreBlocks, AreResources}
-use Rattle.fb_device.specs.declared.entry.Entry.{Entry}
-use Rattle.fb_device.specs.declared.entry.Spent.{Spent}
+use Rattle.fb_invoke.specs.declared.entry.Entry.{Entry}
+use Rattle.fb_device.specs.declared.spending.Spent.{Spent}
 use Rattle.fb_device.specs.declared.program.Program.{Program}
 use Rattle.fb_device.specs.declared.program.Running.{Running}
 use Rattle.fb_device.specs.Sessions.{session_of, next_of}
-use Rattle.fb_device.specs.Machines.{device_in, cert_in, entry_of, store_at, spent_in, machine, machine_of}
+use Rattle.fb_device.specs.Machines.{device_in, cert_in, entry_of, standing, store_from, spent_in, machine, machine_of}
 use Rattle.fb_device.specs.Numbers.{is_among, has_row, held_by, event_at, places_in, IsKnown}
 use Rattle.fb_device.specs.Offering.{IsArrival}
-use Rattle.fb_device.specs.Running.{IsEntry, IsQueue, causes, IsGood}
-use Rattle.fb_device.proofs.Crossing.{all_stand}
+use Rattle.fb_device.specs.Running.{AllStand, IsEntry, IsQueue, causes, IsGood}
+use Rattle.fb_invoke.proofs.Lists.{all_got}
 use Rattle.fb_device.proofs.Blocks.{Known, known, places_are, is_known, mapped}
 use Rattle.fb_device.proofs.Counting.{count, count_le, sum_set}
 use Rattle.fb_device.proofs.Queued.{pending_is, queue_here, queues_is}
@@ -137,7 +137,7 @@ sums_less f (w ∷ ws) (y ∷ ys) zero v x l h a b less =
 sums_less f (w ∷ ws) (y ∷ ys) (suc i) v x l h a b less =
     omega (arith, h 0 w y refl refl, sums_less f ws ys i v x (omega (arith, l)) (λ j w y a b. h (suc j) w y a b) a b less, sum_by-cons f w ws, sum_by-cons (λ (x : Resource). x.depth) y ys)
 
-module _ (p : Program) (r : Running) (g : IsGood p r) (q : ℕ) (point : Point) (a : IsArrival (session_of p r) q point) where
+module _ (p : Program) (r : Running) (g : IsGood p r) (q : ℕ) (point : Point) (ws : ArrayVec ℤ) (a : IsArrival (session_of p r) q point ws.items) where
   abbrev cert : Certificate
   cert = cert_in (session_of p r)
 
@@ -163,7 +163,7 @@ module _ (p : Program) (r : Running) (g : IsGood p r) (q : ℕ) (point : Point) 
   needs_is = places_are cert all p.tables.blocks.items point (known cert all p.tables.blocks.items point g.tables.blocks a.is) ∙ ap (places_row cert) place_is
 
   pub in_resources : q < length p.tables.resources.items
-  in_resources = omega (arith, a.home, resource_count cert device 0 p.tables.resources.items device.resources g.tables.resources, all_stand (λ (l : Leaf). l.home < length device.resources) all point.block a.is.leaf (homes device) a.is.block)
+  in_resources = omega (arith, a.home, resource_count cert device 0 p.tables.resources.items device.resources g.tables.resources, all_got (λ (l : Leaf). l.home < length device.resources) all point.block a.is.leaf (homes device) a.is.block)
 
   pub in_queues : q < length r.queues.items
   in_queues = omega (arith, in_resources, g.count)
@@ -202,7 +202,7 @@ module _ (p : Program) (r : Running) (g : IsGood p r) (q : ℕ) (point : Point) 
 
     -- credit
     module _ (credit : places_in (event_at p.tables.blocks.items point) + held_by (λ p'. places_in (event_at p.tables.blocks.items p')) v.items ≤ x.depth) (fresh : next_of r.next < 2 ^ 64) where
-      pub has_room : HasRoom cert device m (arriving a.is.leaf [])
+      pub has_room : HasRoom cert device m (arriving a.is.leaf ws.items)
       has_room = record {
         credit =
             (let home : held (places_row cert) (m.queues q) ≡ held (places_row cert) (m.queues a.is.leaf.home) = ap (λ k. held (places_row cert) (m.queues k)) a.home in
@@ -212,13 +212,13 @@ module _ (p : Program) (r : Running) (g : IsGood p r) (q : ℕ) (point : Point) 
       }
 
       abbrev after : Machine
-      after = admitted m (arriving a.is.leaf [])
+      after = admitted m (arriving a.is.leaf ws.items)
 
-      pub offers : (input : ℕ) → input_of device input ≡ Some a.is.leaf → Offers cert device m input [] m.next (admitted m (arriving a.is.leaf []))
-      offers input k = record { leaf = a.is.leaf; known = k; fit = ap (λ ts. all_in ts []) a.types; room = has_room; cause_is = refl; new_is = refl }
+      pub offers : (input : ℕ) → input_of device input ≡ Some a.is.leaf → Offers cert device m input ws.items m.next (admitted m (arriving a.is.leaf ws.items))
+      offers input k = record { leaf = a.is.leaf; known = k; fit = a.fit; room = has_room; cause_is = refl; new_is = refl }
 
       sound : IsSound cert device after
-      sound = sound_next cert device g.fits m (Offer a.number []) (Admitted m.next) after g.sound (offers a.number a.known)
+      sound = sound_next cert device g.fits m (Offer a.number ws.items) (Admitted m.next) after g.sound (offers a.number a.known)
 
       depth_at : (m' : Machine) → IsSound cert device m' → (j : ℕ) → length (m'.queues j) ≤ depth_of cert device j
       depth_at m' s j = (keeps_bounds cert device g.fits [] [] m' m' s refl).depth j
@@ -226,8 +226,8 @@ module _ (p : Program) (r : Running) (g : IsGood p r) (q : ℕ) (point : Point) 
       pub fits_queue : length v.items + 1 ≤ x.depth
       fits_queue =
           let deep = depth_at after sound a.is.leaf.home in
-          let here : after.queues a.is.leaf.home ≡ m.queues a.is.leaf.home ++ record { cause = m.next; opening = at_place a.is.leaf.path arrive; place = at_place a.is.leaf.path arrive; values = [] } ∷ [] = cond-true (eqb a.is.leaf.home a.is.leaf.home) _ _ (eq-eqb a.is.leaf.home a.is.leaf.home refl) in
-          let many = length-append (m.queues a.is.leaf.home) (record { cause = m.next; opening = at_place a.is.leaf.path arrive; place = at_place a.is.leaf.path arrive; values = [] } ∷ []) in
+          let here : after.queues a.is.leaf.home ≡ m.queues a.is.leaf.home ++ record { cause = m.next; opening = at_place a.is.leaf.path arrive; place = at_place a.is.leaf.path arrive; values = ws.items } ∷ [] = cond-true (eqb a.is.leaf.home a.is.leaf.home) _ _ (eq-eqb a.is.leaf.home a.is.leaf.home refl) in
+          let many = length-append (m.queues a.is.leaf.home) (record { cause = m.next; opening = at_place a.is.leaf.path arrive; place = at_place a.is.leaf.path arrive; values = ws.items } ∷ []) in
           let home : length (m.queues q) ≡ length (m.queues a.is.leaf.home) = ap (λ k. length (m.queues k)) a.home in
           let deep_is : depth_of cert device q ≡ depth_of cert device a.is.leaf.home = ap (depth_of cert device) a.home in
           omega (arith, deep, ap length here, many, home, deep_is, depth_is, ap length queue_is, length-map v.items (entry_of all))
@@ -247,36 +247,38 @@ module _ (p : Program) (r : Running) (g : IsGood p r) (q : ℕ) (point : Point) 
           let less : causes all v.items + 1 ≤ x.depth = omega (arith, count_le (map (entry_of all) v.items), length-map v.items (entry_of all), fits_queue) in
           omega (arith, g.rows, g.room, sums_less (λ (w : Vec Entry Global). causes all w.items) r.queues.items p.tables.resources.items q v x g.count each v_is x_is less)
 
-      module _ (now : Vec Entry Global) (items : now.items ≡ v.items ++ record { cause = next_of r.next; opening = point; point = point } ∷ []) (wide : vec_capacity v ≤ vec_capacity now) (new : Running) (queues : new.queues.items ≡ set r.queues.items q now)
-          (states : new.states.items ≡ r.states.items) (spent : new.spent.items ≡ r.spent.items ++ record { cause = next_of r.next; steps = 0 } ∷ []) (capacity : vec_capacity r.spent ≤ vec_capacity new.spent) (next : next_of new.next ≡ next_of r.next + 1) (in_range : IfSome new.next (λ n. n < 2 ^ 64)) where
-        mapped_items : map (entry_of all) now.items ≡ m.queues a.is.leaf.home ++ record { cause = m.next; opening = at_place a.is.leaf.path arrive; place = at_place a.is.leaf.path arrive; values = [] } ∷ []
+      module _ (now : Vec Entry Global) (items : now.items ≡ v.items ++ record { cause = next_of r.next; opening = point; point = point; values = ws } ∷ []) (wide : vec_capacity v ≤ vec_capacity now) (new : Running) (queues : new.queues.items ≡ set r.queues.items q now)
+          (owns : new.own.items ≡ r.own.items) (issues : new.issued.items ≡ r.issued.items) (states : new.states.items ≡ r.states.items) (spent : new.spent.items ≡ r.spent.items ++ record { cause = next_of r.next; steps = 0 } ∷ []) (capacity : vec_capacity r.spent ≤ vec_capacity new.spent) (next : next_of new.next ≡ next_of r.next + 1) (in_range : IfSome new.next (λ n. n < 2 ^ 64)) where
+        mapped_items : map (entry_of all) now.items ≡ m.queues a.is.leaf.home ++ record { cause = m.next; opening = at_place a.is.leaf.path arrive; place = at_place a.is.leaf.path arrive; values = ws.items } ∷ []
         mapped_items =
-            ap (map (entry_of all)) items ∙ map-append (entry_of all) v.items (record { cause = next_of r.next; opening = point; point = point } ∷ [])
-            ∙ ap (λ es. es ++ record { cause = next_of r.next; opening = place_at all point; place = place_at all point; values = [] } ∷ []) (sym queue_is ∙ ap (λ k. m.queues k) a.home)
-            ∙ ap (λ (o : Place). m.queues a.is.leaf.home ++ record { cause = next_of r.next; opening = o; place = o; values = [] } ∷ []) place_is
+            ap (map (entry_of all)) items ∙ map-append (entry_of all) v.items (record { cause = next_of r.next; opening = point; point = point; values = ws } ∷ [])
+            ∙ ap (λ es. es ++ record { cause = next_of r.next; opening = place_at all point; place = place_at all point; values = ws.items } ∷ []) (sym queue_is ∙ ap (λ k. m.queues k) a.home)
+            ∙ ap (λ (o : Place). m.queues a.is.leaf.home ++ record { cause = next_of r.next; opening = o; place = o; values = ws.items } ∷ []) place_is
 
         spent_same : spent_in (r.spent.items ++ record { cause = next_of r.next; steps = 0 } ∷ []) ≡ put m.spent m.next 0
         spent_same = fun_ext (λ d. zero_row r.spent.items (next_of r.next) d) ∙ fresh_put (spent_in r.spent.items) (next_of r.next) (g.sound.fresh (next_of r.next) (omega arith))
 
-        pub machine_is : machine_of (session_of p new) ≡ admitted m (arriving a.is.leaf [])
+        pub machine_is : machine_of (session_of p new) ≡ admitted m (arriving a.is.leaf ws.items)
         machine_is =
-            ap (λ (us : List (Vec Entry Global)). machine all (map (λ (v : Vec Entry Global). v.items) us) new.states.items new.spent.items (next_of new.next)) queues
-            ∙ ap (λ (us : List (List Entry)). machine all us new.states.items new.spent.items (next_of new.next)) (map-set (λ (v : Vec Entry Global). v.items) r.queues.items q now)
-            ∙ ap (λ ns. machine all (set lists q now.items) ns new.spent.items (next_of new.next)) states
-            ∙ ap (λ rs. machine all (set lists q now.items) r.states.items rs (next_of new.next)) spent
-            ∙ ap (λ n. machine all (set lists q now.items) r.states.items (r.spent.items ++ record { cause = next_of r.next; steps = 0 } ∷ []) n) next
-            ∙ ap (λ (f : ℕ → List book.Entry). record { queues = f; store = store_at all r.states.items; spent = spent_in (r.spent.items ++ record { cause = next_of r.next; steps = 0 } ∷ []); clock = 0; next = next_of r.next + 1 }) (queues_is all lists q v.items now.items list_is)
-            ∙ ap (λ k. record { queues = put m.queues k (map (entry_of all) now.items); store = store_at all r.states.items; spent = spent_in (r.spent.items ++ record { cause = next_of r.next; steps = 0 } ∷ []); clock = 0; next = next_of r.next + 1 }) a.home
-            ∙ ap (λ es. record { queues = put m.queues a.is.leaf.home es; store = store_at all r.states.items; spent = spent_in (r.spent.items ++ record { cause = next_of r.next; steps = 0 } ∷ []); clock = 0; next = next_of r.next + 1 }) mapped_items
-            ∙ ap (λ f. record { queues = put m.queues a.is.leaf.home (m.queues a.is.leaf.home ++ record { cause = m.next; opening = at_place a.is.leaf.path arrive; place = at_place a.is.leaf.path arrive; values = [] } ∷ []); store = store_at all r.states.items; spent = f; clock = 0; next = next_of r.next + 1 }) spent_same
+            ap (λ (us : List (Vec Entry Global)). machine all (map (λ (v : Vec Entry Global). v.items) us) (standing new.own.items new.issued.items new.states.items) new.spent.items (next_of new.next)) queues
+            ∙ ap (λ (us : List (List Entry)). machine all us (standing new.own.items new.issued.items new.states.items) new.spent.items (next_of new.next)) (map-set (λ (v : Vec Entry Global). v.items) r.queues.items q now)
+            ∙ ap (λ os. machine all (set lists q now.items) (standing os new.issued.items new.states.items) new.spent.items (next_of new.next)) owns
+            ∙ ap (λ os. machine all (set lists q now.items) (standing r.own.items os new.states.items) new.spent.items (next_of new.next)) issues
+            ∙ ap (λ ns. machine all (set lists q now.items) (standing r.own.items r.issued.items ns) new.spent.items (next_of new.next)) states
+            ∙ ap (λ rs. machine all (set lists q now.items) (standing r.own.items r.issued.items r.states.items) rs (next_of new.next)) spent
+            ∙ ap (λ n. machine all (set lists q now.items) (standing r.own.items r.issued.items r.states.items) (r.spent.items ++ record { cause = next_of r.next; steps = 0 } ∷ []) n) next
+            ∙ ap (λ (f : ℕ → List book.Entry). record { queues = f; store = store_from 0 all (standing r.own.items r.issued.items r.states.items); spent = spent_in (r.spent.items ++ record { cause = next_of r.next; steps = 0 } ∷ []); clock = 0; next = next_of r.next + 1 }) (queues_is all lists q v.items now.items list_is)
+            ∙ ap (λ k. record { queues = put m.queues k (map (entry_of all) now.items); store = store_from 0 all (standing r.own.items r.issued.items r.states.items); spent = spent_in (r.spent.items ++ record { cause = next_of r.next; steps = 0 } ∷ []); clock = 0; next = next_of r.next + 1 }) a.home
+            ∙ ap (λ es. record { queues = put m.queues a.is.leaf.home es; store = store_from 0 all (standing r.own.items r.issued.items r.states.items); spent = spent_in (r.spent.items ++ record { cause = next_of r.next; steps = 0 } ∷ []); clock = 0; next = next_of r.next + 1 }) mapped_items
+            ∙ ap (λ f. record { queues = put m.queues a.is.leaf.home (m.queues a.is.leaf.home ++ record { cause = m.next; opening = at_place a.is.leaf.path arrive; place = at_place a.is.leaf.path arrive; values = ws.items } ∷ []); store = store_from 0 all (standing r.own.items r.issued.items r.states.items); spent = f; clock = 0; next = next_of r.next + 1 }) spent_same
 
-        pub happens_so : (input : ℕ) → input_of device input ≡ Some a.is.leaf → Offers cert device m input [] m.next (machine_of (session_of p new))
-        happens_so input k = subst (Offers cert device m input [] m.next) (sym machine_is) (offers input k)
+        pub happens_so : (input : ℕ) → input_of device input ≡ Some a.is.leaf → Offers cert device m input ws.items m.next (machine_of (session_of p new))
+        happens_so input k = subst (Offers cert device m input ws.items m.next) (sym machine_is) (offers input k)
 
         known_now : AllByRecursion (IsEntry all (r.spent.items ++ record { cause = next_of r.next; steps = 0 } ∷ [])) now.items
         known_now =
             subst (AllByRecursion (IsEntry all (r.spent.items ++ record { cause = next_of r.next; steps = 0 } ∷ []))) (sym items)
-            (all_append (IsEntry all (r.spent.items ++ record { cause = next_of r.next; steps = 0 } ∷ [])) v.items (record { cause = next_of r.next; opening = point; point = point } ∷ []) (entries_more all r.spent.items (next_of r.next) v.items (g.queues q v v_is).entries)
+            (all_append (IsEntry all (r.spent.items ++ record { cause = next_of r.next; steps = 0 } ∷ [])) v.items (record { cause = next_of r.next; opening = point; point = point; values = ws } ∷ []) (entries_more all r.spent.items (next_of r.next) v.items (g.queues q v v_is).entries)
             (record { opening = a.is; point = a.is; row = row_own r.spent.items (next_of r.next) }, tt))
 
         queue_kept : (j : ℕ) (w : Vec Entry Global) → slice_get (set r.queues.items q now) j ≡ Some w → IsQueue cert device (r.spent.items ++ record { cause = next_of r.next; steps = 0 } ∷ []) j w
@@ -295,16 +297,17 @@ module _ (p : Program) (r : Running) (g : IsGood p r) (q : ℕ) (point : Point) 
         rows_kept =
             let sums = sum_set (λ (w : Vec Entry Global). causes all w.items) r.queues.items q v now v_is in
             let more : causes all now.items ≡ causes all v.items + 1 =
-            ap (λ es. count (map (entry_of all) es)) items ∙ ap count (map-append (entry_of all) v.items (record { cause = next_of r.next; opening = point; point = point } ∷ []))
-            ∙ held_offer (λ p'. 1) (map (entry_of all) v.items) (record { cause = next_of r.next; opening = place_at all point; place = place_at all point; values = [] }) smaller in
+            ap (λ es. count (map (entry_of all) es)) items ∙ ap count (map-append (entry_of all) v.items (record { cause = next_of r.next; opening = point; point = point; values = ws } ∷ []))
+            ∙ held_offer (λ p'. 1) (map (entry_of all) v.items) (record { cause = next_of r.next; opening = place_at all point; place = place_at all point; values = ws.items }) smaller in
             omega (arith, sums, more, g.rows, length-append r.spent.items (record { cause = next_of r.next; steps = 0 } ∷ []))
 
         pub good_so : IsGood p new
         good_so = record {
+          checked = g.checked;
           fits = g.fits;
           tables = g.tables;
           sound = subst (IsSound cert device) (sym machine_is) sound;
-          states = subst (Rattle.fb_device.specs.Running.AreStates all) (sym states) g.states;
+          stand = subst (λ ns. AllStand all new.own.items new.issued.items ns) (sym states) (subst (λ xs. AllStand all new.own.items xs r.states.items) (sym issues) (subst (λ xs. AllStand all xs r.issued.items r.states.items) (sym owns) g.stand));
           count = ap length queues ∙ set_count r.queues.items q now ∙ g.count;
           queues = λ j w h. subst (λ rs. IsQueue cert device rs j w) (sym spent) (queue_kept j w (ap (λ vs. slice_get vs j) (sym queues) ∙ h));
           rows = omega (arith, ap length spent, rows_kept, ap (sum_by (λ (w : Vec Entry Global). causes all w.items)) queues);

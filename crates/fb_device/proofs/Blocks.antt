@@ -8,13 +8,15 @@ use Rattle.fb_model.specs.Wires.{Leaf, leaf_at}
 use Rattle.fb_model.specs.Certificates.{Certificate, events_of, has_event, is_input, IsWired}
 use Rattle.fb_model.specs.Devices.{steps_row, places_row}
 use Rattle.fb_model.proofs.Placed.{name_same}
-use Rattle.fb_tables.specs.declared.table.Point.{Point}
-use Rattle.fb_tables.specs.declared.table.Event.{Event}
-use Rattle.fb_tables.specs.declared.table.Block.{Block}
-use Rattle.fb_tables.specs.Views.{named, place_in, place_at, event_names}
+use Rattle.fb_invoke.specs.declared.table.Point.{Point}
+use Rattle.fb_invoke.specs.declared.table.Event.{Event}
+use Rattle.fb_invoke.specs.declared.table.Block.{Block}
+use Rattle.fb_invoke.specs.Views.{named, event_names}
+use Rattle.fb_tables.specs.Views.{place_in, place_at}
 use Rattle.fb_tables.specs.Tables.{IsPoint, IsWeighed, IsBlock, AreBlocks}
-use Rattle.fb_device.specs.Numbers.{event_at, places_in, steps_in, IsKnown}
-use Rattle.fb_device.proofs.Crossing.{all_stand}
+use Rattle.fb_invoke.specs.Turning.{steps_in}
+use Rattle.fb_device.specs.Numbers.{event_at, places_in, IsKnown}
+use Rattle.fb_invoke.proofs.Lists.{all_got}
 
 -- a block and its leaf have one number
 pub record Pair (cert : Certificate) (all : List Leaf) (xs : List Block) (i : ℕ) (leaf : Leaf) : Type 0 where
@@ -55,7 +57,7 @@ mapped f [] i x h = cc
 mapped f (y ∷ ys) zero x h = (let e : y ≡ x = cc in ap (λ z. Some (f z)) e)
 mapped f (y ∷ ys) (suc i) x h = mapped f ys i x h
 
-named_is : (names : List Name) (i : ℕ) (n : Name) → slice_get names i ≡ Some n → named names i ≡ n
+pub named_is : (names : List Name) (i : ℕ) (n : Name) → slice_get names i ≡ Some n → named names i ≡ n
 named_is names i n h = ap (λ (o : Option Name). elim o [ None ↦ [] | Some x ↦ x ]) h
 
 is_in_at : (names : List Name) (i : ℕ) (n : Name) → slice_get names i ≡ Some n → is_in n names ≡ true
@@ -81,46 +83,54 @@ pub record Known (cert : Certificate) (all : List Leaf) (xs : List Block) (p : P
   pub place_is : place_at all p ≡ at_place leaf.path (string_bytes event.name)
   pub name_is : named (events_of leaf.kind) p.event ≡ string_bytes event.name
 
+pub events_same : (cert : Certificate) (all : List Leaf) (x : Block) (leaf : Leaf) → IsBlock cert all x leaf → event_names x ≡ events_of leaf.kind
+events_same cert all x leaf is = is.table.events ∙ ap events_of is.kind
+
+-- a point whose block and event stand in the tables
+abbrev pub known_of : (cert : Certificate) (all : List Leaf) (xs : List Block) (p : Point) (leaf : Leaf) (x : Block) (e : Event) → slice_get all p.block ≡ Some leaf → slice_get xs p.block ≡ Some x → slice_get x.events.items p.event ≡ Some e → IsBlock cert all x leaf → Known cert all xs p
+known_of cert all xs p leaf x e leaf_stands block_stands event_stands is =
+    let name : named (events_of leaf.kind) p.event ≡ string_bytes e.name =
+    ap (λ ns. named ns p.event) (sym (events_same cert all x leaf is)) ∙ named_is (event_names x) p.event (string_bytes e.name) (mapped (λ (v : Event). string_bytes v.name) x.events.items p.event e event_stands) in
+    record {
+      leaf = leaf;
+      block = x;
+      event = e;
+      leaf_stands = leaf_stands;
+      block_stands = block_stands;
+      event_stands = event_stands;
+      is = is;
+      place_is = ap (λ o. place_in o p.event) leaf_stands ∙ ap (at_place leaf.path) name;
+      name_is = name;
+    }
+
 pub known : (cert : Certificate) (all : List Leaf) (xs : List Block) (p : Point) → AreBlocks cert all xs all → IsPoint all p → Known cert all xs p
 known cert all xs p a i =
     let k : Pair cert all xs p.block i.leaf = block_of cert all xs all p.block i.leaf a i.block in
-    let few : p.event < length k.block.events.items = omega (arith, i.event, ap length k.is.events, length-map k.block.events.items (λ (e : Event). string_bytes e.name)) in
+    let few : p.event < length k.block.events.items = omega (arith, i.event, ap length (events_same cert all k.block i.leaf k.is), length-map k.block.events.items (λ (e : Event). string_bytes e.name)) in
     let e = standing k.block.events.items p.event few in
-    let name : named (events_of i.leaf.kind) p.event ≡ string_bytes e.0.name =
-    ap (λ ns. named ns p.event) (sym k.is.events) ∙ named_is (event_names k.block) p.event (string_bytes e.0.name) (mapped (λ (e : Event). string_bytes e.name) k.block.events.items p.event e.0 e.1) in
-    record {
-      leaf = i.leaf;
-      block = k.block;
-      event = e.0;
-      leaf_stands = i.block;
-      block_stands = k.stands;
-      event_stands = e.1;
-      is = k.is;
-      place_is = ap (λ o. place_in o p.event) i.block ∙ ap (at_place i.leaf.path) name;
-      name_is = name;
-    }
+    known_of cert all xs p i.leaf k.block e.0 i.block k.stands e.1 k.is
 
 module _ (cert : Certificate) (all : List Leaf) (xs : List Block) (p : Point) (k : Known cert all xs p) where
   pub event_is : event_at xs p ≡ Some k.event
   event_is = ap (λ (o : Option Block). elim o [ None ↦ None | Some x ↦ slice_get x.events.items p.event ]) k.block_stands ∙ k.event_stands
 
   pub steps_are : steps_in (event_at xs p) ≡ steps_row cert (place_at all p)
-  steps_are = ap steps_in event_is ∙ (all_stand (IsWeighed cert k.leaf.path) k.block.events.items p.event k.event k.is.weights k.event_stands).steps ∙ ap (steps_row cert) (sym k.place_is)
+  steps_are = ap steps_in event_is ∙ (all_got (IsWeighed cert k.leaf.path) k.block.events.items p.event k.event k.is.weights k.event_stands).steps ∙ ap (steps_row cert) (sym k.place_is)
 
   pub places_are : places_in (event_at xs p) ≡ places_row cert (place_at all p)
-  places_are = ap places_in event_is ∙ (all_stand (IsWeighed cert k.leaf.path) k.block.events.items p.event k.event k.is.weights k.event_stands).places ∙ ap (places_row cert) (sym k.place_is)
+  places_are = ap places_in event_is ∙ (all_got (IsWeighed cert k.leaf.path) k.block.events.items p.event k.event k.is.weights k.event_stands).places ∙ ap (places_row cert) (sym k.place_is)
 
   pub is_known : IsKnown xs p
   is_known = (k.block, k.block_stands, within k.block.events.items p.event k.event k.event_stands)
 
   -- its leaf is found by its path
   pub found : AllByRecursion (IsWired all) all → leaf_at all (place_at all p).path ≡ Some k.leaf
-  found w = ap (λ (q : Place). leaf_at all q.path) k.place_is ∙ (all_stand (IsWired all) all p.block k.leaf w k.leaf_stands).found
+  found w = ap (λ (q : Place). leaf_at all q.path) k.place_is ∙ (all_got (IsWired all) all p.block k.leaf w k.leaf_stands).found
 
   pub listed : is_in (place_at all p).event (events_of k.leaf.kind) ≡ true
   listed =
       ap (λ (q : Place). is_in q.event (events_of k.leaf.kind)) k.place_is
-      ∙ subst (λ ns. is_in (string_bytes k.event.name) ns ≡ true) k.is.events (is_in_at (event_names k.block) p.event (string_bytes k.event.name) (mapped (λ (e : Event). string_bytes e.name) k.block.events.items p.event k.event k.event_stands))
+      ∙ subst (λ ns. is_in (string_bytes k.event.name) ns ≡ true) (events_same cert all k.block k.leaf k.is) (is_in_at (event_names k.block) p.event (string_bytes k.event.name) (mapped (λ (e : Event). string_bytes e.name) k.block.events.items p.event k.event k.event_stands))
 
   pub input_is : AllByRecursion (IsWired all) all → is_input all (place_at all p) ≡ true
   input_is w = ap (λ (o : Option Leaf). has_event o (place_at all p).event) (found w) ∙ listed

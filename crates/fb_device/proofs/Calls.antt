@@ -1,19 +1,14 @@
 -- What a dispatch reads is what the fields hold.
 use Rattle.std.proofs.Common.{◌≡◌, ℕ, zero, suc, ◌<◌, ◌≤◌, List, [], ◌∷◌, map, length, set, slice_get, Some, Vec, vec_capacity, refl, ◌∙◌, ap, subst}
 use Rattle.std.specs.declared.alloc.Global.{Global}
-use Rattle.fb_device.specs.declared.entry.Entry.{Entry}
+use Rattle.fb_invoke.specs.declared.entry.Entry.{Entry}
 use Rattle.fb_device.specs.Taking.{IsTaken}
 use Rattle.fb_device.specs.Machines.{queue_at}
-use Rattle.fb_device.proofs.Lists.{same_at}
+use Rattle.fb_device.proofs.Lists.{same_at, set_stands}
 use Rattle.fb_device.proofs.Blocks.{within}
 
-pub set_stands : {X : Type 0} (xs : List X) (i : ℕ) (x y : X) → slice_get xs i ≡ Some x → slice_get (set xs i y) i ≡ Some y
-set_stands [] i x y h = cc
-set_stands (z ∷ zs) zero x y h = refl
-set_stands (z ∷ zs) (suc i) x y h = set_stands zs i x y h
-
 module _ (old : List (Vec Entry Global)) (q : ℕ) (first : Entry) (new : List (Vec Entry Global)) (t : IsTaken old q first new) where
-  left_stands : slice_get new q ≡ Some t.left
+  pub left_stands : slice_get new q ≡ Some t.left
   left_stands = ap (λ vs. slice_get vs q) t.new_is ∙ set_stands old q t.was t.left t.stands
 
   left_same : (left : Vec Entry Global) → slice_get new q ≡ Some left → t.left ≡ left

@@ -8,15 +8,15 @@ use Rattle.fb_model.specs.System.{Device}
 use Rattle.fb_model.specs.Wires.{Leaf}
 use Rattle.fb_model.specs.Certificates.{Certificate, events_of}
 use Rattle.fb_tables.specs.fb_check.Lookups.{is_same_path}
-use Rattle.fb_tables.specs.declared.table.Block.{Block}
-use Rattle.fb_tables.specs.declared.table.Event.{Event}
+use Rattle.fb_invoke.specs.declared.table.Block.{Block}
+use Rattle.fb_invoke.specs.declared.table.Event.{Event}
 use Rattle.fb_tables.specs.declared.table.Resource.{Resource}
 use Rattle.fb_tables.specs.Tables.{AreBlocks, AreResources}
 use Rattle.fb_device.specs.Answers.{IsNamed, IsNoPoint, IsNumberOf, IsNoNumber}
 use Rattle.fb_device.specs.Offering.{later}
 use Rattle.fb_device.specs.Finding.{first_named}
 use Rattle.fb_device.proofs.Lists.{same_at}
-use Rattle.fb_device.proofs.Blocks.{leaf_of, block_count, within, mapped}
+use Rattle.fb_device.proofs.Blocks.{leaf_of, block_count, within, mapped, events_same}
 
 -- none has the name
 pub none_named : (xs : List (List ℕ)) (name : List ℕ) → first_named xs name ≡ None → AllByRecursion (λ x. is_same_path x name ≡ false) xs
@@ -86,7 +86,7 @@ pub no_event : (cert : Certificate) (all : List Leaf) (xs : List Block) (block e
 no_event cert all xs block event x a s h = λ leaf at.
     let q = leaf_of cert all xs all block x a s in
     let same : leaf ≡ q.0 = same_at all block leaf q.0 at q.1 in
-    none_at (events_of leaf.kind) event (omega (arith, h, ap length q.2.events, length-map x.events.items (λ (e : Event). string_bytes e.name), ap (λ (l : Leaf). length (events_of l.kind)) same))
+    none_at (events_of leaf.kind) event (omega (arith, h, ap length (events_same cert all x q.0 q.2), length-map x.events.items (λ (e : Event). string_bytes e.name), ap (λ (l : Leaf). length (events_of l.kind)) same))
 
 pub named_so : (cert : Certificate) (all : List Leaf) (xs : List Block) (block event : ℕ) (x : Block) (e : Event) (path name : List ℕ) → AreBlocks cert all xs all → slice_get xs block ≡ Some x → slice_get x.events.items event ≡ Some e
     → path ≡ string_bytes x.path → name ≡ string_bytes e.name → IsNamed all block event path name
@@ -96,5 +96,5 @@ named_so cert all xs block event x e path name a s t p n =
       leaf = q.0;
       block_is = q.1;
       path_is = ap Rattle.fb_model.specs.CertificateText.names_in p ∙ q.2.path;
-      name_is = ap (λ ns. slice_get ns event) (sym q.2.events) ∙ mapped (λ (e : Event). string_bytes e.name) x.events.items event e t ∙ ap Some (sym n);
+      name_is = ap (λ ns. slice_get ns event) (sym (events_same cert all x q.0 q.2)) ∙ mapped (λ (e : Event). string_bytes e.name) x.events.items event e t ∙ ap Some (sym n);
     }

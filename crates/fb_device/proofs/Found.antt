@@ -22,7 +22,7 @@ use Rattle.fb_device.specs.Loads.{IsLoaded, IsLoadFault, IsThere, AllRun, IsUnru
 use Rattle.fb_device.specs.Finding.{first_named}
 use Rattle.fb_tables.proofs.of_fb_blocks.Faultless.{any_all}
 use Rattle.fb_device.proofs.Lists.{same_at}
-use Rattle.fb_device.proofs.Crossing.{all_stand}
+use Rattle.fb_invoke.proofs.Lists.{all_got}
 use Rattle.fb_device.proofs.Finding.{none_named, one_named, unmapped, all_unmapped}
 
 -- names of devices, in the code and in the book
@@ -109,11 +109,11 @@ fault_so beforehand text certificate name v (Checked (checks.Weight x)) t h = ab
 fault_so beforehand text certificate name v (Checked (checks.Depth x)) t h = absurd h
 
 none_there : (ds : List Device) (name : List ℕ) (k : ℕ) (d : Device) → AllByRecursion (λ (d : Device). is_same_path d.name name ≡ false) ds → slice_get ds k ≡ Some d → is_same_path d.name name ≡ true → ⊥
-none_there ds name k d a h t = (let f = all_stand (λ (d : Device). is_same_path d.name name ≡ false) ds k d a h in let g : true ≡ false = sym t ∙ f in absurd cc)
+none_there ds name k d a h t = (let f = all_got (λ (d : Device). is_same_path d.name name ≡ false) ds k d a h in let g : true ≡ false = sym t ∙ f in absurd cc)
 
 -- what runs is not beyond what devices run
 none_unrun : (ds : List Device) (k : ℕ) (d : Device) (path : String Global) → AllByRecursion (λ (e : Device). AllByRecursion (λ (leaf : Leaf). CanRun leaf.kind) (leaves e)) ds → slice_get ds k ≡ Some d → IsUnrun d path → ⊥
-none_unrun ds k d path a e h = any_all (λ leaf p q. p.1 q) (leaves d) h (all_stand (λ (c : Device). AllByRecursion (λ (leaf : Leaf). CanRun leaf.kind) (leaves c)) ds k d a e)
+none_unrun ds k d path a e h = any_all (λ leaf p q. p.1 q) (leaves d) h (all_got (λ (c : Device). AllByRecursion (λ (leaf : Leaf). CanRun leaf.kind) (leaves c)) ds k d a e)
 
 pub memory_so : (v : Verified) (name : List ℕ) (f : Refusal) → IsThere (system_in v) name × AllRun (system_in v) → IsMissing v name f → f ≡ no_memory
 memory_so v name (Checked checks.OutOfMemory) t h = refl

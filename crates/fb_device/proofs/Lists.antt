@@ -1,9 +1,8 @@
 -- Elements of lists, by their places.
-use Rattle.std.proofs.Common.{◌≡◌, ℕ, zero, suc, ◌<◌, List, [], ◌∷◌, ◌++◌, length, take, drop, get_or, set, slice_get, Some, eqb, eq-eqb, refl, sym, ◌∙◌, ap, arith}
+use Rattle.std.proofs.Common.{◌≡◌, ℕ, zero, suc, ◌<◌, List, [], ◌∷◌, ◌++◌, length, take, drop, get_or, set, slice_get, Some, eqb, eq-eqb, refl, sym, ◌∙◌, ap, subst, arith}
 use Rattle.std.specs.List.{AllByRecursion}
 use Rattle.std.proofs.lemmas.Bool.{cond-true}
-use Rattle.std.proofs.lemmas.Option.{slice_get-get_or}
-use Rattle.fb_device.specs.declared.entry.Spent.{Spent}
+use Rattle.fb_device.specs.declared.spending.Spent.{Spent}
 use Rattle.fb_device.specs.Numbers.{with_steps}
 
 -- what holds of all holds at a place
@@ -27,10 +26,19 @@ pub empty_list : {X : Type 0} (xs : List X) → length xs ≡ 0 → xs ≡ []
 empty_list [] h = refl
 empty_list (x ∷ xs) h = absurd (omega (arith, h))
 
--- the element at a place
-pub stands_at : {X : Type 0} (xs : List X) (i : ℕ) (x d : X) → i < length xs → x ≡ get_or xs i d → slice_get xs i ≡ Some x
-stands_at xs i x d l h = slice_get-get_or xs i d l ∙ ap Some (sym h)
-
 -- it is one
 pub same_at : {X : Type 0} (xs : List X) (i : ℕ) (x y : X) → slice_get xs i ≡ Some x → slice_get xs i ≡ Some y → x ≡ y
 same_at xs i x y a b = let e : Some x ≡ Some y = sym a ∙ b in cc
+
+-- an element that was set, and the others
+pub set_stands : {X : Type 0} (xs : List X) (i : ℕ) (x y : X) → slice_get xs i ≡ Some x → slice_get (set xs i y) i ≡ Some y
+set_stands [] i x y h = cc
+set_stands (z ∷ zs) zero x y h = refl
+set_stands (z ∷ zs) (suc i) x y h = set_stands zs i x y h
+
+pub get_other : {X : Type 0} (xs : List X) (i j : ℕ) (y : X) → (i ≡ j → ⊥) → slice_get (set xs i y) j ≡ slice_get xs j
+get_other [] i j y n = refl
+get_other (x ∷ xs) zero zero y n = absurd (n refl)
+get_other (x ∷ xs) zero (suc j) y n = refl
+get_other (x ∷ xs) (suc i) zero y n = refl
+get_other (x ∷ xs) (suc i) (suc j) y n = get_other xs i j y (λ e. n (ap suc e))

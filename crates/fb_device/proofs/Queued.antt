@@ -6,11 +6,12 @@ use Rattle.std.proofs.lemmas.List.{map-append}
 use Rattle.fb_model.specs.Names.{Place}
 use Rattle.fb_model.specs.Wires.{Leaf}
 use Rattle.fb_model.specs.Devices.{put, is_pending, follow_ups}
-use Rattle.fb_tables.specs.declared.table.Point.{Point}
+use Rattle.fb_invoke.specs.declared.table.Point.{Point}
 use Rattle.fb_tables.specs.Views.{place_at}
-use Rattle.fb_device.specs.declared.entry.Entry.{Entry}
+use Rattle.fb_invoke.specs.declared.entry.Entry.{Entry}
 use Rattle.fb_device.specs.Machines.{entry_of, queue_at}
-use Rattle.fb_device.specs.Numbers.{follow, is_among}
+use Rattle.fb_invoke.specs.Sending.{follow}
+use Rattle.fb_device.specs.Numbers.{is_among}
 
 pub pending_is : (all : List Leaf) (c : ℕ) (es : List Entry) → is_pending c (map (entry_of all) es) ≡ is_among c es
 pending_is all c [] = refl

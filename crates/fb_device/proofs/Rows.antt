@@ -3,7 +3,7 @@ use Rattle.std.proofs.Common.{◌≡◌, ℕ, zero, ◌+◌, ◌≤◌, Bool, tr
 use Rattle.std.proofs.Math.Path.{fun_ext}
 use Rattle.std.proofs.lemmas.Bool.{cond-true, cond-false, cases_eq, ne_eqb}
 use Rattle.fb_model.specs.Devices.{put}
-use Rattle.fb_device.specs.declared.entry.Spent.{Spent}
+use Rattle.fb_device.specs.declared.spending.Spent.{Spent}
 use Rattle.fb_device.specs.Machines.{spent_in}
 use Rattle.fb_device.specs.Numbers.{has_row, with_steps, without}
 

@@ -10,6 +10,7 @@ use Rattle.fb_model.specs.Devices as book
 use Rattle.fb_model.specs.Devices.{Machine, steps_row, is_pending}
 use Rattle.fb_model.specs.Headline.{IsOpen}
 use Rattle.fb_tables.specs.fb_check.Lookups.{is_same_path}
+use Rattle.fb_invoke.specs.Turning.{effect_of}
 use Rattle.fb_tables.specs.Views.{place_at}
 use Rattle.fb_tables.specs.Tables.{IsPoint}
 use Rattle.fb_device.specs.declared.answer.Denied.{Denied}
@@ -36,7 +37,7 @@ admission_of (Err why) = book.Denied (denial_of why)
 
 abbrev pub turned_of : List Leaf → Turned → book.Answer
 turned_of all Idle = book.Idle
-turned_of all (Ran r) = book.Ran r.cause (place_at all (record { block = r.block; event = r.event })) r.steps None (option_map (λ (e : Ended). (e.total, e.bound)) r.ended)
+turned_of all (Ran r) = book.Ran r.cause (place_at all (record { block = r.block; event = r.event })) r.steps (effect_of r.written) (option_map (λ (e : Ended). (e.total, e.bound)) r.ended)
 
 abbrev pub answer_of : List Leaf → Answer → book.Answer
 answer_of all (Admitted answer) = admission_of answer

@@ -1,8 +1,9 @@
 -- What contracts see of a device: what was checked, and how far the device has come, in lists.
 use Rattle.std.specs.Prelude.{ℕ, ◌^◌, List, map, Option, None, Some}
+use Rattle.fb_invoke.specs.st_exec.Cells.{Cell}
+use Rattle.fb_invoke.specs.declared.entry.Entry.{Entry}
 use Rattle.fb_tables.specs.fb_check.declared.verified.Verified.{Verified}
-use Rattle.fb_device.specs.declared.entry.Entry.{Entry}
-use Rattle.fb_device.specs.declared.entry.Spent.{Spent}
+use Rattle.fb_device.specs.declared.spending.Spent.{Spent}
 use Rattle.fb_device.specs.declared.program.Program.{Program}
 use Rattle.fb_device.specs.declared.program.Running.{Running}
 
@@ -10,9 +11,13 @@ pub record Session : Type 0 where
   pub verified : Verified
   -- the number of the device in it
   pub number : ℕ
-  -- the pending entries of each resource, the number of each leaf's state, and the steps so far of causes
+  -- the pending entries of each resource
   pub queues : List (List Entry)
+  -- of each leaf the working values, the issued outputs and the number of its state
+  pub own : List (List Cell)
+  pub issued : List (List Cell)
   pub states : List ℕ
+  -- the steps so far of causes
   pub spent : List Spent
   pub next : ℕ
 
@@ -27,6 +32,8 @@ session_of p r =
       verified = p.verified;
       number = p.number;
       queues = map (λ q. q.items) r.queues.items;
+      own = r.own.items;
+      issued = r.issued.items;
       states = r.states.items;
       spent = r.spent.items;
       next = next_of r.next;

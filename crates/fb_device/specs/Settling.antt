@@ -1,7 +1,7 @@
 -- What a dispatch notes of its cause.
 use Rattle.std.specs.Prelude.{ℕ, ◌≡◌, ◌+◌, List, Option, None, Some, if◌then◌else◌}
-use Rattle.fb_device.specs.declared.entry.Entry.{Entry}
-use Rattle.fb_device.specs.declared.entry.Spent.{Spent}
+use Rattle.fb_invoke.specs.declared.entry.Entry.{Entry}
+use Rattle.fb_device.specs.declared.spending.Spent.{Spent}
 use Rattle.fb_device.specs.declared.answer.Ended.{Ended}
 use Rattle.fb_device.specs.Machines.{spent_in}
 use Rattle.fb_device.specs.Numbers.{is_among, with_steps, without}

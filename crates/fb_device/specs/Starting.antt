@@ -4,7 +4,8 @@ use Rattle.std.specs.List.{sum_by}
 use Rattle.std.specs.declared.alloc.Global.{Global}
 use Rattle.fb_tables.specs.declared.table.Resource.{Resource}
 use Rattle.fb_tables.specs.declared.table.Tables.{Tables}
-use Rattle.fb_device.specs.declared.entry.Entry.{Entry}
+use Rattle.fb_first.specs.declared.first.FirstValues.{FirstValues}
+use Rattle.fb_invoke.specs.declared.entry.Entry.{Entry}
 use Rattle.fb_device.specs.declared.program.Running.{Running}
 
 -- an empty queue for each resource, with room for its depth
@@ -14,7 +15,9 @@ AreEmpty (x ∷ xs) (v ∷ vs) = (v.items ≡ []) × (x.depth ≤ vec_capacity v
 AreEmpty [] (v ∷ vs) = ⊥
 AreEmpty (x ∷ xs) [] = ⊥
 
-pub record IsAtRest (t : Tables) (r : Running) : Type 0 where
+pub record IsAtRest (t : Tables) (first : FirstValues) (r : Running) : Type 0 where
+  pub own : r.own ≡ first.own
+  pub issued : r.issued ≡ first.issued
   pub queues : AreEmpty t.resources.items r.queues.items
   pub states : r.states.items ≡ replicate (length t.blocks.items) 0
   pub spent : r.spent.items ≡ []

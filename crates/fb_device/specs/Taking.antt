@@ -1,7 +1,7 @@
 -- Taking the first entry of a queue.
 use Rattle.std.specs.Prelude.{ℕ, ◌≡◌, ◌≤◌, List, [], ◌∷◌, Some, slice_get, set, Vec, vec_capacity}
 use Rattle.std.specs.declared.alloc.Global.{Global}
-use Rattle.fb_device.specs.declared.entry.Entry.{Entry}
+use Rattle.fb_invoke.specs.declared.entry.Entry.{Entry}
 
 -- the queue of the resource is empty, or there is no such resource; nothing changes
 pub record IsIdle (old : List (Vec Entry Global)) (q : ℕ) (new : List (Vec Entry Global)) : Type 0 where

@@ -2,6 +2,8 @@
 
 ghost use Rattle.std.specs.Prelude.{◌≡◌};
 
+use fb_invoke::Written;
+
 /// Why an offer is refused.
 #[derive(Clone, Copy, Debug, PartialEq, Eq)]
 pub enum Denied {
@@ -24,18 +26,20 @@ pub struct Ended {
     pub bound: u64,
 }
 
-/// One dispatch: the cause of the entry, its block and event by number, the steps, and the end of the cause where none of its entries is left.
-#[derive(Clone, Copy, Debug, PartialEq, Eq)]
+/// One dispatch: the cause of the entry, its block and event by number, the steps, what an OUTPUT has written, and the end of the cause where
+/// none of its entries is left.
+#[derive(Debug, Drop)]
 pub struct Ran {
     pub cause: u64,
     pub block: u16,
     pub event: u16,
     pub steps: u64,
+    pub written: Option<Written>,
     pub ended: Option<Ended>,
 }
 
 /// What a dispatch answers.
-#[derive(Clone, Copy, Debug, PartialEq, Eq)]
+#[derive(Debug, Drop)]
 pub enum Turned {
     /// Nothing is pending, or there is no such resource.
     Idle,
@@ -60,7 +64,7 @@ pub enum Step {
 }
 
 /// What a call answered.
-#[derive(Clone, Copy, Debug, PartialEq, Eq)]
+#[derive(Debug, Drop)]
 pub enum Answer {
     /// The cause that an offer opened, or why it was refused.
     Admitted(Result<u64, Denied>),

@@ -8,13 +8,13 @@ ghost use Rattle.fb_device.specs.Machines.{device_in, cert_in, machine_of, spent
 ghost use Rattle.fb_device.specs.Answers.{turned_of, HasPoint};
 ghost use Rattle.fb_device.specs.Running.{IsGood};
 ghost use Rattle.fb_device.specs.Settling.{HasSettled};
+ghost use Rattle.fb_device.specs.Turning.{CanTurn, HasTurned};
 
 use crate::answer::{Ended, Ran, Turned};
-use crate::chart::run_block;
-use crate::entry::{Entry, Spent};
 use crate::program::{Program, Running};
 use crate::queue::{is_pending, steps_at, take};
-use crate::spending::{forget, set_steps, steps_so_far};
+use crate::spending::{Spent, forget, set_steps, steps_so_far};
+use fb_invoke::{Block, Entry, Invoked, run, sample};
 
 // Notes the steps of a cause, and whether it has ended.
 fn settle(
@@ -37,6 +37,28 @@ fn settle(
     Some(Ended { total, bound })
 }
 
+// Samples the inputs of an entry's block, and runs the block to its end.
+fn turn(blocks: &[Block], running: &mut Running, resource: usize, first: &Entry) -> Invoked
+    requires { CanTurn blocks.now running.old resource first.now }
+    ensures { HasTurned blocks.now running.old resource first.now running.new result }
+{
+    let at = first.point.block as usize;
+    let block = &blocks[at];
+    let event = &block.events[first.point.event as usize];
+    sample(&event.takes, &running.issued, &mut running.own[at]);
+    let ran = run(
+        block,
+        &mut running.own[at],
+        &mut running.issued[at],
+        running.states[at],
+        first,
+        event.steps,
+        &mut running.queues[resource],
+    );
+    running.states[at] = ran.state;
+    ran
+}
+
 /// Takes the first entry of a resource, and runs its block to its end.
 pub fn dispatch(program: &Program, running: &mut Running, resource: usize) -> Turned
     requires { IsGood program.now running.old }
@@ -48,23 +70,21 @@ pub fn dispatch(program: &Program, running: &mut Running, resource: usize) -> Tu
     let Some(first) = take(&mut running.queues, resource) else {
         return Turned::Idle;
     };
-    let at = first.point.block as usize;
-    let before = running.states[at];
-    let (after, steps) = run_block(&blocks[at], before, first, &mut running.queues[resource]);
-    running.states[at] = after;
+    let ran = turn(blocks, running, resource, &first);
     let bound = steps_at(blocks, first.opening);
     let ended = settle(
         &running.queues[resource],
         &mut running.spent,
         first.cause,
-        steps,
+        ran.steps,
         bound,
     );
     Turned::Ran(Ran {
         cause: first.cause,
         block: first.point.block,
         event: first.point.event,
-        steps,
+        steps: ran.steps,
+        written: ran.written,
         ended,
     })
 }

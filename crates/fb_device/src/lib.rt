@@ -2,10 +2,8 @@
 #![tactic(auto)]
 
 mod answer;
-mod chart;
 mod device;
 mod dispatch;
-mod entry;
 mod loading;
 mod names;
 mod offer;
@@ -18,6 +16,8 @@ mod tests;
 
 pub use answer::{Answer, Denied, Ended, Opening, Ran, Step, Turned};
 pub use device::Device;
+pub use fb_invoke;
+pub use fb_invoke::{Values, Written};
 pub use fb_tables;
 pub use loading::{Ready, load, load_checked};
 pub use refusal::Refusal;

@@ -21,10 +21,11 @@ ghost use Rattle.std.specs.Prelude.{min, replicate};
 ghost use Rattle.std.specs.List.{sum_by};
 
 use crate::device::Device;
-use crate::entry::Entry;
 use crate::names::is_same;
 use crate::program::{Program, Running};
 use crate::refusal::Refusal;
+use fb_first::{FirstValues, first_values};
+use fb_invoke::Entry;
 use fb_tables::fb_check::fb_columns::fb_flat::fb_types::EVENT_BLOCKS;
 use fb_tables::fb_check::{Verified, check_text};
 use fb_tables::{Resource, Tables, tables};
@@ -96,14 +97,16 @@ fn states(alloc: Global, count: usize) -> Result<Vec<u16>, AllocError>
 }
 
 // A device to which nothing has happened, with all the room that it will take.
-fn at_rest(alloc: Global, tables: &Tables) -> Result<Running, AllocError>
-    ensures { IfOk result (IsAtRest tables.now) }
+fn at_rest(alloc: Global, tables: &Tables, first: FirstValues) -> Result<Running, AllocError>
+    ensures { IfOk result (IsAtRest tables.now first) }
 {
     let queues = queues(alloc, &tables.resources)?;
     let states = states(alloc, tables.blocks.len())?;
     let spent = Vec::with_capacity(alloc, depth(&tables.resources))?;
     Ok(Running {
         queues,
+        own: first.own,
+        issued: first.issued,
         states,
         spent,
         next: Some(1),
@@ -137,7 +140,8 @@ pub fn load_checked(alloc: Global, verified: Verified, number: usize) -> Result<
     ensures refused { IfErr result (IsUnready verified number) }
 {
     let tables = tables(alloc, &verified, number)?;
-    let running = at_rest(alloc, &tables)?;
+    let first = first_values(alloc, &verified, number)?;
+    let running = at_rest(alloc, &tables, first)?;
     let program = Program {
         verified,
         number,

@@ -11,13 +11,13 @@ ghost use Rattle.fb_device.specs.Answers.{IsNamed, IsNoPoint};
 ghost use Rattle.fb_tables.specs.fb_check.Lookups.{is_same_path};
 ghost use Rattle.fb_device.specs.Finding.{first_named};
 ghost use Rattle.fb_device.specs.Numbers.{IsKnown};
-ghost use Rattle.fb_device.specs.Openings.{first_entry, opening_in};
+ghost use Rattle.fb_device.specs.Openings.{first_opening, opening_in};
 
 use crate::answer::Opening;
-use crate::entry::Entry;
 use crate::program::Program;
 use crate::queue::steps_at;
-use fb_tables::{Block, Resource};
+use fb_invoke::{Block, Entry, Point};
+use fb_tables::Resource;
 
 /// The name of the device.
 pub fn name(program: &Program) -> &str
@@ -65,13 +65,13 @@ pub fn resource(resources: &[Resource], name: &str) -> Option<u16>
     None
 }
 
-// The first entry of a cause.
-fn first_of(queue: &[Entry], cause: u64) -> Option<Entry>
-    ensures { result ≡ first_entry queue.now cause }
+// The opening of the first entry of a cause.
+fn first_of(queue: &[Entry], cause: u64) -> Option<Point>
+    ensures { result ≡ first_opening queue.now cause }
 {
     for entry in queue {
         if entry.cause == cause {
-            return Some(*entry);
+            return Some(entry.opening);
         }
     }
     None
@@ -83,11 +83,11 @@ pub fn opening(blocks: &[Block], queues: &[Vec<Entry>], cause: u64) -> Option<Op
     ensures { result ≡ opening_in blocks.now (map (λ q. q.items) queues.now) cause }
 {
     for queue in queues {
-        if let Some(entry) = first_of(queue, cause) {
+        if let Some(point) = first_of(queue, cause) {
             return Some(Opening {
-                block: entry.opening.block,
-                event: entry.opening.event,
-                weight: steps_at(blocks, entry.opening),
+                block: point.block,
+                event: point.event,
+                weight: steps_at(blocks, point),
             });
         }
     }

@@ -1,27 +1,29 @@
 //! An offer.
 
-ghost use Rattle.std.specs.Prelude.{ℕ, ◌≡◌, ◌<◌, ◌≤◌, ◌+◌, ◌++◌, ◌∷◌, [], Some, slice_get, vec_len, vec_capacity};
+ghost use Rattle.std.specs.Prelude.{ℕ, ◌≡◌, ◌<◌, ◌≤◌, ◌+◌, ◌++◌, ◌∷◌, [], true, Some, length, slice_get, vec_len, vec_capacity, IfOk, IfErr};
+ghost use Rattle.fb_model.specs.Values.{in_type, all_in};
 ghost use Rattle.fb_model.specs.Wires.{Leaf, leaves};
 ghost use Rattle.fb_model.specs.Devices.{Happens, Offer, input_of};
 ghost use Rattle.fb_device.specs.Sessions.{session_of};
 ghost use Rattle.fb_device.specs.Machines.{device_in, cert_in, machine_of};
 ghost use Rattle.fb_device.specs.Answers.{admission_of};
 ghost use Rattle.fb_device.specs.Running.{IsGood};
-ghost use Rattle.fb_device.specs.Offering.{is_input_body, input_number, IsArrival};
+ghost use Rattle.fb_device.specs.Offering.{is_input_body, input_number, IsArrival, types_in, IsOutside};
 
 use crate::answer::Denied;
-use crate::entry::{Entry, Spent};
 use crate::program::{Program, Running};
-use crate::queue::{held, places_at, put};
-use fb_tables::{Block, Body, Point};
+use crate::queue::{held, places_at};
+use crate::spending::Spent;
+use fb_invoke::{Block, Body, Entry, Point, Values, put};
+use fb_words::ElemType;
 
 // Whether a body is the INPUT of a number.
 fn is_input(body: &Body, number: u16) -> bool
     ensures { result ≡ is_input_body body.now number }
 {
     match body {
-        Body::Chart(_) => false,
-        Body::Input(own) => *own == number,
+        Body::Input(own, _) => *own == number,
+        _ => false,
     }
 }
 
@@ -35,6 +37,51 @@ fn input(blocks: &[Block], number: u16) -> Option<usize>
         }
     }
     None
+}
+
+// The types of the values that come to a block from outside.
+fn arriving(body: &Body) -> &[ElemType]
+    ensures { result.now ≡ types_in body.now }
+{
+    match body {
+        Body::Input(_, types) => types.as_slice(),
+        _ => &[],
+    }
+}
+
+// Whether a number is a value of a type: IEC 61131-3 edition 3, 6.4.2.
+fn fits(of_type: ElemType, number: i64) -> bool
+    ensures { result ≡ in_type of_type number }
+{
+    match of_type {
+        ElemType::Bool => 0 <= number && number <= 1,
+        ElemType::Sint => -128 <= number && number <= 127,
+        ElemType::Int => -32_768 <= number && number <= 32_767,
+        ElemType::Dint => -2_147_483_648 <= number && number <= 2_147_483_647,
+        ElemType::Lint | ElemType::Time => true,
+        ElemType::Usint => 0 <= number && number <= 255,
+        ElemType::Uint => 0 <= number && number <= 65_535,
+        ElemType::Udint => 0 <= number && number <= 4_294_967_295,
+    }
+}
+
+// The values of an offer as those of an entry, of which each has its type.
+fn taken(types: &[ElemType], values: &[i64]) -> Result<Values, Denied>
+    requires { length types.now ≤ 16 }
+    ensures fit { IfOk result (λ taken. (taken.items ≡ values.now) × (all_in types.now values.now ≡ true)) }
+    ensures refused { IfErr result (IsOutside types.now values.now) }
+{
+    if values.len() != types.len() {
+        return Err(Denied::BadCount);
+    }
+    let mut taken = Values::new();
+    for at in 0..values.len() {
+        if !fits(types[at], values[at]) {
+            return Err(Denied::BadValue(at as u16 + 1));
+        }
+        taken.push(values[at]);
+    }
+    Ok(taken)
 }
 
 // A cause that has taken no steps yet.
@@ -55,11 +102,12 @@ fn admit(
     running: &mut Running,
     resource: usize,
     point: Point,
+    values: Values,
 ) -> Result<u64, Denied>
     requires good { IsGood program.now running.old }
-    requires arrival { IsArrival (session_of program.now running.old) resource point }
+    requires arrival { IsArrival (session_of program.now running.old) resource point values.items }
     ensures step { (input : ℕ) (leaf : Leaf) → input_of (device_in (session_of program.now running.old)) input ≡ Some leaf → slice_get (leaves (device_in (session_of program.now running.old))) point.block ≡ Some leaf
-        → Happens (cert_in (session_of program.now running.old)) (device_in (session_of program.now running.old)) (machine_of (session_of program.now running.old)) (Offer input []) (admission_of result) (machine_of (session_of program.now running.new)) }
+        → Happens (cert_in (session_of program.now running.old)) (device_in (session_of program.now running.old)) (machine_of (session_of program.now running.old)) (Offer input values.items) (admission_of result) (machine_of (session_of program.now running.new)) }
     ensures kept { IsGood program.now running.new }
 {
     let blocks = &program.tables.blocks;
@@ -79,6 +127,7 @@ fn admit(
             cause,
             opening: point,
             point,
+            values,
         },
     );
     running.next = cause.checked_add(1);
@@ -99,13 +148,15 @@ pub fn offer(
     let Some(at) = input(&program.tables.blocks, number) else {
         return Err(Denied::UnknownInput);
     };
-    if !values.is_empty() {
-        return Err(Denied::BadCount);
-    }
-    let resource = program.tables.blocks[at].resource as usize;
+    let block = &program.tables.blocks[at];
+    let values = match taken(arriving(&block.body), values) {
+        Ok(values) => values,
+        Err(denied) => return Err(denied),
+    };
+    let resource = block.resource as usize;
     let point = Point {
         block: at as u16,
         event: 0,
     };
-    admit(program, running, resource, point)
+    admit(program, running, resource, point, values)
 }

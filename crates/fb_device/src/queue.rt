@@ -1,25 +1,12 @@
-//! The queue of a resource: a list of entries, with room for as many as its DEPTH.
+//! The queue of a resource, and what its entries hold.
 
-ghost use Rattle.std.specs.Prelude.{◌≡◌, ◌<◌, ◌≤◌, ◌+◌, ◌^◌, ◌++◌, ◌∷◌, [], List, None, Some, map, length, set, slice_get, vec_len, vec_capacity, MatchOption};
+ghost use Rattle.std.specs.Prelude.{◌≡◌, ◌<◌, ◌^◌, MatchOption};
 ghost use Rattle.std.specs.List.{AllByRecursion};
-ghost use Rattle.fb_device.specs.Numbers.{follow, is_among, held_by, event_at, places_in, steps_in, IsKnown};
+ghost use Rattle.fb_invoke.specs.Turning.{steps_in};
+ghost use Rattle.fb_device.specs.Numbers.{is_among, held_by, event_at, places_in, IsKnown};
 ghost use Rattle.fb_device.specs.Taking.{IsTaken, IsIdle};
 
-use crate::entry::Entry;
-use fb_tables::{Block, Point};
-
-/// Appends an entry where there is room.
-pub fn put(queue: &mut Vec<Entry>, entry: Entry)
-    requires { vec_len queue.old < vec_capacity queue.old }
-    ensures items { queue.new.items ≡ queue.old.items ++ entry ∷ [] }
-    ensures len { vec_len queue.new ≡ vec_len queue.old + 1 }
-    ensures room { vec_capacity queue.old ≤ vec_capacity queue.new }
-{
-    match queue.push(entry) {
-        Ok(()) => {}
-        Err(_) => unreachable!(),
-    }
-}
+use fb_invoke::{Block, Entry, Point};
 
 /// Takes the first entry of a resource.
 pub fn take(queues: &mut Vec<Vec<Entry>>, resource: usize) -> Option<Entry>
@@ -32,25 +19,6 @@ pub fn take(queues: &mut Vec<Vec<Entry>>, resource: usize) -> Option<Entry>
         return None;
     }
     Some(queues[resource].remove(0))
-}
-
-/// Appends an entry for each target, with the cause of the first.
-pub fn emit(queue: &mut Vec<Entry>, first: Entry, targets: &[Point])
-    requires { vec_len queue.old + length targets.now ≤ vec_capacity queue.old }
-    ensures items { queue.new.items ≡ queue.old.items ++ map (follow first) targets.now }
-    ensures len { vec_len queue.new ≡ vec_len queue.old + length targets.now }
-    ensures room { vec_capacity queue.old ≤ vec_capacity queue.new }
-{
-    for target in targets {
-        put(
-            queue,
-            Entry {
-                cause: first.cause,
-                opening: first.opening,
-                point: *target,
-            },
-        );
-    }
 }
 
 /// Whether an entry of the cause is pending.

@@ -13,8 +13,7 @@ pub enum Refusal {
     Checked(fb_tables::fb_check::Refusal),
     /// The system has no device of this name, in upper case. Code 21.
     NoDevice(String),
-    /// A device cannot run the leaf of this path so far: it has variables, an algorithm or a guard, or is another service than an INPUT without
-    /// values. Code 22.
+    /// A device cannot run the leaf of this path so far: it is another service than INPUT and OUTPUT. Code 22.
     CannotRun(String),
 }
 

@@ -4,7 +4,12 @@ ghost use Rattle.std.specs.Prelude.{◌≡◌, ◌≤◌, vec_capacity, length};
 ghost use Rattle.fb_device.specs.Machines.{spent_in};
 ghost use Rattle.fb_device.specs.Numbers.{with_steps, without};
 
-use crate::entry::Spent;
+/// The steps so far of a cause.
+#[derive(Clone, Copy, Debug)]
+pub struct Spent {
+    pub cause: u64,
+    pub steps: u64,
+}
 
 /// The steps so far of a cause.
 pub fn steps_so_far(spent: &[Spent], cause: u64) -> u64

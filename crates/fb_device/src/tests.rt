@@ -1,6 +1,6 @@
 //! Worked examples.
 
-use crate::{Answer, Denied, Device, Step, Turned, load};
+use crate::{Answer, Denied, Device, Step, load};
 use std::alloc::Global;
 use std::test::Fail;
 
@@ -82,15 +82,15 @@ fn a_fork_call_by_call(rt: HostRuntime) -> Result<(), Fail> {
     );
     assert_eq!(rt;
         dispatched(alloc, &mut device)?.as_str(),
-        "Ran(Ran { cause: 1, block: 0, event: 0, steps: 1, ended: None })"
+        "Ran(Ran { cause: 1, block: 0, event: 0, steps: 1, written: None, ended: None })"
     );
     assert_eq!(rt;
         dispatched(alloc, &mut device)?.as_str(),
-        "Ran(Ran { cause: 1, block: 1, event: 0, steps: 3, ended: None })"
+        "Ran(Ran { cause: 1, block: 1, event: 0, steps: 3, written: None, ended: None })"
     );
     assert_eq!(rt;
         dispatched(alloc, &mut device)?.as_str(),
-        "Ran(Ran { cause: 1, block: 2, event: 0, steps: 3, ended: None })"
+        "Ran(Ran { cause: 1, block: 2, event: 0, steps: 3, written: None, ended: None })"
     );
     assert_eq!(rt;
         offered(alloc, &mut device)?.as_str(),
@@ -98,13 +98,13 @@ fn a_fork_call_by_call(rt: HostRuntime) -> Result<(), Fail> {
     );
     assert_eq!(rt;
         dispatched(alloc, &mut device)?.as_str(),
-        "Ran(Ran { cause: 1, block: 3, event: 0, steps: 3, ended: Some(Ended { total: 10, bound: 10 }) })"
+        "Ran(Ran { cause: 1, block: 3, event: 0, steps: 3, written: None, ended: Some(Ended { total: 10, bound: 10 }) })"
     );
     assert_eq!(rt; offered(alloc, &mut device)?.as_str(), "Ok(2)");
     Ok(())
 }
 
-// The same in one call. The place behind the calls keeps what stood there.
+// Calls in one run. The place behind them keeps what stood there.
 #[test]
 fn a_fork_in_one_run(rt: HostRuntime) -> Result<(), Fail> {
     let alloc = rt.alloc();
@@ -116,18 +116,20 @@ fn a_fork_in_one_run(rt: HostRuntime) -> Result<(), Fail> {
         Step::Offer(1, Vec::new(alloc)),
         Step::Offer(1, Vec::new(alloc)),
         Step::Dispatch(0),
-        Step::Dispatch(0),
-        Step::Dispatch(0),
-        Step::Dispatch(0),
-        Step::Offer(1, Vec::new(alloc)),
         Step::Dispatch(7),
     ];
-    let mut answers = [Answer::Admitted(Err(Denied::Spent)); 9];
+    let mut answers = [
+        Answer::Admitted(Err(Denied::Spent)),
+        Answer::Admitted(Err(Denied::Spent)),
+        Answer::Admitted(Err(Denied::Spent)),
+        Answer::Admitted(Err(Denied::Spent)),
+        Answer::Admitted(Err(Denied::Spent)),
+    ];
     device.run(&steps, &mut answers);
     let told = format!(in alloc; "{answers:?}")?;
     assert_eq!(rt;
         told.as_str(),
-        "[Admitted(Ok(1)), Admitted(Err(NoCredit { needs: 2, free: 1 })), Served(Ran(Ran { cause: 1, block: 0, event: 0, steps: 1, ended: None })), Served(Ran(Ran { cause: 1, block: 1, event: 0, steps: 3, ended: None })), Served(Ran(Ran { cause: 1, block: 2, event: 0, steps: 3, ended: None })), Served(Ran(Ran { cause: 1, block: 3, event: 0, steps: 3, ended: Some(Ended { total: 10, bound: 10 }) })), Admitted(Ok(2)), Served(Idle), Admitted(Err(Spent))]"
+        "[Admitted(Ok(1)), Admitted(Err(NoCredit { needs: 2, free: 1 })), Served(Ran(Ran { cause: 1, block: 0, event: 0, steps: 1, written: None, ended: None })), Served(Idle), Admitted(Err(Spent))]"
     );
     Ok(())
 }
@@ -139,8 +141,7 @@ fn what_a_device_tells(rt: HostRuntime) -> Result<(), Fail> {
         panic!(rt; "not loaded");
     };
     let mut device = ready.start();
-    let idle = device.dispatch(0);
-    assert!(rt; idle == Turned::Idle);
+    assert_eq!(rt; dispatched(alloc, &mut device)?.as_str(), "Idle");
     let unknown = device.offer(2, &[]);
     assert!(rt; unknown == Err(Denied::UnknownInput));
     let counted = device.offer(1, &[5]);
@@ -180,8 +181,8 @@ fn refusals_and_their_places(rt: HostRuntime) -> Result<(), Fail> {
     Ok(())
 }
 
-// A button before a split, which leads to an output and a cell.
-const LAMP: &str = "FUNCTION_BLOCK CELL
+// A button before a delay, which leads to a cell.
+const DELAYED: &str = "FUNCTION_BLOCK CELL
 EVENT_INPUT EI; END_EVENT
 EC_STATES START; DONE; END_STATES
 EC_TRANSITIONS START TO DONE := EI; DONE TO START := 1; END_TRANSITIONS
@@ -189,32 +190,31 @@ END_FUNCTION_BLOCK
 SYSTEM S
 DEVICE E END_DEVICE
 DEVICE D RESOURCE R
-FBS BUTTON : INPUT(ID := 1); SPL : E_SPLIT; C : CELL; L : OUTPUT(ID := 1); END_FBS
-EVENT_CONNECTIONS BUTTON.IND TO SPL.EI; SPL.EO1 TO C.EI; SPL.EO2 TO L.REQ; END_CONNECTIONS
+FBS BUTTON : INPUT(ID := 1); W : E_DELAY(DT := T#1s); C : CELL; END_FBS
+EVENT_CONNECTIONS BUTTON.IND TO W.START; W.EO TO C.EI; END_CONNECTIONS
 END_RESOURCE END_DEVICE END_SYSTEM
 ";
 
-const LAMP_ROWS: &str = "CERT 1
-CHARGE D.R.SPL.START 0 0
-CHARGE D.R.SPL.ACT 5 2
+const DELAYED_ROWS: &str = "CERT 1
 CHARGE D.R.C.START 0 0
 CHARGE D.R.C.DONE 1 0
-WEIGHT D.R.BUTTON.ARRIVE 8 2
-WEIGHT D.R.SPL.EI 7 2
+WEIGHT D.R.BUTTON.ARRIVE 2 1
+WEIGHT D.R.W.START 1 1
+WEIGHT D.R.W.STOP 1 1
+WEIGHT D.R.W.EXPIRE 4 1
 WEIGHT D.R.C.EI 3 1
-WEIGHT D.R.L.REQ 1 1
-DEPTH D.R 2
+DEPTH D.R 1
 ";
 
 #[test]
 fn leaves_beyond_devices(rt: HostRuntime) -> Result<(), Fail> {
     let alloc = rt.alloc();
-    let Err(beyond) = load(alloc, LAMP, LAMP_ROWS, "d") else {
+    let Err(beyond) = load(alloc, DELAYED, DELAYED_ROWS, "d") else {
         panic!(rt; "loaded");
     };
     assert!(rt; beyond.code() == 22);
-    assert_eq!(rt; format!(in alloc; "{beyond}")?.as_str(), "22 D.R.L");
-    let Ok(ready) = load(alloc, LAMP, LAMP_ROWS, "e") else {
+    assert_eq!(rt; format!(in alloc; "{beyond}")?.as_str(), "22 D.R.W");
+    let Ok(ready) = load(alloc, DELAYED, DELAYED_ROWS, "e") else {
         panic!(rt; "not loaded");
     };
     let mut empty = ready.start();

@@ -8,11 +8,12 @@ use Rattle.fb_model.specs.Productions.{Word}
 use Rattle.fb_model.specs.Trees.{ActionTree, StateTree}
 use Rattle.fb_model.specs.Declarations.{EventTree, TransitionTree, ChartTree, BlockTree, SourceTree}
 use Rattle.fb_model.specs.TextTyping.{Entry}
-use Rattle.fb_model.specs.System.{Action, State, Transition, Block, Device, System}
-use Rattle.fb_model.specs.Typing.{IsKnown, AreNew, AreDistinct, most_ports, most_states, state_texts, typed_action, typed_state}
-use Rattle.fb_model.specs.BlockTyping.{names_in, event_texts, typed_event, algorithm_texts, IsActionTyped, AreTransitions, no_transition, a_transition, IsBasic}
+use Rattle.fb_model.specs.System.{Event, Action, State, Transition, Block, Device, System}
+use Rattle.fb_model.specs.Typing.{texts, IsKnown, AreNew, AreDistinct, most_ports, most_states, state_texts, typed_action, typed_state}
+use Rattle.fb_model.specs.BlockTyping.{Declared, AreKnown, names_in, variable_of, event_texts, typed_event, algorithm_texts, IsActionTyped, AreTransitions, no_transition, a_transition, IsBasic}
 use Rattle.fb_model.specs.NetworkTyping.{ElaboratesWith}
 use Rattle.fb_model.specs.Wires.{Serviced, Charted, Kind, Leaf, leaves}
+use Rattle.fb_model.specs.Store.{variable_names}
 use Rattle.fb_model.specs.Certificates.{names, event_names}
 use Rattle.fb_model.proofs.Lists.{all_weaker}
 use Rattle.fb_leaves.specs.Leaves.{IsListed, IsClosedBlock, OnChart, IsClosed}
@@ -53,6 +54,19 @@ events_in : (env : List Entry) (states inputs : List Name) (cs : List Transition
 events_in env states inputs cs ds no_transition = tt
 events_in env states inputs cs ds (a_transition {c = c} {cs = rest} {ds = others} h more) = (subst (IsListed inputs) (sym h.event) (listed inputs c.event h.known_event), events_in env states inputs rest others more)
 
+variables_named : (ds : List Declared) → variable_names (map variable_of ds) ≡ names_in ds
+variables_named [] = refl
+variables_named (d ∷ ds) = ap (λ ns. d.name ∷ ns) (variables_named ds)
+
+words_known : (names : List Name) (ws : List Word) → AreKnown names ws → AllByRecursion (λ (x : Name). is_in x names ≡ true) (texts ws)
+words_known names [] h = tt
+words_known names (w ∷ ws) h = (h.0, words_known names ws h.1)
+
+carried_known : (names : List Name) (es : List EventTree) → AllByRecursion (λ (e : EventTree). AreKnown names e.carries) es
+    → AllByRecursion (λ (e : Event). AllByRecursion (λ (x : Name). is_in x names ≡ true) e.carries) (map typed_event es)
+carried_known names [] h = tt
+carried_known names (e ∷ es) h = (words_known names e.carries h.0, carried_known names es h.1)
+
 front_new : (before xs ys : List Name) → AreNew before (xs ++ ys) → AreNew before xs
 front_new before [] ys h = tt
 front_new before (x ∷ xs) ys h = (h.0, front_new (before ++ x ∷ []) xs ys h.1)
@@ -62,6 +76,12 @@ events_apart a b c d e h = front_new [] (a ++ b) c (front_new [] ((a ++ b) ++ c)
 
 as_few : {X Y : Type 0} (f : X → Y) (xs : List X) (ys : List Y) (n : ℕ) → ys ≡ map f xs → length xs ≤ n → length ys ≤ n
 as_few f xs ys n e l = omega (arith, l, ap length e, length-map xs f)
+
+all_known : (events : List Event) (es : List EventTree) (ds : List Declared) (ns : List Name) → events ≡ map typed_event es → ns ≡ variable_names (map variable_of ds) → AllByRecursion (λ (e : EventTree). AreKnown (names_in ds) e.carries) es
+    → AllByRecursion (λ (e : Event). AllByRecursion (λ (x : Name). is_in x ns ≡ true) e.carries) events
+all_known events es ds ns p q h =
+    subst (λ (xs : List Event). AllByRecursion (λ (e : Event). AllByRecursion (λ (x : Name). is_in x ns ≡ true) e.carries) xs) (sym p)
+    (subst (λ (names : List Name). AllByRecursion (λ (e : Event). AllByRecursion (λ (x : Name). is_in x names ≡ true) e.carries) (map typed_event es)) (sym (q ∙ variables_named ds)) (carried_known (names_in ds) es h))
 
 block_closed : (b : BlockTree) (c : ChartTree) (k : Block) → IsBasic b c k → IsClosedBlock k
 block_closed b c k h =
@@ -83,6 +103,8 @@ block_closed b c k h =
       few_inputs = as_few typed_event b.event_inputs k.event_inputs most_ports (ap (λ f. f.event_inputs) h.face.face) h.face.few_event_inputs;
       few_outputs = as_few typed_event b.event_outputs k.event_outputs most_ports (ap (λ f. f.event_outputs) h.face.face) h.face.few_event_outputs;
       few_states = as_few typed_state c.states k.states most_states h.states h.few_states;
+      takes = all_known k.event_inputs b.event_inputs h.ins (variable_names k.inputs) (ap (λ f. f.event_inputs) h.face.face) (ap (λ f. variable_names f.inputs) h.face.face) h.face.takes;
+      gives = all_known k.event_outputs b.event_outputs h.outs (variable_names k.outputs) (ap (λ f. f.event_outputs) h.face.face) (ap (λ f. variable_names f.outputs) h.face.face) h.face.gives;
     }
 
 -- ---- leaves

@@ -5,11 +5,11 @@ use Rattle.std.specs.List.{AllByRecursion}
 use Rattle.fb_words.specs.declared.elem_type.ElemType.{ElemType}
 use Rattle.fb_model.specs.Names.{Name, Path, path_eq, is_in}
 use Rattle.fb_model.specs.Values.{Value, One, lowest, highest, numbers_of}
-use Rattle.fb_model.specs.System.{Variable, Action, State, Transition, Block, start_of}
+use Rattle.fb_model.specs.System.{Variable, Event, Action, State, Transition, Block, start_of}
 use Rattle.fb_model.specs.Typing.{AreDistinct, most_ports, most_states}
 use Rattle.fb_model.specs.NetworkTyping.{variable_named}
 use Rattle.fb_model.specs.Wires.{Kind, Charted, Serviced, Source, Output_of, Constant, Leaf, leaf_at}
-use Rattle.fb_model.specs.Store.{inputs, outputs, internals}
+use Rattle.fb_model.specs.Store.{variable_names, inputs, outputs, internals}
 use Rattle.fb_model.specs.Spans.{whole}
 use Rattle.fb_model.specs.Shapes.{IsIn}
 use Rattle.fb_model.specs.Ranges.{variables}
@@ -88,6 +88,9 @@ pub record IsClosedBlock (block : Block) : Type 0 where
   pub few_inputs : length block.event_inputs ≤ most_ports
   pub few_outputs : length block.event_outputs ≤ most_ports
   pub few_states : length block.states ≤ most_states
+  -- events are WITH inputs and outputs of the block
+  pub takes : AllByRecursion (λ (e : Event). AllByRecursion (λ (x : Name). is_in x (variable_names block.inputs) ≡ true) e.carries) block.event_inputs
+  pub gives : AllByRecursion (λ (e : Event). AllByRecursion (λ (x : Name). is_in x (variable_names block.outputs) ≡ true) e.carries) block.event_outputs
 
 -- something holds of a chart's block
 abbrev pub OnChart : (Block → Type 0) → Kind → Type 0

@@ -17,5 +17,6 @@ mod tests;
 pub use clear::rows_clear;
 pub use fault::Unclear;
 pub use fb_flat;
+pub use fb_ranges;
 pub use law::refusals_deny;
 pub use row::block_rows;

@@ -3,7 +3,7 @@ use Rattle.std.proofs.Common.{◌≡◌, ℕ, zero, suc, List, [], ◌∷◌, �
 use Rattle.std.specs.Prelude.{slice_get, ℤ}
 use Rattle.std.specs.Fmt.{decimal}
 use Rattle.std.specs.List.{join_with_byte}
-use Rattle.std.specs.Option.{option_map}
+use Rattle.std.specs.Option.{option_map, option_copied}
 use Rattle.std.proofs.lemmas.List.Splits.{join_with_byte-slice_split}
 use Rattle.fb_model.specs.Names.{Name}
 use Rattle.fb_model.specs.Wires.{Leaf}
@@ -17,11 +17,13 @@ use Rattle.fb_device.specs.Answers.{IsNamed, IsNoPoint, IsNumberOf, IsNoNumber, 
 use Rattle.fb_device.specs.declared.answer.Denied.{Denied}
 use Rattle.fb_device.specs.declared.answer.Denied.TheVariants as d
 use Rattle.fb_device.specs.declared.answer.Ended.{Ended}
+use Rattle.fb_device.specs.fb_invoke.declared.dispatch.Written.{Written}
+use Rattle.fb_device.specs.fb_invoke.Turning.{effect_of}
 use Rattle.fb_device.specs.declared.answer.Ran.{Ran as RanRecord}
 use Rattle.fb_device.specs.declared.answer.Turned.TheVariants as turned
 use Rattle.fb_script.specs.Lines.{Offer, Dispatch}
 use Rattle.fb_script.specs.Playing.{Asks, Plays, IsText}
-use Rattle.fb_script.specs.Texts.{place_text, end_text, ended_text, denial_text, why_text, told_text, answer_text}
+use Rattle.fb_script.specs.Texts.{place_text, values_text, effect_text, end_text, written_text, ended_text, denial_text, why_text, told_text, answer_text}
 use Rattle.fb_script.specs.declared.told.Told.TheVariants as told
 
 place_named : (all : List Leaf) (block event : ℕ) (path name : List ℕ) → IsNamed all block event path name → place_text (place_at all (record { block = block; event = event })) ≡ path ++ codes "." ++ name
@@ -41,11 +43,17 @@ same_end : (cause : ℕ) (o : Option Ended) → ended_text cause o ≡ end_text 
 same_end cause None = refl
 same_end cause (Some e) = refl
 
+same_effect : (written : Option (Bor Written)) → written_text written ≡ effect_text (effect_of (option_copied written))
+same_effect None = refl
+same_effect (Some w) = refl
+
 -- a run is told by its names
-pub run_told : (all : List Leaf) (r : RanRecord) (path event : Bor (List ℕ)) → IsNamed all r.block r.event path.now event.now → told_text (told.Ran r.cause path event r.steps r.ended) ≡ answer_text (turned_of all (turned.Ran r))
-run_told all r path event n =
-    ap (λ t. codes "ran " ++ t ++ codes " steps " ++ decimal r.steps ++ ended_text r.cause r.ended) (sym (place_named all r.block r.event path.now event.now n))
-    ∙ ap (λ t. codes "ran " ++ place_text (place_at all (record { block = r.block; event = r.event })) ++ codes " steps " ++ decimal r.steps ++ t) (same_end r.cause r.ended)
+pub run_told : (all : List Leaf) (r : RanRecord) (path event : Bor (List ℕ)) (written : Option (Bor Written)) → IsNamed all r.block r.event path.now event.now → option_copied written ≡ r.written
+    → told_text (told.Ran r.cause path event r.steps written r.ended) ≡ answer_text (turned_of all (turned.Ran r))
+run_told all r path event written n lent =
+    ap (λ t. codes "ran " ++ t ++ codes " steps " ++ decimal r.steps ++ written_text written ++ ended_text r.cause r.ended) (sym (place_named all r.block r.event path.now event.now n))
+    ∙ ap (λ t. codes "ran " ++ place_text (place_at all (record { block = r.block; event = r.event })) ++ codes " steps " ++ decimal r.steps ++ t ++ ended_text r.cause r.ended) (same_effect written ∙ ap (λ o. effect_text (effect_of o)) lent)
+    ∙ ap (λ t. codes "ran " ++ place_text (place_at all (record { block = r.block; event = r.event })) ++ codes " steps " ++ decimal r.steps ++ effect_text (effect_of r.written) ++ t) (same_end r.cause r.ended)
 
 -- an event without a name is not told
 pub run_untold : (all : List Leaf) (r : RanRecord) (text : List ℕ) → IsNoPoint all r.block r.event → IsText (turned_of all (turned.Ran r)) text

@@ -1,12 +1,15 @@
 -- How an answer is printed: this project's profile.
-use Rattle.std.specs.Prelude.{ℕ, List, [], ◌++◌, codes, Option, None, Some}
-use Rattle.std.specs.Fmt.{decimal}
+use denote.Ref.{Bor}
+use Rattle.std.specs.Prelude.{ℕ, ℤ, flat_map, List, [], ◌++◌, codes, Option, None, Some}
+use Rattle.std.specs.Fmt.{decimal, signed_decimal}
 use Rattle.std.specs.List.{join_with_byte}
 use Rattle.fb_model.specs.Names.{Place}
+use Rattle.fb_model.specs.Serving.{Effect, Write, Send}
 use Rattle.fb_model.specs.Devices.{Denial, UnknownInput, BadCount, BadValue, NoCredit, Spent, Answer, Admitted, Denied, Idle, Ran}
 use Rattle.fb_device.specs.declared.answer.Denied.{Denied as RustDenied}
 use Rattle.fb_device.specs.declared.answer.Denied.TheVariants as d
 use Rattle.fb_device.specs.declared.answer.Ended.{Ended}
+use Rattle.fb_device.specs.fb_invoke.declared.dispatch.Written.{Written}
 use Rattle.fb_script.specs.declared.told.Told.{Told}
 use Rattle.fb_script.specs.declared.told.Told.TheVariants as told
 
@@ -25,6 +28,16 @@ denial_text other = []
 abbrev pub place_text : Place → List ℕ
 place_text place = join_with_byte 46 place.path ++ codes "." ++ place.event
 
+-- values, each behind a space
+abbrev pub values_text : List ℤ → List ℕ
+values_text values = flat_map (λ v. codes " " ++ signed_decimal v) values
+
+-- what a service has done; what is sent comes with its lines
+abbrev pub effect_text : Option Effect → List ℕ
+effect_text None = []
+effect_text (Some (Write number values)) = codes " write " ++ decimal number ++ values_text values
+effect_text (Some (Send message)) = []
+
 -- a cause that has ended: its total, and the bound on it
 abbrev pub end_text : ℕ → Option (ℕ × ℕ) → List ℕ
 end_text cause None = []
@@ -35,7 +48,7 @@ abbrev pub answer_text : Answer → List ℕ
 answer_text (Admitted cause) = codes "cause " ++ decimal cause
 answer_text (Denied why) = codes "denied " ++ denial_text why
 answer_text Idle = codes "idle"
-answer_text (Ran cause place steps effect ended) = codes "ran " ++ place_text place ++ codes " steps " ++ decimal steps ++ end_text cause ended
+answer_text (Ran cause place steps effect ended) = codes "ran " ++ place_text place ++ codes " steps " ++ decimal steps ++ effect_text effect ++ end_text cause ended
 answer_text other = []
 
 -- ---- answers of the program
@@ -51,8 +64,12 @@ abbrev pub ended_text : ℕ → Option Ended → List ℕ
 ended_text cause None = []
 ended_text cause (Some e) = codes " ended " ++ decimal cause ++ codes " " ++ decimal e.total ++ codes " of " ++ decimal e.bound
 
+abbrev pub written_text : Option (Bor Written) → List ℕ
+written_text None = []
+written_text (Some w) = codes " write " ++ decimal w.now.number ++ values_text w.now.values.items
+
 abbrev pub told_text : Told → List ℕ
 told_text (told.Admitted cause) = codes "cause " ++ decimal cause
 told_text (told.Denied why) = codes "denied " ++ why_text why
 told_text told.Idle = codes "idle"
-told_text (told.Ran cause path event steps ended) = codes "ran " ++ (path.now ++ codes "." ++ event.now) ++ codes " steps " ++ decimal steps ++ ended_text cause ended
+told_text (told.Ran cause path event steps written ended) = codes "ran " ++ (path.now ++ codes "." ++ event.now) ++ codes " steps " ++ decimal steps ++ written_text written ++ ended_text cause ended

@@ -66,7 +66,7 @@ pub fn play(device: &mut Device, line: &Line<'_>) -> Option<Answer>
 }
 
 // A block that ran, by its names.
-fn tell_run<'a>(device: &'a Device, ran: &Ran) -> Told<'a>
+fn tell_run<'a>(device: &'a Device, ran: &'a Ran) -> Told<'a>
     ensures { IsText (turned_of (leaves (device_in device.now)) (turned.Ran ran.now)) (told_text result) }
 {
     match device.path(ran.block, ran.event) {
@@ -75,6 +75,7 @@ fn tell_run<'a>(device: &'a Device, ran: &Ran) -> Told<'a>
             path,
             event,
             steps: ran.steps,
+            written: ran.written.as_ref(),
             ended: ran.ended,
         },
         None => Told::Ran {
@@ -82,13 +83,14 @@ fn tell_run<'a>(device: &'a Device, ran: &Ran) -> Told<'a>
             path: "",
             event: "",
             steps: ran.steps,
+            written: ran.written.as_ref(),
             ended: ran.ended,
         },
     }
 }
 
 /// An answer of a device, with the names of its block and event.
-pub fn tell<'a>(device: &'a Device, answer: &Answer) -> Told<'a>
+pub fn tell<'a>(device: &'a Device, answer: &'a Answer) -> Told<'a>
     ensures { IsText (answer_of (leaves (device_in device.now)) answer.now) (told_text result) }
 {
     match answer {

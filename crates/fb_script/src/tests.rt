@@ -1,7 +1,7 @@
 //! Lines and answers.
 
 use crate::{Line, LineFault, Told, read_line};
-use fb_device::{Denied, Ended};
+use fb_device::{Denied, Ended, Values, Written};
 use std::test::Fail;
 
 #[test]
@@ -57,6 +57,10 @@ fn no_lines(rt: HostRuntime) -> Result<(), Fail> {
 #[test]
 fn answers(rt: HostRuntime) -> Result<(), Fail> {
     let ended = Some(Ended { total: 4, bound: 4 });
+    let mut values = Values::new();
+    values.push(9);
+    values.push(-1);
+    let written = Written { number: 2, values };
     let cases = [
         (Told::Admitted(1), "cause 1"),
         (Told::Denied(Denied::UnknownInput), "denied 50"),
@@ -74,9 +78,21 @@ fn answers(rt: HostRuntime) -> Result<(), Fail> {
                 path: "D.R.C",
                 event: "EI",
                 steps: 3,
+                written: None,
                 ended,
             },
             "ran D.R.C.EI steps 3 ended 1 4 of 4",
+        ),
+        (
+            Told::Ran {
+                cause: 1,
+                path: "D.R.LAMP",
+                event: "REQ",
+                steps: 1,
+                written: Some(&written),
+                ended: None,
+            },
+            "ran D.R.LAMP.REQ steps 1 write 2 9 -1",
         ),
     ];
     for case in &cases {

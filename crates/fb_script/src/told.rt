@@ -1,6 +1,6 @@
 //! How answers are printed.
 
-use fb_device::{Denied, Ended};
+use fb_device::{Denied, Ended, Written};
 use std::fmt;
 
 /// The answer to a line, with names in the place of numbers.
@@ -18,11 +18,54 @@ pub enum Told<'a> {
         path: &'a str,
         event: &'a str,
         steps: u64,
+        written: Option<&'a Written>,
         ended: Option<Ended>,
     },
 }
 
-/// `cause 1`, `denied 53 needs 2 free 1`, `idle`, `ran D.R.C.EI steps 3`, or `ran D.R.C.EI steps 3 ended 1 4 of 4`.
+// What an OUTPUT has written, as ` write 1 9`.
+#[derive(Clone, Copy)]
+struct Wrote<'a>(Option<&'a Written>);
+
+impl fmt::Display for Wrote<'_> {
+    ghost use Rattle.std.specs.Prelude.{Some};
+    ghost use Rattle.fb_script.specs.Texts.{written_text};
+
+    ghost output = { λ w. Some (written_text w.0) };
+
+    fn fmt<W: fmt::Write>(&self, f: &mut fmt::Formatter<W>) -> fmt::Result {
+        if let Some(written) = self.0 {
+            let number = written.number;
+            write!(f, " write {number}")?;
+            for value in written.values.as_slice() {
+                write!(f, " {value}")?;
+            }
+        }
+        Ok(())
+    }
+}
+
+// The end of a cause, as ` ended 1 4 of 4`.
+#[derive(Clone, Copy)]
+struct Closed(u64, Option<Ended>);
+
+impl fmt::Display for Closed {
+    ghost use Rattle.std.specs.Prelude.{Some};
+    ghost use Rattle.fb_script.specs.Texts.{ended_text};
+
+    ghost output = { λ c. Some (ended_text c.0 c.1) };
+
+    fn fmt<W: fmt::Write>(&self, f: &mut fmt::Formatter<W>) -> fmt::Result {
+        let cause = self.0;
+        match self.1 {
+            None => Ok(()),
+            Some(Ended { total, bound }) => write!(f, " ended {cause} {total} of {bound}"),
+        }
+    }
+}
+
+/// `cause 1`, `denied 53 needs 2 free 1`, `idle`, `ran D.R.C.EI steps 3`, with ` write 1 9` where an OUTPUT has written and ` ended 1 4 of 4`
+/// where the cause has ended.
 impl fmt::Display for Told<'_> {
     ghost use Rattle.std.specs.Prelude.{Some};
     ghost use Rattle.fb_script.specs.Texts.{told_text};
@@ -45,17 +88,14 @@ impl fmt::Display for Told<'_> {
                 path,
                 event,
                 steps,
+                written,
                 ended,
             } => {
                 let path: &str = path;
                 let event: &str = event;
-                match ended {
-                    None => write!(f, "ran {path}.{event} steps {steps}"),
-                    Some(Ended { total, bound }) => write!(
-                        f,
-                        "ran {path}.{event} steps {steps} ended {cause} {total} of {bound}"
-                    ),
-                }
+                let wrote = Wrote(*written);
+                let closed = Closed(*cause, *ended);
+                write!(f, "ran {path}.{event} steps {steps}{wrote}{closed}")
             }
         }
     }

@@ -139,4 +139,21 @@ impl Service {
         }
         Ok(names)
     }
+
+    /// The data outputs. At most 16 values are declared; the names of more than 99 mean nothing.
+    pub fn outputs(&self, alloc: Global) -> Result<Vec<String>, AllocError>
+        ensures { length (values_of (service_of self.now)) < 100 → IfOk result (λ v. map string_bytes v.items ≡ variable_names (service_outputs (service_of self.now))) }
+    {
+        let mut names = Vec::new(alloc);
+        match self {
+            Service::Input(_, types) => add_ports(alloc, &mut names, "RD_", types)?,
+            Service::Publish(_, _) => names.push(String::from_str(alloc, "QO")?)?,
+            Service::Subscribe(_, types) => {
+                names.push(String::from_str(alloc, "QO")?)?;
+                add_ports(alloc, &mut names, "RD_", types)?;
+            }
+            Service::Output(_, _) | Service::Delay | Service::Cycle | Service::Restart => {}
+        }
+        Ok(names)
+    }
 }

@@ -154,5 +154,10 @@ fn names_of_ports(rt: HostRuntime) -> Result<(), Fail> {
     assert_eq!(rt; inputs[1].as_str(), "SD_1");
     assert_eq!(rt; inputs[10].as_str(), "SD_10");
     assert_eq!(rt; subscribe.inputs(alloc)?.len(), 1);
+    let outputs = subscribe.outputs(alloc)?;
+    assert_eq!(rt; outputs.len(), 2);
+    assert_eq!(rt; outputs[0].as_str(), "QO");
+    assert_eq!(rt; outputs[1].as_str(), "RD_1");
+    assert_eq!(rt; publish.outputs(alloc)?.len(), 1);
     Ok(())
 }

@@ -7,6 +7,7 @@ use Rattle.fb_model.specs.System as book
 use Rattle.fb_model.specs.Typing.{AreDistinct}
 use Rattle.fb_model.specs.Wires as wires
 use Rattle.fb_model.specs.Wires.{leaves}
+use Rattle.fb_model.specs.Ranges.{LeafLies}
 use Rattle.fb_model.specs.Certificates.{DeviceFits, IsWired, name_at, depth_at}
 use Rattle.fb_model.specs.CertificateText.{names_in}
 use Rattle.fb_spelled.specs.Words.{IsWordyLeaf, IsWordyDevice}
@@ -31,8 +32,9 @@ use Rattle.fb_tables.specs.declared.table.Resource.{Resource}
 use Rattle.fb_tables.specs.declared.table.Tables.{Tables}
 use Rattle.fb_tables.specs.Runnable.{CanRun}
 use Rattle.fb_tables.specs.Tables.{AreResources, AreTables}
-use Rattle.fb_tables.specs.Filling.{Each, Numbered, Runs, numbered_from, paths_of, IsBlockMade, IsResourceMade, most_numbers}
-use Rattle.fb_tables.proofs.Lists.{all_got}
+use Rattle.fb_invoke.specs.Tables.{Each}
+use Rattle.fb_tables.specs.Filling.{Numbered, Runs, numbered_from, paths_of, IsBlockMade, IsResourceMade, most_numbers}
+use Rattle.fb_invoke.proofs.Lists.{all_got}
 use Rattle.fb_tables.proofs.Leaves.{IsSeated, all_seated, as_many_resources, paths_apart}
 use Rattle.fb_tables.proofs.Points.{IsKnownLeaf, AreKnown}
 use Rattle.fb_tables.proofs.Stops.{all_runnable}
@@ -64,16 +66,17 @@ typed_at (u ∷ ts) (suc n) t d e g = typed_at ts n t d e g
 
 -- ---- what is known of a device
 
-pub record IsKnown (f : FlatDevice) (d : book.Device) : Type 0 where
+pub record IsKnown (v : Verified) (f : FlatDevice) (d : book.Device) : Type 0 where
   pub words : IsWordyDevice d
   pub seated : Each IsSeated (numbered_from 0 f.resources.items) (leaves d)
   pub closed : AllByRecursion (λ (leaf : wires.Leaf). IsClosed leaf.kind) (leaves d)
   pub wired : AllByRecursion (IsWired (leaves d)) (leaves d)
+  pub lies : AllByRecursion (LeafLies (certificate_in v).ranges (leaves d)) (leaves d)
   pub apart : AreApart (leaves d)
   pub few : length (leaves d) ≤ most_numbers
   pub few_resources : length f.resources.items ≤ most_numbers
 
-pub known_at : (v : Verified) (n : ℕ) (f : FlatDevice) (d : book.Device) → IsChecked v → slice_get (system_in v).devices n ≡ Some d → f ≡ get_or v.flat.devices.items n f → IsKnown f d
+pub known_at : (v : Verified) (n : ℕ) (f : FlatDevice) (d : book.Device) → IsChecked v → slice_get (system_in v).devices n ≡ Some d → f ≡ get_or v.flat.devices.items n f → IsKnown v f d
 known_at v n f d checked e g =
     let s = system_in v in
     let w = checked.written in
@@ -86,6 +89,7 @@ known_at v n f d checked e g =
       seated = all_seated 0 (d.name ∷ []) f.resources.items d.resources flat.resources;
       closed = all_got (λ (x : book.Device). AllByRecursion (λ (leaf : wires.Leaf). IsClosed leaf.kind) (leaves x)) s.devices n d (all_charts_closed _ _ s elaborated) e;
       wired = fits.wired;
+      lies = fits.ranges;
       apart = all_got (λ (x : book.Device). AreApart (leaves x)) s.devices n d (all_apart _ _ s elaborated) e;
       few = omega (arith, few.0);
       few_resources = omega (arith, few.1, as_many_resources 0 (d.name ∷ []) f.resources.items d.resources flat.resources);
@@ -129,7 +133,7 @@ pub tables_are : (v : Verified) (n : ℕ) (f : FlatDevice) (t : from_device.Devi
     → Each (IsBlockMade v.certificate names ss) ss x.blocks.items → Each (IsResourceMade v.certificate (string_bytes t.name)) t.resources.items x.resources.items → AreTables (certificate_in v) d x
 tables_are v n f t d ss names x checked e g h seated runs paths blocks resources =
     let k = known_at v n f d checked e g in
-    let known : AreKnown ss (leaves d) = record { seated = seated; leaves = known_leaves (leaves d) (all_runnable ss (leaves d) seated runs) k.closed k.words.leaves; wired = k.wired; few = k.few } in
+    let known : AreKnown (certificate_in v).ranges ss (leaves d) = record { seated = seated; leaves = known_leaves (leaves d) (all_runnable ss (leaves d) seated runs) k.closed k.words.leaves; wired = k.wired; lies = k.lies; few = k.few } in
     let named : names ≡ paths_of ss = paths (paths_apart ss (leaves d) seated k.apart) in
     let typed : device_of t ≡ d = typed_at v.typed.devices.items n t d e h in
     record {

@@ -14,7 +14,8 @@ use Rattle.fb_cert.proofs.Places.{path_same}
 use Rattle.fb_check.specs.fb_flat.declared.flat.Leaf.{Leaf}
 use Rattle.fb_check.specs.fb_flat.declared.flat.FlatResource.{FlatResource}
 use Rattle.fb_check.specs.fb_flat.Tables.{IsLeaf, AreLeaves, AreResources}
-use Rattle.fb_tables.specs.Filling.{Each, Numbered, numbered, numbered_from, paths_of}
+use Rattle.fb_invoke.specs.Tables.{Each}
+use Rattle.fb_tables.specs.Filling.{Numbered, numbered, numbered_from, paths_of}
 use Rattle.fb_tables.proofs.Lists.{each_append}
 
 -- ---- one by one

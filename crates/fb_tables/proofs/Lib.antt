@@ -8,7 +8,9 @@ pub mod Numbers
 pub mod Charts
 pub mod Leaves
 pub mod Points
+pub mod Takes
+pub mod Carried
+pub mod Ports
 pub mod Stops
 pub mod Blocks
 pub mod Devices
-pub mod Reading

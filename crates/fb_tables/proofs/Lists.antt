@@ -4,7 +4,7 @@ use Rattle.std.specs.List.{Any, AllByRecursion}
 use Rattle.std.proofs.lemmas.List.{take_more}
 use Rattle.std.proofs.Math.Seq.{drop-cons}
 use Rattle.fb_model.proofs.Lists.{all_append}
-use Rattle.fb_tables.specs.Filling.{Each}
+use Rattle.fb_invoke.specs.Tables.{Each}
 
 pub each_push : {X Y : Type 0} (R : X → Y → Type 0) (xs : List X) (ys : List Y) (x : X) (y : Y) → Each R xs ys → R x y → Each R (xs ++ x ∷ []) (ys ++ y ∷ [])
 each_push R [] [] x y h r = (r, tt)
@@ -39,12 +39,6 @@ each_second Q [] (y ∷ ys) h = absurd h
 each_second Q (x ∷ xs) [] h = absurd h
 each_second Q (x ∷ xs) (y ∷ ys) h = (h.0, each_second Q xs ys h.1)
 
-pub each_length : {X Y : Type 0} (R : X → Y → Type 0) (xs : List X) (ys : List Y) → Each R xs ys → length ys ≡ length xs
-each_length R [] [] h = refl
-each_length R [] (y ∷ ys) h = absurd h
-each_length R (x ∷ xs) [] h = absurd h
-each_length R (x ∷ xs) (y ∷ ys) h = ap suc (each_length R xs ys h.1)
-
 pub each_append : {X Y : Type 0} (R : X → Y → Type 0) (xs us : List X) (ys vs : List Y) → Each R xs ys → Each R us vs → Each R (xs ++ us) (ys ++ vs)
 each_append R [] us [] vs h k = k
 each_append R [] us (y ∷ ys) vs h k = absurd h
@@ -59,17 +53,6 @@ each_at R (x ∷ xs) [] n h l = absurd h
 each_at R (x ∷ xs) (y ∷ ys) zero h l = (x, y, refl, refl, h.0)
 each_at R (x ∷ xs) (y ∷ ys) (suc n) h l = each_at R xs ys n h.1 (omega arith)
 
-pub image_at : {X Y : Type 0} (f : X → Y) (xs : List X) (n : ℕ) (x : X) → slice_get xs n ≡ Some x → slice_get (map f xs) n ≡ Some (f x)
-image_at f [] n x h = absurd cc
-image_at f (y ∷ xs) zero x h = let e : y ≡ x = cc in ap (λ z. Some (f z)) e
-image_at f (y ∷ xs) (suc n) x h = image_at f xs n x h
-
--- what is so of all is so of the one at an index
-pub all_got : {X : Type 0} (P : X → Type 0) (xs : List X) (n : ℕ) (x : X) → AllByRecursion P xs → slice_get xs n ≡ Some x → P x
-all_got P [] n x h e = absurd cc
-all_got P (y ∷ xs) zero x h e = let s : y ≡ x = cc in subst P s h.0
-all_got P (y ∷ xs) (suc n) x h e = all_got P xs n x h.1 e
-
 pub there : {X Y : Type 0} (f : X → Y) (xs : List X) (i : ℕ) (x : X) → i < length xs → x ≡ get_or xs i x → (i < length (map f xs)) × (f x ≡ get_or (map f xs) i (f x))
 there f [] i x l e = absurd (omega arith)
 there f (y ∷ xs) zero x l e = (omega arith, ap f e)
@@ -80,6 +63,13 @@ each_map R S [] [] f h = tt
 each_map R S [] (y ∷ ys) f h = absurd h
 each_map R S (x ∷ xs) [] f h = absurd h
 each_map R S (x ∷ xs) (y ∷ ys) f h = (f x y h.0, each_map R S xs ys f h.1)
+
+-- the same of images
+pub each_image : {X Y Z : Type 0} (R : Z → Y → Type 0) (f : X → Z) (xs : List X) (ys : List Y) → Each (λ x y. R (f x) y) xs ys → Each R (map f xs) ys
+each_image R f [] [] h = tt
+each_image R f [] (y ∷ ys) h = absurd h
+each_image R f (x ∷ xs) [] h = absurd h
+each_image R f (x ∷ xs) (y ∷ ys) h = (h.0, each_image R f xs ys h.1)
 
 -- ---- indices
 

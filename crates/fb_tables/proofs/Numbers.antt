@@ -51,8 +51,7 @@ number_some x names i n e f =
     λ few listed.
     let l = place_below (bytes_eq x) names i e in
     let same : n ≡ i = f (omega (arith, l, few)) in
-    let at : slice_get names n ≡ Some x = ap (slice_get names) same ∙ stands x names i e in
-    (omega (arith, l, same), ap (λ (o : Option Name). elim o [ None ↦ [] | Some y ↦ y ]) at)
+    ap (slice_get names) same ∙ stands x names i e
 
 pub number_none : (x : Name) (names : List Name) (n : ℕ) → place (bytes_eq x) names ≡ None → IsNumber names x n
 number_none x names n e = λ few listed. absurd (let none = not_placed x names e in let f : false ≡ true = sym none ∙ listed in cc)

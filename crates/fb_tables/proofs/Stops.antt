@@ -1,7 +1,6 @@
 -- Leaves that a device can run, and the refusal of one that it cannot.
-use Rattle.std.proofs.Common.{◌≡◌, true, false, ◌==◌, List, [], ◌∷◌, map, length, Option, None, Some, option_map, is_some, string_bytes, refl, sym, ap, subst, ◌∙◌, arith}
+use Rattle.std.proofs.Common.{◌≡◌, List, string_bytes, refl, sym, ap, subst, ◌∙◌}
 use Rattle.std.specs.List.{AllByRecursion}
-use Rattle.std.proofs.lemmas.Bool.{eqb-true}
 use Rattle.fb_model.specs.System.{Device}
 use Rattle.fb_model.specs.Wires as wires
 use Rattle.fb_model.specs.Wires.{leaves}
@@ -9,7 +8,8 @@ use Rattle.fb_model.specs.CertificateText.{names_in}
 use Rattle.fb_tables.specs.declared.unfit.Unfit.{Unfit}
 use Rattle.fb_tables.specs.declared.unfit.Unfit.TheVariants.{OutOfMemory, CannotRun}
 use Rattle.fb_tables.specs.Runnable.{CanRun, IsUnfit}
-use Rattle.fb_tables.specs.Filling.{Each, Numbered, Runs, IsStopped}
+use Rattle.fb_invoke.specs.Tables.{Each}
+use Rattle.fb_tables.specs.Filling.{Numbered, Runs, IsStopped}
 use Rattle.fb_tables.proofs.Lists.{all_across, any_across, none_lacks}
 use Rattle.fb_tables.proofs.Leaves.{IsSeated}
 
@@ -29,17 +29,3 @@ pub only_memory : (d : Device) (f : Unfit) → AllByRecursion (λ (b : wires.Lea
 only_memory d OutOfMemory r h = refl
 only_memory d (CannotRun row) r h =
     absurd (none_lacks (λ (b : wires.Leaf). CanRun b.kind) (λ (b : wires.Leaf). (names_in (string_bytes row) ≡ b.path) × (CanRun b.kind → ⊥)) (leaves d) (λ b p q. q.1 p) r h)
-
--- ---- tests
-
-pub is_there : {A B : Type 0} (f : A → B) (o : Option A) → is_some o ≡ true → option_map f o ≡ None → ⊥
-is_there f None h e = absurd cc
-is_there f (Some x) h e = absurd cc
-
-pub some_there : {A B : Type 0} (f : A → B) (xs : List A) → (length xs == 0) ≡ false → map f xs ≡ [] → ⊥
-some_there f [] h e = absurd cc
-some_there f (x ∷ xs) h e = absurd cc
-
-pub none_there : {A B : Type 0} (f : A → B) (xs : List A) → (length xs == 0) ≡ true → map f xs ≡ []
-none_there f [] h = refl
-none_there f (x ∷ xs) h = absurd (let e = eqb-true (length (x ∷ xs)) 0 h in omega (arith, e))

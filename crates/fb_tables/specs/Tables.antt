@@ -1,65 +1,36 @@
 -- When tables are those of a device of the book.
 -- IEC 61499-1 edition 2, 5.2 (charts), 5.3 (instances and their connections) and 7 (devices and resources).
-use Rattle.std.specs.Prelude.{ℕ, ◌≡◌, ◌<◌, ◌≤◌, ◌+◌, List, [], ◌∷◌, map, length, string_bytes, Some, slice_get, IfSome}
+use Rattle.std.specs.Prelude.{ℕ, ℤ, ◌≡◌, ◌<◌, ◌≤◌, ◌+◌, List, [], ◌∷◌, map, length, replicate, string_bytes, Some, slice_get}
 use Rattle.std.specs.List.{AllByRecursion}
-use Rattle.fb_model.specs.Names.{Name, Path, at_place}
+use Rattle.fb_model.specs.Names.{Path, at_place}
+use Rattle.fb_model.specs.Values.{Value, One, Many}
 use Rattle.fb_model.specs.System as book
-use Rattle.fb_model.specs.Typing.{AreDistinct}
-use Rattle.fb_model.specs.Services.{service_event_outputs}
-use Rattle.fb_model.specs.Wires.{Kind, Charted, Serviced, Leaf, leaves}
+use Rattle.fb_model.specs.Wires as wires
+use Rattle.fb_model.specs.Wires.{Leaf, leaves}
 use Rattle.fb_model.specs.CertificateText.{names_in}
-use Rattle.fb_model.specs.Certificates.{Certificate, event_names as event_names_of, events_of, depth_of}
+use Rattle.fb_model.specs.Certificates.{Certificate, events_of, depth_of}
 use Rattle.fb_model.specs.Devices.{steps_row, places_row}
 use Rattle.fb_leaves.specs.Leaves.{AreApart}
-use Rattle.fb_tables.specs.declared.table.Point.{Point}
-use Rattle.fb_tables.specs.declared.table.Event.{Event}
-use Rattle.fb_tables.specs.declared.table.Output.{Output}
-use Rattle.fb_tables.specs.declared.table.Action.{Action}
-use Rattle.fb_tables.specs.declared.table.State.{State}
-use Rattle.fb_tables.specs.declared.table.Transition.{Transition}
-use Rattle.fb_tables.specs.declared.table.Chart.{Chart}
-use Rattle.fb_tables.specs.declared.table.Body.{Body}
-use Rattle.fb_tables.specs.declared.table.Body.TheVariants as b
-use Rattle.fb_tables.specs.declared.table.Block.{Block}
+use Rattle.fb_invoke.specs.declared.table.Point.{Point}
+use Rattle.fb_invoke.specs.declared.table.Source.{Source}
+use Rattle.fb_invoke.specs.declared.table.Source.TheVariants as s
+use Rattle.fb_invoke.specs.declared.table.Take.{Take}
+use Rattle.fb_invoke.specs.declared.table.Event.{Event}
+use Rattle.fb_invoke.specs.declared.table.Output.{Output}
+use Rattle.fb_invoke.specs.declared.table.Block.{Block}
+use Rattle.fb_invoke.specs.Views.{kind_of}
+use Rattle.fb_invoke.specs.Tables.{IsTable}
 use Rattle.fb_tables.specs.declared.table.Resource.{Resource}
 use Rattle.fb_tables.specs.declared.table.Tables.{Tables}
-use Rattle.fb_tables.specs.Views.{place_at, state_names, event_names, output_names, kind_of}
+use Rattle.fb_tables.specs.Views.{place_at}
 
--- ---- numbers stand for something
+-- ---- events and where outputs lead
 
 -- the point is an event of a leaf
 pub record IsPoint (all : List Leaf) (p : Point) : Type 0 where
   pub leaf : Leaf
   pub block : slice_get all p.block ≡ Some leaf
   pub event : p.event < length (events_of leaf.kind)
-
--- a transition between two of so many states, with one of so many events, if it has one
-pub record IsTransition (states events : ℕ) (t : Transition) : Type 0 where
-  pub source : t.source < states
-  pub target : t.target < states
-  pub event : IfSome t.event (λ e. e < events)
-
--- it emits one of so many outputs, if it emits one
-abbrev pub IsAction : ℕ → Action → Type 0
-IsAction outputs a = IfSome a.output (λ o. o < outputs)
-
--- the numbers in a chart, and the names of its states, which are all different
-pub record IsChart (events outputs : ℕ) (c : Chart) : Type 0 where
-  pub few : length c.states.items ≤ 65535
-  pub apart : AreDistinct (state_names c.states.items)
-  pub actions : AllByRecursion (λ (x : State). AllByRecursion (IsAction outputs) x.actions.items) c.states.items
-  pub transitions : AllByRecursion (IsTransition (length c.states.items) events) c.transitions.items
-
-abbrev pub IsBody : ℕ → ℕ → Body → Type 0
-IsBody events outputs (b.Chart c) = IsChart events outputs c
-IsBody events outputs (b.Input number) = Unit {0}
-
--- ---- blocks
-
--- the event outputs of a leaf
-abbrev pub outputs_of : Kind → List Name
-outputs_of (Charted block) = event_names_of block.event_outputs
-outputs_of (Serviced service) = service_event_outputs service
 
 -- an event has the numbers of its WEIGHT row
 pub record IsWeighed (cert : Certificate) (path : Path) (e : Event) : Type 0 where
@@ -71,18 +42,35 @@ pub record LeadsTo (all : List Leaf) (leaf : Leaf) (o : Output) : Type 0 where
   pub points : AllByRecursion (IsPoint all) o.targets.items
   pub targets : map (place_at all) o.targets.items ≡ leaf.targets (string_bytes o.name)
 
+-- ---- where values come from
+
+-- one number, or this number in each element
+abbrev pub IsFilled : ℤ → Value → Type 0
+IsFilled n (One k) = k ≡ n
+IsFilled n (Many ks) = ks ≡ replicate (length ks) n
+
+-- an output of the leaf of this number, or a constant
+abbrev pub IsOrigin : List Leaf → Source → wires.Source → Type 0
+IsOrigin all (s.Output block y) (wires.Output_of path name) = (leaf : Leaf) × (slice_get all block ≡ Some leaf) × (leaf.path ≡ path) × (string_bytes y ≡ name)
+IsOrigin all (s.Number n) (wires.Constant value) = IsFilled n value
+IsOrigin all (s.Output block y) (wires.Constant value) = ⊥
+IsOrigin all (s.Number n) (wires.Output_of path name) = ⊥
+
+-- an input takes its value where the leaf's does
+abbrev pub IsTaken : List Leaf → Leaf → Take → Type 0
+IsTaken all leaf t = IsOrigin all t.source (leaf.source (string_bytes t.input))
+
+-- ---- blocks
+
 -- a block of the tables is this one of the leaves of a device
 pub record IsBlock (cert : Certificate) (all : List Leaf) (x : Block) (leaf : Leaf) : Type 0 where
   pub path : names_in (string_bytes x.path) ≡ leaf.path
   pub home : x.resource ≡ leaf.home
   pub kind : kind_of x ≡ leaf.kind
-  pub events : event_names x ≡ events_of leaf.kind
-  pub outputs : output_names x ≡ outputs_of leaf.kind
-  pub apart : AreDistinct (event_names x)
-  pub few : length x.events.items ≤ 65535
+  pub table : IsTable x
   pub weights : AllByRecursion (IsWeighed cert leaf.path) x.events.items
+  pub takes : AllByRecursion (λ (e : Event). AllByRecursion (IsTaken all leaf) e.takes.items) x.events.items
   pub leads : AllByRecursion (LeadsTo all leaf) x.outputs.items
-  pub body : IsBody (length x.events.items) (length x.outputs.items) x.body
 
 -- the same of many, one by one
 abbrev pub AreBlocks : Certificate → List Leaf → List Block → List Leaf → Type 0

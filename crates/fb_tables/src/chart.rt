@@ -1,15 +1,37 @@
 //! Charts whose states, events and outputs are numbers.
 
 ghost use Rattle.std.specs.Prelude.{◌≡◌, IfOk};
+ghost use Rattle.fb_check.specs.fb_blocks.Views.{name_of};
 ghost use Rattle.fb_check.specs.fb_blocks.Answers.{names_in_map};
-ghost use Rattle.fb_tables.specs.Filling.{Each, IsActionMade, IsStateMade, IsTransitionMade, IsChartMade};
+ghost use Rattle.fb_invoke.specs.Tables.{Each};
+ghost use Rattle.fb_tables.specs.Filling.{IsActionMade, IsStateMade, IsTransitionMade, IsChartMade};
 
 use crate::names::{number_in, optional};
-use crate::table::{Action, Chart, State, Transition};
 use fb_check::fb_columns::fb_flat::fb_types::fb_networks::fb_services::fb_blocks;
 use fb_check::fb_columns::fb_flat::fb_types::fb_networks::fb_services::fb_blocks::Events;
+use fb_invoke::{Action, Chart, State, Transition};
 use indexmap::IndexMap;
 use std::alloc::{AllocError, Global};
+use std::rc::Rc;
+
+// The same name again, where there is one.
+fn again(name: &Option<String>) -> Result<Option<String>, AllocError>
+    ensures { IfOk result (λ o. name_of o ≡ name_of name.now) }
+{
+    match name {
+        Some(name) => Ok(Some(name.clone()?)),
+        None => Ok(None),
+    }
+}
+
+// An action: its algorithm by name, and its output by number.
+fn action(outputs: &Events, source: &fb_blocks::Action) -> Result<Action, AllocError>
+    ensures { IfOk result (λ x. IsActionMade (names_in_map outputs.now) source.now x) }
+{
+    let algorithm = again(&source.algorithm)?;
+    let output = optional(outputs, &source.output);
+    Ok(Action { algorithm, output })
+}
 
 // Actions, in order.
 fn actions(
@@ -21,8 +43,7 @@ fn actions(
 {
     let mut actions = Vec::new(alloc);
     for source in sources {
-        let output = optional(outputs, &source.output);
-        actions.push(Action { output })?;
+        actions.push(action(outputs, source)?)?;
     }
     Ok(actions)
 }
@@ -90,14 +111,15 @@ fn transitions(
     Ok(transitions)
 }
 
-/// The chart of a basic block, without its algorithms and guards.
-pub fn chart(alloc: Global, block: &fb_blocks::Block) -> Result<Chart, AllocError>
-    ensures { IfOk result (λ c. IsChartMade block.now c) }
+/// The chart of a basic block.
+pub fn chart(alloc: Global, block: &Rc<fb_blocks::Block>) -> Result<Chart, AllocError>
+    ensures { IfOk result (λ c. IsChartMade block.now.value c) }
 {
     let face = &block.face;
     let states = states(alloc, &face.event_outputs, &block.states)?;
     let transitions = transitions(alloc, &block.states, &face.event_inputs, &block.transitions)?;
     Ok(Chart {
+        block: block.clone()?,
         states,
         transitions,
     })

@@ -3,7 +3,7 @@
 ghost use Rattle.std.specs.Prelude.{◌≡◌, ◌≤◌};
 ghost use Rattle.fb_check.specs.fb_blocks.Answers.{names_in_map};
 ghost use Rattle.fb_check.specs.fb_blocks.Views.{names_of};
-ghost use Rattle.fb_tables.specs.Filling.{IsNumber, IsOptional, most_numbers};
+ghost use Rattle.fb_tables.specs.Filling.{IsNumber, IsOptionalNumber, most_numbers};
 
 use indexmap::{IndexMap, IndexSet};
 
@@ -36,7 +36,7 @@ pub fn number_in<V>(table: &IndexMap<String, V>, name: &str) -> u16
 
 /// The number of a name in a table, where there is a name.
 pub fn optional<V>(table: &IndexMap<String, V>, name: &Option<String>) -> Option<u16>
-    ensures { IsOptional (names_in_map table.now) name.now result }
+    ensures { IsOptionalNumber (names_in_map table.now) name.now result }
 {
     match name {
         Some(name) => Some(number_in(table, name.as_str())),

@@ -8,7 +8,8 @@ ghost use Rattle.fb_cert.specs.Views.{depth_in};
 ghost use Rattle.fb_check.specs.Verdicts.{system_in, certificate_in, IsChecked};
 ghost use Rattle.fb_tables.specs.Runnable.{CanRun, IsUnfit};
 ghost use Rattle.fb_tables.specs.Tables.{AreTables};
-ghost use Rattle.fb_tables.specs.Filling.{Each, IsResourceMade};
+ghost use Rattle.fb_invoke.specs.Tables.{Each};
+ghost use Rattle.fb_tables.specs.Filling.{IsResourceMade};
 ghost use Rattle.fb_tables.specs.declared.unfit.Unfit.TheVariants.{OutOfMemory};
 
 use crate::block::blocks;

@@ -78,7 +78,7 @@ fn a_button_and_a_cell(rt: HostRuntime) -> Result<(), Fail> {
     let alloc = rt.alloc();
     assert_eq!(rt;
         told(alloc, BUTTON_AND_CELL, CERTIFICATE)?.as_str(),
-        r#"Tables { blocks: [Block { path: "D.R.BUTTON", resource: 0, events: [Event { name: "ARRIVE", steps: 4, places: 1 }], outputs: [Output { name: "IND", targets: [Point { block: 1, event: 0 }] }], body: Input(1) }, Block { path: "D.R.C", resource: 0, events: [Event { name: "EI", steps: 3, places: 1 }], outputs: [], body: Chart(Chart { states: [State { name: "START", actions: [] }, State { name: "DONE", actions: [] }], transitions: [Transition { source: 0, target: 1, event: Some(0) }, Transition { source: 1, target: 0, event: None }] }) }], resources: [Resource { name: "R", depth: 1 }] }"#
+        r#"Tables { blocks: [Block { path: "D.R.BUTTON", resource: 0, events: [Event { name: "ARRIVE", steps: 4, places: 1, takes: [] }], outputs: [Output { name: "IND", targets: [Point { block: 1, event: 0 }], gives: [] }], body: Input(1, []) }, Block { path: "D.R.C", resource: 0, events: [Event { name: "EI", steps: 3, places: 1, takes: [] }], outputs: [], body: Chart(Chart { block: Block { face: Face { event_inputs: {"EI": []}, event_outputs: {}, inputs: {}, outputs: {} }, internals: {}, states: {"START": [], "DONE": []}, transitions: [Transition { source: "START", target: "DONE", event: Some("EI"), guard: None }, Transition { source: "DONE", target: "START", event: None, guard: None }], procedures: {} }, states: [State { name: "START", actions: [] }, State { name: "DONE", actions: [] }], transitions: [Transition { source: 0, target: 1, event: Some(0) }, Transition { source: 1, target: 0, event: None }] }) }], resources: [Resource { name: "R", depth: 1 }] }"#
     );
     Ok(())
 }
@@ -89,7 +89,7 @@ fn a_gate_before_two_cells(rt: HostRuntime) -> Result<(), Fail> {
     let alloc = rt.alloc();
     assert_eq!(rt;
         told(alloc, GATE, GATE_ROWS)?.as_str(),
-        r#"Tables { blocks: [Block { path: "D.R.BUTTON", resource: 0, events: [Event { name: "ARRIVE", steps: 25, places: 6 }], outputs: [Output { name: "IND", targets: [Point { block: 1, event: 1 }, Point { block: 1, event: 0 }] }], body: Input(7) }, Block { path: "D.R.G", resource: 0, events: [Event { name: "A", steps: 10, places: 2 }, Event { name: "B", steps: 14, places: 3 }], outputs: [Output { name: "X", targets: [Point { block: 2, event: 0 }] }, Output { name: "Y", targets: [Point { block: 3, event: 0 }, Point { block: 2, event: 0 }] }], body: Chart(Chart { states: [State { name: "S0", actions: [] }, State { name: "S1", actions: [Action { output: Some(1) }] }, State { name: "S2", actions: [Action { output: Some(0) }, Action { output: Some(1) }] }], transitions: [Transition { source: 0, target: 1, event: Some(0) }, Transition { source: 0, target: 2, event: Some(1) }, Transition { source: 1, target: 0, event: None }, Transition { source: 2, target: 0, event: None }] }) }, Block { path: "D.R.C1", resource: 0, events: [Event { name: "EI", steps: 4, places: 1 }], outputs: [], body: Chart(Chart { states: [State { name: "START", actions: [] }, State { name: "DONE", actions: [] }], transitions: [Transition { source: 0, target: 1, event: Some(0) }, Transition { source: 1, target: 0, event: None }] }) }, Block { path: "D.R.C2", resource: 0, events: [Event { name: "EI", steps: 3, places: 1 }], outputs: [], body: Chart(Chart { states: [State { name: "START", actions: [] }, State { name: "DONE", actions: [] }], transitions: [Transition { source: 0, target: 1, event: Some(0) }, Transition { source: 1, target: 0, event: None }] }) }], resources: [Resource { name: "R", depth: 8 }] }"#
+        r#"Tables { blocks: [Block { path: "D.R.BUTTON", resource: 0, events: [Event { name: "ARRIVE", steps: 25, places: 6, takes: [] }], outputs: [Output { name: "IND", targets: [Point { block: 1, event: 1 }, Point { block: 1, event: 0 }], gives: [] }], body: Input(7, []) }, Block { path: "D.R.G", resource: 0, events: [Event { name: "A", steps: 10, places: 2, takes: [] }, Event { name: "B", steps: 14, places: 3, takes: [] }], outputs: [Output { name: "X", targets: [Point { block: 2, event: 0 }], gives: [] }, Output { name: "Y", targets: [Point { block: 3, event: 0 }, Point { block: 2, event: 0 }], gives: [] }], body: Chart(Chart { block: Block { face: Face { event_inputs: {"A": [], "B": []}, event_outputs: {"X": [], "Y": []}, inputs: {}, outputs: {} }, internals: {}, states: {"S0": [], "S1": [Action { algorithm: None, output: Some("Y") }], "S2": [Action { algorithm: None, output: Some("X") }, Action { algorithm: None, output: Some("Y") }]}, transitions: [Transition { source: "S0", target: "S1", event: Some("A"), guard: None }, Transition { source: "S0", target: "S2", event: Some("B"), guard: None }, Transition { source: "S1", target: "S0", event: None, guard: None }, Transition { source: "S2", target: "S0", event: None, guard: None }], procedures: {} }, states: [State { name: "S0", actions: [] }, State { name: "S1", actions: [Action { algorithm: None, output: Some(1) }] }, State { name: "S2", actions: [Action { algorithm: None, output: Some(0) }, Action { algorithm: None, output: Some(1) }] }], transitions: [Transition { source: 0, target: 1, event: Some(0) }, Transition { source: 0, target: 2, event: Some(1) }, Transition { source: 1, target: 0, event: None }, Transition { source: 2, target: 0, event: None }] }) }, Block { path: "D.R.C1", resource: 0, events: [Event { name: "EI", steps: 4, places: 1, takes: [] }], outputs: [], body: Chart(Chart { block: Block { face: Face { event_inputs: {"EI": []}, event_outputs: {}, inputs: {}, outputs: {} }, internals: {}, states: {"START": [], "DONE": []}, transitions: [Transition { source: "START", target: "DONE", event: Some("EI"), guard: None }, Transition { source: "DONE", target: "START", event: None, guard: None }], procedures: {} }, states: [State { name: "START", actions: [] }, State { name: "DONE", actions: [] }], transitions: [Transition { source: 0, target: 1, event: Some(0) }, Transition { source: 1, target: 0, event: None }] }) }, Block { path: "D.R.C2", resource: 0, events: [Event { name: "EI", steps: 3, places: 1, takes: [] }], outputs: [], body: Chart(Chart { block: Block { face: Face { event_inputs: {"EI": []}, event_outputs: {}, inputs: {}, outputs: {} }, internals: {}, states: {"START": [], "DONE": []}, transitions: [Transition { source: "START", target: "DONE", event: Some("EI"), guard: None }, Transition { source: "DONE", target: "START", event: None, guard: None }], procedures: {} }, states: [State { name: "START", actions: [] }, State { name: "DONE", actions: [] }], transitions: [Transition { source: 0, target: 1, event: Some(0) }, Transition { source: 1, target: 0, event: None }] }) }], resources: [Resource { name: "R", depth: 8 }] }"#
     );
     Ok(())
 }
@@ -140,7 +140,7 @@ fn a_composite(rt: HostRuntime) -> Result<(), Fail> {
     let alloc = rt.alloc();
     assert_eq!(rt;
         told(alloc, NESTED, NESTED_ROWS)?.as_str(),
-        r#"Tables { blocks: [Block { path: "D.R.BUTTON", resource: 0, events: [Event { name: "ARRIVE", steps: 7, places: 1 }], outputs: [Output { name: "IND", targets: [Point { block: 1, event: 1 }] }], body: Input(1) }, Block { path: "D.R.W.M", resource: 0, events: [Event { name: "EI1", steps: 8, places: 2 }, Event { name: "EI2", steps: 6, places: 1 }], outputs: [Output { name: "EO", targets: [Point { block: 2, event: 0 }] }], body: Chart(Chart { states: [State { name: "START", actions: [] }, State { name: "ACT", actions: [Action { output: Some(0) }] }], transitions: [Transition { source: 0, target: 1, event: Some(0) }, Transition { source: 0, target: 1, event: Some(1) }, Transition { source: 1, target: 0, event: None }] }) }, Block { path: "D.R.C", resource: 0, events: [Event { name: "EI", steps: 3, places: 1 }], outputs: [], body: Chart(Chart { states: [State { name: "START", actions: [] }, State { name: "DONE", actions: [] }], transitions: [Transition { source: 0, target: 1, event: Some(0) }, Transition { source: 1, target: 0, event: None }] }) }], resources: [Resource { name: "R", depth: 1 }] }"#
+        r#"Tables { blocks: [Block { path: "D.R.BUTTON", resource: 0, events: [Event { name: "ARRIVE", steps: 7, places: 1, takes: [] }], outputs: [Output { name: "IND", targets: [Point { block: 1, event: 1 }], gives: [] }], body: Input(1, []) }, Block { path: "D.R.W.M", resource: 0, events: [Event { name: "EI1", steps: 8, places: 2, takes: [] }, Event { name: "EI2", steps: 6, places: 1, takes: [] }], outputs: [Output { name: "EO", targets: [Point { block: 2, event: 0 }], gives: [] }], body: Chart(Chart { block: Block { face: Face { event_inputs: {"EI1": [], "EI2": []}, event_outputs: {"EO": []}, inputs: {}, outputs: {} }, internals: {}, states: {"START": [], "ACT": [Action { algorithm: None, output: Some("EO") }]}, transitions: [Transition { source: "START", target: "ACT", event: Some("EI1"), guard: None }, Transition { source: "START", target: "ACT", event: Some("EI2"), guard: None }, Transition { source: "ACT", target: "START", event: None, guard: None }], procedures: {} }, states: [State { name: "START", actions: [] }, State { name: "ACT", actions: [Action { algorithm: None, output: Some(0) }] }], transitions: [Transition { source: 0, target: 1, event: Some(0) }, Transition { source: 0, target: 1, event: Some(1) }, Transition { source: 1, target: 0, event: None }] }) }, Block { path: "D.R.C", resource: 0, events: [Event { name: "EI", steps: 3, places: 1, takes: [] }], outputs: [], body: Chart(Chart { block: Block { face: Face { event_inputs: {"EI": []}, event_outputs: {}, inputs: {}, outputs: {} }, internals: {}, states: {"START": [], "DONE": []}, transitions: [Transition { source: "START", target: "DONE", event: Some("EI"), guard: None }, Transition { source: "DONE", target: "START", event: None, guard: None }], procedures: {} }, states: [State { name: "START", actions: [] }, State { name: "DONE", actions: [] }], transitions: [Transition { source: 0, target: 1, event: Some(0) }, Transition { source: 1, target: 0, event: None }] }) }], resources: [Resource { name: "R", depth: 1 }] }"#
     );
     Ok(())
 }
@@ -164,55 +164,64 @@ fn two_resources(rt: HostRuntime) -> Result<(), Fail> {
     let alloc = rt.alloc();
     assert_eq!(rt;
         told(alloc, TWO, TWO_ROWS)?.as_str(),
-        r#"Tables { blocks: [Block { path: "D.A.X", resource: 0, events: [Event { name: "ARRIVE", steps: 1, places: 1 }], outputs: [Output { name: "IND", targets: [] }], body: Input(1) }, Block { path: "D.B.Y", resource: 1, events: [Event { name: "ARRIVE", steps: 2, places: 1 }], outputs: [Output { name: "IND", targets: [] }], body: Input(2) }], resources: [Resource { name: "A", depth: 1 }, Resource { name: "B", depth: 2 }] }"#
+        r#"Tables { blocks: [Block { path: "D.A.X", resource: 0, events: [Event { name: "ARRIVE", steps: 1, places: 1, takes: [] }], outputs: [Output { name: "IND", targets: [], gives: [] }], body: Input(1, []) }, Block { path: "D.B.Y", resource: 1, events: [Event { name: "ARRIVE", steps: 2, places: 1, takes: [] }], outputs: [Output { name: "IND", targets: [], gives: [] }], body: Input(2, []) }], resources: [Resource { name: "A", depth: 1 }, Resource { name: "B", depth: 2 }] }"#
     );
     Ok(())
 }
 
-const VARIABLE: &str = "FUNCTION_BLOCK B
-EVENT_INPUT EI; END_EVENT
-VAR X : BOOL; END_VAR
-EC_STATES S1; S2; END_STATES
-EC_TRANSITIONS S1 TO S2 := EI; S2 TO S1 := 1; END_TRANSITIONS
-END_FUNCTION_BLOCK
-SYSTEM S DEVICE D RESOURCE R FBS C : B; END_FBS END_RESOURCE END_DEVICE END_SYSTEM
-";
-
-const VARIABLE_ROWS: &str = "CERT 1
-CHARGE D.R.C.S1 0 0
-CHARGE D.R.C.S2 1 0
-WEIGHT D.R.C.EI 3 1
-DEPTH D.R 1
-";
-
-const LAMP: &str = "SYSTEM S DEVICE D RESOURCE R
-FBS BUTTON : INPUT(ID := 1); LAMP : OUTPUT(ID := 1); END_FBS
-EVENT_CONNECTIONS BUTTON.IND TO LAMP.REQ; END_CONNECTIONS
-END_RESOURCE END_DEVICE END_SYSTEM
-";
-
-const LAMP_ROWS: &str = "CERT 1
-WEIGHT D.R.BUTTON.ARRIVE 2 1
-WEIGHT D.R.LAMP.REQ 1 1
-DEPTH D.R 1
-";
-
-const VALUED: &str = "FUNCTION_BLOCK CELL
-EVENT_INPUT EI; END_EVENT
-EC_STATES START; DONE; END_STATES
-EC_TRANSITIONS START TO DONE := EI; DONE TO START := 1; END_TRANSITIONS
+// A block with data inputs and a data output, an algorithm and a guard. One input is connected, one has a parameter, and one its start value.
+const SCALE: &str = "FUNCTION_BLOCK SCALE
+EVENT_INPUT REQ WITH X, K, T; SET WITH K; END_EVENT
+EVENT_OUTPUT CNF WITH Y; END_EVENT
+VAR_INPUT X : INT; K : INT; T : INT := 3; END_VAR
+VAR_OUTPUT Y : INT; END_VAR
+EC_STATES START; ACT : CALC -> CNF; END_STATES
+EC_TRANSITIONS START TO ACT := REQ [X > 0]; ACT TO START := 1; END_TRANSITIONS
+ALGORITHM CALC IN ST: Y := X; END_ALGORITHM
 END_FUNCTION_BLOCK
 SYSTEM S DEVICE D RESOURCE R
-FBS C : CELL; SRC : INPUT[INT](ID := 1); END_FBS
-EVENT_CONNECTIONS SRC.IND TO C.EI; END_CONNECTIONS
+FBS LAMP : OUTPUT[INT, INT](ID := 2, SD_2 := 9); SRC : INPUT[INT, INT](ID := 1); C : SCALE(K := 5); END_FBS
+EVENT_CONNECTIONS SRC.IND TO C.REQ; C.CNF TO LAMP.REQ; END_CONNECTIONS
+DATA_CONNECTIONS SRC.RD_2 TO C.X; C.Y TO LAMP.SD_1; END_CONNECTIONS
 END_RESOURCE END_DEVICE END_SYSTEM
 ";
 
-const VALUED_ROWS: &str = "CERT 1
+const SCALE_ROWS: &str = "CERT 1
+RANGE D.R.C.X -32768 32767
+RANGE D.R.C.K 0 9
+RANGE D.R.C.T 3 3
+RANGE D.R.C.Y -32768 32767
 CHARGE D.R.C.START 0 0
-CHARGE D.R.C.DONE 1 0
-WEIGHT D.R.SRC.ARRIVE 4 1
-WEIGHT D.R.C.EI 3 1
+CHARGE D.R.C.ACT 3 1
+WEIGHT D.R.LAMP.REQ 1 1
+WEIGHT D.R.SRC.ARRIVE 6 1
+WEIGHT D.R.C.REQ 5 1
+WEIGHT D.R.C.SET 2 1
+DEPTH D.R 1
+";
+
+// What events take and give, and where it comes from.
+#[test]
+fn a_block_with_data(rt: HostRuntime) -> Result<(), Fail> {
+    let alloc = rt.alloc();
+    assert_eq!(rt;
+        told(alloc, SCALE, SCALE_ROWS)?.as_str(),
+        r#"Tables { blocks: [Block { path: "D.R.LAMP", resource: 0, events: [Event { name: "REQ", steps: 1, places: 1, takes: [Take { input: "SD_1", source: Output(2, "Y") }, Take { input: "SD_2", source: Number(9) }] }], outputs: [], body: Output(2, [Int, Int]) }, Block { path: "D.R.SRC", resource: 0, events: [Event { name: "ARRIVE", steps: 6, places: 1, takes: [] }], outputs: [Output { name: "IND", targets: [Point { block: 2, event: 0 }], gives: ["RD_1", "RD_2"] }], body: Input(1, [Int, Int]) }, Block { path: "D.R.C", resource: 0, events: [Event { name: "REQ", steps: 5, places: 1, takes: [Take { input: "X", source: Output(1, "RD_2") }, Take { input: "K", source: Number(5) }, Take { input: "T", source: Number(3) }] }, Event { name: "SET", steps: 2, places: 1, takes: [Take { input: "K", source: Number(5) }] }], outputs: [Output { name: "CNF", targets: [Point { block: 0, event: 0 }], gives: ["Y"] }], body: Chart(Chart { block: Block { face: Face { event_inputs: {"REQ": ["X", "K", "T"], "SET": ["K"]}, event_outputs: {"CNF": ["Y"]}, inputs: {"X": Variable { of_type: Int, bounds: None, start: None }, "K": Variable { of_type: Int, bounds: None, start: None }, "T": Variable { of_type: Int, bounds: None, start: Some(3) }}, outputs: {"Y": Variable { of_type: Int, bounds: None, start: None }} }, internals: {}, states: {"START": [], "ACT": [Action { algorithm: Some("CALC"), output: Some("CNF") }]}, transitions: [Transition { source: "START", target: "ACT", event: Some("REQ"), guard: Some(Chain(Read("X"), [TypedLink { operation: Infix(Greater), of_type: Int, operand: Constant(0) }])) }, Transition { source: "ACT", target: "START", event: None, guard: None }], procedures: {"CALC": Algo { statements: [Set("Y", Read("X"))] }} }, states: [State { name: "START", actions: [] }, State { name: "ACT", actions: [Action { algorithm: Some("CALC"), output: Some(0) }] }], transitions: [Transition { source: 0, target: 1, event: Some(0) }, Transition { source: 1, target: 0, event: None }] }) }], resources: [Resource { name: "R", depth: 1 }] }"#
+    );
+    Ok(())
+}
+
+const SENDER: &str = "SYSTEM S DEVICE D RESOURCE R
+FBS BUTTON : INPUT[INT](ID := 1); PUB : PUBLISH[INT](ID := 3, QI := TRUE); END_FBS
+EVENT_CONNECTIONS BUTTON.IND TO PUB.REQ; END_CONNECTIONS
+DATA_CONNECTIONS BUTTON.RD_1 TO PUB.SD_1; END_CONNECTIONS
+END_RESOURCE END_DEVICE END_SYSTEM
+";
+
+const SENDER_ROWS: &str = "CERT 1
+WEIGHT D.R.BUTTON.ARRIVE 3 1
+WEIGHT D.R.PUB.INIT 1 1
+WEIGHT D.R.PUB.REQ 2 1
 DEPTH D.R 1
 ";
 
@@ -221,16 +230,8 @@ DEPTH D.R 1
 fn leaves_that_cannot_run(rt: HostRuntime) -> Result<(), Fail> {
     let alloc = rt.alloc();
     assert_eq!(rt;
-        told(alloc, VARIABLE, VARIABLE_ROWS)?.as_str(),
-        r#"CannotRun("D.R.C")"#
-    );
-    assert_eq!(rt;
-        told(alloc, LAMP, LAMP_ROWS)?.as_str(),
-        r#"CannotRun("D.R.LAMP")"#
-    );
-    assert_eq!(rt;
-        told(alloc, VALUED, VALUED_ROWS)?.as_str(),
-        r#"CannotRun("D.R.SRC")"#
+        told(alloc, SENDER, SENDER_ROWS)?.as_str(),
+        r#"CannotRun("D.R.PUB")"#
     );
     Ok(())
 }

@@ -10,8 +10,8 @@ use std::alloc::{AllocError, AllocFailed};
 pub enum Unfit {
     /// Memory ran out.
     OutOfMemory,
-    /// A device cannot run the leaf of this path yet: a block with a variable, an algorithm or a guard, or a service other than an INPUT
-    /// without values. The path is in upper case, its names joined by dots, as in `D.R.MOTOR`.
+    /// A device cannot run the leaf of this path yet: a service other than INPUT and OUTPUT, or one with more values than an event can have.
+    /// The path is in upper case, its names joined by dots, as in `D.R.MOTOR`.
     CannotRun(String),
 }
 

@@ -23,7 +23,7 @@ use Rattle.fb_script.specs.declared.run.End.{End}
 use Rattle.fbr.proofs.Verdicts.{files_memory}
 
 pub checked : (one two : List ℕ) (held_one held_two : Option (List ℕ)) (v : Verified) → IsVerified one two held_one held_two (Ok v) → IsChecked v
-checked one two held_one held_two v h = record { written = (EVENT_BLOCKS.now, h.0, h.4.system_is); fits = h.4.fits; tables = h.4.tables }
+checked one two held_one held_two v h = record { written = (EVENT_BLOCKS.now, h.0, h.4.system_is); told = (_, h.4.certificate_is); fits = h.4.fits; tables = h.4.tables }
 
 pub files_refused : {E : Type 0} (one two : List ℕ) (held_one held_two held : Option (List ℕ)) (f : Fault) (old new : Option (List ℕ)) (r : Result ℕ E)
     → IsFilesOutcome {A = Unit {0}} one two held_one held_two (Err f) → IfOk r (λ status. Tells (refusal f) old new status) → IfOk r (λ status. TellsSim one two held_one held_two held old new status)

@@ -65,10 +65,112 @@ const FILES: &[(&str, &[u8])] = &[
         b"SYSTEM S DEVICE D END_DEVICE DEVICE E END_DEVICE END_SYSTEM\n",
     ),
     (
-        "lamp.fb",
-        b"SYSTEM S DEVICE D RESOURCE R FBS L : OUTPUT(ID := 1); END_FBS END_RESOURCE END_DEVICE END_SYSTEM\n",
+        "wait.fb",
+        b"SYSTEM S DEVICE D RESOURCE R
+FBS BUTTON : INPUT(ID := 1); W : E_DELAY(DT := T#1s); L : OUTPUT(ID := 1); END_FBS
+EVENT_CONNECTIONS BUTTON.IND TO W.START; W.EO TO L.REQ; END_CONNECTIONS
+END_RESOURCE END_DEVICE END_SYSTEM
+",
     ),
-    ("lamp.cert", b"CERT 1\nWEIGHT D.R.L.REQ 1 1\nDEPTH D.R 1\n"),
+    (
+        "wait.cert",
+        b"CERT 1
+WEIGHT D.R.BUTTON.ARRIVE 2 1
+WEIGHT D.R.W.START 1 1
+WEIGHT D.R.W.STOP 1 1
+WEIGHT D.R.W.EXPIRE 2 1
+WEIGHT D.R.L.REQ 1 1
+DEPTH D.R 1
+",
+    ),
+    (
+        "count.fb",
+        b"FUNCTION_BLOCK COUNTER
+EVENT_INPUT CU; END_EVENT
+EVENT_OUTPUT CUO WITH CV; END_EVENT
+VAR_OUTPUT CV : UINT; END_VAR
+EC_STATES START; ADD : INC -> CUO; END_STATES
+EC_TRANSITIONS START TO ADD := CU; ADD TO START := 1; END_TRANSITIONS
+ALGORITHM INC IN ST: IF CV < 9 THEN CV := CV + 1; END_IF; END_ALGORITHM
+END_FUNCTION_BLOCK
+SYSTEM S DEVICE D RESOURCE R
+FBS button : INPUT(ID := 1); count : COUNTER; lamp : OUTPUT[UINT](ID := 1); END_FBS
+EVENT_CONNECTIONS button.IND TO count.CU; count.CUO TO lamp.REQ; END_CONNECTIONS
+DATA_CONNECTIONS count.CV TO lamp.SD_1; END_CONNECTIONS
+END_RESOURCE END_DEVICE END_SYSTEM
+",
+    ),
+    (
+        "count.cert",
+        b"CERT 1
+RANGE D.R.COUNT.CV 0 9
+CHARGE D.R.COUNT.START 0 0
+CHARGE D.R.COUNT.ADD 4 1
+WEIGHT D.R.BUTTON.ARRIVE 7 1
+WEIGHT D.R.COUNT.CU 6 1
+WEIGHT D.R.LAMP.REQ 1 1
+DEPTH D.R 1
+",
+    ),
+    (
+        "sum.fb",
+        b"FUNCTION_BLOCK SUM
+EVENT_INPUT REQ WITH N; END_EVENT
+VAR_INPUT N : INT; END_VAR
+VAR S, I : INT; END_VAR
+EC_STATES START; ACT : CALC; END_STATES
+EC_TRANSITIONS START TO ACT := REQ; ACT TO START := 1; END_TRANSITIONS
+ALGORITHM CALC IN ST: FOR I := 1 TO LIMIT(0, N, 10) DO S := S + I; END_FOR; END_ALGORITHM
+END_FUNCTION_BLOCK
+SYSTEM S DEVICE D RESOURCE R
+FBS SRC : INPUT[INT](ID := 1); SUM1 : SUM; END_FBS
+EVENT_CONNECTIONS SRC.IND TO SUM1.REQ; END_CONNECTIONS
+DATA_CONNECTIONS SRC.RD_1 TO SUM1.N; END_CONNECTIONS
+END_RESOURCE END_DEVICE END_SYSTEM
+",
+    ),
+    (
+        "sum.cert",
+        b"CERT 1
+RANGE D.R.SUM1.N -32768 32767
+RANGE D.R.SUM1.S -32768 32767
+RANGE D.R.SUM1.I 0 10
+CHARGE D.R.SUM1.START 0 0
+CHARGE D.R.SUM1.ACT 22 0
+WEIGHT D.R.SRC.ARRIVE 25 1
+WEIGHT D.R.SUM1.REQ 24 1
+DEPTH D.R 1
+",
+    ),
+    (
+        "divide.fb",
+        b"FUNCTION_BLOCK DIVIDE
+EVENT_INPUT REQ WITH X, D; END_EVENT
+VAR_INPUT X, D : INT; END_VAR
+VAR_OUTPUT Q : INT; END_VAR
+EC_STATES START; ACT : CALC; END_STATES
+EC_TRANSITIONS START TO ACT := REQ; ACT TO START := 1; END_TRANSITIONS
+ALGORITHM CALC IN ST: IF D > 0 THEN Q := X / D; END_IF; END_ALGORITHM
+END_FUNCTION_BLOCK
+SYSTEM S DEVICE D RESOURCE R
+FBS BUTTON : INPUT(ID := 1); Q1 : DIVIDE(X := 7, D := 2); END_FBS
+EVENT_CONNECTIONS BUTTON.IND TO Q1.REQ; END_CONNECTIONS
+END_RESOURCE END_DEVICE END_SYSTEM
+",
+    ),
+    (
+        "divide.cert",
+        b"CERT 1
+RANGE D.R.Q1.X -32768 32767
+RANGE D.R.Q1.D -32768 32767
+RANGE D.R.Q1.Q -32768 32767
+CHARGE D.R.Q1.START 0 0
+CHARGE D.R.Q1.ACT 3 0
+WEIGHT D.R.BUTTON.ARRIVE 6 1
+WEIGHT D.R.Q1.REQ 5 1
+DEPTH D.R 1
+",
+    ),
     ("bad", &[0xff]),
 ];
 
@@ -245,17 +347,147 @@ fn what_does_not_run(rt: HostRuntime) -> Result<(), Fail> {
     let cases: [(&[&str], u8, &str); 4] = [
         (&["fbr", "check", "two.fb", "none.cert"], 0, "accepted\n"),
         (&["fbr", "sim", "two.fb", "none.cert"], 2, "refused 22 E\n"),
-        (&["fbr", "check", "lamp.fb", "lamp.cert"], 0, "accepted\n"),
+        (&["fbr", "check", "wait.fb", "wait.cert"], 0, "accepted\n"),
         (
-            &["fbr", "sim", "lamp.fb", "lamp.cert"],
+            &["fbr", "sim", "wait.fb", "wait.cert"],
             2,
-            "refused 22 D.R.L\n",
+            "refused 22 D.R.W\n",
         ),
     ];
     for case in &cases {
         let (words, status, answers) = *case;
         let (ended, text) = said(&rt, words, FILES, b"offer D 1\n")?;
         assert_eq!(rt; (ended, text.as_str()), (status, answers));
+    }
+    Ok(())
+}
+
+// Ten rounds of the counter.
+const ROUNDS: &[u8] = b"offer D 1
+dispatch D R
+dispatch D R
+dispatch D R
+offer D 1
+dispatch D R
+dispatch D R
+dispatch D R
+offer D 1
+dispatch D R
+dispatch D R
+dispatch D R
+offer D 1
+dispatch D R
+dispatch D R
+dispatch D R
+offer D 1
+dispatch D R
+dispatch D R
+dispatch D R
+offer D 1
+dispatch D R
+dispatch D R
+dispatch D R
+offer D 1
+dispatch D R
+dispatch D R
+dispatch D R
+offer D 1
+dispatch D R
+dispatch D R
+dispatch D R
+offer D 1
+dispatch D R
+dispatch D R
+dispatch D R
+offer D 1
+dispatch D R
+dispatch D R
+dispatch D R
+";
+
+const COUNTED: &str = "cause 1
+ran D.R.BUTTON.ARRIVE steps 1
+ran D.R.COUNT.CU steps 5
+ran D.R.LAMP.REQ steps 1 write 1 1 ended 1 7 of 7
+cause 2
+ran D.R.BUTTON.ARRIVE steps 1
+ran D.R.COUNT.CU steps 5
+ran D.R.LAMP.REQ steps 1 write 1 2 ended 2 7 of 7
+cause 3
+ran D.R.BUTTON.ARRIVE steps 1
+ran D.R.COUNT.CU steps 5
+ran D.R.LAMP.REQ steps 1 write 1 3 ended 3 7 of 7
+cause 4
+ran D.R.BUTTON.ARRIVE steps 1
+ran D.R.COUNT.CU steps 5
+ran D.R.LAMP.REQ steps 1 write 1 4 ended 4 7 of 7
+cause 5
+ran D.R.BUTTON.ARRIVE steps 1
+ran D.R.COUNT.CU steps 5
+ran D.R.LAMP.REQ steps 1 write 1 5 ended 5 7 of 7
+cause 6
+ran D.R.BUTTON.ARRIVE steps 1
+ran D.R.COUNT.CU steps 5
+ran D.R.LAMP.REQ steps 1 write 1 6 ended 6 7 of 7
+cause 7
+ran D.R.BUTTON.ARRIVE steps 1
+ran D.R.COUNT.CU steps 5
+ran D.R.LAMP.REQ steps 1 write 1 7 ended 7 7 of 7
+cause 8
+ran D.R.BUTTON.ARRIVE steps 1
+ran D.R.COUNT.CU steps 5
+ran D.R.LAMP.REQ steps 1 write 1 8 ended 8 7 of 7
+cause 9
+ran D.R.BUTTON.ARRIVE steps 1
+ran D.R.COUNT.CU steps 5
+ran D.R.LAMP.REQ steps 1 write 1 9 ended 9 7 of 7
+cause 10
+ran D.R.BUTTON.ARRIVE steps 1
+ran D.R.COUNT.CU steps 4
+ran D.R.LAMP.REQ steps 1 write 1 9 ended 10 6 of 7
+";
+
+// The lamp shows the count, and at nine the block takes a step less.
+#[test]
+fn a_counter(rt: HostRuntime) -> Result<(), Fail> {
+    let words = ["fbr", "sim", "count.fb", "count.cert"];
+    let (status, text) = said(&rt, &words, FILES, ROUNDS)?;
+    assert_eq!(rt; (status, text.as_str()), (0, COUNTED));
+    Ok(())
+}
+
+// A loop whose turns come with the event's value, within its bounds; and a division that is guarded.
+#[test]
+fn what_algorithms_take(rt: HostRuntime) -> Result<(), Fail> {
+    let cases: [(&[&str], &[u8], &str); 2] = [
+        (
+            &["fbr", "sim", "sum.fb", "sum.cert"],
+            b"offer D 1 32768\noffer D 1 10\ndispatch D R\ndispatch D R\noffer D 1 4\ndispatch D R\ndispatch D R\noffer D 1 -3\ndispatch D R\ndispatch D R\n",
+            "denied 52 1
+cause 1
+ran D.R.SRC.ARRIVE steps 1
+ran D.R.SUM1.REQ steps 24 ended 1 25 of 25
+cause 2
+ran D.R.SRC.ARRIVE steps 1
+ran D.R.SUM1.REQ steps 12 ended 2 13 of 25
+cause 3
+ran D.R.SRC.ARRIVE steps 1
+ran D.R.SUM1.REQ steps 4 ended 3 5 of 25
+",
+        ),
+        (
+            &["fbr", "sim", "divide.fb", "divide.cert"],
+            b"offer D 1\ndispatch D R\ndispatch D R\n",
+            "cause 1
+ran D.R.BUTTON.ARRIVE steps 1
+ran D.R.Q1.REQ steps 5 ended 1 6 of 6
+",
+        ),
+    ];
+    for case in &cases {
+        let (status, text) = said(&rt, case.0, FILES, case.1)?;
+        assert_eq!(rt; status, 0);
+        assert_eq!(rt; text.as_str(), case.2);
     }
     Ok(())
 }

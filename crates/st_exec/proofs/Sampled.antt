@@ -4,16 +4,15 @@ use Rattle.std.specs.Prelude.{codes, slice_get, slice_set}
 use Rattle.fb_model.specs.Values.{Many, Values, numbers_of}
 use Rattle.fb_model.specs.TypedText.{Commands}
 use Rattle.fb_model.specs.Language.{Done, setting, run}
-use Rattle.fb_model.specs.Shapes.{AlgorithmFits, written}
-use Rattle.st_exec.specs.Cells.{Cell, values_of, shape_of, names_of}
-use Rattle.st_exec.specs.Runs.{IsWithin, AreAmong}
+use Rattle.fb_model.specs.Shapes.{written}
+use Rattle.st_exec.specs.Cells.{Cell, values_of, forms_of, shape_of, names_of}
+use Rattle.st_exec.specs.Runs.{IsWithin, Serves}
 use Rattle.st_exec.proofs.Serving.{among_all}
 use Rattle.st_exec.specs.Samples.{counters, sum_over, growing, choosing, with_table}
 
 -- what exec asks, as one fact
 pub record Ready (cells : List Cell) (c : Commands) : Type 0 where
-  pub fits : AlgorithmFits (shape_of cells) c
-  pub declared : AreAmong (written c) (names_of cells)
+  pub serves : Serves (forms_of cells) c
   pub small : IsWithin (10 ^ 12) (run c (values_of cells))
 
 pub ready : (cells cells' : List Cell) (c c' : Commands) → cells ≡ cells' → c ≡ c' → Ready cells' c' → Ready cells c
@@ -24,29 +23,25 @@ few n h = omega arith
 
 pub sum_ready : Ready (counters (pos 3)) (sum_over (pos 1) (pos 10) (pos 3))
 sum_ready = record {
-  fits = ((refl, refl, tt, tt, ((refl, (refl, refl)), tt)), tt);
-  declared = among_all (written (sum_over (pos 1) (pos 10) (pos 3))) (names_of (counters (pos 3))) refl;
+  serves = (shape_of (counters (pos 3)), (λ x. refl), ((refl, refl, tt, tt, ((refl, (refl, refl)), tt)), tt), among_all (written (sum_over (pos 1) (pos 10) (pos 3))) (names_of (counters (pos 3))) refl);
   small = few 9 (omega arith);
 }
 
 pub none_ready : Ready (counters (pos 3)) (sum_over (pos 5) (pos 1) (pos 1))
 none_ready = record {
-  fits = ((refl, refl, tt, tt, ((refl, (refl, refl)), tt)), tt);
-  declared = among_all (written (sum_over (pos 5) (pos 1) (pos 1))) (names_of (counters (pos 3))) refl;
+  serves = (shape_of (counters (pos 3)), (λ x. refl), ((refl, refl, tt, tt, ((refl, (refl, refl)), tt)), tt), among_all (written (sum_over (pos 5) (pos 1) (pos 1))) (names_of (counters (pos 3))) refl);
   small = few 1 (omega arith);
 }
 
 pub growing_ready : Ready (counters (pos 3)) growing
 growing_ready = record {
-  fits = ((refl, refl, tt, refl, ((refl, (refl, tt)), tt)), tt);
-  declared = among_all (written growing) (names_of (counters (pos 3))) refl;
+  serves = (shape_of (counters (pos 3)), (λ x. refl), ((refl, refl, tt, refl, ((refl, (refl, tt)), tt)), tt), among_all (written growing) (names_of (counters (pos 3))) refl);
   small = few 7 (omega arith);
 }
 
 pub choosing_ready : Ready (counters (pos 3)) choosing
 choosing_ready = record {
-  fits = ((refl, (((refl, tt), tt), (((refl, tt), tt), tt)), tt), tt);
-  declared = among_all (written choosing) (names_of (counters (pos 3))) refl;
+  serves = (shape_of (counters (pos 3)), (λ x. refl), ((refl, (((refl, tt), tt), (((refl, tt), tt), tt)), tt), tt), among_all (written choosing) (names_of (counters (pos 3))) refl);
   small = few 2 (omega arith);
 }
 

@@ -1,12 +1,14 @@
 -- What is asked of the parts of an algorithm.
-use Rattle.std.proofs.Common.{◌≡◌, ℤ, Bool, true, false, ◌||◌, ◌&&◌, List, [], ◌∷◌, ◌++◌, None, refl, sym, ap, subst}
+use Rattle.std.proofs.Common.{◌≡◌, ℤ, Bool, true, false, ◌||◌, ◌&&◌, List, [], ◌∷◌, ◌++◌, Option, None, Some, refl, sym, ap, subst, ◌∙◌}
 use Rattle.std.specs.List.{list_all}
+use Rattle.std.specs.Option.{option_map}
 use Rattle.std.specs.Str.{bytes_eq}
 use Rattle.fb_words.specs.declared.elem_type.ElemType.{ElemType}
 use Rattle.fb_model.specs.Names.{Name, is_in}
 use Rattle.fb_model.proofs.Lists.{same_name}
 use Rattle.fb_model.proofs.Placed.{name_same}
-use Rattle.fb_model.specs.TypedText.{Term, constant, Command, set, choose, match_on, count, Commands, then_do, Choices, no_choice, choice, Cases, no_case, a_case}
+use Rattle.fb_model.specs.TypedText.{Term, constant, Command, set, set_part, choose, match_on, count, Commands, then_do, Choices, no_choice, choice, Cases, no_case, a_case}
+use Rattle.fb_model.specs.BlockTyping.{extent}
 use Rattle.fb_model.specs.Shapes.{written, written_choices, written_cases}
 use Rattle.st_exec.specs.Cells.{Form, shape_in, names_in}
 use Rattle.st_exec.specs.Runs.{AreAmong, Serves, ServesOne}
@@ -51,44 +53,55 @@ among_all (x ∷ xs) ys h = λ y e. by (is_in x ys) (bytes_eq y x) y refl refl h
   by true false y f g h e again = again h y e
   by false c y f g h e again = absurd (cc)
 
+-- what is no array by a shape is declared so
+plain_alike : (b c : Option (ℤ × ℤ)) → option_map extent b ≡ option_map extent c → b ≡ None → c ≡ None
+plain_alike None None e f = refl
+plain_alike None (Some c) e f = absurd (cc)
+plain_alike (Some b) c e f = absurd (cc)
+
 module _ (forms : List Form) where
   pub first_served : (c : Command) (cs : Commands) → Serves forms (then_do c cs) → ServesOne forms c
-  first_served c cs s = (s.0.0, among_front _ (written cs) (names_in forms) s.1)
+  first_served c cs s = (s.0, s.1, s.2.0, among_front _ (written cs) (names_in forms) s.3)
 
   pub rest_served : (c : Command) (cs : Commands) → Serves forms (then_do c cs) → Serves forms cs
-  rest_served c cs s = (s.0.1, among_back _ (written cs) (names_in forms) s.1)
+  rest_served c cs s = (s.0, s.1, s.2.1, among_back _ (written cs) (names_in forms) s.3)
 
   pub set_served : (x : Name) (e : Term) → ServesOne forms (set x e) → (is_in x (names_in forms) ≡ true) × (shape_in forms x ≡ None)
-  set_served x e s = (first_among x [] (names_in forms) s.1, s.0.0)
+  set_served x e s = (first_among x [] (names_in forms) s.3, plain_alike (s.0 x) (shape_in forms x) (s.1 x) s.2.0)
+
+  -- an array has as many elements as the bounds say by which it is written
+  pub part_served : (x : Name) (low high : ℤ) (i e : Term) → ServesOne forms (set_part x low high i e) → option_map extent (shape_in forms x) ≡ Some (extent (low, high))
+  part_served x low high i e s = sym (s.1 x) ∙ ap (option_map extent) s.2.0
 
   -- ---- a choice
 
   pub choice_served : (e : Term) (body : Commands) (rest : Choices) (other : Commands) → ServesOne forms (choose (choice e body rest) other) → Serves forms body
   choice_served e body rest other s =
-      (s.0.0.1, among_front (written body) (written_choices rest) (names_in forms) (among_front (written body ++ written_choices rest) (written other) (names_in forms) s.1))
+      (s.0, s.1, s.2.0.1, among_front (written body) (written_choices rest) (names_in forms) (among_front (written body ++ written_choices rest) (written other) (names_in forms) s.3))
 
   pub choices_served : (e : Term) (body : Commands) (rest : Choices) (other : Commands) → ServesOne forms (choose (choice e body rest) other) → ServesOne forms (choose rest other)
-  choices_served e body rest other s = ((s.0.0.2, s.0.1), λ x h. s.1 x (deeper x (written body) (written_choices rest) (written other) h))
+  choices_served e body rest other s = (s.0, s.1, (s.2.0.2, s.2.1), λ x h. s.3 x (deeper x (written body) (written_choices rest) (written other) h))
 
   pub other_served : (other : Commands) → ServesOne forms (choose no_choice other) → Serves forms other
-  other_served other s = (s.0.1, s.1)
+  other_served other s = (s.0, s.1, s.2.1, s.3)
 
   -- ---- a case
 
   pub case_served : (e : Term) (ls : List (ℤ × ℤ)) (body : Commands) (rest : Cases) (other : Commands) → ServesOne forms (match_on e (a_case ls body rest) other) → Serves forms body
   case_served e ls body rest other s =
-      (s.0.1.0, among_front (written body) (written_cases rest) (names_in forms) (among_front (written body ++ written_cases rest) (written other) (names_in forms) s.1))
+      (s.0, s.1, s.2.1.0, among_front (written body) (written_cases rest) (names_in forms) (among_front (written body ++ written_cases rest) (written other) (names_in forms) s.3))
 
   pub cases_served : (e : Term) (ls : List (ℤ × ℤ)) (body : Commands) (rest : Cases) (other : Commands) → ServesOne forms (match_on e (a_case ls body rest) other) → ServesOne forms (match_on e rest other)
-  cases_served e ls body rest other s = ((s.0.0, s.0.1.1, s.0.2), λ x h. s.1 x (deeper x (written body) (written_cases rest) (written other) h))
+  cases_served e ls body rest other s = (s.0, s.1, (s.2.0, s.2.1.1, s.2.2), λ x h. s.3 x (deeper x (written body) (written_cases rest) (written other) h))
 
   pub no_case_served : (e : Term) (other : Commands) → ServesOne forms (match_on e no_case other) → Serves forms other
-  no_case_served e other s = (s.0.2, s.1)
+  no_case_served e other s = (s.0, s.1, s.2.2, s.3)
 
   pub selected_served : (e : Term) (k : ℤ) (cases : Cases) (other : Commands) → ServesOne forms (match_on e cases other) → ServesOne forms (match_on (constant k) cases other)
-  selected_served e k cases other s = ((tt, s.0.1, s.0.2), s.1)
+  selected_served e k cases other s = (s.0, s.1, (tt, s.2.1, s.2.2), s.3)
 
   -- ---- a FOR
 
   pub count_served : (x : Name) (a : ElemType) (e g : Term) (k : ℤ) (plain : Bool) (body : Commands) → ServesOne forms (count x a e g k plain body) → (is_in x (names_in forms) ≡ true) × (shape_in forms x ≡ None) × Serves forms body
-  count_served x a e g k plain body s = (first_among x (written body) (names_in forms) s.1, s.0.0, (s.0.4, among_back (x ∷ []) (written body) (names_in forms) s.1))
+  count_served x a e g k plain body s =
+      (first_among x (written body) (names_in forms) s.3, plain_alike (s.0 x) (shape_in forms x) (s.1 x) s.2.0, (s.0, s.1, s.2.4, among_back (x ∷ []) (written body) (names_in forms) s.3))

@@ -1,8 +1,8 @@
 -- Writing numbers into slots: one variable takes another value, and the others stay.
-use Rattle.std.proofs.Common.{◌≡◌, ℕ, zero, suc, ◌+◌, ◌-◌, ◌<◌, ◌≤◌, ℤ, ◌-ℤ◌, ◌≤ℤ◌, unsigned_abs, int_le, ◌&&◌, Bool, true, false, ◌⊎◌, inl, inr, List, [], ◌∷◌, ◌++◌, length, take, drop, Option, None, Some, refl, sym, ap, subst, ◌∙◌, arith, append_assoc, length-drop}
+use Rattle.std.proofs.Common.{◌≡◌, ℕ, zero, suc, ◌+◌, ◌-◌, ◌<◌, ◌≤◌, ℤ, ◌-ℤ◌, ◌≤ℤ◌, unsigned_abs, int_le, ◌&&◌, Bool, true, false, ◌⊎◌, inl, inr, List, [], ◌∷◌, ◌++◌, length, take, drop, replicate, Option, None, Some, refl, sym, ap, subst, ◌∙◌, arith, append_assoc, length-drop}
 use Rattle.std.specs.Prelude.{slice_set, if◌then◌else◌}
 use Rattle.std.specs.Str.{bytes_eq}
-use Rattle.std.proofs.lemmas.List.{drop-set-lt, drop-set, drop-set-add, take-set-le, take-append-le, take_all, length-take-le}
+use Rattle.std.proofs.lemmas.List.{drop-set-lt, drop-set, drop-set-add, take-set-le, take-append-le, take_all, length-take-le, length-replicate}
 use Rattle.std.proofs.lemmas.List.Edits.{sets, sets-eq}
 use Rattle.std.specs.Option.{option_map}
 use Rattle.std.proofs.Math.Seq.{take-set-lt}
@@ -15,7 +15,7 @@ use Rattle.fb_model.specs.Values.{Value, One, Many, numbers_of}
 use Rattle.fb_model.specs.BlockTyping.{extent}
 use Rattle.fb_model.specs.Language.{setting, setting_part, Done, Trap}
 use Rattle.st_exec.specs.declared.place.Place.{Place}
-use Rattle.st_exec.specs.Cells.{Cell, values_of, shape_of, length_of}
+use Rattle.st_exec.specs.Cells.{Cell, values_of, shape_of, length_of, filled}
 use Rattle.st_exec.specs.Slots.{Table, found, slot_count, first_of, formed, cells_in, IsLaid}
 use Rattle.st_exec.proofs.Laying.{value_at, values_found, laid_apart, slots_some, slot_before, laid_found, cell_value, cell_bounds}
 use Rattle.st_exec.proofs.Reading.{value_is}
@@ -84,26 +84,37 @@ number_put cells t numbers x p v is laid here plain =
 pub index_within : (low high k : ℤ) (j : ℕ) → low ≤ℤ k → k ≤ℤ high → j ≡ unsigned_abs (k -ℤ low) → j < extent (low, high)
 index_within low high k j l m e = omega (arith, ints)
 
-module _ (cells : List Cell) (t : Table) (numbers : List ℤ) (is : cells_in t numbers ≡ cells) (x : Name) (low high k : ℤ) (shape : shape_of cells x ≡ Some (low, high)) where
+-- an array of so many elements
+array_count : (b : Option (ℤ × ℤ)) (n : ℕ) → option_map extent b ≡ Some n → slot_count b ≡ n
+array_count None n e = absurd (cc)
+array_count (Some b) n e = cc
+
+array_formed : (b : Option (ℤ × ℤ)) (n : ℕ) (numbers : List ℤ) → option_map extent b ≡ Some n → formed b numbers ≡ Many (take n numbers)
+array_formed None n numbers e = absurd (cc)
+array_formed (Some b) n numbers e =
+    let c : extent b ≡ n = array_count (Some b) n e in
+    ap (λ k. Many (take k numbers)) c
+
+module _ (cells : List Cell) (t : Table) (numbers : List ℤ) (is : cells_in t numbers ≡ cells) (x : Name) (low high k : ℤ) (count : length_of cells x ≡ Some (extent (low, high))) where
   pub array_found : found t x ≡ None → ⊥
-  array_found e = let b = cell_bounds cells t numbers is x None e in absurd (cc)
+  array_found e = let b = ap (option_map extent) (cell_bounds cells t numbers is x None e) in absurd (cc)
 
   module _ (p : Place) (j : ℕ) (laid : IsLaid 0 t (length numbers)) (here : found t x ≡ Some p) (least : low ≤ℤ k) (most : k ≤ℤ high) (at : j ≡ unsigned_abs (k -ℤ low)) where
-    own_bounds : p.bounds ≡ Some (low, high)
-    own_bounds = sym (cell_bounds cells t numbers is x (Some p) here) ∙ shape
+    own_length : option_map extent p.bounds ≡ Some (extent (low, high))
+    own_length = sym (ap (option_map extent) (cell_bounds cells t numbers is x (Some p) here)) ∙ count
 
     own_slot : j < slot_count p.bounds
-    own_slot = subst (λ b. j < slot_count b) (sym own_bounds) (index_within low high k j least most at)
+    own_slot = subst (λ n. j < n) (sym (array_count p.bounds (extent (low, high)) own_length)) (index_within low high k j least most at)
 
     pub array_slot : p.first + j < length numbers
     array_slot = let l = laid_found 0 (length numbers) t x p laid here in omega (arith, l.most, own_slot)
 
     new_value : (v : ℤ) → formed p.bounds (drop p.first (slice_set numbers (p.first + j) v)) ≡ Many (slice_set (numbers_of (values_of cells x)) j v)
     new_value v =
-        ap (λ b. formed b (drop p.first (slice_set numbers (p.first + j) v))) own_bounds
+        array_formed p.bounds (extent (low, high)) (drop p.first (slice_set numbers (p.first + j) v)) own_length
         ∙ ap (λ ns. Many (take (extent (low, high)) ns)) (drop-set-add p.first numbers j v)
         ∙ ap Many (take-set-lt (extent (low, high)) (drop p.first numbers) j v (index_within low high k j least most at))
-        ∙ ap (λ b. Many (slice_set (numbers_of (formed b (drop p.first numbers))) j v)) (sym own_bounds)
+        ∙ ap (λ w. Many (slice_set (numbers_of w) j v)) (sym (array_formed p.bounds (extent (low, high)) (drop p.first numbers) own_length))
         ∙ ap (λ w. Many (slice_set (numbers_of w) j v)) (sym (cell_value cells t numbers is x (Some p) here))
 
     pub element_put : (v : ℤ) → setting_part (values_of cells) x low high k v ≡ Done (values_of (cells_in t (slice_set numbers (p.first + j) v))) 0
@@ -181,3 +192,26 @@ module _ (cells : List Cell) (t : Table) (numbers : List ℤ) (is : cells_in t n
       let v : formed p.bounds (drop p.first s) ≡ values_of cells' y = formed_alike p.bounds q.bounds (drop p.first s) (drop q.first numbers') same_length e ∙ sym (cell_value cells' t' numbers' is' y (Some q) here') in
       values_after t numbers s x p (values_of cells' y) (length numbers) laid here v (spliced_same p.first (p.first + slot_count p.bounds) p.first numbers new count copied_length copy_room (omega arith) (omega (arith, own_count)))
       ∙ ap (λ cs. setting (values_of cs) x (values_of cells' y)) is
+
+-- ---- one number everywhere
+
+formed_with : (b : Option (ℤ × ℤ)) (numbers : List ℤ) (v : ℤ) → take (slot_count b) numbers ≡ replicate (slot_count b) v → formed b numbers ≡ filled b v
+formed_with None [] v e = absurd (cc)
+formed_with None (n ∷ ns) v e =
+    let f : n ≡ v = cc in
+    ap One f
+formed_with (Some b) numbers v e = ap Many e
+
+module _ (cells : List Cell) (t : Table) (numbers : List ℤ) (is : cells_in t numbers ≡ cells) (x : Name) (p : Place) (laid : IsLaid 0 t (length numbers)) (here : found t x ≡ Some p) (count : ℕ) (all : count ≡ slot_count p.bounds) where
+  pub fill_room : p.first + count ≤ length numbers
+  fill_room = let l = laid_found 0 (length numbers) t x p laid here in omega (arith, l.most, all)
+
+  pub value_filled : (v : ℤ) → values_of (cells_in t (spliced numbers p.first (replicate count v) count)) ≡ setting (values_of cells) x (filled (shape_of cells x) v)
+  value_filled v =
+      let s = spliced numbers p.first (replicate count v) count in
+      let long : length (replicate count v) ≡ count = length-replicate count v in
+      let e : take (slot_count p.bounds) (drop p.first s) ≡ replicate (slot_count p.bounds) v =
+      ap (λ n. take n (drop p.first s)) (sym all) ∙ spliced_new numbers (replicate count v) p.first count long fill_room ∙ ap (λ n. replicate n v) all in
+      let w : formed p.bounds (drop p.first s) ≡ filled (shape_of cells x) v = formed_with p.bounds (drop p.first s) v e ∙ ap (λ b. filled b v) (sym (cell_bounds cells t numbers is x (Some p) here)) in
+      values_after t numbers s x p (filled (shape_of cells x) v) (length numbers) laid here w (spliced_same p.first (p.first + slot_count p.bounds) p.first numbers (replicate count v) count long fill_room (omega arith) (omega (arith, all)))
+      ∙ ap (λ cs. setting (values_of cs) x (filled (shape_of cells x) v)) is

@@ -1,9 +1,11 @@
 -- What is asked of an algorithm that runs over a store.
 use Rattle.std.specs.Prelude.{ℕ, ◌≤◌, ◌≡◌, true, List}
+use Rattle.std.specs.Option.{option_map}
 use Rattle.fb_model.specs.Names.{Name, is_in}
 use Rattle.fb_model.specs.TypedText.{Command}
 use Rattle.fb_model.specs.Language.{Algorithm, Outcome, Done, Trap}
-use Rattle.fb_model.specs.Shapes.{CommandFits, AlgorithmFits, written_one, written}
+use Rattle.fb_model.specs.BlockTyping.{extent}
+use Rattle.fb_model.specs.Shapes.{Shape, CommandFits, AlgorithmFits, written_one, written}
 use Rattle.st_exec.specs.Cells.{Form, shape_in, names_in}
 
 -- the run is done within n steps
@@ -15,10 +17,14 @@ IsWithin n Trap = ⊥
 abbrev pub AreAmong : List Name → List Name → Type 0
 AreAmong names others = (x : Name) → is_in x names ≡ true → is_in x others ≡ true
 
--- an algorithm reads and writes variables as they are declared, and those that it writes are declared
+-- a shape with as many elements for each variable as it is declared with
+abbrev pub IsAlike : List Form → Shape → Type 0
+IsAlike forms shape = (x : Name) → option_map extent (shape x) ≡ option_map extent (shape_in forms x)
+
+-- an algorithm reads and writes variables by such a shape, and those that it writes are declared
 abbrev pub Serves : List Form → Algorithm → Type 0
-Serves forms a = AlgorithmFits (shape_in forms) a × AreAmong (written a) (names_in forms)
+Serves forms a = (shape : Shape) × IsAlike forms shape × AlgorithmFits shape a × AreAmong (written a) (names_in forms)
 
 -- the same of one statement
 abbrev pub ServesOne : List Form → Command → Type 0
-ServesOne forms c = CommandFits (shape_in forms) c × AreAmong (written_one c) (names_in forms)
+ServesOne forms c = (shape : Shape) × IsAlike forms shape × CommandFits shape c × AreAmong (written_one c) (names_in forms)

@@ -4,9 +4,8 @@ ghost use Rattle.std.specs.Prelude.{◌≡◌, ◌<◌, ◌^◌, ◌+ℤ◌, ◌
 ghost use Rattle.fb_model.specs.TypedText.{choose, match_on, constant};
 ghost use Rattle.fb_model.specs.Language.{Done, labelled, turn_count, turns, run_one, run, run_choices, run_cases};
 ghost use Rattle.st_types.specs.CommandViews.{command_of, commands_of, choices_of, cases_of};
-ghost use Rattle.fb_model.specs.Shapes.{AlgorithmFits, written};
-ghost use Rattle.st_exec.specs.Cells.{values_of, forms_of, names_of, shape_of, IsDeclared};
-ghost use Rattle.st_exec.specs.Runs.{IsWithin, AreAmong, Serves, ServesOne};
+ghost use Rattle.st_exec.specs.Cells.{values_of, forms_of, shape_of, IsDeclared};
+ghost use Rattle.st_exec.specs.Runs.{IsWithin, Serves, ServesOne};
 
 use crate::arithmetic::is_zero;
 use crate::evaluate::eval;
@@ -17,8 +16,7 @@ use st_types::{Algo, TypedArm, TypedBranch, TypedStmt};
 ///
 /// The run does not trap and takes no more than 10^12 steps. No memory is taken.
 pub fn exec(algo: &Algo, store: &mut Store) -> u64
-    requires fits { AlgorithmFits (shape_of store.old) (commands_of algo.now.statements.items) }
-    requires declared { AreAmong (written (commands_of algo.now.statements.items)) (names_of store.old) }
+    requires serves { Serves (forms_of store.old) (commands_of algo.now.statements.items) }
     requires small { IsWithin (10 ^ 12) (run (commands_of algo.now.statements.items) (values_of store.old)) }
     ensures answers { run (commands_of algo.now.statements.items) (values_of store.old) ≡ Done (values_of store.new) result }
     ensures unchanged { forms_of store.new ≡ forms_of store.old }

@@ -1,6 +1,6 @@
 //! Where a store keeps its numbers.
 
-ghost use Rattle.std.specs.Prelude.{◌≡◌, ◌≤◌, ◌<◌, ◌+◌, ◌^◌, ◌++◌, [], ◌∷◌, length, take, drop, None, IfSome, OnOk, OnErr};
+ghost use Rattle.std.specs.Prelude.{◌≡◌, ◌≤◌, ◌<◌, ◌+◌, ◌^◌, ◌++◌, [], ◌∷◌, length, take, drop, replicate, None, IfSome, OnOk, OnErr};
 ghost use Rattle.st_exec.specs.Cells.{declared};
 ghost use Rattle.st_exec.specs.Slots.{slot_count, found, cells_in, IsLaid};
 
@@ -53,6 +53,14 @@ pub(crate) fn write(numbers: &mut [i64], first: usize, from: &[i64], source: usi
     ensures { numbers.new ≡ take first numbers.old ++ take count (drop source from.now) ++ drop (first + count) numbers.old }
 {
     numbers[first..first + count].copy_from_slice(&from[source..source + count]);
+}
+
+/// Writes a number into so many slots from one on.
+pub(crate) fn spread(numbers: &mut [i64], first: usize, count: usize, number: i64)
+    requires { first + count ≤ length numbers.old }
+    ensures { numbers.new ≡ take first numbers.old ++ replicate count number ++ drop (first + count) numbers.old }
+{
+    numbers[first..first + count].fill(number);
 }
 
 /// Adds a variable of a new name.

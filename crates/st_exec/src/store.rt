@@ -3,11 +3,12 @@
 ghost use Rattle.std.specs.Prelude.{◌≡◌, ◌≤ℤ◌, ◌++◌, [], ◌∷◌, None, Some, IsSome, IfOk, OnErr, not, if◌then◌else◌};
 ghost use Rattle.fb_model.specs.Values.{One, number_of, numbers_of};
 ghost use Rattle.fb_model.specs.Language.{element_at, setting, setting_part, Done};
+ghost use Rattle.fb_model.specs.BlockTyping.{extent};
 ghost use Rattle.fb_model.specs.Names.{is_in};
 ghost use Rattle.fb_model.specs.Shapes.{HasShape};
-ghost use Rattle.st_exec.specs.Cells.{values_of, forms_of, names_of, shape_of, length_of, IsDeclared, declared};
+ghost use Rattle.st_exec.specs.Cells.{values_of, forms_of, names_of, shape_of, length_of, IsDeclared, filled, declared};
 
-use crate::place::{Place, find, give, slot_count, write};
+use crate::place::{Place, find, give, slot_count, spread, write};
 use indexmap::IndexMap;
 use std::alloc::{AllocError, Global};
 use std::marker::Model;
@@ -117,9 +118,9 @@ impl Store {
         }
     }
 
-    /// Gives the element of an index of an array with these bounds another number.
+    /// Gives the element of an index of an array another number. It has as many elements as these bounds say.
     pub(crate) fn set_element(&mut self, name: &str, low: i64, high: i64, index: i64, number: i64)
-        requires bounds { shape_of self.old name.now ≡ Some (low, high) }
+        requires count { length_of self.old name.now ≡ Some (extent (low, high)) }
         requires least { low ≤ℤ index }
         requires most { index ≤ℤ high }
         ensures values { setting_part (values_of self.old) name.now low high index number ≡ Done (values_of self.new) 0 }
@@ -131,6 +132,19 @@ impl Store {
             }
             None => unreachable!(),
         }
+    }
+
+    /// Gives a variable a number, an array this number in each element.
+    pub fn fill(&mut self, name: &str, number: i64)
+        requires { IsDeclared self.old name.now }
+        ensures values { values_of self.new ≡ setting (values_of self.old) name.now (filled (shape_of self.old name.now) number) }
+        ensures forms { forms_of self.new ≡ forms_of self.old }
+    {
+        let Some(place) = find(&self.places, name) else {
+            unreachable!()
+        };
+        let count = slot_count(place.bounds);
+        spread(&mut self.numbers, place.first, count, number);
     }
 
     /// Gives a variable the value of a variable of another store: both are no arrays, or arrays of one length.

@@ -1,7 +1,7 @@
 use Rattle.std.proofs.Common.{List, subst}
 use Rattle.std.specs.List.{sum_by}
-use Rattle.fb_flat.specs.fb_blocks.declared.typed.Action.{Action}
-use Rattle.fb_flat.proofs.of_fb_blocks.Lists.{mapped_more}
+use Rattle.fb_rows.specs.fb_blocks.declared.typed.Action.{Action}
+use Rattle.fb_rows.proofs.of_fb_blocks.Lists.{mapped_more}
 use Rattle.fb_columns.specs.Sums.{IsSum}
 use Rattle.fb_columns.specs.Reckoning.{Entry, acted, own_of}
 use Rattle.fb_columns.proofs.Each.{got}

@@ -1,6 +1,6 @@
 use Rattle.std.proofs.Common.{string_bytes}
 use Rattle.std.proofs.lemmas.Result.{err_from_is_err_and}
-use Rattle.fb_flat.specs.fb_blocks.declared.typed.Transition.{Transition}
+use Rattle.fb_rows.specs.fb_blocks.declared.typed.Transition.{Transition}
 use Rattle.fb_columns.specs.Reckoning.{table_names, value_at}
 use Rattle.fb_columns.specs.Paying.{SourcePays}
 use Rattle.fb_columns.proofs.Each.{all_more, one_charge}

@@ -1,7 +1,7 @@
 use Rattle.std.proofs.Common.{List, subst, string_bytes}
 use Rattle.std.specs.List.{sum_by}
 use Rattle.std.proofs.lemmas.Result.{err_from_is_err_and}
-use Rattle.fb_flat.specs.fb_blocks.declared.typed.Action.{Action}
+use Rattle.fb_rows.specs.fb_blocks.declared.typed.Action.{Action}
 use Rattle.fb_columns.specs.Sums.{IsSum}
 use Rattle.fb_columns.specs.Reckoning.{Entry, acted, own_of}
 use Rattle.fb_columns.specs.Paying.{StatePays}

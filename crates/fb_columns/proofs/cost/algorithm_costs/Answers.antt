@@ -5,8 +5,8 @@ use Rattle.fb_model.specs.Wires.{Kind, Charted}
 use Rattle.fb_model.specs.Clear.{Spans, cost}
 use Rattle.fb_model.specs.Ranges.{rows, IsClearAlgorithm}
 use Rattle.fb_cert.specs.Views.{certificate_of}
-use Rattle.fb_ranges.specs.Views.{spans_of}
-use Rattle.fb_flat.specs.fb_blocks.Views.{block_of}
+use Rattle.fb_rows.specs.fb_ranges.Views.{spans_of}
+use Rattle.fb_rows.specs.fb_blocks.Views.{block_of}
 use Rattle.fb_columns.specs.Columns.{unit_of}
 use Rattle.fb_columns.specs.Reckoning.{AreSums}
 use Rattle.fb_columns.specs.Fitting.{AlgorithmsClear}

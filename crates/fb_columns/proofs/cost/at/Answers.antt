@@ -3,7 +3,7 @@ use Rattle.std.specs.Str.{bytes_eq}
 use Rattle.std.specs.declared.string.String.{String}
 use Rattle.indexmap.specs.IndexMap.{IndexMap, keys}
 use Rattle.fb_model.specs.Names.{Name}
-use Rattle.fb_flat.proofs.of_fb_networks.Places.{place, position_is, position_map}
+use Rattle.fb_rows.proofs.of_fb_networks.Places.{place, position_is, position_map}
 use Rattle.fb_columns.specs.Reckoning.{table_names}
 use Rattle.fb_columns.proofs.Values.{value_some, value_none, value_past}
 use Rattle.fb_columns.proofs.cost.at.Goals as goal

@@ -3,8 +3,8 @@ use Rattle.std.specs.List.{AllByRecursion}
 use Rattle.fb_model.specs.System as system
 use Rattle.fb_model.specs.Clear.{cost}
 use Rattle.fb_model.specs.Ranges.{IsClearAlgorithm}
-use Rattle.fb_ranges.specs.Views.{spans_of}
-use Rattle.fb_flat.specs.fb_blocks.Views.{procedures_of}
+use Rattle.fb_rows.specs.fb_ranges.Views.{spans_of}
+use Rattle.fb_rows.specs.fb_blocks.Views.{procedures_of}
 use Rattle.fb_columns.specs.Columns.{unit_of}
 use Rattle.fb_columns.specs.Reckoning.{AreSums}
 use Rattle.fb_columns.proofs.Costing.{procedure_of}

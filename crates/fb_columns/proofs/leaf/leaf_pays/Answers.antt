@@ -1,11 +1,11 @@
 use Rattle.std.proofs.Common.{sym, ap, ◌∙◌, string_bytes, map}
 use Rattle.fb_model.specs.Names.{is_in}
 use Rattle.fb_model.specs.CertificateText.{names_in}
-use Rattle.fb_flat.specs.declared.flat.Body.{Body}
-use Rattle.fb_flat.specs.declared.flat.Output.{Output}
-use Rattle.fb_flat.specs.Leaves.{kind_of, outputs_of}
-use Rattle.fb_flat.specs.fb_services.Views.{service_of}
-use Rattle.fb_flat.specs.fb_blocks.Views.{block_of}
+use Rattle.fb_rows.specs.fb_flat.declared.flat.Body.{Body}
+use Rattle.fb_rows.specs.fb_flat.declared.flat.Output.{Output}
+use Rattle.fb_rows.specs.fb_flat.Leaves.{kind_of, outputs_of}
+use Rattle.fb_rows.specs.fb_services.Views.{service_of}
+use Rattle.fb_rows.specs.fb_blocks.Views.{block_of}
 use Rattle.fb_model.specs.Wires.{Charted}
 use Rattle.fb_cert.specs.Views.{certificate_of}
 use Rattle.fb_columns.specs.Reckoning.{Costs}

@@ -1,7 +1,7 @@
 use Rattle.std.proofs.Common.{◌+◌}
 use Rattle.std.specs.List.{sum_by}
 use Rattle.fb_model.specs.Services.{can_emit}
-use Rattle.fb_flat.specs.fb_services.Views.{service_of}
+use Rattle.fb_rows.specs.fb_services.Views.{service_of}
 use Rattle.fb_columns.specs.Sums.{IsSum}
 use Rattle.fb_columns.specs.Columns.{unit_of}
 use Rattle.fb_columns.specs.Reckoning.{load_at}

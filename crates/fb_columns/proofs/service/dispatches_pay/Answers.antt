@@ -1,7 +1,7 @@
 use Rattle.std.proofs.Common.{◌≡◌, true, map, subst, Bor}
 use Rattle.std.proofs.lemmas.Result.{err_from_is_err_and}
 use Rattle.fb_model.specs.Names.{Name, is_in}
-use Rattle.fb_flat.specs.fb_services.Views.{service_of}
+use Rattle.fb_rows.specs.fb_services.Views.{service_of}
 use Rattle.fb_columns.specs.Paying.{DispatchPays}
 use Rattle.fb_columns.proofs.Lists.{in_images}
 use Rattle.fb_columns.proofs.Each.{more_images, weight_weaker}

@@ -1,6 +1,6 @@
 use Rattle.std.proofs.Common.{map, take}
 use Rattle.std.specs.List.{AllByRecursion}
-use Rattle.fb_flat.specs.fb_services.Views.{service_of}
+use Rattle.fb_rows.specs.fb_services.Views.{service_of}
 use Rattle.fb_columns.specs.Paying.{DispatchPays}
 use Rattle.fb_columns.proofs.service.dispatches_pay.Given as goal
 

@@ -6,7 +6,7 @@ use Rattle.fb_model.specs.Devices.{silent}
 use Rattle.fb_device.specs.Machines.{device_in, device_at}
 use Rattle.fb_device.proofs.Blocks.{within}
 use Rattle.fb_device.proofs.Lists.{same_at}
-use Rattle.fb_device.proofs.Beginning.{device_stands}
+use Rattle.fb_device.proofs.Devices.{device_stands}
 use Rattle.fb_device.proofs.Found.{found_device, no_device_named, missing_so, unready_so}
 use Rattle.fb_device.proofs.loading.made_ready.Goals as goal
 

@@ -1,6 +1,7 @@
 use Rattle.std.proofs.Common.{◌≡◌, ◌≤◌, ◌<◌, length, ap, sym, ◌∙◌, arith, vec_len, slice_index_or, string_bytes}
-use Rattle.fb_tables.specs.declared.table.Block.{Block}
-use Rattle.fb_device.proofs.Lists.{stands_at, same_at}
+use Rattle.fb_invoke.specs.declared.table.Block.{Block}
+use Rattle.fb_invoke.proofs.Lists.{stands_at}
+use Rattle.fb_device.proofs.Lists.{same_at}
 use Rattle.fb_device.proofs.Finding.{no_block, no_event, named_so}
 use Rattle.fb_device.proofs.names.path.Goals as goal
 

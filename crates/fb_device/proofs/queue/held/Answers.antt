@@ -1,4 +1,4 @@
-use Rattle.fb_device.specs.declared.entry.Entry.{Entry}
+use Rattle.fb_invoke.specs.declared.entry.Entry.{Entry}
 use Rattle.fb_device.specs.Numbers.{IsKnown}
 use Rattle.fb_device.proofs.Lists.{all_at}
 use Rattle.fb_device.proofs.queue.held.Goals as goal

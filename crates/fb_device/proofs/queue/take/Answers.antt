@@ -1,6 +1,7 @@
 use Rattle.std.proofs.Common.{◌≡◌, ◌<◌, length, ap, sym, refl, ◌∙◌, arith, eqb-true, drop, ◌∷◌}
 use Rattle.std.proofs.lemmas.Bool.{eqb-false}
-use Rattle.fb_device.proofs.Lists.{first_of, empty_list, stands_at, same_at}
+use Rattle.fb_invoke.proofs.Lists.{stands_at}
+use Rattle.fb_device.proofs.Lists.{first_of, empty_list, same_at}
 use Rattle.fb_device.proofs.queue.take.Goals as goal
 
 pub returns-then-is_empty : goal.returns-then-is_empty

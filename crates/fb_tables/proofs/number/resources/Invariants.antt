@@ -1,5 +1,6 @@
 use Rattle.std.proofs.Common.{take}
-use Rattle.fb_tables.specs.Filling.{Each, IsResourceMade}
+use Rattle.fb_invoke.specs.Tables.{Each}
+use Rattle.fb_tables.specs.Filling.{IsResourceMade}
 use Rattle.fb_tables.proofs.number.resources.Given as goal
 
 abbrev pub invariant-loop-source : goal.invariant-loop-source

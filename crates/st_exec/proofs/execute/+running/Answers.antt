@@ -1,20 +1,20 @@
-use Rattle.std.proofs.Common.{◌≡◌, suc, ◌+◌, ◌-◌, ◌≤◌, ◌^◌, pos, ◌+ℤ◌, ◌*ℤ◌, true, false, List, ◌∷◌, drop, Some, refl, sym, ap, subst, ◌∙◌, arith, rules, to_z, of_z, w64}
+use Rattle.std.proofs.Common.{◌≡◌, suc, ◌+◌, ◌-◌, ◌≤◌, ◌^◌, pos, ◌+ℤ◌, ◌*ℤ◌, true, false, List, [], ◌∷◌, drop, Some, refl, sym, ap, subst, ◌∙◌, arith, rules, to_z, of_z, w64}
 use Rattle.std.proofs.lemmas.Int.{ints, to_z-of_z}
 use Rattle.fb_model.specs.Language.{run, run_one, more}
 use Rattle.st_types.specs.CommandViews.{command_of, commands_of}
-use Rattle.st_types.proofs.Gathering.{drop_step}
+use Rattle.st_types.proofs.Gathering.{drop_step, drop_all}
 use Rattle.st_exec.specs.Cells.{Form, values_of, forms_of}
 use Rattle.st_exec.specs.Runs.{Serves, ServesOne, IsWithin}
-use denote.Param.Weighed.{most}
-use Rattle.fb_model.specs.TypedText.{choose, match_on}
-use Rattle.fb_model.specs.Language.{value_of, is_zero, labelled, run_cases, turn_count}
+use denote.Param.Weighed.{most, at_most}
+use Rattle.fb_model.specs.TypedText.{constant, choose, match_on}
+use Rattle.fb_model.specs.Language.{value_of, is_zero, labelled, run_choices, run_cases, turn_count}
 use Rattle.st_types.specs.Views.{term_of}
 use Rattle.st_types.specs.CommandViews.{choices_of, cases_of}
 use Rattle.st_types.proofs.command.TypedStmt.TheLaws.{the_size as stmt_size}
 use Rattle.st_types.proofs.command.TypedBranch.TheLaws.{the_size as branch_size}
 use Rattle.st_types.proofs.command.TypedArm.TheLaws.{the_size as arm_size}
-use Rattle.st_exec.proofs.Serving.{rest_served, selected_served}
-use Rattle.st_exec.proofs.Runs.{one_more, within_more, given_within, turns_within, turns_from, turn_within, turn_done, turn_steps, turns_end, next_value, same_whole}
+use Rattle.st_exec.proofs.Serving.{first_served, rest_served, other_served, no_case_served, selected_served}
+use Rattle.st_exec.proofs.Runs.{part_within, one_more, within_more, given_within, turns_within, turns_from, turn_within, turn_done, turn_steps, turns_end, next_value, same_whole}
 use Rattle.st_exec.proofs.Branching.{if_view, case_view, if_first, if_rest, case_first, case_rest, arm_taken, arm_passed, arm_serves, arms_serve, arm_smaller, branch_taken, branch_passed, branch_serves, branches_serve, branch_smaller}
 use Rattle.st_exec.proofs.execute.+running.Goals as goal
 
@@ -32,6 +32,50 @@ run_list-loop-statement-preserved t c =
       serves = subst (λ f. Serves f (commands_of ls)) (sym c.run_statement-steps.ensures.unchanged) (rest_served (forms_of c.loop-statement.store) (command_of x) (commands_of ls) s);
       same = c.run_statement-steps.ensures.unchanged ∙ c.loop-statement.invariant.same;
     }
+
+pub run_list-run_statement-steps-requires : goal.run_list-run_statement-steps-requires
+run_list-run_statement-steps-requires t c =
+    let i = c.loop-statement.statement-index in
+    let x = c.statement-item.result in
+    let ls = drop (i + 1) c.args.list.now in
+    let V = values_of c.loop-statement.store in
+    let d = drop_step c.args.list.now i x c.loop-statement-test.true c.statement-item.is in
+    let s : Serves (forms_of c.loop-statement.store) (commands_of (x ∷ ls)) = subst (λ l. Serves (forms_of c.loop-statement.store) (commands_of l)) d c.loop-statement.invariant.serves in
+    let e : more c.loop-statement.steps (run (commands_of (x ∷ ls)) V) ≡ run (commands_of c.args.list.now) (values_of c.args.store.now) = ap (λ l. more c.loop-statement.steps (run (commands_of l) V)) (sym d) ∙ c.loop-statement.invariant.left in
+    let m = at_most stmt_size c.args.list.now i x c.loop-statement-test.true in
+    let g = ap stmt_size c.statement-item.is in (
+      omega (arith, m, g, c.decreases),
+      (
+        first_served (forms_of c.loop-statement.store) (command_of x) (commands_of ls) s,
+        part_within (10 ^ 12) c.loop-statement.steps (run_one (command_of x) V) (run (commands_of c.args.list.now) (values_of c.args.store.now)) (run (commands_of ls)) e c.requires.small,
+      ),
+    )
+
+pub run_arms-run_list-requires-2 : goal.run_arms-run_list-requires-2
+run_arms-run_list-requires-2 t c =
+    let q = to_z-of_z w64 c.args.number c.ranges.number in
+    let k = to_z w64 (of_z w64 c.args.number) in
+    let V = values_of c.loop-arm.store in
+    let V0 = values_of c.args.store.now in
+    let n = drop_all c.args.list.now c.loop-arm.arm-index c.loop-arm-test.false in
+    let s : ServesOne (forms_of c.loop-arm.store) (match_on (constant k) (cases_of []) (commands_of c.args.rest.now)) =
+    subst (λ l. ServesOne (forms_of c.loop-arm.store) (match_on (constant k) (cases_of l) (commands_of c.args.rest.now))) n c.loop-arm.invariant.serves in
+    let e : run (commands_of c.args.rest.now) V ≡ run_cases (cases_of c.args.list.now) k V0 (run (commands_of c.args.rest.now) V0) =
+    ap (λ l. run_cases (cases_of l) k V (run (commands_of c.args.rest.now) V)) (sym n) ∙ c.loop-arm.invariant.left in
+    let h : IsWithin (10 ^ 12) (run_cases (cases_of c.args.list.now) k V0 (run (commands_of c.args.rest.now) V0)) =
+    subst (λ z. IsWithin (10 ^ 12) (run_cases (cases_of c.args.list.now) z V0 (run (commands_of c.args.rest.now) V0))) (sym q) c.requires.small in
+    (omega (arith, c.decreases), (no_case_served (forms_of c.loop-arm.store) (constant k) (commands_of c.args.rest.now) s, subst (λ x. IsWithin (10 ^ 12) x) (sym e) h))
+
+pub run_branches-run_list-requires-2 : goal.run_branches-run_list-requires-2
+run_branches-run_list-requires-2 t c =
+    let V = values_of c.loop-branch.store in
+    let V0 = values_of c.args.store.now in
+    let n = drop_all c.args.list.now c.loop-branch.branch-index c.loop-branch-test.false in
+    let s : ServesOne (forms_of c.loop-branch.store) (choose (choices_of []) (commands_of c.args.rest.now)) =
+    subst (λ l. ServesOne (forms_of c.loop-branch.store) (choose (choices_of l) (commands_of c.args.rest.now))) n c.loop-branch.invariant.serves in
+    let e : run (commands_of c.args.rest.now) V ≡ run_choices (choices_of c.args.list.now) V0 (run (commands_of c.args.rest.now) V0) =
+    ap (λ l. run_choices (choices_of l) V (run (commands_of c.args.rest.now) V)) (sym n) ∙ c.loop-branch.invariant.left in
+    (omega (arith, c.decreases), (other_served (forms_of c.loop-branch.store) (commands_of c.args.rest.now) s, subst (λ x. IsWithin (10 ^ 12) x) (sym e) c.requires.small))
 
 pub run_arms-run_list-requires : goal.run_arms-run_list-requires
 run_arms-run_list-requires t c =

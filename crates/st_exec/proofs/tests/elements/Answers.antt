@@ -1,13 +1,14 @@
 use Rattle.std.proofs.Common.{◌≡◌, pos, List, Some, sym, ap, subst, refl, codes, arith}
 use Rattle.std.proofs.lemmas.Int.{ints}
-use Rattle.st_exec.specs.Cells.{Cell, values_of, shape_of}
+use Rattle.fb_model.specs.BlockTyping.{extent}
+use Rattle.st_exec.specs.Cells.{Cell, values_of, length_of}
 use Rattle.st_exec.proofs.Sampled.{element_after}
 use Rattle.st_exec.proofs.tests.elements.Goals as goal
 
 pub set_element-requires : goal.set_element-requires
 set_element-requires g c =
     record {
-      bounds = subst (λ (s : List Cell). shape_of s (codes "A") ≡ Some (pos 0, pos 9)) (sym c.in_ok-store.ensures) refl;
+      count = subst (λ (s : List Cell). length_of s (codes "A") ≡ Some (extent (pos 0, pos 9))) (sym c.in_ok-store.ensures) refl;
       least = omega (arith, ints);
       most = omega (arith, ints);
     }

@@ -7,4 +7,4 @@ use Rattle.st_exec.proofs.tests.for_evaluates_its_bounds_once.Goals as goal
 pub exec-requires : goal.exec-requires
 exec-requires g c =
     let r = ready c.in_ok-store.store (counters (pos 3)) (commands_of c.in_ok-algo.algo.statements.items) (growing) c.in_ok-store.ensures c.in_ok-algo.ensures growing_ready in
-    record { fits = r.fits; declared = r.declared; small = r.small }
+    record { serves = r.serves; small = r.small }

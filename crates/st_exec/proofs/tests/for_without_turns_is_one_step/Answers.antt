@@ -7,4 +7,4 @@ use Rattle.st_exec.proofs.tests.for_without_turns_is_one_step.Goals as goal
 pub exec-requires : goal.exec-requires
 exec-requires g c =
     let r = ready c.in_ok-store.store (counters (pos 3)) (commands_of c.in_ok-algo.algo.statements.items) (sum_over (pos 5) (pos 1) (pos 1)) c.in_ok-store.ensures c.in_ok-algo.ensures none_ready in
-    record { fits = r.fits; declared = r.declared; small = r.small }
+    record { serves = r.serves; small = r.small }

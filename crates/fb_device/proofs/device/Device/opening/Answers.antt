@@ -1,6 +1,6 @@
 use Rattle.std.proofs.Common.{map, ap, ◌∙◌, sym, subst}
 use Rattle.std.specs.List.{AllByRecursion}
-use Rattle.fb_device.specs.declared.entry.Entry.{Entry}
+use Rattle.fb_invoke.specs.declared.entry.Entry.{Entry}
 use Rattle.fb_device.specs.Numbers.{IsKnown}
 use Rattle.fb_device.specs.Openings.{opening_in}
 use Rattle.fb_device.proofs.Opened.{all_openings, opening_so}

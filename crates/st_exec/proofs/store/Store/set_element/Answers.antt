@@ -13,7 +13,7 @@ overflow_add-place c =
     let i = to_z-of_z w64 c.args.index c.ranges.index in
     let l = to_z-of_z w64 c.args.low c.ranges.low in
     let e : c.abs_diff.result ≡ unsigned_abs (c.args.index -ℤ c.args.low) = c.abs_diff.ensures ∙ ap (λ z. unsigned_abs (z -ℤ to_z w64 (of_z w64 c.args.low))) i ∙ ap (λ z. unsigned_abs (c.args.index -ℤ z)) l in
-    let s = array_slot c.args.self.now c.self.inside.places.entries c.self.inside.numbers.items c.self.view_is c.args.name.now c.args.low c.args.high c.args.index c.requires.bounds c.in-Some.place c.abs_diff.result c.self.invariant (sym c.find.ensures ∙ c.in-Some.is) c.requires.least c.requires.most e in
+    let s = array_slot c.args.self.now c.self.inside.places.entries c.self.inside.numbers.items c.self.view_is c.args.name.now c.args.low c.args.high c.args.index c.requires.count c.in-Some.place c.abs_diff.result c.self.invariant (sym c.find.ensures ∙ c.in-Some.is) c.requires.least c.requires.most e in
     omega (arith, s, c.self.inside.numbers.ok.0, c.self.inside.numbers.small)
 
 pub index_mut-requires : goal.index_mut-requires
@@ -21,11 +21,11 @@ index_mut-requires c =
     let i = to_z-of_z w64 c.args.index c.ranges.index in
     let l = to_z-of_z w64 c.args.low c.ranges.low in
     let e : c.abs_diff.result ≡ unsigned_abs (c.args.index -ℤ c.args.low) = c.abs_diff.ensures ∙ ap (λ z. unsigned_abs (z -ℤ to_z w64 (of_z w64 c.args.low))) i ∙ ap (λ z. unsigned_abs (c.args.index -ℤ z)) l in
-    let s = array_slot c.args.self.now c.self.inside.places.entries c.self.inside.numbers.items c.self.view_is c.args.name.now c.args.low c.args.high c.args.index c.requires.bounds c.in-Some.place c.abs_diff.result c.self.invariant (sym c.find.ensures ∙ c.in-Some.is) c.requires.least c.requires.most e in
+    let s = array_slot c.args.self.now c.self.inside.places.entries c.self.inside.numbers.items c.self.view_is c.args.name.now c.args.low c.args.high c.args.index c.requires.count c.in-Some.place c.abs_diff.result c.self.invariant (sym c.find.ensures ∙ c.in-Some.is) c.requires.least c.requires.most e in
     omega (arith, s, c.self.inside.numbers.ok.0)
 
 pub unreachable-requires : goal.unreachable-requires
-unreachable-requires c = array_found c.args.self.now c.self.inside.places.entries c.self.inside.numbers.items c.self.view_is c.args.name.now c.args.low c.args.high c.args.index c.requires.bounds (sym c.find.ensures ∙ c.in-None.is)
+unreachable-requires c = array_found c.args.self.now c.self.inside.places.entries c.self.inside.numbers.items c.self.view_is c.args.name.now c.args.low c.args.high c.args.index c.requires.count (sym c.find.ensures ∙ c.in-None.is)
 
 pub returns-clause-values : goal.returns-clause-values
 returns-clause-values c =
@@ -33,7 +33,7 @@ returns-clause-values c =
     let l = to_z-of_z w64 c.args.low c.ranges.low in
     let e : c.abs_diff.result ≡ unsigned_abs (c.args.index -ℤ c.args.low) = c.abs_diff.ensures ∙ ap (λ z. unsigned_abs (z -ℤ to_z w64 (of_z w64 c.args.low))) i ∙ ap (λ z. unsigned_abs (c.args.index -ℤ z)) l in
     let q = to_z-of_z w64 c.args.number c.ranges.number in
-    let p = element_put c.args.self.now c.self.inside.places.entries c.self.inside.numbers.items c.self.view_is c.args.name.now c.args.low c.args.high c.args.index c.requires.bounds c.in-Some.place c.abs_diff.result c.self.invariant (sym c.find.ensures ∙ c.in-Some.is) c.requires.least c.requires.most e c.args.number in
+    let p = element_put c.args.self.now c.self.inside.places.entries c.self.inside.numbers.items c.self.view_is c.args.name.now c.args.low c.args.high c.args.index c.requires.count c.in-Some.place c.abs_diff.result c.self.invariant (sym c.find.ensures ∙ c.in-Some.is) c.requires.least c.requires.most e c.args.number in
     p ∙ ap (λ v. Done (values_of (cells_in c.self.inside.places.entries (slice_set c.self.inside.numbers.items (c.in-Some.place.first + c.abs_diff.result) v))) 0) (sym q)
 
 pub returns-clause-forms : goal.returns-clause-forms

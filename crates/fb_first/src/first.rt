@@ -1,0 +1,62 @@
+//! The first values of all leaves of a device.
+
+ghost use Rattle.std.specs.Prelude.{◌≡◌, ◌<◌, ◌++◌, List, Some, length, slice_get, IfOk, OnOk};
+ghost use Rattle.fb_model.specs.System.{Device};
+ghost use Rattle.fb_model.specs.Wires.{leaves};
+ghost use Rattle.fb_check.specs.Verdicts.{system_in, IsChecked};
+ghost use Rattle.fb_check.specs.fb_flat.declared.flat.Leaf as flat;
+ghost use Rattle.fb_first.specs.First.{AreFirst};
+ghost use Rattle.fb_first.specs.Filling.{AreFilled, leaves_in};
+
+use crate::leaf::{issued_values, own_values};
+use fb_check::Verified;
+use fb_check::fb_columns::fb_flat::{FlatResource, Leaf};
+use fb_invoke::Store;
+use std::alloc::{AllocError, Global};
+
+/// The first values of all blocks of a device, by their numbers: working values of all variables, and issued values of outputs.
+#[derive(Debug, Drop)]
+pub struct FirstValues {
+    pub own: Vec<Store>,
+    pub issued: Vec<Store>,
+}
+
+// Adds the values of leaves at the end.
+fn add_leaves(alloc: Global, values: &mut FirstValues, leaves: &[Leaf]) -> Result<(), AllocError>
+    ensures { OnOk result ((before : List flat.Leaf) → AreFilled before values.old.own.items values.old.issued.items → AreFilled (before ++ leaves.now) values.new.own.items values.new.issued.items) }
+{
+    for leaf in leaves {
+        values.own.push(own_values(alloc, leaf)?)?;
+        values.issued.push(issued_values(alloc, leaf)?)?;
+    }
+    Ok(())
+}
+
+// The values of the leaves of resources, in order.
+fn leaf_values(alloc: Global, resources: &[FlatResource]) -> Result<FirstValues, AllocError>
+    ensures { IfOk result (λ f. AreFilled (leaves_in resources.now) f.own.items f.issued.items) }
+{
+    let mut values = FirstValues {
+        own: Vec::new(alloc),
+        issued: Vec::new(alloc),
+    };
+    for resource in resources {
+        add_leaves(alloc, &mut values, &resource.leaves)?;
+    }
+    Ok(values)
+}
+
+/// The first values of all blocks of the device of this number, counted from 0, by the blocks' numbers.
+///
+/// An input has the constant that it always takes, and any other variable its start value, which is 0 where none is declared.
+pub fn first_values(
+    alloc: Global,
+    verified: &Verified,
+    device: usize,
+) -> Result<FirstValues, AllocError>
+    requires checked { IsChecked verified.now }
+    requires within { device < length (system_in verified.now).devices }
+    ensures { (d : Device) → slice_get (system_in verified.now).devices device ≡ Some d → IfOk result (λ f. AreFirst (leaves d) f.own.items f.issued.items) }
+{
+    leaf_values(alloc, &verified.flat().devices[device].resources)
+}
