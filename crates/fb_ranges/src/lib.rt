@@ -22,6 +22,7 @@ mod steps;
 mod table;
 #[cfg(test)]
 mod tests;
+mod touched;
 mod turns;
 mod way;
 
