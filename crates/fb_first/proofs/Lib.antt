@@ -4,6 +4,5 @@ pub mod Entries
 pub mod Starts
 pub mod Inputs
 pub mod Filled
-pub mod Small
 pub mod Leaving
 pub mod Knowing
