@@ -1,5 +1,5 @@
--- Ranges that are copied, joined and set, a name at a time.
-use Rattle.std.proofs.Common.{◌≡◌, ℕ, zero, suc, ◌+◌, ◌<◌, Bool, true, false, ◌||◌, List, [], ◌∷◌, ◌++◌, length, take, get_or, Some, None, refl, sym, ap, ap₂, ◌∙◌, arith}
+-- Ranges that are copied and set, a name at a time.
+use Rattle.std.proofs.Common.{◌≡◌, ℕ, zero, suc, ◌+◌, ◌<◌, Bool, true, false, ◌||◌, List, [], ◌∷◌, ◌++◌, length, take, get_or, Some, refl, sym, ap, ap₂, ◌∙◌, arith}
 use Rattle.std.proofs.Math.Path.{fun_ext}
 use Rattle.std.specs.Prelude.{if◌then◌else◌, string_bytes, slice_get}
 use Rattle.std.specs.List.{AllZip}
@@ -8,13 +8,13 @@ use Rattle.std.specs.Str.{bytes_eq}
 use Rattle.std.specs.declared.string.String.{String}
 use Rattle.std.specs.declared.alloc.Global.{Global}
 use Rattle.std.proofs.lemmas.List.{map_push, take_more}
-use Rattle.fb_words.specs.declared.elem_type.ElemType.TheVariants as t
 use Rattle.fb_model.specs.Names.{Name, is_in}
 use Rattle.fb_model.proofs.Lists.{same_name}
-use Rattle.fb_model.specs.Spans.{Span, joined, whole}
+use Rattle.fb_model.specs.Spans.{Span}
 use Rattle.fb_model.specs.Clear.{Spans, changed, reset}
 use Rattle.fb_model.proofs.Names.{eq_turned}
 use Rattle.fb_ranges.specs.declared.interval.Interval.{Interval}
+use Rattle.fb_ranges.specs.Meeting.{Besides}
 use Rattle.fb_ranges.specs.Views.{row_of, spans_in, names_in}
 use Rattle.fb_ranges.proofs.Tables.{shown}
 
@@ -26,7 +26,7 @@ or_again : (a b c : Bool) → (a || (b || c)) ≡ ((a || b) || c)
 or_again true b c = refl
 or_again false b c = refl
 
-in_push : (y x : Name) (xs : List Name) → is_in y (xs ++ x ∷ []) ≡ (is_in y xs || bytes_eq y x)
+pub in_push : (y x : Name) (xs : List Name) → is_in y (xs ++ x ∷ []) ≡ (is_in y xs || bytes_eq y x)
 in_push y x [] = or_none (bytes_eq y x)
 in_push y x (z ∷ xs) = ap (λ b. bytes_eq y z || b) (in_push y x xs) ∙ or_again (bytes_eq y z) (is_in y xs) (bytes_eq y x)
 
@@ -39,25 +39,45 @@ reset_push xs x rows spans = fun_ext (λ y. ap (λ b. if b then rows y else span
   by y true false e = refl
   by y false false e = refl
 
--- ---- rows of a table
+-- what is set twice
+pub reset_again : (xs : List Name) (rows others spans : Spans) → reset xs (reset xs rows others) spans ≡ reset xs rows spans
+reset_again xs rows others spans = fun_ext (λ y. by y (is_in y xs)) where
+  by : (y : Name) (b : Bool) → (if b then (if b then rows y else others y) else spans y) ≡ (if b then rows y else spans y)
+  by y true = refl
+  by y false = refl
 
-absent : (x : Name) (rows : List (String Global × Interval)) → is_in x (names_in rows) ≡ false → row_of rows x ≡ None
-absent x [] h = refl
-absent x (e ∷ rows) h = by (bytes_eq x (string_bytes e.0)) h (absent x rows) where
-  by : (b : Bool) → (b || is_in x (names_in rows)) ≡ false → (is_in x (names_in rows) ≡ false → row_of rows x ≡ None) → (if b then Some e.1 else row_of rows x) ≡ None
-  by true h next = cc
-  by false h next = next h
+-- only these variables have changed, and have their ranges back
+pub taken_back : (xs : List Name) (spans others : Spans) → Besides xs spans others → reset xs spans others ≡ spans
+taken_back xs spans others h = fun_ext (λ y. by y (is_in y xs) refl) where
+  by : (y : Name) (b : Bool) → is_in y xs ≡ b → (if b then spans y else others y) ≡ spans y
+  by y true e = refl
+  by y false e = h y e
 
--- both ranges of all variables, from those with a row in one of the two tables
-pub join_both : (r s : List (String Global × Interval)) → (let both : Spans = λ x. joined (spans_in r x) (spans_in s x) in reset (names_in s) both (reset (names_in r) both (spans_in [])) ≡ both)
-join_both r s = fun_ext (λ x. by x (is_in x (names_in s)) (is_in x (names_in r)) refl refl) where
-  none : (x : Name) (rows : List (String Global × Interval)) → is_in x (names_in rows) ≡ false → spans_in rows x ≡ whole t.Lint
-  none x rows h = ap shown (absent x rows h)
+-- ranges at the end, of variables besides which nothing has changed
+pub ended_at : (xs : List Name) (spans after ends : Spans) → Besides xs spans after → ((base : Spans) → reset xs ends base ≡ reset xs after base) → reset xs ends spans ≡ after
+ended_at xs spans after ends h same = same spans ∙ fun_ext (λ y. by y (is_in y xs) refl) where
+  by : (y : Name) (b : Bool) → is_in y xs ≡ b → (if b then after y else spans y) ≡ after y
+  by y true e = refl
+  by y false e = sym (h y e)
 
-  by : (x : Name) (a b : Bool) → is_in x (names_in s) ≡ a → is_in x (names_in r) ≡ b → (if a then joined (spans_in r x) (spans_in s x) else if b then joined (spans_in r x) (spans_in s x) else whole t.Lint) ≡ joined (spans_in r x) (spans_in s x)
-  by x true b e f = refl
-  by x false true e f = refl
-  by x false false e f = sym (ap₂ joined (none x r f) (none x s e))
+-- and taken back to what was noted
+pub back_at : (xs : List Name) (spans after noted end : Spans) → Besides xs spans after → ((base : Spans) → reset xs noted base ≡ reset xs spans base) → end ≡ reset xs noted after → end ≡ spans
+back_at xs spans after noted end h same e = e ∙ same after ∙ taken_back xs spans after h
+
+-- variables that are set anyway
+pub reset_besides : (xs : List Name) (rows spans others : Spans) → Besides xs spans others → reset xs rows others ≡ reset xs rows spans
+reset_besides xs rows spans others h = fun_ext (λ y. by y (is_in y xs) refl) where
+  by : (y : Name) (b : Bool) → is_in y xs ≡ b → (if b then rows y else others y) ≡ (if b then rows y else spans y)
+  by y true e = refl
+  by y false e = h y e
+
+-- the variable of a FOR after its turns, and the others as before them
+pub turns_leave : (xs : List Name) (rows spans : Spans) (x : Name) (own left : Span) → changed x (λ r. left) (reset xs rows (changed x (λ r. own) (reset xs rows spans))) ≡ changed x (λ r. left) (reset xs rows spans)
+turns_leave xs rows spans x own left = fun_ext (λ y. by y (bytes_eq x y) (is_in y xs)) where
+  by : (y : Name) (a b : Bool) → (if a then left else if b then rows y else if a then own else if b then rows y else spans y) ≡ (if a then left else if b then rows y else spans y)
+  by y true b = refl
+  by y false true = refl
+  by y false false = refl
 
 -- ---- copies
 
@@ -84,15 +104,15 @@ take_get (x ∷ xs) zero e h = let same : e ≡ x = cc in ap (λ y. y ∷ []) (s
 take_get (x ∷ xs) (suc i) e h = ap (λ n. take n (x ∷ xs)) (let f : suc i + 1 ≡ suc (i + 1) = omega arith in f) ∙ ap (λ ys. x ∷ ys) (take_get xs i e h)
 
 -- the variable of the next row gets its range
-pub next_row : (rows : List (String Global × Interval)) (i : ℕ) (e : String Global × Interval) (both : Spans) (before now old : Spans) (x : Name) (r : Span)
+pub next_row : {A : Type 0} (rows : List (String Global × A)) (i : ℕ) (e : String Global × A) (both : Spans) (before now old : Spans) (x : Name) (r : Span)
     → Some e ≡ slice_get rows i → x ≡ string_bytes e.0 → r ≡ both x → before ≡ reset (names_in (take i rows)) both old → now ≡ changed x (λ s. r) before
     → now ≡ reset (names_in (take (i + 1) rows)) both old
-next_row rows i e both before now old x r is name range start put =
+next_row {A} rows i e both before now old x r is name range start put =
     put
     ∙ ap₂ (λ y z. changed y (λ s. z) before) name (range ∙ ap both name)
     ∙ ap (λ z. changed (string_bytes e.0) (λ s. both (string_bytes e.0)) z) start
     ∙ sym (reset_push (names_in (take i rows)) (string_bytes e.0) both old)
-    ∙ ap (λ ns. reset ns both old) (sym (ap names_in (take_get rows i e is) ∙ map_push (λ (p : String Global × Interval). string_bytes p.0) (take i rows) e))
+    ∙ ap (λ ns. reset ns both old) (sym (ap names_in (take_get rows i e is) ∙ map_push (λ (p : String Global × A). string_bytes p.0) (take i rows) e))
 
 -- the next of listed variables gets its row
 pub next_name : (names : List (String Global)) (i : ℕ) (n : String Global) (rows : Spans) (before now old : Spans) (x : Name) (r : Span)

@@ -5,6 +5,9 @@ pub mod Sides
 pub mod Conditions
 pub mod Counting
 pub mod Joins
+pub mod Covers
+pub mod Frames
 pub mod Ways
 pub mod Blocks
+pub mod Branches
 pub mod Laws

@@ -1,6 +1,7 @@
 -- What the code finds, in the words of the definitions.
-use Rattle.std.specs.Prelude.{◌≡◌, ℕ, Option, None, Some, Result, Ok, Err}
-use Rattle.fb_model.specs.Clear.{Spans, Found, Clear, Leaves, Traps, either}
+use Rattle.std.specs.Prelude.{◌≡◌, ℕ, Result, Ok, Err}
+use Rattle.fb_model.specs.Clear.{Spans, Found, Clear, Leaves, Traps, reset}
+use Rattle.st_types.specs.CommandViews.{busy_of}
 use Rattle.fb_ranges.specs.declared.fault.RangeFault.{RangeFault}
 use Rattle.fb_ranges.specs.declared.fault.RangeFault.TheVariants as f
 use Rattle.fb_ranges.specs.declared.way.Way.{Way}
@@ -29,12 +30,7 @@ abbrev pub Costs : Result ℕ RangeFault → Found → Type 0
 Costs (Ok steps) found = (end : Spans) × IsFound steps end found
 Costs (Err e) found = Fails e found
 
--- a way
-abbrev pub FindsWay : Result Way RangeFault → Found → Type 0
-FindsWay (Ok way) found = IsFound way.steps (spans_of way.ranges) found
-FindsWay (Err e) found = Fails e found
-
--- earlier ways, before what is still to be examined
-abbrev pub Leads : Option Way → Found → Found → Type 0
-Leads None all rest = all ≡ rest
-Leads (Some way) all rest = (n : ℕ) × (way.steps ≡ counted n) × (all ≡ either (Clear (spans_of way.ranges) n) rest)
+-- a way from these ranges
+abbrev pub FindsWay : Result Way RangeFault → Spans → Found → Type 0
+FindsWay (Ok way) before found = IsFound way.steps (reset (busy_of way.names.items) (spans_of way.ends) before) found
+FindsWay (Err e) before found = Fails e found

@@ -3,4 +3,5 @@ pub mod Narrowing
 pub mod Answers
 pub mod Faults
 pub mod Steps
+pub mod Meeting
 pub mod Finding

@@ -13,6 +13,9 @@ use Rattle.st_types.specs.Views.{Tail}
 use Rattle.fb_model.specs.Clear.{Spans, range_of}
 use Rattle.fb_ranges.specs.declared.interval.Interval.{Interval}
 use Rattle.fb_ranges.specs.declared.rows.Ranges.{Ranges}
+use Rattle.fb_ranges.specs.declared.way.Reached.{Reached}
+use Rattle.fb_ranges.specs.declared.way.Ways.{Ways}
+use Rattle.fb_ranges.specs.Meeting.{Mark}
 
 abbrev pub span_of : Interval → Span
 span_of i = span i.low i.high
@@ -34,5 +37,12 @@ linked spans [] r = Some r
 linked spans (l ∷ ls) r = given (range_of l.2 spans) (λ s. given (range_two l.0 l.1 r s) (linked spans ls))
 
 -- the variables that have a row
-abbrev pub names_in : List (String Global × Interval) → List Name
+abbrev pub names_in : {A : Type 0} → List (String Global × A) → List Name
 names_in rows = map (λ p. string_bytes p.0) rows
+
+-- what the variable of a name has come to
+abbrev pub mark_in : List (String Global × Reached) → Name → Mark
+mark_in rows x = option_map (λ r. (span_of r.range, r.ways)) (lookup (λ y. bytes_eq x (string_bytes y)) rows)
+
+abbrev pub mark_of : Ways → Name → Mark
+mark_of ways = mark_in ways.rows.entries

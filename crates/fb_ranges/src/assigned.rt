@@ -23,7 +23,8 @@ fn is_idle(counting: &Counting) -> bool
     }
 }
 
-fn pushed(name: &String, names: &mut Vec<String>) -> Result<(), AllocError>
+/// One more variable.
+pub(crate) fn pushed(name: &String, names: &mut Vec<String>) -> Result<(), AllocError>
     ensures { OnOk result (busy_of names.new.items ≡ busy_of names.old.items ++ string_bytes name.now ∷ []) }
 {
     names.push(name.clone()?)?;
@@ -39,9 +40,9 @@ pub(crate) fn names_assigned(alloc: Global, list: &[TypedStmt]) -> Result<Vec<St
     Ok(names)
 }
 
-// Adds the variables that statements assign to others.
+/// Adds the variables that statements assign to others.
 #[cycle(assigning)]
-fn assigned(list: &[TypedStmt], names: &mut Vec<String>) -> Result<(), AllocError>
+pub(crate) fn assigned(list: &[TypedStmt], names: &mut Vec<String>) -> Result<(), AllocError>
     ensures { OnOk result (busy_of names.new.items ≡ busy_of names.old.items ++ book.assigned (commands_of list.now)) }
 {
     for statement in list {

@@ -1,27 +1,31 @@
 //! The examination of statements: what ranges they leave, and how many steps they take at most.
 
-ghost use Rattle.std.specs.Prelude.{◌≡◌, ◌<◌, true, false, if◌then◌else◌};
+ghost use Rattle.std.specs.Prelude.{◌≡◌, ◌<◌, ◌^◌, ◌++◌, true, false, if◌then◌else◌, IfOk, OnOk};
+ghost use Rattle.fb_model.specs.Names.{Name};
 ghost use Rattle.fb_model.specs.TypedText.{Command, Commands};
 ghost use Rattle.fb_model.specs.Clear as book;
-ghost use Rattle.fb_model.specs.Clear.{Clear, Leaves, Traps, with_range};
+ghost use Rattle.fb_model.specs.Clear.{Clear, Found, Leaves, Traps, with_range};
 ghost use Rattle.fb_model.specs.Spans.{within, span};
 ghost use Rattle.st_types.specs.Views.{term_of};
 ghost use Rattle.st_types.specs.CommandViews.{busy_of, case_of, cases_of, choice_of, choices_of, command_of, commands_of, counted_command, counting_of};
 ghost use Rattle.fb_ranges.specs.Finding.{Costs, Finds, FindsWay};
-ghost use Rattle.fb_ranges.specs.Views.{span_of, spans_of};
+ghost use Rattle.fb_ranges.specs.Meeting.{Dated, Leads, ranges_after};
+ghost use Rattle.fb_ranges.specs.Narrowing.{read_in};
+ghost use Rattle.fb_ranges.specs.Views.{mark_of, span_of, spans_of};
 
 use crate::assigned::names_assigned;
 use crate::expression::{is_between, range};
 use crate::fault::RangeFault;
 use crate::interval::Interval;
-use crate::join::{are_kept, copied, reset};
-use crate::merge::{closed, merged};
+use crate::join::{are_kept, reset};
+use crate::merge::{close, ended, merged, no_ways, noted};
 use crate::narrow::narrow;
 use crate::rows::Ranges;
 use crate::span::is_within;
 use crate::steps::{added, of_turns};
+use crate::touched::names_touched;
 use crate::turns::{left_with, most_turns, taken};
-use crate::way::Way;
+use crate::way::{Way, Ways};
 use st_types::{Counting, TypedArm, TypedBranch, TypedExpr, TypedStmt};
 use std::alloc::Global;
 
@@ -122,35 +126,35 @@ fn examine_branches(
 ) -> Result<u64, RangeFault>
     ensures { Finds result (spans_of ranges.new) (book.examine_choices (spans_of rows.now) (choices_of branches.now) (book.examine (spans_of rows.now) (commands_of other.now)) (spans_of ranges.old)) }
 {
-    let mut before: Option<Way> = None;
+    let mut ways = no_ways(alloc);
     for branch in branches {
         let way = examine_branch(alloc, rows, branch, ranges)?;
-        before = Some(merged(before, way)?);
+        merged(&mut ways, &way, ranges)?;
         narrow(&branch.condition, false, ranges)?;
     }
-    let steps = examine(alloc, rows, other, ranges)?;
-    Ok(closed(before, ranges, steps)?)
+    examine_last(alloc, rows, other, ways, ranges)
 }
 
+// A branch, where its condition is true; afterwards the ranges are as before.
 #[cycle(examining)]
 fn examine_branch(
     alloc: Global,
     rows: &Ranges,
     branch: &TypedBranch,
-    ranges: &Ranges,
+    ranges: &mut Ranges,
 ) -> Result<Way, RangeFault>
-    ensures { FindsWay result (with_range (book.range_of (choice_of branch.now).0 (spans_of ranges.now)) (λ r. book.examine (spans_of rows.now) (choice_of branch.now).1 (book.narrowed (choice_of branch.now).0 true (spans_of ranges.now)))) }
+    ensures found { FindsWay result (spans_of ranges.old) (with_range (book.range_of (choice_of branch.now).0 (spans_of ranges.old)) (λ r. book.examine (spans_of rows.now) (choice_of branch.now).1 (book.narrowed (choice_of branch.now).0 true (spans_of ranges.old)))) }
+    ensures touched { IfOk result (λ way. busy_of way.names.items ≡ read_in (choice_of branch.now).0 ++ book.assigned (choice_of branch.now).1) }
+    ensures unchanged { OnOk result (spans_of ranges.new ≡ spans_of ranges.old) }
 {
     if range(&branch.condition, ranges).is_none() {
         return Err(RangeFault::Traps);
     }
-    let mut inside = copied(ranges)?;
-    narrow(&branch.condition, true, &mut inside)?;
-    let steps = examine(alloc, rows, &branch.body, &mut inside)?;
-    Ok(Way {
-        ranges: inside,
-        steps,
-    })
+    let names = names_touched(alloc, &branch.condition, &branch.body)?;
+    let before = noted(alloc, &names, ranges)?;
+    narrow(&branch.condition, true, ranges)?;
+    let steps = examine(alloc, rows, &branch.body, ranges)?;
+    Ok(ended(alloc, names, steps, &before, ranges)?)
 }
 
 // CASE, which narrows nothing.
@@ -164,30 +168,49 @@ fn examine_arms(
 ) -> Result<u64, RangeFault>
     ensures { Finds result (spans_of ranges.new) (book.examine_cases (spans_of rows.now) (cases_of arms.now) (book.examine (spans_of rows.now) (commands_of other.now) (spans_of ranges.old)) (spans_of ranges.old)) }
 {
-    let mut before: Option<Way> = None;
+    let mut ways = no_ways(alloc);
     for arm in arms {
-        let way = examine_arm(alloc, rows, arm, ranges)?;
-        before = Some(merged(before, way)?);
+        let way = examine_way(alloc, rows, &arm.body, ranges)?;
+        merged(&mut ways, &way, ranges)?;
     }
-    let steps = examine(alloc, rows, other, ranges)?;
-    Ok(closed(before, ranges, steps)?)
+    examine_last(alloc, rows, other, ways, ranges)
 }
 
+// A way that narrows nothing; afterwards the ranges are as before.
 #[cycle(examining)]
-fn examine_arm(
+fn examine_way(
     alloc: Global,
     rows: &Ranges,
-    arm: &TypedArm,
-    ranges: &Ranges,
+    body: &[TypedStmt],
+    ranges: &mut Ranges,
 ) -> Result<Way, RangeFault>
-    ensures { FindsWay result (book.examine (spans_of rows.now) (case_of arm.now).1 (spans_of ranges.now)) }
+    ensures found { FindsWay result (spans_of ranges.old) (book.examine (spans_of rows.now) (commands_of body.now) (spans_of ranges.old)) }
+    ensures unchanged { OnOk result (spans_of ranges.new ≡ spans_of ranges.old) }
 {
-    let mut inside = copied(ranges)?;
-    let steps = examine(alloc, rows, &arm.body, &mut inside)?;
-    Ok(Way {
-        ranges: inside,
-        steps,
-    })
+    let names = names_assigned(alloc, body)?;
+    let before = noted(alloc, &names, ranges)?;
+    let steps = examine(alloc, rows, body, ranges)?;
+    Ok(ended(alloc, names, steps, &before, ranges)?)
+}
+
+// The last way, whose ranges become those of all.
+#[cycle(examining)]
+fn examine_last(
+    alloc: Global,
+    rows: &Ranges,
+    body: &[TypedStmt],
+    ways: Ways,
+    ranges: &mut Ranges,
+) -> Result<u64, RangeFault>
+    requires room { ways.count < 2 ^ 63 }
+    requires dated { (x : Name) → Dated ways.count (mark_of ways x) }
+    ensures { (all : Found) → Leads ways.count ways.steps (ranges_after ways.count (mark_of ways) (spans_of ranges.old)) all (book.examine (spans_of rows.now) (commands_of body.now) (spans_of ranges.old)) → Finds result (spans_of ranges.new) all }
+{
+    let mut ways = ways;
+    let way = examine_way(alloc, rows, body, ranges)?;
+    merged(&mut ways, &way, ranges)?;
+    close(&ways, ranges)?;
+    Ok(ways.steps)
 }
 
 // FOR: its bounds, once.
@@ -235,14 +258,14 @@ fn examine_turns(
         return Err(RangeFault::Leaves);
     }
     reset(&names, rows, ranges)?;
+    let before = ranges.find(name);
     let own = taken(first, last, step, turns);
     let steps = examine_body(alloc, rows, name, own, &names, body, ranges)?;
-    let before = ranges.find(name);
     ranges.insert(name, left_with(first, last, step, turns, before))?;
     Ok(of_turns(turns, steps))
 }
 
-// The body of a FOR, once for all turns; it has to keep the rows of these variables.
+// The body of a FOR, once for all turns; it has to keep the rows of the variables that it assigns, and these have them afterwards.
 #[cycle(examining)]
 fn examine_body(
     alloc: Global,
@@ -251,15 +274,17 @@ fn examine_body(
     own: Interval,
     names: &[String],
     body: &[TypedStmt],
-    ranges: &Ranges,
+    ranges: &mut Ranges,
 ) -> Result<u64, RangeFault>
-    ensures { Costs result (book.kept (spans_of rows.now) (busy_of names.now) (book.examine (spans_of rows.now) (commands_of body.now) (book.changed name.now (λ b. span_of own) (spans_of ranges.now)))) }
+    requires { busy_of names.now ≡ book.assigned (commands_of body.now) }
+    ensures cost { Costs result (book.kept (spans_of rows.now) (busy_of names.now) (book.examine (spans_of rows.now) (commands_of body.now) (book.changed name.now (λ b. span_of own) (spans_of ranges.old)))) }
+    ensures rest { OnOk result (spans_of ranges.new ≡ book.reset (busy_of names.now) (spans_of rows.now) (book.changed name.now (λ b. span_of own) (spans_of ranges.old))) }
 {
-    let mut inside = copied(ranges)?;
-    inside.insert(name, own)?;
-    let steps = examine(alloc, rows, body, &mut inside)?;
-    if !are_kept(names, rows, &inside) {
+    ranges.insert(name, own)?;
+    let steps = examine(alloc, rows, body, ranges)?;
+    if !are_kept(names, rows, ranges) {
         return Err(RangeFault::Leaves);
     }
+    reset(names, rows, ranges)?;
     Ok(steps)
 }

@@ -20,8 +20,7 @@ mod side;
 mod span;
 mod steps;
 mod table;
-#[cfg(test)]
-mod tests;
+mod touched;
 mod turns;
 mod way;
 

@@ -1,42 +1,147 @@
 //! Ways that meet.
 
-ghost use Rattle.std.specs.Prelude.{◌≡◌, IfOk, Ok, Some, Result};
-ghost use Rattle.fb_model.specs.Clear.{Found, either};
-ghost use Rattle.fb_ranges.specs.Finding.{Finds, FindsWay, Leads};
-ghost use Rattle.fb_ranges.specs.Views.{spans_of};
+ghost use Rattle.std.specs.Prelude.{◌≡◌, ◌+◌, ◌<◌, ◌^◌, max, IfOk, None, OnOk, Some, if◌then◌else◌};
+ghost use Rattle.std.specs.Str.{bytes_eq};
+ghost use Rattle.fb_model.specs.Names.{Name};
+ghost use Rattle.fb_model.specs.Clear as book;
+ghost use Rattle.fb_model.specs.Clear.{Spans};
+ghost use Rattle.st_types.specs.CommandViews.{busy_of};
+ghost use Rattle.fb_ranges.specs.Meeting.{Besides, Dated, joint, marked, met, ranges_after, row_after};
+ghost use Rattle.fb_ranges.specs.Views.{mark_of, span_of, spans_of};
 
-use crate::join::join;
+use crate::interval::Interval;
+use crate::join::reset;
 use crate::rows::Ranges;
+use crate::span::joined;
 use crate::steps::longer;
-use crate::way::Way;
-use std::alloc::AllocError;
+use crate::way::{Reached, Way, Ways};
+use indexmap::IndexMap;
+use std::alloc::{AllocError, Global};
 
-/// Earlier ways with one more.
-pub(crate) fn merged(before: Option<Way>, way: Way) -> Result<Way, AllocError>
-    ensures { (all found rest : Found) → Leads before all (either found rest) → FindsWay (Ok way) found → IfOk result (λ w. Leads (Some w) all rest) }
+/// These variables alone, with their ranges.
+pub(crate) fn noted(alloc: Global, names: &[String], ranges: &Ranges) -> Result<Ranges, AllocError>
+    ensures { IfOk result (λ r. (base : Spans) → book.reset (busy_of names.now) (spans_of r) base ≡ book.reset (busy_of names.now) (spans_of ranges.now) base) }
 {
-    match before {
-        None => Ok(way),
-        Some(before) => Ok(Way {
-            ranges: join(&before.ranges, &way.ranges)?,
-            steps: longer(before.steps, way.steps),
-        }),
+    let mut noted = Ranges::new(alloc);
+    reset(names, ranges, &mut noted)?;
+    Ok(noted)
+}
+
+/// A way that has ended, began with what is noted of these variables, and may have touched no others; its ranges are taken back.
+pub(crate) fn ended(
+    alloc: Global,
+    names: Vec<String>,
+    steps: u64,
+    before: &Ranges,
+    ranges: &mut Ranges,
+) -> Result<Way, AllocError>
+    ensures steps { IfOk result (λ way. way.steps ≡ steps) }
+    ensures names { IfOk result (λ way. busy_of way.names.items ≡ busy_of names.items) }
+    ensures ends { IfOk result (λ way. (base : Spans) → book.reset (busy_of names.items) (spans_of way.ends) base ≡ book.reset (busy_of names.items) (spans_of ranges.old) base) }
+    ensures ranges { OnOk result (spans_of ranges.new ≡ book.reset (busy_of names.items) (spans_of before.now) (spans_of ranges.old)) }
+{
+    let ends = noted(alloc, &names, ranges)?;
+    reset(&names, before, ranges)?;
+    Ok(Way { names, ends, steps })
+}
+
+/// No way.
+pub(crate) fn no_ways(alloc: Global) -> Ways
+    ensures count { result.count ≡ 0 }
+    ensures steps { result.steps ≡ 0 }
+    ensures rows { (x : Name) → mark_of result x ≡ None }
+{
+    Ways {
+        alloc,
+        rows: IndexMap::new(alloc),
+        count: 0,
+        steps: 0,
     }
 }
 
-/// Earlier ways with the last one, whose ranges become those of all.
-pub(crate) fn closed(
-    before: Option<Way>,
-    ranges: &mut Ranges,
-    steps: u64,
-) -> Result<u64, AllocError>
-    ensures { (all found : Found) → Leads before all found → Finds (Ok steps) (spans_of ranges.old) found → IfOk result (λ n. Finds (Ok n) (spans_of ranges.new) all) }
+// The range of a variable after all ways, from the one that it has where none touches it.
+fn range_after(ways: &Ways, name: &str, before: Interval) -> Interval
+    ensures { span_of result ≡ met ways.now.count (mark_of ways.now name.now) (span_of before) }
 {
-    match before {
-        None => Ok(steps),
-        Some(before) => {
-            *ranges = join(&before.ranges, ranges)?;
-            Ok(longer(before.steps, steps))
-        }
+    let Some(reached) = ways.rows.get(name) else {
+        return before;
+    };
+    if reached.ways < ways.count {
+        return joined(reached.range, before);
     }
+    reached.range
+}
+
+// The range of a variable at the end of the next way, joined to those of the earlier ones.
+fn next_range(ways: &Ways, name: &str, before: Interval, end: Interval) -> Interval
+    ensures { span_of result ≡ row_after ways.now.count (mark_of ways.now name.now) (span_of before) (span_of end) }
+{
+    if ways.count == 0 {
+        return end;
+    }
+    joined(range_after(ways, name, before), end)
+}
+
+// One variable with its range at the end of the next way.
+fn merge_row(ways: &mut Ways, name: &str, before: Interval, end: Interval) -> Result<(), AllocError>
+    requires room { ways.old.count < 2 ^ 63 }
+    ensures count { ways.new.count ≡ ways.old.count }
+    ensures steps { ways.new.steps ≡ ways.old.steps }
+    ensures rows { OnOk result ((x : Name) → mark_of ways.new x ≡ (if bytes_eq name.now x then Some (row_after ways.old.count (mark_of ways.old name.now) (span_of before) (span_of end), ways.old.count + 1) else mark_of ways.old x)) }
+{
+    let reached = Reached {
+        range: next_range(ways, name, before, end),
+        ways: ways.count + 1,
+    };
+    let key = String::from_str(ways.alloc, name)?;
+    ways.rows.insert(key, reached)?;
+    Ok(())
+}
+
+/// Earlier ways with one more, which began with these ranges.
+pub(crate) fn merged(ways: &mut Ways, way: &Way, ranges: &Ranges) -> Result<(), AllocError>
+    requires room { ways.old.count < 2 ^ 63 }
+    requires dated { (x : Name) → Dated ways.old.count (mark_of ways.old x) }
+    ensures count { OnOk result (ways.new.count ≡ ways.old.count + 1) }
+    ensures steps { OnOk result (ways.new.steps ≡ max ways.old.steps way.now.steps) }
+    ensures dated { OnOk result ((x : Name) → Dated ways.new.count (mark_of ways.new x)) }
+    ensures ranges { OnOk result ((later : Spans) → Besides (busy_of way.now.names.items) (spans_of ranges.now) later → ranges_after ways.new.count (mark_of ways.new) later ≡ joint ways.old.count (ranges_after ways.old.count (mark_of ways.old) (spans_of ranges.now)) (book.reset (busy_of way.now.names.items) (spans_of way.now.ends) (spans_of ranges.now))) }
+{
+    merge_rows(ways, &way.names, &way.ends, ranges)?;
+    ways.steps = longer(ways.steps, way.steps);
+    ways.count += 1;
+    Ok(())
+}
+
+// These variables with their ranges at the end of the next way.
+fn merge_rows(
+    ways: &mut Ways,
+    names: &[String],
+    ends: &Ranges,
+    ranges: &Ranges,
+) -> Result<(), AllocError>
+    requires room { ways.old.count < 2 ^ 63 }
+    ensures count { ways.new.count ≡ ways.old.count }
+    ensures steps { ways.new.steps ≡ ways.old.steps }
+    ensures rows { OnOk result ((x : Name) → mark_of ways.new x ≡ marked ways.old.count (busy_of names.now) (spans_of ranges.now) (spans_of ends.now) (mark_of ways.old) x) }
+{
+    for name in names {
+        let name = name.as_str();
+        merge_row(ways, name, ranges.find(name), ends.find(name))?;
+    }
+    Ok(())
+}
+
+/// All variables with their ranges after all ways, of which the last began with these.
+pub(crate) fn close(ways: &Ways, ranges: &mut Ranges) -> Result<(), AllocError>
+    ensures { OnOk result (spans_of ranges.new ≡ ranges_after ways.now.count (mark_of ways.now) (spans_of ranges.old)) }
+{
+    for i in 0..ways.rows.len() {
+        let Some((name, _)) = ways.rows.get_index(i) else {
+            unreachable!();
+        };
+        let name = name.as_str();
+        ranges.insert(name, range_after(ways, name, ranges.find(name)))?;
+    }
+    Ok(())
 }

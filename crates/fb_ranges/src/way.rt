@@ -1,10 +1,31 @@
-//! What an examination of one way through an algorithm finds.
+//! Ways through an algorithm, of which each touches a few variables.
 
+use crate::interval::Interval;
 use crate::rows::Ranges;
+use indexmap::IndexMap;
+use std::alloc::Global;
 
-/// The ranges at the end of a way, and its most steps, up to the first number that stands for all greater ones.
+/// What an examination of one way finds: the variables that it may touch, their ranges at its end, and its most steps, up to the first
+/// number that stands for all greater ones.
 #[derive(Debug, Drop)]
 pub(crate) struct Way {
-    pub ranges: Ranges,
+    pub names: Vec<String>,
+    pub ends: Ranges,
+    pub steps: u64,
+}
+
+/// The smallest range that holds those of a variable at the ends of ways, and how many ways there were with the last that touched it.
+#[derive(Clone, Copy, Debug)]
+pub(crate) struct Reached {
+    pub range: Interval,
+    pub ways: usize,
+}
+
+/// What ways have come to: each variable that one of them touched, how many they are, and the steps of the longest.
+#[derive(Debug, Drop)]
+pub(crate) struct Ways {
+    pub alloc: Global,
+    pub rows: IndexMap<String, Reached>,
+    pub count: usize,
     pub steps: u64,
 }

@@ -1,10 +1,11 @@
 use Rattle.std.proofs.Common.{◌≡◌, ℕ, ◌+◌, ◌*◌, max, drop}
+use Rattle.fb_model.specs.Names.{Name}
 use denote.Param.Weighed.{most}
 use Rattle.fb_model.specs.Clear.{Clear, onward, examine, examine_choices, examine_cases}
 use Rattle.st_types.specs.CommandViews.{commands_of, choices_of, cases_of}
-use Rattle.fb_ranges.specs.Finding.{Leads}
+use Rattle.fb_ranges.specs.Meeting.{Dated, Leads, ranges_after}
 use Rattle.fb_ranges.specs.Steps.{counted}
-use Rattle.fb_ranges.specs.Views.{spans_of}
+use Rattle.fb_ranges.specs.Views.{mark_of, spans_of}
 use Rattle.st_types.proofs.command.TypedStmt.TheLaws.{the_size as stmt_size}
 use Rattle.st_types.proofs.command.TypedBranch.TheLaws.{the_size as branch_size}
 use Rattle.st_types.proofs.command.TypedArm.TheLaws.{the_size as arm_size}
@@ -17,16 +18,19 @@ abbrev pub decreases-examine_one : goal.decreases-examine_one
 decreases-examine_one l = 5 * stmt_size l.statement.now
 
 abbrev pub decreases-examine_branches : goal.decreases-examine_branches
-decreases-examine_branches l = 5 * max (most branch_size l.branches.now) (most stmt_size l.other.now) + 2
+decreases-examine_branches l = 5 * max (most branch_size l.branches.now) (most stmt_size l.other.now) + 4
 
 abbrev pub decreases-examine_branch : goal.decreases-examine_branch
 decreases-examine_branch l = 5 * branch_size l.branch.now
 
 abbrev pub decreases-examine_arms : goal.decreases-examine_arms
-decreases-examine_arms l = 5 * max (most arm_size l.arms.now) (most stmt_size l.other.now) + 2
+decreases-examine_arms l = 5 * max (most arm_size l.arms.now) (most stmt_size l.other.now) + 4
 
-abbrev pub decreases-examine_arm : goal.decreases-examine_arm
-decreases-examine_arm l = 5 * arm_size l.arm.now
+abbrev pub decreases-examine_last : goal.decreases-examine_last
+decreases-examine_last l = 5 * most stmt_size l.body.now + 3
+
+abbrev pub decreases-examine_way : goal.decreases-examine_way
+decreases-examine_way l = 5 * most stmt_size l.body.now + 2
 
 abbrev pub decreases-examine_for : goal.decreases-examine_for
 decreases-examine_for l = 5 * most stmt_size l.body.now + 4
@@ -44,12 +48,23 @@ invariant-examine-loop-statement l =
 
 abbrev pub invariant-examine_branches-loop-branch : goal.invariant-examine_branches-loop-branch
 invariant-examine_branches-loop-branch l =
-    Leads l.before
-    (examine_choices (spans_of l.rows) (choices_of l.branches) (examine (spans_of l.rows) (commands_of l.other)) (spans_of l.initial.ranges))
-    (examine_choices (spans_of l.rows) (choices_of (drop l.branch-index l.branches)) (examine (spans_of l.rows) (commands_of l.other)) (spans_of l.ranges))
+    record {
+      count : l.ways.count ≡ l.branch-index;
+      dated : (x : Name) → Dated l.ways.count (mark_of l.ways x);
+      leads :
+          Leads l.ways.count l.ways.steps (ranges_after l.ways.count (mark_of l.ways) (spans_of l.ranges))
+          (examine_choices (spans_of l.rows) (choices_of l.branches) (examine (spans_of l.rows) (commands_of l.other)) (spans_of l.initial.ranges))
+          (examine_choices (spans_of l.rows) (choices_of (drop l.branch-index l.branches)) (examine (spans_of l.rows) (commands_of l.other)) (spans_of l.ranges));
+    }
 
 abbrev pub invariant-examine_arms-loop-arm : goal.invariant-examine_arms-loop-arm
 invariant-examine_arms-loop-arm l =
-    Leads l.before
-    (examine_cases (spans_of l.rows) (cases_of l.arms) (examine (spans_of l.rows) (commands_of l.other) (spans_of l.ranges)) (spans_of l.ranges))
-    (examine_cases (spans_of l.rows) (cases_of (drop l.arm-index l.arms)) (examine (spans_of l.rows) (commands_of l.other) (spans_of l.ranges)) (spans_of l.ranges))
+    record {
+      count : l.ways.count ≡ l.arm-index;
+      dated : (x : Name) → Dated l.ways.count (mark_of l.ways x);
+      same : spans_of l.ranges ≡ spans_of l.initial.ranges;
+      leads :
+          Leads l.ways.count l.ways.steps (ranges_after l.ways.count (mark_of l.ways) (spans_of l.ranges))
+          (examine_cases (spans_of l.rows) (cases_of l.arms) (examine (spans_of l.rows) (commands_of l.other) (spans_of l.ranges)) (spans_of l.ranges))
+          (examine_cases (spans_of l.rows) (cases_of (drop l.arm-index l.arms)) (examine (spans_of l.rows) (commands_of l.other) (spans_of l.ranges)) (spans_of l.ranges));
+    }

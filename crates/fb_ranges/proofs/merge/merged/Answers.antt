@@ -1,13 +1,21 @@
-use Rattle.std.proofs.Common.{subst}
-use Rattle.std.specs.Prelude.{Some}
-use Rattle.fb_model.specs.Clear.{either}
-use Rattle.fb_ranges.specs.Finding.{Leads}
-use Rattle.fb_ranges.specs.Views.{spans_of}
-use Rattle.fb_ranges.proofs.Ways.{meets_next}
+use Rattle.std.proofs.Common.{◌+◌, List, ap, ◌∙◌}
+use Rattle.std.proofs.Math.Path.{fun_ext}
+use Rattle.std.specs.declared.string.String.{String}
+use Rattle.std.specs.declared.alloc.Global.{Global}
+use Rattle.st_types.specs.CommandViews.{busy_of}
+use Rattle.fb_ranges.specs.Meeting.{marked, ranges_after}
+use Rattle.fb_ranges.specs.Views.{mark_of, spans_of}
+use Rattle.fb_ranges.proofs.Ways.{ranges_next}
 use Rattle.fb_ranges.proofs.merge.merged.Goals as goal
 
-pub returns-in_ok-join-in-Some : goal.returns-in_ok-join-in-Some
-returns-in_ok-join-in-Some c = λ all found rest l w.
-    let b = c.in-Some.before in
-    let k : Leads (Some b) all (either found rest) = subst (λ o. Leads o all (either found rest)) c.in-Some.is l in
-    meets_next (spans_of b.ranges) (spans_of c.args.way.ranges) (spans_of c.in_ok-join-in-Some.field-0) b.steps c.args.way.steps c.longer.result k.0 all found rest k.1 k.2 w c.in_ok-join-in-Some.ensures c.longer.ensures
+pub returns-clause-ranges : goal.returns-clause-ranges
+returns-clause-ranges c = λ later same.
+    let old = c.args.ways.now in
+    let new = c.merge_rows.new.ways in
+    let spans = spans_of c.args.ranges.now in
+    let ends = spans_of c.args.way.now.ends in
+    let names = c.args.way.now.names.items in
+    ap (λ n. ranges_after (n + 1) (mark_of new) later) c.merge_rows.ensures.count
+    ∙ ap (λ m. ranges_after (old.count + 1) m later) (fun_ext c.in_ok-merge_rows.ensures.rows)
+    ∙ ap (λ (l : List (String Global)). ranges_after (old.count + 1) (marked old.count (busy_of l) spans ends (mark_of old)) later) c.deref.ensures.value
+    ∙ ranges_next old.count (busy_of names) spans ends later (mark_of old) c.requires.dated same

@@ -1,0 +1,14 @@
+use Rattle.std.proofs.Common.{◌≡◌, take}
+use Rattle.fb_model.specs.Names.{Name}
+use Rattle.st_types.specs.CommandViews.{busy_of}
+use Rattle.fb_ranges.specs.Meeting.{marked}
+use Rattle.fb_ranges.specs.Views.{mark_of, spans_of}
+use Rattle.fb_ranges.proofs.merge.merge_rows.Given as goal
+
+abbrev pub invariant-loop-name : goal.invariant-loop-name
+invariant-loop-name l =
+    record {
+      count : l.ways.count ≡ l.initial.ways.count;
+      steps : l.ways.steps ≡ l.initial.ways.steps;
+      rows : (x : Name) → mark_of l.ways x ≡ marked l.initial.ways.count (busy_of (take l.name-index l.names)) (spans_of l.ranges) (spans_of l.ends) (mark_of l.initial.ways) x;
+    }
