@@ -10,8 +10,6 @@ mod laws;
 mod names;
 mod number;
 mod scope;
-#[cfg(test)]
-mod tests;
 mod typed;
 mod variable;
 

@@ -13,6 +13,3 @@ pub use certificate::{Amount, Certificate};
 pub use fault::CertFault;
 pub use law::spelled_once;
 pub use reading::parse_cert;
-
-#[cfg(test)]
-mod tests;

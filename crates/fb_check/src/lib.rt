@@ -10,6 +10,3 @@ pub use fb_columns;
 pub use refusal::Refusal;
 pub use verdict::{check, check_text};
 pub use verified::Verified;
-
-#[cfg(test)]
-mod tests;

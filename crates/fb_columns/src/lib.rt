@@ -17,6 +17,3 @@ pub use fb_rows;
 pub use fb_rows::fb_flat;
 pub use laws::refusals_deny;
 pub use pays::column_pays;
-
-#[cfg(test)]
-mod tests;

@@ -6,8 +6,6 @@ mod depth;
 mod law;
 mod resource;
 mod shallow;
-#[cfg(test)]
-mod tests;
 
 pub use depth::depths_fit;
 pub use law::refusals_deny;

@@ -11,8 +11,6 @@ mod program;
 mod queue;
 mod refusal;
 mod spending;
-#[cfg(test)]
-mod tests;
 
 pub use answer::{Answer, Denied, Ended, Opening, Ran, Step, Turned};
 pub use device::Device;

@@ -10,6 +10,3 @@ mod port;
 pub use fb_check;
 pub use fb_invoke;
 pub use first::{FirstValues, first_values};
-
-#[cfg(test)]
-mod tests;

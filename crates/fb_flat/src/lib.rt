@@ -14,8 +14,6 @@ mod leaves;
 mod lookup;
 mod place;
 mod site;
-#[cfg(test)]
-mod tests;
 mod walk;
 
 pub use fb_types;

@@ -6,8 +6,6 @@ mod kind;
 mod law;
 mod matching;
 mod required;
-#[cfg(test)]
-mod tests;
 
 pub use fault::RowFault;
 pub use law::no_row_is_spelled_twice;

@@ -7,8 +7,6 @@ mod event;
 mod face;
 mod instance;
 mod laws;
-#[cfg(test)]
-mod tests;
 mod typed;
 mod value;
 mod wiring;

@@ -11,8 +11,6 @@ mod place;
 mod row;
 mod run;
 mod span;
-#[cfg(test)]
-mod tests;
 
 pub use clear::rows_clear;
 pub use fault::Unclear;

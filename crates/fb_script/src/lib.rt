@@ -12,6 +12,3 @@ pub use line::{Line, LineFault, read_line};
 pub use playing::{play, tell};
 pub use run::{End, first_line, simulate};
 pub use told::Told;
-
-#[cfg(test)]
-mod tests;

@@ -6,8 +6,6 @@ mod interface;
 mod names;
 mod number;
 mod service;
-#[cfg(test)]
-mod tests;
 
 pub use declared::{bare, served};
 pub use fb_blocks;

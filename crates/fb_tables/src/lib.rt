@@ -18,6 +18,3 @@ pub use fb_check;
 pub use number::tables;
 pub use table::{Resource, Tables};
 pub use unfit::Unfit;
-
-#[cfg(test)]
-mod tests;

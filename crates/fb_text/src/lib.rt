@@ -8,8 +8,6 @@ mod event;
 mod network;
 mod state;
 mod system;
-#[cfg(test)]
-mod tests;
 mod text;
 mod tree;
 mod variable;

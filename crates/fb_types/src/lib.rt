@@ -13,10 +13,6 @@ mod resource;
 mod shapes;
 mod source;
 mod table;
-#[cfg(test)]
-mod tests;
-#[cfg(test)]
-mod texts;
 mod typed;
 mod uses;
 

@@ -10,8 +10,3 @@ mod words;
 pub use fault::Fault;
 pub use sources::{Disk, ReadFault, Sources};
 pub use words::command;
-
-#[cfg(test)]
-mod sim_tests;
-#[cfg(test)]
-mod tests;

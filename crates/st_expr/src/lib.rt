@@ -4,8 +4,6 @@
 mod literal;
 mod operator;
 mod reading;
-#[cfg(test)]
-mod tests;
 mod whole;
 
 pub use operator::Role;

@@ -4,8 +4,6 @@
 mod algorithm;
 mod label;
 mod statement;
-#[cfg(test)]
-mod tests;
 
 pub use algorithm::{body, one_algorithm, parse_algorithm};
 pub use label::integer;

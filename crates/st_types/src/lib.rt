@@ -9,8 +9,6 @@ mod operation;
 mod scope;
 mod statement;
 mod term;
-#[cfg(test)]
-mod tests;
 mod types;
 mod whole;
 

@@ -1,5 +1,5 @@
-use super::*;
 use fb_lex::{TextFault, lex};
+use st_parse::{Stmt, parse_algorithm};
 use std::alloc::{AllocError, Global};
 use std::test::Fail;
 

@@ -1,5 +1,5 @@
-use crate::tables;
 use fb_check::check_text;
+use fb_tables::tables;
 use std::alloc::Global;
 use std::test::Fail;
 

@@ -1,5 +1,5 @@
-use crate::resolve;
 use fb_networks::fb_services::fb_blocks::fb_text::parse;
+use fb_types::resolve;
 use std::alloc::Global;
 use std::test::Fail;
 

@@ -1,5 +1,5 @@
-use crate::{Column, Shortfall, column_pays};
 use fb_cert::parse_cert;
+use fb_columns::{Column, Shortfall, column_pays};
 use fb_rows::fb_flat::fb_types::fb_networks::fb_services::fb_blocks::fb_text::parse;
 use fb_rows::fb_flat::fb_types::resolve;
 use fb_rows::fb_flat::flatten;

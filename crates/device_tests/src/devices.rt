@@ -1,6 +1,6 @@
 //! Worked examples.
 
-use crate::{Answer, Denied, Device, Step, load};
+use fb_device::{Answer, Denied, Device, Step, load};
 use std::alloc::Global;
 use std::test::Fail;
 

@@ -1,8 +1,8 @@
-use crate::{Unclear, block_rows, rows_clear};
 use fb_cert::parse_cert;
 use fb_flat::fb_types::fb_networks::fb_services::fb_blocks::fb_text::parse;
 use fb_flat::fb_types::resolve;
 use fb_flat::{Body, flatten};
+use fb_rows::{Unclear, block_rows, rows_clear};
 use std::alloc::Global;
 use std::test::Fail;
 

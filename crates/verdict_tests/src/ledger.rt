@@ -1,8 +1,8 @@
-use crate::{RowFault, rows_match};
 use fb_cert::parse_cert;
 use fb_flat::fb_types::fb_networks::fb_services::fb_blocks::fb_text::parse;
 use fb_flat::fb_types::resolve;
 use fb_flat::flatten;
+use fb_ledger::{RowFault, rows_match};
 use std::alloc::Global;
 use std::test::Fail;
 

@@ -1,8 +1,8 @@
-use crate::{EVENT_BLOCKS, Kind, Use, alike, differ, few, gather_all, resolve_with};
 use fb_networks::fb_services::Service;
 use fb_networks::fb_services::fb_blocks::fb_text::{BlockTree, BodyTree, parse};
 use fb_networks::fb_services::fb_blocks::{Face, TypeFault, basic};
 use fb_networks::{Body, Instance, Network};
+use fb_types::{EVENT_BLOCKS, Kind, Use, alike, differ, few, gather_all, resolve_with};
 use fb_words::ElemType;
 use indexmap::IndexMap;
 use std::alloc::{AllocError, Global};

@@ -1,4 +1,4 @@
-use crate::{basic, constant, face};
+use fb_blocks::{basic, constant, face};
 use fb_text::{BodyTree, parse};
 use fb_words::ElemType;
 use st_tree::{Constant, Literal};

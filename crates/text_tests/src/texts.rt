@@ -1,5 +1,5 @@
-use super::*;
 use fb_lex::{TextFault, lex};
+use fb_text::parse;
 use std::alloc::{AllocError, Global};
 use std::test::Fail;
 

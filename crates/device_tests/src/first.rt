@@ -1,5 +1,5 @@
-use crate::first_values;
 use fb_check::check_text;
+use fb_first::first_values;
 use std::alloc::Global;
 use std::test::Fail;
 

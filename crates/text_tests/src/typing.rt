@@ -1,7 +1,7 @@
-use crate::{Scope, TypingFault, Variable, resolve_algorithm, resolve_expr};
 use fb_lex::lex;
 use fb_words::ElemType;
 use st_parse::{parse_algorithm, parse_expr};
+use st_types::{Scope, TypingFault, Variable, resolve_algorithm, resolve_expr};
 use std::alloc::{AllocError, Global};
 use std::test::Fail;
 

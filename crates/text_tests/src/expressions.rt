@@ -1,5 +1,5 @@
-use super::*;
 use fb_lex::{TextFault, lex};
+use st_expr::{expression, one_expression, parse_expr};
 use std::alloc::{AllocError, Global};
 use std::test::Fail;
 

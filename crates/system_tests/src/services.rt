@@ -1,5 +1,5 @@
-use crate::{Service, served};
 use fb_blocks::fb_text::parse;
+use fb_services::{Service, served};
 use fb_words::ElemType;
 use std::alloc::Global;
 use std::test::Fail;

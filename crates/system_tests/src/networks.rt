@@ -1,4 +1,4 @@
-use crate::{Body, Instance, Network, plain, served, wire};
+use fb_networks::{Body, Instance, Network, plain, served, wire};
 use fb_services::fb_blocks::fb_text::{NetworkTree, parse};
 use fb_services::fb_blocks::{Face, TypeFault};
 use indexmap::IndexMap;

@@ -1,4 +1,4 @@
-use crate::{Flat, Source, flatten};
+use fb_flat::{Flat, Source, flatten};
 use fb_networks::fb_services::Service;
 use fb_networks::fb_services::fb_blocks::fb_text::parse;
 use fb_networks::fb_services::fb_blocks::{Face, TypeFault};

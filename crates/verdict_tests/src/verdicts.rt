@@ -1,4 +1,4 @@
-use crate::check_text;
+use fb_check::check_text;
 use std::alloc::Global;
 use std::test::Fail;
 

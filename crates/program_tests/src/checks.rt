@@ -1,5 +1,4 @@
-use crate::sources::ReadFault;
-use crate::{Sources, command};
+use fbr::{ReadFault, Sources, command};
 use std::alloc::Global;
 use std::io;
 use std::test::Fail;

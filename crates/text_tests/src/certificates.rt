@@ -1,4 +1,4 @@
-use super::{Amount, Bounds, CertFault, parse_cert};
+use fb_cert::{Amount, Bounds, CertFault, parse_cert};
 use std::test::Fail;
 
 const SAMPLE: &str =

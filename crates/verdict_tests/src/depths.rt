@@ -1,5 +1,5 @@
-use crate::{Shallow, depths_fit};
 use fb_cert::parse_cert;
+use fb_depths::{Shallow, depths_fit};
 use fb_flat::fb_types::fb_networks::fb_services::fb_blocks::fb_text::parse;
 use fb_flat::fb_types::resolve;
 use fb_flat::flatten;

@@ -1,7 +1,7 @@
 //! Lines and answers.
 
-use crate::{Line, LineFault, Told, read_line};
 use fb_device::{Denied, Ended, Values, Written};
+use fb_script::{Line, LineFault, Told, read_line};
 use std::test::Fail;
 
 #[test]
