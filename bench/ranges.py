@@ -1,9 +1,10 @@
 #!/usr/bin/env python3
 """Times the check of ranges: bench/ranges.py PROGRAM [SIZES IN KiB]
 
-One block with one algorithm of 64 KiB, 256 KiB and nearly 1 MiB, an instance of it, and a certificate that fits. Three kinds: a few
-variables and many assignments, IF, CASE and FOR; IF and FOR nested 31 deep, again and again; and as many variables as IFs, each IF with
-a variable of its own. The least of three runs is told, and the cost of a byte.
+One block with one algorithm of 64 KiB, 256 KiB and nearly 1 MiB, an instance of it, and a certificate that fits. Five kinds: a few
+variables and many assignments, IF, CASE and FOR; IF and FOR nested 31 deep, again and again; as many variables as IFs, each IF with a
+variable of its own; and one IF with as many ELSIF, and one CASE with as many arms, as the text takes, each with a variable of its own.
+The least of three runs is told, and the cost of a byte.
 """
 import sys
 
@@ -38,14 +39,29 @@ def nested(size):
 
 def wide(size):
     count = size // 48
-    body = "".join("IF X > 3 THEN V%d := X; END_IF;\n" % i for i in range(count))
+    return of_its_own(count, "".join("IF X > 3 THEN V%d := X; END_IF;\n" % i for i in range(count)))
+
+
+def of_its_own(count, body):
     return whole("".join("V%d : DINT;\n" % i for i in range(count)), body, [("V%d" % i, "0 9") for i in range(count)])
+
+
+def branches(size):
+    count = size // 45
+    body = "IF X > 8 THEN ; " + "".join("ELSIF X > %d THEN V%d := X;\n" % (i % 8, i) for i in range(count)) + "END_IF;\n"
+    return of_its_own(count, body)
+
+
+def arms(size):
+    count = size // 34
+    body = "CASE X OF " + "".join("%d: V%d := X;\n" % (i, i) for i in range(count)) + "END_CASE;\n"
+    return of_its_own(count, body)
 
 
 def main():
     program = sys.argv[1]
     sizes = [int(s) * 1024 for s in sys.argv[2:]] or [64 * 1024, 256 * 1024, 1000 * 1024]
-    for make in (long, nested, wide):
+    for make in (long, nested, wide, branches, arms):
         for size in sizes:
             text = make(size)
             took = least(program, text, "accepted\n", runs=3)
