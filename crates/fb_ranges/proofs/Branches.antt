@@ -12,11 +12,11 @@ use Rattle.st_types.specs.declared.command.TypedArm.{TypedArm}
 use Rattle.st_types.specs.CommandViews.{commands_of, case_of, cases_of, choice_of, choices_of}
 use Rattle.st_types.proofs.Gathering.{drop_step}
 use Rattle.fb_model.specs.Spans.{Span}
-use Rattle.fb_ranges.specs.declared.interval.Interval.{Interval}
+use Rattle.fb_intervals.specs.declared.interval.Interval.{Interval}
 use Rattle.fb_ranges.specs.Finding.{IsFound}
 use Rattle.fb_ranges.specs.Meeting.{Besides, Leads, Mark, joint, ranges_after}
 use Rattle.fb_ranges.specs.Narrowing.{read_in}
-use Rattle.fb_ranges.specs.Views.{span_of}
+use Rattle.fb_intervals.specs.Views.{span_of}
 use Rattle.fb_ranges.proofs.Blocks.{next_choice}
 use Rattle.fb_ranges.proofs.Covers.{narrowed_besides}
 use Rattle.fb_ranges.proofs.Frames.{clear_frames}

@@ -13,7 +13,7 @@ use Rattle.fb_model.proofs.Lists.{same_name}
 use Rattle.fb_model.specs.Spans.{Span}
 use Rattle.fb_model.specs.Clear.{Spans, changed, reset}
 use Rattle.fb_model.proofs.Names.{eq_turned}
-use Rattle.fb_ranges.specs.declared.interval.Interval.{Interval}
+use Rattle.fb_intervals.specs.declared.interval.Interval.{Interval}
 use Rattle.fb_ranges.specs.Meeting.{Besides}
 use Rattle.fb_ranges.specs.Views.{row_of, spans_in, names_in}
 use Rattle.fb_ranges.proofs.Tables.{shown}

@@ -1,9 +1,7 @@
-pub mod Spans
 pub mod Tables
 pub mod Chains
 pub mod Sides
 pub mod Conditions
-pub mod Counting
 pub mod Joins
 pub mod Covers
 pub mod Frames

@@ -20,7 +20,8 @@ use Rattle.fb_ranges.specs.declared.fault.RangeFault.TheVariants as f
 use Rattle.fb_ranges.specs.Finding.{Fails, IsFound}
 use Rattle.fb_ranges.specs.Meeting.{Besides, Dated, Leads, Mark, joint, marked, met, ranges_after, row_after}
 use Rattle.fb_ranges.specs.Steps.{counted}
-use Rattle.fb_ranges.specs.Views.{mark_in, names_in, span_of}
+use Rattle.fb_intervals.specs.Views.{span_of}
+use Rattle.fb_ranges.specs.Views.{mark_in, names_in}
 use Rattle.fb_ranges.proofs.Covers.{joined_same, joined_again, joined_twice}
 use Rattle.fb_ranges.proofs.Joins.{in_push}
 

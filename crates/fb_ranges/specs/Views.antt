@@ -7,18 +7,16 @@ use Rattle.std.specs.declared.string.String.{String}
 use Rattle.std.specs.declared.alloc.Global.{Global}
 use Rattle.fb_words.specs.declared.elem_type.ElemType.TheVariants as t
 use Rattle.fb_model.specs.Names.{Name}
-use Rattle.fb_model.specs.Spans.{Span, span, whole, range_two}
+use Rattle.fb_model.specs.Spans.{Span, whole, range_two}
 use Rattle.fb_model.specs.Language.{given}
 use Rattle.st_types.specs.Views.{Tail}
 use Rattle.fb_model.specs.Clear.{Spans, range_of}
-use Rattle.fb_ranges.specs.declared.interval.Interval.{Interval}
+use Rattle.fb_intervals.specs.declared.interval.Interval.{Interval}
+use Rattle.fb_intervals.specs.Views.{span_of}
 use Rattle.fb_ranges.specs.declared.rows.Ranges.{Ranges}
 use Rattle.fb_ranges.specs.declared.way.Reached.{Reached}
 use Rattle.fb_ranges.specs.declared.way.Ways.{Ways}
 use Rattle.fb_ranges.specs.Meeting.{Mark}
-
-abbrev pub span_of : Interval → Span
-span_of i = span i.low i.high
 
 -- the range of the variable of a name
 abbrev pub row_of : List (String Global × Interval) → Name → Option Interval

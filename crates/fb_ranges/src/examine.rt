@@ -11,21 +11,20 @@ ghost use Rattle.st_types.specs.CommandViews.{busy_of, case_of, cases_of, choice
 ghost use Rattle.fb_ranges.specs.Finding.{Costs, Finds, FindsWay};
 ghost use Rattle.fb_ranges.specs.Meeting.{Dated, Leads, ranges_after};
 ghost use Rattle.fb_ranges.specs.Narrowing.{read_in};
-ghost use Rattle.fb_ranges.specs.Views.{mark_of, span_of, spans_of};
+ghost use Rattle.fb_intervals.specs.Views.{span_of};
+ghost use Rattle.fb_ranges.specs.Views.{mark_of, spans_of};
 
 use crate::assigned::names_assigned;
 use crate::expression::{is_between, range};
 use crate::fault::RangeFault;
-use crate::interval::Interval;
 use crate::join::{are_kept, reset};
 use crate::merge::{close, ended, merged, no_ways, noted};
 use crate::narrow::narrow;
 use crate::rows::Ranges;
-use crate::span::is_within;
 use crate::steps::{added, of_turns};
 use crate::touched::names_touched;
-use crate::turns::{left_with, most_turns, taken};
 use crate::way::{Way, Ways};
+use fb_intervals::{Interval, is_within, left_with, most_turns, taken};
 use st_types::{Counting, TypedArm, TypedBranch, TypedExpr, TypedStmt};
 use std::alloc::Global;
 

@@ -5,11 +5,11 @@ ghost use Rattle.std.specs.Option.{option_map};
 ghost use Rattle.fb_model.specs.Clear as book;
 ghost use Rattle.fb_model.specs.Spans.{within, span};
 ghost use Rattle.st_types.specs.Views.{term_of, tail_of};
-ghost use Rattle.fb_ranges.specs.Views.{span_of, spans_of, linked};
+ghost use Rattle.fb_intervals.specs.Views.{span_of};
+ghost use Rattle.fb_ranges.specs.Views.{spans_of, linked};
 
-use crate::interval::Interval;
-use crate::operation::{range_one, range_two};
 use crate::rows::Ranges;
+use fb_intervals::{Interval, range_one, range_two};
 use st_types::{TypedExpr, TypedLink};
 
 /// Whether a range lies between the lowest and the highest index of an array.

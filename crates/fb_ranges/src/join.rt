@@ -6,7 +6,7 @@ ghost use Rattle.st_types.specs.CommandViews.{busy_of};
 ghost use Rattle.fb_ranges.specs.Views.{spans_of};
 
 use crate::rows::Ranges;
-use crate::span::is_within;
+use fb_intervals::is_within;
 use std::alloc::AllocError;
 
 /// The same ranges.

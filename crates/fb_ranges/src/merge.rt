@@ -7,14 +7,14 @@ ghost use Rattle.fb_model.specs.Clear as book;
 ghost use Rattle.fb_model.specs.Clear.{Spans};
 ghost use Rattle.st_types.specs.CommandViews.{busy_of};
 ghost use Rattle.fb_ranges.specs.Meeting.{Besides, Dated, joint, marked, met, ranges_after, row_after};
-ghost use Rattle.fb_ranges.specs.Views.{mark_of, span_of, spans_of};
+ghost use Rattle.fb_intervals.specs.Views.{span_of};
+ghost use Rattle.fb_ranges.specs.Views.{mark_of, spans_of};
 
-use crate::interval::Interval;
 use crate::join::reset;
 use crate::rows::Ranges;
-use crate::span::joined;
 use crate::steps::longer;
 use crate::way::{Reached, Way, Ways};
+use fb_intervals::{Interval, joined};
 use indexmap::IndexMap;
 use std::alloc::{AllocError, Global};
 

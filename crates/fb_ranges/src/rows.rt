@@ -1,6 +1,6 @@
 //! Rows of variables.
 
-use crate::interval::Interval;
+use fb_intervals::Interval;
 use indexmap::IndexMap;
 use std::alloc::Global;
 

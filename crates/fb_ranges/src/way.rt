@@ -1,7 +1,7 @@
 //! Ways through an algorithm, of which each touches a few variables.
 
-use crate::interval::Interval;
 use crate::rows::Ranges;
+use fb_intervals::Interval;
 use indexmap::IndexMap;
 use std::alloc::Global;
 

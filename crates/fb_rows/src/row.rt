@@ -12,16 +12,18 @@ ghost use Rattle.fb_cert.specs.Views.{certificate_of};
 ghost use Rattle.fb_flat.specs.Leaves.{kind_of};
 ghost use Rattle.fb_flat.specs.fb_blocks.Views.{block_of, variables_of};
 ghost use Rattle.fb_flat.specs.fb_services.Views.{service_of};
-ghost use Rattle.fb_ranges.specs.Views.{span_of, spans_of};
+ghost use Rattle.fb_intervals.specs.Views.{span_of};
+ghost use Rattle.fb_ranges.specs.Views.{spans_of};
 ghost use Rattle.fb_rows.specs.Rows.{row_in, type_in, typed_row, rows_in};
 ghost use Rattle.fb_rows.specs.Clearing.{rows_of_block};
 
-use crate::span::{numbers, whole};
+use crate::span::numbers;
 use fb_cert::Certificate;
 use fb_flat::fb_types::fb_networks::fb_services::Service;
 use fb_flat::fb_types::fb_networks::fb_services::fb_blocks::{Block, Variables};
 use fb_flat::{Body, Leaf, joined};
-use fb_ranges::{Interval, Ranges};
+use fb_intervals::{Interval, whole};
+use fb_ranges::Ranges;
 use fb_words::ElemType;
 use std::alloc::{AllocError, Global};
 

@@ -6,6 +6,8 @@ mod columns;
 #[cfg(test)]
 mod depths;
 #[cfg(test)]
+mod intervals;
+#[cfg(test)]
 mod ledger;
 #[cfg(test)]
 mod ranges;

@@ -13,7 +13,8 @@ use Rattle.st_types.specs.CommandViews.{Cased, Chosen, busy_of, cases_of, comman
 use Rattle.fb_ranges.specs.Finding.{Costs, Fails, Finds, IsFound}
 use Rattle.fb_ranges.specs.Meeting.{Besides, Leads, ranges_after}
 use Rattle.fb_ranges.specs.Narrowing.{read_in}
-use Rattle.fb_ranges.specs.Views.{mark_of, span_of, spans_of}
+use Rattle.fb_intervals.specs.Views.{span_of}
+use Rattle.fb_ranges.specs.Views.{mark_of, spans_of}
 use Rattle.fb_ranges.proofs.Blocks.{command_set, command_element, element_found, next_clear, choice_is, kept_fails, kept_by, turns_fail, turns_clear}
 use Rattle.fb_ranges.proofs.Branches.{branch_besides, case_is, next_arm, next_branch, way_found, with_some}
 use Rattle.fb_ranges.proofs.Frames.{clear_frames}

@@ -4,7 +4,8 @@ use Rattle.std.proofs.lemmas.Int.{ints}
 use Rattle.fb_model.specs.Spans.{span, within}
 use Rattle.fb_model.specs.Clear.{Clear, Leaves, Traps, range_of, with_range}
 use Rattle.st_types.specs.Views.{term_of}
-use Rattle.fb_ranges.specs.Views.{span_of, spans_of}
+use Rattle.fb_intervals.specs.Views.{span_of}
+use Rattle.fb_ranges.specs.Views.{spans_of}
 use Rattle.fb_ranges.proofs.examine.examine_element.Goals as goal
 
 pub returns : goal.returns

@@ -3,7 +3,8 @@ use Rattle.std.specs.Option.{option_map}
 use Rattle.fb_model.specs.Language.{given}
 use Rattle.fb_model.specs.Clear.{range_of}
 use Rattle.st_types.specs.Views.{term_of, tail_of}
-use Rattle.fb_ranges.specs.Views.{span_of, spans_of, linked}
+use Rattle.fb_intervals.specs.Views.{span_of}
+use Rattle.fb_ranges.specs.Views.{spans_of, linked}
 use Rattle.fb_ranges.proofs.Chains.{range_chain}
 use Rattle.fb_ranges.proofs.expression.+ranging.Goals as goal
 

@@ -1,7 +1,8 @@
 use Rattle.std.proofs.Common.{◌≡◌, ◌+◌, ◌*◌, drop, map}
 use denote.Param.Weighed.{most}
 use Rattle.st_types.specs.Views.{tail_of}
-use Rattle.fb_ranges.specs.Views.{span_of, spans_of, linked}
+use Rattle.fb_intervals.specs.Views.{span_of}
+use Rattle.fb_ranges.specs.Views.{spans_of, linked}
 use Rattle.st_types.proofs.term.TypedExpr.TheLaws.{the_size as expr_size}
 use Rattle.st_types.proofs.term.TypedLink.TheLaws.{the_size as link_size}
 use Rattle.fb_ranges.proofs.expression.+ranging.Given as goal

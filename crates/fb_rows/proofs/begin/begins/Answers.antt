@@ -1,4 +1,4 @@
-use Rattle.fb_ranges.specs.Views.{span_of}
+use Rattle.fb_intervals.specs.Views.{span_of}
 use Rattle.fb_rows.proofs.Starting.{begins_both}
 use Rattle.fb_rows.proofs.begin.begins.Goals as goal
 

@@ -8,7 +8,7 @@ use Rattle.fb_model.specs.Store.{first_input}
 use Rattle.fb_model.specs.BlockTyping.{variable_of}
 use Rattle.fb_flat.specs.declared.flat.Source.{Source}
 use Rattle.fb_flat.specs.fb_blocks.Views.{declared_of}
-use Rattle.fb_ranges.specs.Views.{span_of}
+use Rattle.fb_intervals.specs.Views.{span_of}
 use Rattle.fb_rows.specs.Places.{held}
 use Rattle.fb_rows.specs.Beginning.{IsRange}
 use Rattle.fb_rows.proofs.Starting.{only_one}

@@ -4,7 +4,7 @@ use Rattle.fb_model.specs.System.{start_of}
 use Rattle.fb_model.specs.Store.{first_input}
 use Rattle.fb_model.specs.Wires.{Source}
 use Rattle.fb_flat.specs.Tables.{source_at}
-use Rattle.fb_ranges.specs.Views.{span_of}
+use Rattle.fb_intervals.specs.Views.{span_of}
 use Rattle.fb_rows.specs.Beginning.{Entry, entry_name, shown, IsRange, InputBegins}
 use Rattle.fb_rows.specs.Clearing.{InputFails}
 use Rattle.fb_rows.proofs.Lists.{got, all_more}

@@ -1,6 +1,6 @@
 use Rattle.std.proofs.Common.{refl, subst}
 use Rattle.fb_model.specs.Spans.{Span}
-use Rattle.fb_ranges.specs.Views.{span_of}
+use Rattle.fb_intervals.specs.Views.{span_of}
 use Rattle.fb_rows.specs.Beginning.{Begins}
 use Rattle.fb_rows.proofs.Blaming.{denied}
 use Rattle.fb_rows.proofs.begin.variable_begins.Goals as goal

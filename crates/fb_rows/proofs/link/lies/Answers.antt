@@ -3,7 +3,7 @@ use Rattle.std.proofs.Common.{◌↔◌, Option, sym, subst}
 use Rattle.std.specs.Prelude.{IfOk, IsTrue}
 use Rattle.std.specs.Option.{option_map}
 use Rattle.fb_flat.specs.declared.flat.Source.{Source}
-use Rattle.fb_ranges.specs.Views.{span_of}
+use Rattle.fb_intervals.specs.Views.{span_of}
 use Rattle.fb_rows.specs.Places.{held, SourceLies}
 use Rattle.fb_rows.proofs.link.lies.Goals as goal
 

@@ -3,7 +3,7 @@ use Rattle.std.proofs.Common.{refl, subst}
 use Rattle.std.specs.Option.{option_map}
 use Rattle.fb_model.specs.Spans.{Span}
 use Rattle.fb_flat.specs.declared.flat.Source.{Source}
-use Rattle.fb_ranges.specs.Views.{span_of}
+use Rattle.fb_intervals.specs.Views.{span_of}
 use Rattle.fb_rows.specs.Places.{held, SourceLies}
 use Rattle.fb_rows.proofs.Blaming.{denied}
 use Rattle.fb_rows.proofs.link.link_lies.Goals as goal

@@ -2,7 +2,7 @@ use denote.Ref.{Bor}
 use Rattle.std.proofs.Common.{sym, ap, ◌∙◌}
 use Rattle.std.specs.Option.{option_map}
 use Rattle.fb_flat.specs.declared.flat.Leaf.{Leaf}
-use Rattle.fb_ranges.specs.Views.{span_of}
+use Rattle.fb_intervals.specs.Views.{span_of}
 use Rattle.fb_rows.proofs.Placing.{lies_there, lies_nowhere}
 use Rattle.fb_rows.proofs.link.output_lies.Goals as goal
 

@@ -2,7 +2,7 @@ use Rattle.std.proofs.Common.{◌↔◌, sym, subst}
 use Rattle.std.specs.Prelude.{IfOk, IsTrue}
 use Rattle.fb_flat.specs.declared.flat.Source.{Source}
 use Rattle.fb_flat.specs.Tables.{book_source}
-use Rattle.fb_ranges.specs.Views.{span_of}
+use Rattle.fb_intervals.specs.Views.{span_of}
 use Rattle.fb_rows.specs.Places.{SourceLies}
 use Rattle.fb_rows.proofs.link.source_lies.Goals as goal
 

@@ -1,6 +1,7 @@
 use Rattle.std.proofs.Common.{sym, ap, ◌∙◌, arith}
 use Rattle.fb_model.specs.Clear.{reset}
-use Rattle.fb_ranges.specs.Views.{spans_of, span_of}
+use Rattle.fb_intervals.specs.Views.{span_of}
+use Rattle.fb_ranges.specs.Views.{spans_of}
 use Rattle.fb_rows.specs.Beginning.{Entry}
 use Rattle.fb_rows.specs.Clearing.{rows_of_block}
 use Rattle.fb_rows.proofs.Rowing.{next_entry, all_entries}
