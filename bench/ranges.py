@@ -2,7 +2,7 @@
 """Times the check of ranges: bench/ranges.py PROGRAM [SIZES IN KiB]
 
 One block with one algorithm of 64 KiB, 256 KiB and nearly 1 MiB, an instance of it, and a certificate that fits. Five kinds: a few
-variables and many assignments, IF, CASE and FOR; IF and FOR nested 31 deep, again and again; as many variables as IFs, each IF with a
+variables and many assignments, IF, CASE and FOR; IF and FOR nested 30 deep, again and again; as many variables as IFs, each IF with a
 variable of its own; and one IF with as many ELSIF, and one CASE with as many arms, as the text takes, each with a variable of its own.
 The least of three runs is told, and the cost of a byte.
 """
@@ -18,7 +18,7 @@ def whole(declared, body, rows):
     text += "EC_STATES START; ACT : G; END_STATES EC_TRANSITIONS START TO ACT := E; ACT TO START := 1; END_TRANSITIONS ALGORITHM G IN ST:\n" + body
     text += "END_ALGORITHM END_FUNCTION_BLOCK SYSTEM S DEVICE D RESOURCE R FBS C : F; END_FBS END_RESOURCE END_DEVICE END_SYSTEM"
     certificate = "RANGE D.R.C.X 0 9\n" + "".join("RANGE D.R.C.%s %s\n" % row for row in rows)
-    certificate += "CHARGE D.R.C.START 0 0\nCHARGE D.R.C.ACT 999999999999 0\nWEIGHT D.R.C.E 1000000000000 1\nDEPTH D.R 1\n"
+    certificate += "CHARGE D.R.C.START 0 0\nCHARGE D.R.C.ACT 999999999998 0\nWEIGHT D.R.C.E 1000000000000 1\nDEPTH D.R 1\n"
     return text + END + certificate
 
 
@@ -33,8 +33,9 @@ def long(size):
 
 
 def nested(size):
-    part = "IF X > 3 THEN FOR I := 1 TO 1 DO " * 15 + "Y := X; " + "END_FOR; END_IF; " * 15 + "\n"
-    return whole("Y, I : DINT;", repeated(size, part), [("Y", "0 9"), ("I", "0 10")])
+    loops = ["I%d" % i for i in range(15)]
+    part = "".join("IF X > 3 THEN FOR %s := 1 TO 1 DO " % i for i in loops) + "Y := X; " + "END_FOR; END_IF; " * 15 + "\n"
+    return whole("Y, %s : DINT;" % ", ".join(loops), repeated(size, part), [(v, "0 9") for v in ["Y"] + loops])
 
 
 def wide(size):
