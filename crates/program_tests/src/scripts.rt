@@ -489,13 +489,11 @@ fn a_counter_alone(rt: HostRuntime) -> Result<(), Fail> {
     let words = ["fbr", "sim", "alone.fb", "alone.cert"];
     let (status, text) = said(&rt, &words, FILES, ROUNDS)?;
     assert_eq!(rt; status, 0);
-    let mut ends = 0;
-    for line in text.as_str().lines() {
-        if line.ends_with(" 6 of 6") {
-            ends += 1;
-        }
-    }
-    assert_eq!(rt; ends, 9);
+    let full = text
+        .as_str()
+        .lines()
+        .filter(|line| line.ends_with(" 6 of 6"));
+    assert_eq!(rt; full.count(), 9);
     assert!(rt;
         text.as_str()
             .ends_with("ran D.R.COUNT.CU steps 4 ended 10 5 of 6\nidle\n")
