@@ -133,31 +133,33 @@ fn relations(rt: HostRuntime) -> Result<(), Fail> {
     Ok(())
 }
 
-// A FOR from 1 to a number between 0 and 10 may take no turn, and its variable keeps its number then.
+// What the variable of a FOR takes, and what it holds afterwards, from what it held before.
+fn told(alloc: Global, first: Interval, last: Interval, step: i64) -> Result<String, Fail> {
+    let count = most_turns(first, last, step);
+    if count == 0 {
+        return Ok(String::from_str(alloc, "no turn")?);
+    }
+    let own = taken(first, last, step, count);
+    let left = left_with(first, last, step, count, whole(ElemType::Sint));
+    let (own, left) = (text(alloc, own)?, text(alloc, left)?);
+    Ok(format!(in alloc; "{count} turns, {own}, then {left}")?)
+}
+
+// With a last bound between 0 and 10 there may be no turn, and the variable keeps its number then.
 #[test]
 fn turns_of_for(rt: HostRuntime) -> Result<(), Fail> {
     let alloc = rt.alloc();
     assert_eq!(rt; turns(1, 10, 3), 4u128);
-    assert_eq!(rt; turns(5, 1, 1), 0u128);
-    let first = range(1, 1);
-    let count = most_turns(first, range(0, 10), 1);
-    assert_eq!(rt; count, 10u128);
-    if count > 0 {
-        assert_eq!(rt;
-            text(alloc, taken(first, range(0, 10), 1, count))?.as_str(),
-            "1..10"
-        );
-        let left = left_with(first, range(0, 10), 1, count, range(0, 0));
-        assert_eq!(rt; text(alloc, left)?.as_str(), "0..10");
-    }
-    let known = most_turns(first, range(10, 10), 3);
-    if known > 0 {
-        assert_eq!(rt;
-            text(alloc, taken(first, range(10, 10), 3, known))?.as_str(),
-            "1..10"
-        );
-        let left = left_with(first, range(10, 10), 3, known, range(0, 0));
-        assert_eq!(rt; text(alloc, left)?.as_str(), "10..10");
+    let cases: [(i64, i64, i64, &str); 4] = [
+        (10, 10, 3, "4 turns, 1..10, then 10..10"),
+        (5, 10, 1, "10 turns, 1..10, then 1..10"),
+        (0, 10, 1, "10 turns, 1..10, then -128..127"),
+        (-9, 0, 1, "no turn"),
+    ];
+    for case in &cases {
+        let (low, high, step, answer) = *case;
+        let words = told(alloc, range(1, 1), range(low, high), step)?;
+        assert_eq!(rt; words.as_str(), answer);
     }
     Ok(())
 }
