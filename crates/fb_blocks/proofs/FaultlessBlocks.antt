@@ -2,17 +2,16 @@
 use Rattle.std.proofs.Common.{◌≡◌, List, [], ◌∷◌, ◌++◌, Option, Some, None, map, sym, ap, subst, ◌∙◌, arith}
 use Rattle.std.specs.List.{Any}
 use Rattle.std.proofs.lemmas.List.{length-map}
-use Rattle.fb_words.specs.declared.elem_type.ElemType.TheVariants as t
 use Rattle.fb_model.specs.Names.{Name}
 use Rattle.fb_model.specs.Trees.{ActionTree}
 use Rattle.fb_model.specs.Declarations.{GuardTree, TransitionTree, AlgorithmTree, ChartTree, BlockTree}
 use Rattle.fb_model.specs.TypedText.{Term}
 use Rattle.fb_model.specs.TextTyping.{Entry}
-use Rattle.fb_model.specs.TextFaults.{IsNotAsked, SomeMisdone}
+use Rattle.fb_model.specs.TextFaults.{IsNoCondition, SomeMisdone}
 use Rattle.fb_model.specs.System as book
 use Rattle.fb_model.specs.Typing.{AreDistinct, texts, state_texts}
 use Rattle.fb_model.specs.BlockTyping.{Declared, AreDeclared, IsActionTyped, IsGuard, a_guard, IsTransition, AreTransitions, a_transition, AreProcedures, a_procedure, IsBasic, face_names, face_of, names_in, words_in, event_texts, algorithm_texts, scope}
-use Rattle.st_types.proofs.Faultless.{asked_faultless, commands_faultless}
+use Rattle.st_types.proofs.Faultless.{condition_faultless, commands_faultless}
 use Rattle.fb_blocks.specs.declared.fault.TypeFault.{TypeFault}
 use Rattle.fb_blocks.specs.declared.fault.TypeFault.TheVariants.{OutOfMemory}
 use Rattle.fb_blocks.specs.Answers.{own_words}
@@ -30,7 +29,7 @@ no_action_fault algorithms outputs a f (unknown_output h) x = no_unknown_if_some
 
 no_guard_fault : (env : List Entry) (o : Option GuardTree) (x : Option Term) (f : TypeFault) → IsGuard env o x → IsGuardFault env o f → f ≡ OutOfMemory
 no_guard_fault env None x f g h = absurd h
-no_guard_fault env (Some k) x f (a_guard {x = y} g) h = no_text_fault (IsNotAsked env t.Bool k.at k.condition) f h (λ w m. asked_faultless env t.Bool k.at k.condition y w g m)
+no_guard_fault env (Some k) x f (a_guard {x = y} g) h = no_text_fault (IsNoCondition env k.at k.condition) f h (λ w m. condition_faultless env k.at k.condition y w g m)
 
 no_ends_fault : (env : List Entry) (states inputs : List Name) (c : TransitionTree) (d : book.Transition) (f : TypeFault) → IsTransition env states inputs c d → IsEndsFault states inputs c f → f ≡ OutOfMemory
 no_ends_fault env states inputs c d f x (unknown_source h) = no_unknown states c.source f h x.known_source

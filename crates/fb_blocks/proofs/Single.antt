@@ -11,7 +11,7 @@ use Rattle.fb_model.specs.TextTyping.{Entry}
 use Rattle.fb_model.specs.Language.{Algorithm}
 use Rattle.fb_model.specs.System as book
 use Rattle.fb_model.specs.BlockTyping.{Declared, declared, IsGiven, AreBounds, no_bounds, some_bounds, IsStart, no_start, a_start, AreDeclared, none, more, IsFace, IsGuard, no_guard, a_guard, IsTransition, AreTransitions, no_transition, a_transition, AreProcedures, no_procedure, a_procedure, IsBasic, face_of, typed_event, variable_of, scope}
-use Rattle.st_types.proofs.Commands.{one_asked, one_command_list}
+use Rattle.st_types.proofs.Commands.{one_asked, one_condition, one_command_list}
 use Rattle.fb_blocks.proofs.Faultless.{one_number}
 
 pub one_given : (a : ElemType) (c : Constant) (n m : ℤ) → IsGiven a c n → IsGiven a c m → n ≡ m
@@ -45,7 +45,7 @@ one_interface b ins outs jns kuts f g x y =
 
 one_guard : (env : List Entry) (o : Option GuardTree) (x y : Option Term) → IsGuard env o x → IsGuard env o y → x ≡ y
 one_guard env None x y no_guard no_guard = refl
-one_guard env (Some g) x y (a_guard {x = u} p) (a_guard {x = v} q) = ap Some (one_asked env t.Bool g.condition u v p q)
+one_guard env (Some g) x y (a_guard {x = u} p) (a_guard {x = v} q) = ap Some (one_condition env g.condition u v p q)
 
 abbrev transition_by : Name → Name → Option Name → Option Term → book.Transition
 transition_by s u e g = record { source = s; target = u; event = e; guard = g }

@@ -10,7 +10,7 @@ use Rattle.fb_model.specs.Trees.{Constant, ActionTree, StateTree}
 use Rattle.fb_model.specs.Declarations.{EventTree, BoundsTree, StartTree, VariableTree, GuardTree, TransitionTree, AlgorithmTree, ChartTree, BlockTree}
 use Rattle.fb_model.specs.StructuredText.{literal}
 use Rattle.fb_model.specs.TextTyping.{Entry, IsNumber}
-use Rattle.fb_model.specs.TextFaults.{Fault, unknown_name, type_mismatch, bad_literal, not_writable, IsNotAsked, IsNoNumber, SomeMisdone}
+use Rattle.fb_model.specs.TextFaults.{Fault, unknown_name, type_mismatch, bad_literal, not_writable, IsNotAsked, IsNoCondition, IsNoNumber, SomeMisdone}
 use Rattle.fb_model.specs.Typing.{texts, state_texts, most_ports, most_states, most_transitions}
 use Rattle.fb_model.specs.BlockTyping.{Declared, AreDeclared, words_in, algorithm_texts, event_texts, scope, most_algorithms, most_elements}
 use Rattle.fb_blocks.specs.declared.fault.TypeFault.{TypeFault}
@@ -127,10 +127,10 @@ pub data IsActionFault (algorithms outputs : List Name) (a : ActionTree) (f : Ty
 abbrev pub IsStateFault : List Name → List Name → StateTree → TypeFault → Type 0
 IsStateFault algorithms outputs s f = Any (λ a. IsActionFault algorithms outputs a f) s.actions
 
--- a guard that is no expression of BOOL, at its `[` or in it
+-- a guard that is no condition, at its `[` or in it
 abbrev pub IsGuardFault : List Entry → Option GuardTree → TypeFault → Type 0
 IsGuardFault env None f = ⊥
-IsGuardFault env (Some g) f = IsTextFault (IsNotAsked env t.Bool g.at g.condition) f
+IsGuardFault env (Some g) f = IsTextFault (IsNoCondition env g.at g.condition) f
 
 -- a name of a transition that is no state or event input of the block, at it
 pub data IsEndsFault (states inputs : List Name) (c : TransitionTree) (f : TypeFault) : Type 0 where

@@ -17,9 +17,8 @@ use crate::fault::TypeFault;
 use crate::names::{add, known, known_if_some, optional};
 use crate::typed::{Action, ControlChart, Events, Face, Transition};
 use fb_text::{ActionTree, AlgorithmTree, ChartTree, GuardTree, StateTree, TransitionTree};
-use fb_words::ElemType;
 use indexmap::IndexMap;
-use st_types::{Algo, Scope, TypedExpr, resolve_algorithm, resolve_expr};
+use st_types::{Algo, Scope, TypedExpr, resolve_algorithm, resolve_condition};
 use std::alloc::Global;
 
 // An action runs an algorithm of the block and emits an output of it.
@@ -78,7 +77,7 @@ fn states(
     Ok(states)
 }
 
-// A guard is an expression of BOOL.
+// A guard is a condition.
 fn guard(
     alloc: Global,
     scope: &Scope,
@@ -89,7 +88,7 @@ fn guard(
 {
     match source {
         Some(source) => {
-            let guard = resolve_expr(alloc, scope, ElemType::Bool, source.at, &source.condition)?;
+            let guard = resolve_condition(alloc, scope, source.at, &source.condition)?;
             Ok(Some(guard))
         }
         None => Ok(None),

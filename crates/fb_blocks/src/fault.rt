@@ -8,7 +8,7 @@ use std::alloc::{AllocError, AllocFailed};
 use std::fmt;
 
 /// Why a source tree is refused. An offset is in bytes from the text's beginning.
-#[derive(Debug, Drop)]
+#[derive(Drop)]
 pub enum TypeFault {
     /// Memory ran out. Code 9.
     OutOfMemory,

@@ -16,13 +16,13 @@ ghost use Rattle.fb_blocks.specs.Answers.{Gives};
 use crate::fault::TypeFault;
 use fb_words::ElemType;
 use st_tree::{Constant, Literal};
-use st_types::{fits, signed, widens};
+use st_types::{signed, widens};
 
 // A number that has to fit a type.
 fn fitting(of: ElemType, number: i128, at: usize) -> Result<i64, TypeFault>
     ensures { Gives constant result (st.constant_of of number at) }
 {
-    if !fits(of, number) {
+    if !of.fits(number) {
         return Err(TypeFault::BadLiteral(at));
     }
     Ok(number as i64)
@@ -77,7 +77,7 @@ pub(crate) fn bound(value: &Constant) -> Result<i64, TypeFault>
     match value.value {
         Literal::Whole(negative, size) => {
             let number = signed(negative, size);
-            if !fits(ElemType::Lint, number) {
+            if !ElemType::Lint.fits(number) {
                 return Err(TypeFault::BadLiteral(value.at));
             }
             Ok(number as i64)

@@ -5,7 +5,7 @@ use indexmap::IndexMap;
 use st_types::{Algo, TypedExpr};
 
 /// A variable of a block: its type, the lowest and the highest index of an array, and its start value.
-#[derive(Clone, Copy, Debug, PartialEq, Eq)]
+#[derive(Clone, Copy)]
 pub struct Variable {
     pub of_type: ElemType,
     pub bounds: Option<(i64, i64)>,
@@ -19,7 +19,7 @@ pub type Variables = IndexMap<String, Variable>;
 pub type Events = IndexMap<String, Vec<String>>;
 
 /// The interface of a block: IEC 61499-1 edition 2, 4.5.
-#[derive(Debug, Drop)]
+#[derive(Drop)]
 pub struct Face {
     pub event_inputs: Events,
     pub event_outputs: Events,
@@ -28,14 +28,14 @@ pub struct Face {
 }
 
 /// An action: the algorithm that it runs and the event output that it emits.
-#[derive(Debug, Drop)]
+#[derive(Drop)]
 pub struct Action {
     pub algorithm: Option<String>,
     pub output: Option<String>,
 }
 
 /// A transition of a chart. Without an event and without a guard it is crossed freely.
-#[derive(Debug, Drop)]
+#[derive(Drop)]
 pub struct Transition {
     pub source: String,
     pub target: String,
@@ -44,7 +44,7 @@ pub struct Transition {
 }
 
 /// The execution control chart of a basic block, and its algorithms.
-#[derive(Debug, Drop)]
+#[derive(Drop)]
 pub(crate) struct ControlChart {
     pub(crate) states: IndexMap<String, Vec<Action>>,
     pub(crate) transitions: Vec<Transition>,
@@ -52,7 +52,7 @@ pub(crate) struct ControlChart {
 }
 
 /// A basic block type: IEC 61499-1 edition 2, 5.2. Its first state is the initial one.
-#[derive(Debug, Drop)]
+#[derive(Drop)]
 pub struct Block {
     pub face: Face,
     pub internals: Variables,

@@ -3,31 +3,31 @@ use Rattle.std.proofs.Common.{◌≡◌, ◌≤◌, List, ℕ, length, Result, O
 use Rattle.std.specs.Result.{IfOk, IfErr}
 use Rattle.fb_model.specs.Certificates as book
 use Rattle.fb_model.specs.CertificateText.{Spells, most_characters}
-use Rattle.fb_cert.specs.declared.certificate.Certificate.{Certificate}
+use Rattle.fb_cert.specs.declared.lists.Lists.{Lists}
 use Rattle.fb_cert.specs.declared.fault.CertFault.{CertFault}
 use Rattle.fb_cert.specs.declared.fault.CertFault.TheVariants.{OutOfMemory, TooLong, Row, DuplicateRow}
-use Rattle.fb_cert.specs.Views.{Rows, rows_of, book_of, certificate_of}
+use Rattle.fb_cert.specs.Views.{Rows, rows_in, book_of}
 use Rattle.fb_cert.specs.Reading.{text_at}
 use Rattle.fb_cert.specs.Answers.{Gives, Finds, Faulty, Refuses, Tells}
 use Rattle.fb_cert.proofs.Refusals.{text_told}
 use Rattle.fb_cert.proofs.Texts.{text_found, text_read, text_refused}
 
-pub found : (text : List ℕ) (r : Result Certificate CertFault) → Gives rows_of r (text_at text) → IfOk r (λ c. Spells text (certificate_of c))
-found text (Ok c) h = (text_found text (rows_of c) h).1
+pub found : (text : List ℕ) (r : Result Lists CertFault) → Gives rows_in r (text_at text) → IfOk r (λ c. Spells text (book_of (rows_in c)))
+found text (Ok c) h = (text_found text (rows_in c) h).1
 found text (Err e) h = tt
 
-pub within : (text : List ℕ) (r : Result Certificate CertFault) → Gives rows_of r (text_at text) → IfOk r (λ c. length text ≤ most_characters)
-within text (Ok c) h = (text_found text (rows_of c) h).0
+pub within : (text : List ℕ) (r : Result Lists CertFault) → Gives rows_in r (text_at text) → IfOk r (λ c. length text ≤ most_characters)
+within text (Ok c) h = (text_found text (rows_in c) h).0
 within text (Err e) h = tt
 
-pub only : (text : List ℕ) (r : Result Certificate CertFault) → Gives rows_of r (text_at text) → (certificate : book.Certificate) → length text ≤ most_characters → Spells text certificate → Finds certificate_of r certificate
-only text (Ok c) h certificate l s = let t = text_read text certificate l s in let e : rows_of c ≡ t.0 = (let a = t.1 in cc) in ap book_of e ∙ t.2
+pub only : (text : List ℕ) (r : Result Lists CertFault) → Gives rows_in r (text_at text) → (certificate : book.Certificate) → length text ≤ most_characters → Spells text certificate → Finds (λ c. book_of (rows_in c)) r certificate
+only text (Ok c) h certificate l s = let t = text_read text certificate l s in let e : rows_in c ≡ t.0 = (let a = t.1 in cc) in ap book_of e ∙ t.2
 only text (Err OutOfMemory) h certificate l s = tt
 only text (Err TooLong) h certificate l s = let t = (text_read text certificate l s).1 in absurd (cc)
 only text (Err (Row n)) h certificate l s = let t = (text_read text certificate l s).1 in absurd (cc)
 only text (Err (DuplicateRow n)) h certificate l s = let t = (text_read text certificate l s).1 in absurd (cc)
 
-pub refused : (text : List ℕ) (r : Result Certificate CertFault) → Gives rows_of r (text_at text) → IfErr r (Refuses text)
+pub refused : (text : List ℕ) (r : Result Lists CertFault) → Gives rows_in r (text_at text) → IfErr r (Refuses text)
 refused text (Ok c) h = tt
 refused text (Err OutOfMemory) h = tt
 refused text (Err TooLong) h = text_refused text TooLong h
@@ -41,5 +41,5 @@ same_fault f (Err TooLong) read view h g = cc
 same_fault f (Err (Row n)) read view h g = cc
 same_fault f (Err (DuplicateRow n)) read view h g = cc
 
-pub told : (text : List ℕ) (r : Result Certificate CertFault) → Gives rows_of r (text_at text) → (f : CertFault) → Faulty text f → Tells f r
-told text r h f g = same_fault f r (text_at text) rows_of h (text_told text f g)
+pub told : (text : List ℕ) (r : Result Lists CertFault) → Gives rows_in r (text_at text) → (f : CertFault) → Faulty text f → Tells f r
+told text r h f g = same_fault f r (text_at text) rows_in h (text_told text f g)

@@ -1,4 +1,5 @@
 pub mod Faults
+pub mod Rows
 pub mod Views
 pub mod Reading
 pub mod Answers

@@ -9,6 +9,7 @@ use Rattle.indexmap.specs.IndexMap.{IndexMap}
 use Rattle.fb_cert.specs.declared.bounds.Bounds.{Bounds}
 use Rattle.fb_cert.specs.declared.certificate.Amount.{Amount}
 use Rattle.fb_cert.specs.declared.certificate.Certificate.{Certificate}
+pub use Rattle.fb_cert.specs.Rows.{Table, texts_of, span_of, spans_of, Rows, no_rows, rows_in, range_rows, amount_rows, depth_rows, book_of}
 use denote.Ref.{Bor}
 use Rattle.fb_model.specs.Certificates as book
 use Rattle.fb_model.specs.Ranges.{Range}
@@ -18,12 +19,13 @@ use Rattle.fb_model.specs.CertificateText.{range_row, row_of, depth_row, Entry, 
 use Rattle.fb_cert.specs.declared.row.Row.{Row}
 use Rattle.fb_cert.specs.declared.row.Row.TheVariants as kinds
 
--- the rows of a kind, each by its path
-abbrev pub Table : Type 0 → Type 0
-Table V = List ((List ℕ) × V)
+-- a certificate is seen as its rows
+abbrev pub rows_of : Certificate → Rows
+rows_of c = c
 
-abbrev pub texts_of : {V S : Type 0} → IndexMap (String Global) V S → Table V
-texts_of m = map (λ e. (string_bytes e.0, e.1)) m.entries
+-- the certificate that the checker speaks of
+abbrev pub certificate_of : Certificate → book.Certificate
+certificate_of c = book_of (rows_of c)
 
 -- what the first row of a path says
 abbrev pub first_at : {V : Type 0} → List ℕ → Table V → Option V
@@ -36,42 +38,6 @@ has_path path rows = list_any (λ r. bytes_eq path r.0) rows
 -- whether a path is new, and the rows with it at the end
 abbrev pub Adds : {V : Type 0} → Table V → List ℕ → V → Table V → Bool → Type 0
 Adds old path value new said = (said ≡ not (has_path path old)) × (new ≡ (if said then old ++ (path, value) ∷ [] else old))
-
-abbrev pub span_of : Bounds → Span
-span_of b = span b.low b.high
-
--- the paths with the spans of their bounds
-abbrev pub spans_of : Table Bounds → Table Span
-spans_of rows = map (λ r. (r.0, span_of r.1)) rows
-
--- the rows of a text by their kinds
-pub record Rows : Type 0 where
-  pub ranges : Table Span
-  pub charges : Table Amount
-  pub weights : Table Amount
-  pub depths : Table ℕ
-
-abbrev pub no_rows : Rows
-no_rows = record { ranges = []; charges = []; weights = []; depths = [] }
-
-abbrev pub rows_of : Certificate → Rows
-rows_of c = record { ranges = spans_of (texts_of c.ranges); charges = texts_of c.charges; weights = texts_of c.weights; depths = texts_of c.depths }
-
-abbrev pub range_rows : Table Span → List Range
-range_rows rows = map (λ r. range_row r.0 r.1.low r.1.high) rows
-
-abbrev pub amount_rows : Table Amount → List book.Row
-amount_rows rows = map (λ r. row_of r.0 r.1.steps r.1.places) rows
-
-abbrev pub depth_rows : Table ℕ → List book.DepthRow
-depth_rows rows = map (λ r. depth_row r.0 r.1) rows
-
-abbrev pub book_of : Rows → book.Certificate
-book_of rows = record { ranges = range_rows rows.ranges; charges = amount_rows rows.charges; weights = amount_rows rows.weights; depths = depth_rows rows.depths; repeats = None; fars = []; far_states = []; channels = [] }
-
--- the certificate that the checker speaks of
-abbrev pub certificate_of : Certificate → book.Certificate
-certificate_of c = book_of (rows_of c)
 
 abbrev pub shown : {V : Type 0} → (Bor (List ℕ)) × V → (List ℕ) × V
 shown p = (p.0.now, p.1)

@@ -1,73 +1,52 @@
 //! Certificates as tables of their rows.
 
-ghost use Rattle.std.specs.Prelude.{◌≡◌, ◌<◌, length, slice_get, IfOk, OnOk, Some, None};
+ghost use Rattle.std.specs.Prelude.{◌≡◌, length, slice_get};
 ghost use Rattle.std.specs.Option.{option_map};
-ghost use Rattle.fb_cert.specs.Views.{rows_of, no_rows, texts_of, first_at, Adds, AddsRow, entry_of, shown, span_of, span_shown, row_shown, depth_shown, range_shown, certificate_of, steps_in, places_in, depth_in, span_in};
+ghost use Rattle.fb_cert.specs.Views.{rows_of, first_at, shown, span_of, span_shown, row_shown, depth_shown, range_shown, certificate_of, steps_in, places_in, depth_in, span_in};
 ghost use Rattle.fb_model.specs.Certificates as book;
-ghost use Rattle.fb_model.specs.CertificateText.{place_of, names_in, all_but_last, last_name};
+ghost use Rattle.fb_model.specs.CertificateText.{place_of, names_in, all_but_last, last_name, IsTold};
 ghost use Rattle.fb_model.specs.Ranges.{row_at};
 ghost use Rattle.fb_model.specs.System.{Variable};
 
 use crate::bounds::Bounds;
-use crate::row::Row;
-use indexmap::IndexMap;
-use std::alloc::{AllocError, Global};
+use crate::lists::Lists;
+use std::marker::Model;
 
 /// What a place costs: steps, and places in the queue.
-#[derive(Clone, Copy, Debug, PartialEq, Eq)]
+#[derive(Clone, Copy)]
 pub struct Amount {
     pub steps: u64,
     pub places: u64,
 }
 
 /// The rows of a certificate in text order, by the path that each names. Paths are in upper case, their names joined by dots.
+///
+/// It stands in a text: [`parse_cert`](crate::parse_cert) alone makes one.
 #[derive(Drop)]
 pub struct Certificate {
-    ranges: IndexMap<String, Bounds>,
-    charges: IndexMap<String, Amount>,
-    weights: IndexMap<String, Amount>,
-    depths: IndexMap<String, u64>,
+    pub(crate) lists: Lists,
 }
 
-// Adds a row at the end, unless its path stands in an earlier one; says whether it is new.
-fn add<V: Drop>(
-    alloc: Global,
-    rows: &mut IndexMap<String, V>,
-    path: &str,
-    value: V,
-) -> Result<bool, AllocError>
-    ensures { IfOk result (λ new. Adds (texts_of rows.old) path.now value (texts_of rows.new) new) }
-{
-    if rows.contains_key(path) {
-        return Ok(false);
-    }
-    rows.insert(String::from_str(alloc, path)?, value)?;
-    Ok(true)
+impl Model for Certificate {
+    ghost use Rattle.fb_cert.specs.Rows.{Rows, rows_in, book_of};
+    ghost use Rattle.fb_model.specs.CertificateText.{IsTold};
+
+    ghost Value = { Rows };
+
+    ghost view = { λ c. rows_in c.lists };
+
+    ghost invariant = { λ c. IsTold (book_of (rows_in c.lists)) };
 }
 
 impl Certificate {
-    /// A certificate without rows.
-    pub(crate) fn new(alloc: Global) -> Certificate
-        ensures { rows_of result ≡ no_rows }
-    {
-        Certificate {
-            ranges: IndexMap::new(alloc),
-            charges: IndexMap::new(alloc),
-            weights: IndexMap::new(alloc),
-            depths: IndexMap::new(alloc),
-        }
-    }
+    /// Lets the certificate go. (A crate that lets it go by itself proves the end of each of its parts anew; this call is proved once.)
+    pub fn let_go(self) {}
 
-    /// Adds a row at the end, unless its path stands in an earlier one of its kind; says whether it is new.
-    pub(crate) fn add(&mut self, alloc: Global, row: Row) -> Result<bool, AllocError>
-        ensures { IfOk result (λ new. AddsRow (rows_of self.old) (entry_of row.entry) (rows_of self.new) new) }
+    /// That it stands in a text, for proofs: nothing is done.
+    pub fn stands_in_text(&self)
+        ensures { IsTold (certificate_of self.now) }
     {
-        match row {
-            Row::Range(path, bounds) => add(alloc, &mut self.ranges, path, bounds),
-            Row::Charge(path, amount) => add(alloc, &mut self.charges, path, amount),
-            Row::Weight(path, amount) => add(alloc, &mut self.weights, path, amount),
-            Row::Depth(path, depth) => add(alloc, &mut self.depths, path, depth),
-        }
+        let _ = &self.lists;
     }
 
     /// The row `RANGE` of a variable.
@@ -75,7 +54,7 @@ impl Certificate {
         ensures row { option_map span_of result ≡ first_at path.now (rows_of self.now).ranges }
         ensures span { (v : Variable) → v.name ≡ last_name (names_in path.now) → span_in v result ≡ row_at (certificate_of self.now).ranges (all_but_last (names_in path.now)) v }
     {
-        self.ranges.get(path).copied()
+        self.lists.ranges.get(path).copied()
     }
 
     /// The row `CHARGE` of a state.
@@ -84,7 +63,7 @@ impl Certificate {
         ensures steps { steps_in result ≡ book.amount (λ r. r.steps) (certificate_of self.now).charges (place_of path.now) }
         ensures places { places_in result ≡ book.amount (λ r. r.places) (certificate_of self.now).charges (place_of path.now) }
     {
-        self.charges.get(path).copied()
+        self.lists.charges.get(path).copied()
     }
 
     /// The row `WEIGHT` of an event input or an arrival.
@@ -93,7 +72,7 @@ impl Certificate {
         ensures steps { steps_in result ≡ book.amount (λ r. r.steps) (certificate_of self.now).weights (place_of path.now) }
         ensures places { places_in result ≡ book.amount (λ r. r.places) (certificate_of self.now).weights (place_of path.now) }
     {
-        self.weights.get(path).copied()
+        self.lists.weights.get(path).copied()
     }
 
     /// The row `DEPTH` of a resource.
@@ -101,35 +80,35 @@ impl Certificate {
         ensures row { result ≡ first_at path.now (rows_of self.now).depths }
         ensures depth { depth_in result ≡ book.depth_at (certificate_of self.now).depths (names_in path.now) }
     {
-        self.depths.get(path).copied()
+        self.lists.depths.get(path).copied()
     }
 
     /// How many rows `RANGE` there are.
     pub fn range_count(&self) -> usize
         ensures { result ≡ length (rows_of self.now).ranges }
     {
-        self.ranges.len()
+        self.lists.ranges.len()
     }
 
     /// How many rows `CHARGE` there are.
     pub fn charge_count(&self) -> usize
         ensures { result ≡ length (rows_of self.now).charges }
     {
-        self.charges.len()
+        self.lists.charges.len()
     }
 
     /// How many rows `WEIGHT` there are.
     pub fn weight_count(&self) -> usize
         ensures { result ≡ length (rows_of self.now).weights }
     {
-        self.weights.len()
+        self.lists.weights.len()
     }
 
     /// How many rows `DEPTH` there are.
     pub fn depth_count(&self) -> usize
         ensures { result ≡ length (rows_of self.now).depths }
     {
-        self.depths.len()
+        self.lists.depths.len()
     }
 
     /// The row `RANGE` at an index in text order, with its path.
@@ -137,7 +116,7 @@ impl Certificate {
         ensures row { option_map span_shown result ≡ slice_get (rows_of self.now).ranges index }
         ensures book { option_map range_shown result ≡ slice_get (certificate_of self.now).ranges index }
     {
-        let (path, bounds) = self.ranges.get_index(index)?;
+        let (path, bounds) = self.lists.ranges.get_index(index)?;
         Some((path.as_str(), *bounds))
     }
 
@@ -146,7 +125,7 @@ impl Certificate {
         ensures row { option_map shown result ≡ slice_get (rows_of self.now).charges index }
         ensures book { option_map row_shown result ≡ slice_get (certificate_of self.now).charges index }
     {
-        let (path, amount) = self.charges.get_index(index)?;
+        let (path, amount) = self.lists.charges.get_index(index)?;
         Some((path.as_str(), *amount))
     }
 
@@ -155,7 +134,7 @@ impl Certificate {
         ensures row { option_map shown result ≡ slice_get (rows_of self.now).weights index }
         ensures book { option_map row_shown result ≡ slice_get (certificate_of self.now).weights index }
     {
-        let (path, amount) = self.weights.get_index(index)?;
+        let (path, amount) = self.lists.weights.get_index(index)?;
         Some((path.as_str(), *amount))
     }
 
@@ -164,7 +143,7 @@ impl Certificate {
         ensures row { option_map shown result ≡ slice_get (rows_of self.now).depths index }
         ensures book { option_map depth_shown result ≡ slice_get (certificate_of self.now).depths index }
     {
-        let (path, depth) = self.depths.get_index(index)?;
+        let (path, depth) = self.lists.depths.get_index(index)?;
         Some((path.as_str(), *depth))
     }
 }

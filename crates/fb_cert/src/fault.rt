@@ -7,7 +7,7 @@ use std::alloc::{AllocError, AllocFailed};
 use std::fmt;
 
 /// Why a text is no certificate. Lines count from 1, lines without words among them.
-#[derive(Debug, Drop)]
+#[derive(Drop)]
 pub enum CertFault {
     /// Memory ran out. Code 9.
     OutOfMemory,

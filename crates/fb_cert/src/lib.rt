@@ -5,6 +5,7 @@ mod bounds;
 mod certificate;
 mod fault;
 mod law;
+mod lists;
 mod reading;
 mod row;
 

@@ -4,13 +4,14 @@ ghost use Rattle.std.specs.Prelude.{◌≡◌, ◌≤◌, length, IfOk, IfErr, f
 ghost use Rattle.std.specs.Str.Lines.{lines};
 ghost use Rattle.fb_model.specs.CertificateText.{words, most_characters, Spells};
 ghost use Rattle.fb_model.specs.Certificates as book;
-ghost use Rattle.fb_cert.specs.Views.{rows_of, no_rows, texts, certificate_of};
+ghost use Rattle.fb_cert.specs.Views.{rows_in, book_of, no_rows, texts, certificate_of};
 ghost use Rattle.fb_cert.specs.Reading.{read, row_at, words_at, lines_at, whole, text_at};
 ghost use Rattle.fb_cert.specs.declared.fault.CertFault.{CertFault};
 ghost use Rattle.fb_cert.specs.Answers.{Gives, Makes, Finds, Faulty, Refuses, Tells};
 
 use crate::certificate::Certificate;
 use crate::fault::CertFault;
+use crate::lists::Lists;
 use crate::row::{begins_cert, is_head, read_row};
 use std::alloc::{AllocError, Global};
 
@@ -21,7 +22,7 @@ const MOST_BYTES: usize = 16_777_216;
 #[derive(Drop)]
 struct Reader {
     headed: bool,
-    certificate: Certificate,
+    lists: Lists,
 }
 
 fn words_of(alloc: Global, line: &str) -> Result<Vec<&str>, AllocError>
@@ -33,13 +34,8 @@ fn words_of(alloc: Global, line: &str) -> Result<Vec<&str>, AllocError>
 }
 
 // Enters a row after the first.
-fn enter(
-    alloc: Global,
-    certificate: &mut Certificate,
-    words: &[&str],
-    line: usize,
-) -> Result<(), CertFault>
-    ensures { Makes (rows_of certificate.new) result (row_at line (texts words.now) (rows_of certificate.old)) }
+fn enter(alloc: Global, lists: &mut Lists, words: &[&str], line: usize) -> Result<(), CertFault>
+    ensures { Makes (rows_in lists.new) result (row_at line (texts words.now) (rows_in lists.old)) }
 {
     if begins_cert(words) {
         return Err(CertFault::DuplicateRow(line));
@@ -47,7 +43,7 @@ fn enter(
     match read_row(words) {
         None => Err(CertFault::Row(line)),
         Some(row) => {
-            if certificate.add(alloc, row)? {
+            if lists.add(alloc, row)? {
                 Ok(())
             } else {
                 Err(CertFault::DuplicateRow(line))
@@ -67,7 +63,7 @@ impl Reader {
             return Ok(());
         }
         if self.headed {
-            return enter(alloc, &mut self.certificate, words, line);
+            return enter(alloc, &mut self.lists, words, line);
         }
         if !is_head(words) {
             return Err(CertFault::Row(line));
@@ -78,13 +74,13 @@ impl Reader {
 }
 
 // Reads a text in upper case.
-fn read_lines(alloc: Global, text: &str) -> Result<Certificate, CertFault>
+fn read_lines(alloc: Global, text: &str) -> Result<Lists, CertFault>
     requires { length text.now ≤ most_characters }
-    ensures { Gives rows_of result (whole (lines_at 1 (lines text.now) (read false no_rows))) }
+    ensures { Gives rows_in result (whole (lines_at 1 (lines text.now) (read false no_rows))) }
 {
     let mut reader = Reader {
         headed: false,
-        certificate: Certificate::new(alloc),
+        lists: Lists::new(alloc),
     };
     let mut number = 0;
     for line in text.lines() {
@@ -95,17 +91,28 @@ fn read_lines(alloc: Global, text: &str) -> Result<Certificate, CertFault>
     if !reader.headed {
         return Err(CertFault::Row(1));
     }
-    Ok(reader.certificate)
+    Ok(reader.lists)
 }
 
-fn read_text(alloc: Global, text: &str) -> Result<Certificate, CertFault>
-    ensures { Gives rows_of result (text_at text.now) }
+fn read_text(alloc: Global, text: &str) -> Result<Lists, CertFault>
+    ensures { Gives rows_in result (text_at text.now) }
 {
     if text.len() > MOST_BYTES {
         return Err(CertFault::TooLong);
     }
     let upper = text.to_ascii_uppercase(alloc)?;
     read_lines(alloc, upper.as_str())
+}
+
+// The rows that a text spells.
+fn read_spelled(alloc: Global, text: &str) -> Result<Lists, CertFault>
+    ensures found { IfOk result (λ c. Spells text.now (book_of (rows_in c))) }
+    ensures within { IfOk result (λ c. length text.now ≤ most_characters) }
+    ensures only { (certificate : book.Certificate) → length text.now ≤ most_characters → Spells text.now certificate → Finds (λ c. book_of (rows_in c)) result certificate }
+    ensures refused { IfErr result (Refuses text.now) }
+    ensures told { (fault : CertFault) → Faulty text.now fault → Tells fault result }
+{
+    read_text(alloc, text)
 }
 
 /// The certificate that a text spells: `CERT 1`, and then a row a line, as `RANGE D.R.C.V -1 9`, `CHARGE D.R.C.START 0 0`,
@@ -124,5 +131,8 @@ pub fn parse_cert(alloc: Global, text: &str) -> Result<Certificate, CertFault>
     // The first fault of a text is told, unless memory runs out.
     ensures told { (fault : CertFault) → Faulty text.now fault → Tells fault result }
 {
-    read_text(alloc, text)
+    match read_spelled(alloc, text) {
+        Ok(lists) => Ok(Certificate { lists }),
+        Err(fault) => Err(fault),
+    }
 }

@@ -20,7 +20,7 @@ const MOST_PLACES: u64 = 4096;
 const MOST_LINT: u64 = 9_223_372_036_854_775_807;
 
 /// A row after the first.
-#[derive(Clone, Copy, Debug)]
+#[derive(Clone, Copy)]
 pub(crate) enum Row<'a> {
     Range(&'a str, Bounds),
     Charge(&'a str, Amount),

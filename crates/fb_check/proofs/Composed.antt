@@ -4,14 +4,13 @@ use Rattle.std.specs.List.{AllByRecursion}
 use Rattle.fb_model.specs.System.{Device, System}
 use Rattle.fb_model.specs.StructuredTextGrammar.{most_nested, most_nested_statements}
 use Rattle.fb_model.specs.Wires.{Kind, Charted, Serviced, Leaf, leaves}
-use Rattle.fb_model.specs.Ranges.{Range, LeafLies, LeafClears, KindClears}
+use Rattle.fb_model.specs.Ranges.{Range, LeafClears, KindClears}
 use Rattle.fb_model.specs.Certificates as book
-use Rattle.fb_model.specs.Certificates.{IsWired, ColumnFits, DeviceFits, AllRows, steps_of, places_of}
+use Rattle.fb_model.specs.Certificates.{ColumnFits, DeviceFits, DeviceHolds, AllRows, steps_of, places_of}
 use Rattle.fb_model.proofs.Lists.{all_both, all_weaker}
 use Rattle.fb_spelled.specs.Words.{IsWordyLeaf, IsWordyDevice}
 use Rattle.fb_leaves.specs.Leaves.{IsClosed}
-use Rattle.fb_leaves.proofs.Wired.{all_wired}
-use Rattle.fb_clear.proofs.Leaves.{clear_systems_lie}
+use Rattle.fb_clear.proofs.Holding.{fitting_devices_hold}
 use Rattle.fb_leaves.proofs.Closed.{all_charts_closed}
 use Rattle.fb_cert.specs.declared.certificate.Certificate.{Certificate}
 use Rattle.fb_cert.specs.Views.{certificate_of}
@@ -26,18 +25,13 @@ use Rattle.fb_columns.specs.Fitting.{AlgorithmsClear, IsKnownLeaf, AreKnown, All
 use Rattle.fb_depths.specs.Depths.{IsDeep}
 use Rattle.fb_model.specs.Certificates.{FollowsFew, Fits}
 use Rattle.fb_check.specs.Verdicts.{IsWritten}
-use Rattle.fb_check.proofs.Reading.{words}
+use Rattle.fb_events.proofs.EventTrees.{event_source}
+use Rattle.fb_events.proofs.Spelled.{event_source_spelled}
+use Rattle.fb_check.proofs.Reading.{with_event_trees, words}
 
 -- the tables of a system that stands in texts
 pub tables_are : (s : System) (fs : List FlatDevice) → IsWritten s → map flat_device fs ≡ map written_device s.devices → AreDevices fs s.devices
 tables_are s fs w e = devices_are fs s.devices e (words s w)
-
--- where all is clear under rows, leaves keep these
-lies : (s : System) (ranges : List Range) → IsWritten s → AllClear ranges s → AllByRecursion (λ (d : Device). AllByRecursion (LeafLies ranges (leaves d)) (leaves d)) s.devices
-lies s ranges (beforehand, text, is) clear =
-    let l = is.typed.spelled in
-    let x = is.source_is in
-    clear_systems_lie l.0 x.0 most_nested most_nested_statements most_nested most_nested_statements is.typed.library is.source s l.2 x.2 is.typed.typed ranges clear
 
 algorithms : (ranges : List Range) (all : List Leaf) (leaf : Leaf) (kind : Kind) → KindClears ranges all leaf.path leaf.source kind → AlgorithmsClear ranges leaf.path kind
 algorithms ranges all leaf (Charted block) h = h.algorithms
@@ -49,7 +43,7 @@ plain_leaves (d ∷ ds) w c = (all_both IsWordyLeaf (λ (leaf : Leaf). IsClosed 
 
 -- what is known of the leaves of a system that stands in texts
 pub plain : (s : System) → IsWritten s → ArePlain s
-plain s w = plain_leaves s.devices (words s w) (all_charts_closed _ _ s w.2.typed.typed)
+plain s w = plain_leaves s.devices (words s w) (all_charts_closed _ _ s w.1.typed.typed)
 
 known_leaves : (ranges : List Range) (ds : List Device) → AllByRecursion (λ (d : Device). AllByRecursion IsPlainLeaf (leaves d)) ds → AllByRecursion (λ (d : Device). AllByRecursion (LeafClears ranges (leaves d)) (leaves d)) ds
     → AllByRecursion (λ (d : Device). AllByRecursion (IsKnownLeaf ranges) (leaves d)) ds
@@ -64,22 +58,27 @@ pub known : (s : System) (ranges : List Range) → IsWritten s → AllClear rang
 known s ranges w l = known_leaves ranges s.devices (plain s w) l
 
 devices_fit : (cert : book.Certificate) (ds : List Device)
-    → AllByRecursion (λ (d : Device). AllByRecursion (IsWired (leaves d)) (leaves d)) ds
-    → AllByRecursion (λ (d : Device). AllByRecursion (LeafLies cert.ranges (leaves d)) (leaves d)) ds
     → AllByRecursion (λ (d : Device). ColumnFits (steps_of cert) cert.ranges (leaves d)) ds
     → AllByRecursion (λ (d : Device). ColumnFits (places_of cert) cert.ranges (leaves d)) ds
     → AllByRecursion (IsDeep cert) ds
     → AllByRecursion (DeviceFits cert) ds
-devices_fit cert [] w l s p a = tt
-devices_fit cert (d ∷ ds) w l s p a = (record { wired = w.0; ranges = l.0; steps = s.0; places = p.0; arrivals = a.0.arrivals; begins = a.0.begins }, devices_fit cert ds w.1 l.1 s.1 p.1 a.1)
+devices_fit cert [] s p a = tt
+devices_fit cert (d ∷ ds) s p a = (record { steps = s.0; places = p.0; arrivals = a.0.arrivals; begins = a.0.begins }, devices_fit cert ds s.1 p.1 a.1)
 
 -- all parts hold, so the certificate fits
-pub fits_by : (s : System) (cert : Certificate) → IsWritten s → AllByRecursion FollowsFew s.devices → AllRows s (certificate_of cert) → AllClear (certificate_of cert).ranges s
+pub fits_by : (s : System) (cert : Certificate) → AllByRecursion FollowsFew s.devices → AllRows s (certificate_of cert) → AllClear (certificate_of cert).ranges s
     → AllPay (column_of Steps (certificate_of cert)) (certificate_of cert).ranges s → AllPay (column_of Places (certificate_of cert)) (certificate_of cert).ranges s → AllByRecursion (IsDeep (certificate_of cert)) s.devices → Fits s (certificate_of cert)
-fits_by s cert w few rows clear steps places deep =
+fits_by s cert few rows clear steps places deep =
     record {
       followed = few;
       rows = rows;
       clear = clear;
-      devices = devices_fit (certificate_of cert) s.devices (all_wired _ _ s w.2.typed.typed) (lies s (certificate_of cert).ranges w clear) steps places deep;
+      devices = devices_fit (certificate_of cert) s.devices steps places deep;
     }
+
+-- where a certificate fits a system that stands in texts, each device holds
+pub devices_hold : (system : System) (cert : book.Certificate) → IsWritten system → Fits system cert → AllByRecursion (DeviceHolds cert) system.devices
+devices_hold system cert (text, is) fits =
+    let l = event_source_spelled in
+    let x = is.source_is in
+    fitting_devices_hold l.0 x.0 most_nested most_nested_statements most_nested most_nested_statements event_source is.source system l.2 x.2 (with_event_trees is.source system is.typed) cert fits

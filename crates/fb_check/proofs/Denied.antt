@@ -12,7 +12,7 @@ use Rattle.fb_model.specs.CertificateText.{names_in, place_of}
 use Rattle.fb_model.proofs.Lists.{all_weaker}
 use Rattle.fb_columns.specs.fb_blocks.declared.fault.TypeFault.{TypeFault}
 use Rattle.fb_columns.specs.fb_blocks.declared.fault.TypeFault.TheVariants as faults
-use Rattle.fb_columns.specs.fb_types.declared.typed.Typed.{Typed}
+use Rattle.fb_columns.specs.fb_types.declared.typed.Configuration.{Configuration}
 use Rattle.fb_columns.specs.fb_types.declared.typed.Device as typed
 use Rattle.fb_columns.specs.fb_types.declared.typed.Resource as typed_resource
 use Rattle.fb_columns.specs.fb_types.Views.{system_of, device_of, resource_of}
@@ -45,28 +45,28 @@ use Rattle.fb_check.specs.Faults.{IsCrowded, IsFitFault}
 
 -- ---- from the parts to the whole
 
-pub of_rows : (typed : Typed) (cert : certs.Certificate) (f : RowFault) → IsRowFault (system_of typed) cert f → IsFitFault typed cert (of_row f)
+pub of_rows : (typed : Configuration) (cert : certs.Certificate) (f : RowFault) → IsRowFault (system_of typed) cert f → IsFitFault typed cert (of_row f)
 of_rows typed cert rows.OutOfMemory h = tt
 of_rows typed cert (rows.Unknown path) h = h
 of_rows typed cert (rows.Missing path) h = h
 
-pub of_unclear : (typed : Typed) (cert : certs.Certificate) (f : Unclear) → IsUnclear cert.ranges (system_of typed) f → IsFitFault typed cert (told f)
+pub of_unclear : (typed : Configuration) (cert : certs.Certificate) (f : Unclear) → IsUnclear cert.ranges (system_of typed) f → IsFitFault typed cert (told f)
 of_unclear typed cert unclear.OutOfMemory h = tt
 of_unclear typed cert (unclear.Start path) h = h
 of_unclear typed cert (unclear.Link path) h = h
 of_unclear typed cert (unclear.Kept path) h = h
 of_unclear typed cert (unclear.IndexOrDivisor path) h = h
 
-pub of_column : (typed : Typed) (cert : certs.Certificate) (column : Column) (f : Shortfall) → IsUnpaid (column_of column cert) cert.ranges (system_of typed) f → IsFitFault typed cert (of_shortfall f)
+pub of_column : (typed : Configuration) (cert : certs.Certificate) (column : Column) (f : Shortfall) → IsUnpaid (column_of column cert) cert.ranges (system_of typed) f → IsFitFault typed cert (of_shortfall f)
 of_column typed cert column short.OutOfMemory h = tt
 of_column typed cert column (short.Charge path) h = (column, h)
 of_column typed cert column (short.Weight path) h = (column, h)
 
-pub of_depth : (typed : Typed) (cert : certs.Certificate) (f : Shallow) → IsShallowFault cert (system_of typed) f → IsFitFault typed cert (of_shallow f)
+pub of_depth : (typed : Configuration) (cert : certs.Certificate) (f : Shallow) → IsShallowFault cert (system_of typed) f → IsFitFault typed cert (of_shallow f)
 of_depth typed cert shallow.OutOfMemory h = tt
 of_depth typed cert (shallow.Depth path) h = h
 
-pub of_limit : (typed : Typed) (cert : certs.Certificate) (f : TypeFault) → IsLimitAt (λ at. Any (λ d. Any (λ r. IsFull r at) d.resources.items) typed.devices.items) f → IsFitFault typed cert (of_type f)
+pub of_limit : (typed : Configuration) (cert : certs.Certificate) (f : TypeFault) → IsLimitAt (λ at. Any (λ d. Any (λ r. IsFull r at) d.resources.items) typed.devices.items) f → IsFitFault typed cert (of_type f)
 of_limit typed cert faults.OutOfMemory h = tt
 of_limit typed cert (faults.Limit at) h = h
 of_limit typed cert (faults.UnknownName at) h = absurd h
@@ -92,7 +92,7 @@ device_crowded at [] s h = s
 device_crowded at (d ∷ ds) (inl p) h = resource_crowded at d.resources.items (some_of (λ r. IsFull r at) d.resources.items p) h.0
 device_crowded at (d ∷ ds) (inr s) h = device_crowded at ds s h.1
 
-crowded_denied : (typed : Typed) (cert : certs.Certificate) (f : TypeFault) → IsCrowded typed f → Fits (system_of typed) cert → ⊥
+crowded_denied : (typed : Configuration) (cert : certs.Certificate) (f : TypeFault) → IsCrowded typed f → Fits (system_of typed) cert → ⊥
 crowded_denied typed cert (faults.Limit at) h fits = device_crowded at typed.devices.items (some_of (λ d. Any (λ r. IsFull r at) d.resources.items) typed.devices.items h) fits.followed
 crowded_denied typed cert faults.OutOfMemory h fits = h
 crowded_denied typed cert (faults.UnknownName at) h fits = h
@@ -130,7 +130,7 @@ deep : (s : book.System) (cert : certs.Certificate) → Fits s cert → AllByRec
 deep s cert fits = all_weaker (DeviceFits cert) (IsDeep cert) s.devices (λ d h. record { arrivals = h.arrivals; begins = h.begins }) fits.devices
 
 -- a true refusal denies that the certificate fits, unless memory ran out
-pub denied : (typed : Typed) (cert : certs.Certificate) (f : Refusal) → IsFitFault typed cert f → Fits (system_of typed) cert → f ≡ OutOfMemory
+pub denied : (typed : Configuration) (cert : certs.Certificate) (f : Refusal) → IsFitFault typed cert f → Fits (system_of typed) cert → f ≡ OutOfMemory
 denied typed cert OutOfMemory h fits = refl
 denied typed cert (Text x) h fits = absurd h
 denied typed cert (Typing x) h fits = absurd (crowded_denied typed cert x h fits)

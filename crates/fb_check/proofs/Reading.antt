@@ -7,6 +7,13 @@ use Rattle.fb_model.specs.CertificateText.{Spells}
 use Rattle.fb_model.specs.Declarations.{SourceTree}
 use Rattle.fb_model.specs.StructuredTextGrammar.{most_nested, most_nested_statements}
 use Rattle.fb_model.specs.System.{System}
+use Rattle.fb_model.specs.EventBlocks.{Elaborates}
+use Rattle.fb_model.specs.NetworkTyping.{ElaboratesWith}
+use Rattle.fb_events.specs.declared.library.TheConstants.{EVENT_BLOCKS}
+use Rattle.fb_events.proofs.EventTrees.{event_trees, event_source}
+use Rattle.fb_events.proofs.Declared.{trees_declare}
+use Rattle.fb_events.proofs.Spelled.{event_source_spelled}
+use Rattle.fb_columns.proofs.of_fb_types.Beforehand.{elaborated_with}
 use Rattle.fb_spelled.specs.Words.{IsWordyDevice}
 use Rattle.fb_spelled.proofs.Systems.{wordy}
 use Rattle.fb_lex.specs.declared.fault.TextFault.{TextFault}
@@ -14,40 +21,41 @@ use Rattle.fb_lex.specs.declared.fault.TextFault.TheVariants as texts
 use Rattle.fb_columns.specs.fb_blocks.declared.fault.TypeFault.{TypeFault}
 use Rattle.fb_columns.specs.fb_blocks.declared.fault.TypeFault.TheVariants as faults
 use Rattle.fb_columns.specs.fb_networks.Answers.{Finds as FindsTyped}
-use Rattle.fb_columns.specs.fb_types.Refusals.{IsSourceFault}
-use Rattle.fb_columns.specs.fb_types.Beforehand.{IsResolved}
+use Rattle.fb_columns.specs.fb_types.Beforehand.{IsRefused}
 use Rattle.fb_cert.specs.declared.fault.CertFault.{CertFault}
 use Rattle.fb_cert.specs.declared.fault.CertFault.TheVariants as certs
 use Rattle.fb_cert.specs.Answers.{Refuses, Finds}
 use Rattle.fb_columns.specs.fb_text.Answers.{IsSource, ReadsText, FindsTree}
-use Rattle.fb_check.specs.declared.verified.Verified.{Verified}
+use Rattle.fb_check.specs.Checked.{Checked}
 use Rattle.fb_check.specs.declared.refusal.Refusal.{Refusal}
 use Rattle.fb_check.specs.declared.refusal.Refusal.TheVariants.{OutOfMemory, Text, Typing, Certificate as Spelling, UnknownRow, MissingRow, RangeStart, RangeLink, RangeKept, IndexOrDivisor, Charge, Weight, Depth}
 use Rattle.fb_check.specs.Refusals.{of_text, of_type, of_certificate}
 use Rattle.fb_model.specs.Certificates.{Fits}
-use Rattle.fb_check.specs.Verdicts.{IsSystemOf, IsWritten, IsTypingFault, IsTextFault, IsCertificateFault, IsOfTexts, IsChecked, AreTables, system_in, certificate_in}
+use Rattle.fb_columns.specs.fb_types.declared.typed.Configuration.{Configuration}
+use Rattle.fb_columns.specs.fb_types.Views.{system_of, system_places, all_places}
+use Rattle.fb_check.specs.Verdicts.{IsSystemOf, IsTypedOf, IsWritten, IsTypingFault, IsTextFault, IsCertificateFault, IsOfTexts, system_in, certificate_in}
 
-pub typing_fault : (beforehand : List ℕ) (source : SourceTree) (f : TypeFault) → ((library : SourceTree) → IsSource beforehand library → IsSourceFault library.blocks source f) → IsTypingFault beforehand source (of_type f)
-typing_fault beforehand source faults.OutOfMemory h = tt
-typing_fault beforehand source (faults.UnknownName at) h = h
-typing_fault beforehand source (faults.DuplicateName at) h = h
-typing_fault beforehand source (faults.TypeMismatch at) h = h
-typing_fault beforehand source (faults.BadLiteral at) h = h
-typing_fault beforehand source (faults.NotWritable at) h = h
-typing_fault beforehand source (faults.BadConnection at) h = h
-typing_fault beforehand source (faults.TwoSources at) h = h
-typing_fault beforehand source (faults.BadService at) h = h
-typing_fault beforehand source (faults.RecursiveComposite at) h = h
-typing_fault beforehand source (faults.Limit at) h = h
-typing_fault beforehand source (faults.ChannelShape at) h = h
+pub typing_fault : (source : SourceTree) (f : TypeFault) → IsRefused source f → IsTypingFault source (of_type f)
+typing_fault source faults.OutOfMemory h = tt
+typing_fault source (faults.UnknownName at) h = h
+typing_fault source (faults.DuplicateName at) h = h
+typing_fault source (faults.TypeMismatch at) h = h
+typing_fault source (faults.BadLiteral at) h = h
+typing_fault source (faults.NotWritable at) h = h
+typing_fault source (faults.BadConnection at) h = h
+typing_fault source (faults.TwoSources at) h = h
+typing_fault source (faults.BadService at) h = h
+typing_fault source (faults.RecursiveComposite at) h = h
+typing_fault source (faults.Limit at) h = h
+typing_fault source (faults.ChannelShape at) h = h
 
-pub text_fault : (beforehand text : List ℕ) (f : TextFault) → ReadsText text (Err f) → IsTextFault beforehand text (of_text f)
-text_fault beforehand text texts.OutOfMemory h = tt
-text_fault beforehand text (texts.BadCharacter at) h = h
-text_fault beforehand text (texts.BigNumber at) h = h
-text_fault beforehand text texts.TooLong h = h
-text_fault beforehand text (texts.Syntax at) h = h
-text_fault beforehand text (texts.TooDeep at) h = h
+pub text_fault : (text : List ℕ) (f : TextFault) → ReadsText text (Err f) → IsTextFault text (of_text f)
+text_fault text texts.OutOfMemory h = tt
+text_fault text (texts.BadCharacter at) h = h
+text_fault text (texts.BigNumber at) h = h
+text_fault text texts.TooLong h = h
+text_fault text (texts.Syntax at) h = h
+text_fault text (texts.TooDeep at) h = h
 
 pub certificate_fault : (text : List ℕ) (f : CertFault) → Refuses text f → IsCertificateFault text (of_certificate f)
 certificate_fault text certs.OutOfMemory h = tt
@@ -56,20 +64,20 @@ certificate_fault text (certs.Row line) h = h
 certificate_fault text (certs.DuplicateRow line) h = h
 
 -- a fault of a tree is one of its text
-pub tree_fault : (beforehand text : List ℕ) (source : SourceTree) (f : Refusal) → IsSource text source → IsTypingFault beforehand source f → IsTextFault beforehand text f
-tree_fault beforehand text source OutOfMemory s h = tt
-tree_fault beforehand text source (Typing x) s h = (source, s, h)
-tree_fault beforehand text source (Text x) s h = absurd h
-tree_fault beforehand text source (Spelling x) s h = absurd h
-tree_fault beforehand text source (UnknownRow x) s h = absurd h
-tree_fault beforehand text source (MissingRow x) s h = absurd h
-tree_fault beforehand text source (RangeStart x) s h = absurd h
-tree_fault beforehand text source (RangeLink x) s h = absurd h
-tree_fault beforehand text source (RangeKept x) s h = absurd h
-tree_fault beforehand text source (IndexOrDivisor x) s h = absurd h
-tree_fault beforehand text source (Charge x) s h = absurd h
-tree_fault beforehand text source (Weight x) s h = absurd h
-tree_fault beforehand text source (Depth x) s h = absurd h
+pub tree_fault : (text : List ℕ) (source : SourceTree) (f : Refusal) → IsSource text source → IsTypingFault source f → IsTextFault text f
+tree_fault text source OutOfMemory s h = tt
+tree_fault text source (Typing x) s h = (source, s, h)
+tree_fault text source (Text x) s h = absurd h
+tree_fault text source (Spelling x) s h = absurd h
+tree_fault text source (UnknownRow x) s h = absurd h
+tree_fault text source (MissingRow x) s h = absurd h
+tree_fault text source (RangeStart x) s h = absurd h
+tree_fault text source (RangeLink x) s h = absurd h
+tree_fault text source (RangeKept x) s h = absurd h
+tree_fault text source (IndexOrDivisor x) s h = absurd h
+tree_fault text source (Charge x) s h = absurd h
+tree_fault text source (Weight x) s h = absurd h
+tree_fault text source (Depth x) s h = absurd h
 
 -- where the tree is found unless memory runs out, a fault is that memory ran out
 pub no_memory : (f : TextFault) (source : SourceTree) → FindsTree (Err f) source → of_text f ≡ OutOfMemory
@@ -102,29 +110,34 @@ no_room view certs.TooLong y h = absurd h
 no_room view (certs.Row line) y h = absurd h
 no_room view (certs.DuplicateRow line) y h = absurd h
 
+-- a source is well typed with the event blocks as their text has them
+pub with_event_trees : (source : SourceTree) (s : System) → Elaborates source s → ElaboratesWith event_trees source s
+with_event_trees source s h = elaborated_with event_trees source s trees_declare h
+
 -- the names of what stands in texts are words
 pub words : (s : System) → IsWritten s → AllByRecursion IsWordyDevice s.devices
-words s (beforehand, text, is) =
-    let l = is.typed.spelled in
+words s (text, is) =
+    let l = event_source_spelled in
     let x = is.source_is in
-    wordy beforehand text l.0 x.0 most_nested most_nested_statements most_nested most_nested_statements is.typed.library is.source s l.1 l.2 x.1 x.2 is.typed.typed
+    wordy EVENT_BLOCKS.now text l.0 x.0 most_nested most_nested_statements most_nested most_nested_statements event_source is.source s l.1 l.2 x.1 x.2 (with_event_trees is.source s is.typed)
 
--- a source that is the same is well typed with the same event blocks
-pub along : (beforehand : List ℕ) (x y : SourceTree) (system : System) → x ≡ y → IsResolved beforehand y system → IsResolved beforehand x system
-along beforehand x y system e h = subst (λ s. IsResolved beforehand s system) (sym e) h
+-- a source that is the same is well typed alike
+pub along : (x y : SourceTree) (system : System) → x ≡ y → Elaborates y system → Elaborates x system
+along x y system e h = subst (λ s. Elaborates s system) (sym e) h
+
+-- what is typed of a text has the places of its names
+pub typed_of : (text : List ℕ) (source : SourceTree) (r : Result Configuration Refusal) → IsSource text source → IfOk r (λ t. Elaborates source (system_of t))
+    → IfOk r (λ t. system_places t.devices.items ≡ all_places source.system.devices) → IfOk r (IsTypedOf text)
+typed_of text source (Ok t) is typed places = record { system_is = record { source = source; source_is = is; typed = typed }; places = places }
+typed_of text source (Err f) is typed places = tt
 
 -- what is verified of a system and a certificate that stand in texts
-pub accepted_by : (beforehand text certificate : List ℕ) (system : System) (rows : book.Certificate) (r : Result Verified Refusal) → IsSystemOf beforehand text system → Spells certificate rows
-    → IfOk r (λ v. (system_in v ≡ system) × (certificate_in v ≡ rows)) → IfOk r AreTables → OnOk r (Fits system rows) → IfOk r (IsOfTexts beforehand text certificate)
-accepted_by beforehand text certificate system rows (Ok v) s c same tables fits =
+pub accepted_by : (text certificate : List ℕ) (system : System) (rows : book.Certificate) (r : Result Checked Refusal) → IsSystemOf text system → Spells certificate rows
+    → IfOk r (λ v. (system_in v ≡ system) × (certificate_in v ≡ rows)) → OnOk r (Fits system rows) → IfOk r (IsOfTexts text certificate)
+accepted_by text certificate system rows (Ok v) s c same fits =
     record {
-      system_is = subst (IsSystemOf beforehand text) (sym same.0) s;
+      system_is = subst (IsSystemOf text) (sym same.0) s;
       certificate_is = subst (Spells certificate) (sym same.1) c;
       fits = subst (λ x. Fits x (certificate_in v)) (sym same.0) (subst (Fits system) (sym same.1) fits);
-      tables = tables;
     }
-accepted_by beforehand text certificate system rows (Err f) s c same tables fits = tt
-
--- whoever runs what was accepted relies on it
-pub checked : (beforehand text certificate : List ℕ) (v : Verified) → IsOfTexts beforehand text certificate v → IsChecked v
-checked beforehand text certificate v h = record { written = (beforehand, text, h.system_is); told = (certificate, h.certificate_is); fits = h.fits; tables = h.tables }
+accepted_by text certificate system rows (Err f) s c same fits = tt

@@ -4,7 +4,7 @@ use Rattle.std.specs.List.{Any}
 use Rattle.fb_model.specs.Certificates.{Certificate}
 use Rattle.fb_columns.specs.fb_blocks.declared.fault.TypeFault.{TypeFault}
 use Rattle.fb_columns.specs.fb_blocks.declared.fault.TypeFault.TheVariants.{Limit}
-use Rattle.fb_columns.specs.fb_types.declared.typed.Typed.{Typed}
+use Rattle.fb_columns.specs.fb_types.declared.typed.Configuration.{Configuration}
 use Rattle.fb_columns.specs.fb_types.Views.{system_of}
 use Rattle.fb_columns.specs.fb_flat.Leaves.{IsFull}
 use Rattle.fb_ledger.specs.Faults.{IsUnknown, IsMissing}
@@ -20,12 +20,12 @@ use Rattle.fb_check.specs.declared.refusal.Refusal.{Refusal}
 use Rattle.fb_check.specs.declared.refusal.Refusal.TheVariants.{OutOfMemory, Text, Typing, Certificate as Spelling, UnknownRow, MissingRow, RangeStart, RangeLink, RangeKept, IndexOrDivisor, Charge, Weight, Depth}
 
 -- more connections are followed in a resource whose place is this one
-abbrev pub IsCrowded : Typed → TypeFault → Type 0
+abbrev pub IsCrowded : Configuration → TypeFault → Type 0
 IsCrowded typed (Limit at) = Any (λ d. Any (λ r. IsFull r at) d.resources.items) typed.devices.items
 IsCrowded typed other = ⊥
 
 -- what the refusal says is so
-abbrev pub IsFitFault : Typed → Certificate → Refusal → Type 0
+abbrev pub IsFitFault : Configuration → Certificate → Refusal → Type 0
 IsFitFault typed cert OutOfMemory = Unit {0}
 IsFitFault typed cert (Text fault) = ⊥
 IsFitFault typed cert (Typing fault) = IsCrowded typed fault

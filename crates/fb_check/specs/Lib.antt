@@ -7,4 +7,5 @@ pub use Rattle.fb_columns.specs.fb_types as fb_types
 pub mod Refusals
 pub mod Lookups
 pub mod Faults
+pub mod Checked
 pub mod Verdicts

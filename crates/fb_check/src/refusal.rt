@@ -14,7 +14,7 @@ use std::alloc::{AllocError, AllocFailed};
 use std::fmt;
 
 /// Why an application and its certificate are refused. A path is in upper case, its names joined by dots.
-#[derive(Debug, Drop)]
+#[derive(Drop)]
 pub enum Refusal {
     /// Memory ran out. Code 9.
     OutOfMemory,

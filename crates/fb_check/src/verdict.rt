@@ -4,24 +4,24 @@ ghost use Rattle.std.specs.Prelude.{◌≡◌, ◌≤◌, length, map, IfOk, IfE
 ghost use Rattle.std.specs.List.{AllByRecursion};
 ghost use Rattle.fb_model.specs.System.{System};
 ghost use Rattle.fb_model.specs.Declarations.{SourceTree};
+ghost use Rattle.fb_model.specs.EventBlocks.{Elaborates};
 ghost use Rattle.fb_model.specs.Certificates as book;
 ghost use Rattle.fb_model.specs.CertificateText.{Spells, most_characters};
 ghost use Rattle.fb_cert.specs.Views.{certificate_of};
 ghost use Rattle.fb_columns.specs.fb_text.Answers.{IsSource};
-ghost use Rattle.fb_columns.specs.fb_types.declared.typed.Typed as systems;
+ghost use Rattle.fb_columns.specs.fb_types.declared.typed.Configuration as systems;
 ghost use Rattle.fb_columns.specs.fb_types.Views.{system_of};
-ghost use Rattle.fb_columns.specs.fb_types.Beforehand.{IsResolved};
 ghost use Rattle.fb_columns.specs.fb_flat.Leaves.{flat_device, written_device};
 ghost use Rattle.fb_model.specs.Certificates.{FollowsFew, Fits};
 ghost use Rattle.fb_check.specs.Faults.{IsFitFault};
-ghost use Rattle.fb_check.specs.Verdicts.{system_in, certificate_in, IsWritten, IsTold, AreTables, IsOfTexts, IsFaultOf};
+ghost use Rattle.fb_check.specs.Verdicts.{system_in, certificate_in, IsWritten, IsOfTexts, IsFaultOf};
 ghost use Rattle.fb_check.specs.declared.refusal.Refusal.TheVariants.{OutOfMemory};
 
 use crate::refusal::Refusal;
 use crate::texts::{read_certificate, read_system};
 use crate::verified::Verified;
 use fb_cert::Certificate;
-use fb_columns::fb_flat::fb_types::{EVENT_BLOCKS, Typed};
+use fb_columns::fb_flat::fb_types::Typed;
 use fb_columns::fb_flat::{Flat, flatten};
 use fb_columns::fb_rows::rows_clear;
 use fb_columns::{Column, column_pays};
@@ -31,8 +31,8 @@ use std::alloc::Global;
 
 // The rows are those that the system must have, all is clear under them, and they pay in both columns and at each queue.
 fn tables_fit(alloc: Global, flat: &Flat, certificate: &Certificate) -> Result<(), Refusal>
-    ensures fits { (s : System) → IsWritten s → IsTold (certificate_of certificate.now) → map flat_device flat.now.devices.items ≡ map written_device s.devices → AllByRecursion FollowsFew s.devices → OnOk result (Fits s (certificate_of certificate.now)) }
-    ensures refused { (typed : systems.Typed) → IsWritten (system_of typed) → IsTold (certificate_of certificate.now) → map flat_device flat.now.devices.items ≡ map written_device (system_of typed).devices → IfErr result (IsFitFault typed (certificate_of certificate.now)) }
+    ensures fits { (s : System) → IsWritten s → map flat_device flat.now.devices.items ≡ map written_device s.devices → AllByRecursion FollowsFew s.devices → OnOk result (Fits s (certificate_of certificate.now)) }
+    ensures refused { (typed : systems.Configuration) → IsWritten (system_of typed) → map flat_device flat.now.devices.items ≡ map written_device (system_of typed).devices → IfErr result (IsFitFault typed (certificate_of certificate.now)) }
 {
     rows_match(alloc, flat, certificate)?;
     rows_clear(alloc, flat, certificate)?;
@@ -42,23 +42,46 @@ fn tables_fit(alloc: Global, flat: &Flat, certificate: &Certificate) -> Result<(
     Ok(())
 }
 
+// The leaves of a system, where a certificate fits it.
+fn fitting_leaves(alloc: Global, typed: &Typed, certificate: &Certificate) -> Result<Flat, Refusal>
+    ensures tables { IfOk result (λ f. map flat_device f.devices.items ≡ map written_device (system_of typed.now).devices) }
+    ensures fits { OnOk result (Fits (system_of typed.now) (certificate_of certificate.now)) }
+    ensures refused { IfErr result (IsFitFault typed.now (certificate_of certificate.now)) }
+{
+    typed.stands_in_text();
+    let flat = flatten(alloc, typed)?;
+    match tables_fit(alloc, &flat, certificate) {
+        Ok(()) => Ok(flat),
+        Err(refusal) => {
+            flat.let_go();
+            Err(refusal)
+        }
+    }
+}
+
 // A system with a certificate that fits it.
 fn verified(alloc: Global, typed: Typed, certificate: Certificate) -> Result<Verified, Refusal>
     ensures same { IfOk result (λ v. (system_in v ≡ system_of typed) × (certificate_in v ≡ certificate_of certificate)) }
-    ensures tables { IfOk result AreTables }
-    ensures fits { IsWritten (system_of typed) → IsTold (certificate_of certificate) → OnOk result (Fits (system_of typed) (certificate_of certificate)) }
-    ensures refused { IsWritten (system_of typed) → IsTold (certificate_of certificate) → IfErr result (IsFitFault typed (certificate_of certificate)) }
+    ensures fits { OnOk result (Fits (system_of typed) (certificate_of certificate)) }
+    ensures refused { IfErr result (IsFitFault typed (certificate_of certificate)) }
 {
-    let flat = flatten(alloc, &typed)?;
-    tables_fit(alloc, &flat, &certificate)?;
-    Ok(Verified {
-        typed,
-        flat,
-        certificate,
-    })
+    typed.stands_in_text();
+    certificate.stands_in_text();
+    match fitting_leaves(alloc, &typed, &certificate) {
+        Ok(flat) => Ok(Verified {
+            typed,
+            flat,
+            certificate,
+        }),
+        Err(refusal) => {
+            typed.let_go();
+            certificate.let_go();
+            Err(refusal)
+        }
+    }
 }
 
-/// Whether a certificate fits a system, which both stand in texts: its rows are exactly those that the system must have, every variable keeps in its
+/// Whether a certificate fits a system: its rows are exactly those that the system must have, every variable keeps in its
 /// range whatever happens and nothing traps, and all inequalities hold, over whole numbers, in the steps column and in the places column, and for
 /// each depth.
 ///
@@ -66,10 +89,9 @@ fn verified(alloc: Global, typed: Typed, certificate: Certificate) -> Result<Ver
 /// where too many connections are followed: each only where it is so, and none, unless memory runs out, where the certificate fits.
 pub fn check(alloc: Global, typed: Typed, certificate: Certificate) -> Result<Verified, Refusal>
     ensures same { IfOk result (λ v. (system_in v ≡ system_of typed) × (certificate_in v ≡ certificate_of certificate)) }
-    ensures tables { IfOk result AreTables }
-    ensures fits { IsWritten (system_of typed) → IsTold (certificate_of certificate) → OnOk result (Fits (system_of typed) (certificate_of certificate)) }
-    ensures refused { IsWritten (system_of typed) → IsTold (certificate_of certificate) → IfErr result (IsFitFault typed (certificate_of certificate)) }
-    ensures accepts { IsWritten (system_of typed) → IsTold (certificate_of certificate) → Fits (system_of typed) (certificate_of certificate) → IfErr result (λ f. f ≡ OutOfMemory) }
+    ensures fits { OnOk result (Fits (system_of typed) (certificate_of certificate)) }
+    ensures refused { IfErr result (IsFitFault typed (certificate_of certificate)) }
+    ensures accepts { Fits (system_of typed) (certificate_of certificate) → IfErr result (λ f. f ≡ OutOfMemory) }
 {
     verified(alloc, typed, certificate)
 }
@@ -79,15 +101,18 @@ pub fn check(alloc: Global, typed: Typed, certificate: Certificate) -> Result<Ve
 /// It accepts just where the first is spelled and well typed, the second is spelled, and the certificate fits, unless memory runs out or a text is
 /// too long. What a refusal says is so.
 pub fn check_text(alloc: Global, text: &str, certificate: &str) -> Result<Verified, Refusal>
-    ensures accepted { IfOk result (IsOfTexts EVENT_BLOCKS.now text.now certificate.now) }
-    ensures refused { IfErr result (IsFaultOf EVENT_BLOCKS.now text.now certificate.now) }
+    ensures accepted { IfOk result (IsOfTexts text.now certificate.now) }
+    ensures refused { IfErr result (IsFaultOf text.now certificate.now) }
     ensures accepts { (source : SourceTree) (system : System) (rows : book.Certificate) → length text.now ≤ 1048576 → length certificate.now ≤ most_characters
-        → IsSource text.now source → IsResolved EVENT_BLOCKS.now source system → Spells certificate.now rows → Fits system rows → IfErr result (λ f. f ≡ OutOfMemory) }
+        → IsSource text.now source → Elaborates source system → Spells certificate.now rows → Fits system rows → IfErr result (λ f. f ≡ OutOfMemory) }
 {
     match read_system(alloc, text) {
         Ok(typed) => match read_certificate(alloc, certificate) {
             Ok(rows) => check(alloc, typed, rows),
-            Err(refusal) => Err(refusal),
+            Err(refusal) => {
+                typed.let_go();
+                Err(refusal)
+            }
         },
         Err(refusal) => Err(refusal),
     }

@@ -4,12 +4,14 @@ ghost use Rattle.std.specs.Prelude.{◌≡◌};
 ghost use Rattle.std.specs.Option.{option_map};
 ghost use Rattle.fb_cert.specs.Views.{rows_of};
 ghost use Rattle.fb_check.specs.Lookups.{is_same_path, row_at};
+ghost use Rattle.fb_check.specs.Verdicts.{IsChecked};
 
 use fb_cert::{Amount, Certificate};
 use fb_columns::fb_flat::Flat;
-use fb_columns::fb_flat::fb_types::Typed;
+use fb_columns::fb_flat::fb_types::{Configuration, Typed};
+use std::marker::Model;
 
-/// A system, its leaves with their wires, and a certificate that [`check`](crate::check) has accepted for it.
+/// A system, its leaves with their wires, and a certificate that fits it: [`check`](crate::check) alone makes one.
 ///
 /// Paths are names joined by dots, from the device inwards; letter case has no meaning in them.
 #[derive(Drop)]
@@ -17,6 +19,23 @@ pub struct Verified {
     pub(crate) typed: Typed,
     pub(crate) flat: Flat,
     pub(crate) certificate: Certificate,
+}
+
+impl Model for Verified {
+    ghost use Rattle.fb_columns.specs.fb_types.contracts.typed.Configuration as configurations;
+    ghost use Rattle.fb_columns.specs.fb_flat.contracts.flat.Flat as flats;
+    ghost use Rattle.std.specs.Coded.{codes};
+    ghost use Rattle.fb_check.specs.Checked.{Checked};
+
+    ghost Value = { Checked };
+
+    ghost coded = { Prim.hlevel (codes, configurations.the_row.coded, flats.the_row.coded) };
+
+    ghost use Rattle.fb_check.specs.Verdicts.{IsChecked};
+
+    ghost view = { λ v. record { typed = v.typed; flat = v.flat; certificate = v.certificate } };
+
+    ghost invariant = { λ v. IsChecked (record { typed = v.typed; flat = v.flat; certificate = v.certificate }) };
 }
 
 // Whether two paths are the same but for letter case.
@@ -59,11 +78,30 @@ fn depth_of(certificate: &Certificate, path: &str) -> Option<u64>
 }
 
 impl Verified {
+    /// Lets it go. (A crate that lets it go by itself proves the end of each of its parts anew; this call is proved once.)
+    pub fn let_go(self) {
+        let Verified {
+            typed,
+            flat,
+            certificate,
+        } = self;
+        typed.let_go();
+        flat.let_go();
+        certificate.let_go();
+    }
+
+    /// That the certificate fits the system, which stands in texts with it, for proofs: nothing is done.
+    pub fn fits(&self)
+        ensures { IsChecked self.now }
+    {
+        let _ = &self.typed;
+    }
+
     /// The system, well typed.
-    pub fn typed(&self) -> &Typed
+    pub fn typed(&self) -> &Configuration
         ensures { result.now ≡ self.now.typed }
     {
-        &self.typed
+        self.typed.configuration()
     }
 
     /// Its leaves, and where their event outputs lead.

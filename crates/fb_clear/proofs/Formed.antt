@@ -1,5 +1,5 @@
 -- Values of well typed systems that stand in texts have the form of their variables.
-use Rattle.std.proofs.Common.{◌≡◌, ◌⊎◌, ℕ, ◌+◌, ℤ, pos, sym, ap, subst, refl, inl, inr, Bool, true, false, List, [], ◌∷◌, ◌++◌, map, length, Option, None, Some}
+use Rattle.std.proofs.Common.{◌≡◌, ◌⊎◌, ℕ, ◌+◌, ℤ, pos, sym, ap, subst, refl, inl, inr, Bool, true, false, List, [], ◌∷◌, ◌++◌, map, Option, None, Some}
 use Rattle.std.specs.Prelude.{if◌then◌else◌}
 use Rattle.std.specs.List.{AllByRecursion}
 use Rattle.std.specs.Option.{option_map}
@@ -7,14 +7,14 @@ use Rattle.std.specs.Str.{bytes_eq}
 use Rattle.std.proofs.lemmas.List.{length-replicate}
 use Rattle.fb_words.specs.declared.elem_type.ElemType.{ElemType}
 use Rattle.fb_model.specs.Names.{Name, Path, Place}
-use Rattle.fb_model.specs.Values.{Value, One, Many}
+use Rattle.fb_model.specs.Values.{One}
 use Rattle.fb_model.specs.Productions.{Word}
 use Rattle.fb_model.specs.Trees.{ParameterTree}
 use Rattle.fb_model.specs.Declarations.{VariableTree, BoundsTree, StartTree, InstanceTree, ChartTree, BlockTree, ResourceTree, DeviceTree, SourceTree, Chart}
-use Rattle.fb_model.specs.System.{Variable, Block, Service, Input, Output, Publish, Subscribe, Delay, Cycle, Restart, Connection, Parameter, Face, Body, Basic, Served, Composite, Instances, nothing, instance, Resource, Device, System, start_of, start_in, constant, zeros}
+use Rattle.fb_model.specs.System.{Variable, Block, Service, Input, Output, Publish, Subscribe, Delay, Cycle, Restart, Connection, Parameter, Face, Body, Basic, Served, Composite, Instances, nothing, instance, Resource, Device, System, start_of, start_in, constant}
 use Rattle.fb_model.specs.Services.{ports, service_inputs, service_outputs}
 use Rattle.fb_model.specs.BlockTyping.{Declared, AreBounds, no_bounds, some_bounds, IsStart, no_start, a_start, declared, AreDeclared, none, more, variable_of, extent, IsFace, IsBasic, face_of}
-use Rattle.fb_model.specs.NetworkTyping.{type_named, AreParameters, no_parameter, a_parameter, IsServed, a_service, IsMade, a_basic, a_composite, IsInstance, of_type, of_service, AreInstances, no_instance, an_instance, AreResources, no_resource, a_resource, IsDevice, AreDevices, no_device, a_device, ElaboratesWith}
+use Rattle.fb_model.specs.NetworkTyping.{type_named, AreParameters, no_parameter, a_parameter, IsServed, a_service, IsMade, a_basic, a_composite, IsInstance, of_type, of_service, AreInstances, no_instance, an_instance, AreResources, no_resource, a_resource, AreDevices, no_device, a_device, ElaboratesWith}
 use Rattle.fb_model.specs.Wires.{is_end, Source, Output_of, Constant, Kind, Charted, Serviced, Leaf, inputs_of, followed, entered_in, fed, given_by, given_in, leaves_of, leaves_in, resource_leaves, leaves_from, leaves}
 use Rattle.fb_model.specs.Store.{inputs, outputs}
 use Rattle.fb_model.specs.Ranges.{variables, HasLength}

@@ -1,30 +1,29 @@
 -- Leaves of a well typed system whose rows are kept lie in them.
-use Rattle.std.proofs.Common.{◌≡◌, ℕ, ℤ, pos, sym, ap, subst, refl, Bool, true, false, List, [], ◌∷◌, ◌++◌, Option, None, Some, ◌∙◌}
+use Rattle.std.proofs.Common.{◌≡◌, ℕ, ℤ, sym, subst, refl, true, List, [], ◌∷◌, ◌++◌, None, Some, ◌∙◌}
 use Rattle.std.specs.Prelude.{if◌then◌else◌}
 use Rattle.std.specs.List.{AllByRecursion}
-use Rattle.fb_words.specs.declared.elem_type.ElemType.{ElemType}
 use Rattle.fb_words.specs.declared.elem_type.ElemType.TheVariants as t
 use Rattle.fb_model.specs.Names.{Name, Path, is_in}
-use Rattle.fb_model.specs.Values.{Value, One, numbers_of}
+use Rattle.fb_model.specs.Values.{numbers_of}
 use Rattle.fb_model.specs.Tokens.{Token}
 use Rattle.fb_model.specs.StructuredTextGrammar.{IsExpression, IsAlgorithm}
 use Rattle.fb_model.specs.Declarations.{SourceTree}
 use Rattle.fb_model.specs.DeclarationGrammar.{IsFile}
-use Rattle.fb_model.specs.System.{Variable, Block, Service, Device, System, start_of, start_in}
+use Rattle.fb_model.specs.System.{Variable, Device, System, start_of, start_in}
 use Rattle.fb_model.specs.NetworkTyping.{variable_named, ElaboratesWith}
 use Rattle.fb_model.specs.Wires.{Source, Output_of, Constant, Kind, Charted, Serviced, Leaf, leaf_at, leaves}
-use Rattle.fb_model.specs.Store.{variable_names, inputs, outputs, internals, takes, first_input, first_cells}
-use Rattle.fb_model.specs.Spans.{Span, within, whole}
+use Rattle.fb_model.specs.Store.{variable_names, inputs, outputs, internals, first_input, first_cells}
+use Rattle.fb_model.specs.Spans.{within, whole}
 use Rattle.fb_model.specs.Shapes.{IsIn}
-use Rattle.fb_model.specs.Ranges.{Range, variables, HasLength, row_at, row_of, rows, Lies, KindFits, LinkFits, LeafLies, HoldsIn, SourceFits, ChartClears, KindClears, LeafClears}
-use Rattle.fb_model.proofs.Lists.{all_append, all_weaker, all_both}
+use Rattle.fb_model.specs.Ranges.{Range, variables, HasLength, row_at, row_of, rows, Lies, KindFits, LinkFits, LeafLies, HoldsIn, SourceFits, KindClears, LeafClears}
+use Rattle.fb_model.proofs.Lists.{all_append}
 use Rattle.fb_model.proofs.Running.{at_leaf}
 use Rattle.fb_leaves.specs.Leaves.{HasType, IsWider, IsGoodKind, IsGivenBy, Yields, Feeds, IsFed, OnChart}
 use Rattle.fb_leaves.proofs.Values.{all_fed}
 use Rattle.fb_shapes.specs.Shaped.{IsShapely}
 use Rattle.fb_shapes.proofs.Blocks.{all_charts_shapely}
-use Rattle.fb_clear.proofs.Plain.{IsPlain, blocks_plain}
-use Rattle.fb_clear.proofs.Formed.{AreSingle, AreFormed, IsSingle, IsFormed, all_leaves_formed}
+use Rattle.fb_clear.proofs.Plain.{blocks_plain}
+use Rattle.fb_clear.proofs.Formed.{IsSingle, IsFormed, all_leaves_formed}
 use Rattle.fb_clear.proofs.Named.{named_one, named_left, named_right, Finds, one, none, finds, found_listed, is_listed, start_named, start_unnamed}
 use Rattle.fb_clear.proofs.Taking.{TakesInputs, all_take_inputs}
 use Rattle.fb_clear.proofs.Lying.{inside, all_inside, wider_whole, lies_by, lies_is, block_clear, writes_fit}

@@ -4,3 +4,4 @@ pub mod Named
 pub mod Taking
 pub mod Lying
 pub mod Leaves
+pub mod Holding

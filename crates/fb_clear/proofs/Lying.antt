@@ -1,5 +1,5 @@
 -- A leaf whose rows are kept lies in them.
-use Rattle.std.proofs.Common.{◌≡◌, ◌≤◌, ℕ, ◌+◌, ℤ, pos, sym, ap, ap₂, subst, refl, inl, inr, Bool, true, false, ◌&&◌, List, [], ◌∷◌, ◌++◌, Option, None, Some, length, arith, ◌∙◌}
+use Rattle.std.proofs.Common.{◌≡◌, ℕ, ◌+◌, ℤ, pos, sym, ap, subst, refl, inl, inr, Bool, true, false, List, [], ◌∷◌, Option, None, Some, arith, ◌∙◌}
 use Rattle.std.specs.Prelude.{if◌then◌else◌, int_le}
 use Rattle.std.specs.List.{AllByRecursion}
 use Rattle.std.specs.Option.{option_map}
@@ -8,33 +8,28 @@ use Rattle.std.proofs.lemmas.Int.{ints}
 use Rattle.fb_words.specs.declared.elem_type.ElemType.{ElemType}
 use Rattle.fb_words.specs.declared.elem_type.ElemType.TheVariants as t
 use Rattle.fb_model.specs.Names.{Name, Path, is_in}
-use Rattle.fb_model.specs.Values.{Value, One, Many, Values, numbers_of, lowest, highest, in_type, all_in}
-use Rattle.fb_model.specs.System.{Variable, Transition, Procedure, Block, Service, start_of, start_in}
-use Rattle.fb_model.specs.Language.{Guard, Algorithm, Outcome, Done, Trap, given, run, holds}
+use Rattle.fb_model.specs.Values.{Value, One, Many, Values, numbers_of, in_type, all_in}
+use Rattle.fb_model.specs.System.{Variable, Transition, Procedure, Block, Service}
+use Rattle.fb_model.specs.Language.{Guard, Algorithm, Outcome, Done, Trap, given, run}
 use Rattle.fb_model.specs.Services.{qo, received, ports, service_outputs}
 use Rattle.fb_model.specs.BlockTyping.{extent}
 use Rattle.fb_model.specs.NetworkTyping.{variable_named}
-use Rattle.fb_model.specs.Wires.{Source, Output_of, Constant, Kind, Charted, Serviced, Leaf, leaf_at}
-use Rattle.fb_model.specs.Store.{variable_names, inputs, outputs, internals, takes, first_input, first_cells}
+use Rattle.fb_model.specs.Wires.{Kind, Charted, Serviced}
+use Rattle.fb_model.specs.Store.{variable_names}
 use Rattle.fb_model.specs.Charts.{named, algorithm_of, work, tested}
 use Rattle.fb_model.specs.Serving.{bit, set_value, receive}
 use Rattle.fb_model.specs.Spans.{Span, span, within, whole}
-use Rattle.fb_model.specs.Clear.{Spans, Clear, examined, found_cost, guard_range}
+use Rattle.fb_model.specs.Clear.{Spans, examined, found_cost}
 use Rattle.fb_model.specs.Shapes as shapes
 use Rattle.fb_model.specs.Shapes.{IsIn, Shape, HasForm, AlgorithmFits, written}
-use Rattle.fb_model.specs.Ranges.{Range, variables, length_in, HasLength, row_at, row_of, rows, Lies, AllLie, CellsLie, cost_of, Keeps, IsClear, types_of, IsMessage, WritesFit, KindFits, IsGiven, LinkFits, LeafLies, HoldsIn, SourceFits, IsClearGuard, IsClearAlgorithm, ChartClears, KindClears, LeafClears}
-use Rattle.fb_model.proofs.Lists.{all_append, all_weaker, same_name}
-use Rattle.fb_model.proofs.Placed.{all_left, all_right}
-use Rattle.fb_model.proofs.Running.{at_leaf}
+use Rattle.fb_model.specs.Ranges.{Range, variables, HasLength, row_of, rows, Lies, AllLie, cost_of, Keeps, IsClear, types_of, WritesFit, HoldsIn, IsClearGuard, IsClearAlgorithm}
+use Rattle.fb_model.proofs.Lists.{all_weaker, same_name}
 use Rattle.fb_model.proofs.Sound.{algorithms_keep}
 use Rattle.fb_model.proofs.Terms.{guard_answers}
-use Rattle.fb_leaves.specs.Leaves.{HasType, IsWider, AreFirst, IsGoodKind, IsGivenBy, Yields, Feeds, IsFed, OnChart}
+use Rattle.fb_leaves.specs.Leaves.{IsWider, AreFirst}
 use Rattle.fb_leaves.proofs.Typed.{both, in_range, bit_fits}
 use Rattle.fb_leaves.proofs.Ports.{qo_port, qo_named, receivers}
-use Rattle.fb_shapes.specs.Shaped.{GuardFits, IsShaped, IsShapely}
-use Rattle.fb_clear.proofs.Formed.{AreSingle, AreFormed, IsSingle, IsFormed}
-use Rattle.fb_clear.proofs.Named.{named_one, named_left, named_right, Finds, one, none, finds, found_listed, is_listed, start_named, start_unnamed}
-use Rattle.fb_clear.proofs.Taking.{TakesInputs}
+use Rattle.fb_shapes.specs.Shaped.{GuardFits, IsShaped}
 
 -- ---- ranges in ranges
 

@@ -1,12 +1,12 @@
 -- Texts declare arrays as internal variables alone, and give these no start values.
-use Rattle.std.proofs.Common.{◌≡◌, ◌⊎◌, refl, inl, inr, List, [], ◌∷◌, Option, None, Some}
+use Rattle.std.proofs.Common.{◌≡◌, ◌⊎◌, refl, inl, inr, List, None}
 use Rattle.std.specs.List.{AllByRecursion}
 use Rattle.fb_words.specs.declared.mark.Mark.{Mark}
 use Rattle.fb_model.specs.Tokens.{Token}
 use Rattle.fb_model.specs.Productions.{Gram, IsMany, none, more, IsSection, absent, present}
-use Rattle.fb_model.specs.Declarations.{VariableTree, ChartTree, BodyTree, Chart, Network, BlockTree, SourceTree}
+use Rattle.fb_model.specs.Declarations.{VariableTree, BodyTree, Chart, Network, BlockTree, SourceTree}
 use Rattle.fb_model.specs.StructuredText.{Expression, Statements}
-use Rattle.fb_model.specs.DeclarationGrammar.{IsVariable, of_type, IsInternal, a_variable, an_array, IsChart, a_chart, IsBody, basic, composite, IsBlock, a_block, IsFile, a_file}
+use Rattle.fb_model.specs.DeclarationGrammar.{IsVariable, of_type, IsInternal, a_variable, an_array, a_chart, IsBody, basic, composite, IsBlock, a_block, IsFile, a_file}
 
 -- what is so of each item is so of all
 Each : {A : Type 0} → (A → Type 0) → Gram A → Type 0

@@ -7,8 +7,8 @@ use Rattle.fb_words.specs.declared.elem_type.ElemType.{ElemType}
 use Rattle.fb_model.specs.Names.{Name, is_in}
 use Rattle.fb_model.specs.Productions.{Word}
 use Rattle.fb_model.specs.Declarations.{EventTree, ChartTree, BlockTree, SourceTree}
-use Rattle.fb_model.specs.System.{Block, Service, Input, Output, Publish, Subscribe, Delay, Cycle, Restart, Device, System, Variable}
-use Rattle.fb_model.specs.Services.{qi, dt, req, arrive, start, numbered, sent, ports, service_inputs, service_takes}
+use Rattle.fb_model.specs.System.{Block, Service, Input, Output, Publish, Subscribe, Delay, Cycle, Restart, Device, System}
+use Rattle.fb_model.specs.Services.{qi, dt, req, arrive, start, numbered, sent, ports, service_inputs}
 use Rattle.fb_model.specs.Typing.{texts}
 use Rattle.fb_model.specs.BlockTyping.{Declared, names_in, typed_event, AreKnown, variable_of, IsBasic}
 use Rattle.fb_model.specs.NetworkTyping.{ElaboratesWith}

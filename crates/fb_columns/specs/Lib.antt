@@ -12,3 +12,4 @@ pub mod Reckoning
 pub mod Paying
 pub mod Fitting
 pub mod Tables
+pub mod Codes

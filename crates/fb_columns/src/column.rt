@@ -8,7 +8,7 @@ ghost use Rattle.fb_columns.specs.Sums.{IsSum};
 use fb_cert::Amount;
 
 /// A column of a certificate: its steps or its places.
-#[derive(Clone, Copy, Debug, PartialEq, Eq)]
+#[derive(Clone, Copy)]
 pub enum Column {
     Steps,
     Places,

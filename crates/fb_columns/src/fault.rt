@@ -6,7 +6,7 @@ ghost use Rattle.fb_columns.specs.declared.fault.Shortfall.TheVariants.{OutOfMem
 use std::alloc::{AllocError, AllocFailed};
 
 /// Why the rows of a certificate do not pay. A row goes by its path: in upper case, its names joined by dots.
-#[derive(Debug, Drop)]
+#[derive(Drop)]
 pub enum Shortfall {
     /// Memory ran out. Code 9.
     OutOfMemory,
@@ -14,6 +14,29 @@ pub enum Shortfall {
     Charge(String),
     /// The weight of this event input or arrival is less than what it can cause. Code 39.
     Weight(String),
+}
+
+impl Shortfall {
+    ghost use Rattle.fb_columns.specs.Codes.{code_of};
+
+    /// The number of the refusal.
+    pub fn code(&self) -> u8
+        ensures { result ≡ code_of self.now }
+    {
+        match self {
+            Shortfall::OutOfMemory => 9,
+            Shortfall::Charge(_) => 38,
+            Shortfall::Weight(_) => 39,
+        }
+    }
+}
+
+impl From<fb_rows::fb_ranges::OutOfMemory> for Shortfall {
+    ghost from_gives = { λ _ e. e ≡ OutOfMemory };
+
+    fn from(_: fb_rows::fb_ranges::OutOfMemory) -> Shortfall {
+        Shortfall::OutOfMemory
+    }
 }
 
 impl From<AllocError> for Shortfall {

@@ -7,7 +7,7 @@ ghost use Rattle.fb_cert.specs.Views.{certificate_of};
 ghost use Rattle.fb_rows.specs.fb_flat.Tables.{AreDevices};
 ghost use Rattle.fb_columns.specs.Columns.{column_of};
 ghost use Rattle.fb_columns.specs.Tables.{LeafPays, LeafFails, ResourcePays, ResourceFails, DevicePays, DeviceFails};
-ghost use Rattle.fb_columns.specs.Fitting.{IsUnpaid, AllPay, AreKnown, AreSmall};
+ghost use Rattle.fb_columns.specs.Fitting.{IsUnpaid, AllPay, AreKnown};
 
 use crate::column::Column;
 use crate::fault::Shortfall;
@@ -73,8 +73,9 @@ pub fn column_pays(
     certificate: &Certificate,
     column: Column,
 ) -> Result<(), Shortfall>
-    ensures pays { (s : System) → AreSmall (certificate_of certificate.now) → AreDevices flat.now.devices.items s.devices → AreKnown (certificate_of certificate.now).ranges s → OnOk result (AllPay (column_of column (certificate_of certificate.now)) (certificate_of certificate.now).ranges s) }
-    ensures refused { (s : System) → AreSmall (certificate_of certificate.now) → AreDevices flat.now.devices.items s.devices → AreKnown (certificate_of certificate.now).ranges s → IfErr result (IsUnpaid (column_of column (certificate_of certificate.now)) (certificate_of certificate.now).ranges s) }
+    ensures pays { (s : System) → AreDevices flat.now.devices.items s.devices → AreKnown (certificate_of certificate.now).ranges s → OnOk result (AllPay (column_of column (certificate_of certificate.now)) (certificate_of certificate.now).ranges s) }
+    ensures refused { (s : System) → AreDevices flat.now.devices.items s.devices → AreKnown (certificate_of certificate.now).ranges s → IfErr result (IsUnpaid (column_of column (certificate_of certificate.now)) (certificate_of certificate.now).ranges s) }
 {
+    certificate.stands_in_text();
     devices_pay(alloc, flat.devices.as_slice(), certificate, column)
 }

@@ -218,10 +218,10 @@ module _ (p : Program) (r : Running) (g : IsGood p r) (q : ℕ) (point : Point) 
       offers input k = record { leaf = a.is.leaf; known = k; fit = a.fit; room = has_room; cause_is = refl; new_is = refl }
 
       sound : IsSound cert device after
-      sound = sound_next cert device g.fits m (Offer a.number ws.items) (Admitted m.next) after g.sound (offers a.number a.known)
+      sound = sound_next cert device g.holds m (Offer a.number ws.items) (Admitted m.next) after g.sound (offers a.number a.known)
 
       depth_at : (m' : Machine) → IsSound cert device m' → (j : ℕ) → length (m'.queues j) ≤ depth_of cert device j
-      depth_at m' s j = (keeps_bounds cert device g.fits [] [] m' m' s refl).depth j
+      depth_at m' s j = (keeps_bounds cert device g.holds [] [] m' m' s refl).depth j
 
       pub fits_queue : length v.items + 1 ≤ x.depth
       fits_queue =
@@ -304,7 +304,7 @@ module _ (p : Program) (r : Running) (g : IsGood p r) (q : ℕ) (point : Point) 
         pub good_so : IsGood p new
         good_so = record {
           checked = g.checked;
-          fits = g.fits;
+          holds = g.holds;
           tables = g.tables;
           sound = subst (IsSound cert device) (sym machine_is) sound;
           stand = subst (λ ns. AllStand all new.own.items new.issued.items ns) (sym states) (subst (λ xs. AllStand all new.own.items xs r.states.items) (sym issues) (subst (λ xs. AllStand all xs r.issued.items r.states.items) (sym owns) g.stand));

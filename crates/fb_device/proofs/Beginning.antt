@@ -9,12 +9,13 @@ use Rattle.fb_model.specs.System as book
 use Rattle.fb_model.specs.System.{Device}
 use Rattle.fb_model.specs.Wires.{Kind, Charted, Serviced, Leaf, leaves}
 use Rattle.fb_model.specs.Store.{Condition, AtState, LeafState, first_cells, first_condition, first_state, first_store}
-use Rattle.fb_model.specs.Certificates.{Certificate, DeviceFits, names, is_restart, depth_of}
+use Rattle.fb_model.specs.Certificates.{Certificate, DeviceHolds, names, is_restart, depth_of}
 use Rattle.fb_model.specs.Devices.{Machine, silent, begun, at_first}
 use Rattle.fb_model.specs.Headline.{IsSound}
 use Rattle.fb_model.proofs.Starting.{first_sound}
+use Rattle.fb_tables.proofs.of_fb_check.Composed.{devices_hold}
 use Rattle.fb_leaves.proofs.Few.{devices_few}
-use Rattle.fb_tables.specs.fb_types.Beforehand.{IsResolved}
+use Rattle.fb_model.specs.EventBlocks.{Elaborates}
 use Rattle.fb_tables.specs.fb_check.declared.verified.Verified.{Verified}
 use Rattle.fb_tables.specs.fb_check.Verdicts.{system_in, certificate_in, IsChecked}
 use Rattle.fb_invoke.specs.declared.table.Body.{Body}
@@ -141,8 +142,8 @@ module _ (v : Verified) (k : ℕ) (t : Tables) (first : FirstValues) (r : Runnin
   abbrev device : Device
   device = device_at (system_in v).devices k
 
-  resolved : IsResolved checked.written.0 checked.written.2.source (system_in v)
-  resolved = checked.written.2.typed
+  resolved : Elaborates checked.written.1.source (system_in v)
+  resolved = checked.written.1.typed
 
   stands : slice_get (system_in v).devices k ≡ Some device
   stands = device_stands (system_in v).devices k within
@@ -150,8 +151,8 @@ module _ (v : Verified) (k : ℕ) (t : Tables) (first : FirstValues) (r : Runnin
   are : AreTables (certificate_in v) device t
   are = tables device stands
 
-  fits : DeviceFits (certificate_in v) device
-  fits = all_got (DeviceFits (certificate_in v)) (system_in v).devices k device checked.fits.devices stands
+  holds : DeviceHolds (certificate_in v) device
+  holds = all_got (DeviceHolds (certificate_in v)) (system_in v).devices k device (devices_hold (system_in v) (certificate_in v) checked.written checked.fits) stands
 
   values : AreFirst (leaves device) r.own.items r.issued.items
   values = subst (λ (w : Vec (List Cell) Global). AreFirst (leaves device) r.own.items w.items) (sym rest.issued) (subst (λ (w : Vec (List Cell) Global). AreFirst (leaves device) w.items first.issued.items) (sym rest.own) (firsts device stands))
@@ -175,12 +176,12 @@ module _ (v : Verified) (k : ℕ) (t : Tables) (first : FirstValues) (r : Runnin
       ∙ ap (λ (f : Path → LeafState). record { queues = λ q. []; store = f; spent = spent_in []; clock = 0; next = 1 }) store_is
 
   sound : IsSound (certificate_in v) device (machine_of (session_of program r))
-  sound = subst (IsSound (certificate_in v) device) (begun_none (certificate_in v) (leaves device) t.blocks.items (leaves device) (silent device 1) are.blocks ∙ sym machine_is) (first_sound (certificate_in v) device fits 1)
+  sound = subst (IsSound (certificate_in v) device) (begun_none (certificate_in v) (leaves device) t.blocks.items (leaves device) (silent device 1) are.blocks ∙ sym machine_is) (first_sound (certificate_in v) device holds 1)
 
   pub good_at_first : IsGood program r
   good_at_first = record {
     checked = checked;
-    fits = fits;
+    holds = holds;
     tables = are;
     sound = sound;
     stand = λ i leaf h. (let st = first_stand (leaves device) r.own.items r.issued.items values i leaf h in
@@ -193,6 +194,6 @@ module _ (v : Verified) (k : ℕ) (t : Tables) (first : FirstValues) (r : Runnin
     rows = omega (arith, ap length rest.spent);
     room = rest.room;
     device = omega (arith, within, Rattle.std.proofs.lemmas.List.length-map v.typed.devices.items Rattle.fb_tables.specs.fb_types.Views.device_of);
-    few = omega (arith, resource_count (certificate_in v) device 0 t.resources.items device.resources are.resources, (all_got (λ (d : Device). (length (leaves d) ≤ 16384) × (length d.resources ≤ 16)) (system_in v).devices k device (devices_few resolved.library.blocks checked.written.2.source (system_in v) resolved.typed) stands).1);
+    few = omega (arith, resource_count (certificate_in v) device 0 t.resources.items device.resources are.resources, (all_got (λ (d : Device). (length (leaves d) ≤ 16384) × (length d.resources ≤ 16)) (system_in v).devices k device (devices_few resolved.library checked.written.1.source (system_in v) resolved.typed) stands).1);
     next = subst (λ o. IfSome o (λ n. n < 2 ^ 64)) (sym rest.next) (omega arith);
   }

@@ -14,6 +14,7 @@ use Rattle.fb_invoke.specs.declared.dispatch.Invoked.{Invoked}
 use Rattle.fb_invoke.specs.Turning.{effect_of, steps_in}
 use Rattle.fb_tables.specs.Views.{place_at}
 use Rattle.fb_device.specs.declared.spending.Spent.{Spent}
+use Rattle.fb_device.specs.Answers.{end_of}
 use Rattle.fb_device.specs.declared.answer.Ended.{Ended}
 use Rattle.fb_device.specs.declared.program.Program.{Program}
 use Rattle.fb_device.specs.declared.program.Running.{Running}
@@ -38,7 +39,7 @@ idle_same p r qs h = ap (λ (vs : List (Vec Entry Global)). machine (leaves (dev
 pub idle_good : (p : Program) (r : Running) (g : IsGood p r) (qs : Vec (Vec Entry Global) Global) → qs.items ≡ r.queues.items → IsGood p (record { queues = qs; own = r.own; issued = r.issued; states = r.states; spent = r.spent; next = r.next })
 idle_good p r g qs h = record {
   checked = g.checked;
-  fits = g.fits;
+  holds = g.holds;
   tables = g.tables;
   sound = subst (IsSound (cert_in (session_of p r)) (device_in (session_of p r))) (sym (idle_same p r qs h)) g.sound;
   stand = g.stand;
@@ -86,8 +87,8 @@ module _ (p : Program) (r : Running) (g : IsGood p r) (q : ℕ) (first : Entry) 
       rows_are : rows ≡ cond (is_among first.cause h.queue.items) (with_steps r.spent.items first.cause (spent_in r.spent.items first.cause + ran.steps)) (without r.spent.items first.cause)
       rows_are = settled.rows ∙ ap (λ es. cond (is_among first.cause es) (with_steps r.spent.items first.cause (spent_in r.spent.items first.cause + ran.steps)) (without r.spent.items first.cause)) queue_is
 
-      ended_are : ended ≡ cond (is_among first.cause h.queue.items) None (Some (record { total = spent_in r.spent.items first.cause + ran.steps; bound = bound }))
-      ended_are = settled.ended_is ∙ ap (λ es. cond (is_among first.cause es) None (Some (record { total = spent_in r.spent.items first.cause + ran.steps; bound = bound }))) queue_is
+      ended_are : ended ≡ cond (is_among first.cause h.queue.items) None (Some (record { cause = first.cause; total = spent_in r.spent.items first.cause + ran.steps; bound = bound }))
+      ended_are = settled.ended_is ∙ ap (λ es. cond (is_among first.cause es) None (Some (record { cause = first.cause; total = spent_in r.spent.items first.cause + ran.steps; bound = bound }))) queue_is
 
       abbrev all : List Leaf
       all = leaves (device_in (session_of p r))
@@ -106,13 +107,13 @@ module _ (p : Program) (r : Running) (g : IsGood p r) (q : ℕ) (first : Entry) 
           ∙ ap (λ o. machine all (set (map (λ (v : Vec Entry Global). v.items) r.queues.items) q h.queue.items) f rows (next_of o)) next
           ∙ at.later_is p r g q first qs t h.at h.sampled h.values h.own h.issued h.queue ran h.has_run rows rows_are
 
-      pub happens : Runs (cert_in (session_of p r)) (device_in (session_of p r)) (machine_of (session_of p r)) q first.cause (place_at all first.point) ran.steps (effect_of ran.written) (option_map {U = ℕ × ℕ} (λ (e : Ended). (e.total, e.bound)) ended) (machine_of (session_of p new))
+      pub happens : Runs (cert_in (session_of p r)) (device_in (session_of p r)) (machine_of (session_of p r)) q first.cause (place_at all first.point) ran.steps (effect_of ran.effect) (option_map end_of ended) (machine_of (session_of p new))
       happens =
-          subst (Runs (cert_in (session_of p r)) (device_in (session_of p r)) (machine_of (session_of p r)) q first.cause (place_at all first.point) ran.steps (effect_of ran.written) (option_map {U = ℕ × ℕ} (λ (e : Ended). (e.total, e.bound)) ended)) (sym machine_is)
+          subst (Runs (cert_in (session_of p r)) (device_in (session_of p r)) (machine_of (session_of p r)) q first.cause (place_at all first.point) ran.steps (effect_of ran.effect) (option_map end_of ended)) (sym machine_is)
           (at.runs p r g q first qs t h.at h.sampled h.values h.own h.issued h.queue ran h.has_run bound (bound_is ∙ opening_steps) ended ended_are)
 
       pub good : IsGood p new
       good =
           good_after p r g q first qs t h.at h.sampled h.values h.own h.issued h.queue ran h.has_run h.own_forms h.issued_forms h.number h.room rows rows_are new queues_are (owns ∙ h.own_set) (issues ∙ h.issued_set) (states ∙ h.states_set) spent capacity next
-          (sound_next (cert_in (session_of p r)) (device_in (session_of p r)) g.fits (machine_of (session_of p r)) (Dispatch q) (Ran first.cause (place_at all first.point) ran.steps (effect_of ran.written) (option_map {U = ℕ × ℕ} (λ (e : Ended). (e.total, e.bound)) ended))
+          (sound_next (cert_in (session_of p r)) (device_in (session_of p r)) g.holds (machine_of (session_of p r)) (Dispatch q) (Ran first.cause (place_at all first.point) ran.steps (effect_of ran.effect) (option_map end_of ended))
           (machine_of (session_of p new)) g.sound happens)

@@ -82,31 +82,31 @@ unfit_so v number (unfit.CannotRun path) d e h = (d, e, h)
 
 -- ---- over two texts
 
-pub loaded_so : (beforehand text certificate name : List ℕ) (v : Verified) (r : Ready) → IsOfTexts beforehand text certificate v → IsReadyOf v name r → IsLoaded beforehand text certificate name r.device
-loaded_so beforehand text certificate name v r t h = record {
-  texts = subst (IsOfTexts beforehand text certificate) (sym h.same) t;
+pub loaded_so : (text certificate name : List ℕ) (v : Verified) (r : Ready) → IsOfTexts text certificate v → IsReadyOf v name r → IsLoaded text certificate name r.device
+loaded_so text certificate name v r t h = record {
+  texts = subst (IsOfTexts text certificate) (sym h.same) t;
   device = h.device;
   stands = ap (λ (w : Verified). slice_get (system_in w).devices r.device.number) h.same ∙ h.stands;
   named = h.named;
   silent = h.silent;
 }
 
-pub fault_so : (beforehand text certificate name : List ℕ) (v : Verified) (f : Refusal) → IsOfTexts beforehand text certificate v → IsMissing v name f → IsLoadFault beforehand text certificate name f
-fault_so beforehand text certificate name v (Checked checks.OutOfMemory) t h = of_application tt
-fault_so beforehand text certificate name v (NoDevice shown) t h = (record { system = system_in v; system_is = t.system_is; unknown = h.0 }, h.1)
-fault_so beforehand text certificate name v (CannotRun path) t h = record { system = system_in v; system_is = t.system_is; number = h.0; device = h.1; stands = h.2; named = h.3; unrun = h.4 }
-fault_so beforehand text certificate name v (Checked (checks.Text x)) t h = absurd h
-fault_so beforehand text certificate name v (Checked (checks.Typing x)) t h = absurd h
-fault_so beforehand text certificate name v (Checked (checks.Certificate x)) t h = absurd h
-fault_so beforehand text certificate name v (Checked (checks.UnknownRow x)) t h = absurd h
-fault_so beforehand text certificate name v (Checked (checks.MissingRow x)) t h = absurd h
-fault_so beforehand text certificate name v (Checked (checks.RangeStart x)) t h = absurd h
-fault_so beforehand text certificate name v (Checked (checks.RangeLink x)) t h = absurd h
-fault_so beforehand text certificate name v (Checked (checks.RangeKept x)) t h = absurd h
-fault_so beforehand text certificate name v (Checked (checks.IndexOrDivisor x)) t h = absurd h
-fault_so beforehand text certificate name v (Checked (checks.Charge x)) t h = absurd h
-fault_so beforehand text certificate name v (Checked (checks.Weight x)) t h = absurd h
-fault_so beforehand text certificate name v (Checked (checks.Depth x)) t h = absurd h
+pub fault_so : (text certificate name : List ℕ) (v : Verified) (f : Refusal) → IsOfTexts text certificate v → IsMissing v name f → IsLoadFault text certificate name f
+fault_so text certificate name v (Checked checks.OutOfMemory) t h = of_application tt
+fault_so text certificate name v (NoDevice shown) t h = (record { system = system_in v; system_is = t.system_is; unknown = h.0 }, h.1)
+fault_so text certificate name v (CannotRun path) t h = record { system = system_in v; system_is = t.system_is; number = h.0; device = h.1; stands = h.2; named = h.3; unrun = h.4 }
+fault_so text certificate name v (Checked (checks.Text x)) t h = absurd h
+fault_so text certificate name v (Checked (checks.Typing x)) t h = absurd h
+fault_so text certificate name v (Checked (checks.Certificate x)) t h = absurd h
+fault_so text certificate name v (Checked (checks.UnknownRow x)) t h = absurd h
+fault_so text certificate name v (Checked (checks.MissingRow x)) t h = absurd h
+fault_so text certificate name v (Checked (checks.RangeStart x)) t h = absurd h
+fault_so text certificate name v (Checked (checks.RangeLink x)) t h = absurd h
+fault_so text certificate name v (Checked (checks.RangeKept x)) t h = absurd h
+fault_so text certificate name v (Checked (checks.IndexOrDivisor x)) t h = absurd h
+fault_so text certificate name v (Checked (checks.Charge x)) t h = absurd h
+fault_so text certificate name v (Checked (checks.Weight x)) t h = absurd h
+fault_so text certificate name v (Checked (checks.Depth x)) t h = absurd h
 
 none_there : (ds : List Device) (name : List ℕ) (k : ℕ) (d : Device) → AllByRecursion (λ (d : Device). is_same_path d.name name ≡ false) ds → slice_get ds k ≡ Some d → is_same_path d.name name ≡ true → ⊥
 none_there ds name k d a h t = (let f = all_got (λ (d : Device). is_same_path d.name name ≡ false) ds k d a h in let g : true ≡ false = sym t ∙ f in absurd cc)

@@ -40,6 +40,7 @@ use Rattle.fb_tables.proofs.of_fb_check.of_fb_columns.Small.{weights_at_most}
 use Rattle.fb_tables.specs.Views.{place_at}
 use Rattle.fb_tables.specs.Tables.{IsPoint, IsBlock}
 use Rattle.fb_device.specs.declared.spending.Spent.{Spent}
+use Rattle.fb_device.specs.Answers.{end_of}
 use Rattle.fb_device.specs.declared.answer.Ended.{Ended}
 use Rattle.fb_device.specs.declared.program.Program.{Program}
 use Rattle.fb_device.specs.declared.program.Running.{Running}
@@ -142,7 +143,7 @@ module _ (p : Program) (r : Running) (g : IsGood p r) (q : ℕ) (first : Entry) 
     was_is = ap (map (entry_of all)) (queue_here lists q t.was.items list_stands ∙ entries)
 
     found_leaf : leaf_at all (place_at all first.point).path ≡ Some leaf
-    found_leaf = found cert all p.tables.blocks.items first.point k g.fits.wired
+    found_leaf = found cert all p.tables.blocks.items first.point k g.holds.wired
 
     event_named : (place_at all first.point).event ≡ string_bytes a.event.name
     event_named = ap (λ (o : Place). o.event) k.place_is
@@ -151,33 +152,33 @@ module _ (p : Program) (r : Running) (g : IsGood p r) (q : ℕ) (first : Entry) 
     table_named = ap (λ ns. named ns first.point.event) (is.table.events ∙ ap events_of is.kind) ∙ k.name_is
 
     closed : IsClosed leaf.kind
-    closed = (let v = g.checked.written.2 in
+    closed = (let v = g.checked.written.1 in
         all_got (λ (l : Leaf). IsClosed l.kind) all first.point.block leaf
-        (all_got (λ (d : Device). AllByRecursion (λ (l : Leaf). IsClosed l.kind) (leaves d)) (system_in p.verified).devices p.number device (all_charts_closed v.typed.library.blocks v.source (system_in p.verified) v.typed.typed) (device_here p r g)) its.1)
+        (all_got (λ (d : Device). AllByRecursion (λ (l : Leaf). IsClosed l.kind) (leaves d)) (system_in p.verified).devices p.number device (all_charts_closed v.typed.library v.source (system_in p.verified) v.typed.typed) (device_here p r g)) its.1)
 
     shaped : OnChart IsShapely leaf.kind
-    shaped = (let v = g.checked.written.2 in
+    shaped = (let v = g.checked.written.1 in
         all_got (λ (l : Leaf). OnChart IsShapely l.kind) all first.point.block leaf
-        (all_got (λ (d : Device). AllByRecursion (λ (l : Leaf). OnChart IsShapely l.kind) (leaves d)) (system_in p.verified).devices p.number device (all_charts_shapely v.typed.library.blocks v.source (system_in p.verified) v.typed.typed) (device_here p r g)) its.1)
+        (all_got (λ (d : Device). AllByRecursion (λ (l : Leaf). OnChart IsShapely l.kind) (leaves d)) (system_in p.verified).devices p.number device (all_charts_shapely v.typed.library v.source (system_in p.verified) v.typed.typed) (device_here p r g)) its.1)
 
     weight_is : a.event.steps ≡ steps_row cert (place_at all first.point)
     weight_is = ap steps_in (sym (event_is cert all p.tables.blocks.items first.point k)) ∙ steps_are cert all p.tables.blocks.items first.point k
 
     message : IsMessage leaf.kind first.values.items
-    message = (known_entries cert device g.fits m g.sound q (entry_of all first) (map (entry_of all) a.queue.items) was_is leaf found_leaf).0.values leaf found_leaf
+    message = (known_entries cert device g.holds m g.sound q (entry_of all first) (map (entry_of all) a.queue.items) was_is leaf found_leaf).0.values leaf found_leaf
 
     room : depth_of cert device q ≤ vec_capacity a.queue
     room = omega (arith, (g.queues q t.was t.stands).room, left_room r.queues.items q first qs.items t a.queue a.queue_is)
 
     pub takes : AllByRecursion (CanTake r.issued.items (forms_of a.own)) a.event.takes.items
-    takes = can_take cert.ranges all r.own.items r.issued.items r.states.items g.tables.apart g.stand g.fits.ranges g.fits.wired cert a.block leaf is closed first.point.block first.point.event its.1 a.event a.event_is st
+    takes = can_take cert.ranges all r.own.items r.issued.items r.states.items g.tables.apart g.stand g.holds.ranges g.holds.wired cert a.block leaf is closed first.point.block first.point.event its.1 a.event a.event_is st
 
     module _ (cells : List Cell) (values : values_of cells ≡ sampled_by r.issued.items (forms_of a.own) a.event.takes.items (values_of a.own)) where
       -- the leaf after its inputs were sampled
       before_is : sampled m.store leaf (place_at all first.point).event ≡ leaf_state leaf.kind cells a.issued a.state
       before_is =
           ap (sampled m.store leaf) event_named
-          ∙ sampled_is cert.ranges all r.own.items r.issued.items r.states.items g.tables.apart g.stand g.fits.ranges g.fits.wired cert a.block leaf is closed first.point.block first.point.event its.1 a.event a.event_is st cells values
+          ∙ sampled_is cert.ranges all r.own.items r.issued.items r.states.items g.tables.apart g.stand g.holds.ranges g.holds.wired cert a.block leaf is closed first.point.block first.point.event its.1 a.event a.event_is st cells values
 
       has_room : (x : Body) → body_kind x ≡ leaf.kind → HasRoom (body_kind x) a.block.outputs.items (leaf_state (body_kind x) cells a.issued a.state) (named (event_names a.block) first.point.event) a.event.steps (vec_len a.queue) (vec_capacity a.queue)
       has_room (b.Chart c) e =
@@ -185,16 +186,16 @@ module _ (p : Program) (r : Running) (g : IsGood p r) (q : ℕ) (first : Entry) 
           let count : length (map (entry_of all) a.queue.items) ≡ length a.queue.items = length-map a.queue.items (entry_of all) in
           let name : (place_at all first.point).event ≡ named (event_names a.block) first.point.event = event_named ∙ sym table_named in
           let before : sampled m.store leaf (place_at all first.point).event ≡ leaf_state (body_kind (b.Chart c)) cells a.issued a.state = before_is ∙ ap (λ (j : Kind). leaf_state j cells a.issued a.state) (sym e) in
-          let f = fine_so cert device g.fits m g.sound q (entry_of all first) (map (entry_of all) a.queue.items) was_is leaf found_leaf a.block.outputs.items _ _ _ is.leads (sym e) before name (vec_len a.queue) (vec_capacity a.queue) (omega (arith, count, a.queue.ok)) room n v in
+          let f = fine_so cert device g.holds m g.sound q (entry_of all first) (map (entry_of all) a.queue.items) was_is leaf found_leaf a.block.outputs.items _ _ _ is.leads (sym e) before name (vec_len a.queue) (vec_capacity a.queue) (omega (arith, count, a.queue.ok)) room n v in
           record { clear = f.clear; steps = omega (arith, f.steps, weight_is); room = f.room }
       has_room (b.Input number types) e =
           let count : length (map (entry_of all) a.queue.items) ≡ length a.queue.items = length-map a.queue.items (entry_of all) in
-          let s = service_room cert device g.fits m g.sound q (entry_of all first) (map (entry_of all) a.queue.items) was_is leaf found_leaf (book.Input number types.items) (ind ∷ []) (sym e) (λ clock values state. refl) in
+          let s = service_room cert device g.holds m g.sound q (entry_of all first) (map (entry_of all) a.queue.items) was_is leaf found_leaf (book.Input number types.items) (ind ∷ []) (sym e) (λ clock values state. refl) in
           let le = Rattle.fb_device.proofs.Reaching.sent_le all leaf a.block.outputs.items (ind ∷ []) is.leads in
           omega (arith, s, le, count, room, a.queue.ok)
       has_room (b.Output number types) e =
           let count : length (map (entry_of all) a.queue.items) ≡ length a.queue.items = length-map a.queue.items (entry_of all) in
-          let s = service_room cert device g.fits m g.sound q (entry_of all first) (map (entry_of all) a.queue.items) was_is leaf found_leaf (book.Output number types.items) [] (sym e) (λ clock values state. refl) in
+          let s = service_room cert device g.holds m g.sound q (entry_of all first) (map (entry_of all) a.queue.items) was_is leaf found_leaf (book.Output number types.items) [] (sym e) (λ clock values state. refl) in
           omega (arith, s, count, room, a.queue.ok)
 
       pub can_run : forms_of cells ≡ forms_of a.own → CanRun a.block cells a.issued a.state first a.event.steps (vec_len a.queue) (vec_capacity a.queue)
@@ -212,7 +213,7 @@ module _ (p : Program) (r : Running) (g : IsGood p r) (q : ℕ) (first : Entry) 
 
       -- after the block has run
       module _ (own issued : List Cell) (queue : Vec Entry Global) (ran : Invoked)
-          (has_run : HasRun a.block first (leaf_state (kind_of a.block) cells a.issued a.state) (leaf_state (kind_of a.block) own issued ran.state) a.queue.items queue.items ran.steps ran.written) where
+          (has_run : HasRun a.block first (leaf_state (kind_of a.block) cells a.issued a.state) (leaf_state (kind_of a.block) own issued ran.state) a.queue.items queue.items ran.steps ran.effect) where
         abbrev pub sent : List Rattle.fb_invoke.specs.declared.table.Point.Point
         sent = sent_to a.block.outputs.items has_run.outs
 
@@ -234,14 +235,14 @@ module _ (p : Program) (r : Running) (g : IsGood p r) (q : ℕ) (first : Entry) 
         pending_later : is_pending first.cause (put m.queues q (map (entry_of all) queue.items) q) ≡ is_among first.cause queue.items
         pending_later = ap (is_pending first.cause) (cond-true (eqb q q) (map (entry_of all) queue.items) (m.queues q) (eq-eqb q q refl)) ∙ pending_is all first.cause queue.items
 
-        served : Serves leaf.kind 0 (place_at all first.point).event first.values.items (sampled m.store leaf (place_at all first.point).event) (leaf_state leaf.kind own issued ran.state) ran.steps has_run.outs (effect_of ran.written)
+        served : Serves leaf.kind 0 (place_at all first.point).event first.values.items (sampled m.store leaf (place_at all first.point).event) (leaf_state leaf.kind own issued ran.state) ran.steps has_run.outs (effect_of ran.effect)
         served =
-            subst (λ (s : LeafState). Serves leaf.kind 0 (place_at all first.point).event first.values.items s (leaf_state leaf.kind own issued ran.state) ran.steps has_run.outs (effect_of ran.written)) (sym before_is)
-            (subst (λ n. Serves leaf.kind 0 n first.values.items (leaf_state leaf.kind cells a.issued a.state) (leaf_state leaf.kind own issued ran.state) ran.steps has_run.outs (effect_of ran.written)) (table_named ∙ sym event_named)
-            (subst (λ (j : Kind). Serves j 0 (named (event_names a.block) first.point.event) first.values.items (leaf_state j cells a.issued a.state) (leaf_state j own issued ran.state) ran.steps has_run.outs (effect_of ran.written)) is.kind (has_run.served 0)))
+            subst (λ (s : LeafState). Serves leaf.kind 0 (place_at all first.point).event first.values.items s (leaf_state leaf.kind own issued ran.state) ran.steps has_run.outs (effect_of ran.effect)) (sym before_is)
+            (subst (λ n. Serves leaf.kind 0 n first.values.items (leaf_state leaf.kind cells a.issued a.state) (leaf_state leaf.kind own issued ran.state) ran.steps has_run.outs (effect_of ran.effect)) (table_named ∙ sym event_named)
+            (subst (λ (j : Kind). Serves j 0 (named (event_names a.block) first.point.event) first.values.items (leaf_state j cells a.issued a.state) (leaf_state j own issued ran.state) ran.steps has_run.outs (effect_of ran.effect)) is.kind (has_run.served 0)))
 
-        pub runs : (bound : ℕ) → bound ≡ steps_row cert (place_at all first.opening) → (ended : Option Ended) → ended ≡ cond (is_among first.cause queue.items) None (Some (record { total = spent_in r.spent.items first.cause + ran.steps; bound = bound }))
-            → Runs cert device m q first.cause (place_at all first.point) ran.steps (effect_of ran.written) (option_map {U = ℕ × ℕ} (λ (e : Ended). (e.total, e.bound)) ended) later
+        pub runs : (bound : ℕ) → bound ≡ steps_row cert (place_at all first.opening) → (ended : Option Ended) → ended ≡ cond (is_among first.cause queue.items) None (Some (record { cause = first.cause; total = spent_in r.spent.items first.cause + ran.steps; bound = bound }))
+            → Runs cert device m q first.cause (place_at all first.point) ran.steps (effect_of ran.effect) (option_map end_of ended) later
         runs bound same ended e = record {
           first = entry_of all first;
           rest = map (entry_of all) a.queue.items;
@@ -258,18 +259,18 @@ module _ (p : Program) (r : Running) (g : IsGood p r) (q : ℕ) (first : Entry) 
           spent = ap (λ c. put m.spent first.cause (cond c (spent_in r.spent.items first.cause + ran.steps) 0)) (sym pending_later);
           clock = refl;
           next = refl;
-          ended_is = ap (option_map {U = ℕ × ℕ} (λ (e : Ended). (e.total, e.bound))) e ∙ told (is_among first.cause queue.items) ∙ ap (λ c. cond c None (Some (spent_in r.spent.items first.cause + ran.steps, steps_row cert (place_at all first.opening)))) (sym pending_later);
+          ended_is = ap (option_map end_of) e ∙ told (is_among first.cause queue.items) ∙ ap (λ c. cond c None (Some (record { cause = first.cause; total = spent_in r.spent.items first.cause + ran.steps; bound = steps_row cert (place_at all first.opening) }))) (sym pending_later);
         }
           where
-            told : (c : Bool) → option_map {U = ℕ × ℕ} (λ (e : Ended). (e.total, e.bound)) (cond c None (Some (record { total = spent_in r.spent.items first.cause + ran.steps; bound = bound }))) ≡ cond c None (Some (spent_in r.spent.items first.cause + ran.steps, steps_row cert (place_at all first.opening)))
+            told : (c : Bool) → option_map end_of (cond c None (Some (record { cause = first.cause; total = spent_in r.spent.items first.cause + ran.steps; bound = bound }))) ≡ cond c None (Some (record { cause = first.cause; total = spent_in r.spent.items first.cause + ran.steps; bound = steps_row cert (place_at all first.opening) }))
             told true = refl
-            told false = ap (λ n. Some (spent_in r.spent.items first.cause + ran.steps, n)) same
+            told false = ap (λ n. Some (record { cause = first.cause; total = spent_in r.spent.items first.cause + ran.steps; bound = n })) same
 
         pub total_le : spent_in r.spent.items first.cause + ran.steps ≤ steps_row cert (place_at all first.opening)
         total_le =
-            let run = runs (steps_row cert (place_at all first.opening)) refl (cond (is_among first.cause queue.items) None (Some (record { total = spent_in r.spent.items first.cause + ran.steps; bound = steps_row cert (place_at all first.opening) }))) refl in
-            let few = steps_le cert device g.fits m g.sound q first.cause (place_at all first.point) ran.steps (effect_of ran.written) _ later run in
-            let known_first = known_entries cert device g.fits m g.sound q (entry_of all first) (map (entry_of all) a.queue.items) was_is leaf found_leaf in
+            let run = runs (steps_row cert (place_at all first.opening)) refl (cond (is_among first.cause queue.items) None (Some (record { cause = first.cause; total = spent_in r.spent.items first.cause + ran.steps; bound = steps_row cert (place_at all first.opening) }))) refl in
+            let few = steps_le cert device g.holds m g.sound q first.cause (place_at all first.point) ran.steps (effect_of ran.effect) _ later run in
+            let known_first = known_entries cert device g.holds m g.sound q (entry_of all first) (map (entry_of all) a.queue.items) was_is leaf found_leaf in
             let pending : is_pending first.cause (m.queues q) ≡ true = ap (is_pending first.cause) was_is ∙ ap (λ c. Rattle.std.proofs.Common.◌||◌ c (is_pending first.cause (map (entry_of all) a.queue.items))) (eq-eqb first.cause first.cause refl) in
             let most = g.sound.steps q first.cause pending in
             let parts : pending_of (steps_row cert) first.cause (m.queues q) ≡ cond (eqb first.cause first.cause) (steps_row cert (place_at all first.point)) 0 + pending_of (steps_row cert) first.cause (map (entry_of all) a.queue.items) =

@@ -106,7 +106,7 @@ stand_set all owns issues states i leaf own issued n old is now k other h =
 
 module _ (p : Program) (r : Running) (g : IsGood p r) (q : ℕ) (first : Entry) (qs : Vec (Vec Entry Global) Global) (t : IsTaken r.queues.items q first qs.items) (a : Stand p.tables.blocks.items (at.taken p r g q first qs t) q first)
     (cells : List Cell) (values : values_of cells ≡ sampled_by r.issued.items (forms_of a.own) a.event.takes.items (values_of a.own)) (own issued : List Cell) (queue : Vec Entry Global) (ran : Invoked)
-    (has_run : HasRun a.block first (leaf_state (kind_of a.block) cells a.issued a.state) (leaf_state (kind_of a.block) own issued ran.state) a.queue.items queue.items ran.steps ran.written)
+    (has_run : HasRun a.block first (leaf_state (kind_of a.block) cells a.issued a.state) (leaf_state (kind_of a.block) own issued ran.state) a.queue.items queue.items ran.steps ran.effect)
     (own_forms : forms_of own ≡ forms_of a.own) (issued_forms : forms_of issued ≡ forms_of a.issued) (number : OnChart (IsStateNumber ran.state) (kind_of a.block)) (wide : vec_capacity a.queue ≤ vec_capacity queue) (rows : List Spent)
     (rows_are : rows ≡ cond (is_among first.cause queue.items) (with_steps r.spent.items first.cause (spent_in r.spent.items first.cause + ran.steps)) (without r.spent.items first.cause)) where
   abbrev all : List Leaf
@@ -126,7 +126,7 @@ module _ (p : Program) (r : Running) (g : IsGood p r) (q : ℕ) (first : Entry) 
   other_cause j v e n h among same =
       let here_is : is_pending first.cause ((machine_of (session_of p r)).queues q) ≡ true =
       ap (is_pending first.cause) (at.was_is p r g q first qs t a) ∙ ap (λ b. b || is_pending first.cause (map (entry_of all) a.queue.items)) (eq-eqb first.cause first.cause refl) in
-      let none = alone_in (cert_in (session_of p r)) (device_in (session_of p r)) g.fits (machine_of (session_of p r)) g.sound q first.cause here_is j n in
+      let none = alone_in (cert_in (session_of p r)) (device_in (session_of p r)) g.holds (machine_of (session_of p r)) g.sound q first.cause here_is j n in
       let there : is_pending first.cause ((machine_of (session_of p r)).queues j) ≡ true =
       ap (λ es. is_pending first.cause (map (entry_of all) es)) (queue_here (map (λ (v : Vec Entry Global). v.items) r.queues.items) j v.items (mapped (λ (v : Vec Entry Global). v.items) r.queues.items j v h))
       ∙ pending_is all first.cause v.items ∙ ap (λ c. is_among c v.items) same ∙ among in
@@ -189,7 +189,7 @@ module _ (p : Program) (r : Running) (g : IsGood p r) (q : ℕ) (first : Entry) 
       → new.spent.items ≡ rows → vec_capacity r.spent ≤ vec_capacity new.spent → new.next ≡ r.next → IsSound (cert_in (session_of p r)) (device_in (session_of p r)) (machine_of (session_of p new)) → IsGood p new
   good_after new queues owns issues states spent capacity next sound = record {
     checked = g.checked;
-    fits = g.fits;
+    holds = g.holds;
     tables = g.tables;
     sound = sound;
     stand = subst (λ ns. AllStand all new.own.items new.issued.items ns) (sym states) (subst (λ xs. AllStand all new.own.items xs (set r.states.items first.point.block ran.state)) (sym issues) (subst (λ xs. AllStand all xs (set r.issued.items first.point.block issued) (set r.states.items first.point.block ran.state)) (sym owns) stands));

@@ -2,14 +2,14 @@
 use Rattle.std.proofs.Common.{◌≡◌, ℕ, ◌+◌, ◌<◌, ◌≤◌, List, [], ◌∷◌, ◌++◌, map, take, get_or, set, length, ap, refl, ◌∙◌, subst, arith}
 use Rattle.std.proofs.lemmas.List.{take_more, take_more_set, take_all, map-append}
 use Rattle.fb_model.specs.System.{Device}
-use Rattle.fb_model.specs.Certificates.{Certificate, DeviceFits}
+use Rattle.fb_model.specs.Certificates.{Certificate, DeviceHolds}
 use Rattle.fb_model.specs.Devices.{Machine, Event, Answer, Run, Happens}
 use Rattle.fb_model.specs.Headline.{IsSound}
 use Rattle.fb_model.proofs.Bounding.{bounded}
-use Rattle.fb_model.proofs.Ending.{run_more, keeps_bounds, drains}
+use Rattle.fb_model.proofs.Ending.{run_more, drains}
 use Rattle.fb_model.proofs.InTime.{ends_in_time}
 use Rattle.fb_model.proofs.Progress.{runs_so}
-use Rattle.fb_model.proofs.Starting.{fine}
+use Rattle.fb_model.proofs.Starting.{stays_within}
 use Rattle.fb_device.specs.declared.program.Program.{Program}
 use Rattle.fb_device.specs.declared.program.Running.{Running}
 use Rattle.fb_device.specs.Sessions.{Session, session_of}
@@ -21,18 +21,17 @@ use Rattle.fb_device.specs.Machines.{device_at, device_in, cert_in, machine_of}
 use Rattle.fb_device.specs.Running.{IsGood}
 use Rattle.fb_device.specs.Promises.{IsBounded}
 
-pub promised : (cert : Certificate) (device : Device) (m : Machine) → DeviceFits cert device → IsSound cert device m → IsBounded cert device m
+pub promised : (cert : Certificate) (device : Device) (m : Machine) → DeviceHolds cert device → IsSound cert device m → IsBounded cert device m
 promised cert device m fits s = record {
   steps = bounded cert device fits m s;
   drains = λ q n answers new r l. drains cert device fits q n answers m new s r l;
   in_time = ends_in_time cert device fits m s;
   answers = λ q first rest was. runs_so cert device fits m s q first rest was;
-  depth = λ q. (keeps_bounds cert device fits [] [] m m s refl).depth q;
-  fine = λ q first rest leaf block was found is moment r. fine cert device fits m s q first rest leaf was found block is moment r;
+  within = stays_within cert device fits m s;
 }
 
 pub bounded_of : (p : Program) (r : Running) → IsGood p r → IsBounded (cert_in (session_of p r)) (device_in (session_of p r)) (machine_of (session_of p r))
-bounded_of p r g = promised (cert_in (session_of p r)) (device_in (session_of p r)) (machine_of (session_of p r)) g.fits g.sound
+bounded_of p r g = promised (cert_in (session_of p r)) (device_in (session_of p r)) (machine_of (session_of p r)) g.holds g.sound
 
 pub run_stored : {X Y : Type 0} (f : X → Event) (g : Y → Answer) (cert : Certificate) (device : Device) (xs : List X) (ys : List Y) (k : ℕ) (d : X) (y : Y) (old mid new : Machine) → k < length xs → k < length ys
     → Run cert device old (map f (take k xs)) (map g (take k ys)) mid → Happens cert device mid (f (get_or xs k d)) (g y) new

@@ -11,7 +11,7 @@ use Rattle.fb_model.specs.Store.{LeafState, sampled}
 use Rattle.fb_model.specs.Ranges.{CellsLie, rows, LeafLies, KindFits, IsClear}
 use Rattle.fb_model.specs.Charts.{Moment, At, Reaches, dispatched}
 use Rattle.fb_model.specs.Serving.{Serves, Effect, reply}
-use Rattle.fb_model.specs.Certificates.{Certificate, steps_of, depth_of, reached, sent_weight, has_event, events_of, event_names, IsWired, KindWeighs, InputFits, DeviceFits}
+use Rattle.fb_model.specs.Certificates.{Certificate, steps_of, depth_of, reached, sent_weight, has_event, events_of, event_names, IsWired, KindWeighs, InputFits, DeviceHolds}
 use Rattle.fb_model.specs.Devices.{Entry, Machine, Dispatch, Ran, Runs, steps_row, follow_ups}
 use Rattle.fb_model.specs.Headline.{IsKnown, IsSound, emitted_of}
 use Rattle.fb_model.proofs.Lists.{all_append, at_listed, same_name}
@@ -76,7 +76,7 @@ module _ (all : List Leaf) (leaf : Leaf) where
 
 -- ---- bounds
 
-module _ (cert : Certificate) (device : Device) (fits : DeviceFits cert device) (old : Machine) (s : IsSound cert device old) (q : ℕ) (first : Entry) (rest : List Entry) (was : old.queues q ≡ first ∷ rest) (leaf : Leaf)
+module _ (cert : Certificate) (device : Device) (holding : DeviceHolds cert device) (old : Machine) (s : IsSound cert device old) (q : ℕ) (first : Entry) (rest : List Entry) (was : old.queues q ≡ first ∷ rest) (leaf : Leaf)
     (found : leaf_at (leaves device) first.place.path ≡ Some leaf) where
   pub known : AllByRecursion (IsKnown device s.opening_of s.home_of old.next q) (first ∷ rest)
   known = subst (AllByRecursion (IsKnown device s.opening_of s.home_of old.next q)) was (s.entries q)
@@ -85,7 +85,7 @@ module _ (cert : Certificate) (device : Device) (fits : DeviceFits cert device) 
   listed = subst (λ o. has_event o first.place.event ≡ true) found (known.0.input)
 
   path_is : leaf.path ≡ first.place.path
-  path_is = (at_leaf (IsWired (leaves device)) (leaves device) first.place.path leaf fits.wired found).1
+  path_is = (at_leaf (IsWired (leaves device)) (leaves device) first.place.path leaf holding.wired found).1
 
   steps_for : (kind : Kind) (block : book.Block) → kind ≡ Charted block → KindWeighs (steps_of cert) (rows cert.ranges leaf.path kind) leaf.targets leaf.path kind → KindFits cert.ranges leaf.path kind
       → is_in first.place.event (events_of kind) ≡ true → CellsLie cert.ranges leaf.path kind (sampled old.store leaf first.place.event).cells
@@ -108,10 +108,10 @@ module _ (cert : Certificate) (device : Device) (fits : DeviceFits cert device) 
 
   steps_within : (block : book.Block) → leaf.kind ≡ Charted block → (m : Moment) → Reaches block (dispatched (sampled old.store leaf first.place.event) first.place.event) m → steps_at m ≤ steps_row cert first.place
   steps_within block is m r =
-      let own = at_leaf (LeafLies cert.ranges (leaves device)) (leaves device) first.place.path leaf fits.ranges found in
+      let own = at_leaf (LeafLies cert.ranges (leaves device)) (leaves device) first.place.path leaf holding.ranges found in
       let lies = sampled_lies cert.ranges old.store (leaves device) leaf first.place.event s.lies
       (at_leaf (λ leaf. CellsLie cert.ranges leaf.path leaf.kind (old.store leaf.path).cells) (leaves device) first.place.path leaf s.lies found).0 own.0 in
-      let w = (at_leaf (λ leaf. KindWeighs (steps_of cert) (rows cert.ranges leaf.path leaf.kind) leaf.targets leaf.path leaf.kind) (leaves device) first.place.path leaf fits.steps found).0 in
+      let w = (at_leaf (λ leaf. KindWeighs (steps_of cert) (rows cert.ranges leaf.path leaf.kind) leaf.targets leaf.path leaf.kind) (leaves device) first.place.path leaf holding.fits.steps found).0 in
       steps_for leaf.kind block is w own.0.kind listed lies m r
 
   -- at each moment of an invocation nothing traps, it takes no more steps than its weight, and there is room for what it appends
@@ -121,7 +121,7 @@ module _ (cert : Certificate) (device : Device) (fits : DeviceFits cert device) 
       let back : dispatched before e ≡ dispatched (sampled old.store leaf first.place.event) first.place.event =
       ap (λ k. dispatched k e) (sym b) ∙ ap (λ v. dispatched (sampled old.store leaf first.place.event) v) (sym n) in
       let run = subst (λ x. Reaches block x m) back r in
-      let f = fine cert device fits old s q first rest leaf was found block is m run in
+      let f = fine cert device holding old s q first rest leaf was found block is m run in
       record {
         clear = f.clear;
         steps = steps_within block is m run;
@@ -132,7 +132,7 @@ module _ (cert : Certificate) (device : Device) (fits : DeviceFits cert device) 
   pub service_room : (service : Service) (outs : List Name) → leaf.kind ≡ Serviced service → ((clock : ℕ) (values : List Rattle.std.specs.Prelude.ℤ) (k : LeafState) → (reply service clock first.place.event values k).outs ≡ outs)
       → length rest + length (reached leaf.targets outs) ≤ depth_of cert device q
   service_room service outs is same =
-      let (cause, place, steps, effect, ended, new, r) = runs_so cert device fits old s q first rest was in
+      let (cause, place, steps, effect, ended, new, r) = runs_so cert device holding old s q first rest was in
       after cause place steps effect ended new r
     where
       after : (cause : ℕ) (place : Place) (steps : ℕ) (effect : Option Effect) (ended : _) (new : Machine) → Runs cert device old q cause place steps effect ended new → length rest + length (reached leaf.targets outs) ≤ depth_of cert device q
@@ -143,8 +143,8 @@ module _ (cert : Certificate) (device : Device) (fits : DeviceFits cert device) 
           let leaves_are : Some leaf ≡ Some r.leaf = sym found ∙ ap (λ (e : Entry). leaf_at (leaves device) e.place.path) first_is ∙ r.found in
           let leaf_is : leaf ≡ r.leaf = cc in
           let served = subst (λ (k : Kind). Serves k old.clock r.first.place.event r.first.values (sampled old.store r.leaf r.first.place.event) r.after steps r.outs effect) (ap (λ (l : Leaf). l.kind) (sym leaf_is) ∙ is) r.served in
-          let depth = (keeps_bounds cert device fits (Dispatch q ∷ []) (Ran cause place steps effect ended ∷ []) old new s (new, r, refl)).depth q in
-          let queue = ap length (queue_is cert device fits old s q cause place steps effect ended new r) in
+          let depth = (keeps_bounds cert device holding (Dispatch q ∷ []) (Ran cause place steps effect ended ∷ []) old new s (new, r, refl)).depth q in
+          let queue = ap length (queue_is cert device holding old s q cause place steps effect ended new r) in
           let parts = length-append r.rest (follow_ups r.first (reached r.leaf.targets r.outs)) in
           let many = length-map {B = Entry} (reached r.leaf.targets r.outs) (λ (p : Place). record { cause = r.first.cause; opening = r.first.opening; place = p; values = [] }) in
           let outs_are : r.outs ≡ outs = served.outs_are ∙ ap (λ (e : Entry). (reply service old.clock e.place.event r.first.values (sampled old.store r.leaf r.first.place.event)).outs) (sym first_is) ∙ same old.clock r.first.values (sampled old.store r.leaf r.first.place.event) in

@@ -35,9 +35,12 @@ abbrev pub admission_of : Result ℕ Denied → book.Answer
 admission_of (Ok cause) = book.Admitted cause
 admission_of (Err why) = book.Denied (denial_of why)
 
+abbrev pub end_of : Ended → book.Ended
+end_of e = record { cause = e.cause; total = e.total; bound = e.bound }
+
 abbrev pub turned_of : List Leaf → Turned → book.Answer
 turned_of all Idle = book.Idle
-turned_of all (Ran r) = book.Ran r.cause (place_at all (record { block = r.block; event = r.event })) r.steps (effect_of r.written) (option_map (λ (e : Ended). (e.total, e.bound)) r.ended)
+turned_of all (Ran r) = book.Ran r.cause (place_at all (record { block = r.block; event = r.event })) r.steps (effect_of r.effect) (option_map end_of r.ended)
 
 abbrev pub answer_of : List Leaf → Answer → book.Answer
 answer_of all (Admitted answer) = admission_of answer
@@ -51,6 +54,11 @@ event_of (Dispatch resource) = book.Dispatch resource
 abbrev pub HasPoint : List Leaf → Turned → Type 0
 HasPoint all Idle = Unit {0}
 HasPoint all (Ran r) = IsPoint all (record { block = r.block; event = r.event })
+
+-- and so does a call
+abbrev pub HasPlace : List Leaf → Answer → Type 0
+HasPlace all (Admitted answer) = Unit {0}
+HasPlace all (Served turned) = HasPoint all turned
 
 -- ---- questions
 

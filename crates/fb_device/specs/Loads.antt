@@ -21,17 +21,17 @@ use Rattle.fb_device.specs.Sessions.{Session}
 use Rattle.fb_device.specs.Machines.{machine_of}
 
 -- the texts are spelled, well typed and fit, the device is one of this name in them, and nothing has happened yet
-pub record IsLoaded (beforehand text certificate name : List ℕ) (s : Session) : Type 0 where
-  pub texts : IsOfTexts beforehand text certificate s.verified
+pub record IsLoaded (text certificate name : List ℕ) (s : Session) : Type 0 where
+  pub texts : IsOfTexts text certificate s.verified
   pub device : Device
   pub stands : slice_get (system_in s.verified).devices s.number ≡ Some device
   pub named : is_same_path device.name name ≡ true
   pub silent : machine_of s ≡ silent device 1
 
 -- the text is of a system that has no device of this name
-pub record IsUnknown (beforehand text name : List ℕ) : Type 0 where
+pub record IsUnknown (text name : List ℕ) : Type 0 where
   pub system : System
-  pub system_is : IsSystemOf beforehand text system
+  pub system_is : IsSystemOf text system
   pub unknown : AllByRecursion (λ (d : Device). is_same_path d.name name ≡ false) system.devices
 
 -- the path is that of a leaf of the device that devices do not run so far
@@ -39,9 +39,9 @@ abbrev pub IsUnrun : Device → String Global → Type 0
 IsUnrun device path = IsUnfit device (unfit.CannotRun path)
 
 -- the text is of a system with a device of this name, which has such a leaf
-pub record IsBeyond (beforehand text name : List ℕ) (path : String Global) : Type 0 where
+pub record IsBeyond (text name : List ℕ) (path : String Global) : Type 0 where
   pub system : System
-  pub system_is : IsSystemOf beforehand text system
+  pub system_is : IsSystemOf text system
   pub number : ℕ
   pub device : Device
   pub stands : slice_get system.devices number ≡ Some device
@@ -49,10 +49,10 @@ pub record IsBeyond (beforehand text name : List ℕ) (path : String Global) : T
   pub unrun : IsUnrun device path
 
 -- what the refusal says is so
-abbrev pub IsLoadFault : List ℕ → List ℕ → List ℕ → List ℕ → Refusal → Type 0
-IsLoadFault beforehand text certificate name (Checked refusal) = IsFaultOf beforehand text certificate refusal
-IsLoadFault beforehand text certificate name (NoDevice shown) = IsUnknown beforehand text name × (string_bytes shown ≡ upper name)
-IsLoadFault beforehand text certificate name (CannotRun path) = IsBeyond beforehand text name path
+abbrev pub IsLoadFault : List ℕ → List ℕ → List ℕ → Refusal → Type 0
+IsLoadFault text certificate name (Checked refusal) = IsFaultOf text certificate refusal
+IsLoadFault text certificate name (NoDevice shown) = IsUnknown text name × (string_bytes shown ≡ upper name)
+IsLoadFault text certificate name (CannotRun path) = IsBeyond text name path
 
 -- the system has a device of this name
 abbrev pub IsThere : System → List ℕ → Type 0

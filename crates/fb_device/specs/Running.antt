@@ -4,7 +4,7 @@ use Rattle.std.specs.declared.alloc.Global.{Global}
 use Rattle.std.specs.List.{sum_by, list_any, AllByRecursion}
 use Rattle.fb_model.specs.System.{Device}
 use Rattle.fb_model.specs.Wires.{Leaf, leaves}
-use Rattle.fb_model.specs.Certificates.{Certificate, DeviceFits, depth_of}
+use Rattle.fb_model.specs.Certificates.{Certificate, DeviceHolds, depth_of}
 use Rattle.fb_model.specs.Devices.{held}
 use Rattle.fb_model.specs.Headline.{IsSound}
 use Rattle.fb_leaves.specs.Leaves.{OnChart}
@@ -51,7 +51,7 @@ pub record IsQueue (cert : Certificate) (device : Device) (spent : List Spent) (
 
 pub record IsGood (p : Program) (r : Running) : Type 0 where
   pub checked : IsChecked p.verified
-  pub fits : DeviceFits (cert_in (session_of p r)) (device_in (session_of p r))
+  pub holds : DeviceHolds (cert_in (session_of p r)) (device_in (session_of p r))
   pub tables : AreTables (cert_in (session_of p r)) (device_in (session_of p r)) p.tables
   pub sound : IsSound (cert_in (session_of p r)) (device_in (session_of p r)) (machine_of (session_of p r))
   pub stand : AllStand (leaves (device_in (session_of p r))) r.own.items r.issued.items r.states.items

@@ -1,7 +1,12 @@
 -- A device to which nothing has happened.
-use Rattle.std.specs.Prelude.{◌≡◌, ◌≤◌, List, [], ◌∷◌, length, replicate, Some, Vec, vec_capacity}
+use Rattle.std.specs.Prelude.{ℕ, ◌≡◌, ◌≤◌, List, [], ◌∷◌, length, replicate, Some, slice_get, Vec, vec_capacity}
 use Rattle.std.specs.List.{sum_by}
 use Rattle.std.specs.declared.alloc.Global.{Global}
+use Rattle.fb_model.specs.System.{Device}
+use Rattle.fb_model.specs.Wires.{leaves}
+use Rattle.fb_tables.specs.fb_check.Verdicts.{system_in}
+use Rattle.fb_tables.specs.fb_check.declared.verified.Verified.{Verified}
+use Rattle.fb_first.specs.First.{AreFirst}
 use Rattle.fb_tables.specs.declared.table.Resource.{Resource}
 use Rattle.fb_tables.specs.declared.table.Tables.{Tables}
 use Rattle.fb_first.specs.declared.first.FirstValues.{FirstValues}
@@ -23,3 +28,9 @@ pub record IsAtRest (t : Tables) (first : FirstValues) (r : Running) : Type 0 wh
   pub spent : r.spent.items ≡ []
   pub room : sum_by (λ x. x.depth) t.resources.items ≤ vec_capacity r.spent
   pub next : r.next ≡ Some 1
+
+-- how a device of these tables stands at first, the one of this number in what was checked
+pub record IsFirst (v : Verified) (k : ℕ) (t : Tables) (r : Running) : Type 0 where
+  pub first : FirstValues
+  pub values : (d : Device) → slice_get (system_in v).devices k ≡ Some d → AreFirst (leaves d) first.own.items first.issued.items
+  pub rest : IsAtRest t first r

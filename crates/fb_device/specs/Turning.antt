@@ -43,7 +43,7 @@ pub record HasTurned (blocks : List Block) (old : Running) (q : ℕ) (first : En
   pub issued : List Cell
   pub queue : Vec Entry Global
   pub values : values_of sampled ≡ sampled_by old.issued.items (forms_of at.own) at.event.takes.items (values_of at.own)
-  pub has_run : HasRun at.block first (leaf_state (kind_of at.block) sampled at.issued at.state) (leaf_state (kind_of at.block) own issued ran.state) at.queue.items queue.items ran.steps ran.written
+  pub has_run : HasRun at.block first (leaf_state (kind_of at.block) sampled at.issued at.state) (leaf_state (kind_of at.block) own issued ran.state) at.queue.items queue.items ran.steps ran.effect
   pub number : OnChart (IsStateNumber ran.state) (kind_of at.block)
   pub own_forms : forms_of own ≡ forms_of at.own
   pub issued_forms : forms_of issued ≡ forms_of at.issued

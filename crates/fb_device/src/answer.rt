@@ -2,10 +2,10 @@
 
 ghost use Rattle.std.specs.Prelude.{◌≡◌};
 
-use fb_invoke::Written;
+use fb_invoke::Effect;
 
 /// Why an offer is refused.
-#[derive(Clone, Copy, Debug, PartialEq, Eq)]
+#[derive(Clone, Copy)]
 pub enum Denied {
     /// The device has no INPUT of this number. Code 50.
     UnknownInput,
@@ -19,27 +19,28 @@ pub enum Denied {
     Spent,
 }
 
-/// A cause that has ended: all its steps, and the steps of the WEIGHT row of the arrival that opened it.
-#[derive(Clone, Copy, Debug, PartialEq, Eq)]
+/// A cause that has ended: its number, all its steps, and the steps of the WEIGHT row of the arrival that opened it.
+#[derive(Clone, Copy)]
 pub struct Ended {
+    pub cause: u64,
     pub total: u64,
     pub bound: u64,
 }
 
-/// One dispatch: the cause of the entry, its block and event by number, the steps, what an OUTPUT has written, and the end of the cause where
-/// none of its entries is left.
-#[derive(Debug, Drop)]
+/// One dispatch: the cause of the entry, its block and event by number, the steps, what it did outside of the device, and the end of the
+/// cause where none of its entries is left.
+#[derive(Drop)]
 pub struct Ran {
     pub cause: u64,
     pub block: u16,
     pub event: u16,
     pub steps: u64,
-    pub written: Option<Written>,
+    pub effect: Option<Effect>,
     pub ended: Option<Ended>,
 }
 
 /// What a dispatch answers.
-#[derive(Debug, Drop)]
+#[derive(Drop)]
 pub enum Turned {
     /// Nothing is pending, or there is no such resource.
     Idle,
@@ -47,7 +48,7 @@ pub enum Turned {
 }
 
 /// The arrival that opened a cause: its block and event by number, and the steps of its WEIGHT row.
-#[derive(Clone, Copy, Debug, PartialEq, Eq)]
+#[derive(Clone, Copy)]
 pub struct Opening {
     pub block: u16,
     pub event: u16,
@@ -55,7 +56,7 @@ pub struct Opening {
 }
 
 /// A call of a device.
-#[derive(Debug, Drop)]
+#[derive(Drop)]
 pub enum Step {
     /// An offer at the INPUT of a number, with its values.
     Offer(u16, Vec<i64>),
@@ -64,7 +65,7 @@ pub enum Step {
 }
 
 /// What a call answered.
-#[derive(Debug, Drop)]
+#[derive(Drop)]
 pub enum Answer {
     /// The cause that an offer opened, or why it was refused.
     Admitted(Result<u64, Denied>),

@@ -2,7 +2,7 @@
 
 ghost use Rattle.std.specs.Prelude.{◌≡◌, ◌≤◌, length, map, take, drop, List, [], None, MatchOption};
 ghost use Rattle.fb_model.specs.Devices.{Happens, Offer, Dispatch, Run};
-ghost use Rattle.fb_model.specs.Headline.{KeepsBounds};
+ghost use Rattle.fb_model.specs.Headline.{KeepsBounds, StaysWithinAll};
 ghost use Rattle.fb_model.specs.Wires.{leaves};
 ghost use Rattle.fb_device.specs.Machines.{device_in, cert_in, machine_of};
 ghost use Rattle.fb_device.specs.Answers.{admission_of, turned_of, answer_of, event_of, HasPoint, IsOpening, IsNamed, IsNoPoint, IsNumberOf, IsNoNumber};
@@ -40,6 +40,19 @@ impl Model for Device {
 }
 
 impl Device {
+    /// Lets the device go. (A crate that lets it go by itself proves the end of each of its parts anew; this call is proved once.)
+    pub fn let_go(self) {
+        let Device { program, running } = self;
+        let Program {
+            verified,
+            number: _,
+            tables,
+        } = program;
+        verified.let_go();
+        tables.let_go();
+        drop(running);
+    }
+
     /// Dispatches the first pending entry of a resource, which runs one block to its end.
     ///
     /// `Idle` where nothing is pending or there is no such resource.
@@ -72,11 +85,13 @@ impl Device {
         }
     }
 
-    /// A list of calls. The answer of each is written to its place, and later places stay.
+    /// A list of calls. The answer of each is written to its place, and later places stay. At every state on the way nothing traps, and no
+    /// queue passes its depth.
     pub fn run(&mut self, steps: &[Step], answers: &mut [Answer])
         requires { length steps.now ≤ length answers.old }
         ensures run { Run (cert_in self.old) (device_in self.old) (machine_of self.old) (map event_of steps.now) (map (answer_of (leaves (device_in self.old))) (take (length steps.now) answers.new)) (machine_of self.new) }
         ensures bounds { KeepsBounds (cert_in self.old) (device_in self.old) (machine_of self.old) (map (answer_of (leaves (device_in self.old))) (take (length steps.now) answers.new)) (machine_of self.new) }
+        ensures between { StaysWithinAll (cert_in self.old) (device_in self.old) (machine_of self.old) (map event_of steps.now) }
         ensures later { drop (length steps.now) answers.new ≡ drop (length steps.now) answers.old }
         ensures bounded { IsBounded (cert_in self.old) (device_in self.old) (machine_of self.new) }
         ensures same { (self.new.verified ≡ self.old.verified) × (self.new.number ≡ self.old.number) }

@@ -34,7 +34,11 @@ fn settle(
         return None;
     }
     forget(spent, cause);
-    Some(Ended { total, bound })
+    Some(Ended {
+        cause,
+        total,
+        bound,
+    })
 }
 
 // Samples the inputs of an entry's block, and runs the block to its end.
@@ -84,7 +88,7 @@ pub fn dispatch(program: &Program, running: &mut Running, resource: usize) -> Tu
         block: first.point.block,
         event: first.point.event,
         steps: ran.steps,
-        written: ran.written,
+        effect: ran.effect,
         ended,
     })
 }

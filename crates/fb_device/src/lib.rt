@@ -15,7 +15,7 @@ mod spending;
 pub use answer::{Answer, Denied, Ended, Opening, Ran, Step, Turned};
 pub use device::Device;
 pub use fb_invoke;
-pub use fb_invoke::{Values, Written};
+pub use fb_invoke::{Effect, Values};
 pub use fb_tables;
 pub use loading::{Ready, load, load_checked};
 pub use refusal::Refusal;

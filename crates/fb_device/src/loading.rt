@@ -7,15 +7,16 @@ ghost use Rattle.fb_model.specs.Certificates as certs;
 ghost use Rattle.fb_model.specs.CertificateText.{Spells, most_characters};
 ghost use Rattle.fb_model.specs.Wires.{leaves};
 ghost use Rattle.fb_model.specs.Devices.{begun, silent};
-ghost use Rattle.fb_tables.specs.fb_check.Verdicts.{system_in, IsSystemOf, IsChecked};
+ghost use Rattle.fb_tables.specs.fb_check.Verdicts.{system_in, certificate_in, IsSystemOf};
 ghost use Rattle.fb_tables.specs.fb_text.Answers.{IsSource};
-ghost use Rattle.fb_tables.specs.fb_types.Beforehand.{IsResolved};
+ghost use Rattle.fb_tables.specs.Tables.{AreTables};
+ghost use Rattle.fb_model.specs.EventBlocks.{Elaborates};
 ghost use Rattle.fb_device.specs.Machines.{device_in, cert_in, machine_of};
 ghost use Rattle.fb_device.specs.Promises.{IsBounded};
 ghost use Rattle.fb_device.specs.Loads.{IsLoaded, IsLoadFault, IsThere, AllRun};
 ghost use Rattle.fb_device.specs.Refusals.{no_memory};
 ghost use Rattle.fb_device.specs.Finding.{first_named};
-ghost use Rattle.fb_device.specs.Starting.{AreEmpty, IsAtRest};
+ghost use Rattle.fb_device.specs.Starting.{AreEmpty, IsAtRest, IsFirst};
 ghost use Rattle.fb_device.specs.Loads.{IsReadyOf, IsMissing, IsUnnamed, IsUnready};
 ghost use Rattle.std.specs.Prelude.{min, replicate};
 ghost use Rattle.std.specs.List.{sum_by};
@@ -26,7 +27,6 @@ use crate::program::{Program, Running};
 use crate::refusal::Refusal;
 use fb_first::{FirstValues, first_values};
 use fb_invoke::Entry;
-use fb_tables::fb_check::fb_columns::fb_flat::fb_types::EVENT_BLOCKS;
 use fb_tables::fb_check::{Verified, check_text};
 use fb_tables::{Resource, Tables, tables};
 use std::alloc::{AllocError, Global};
@@ -42,7 +42,7 @@ impl Ready {
     pub fn start(self) -> Device
         ensures first { machine_of result ≡ begun (leaves (device_in self.device)) (machine_of self.device) }
         ensures bounded { IsBounded (cert_in result) (device_in result) (machine_of result) }
-        ensures same { result ≡ self.device }
+        ensures same { (result.verified ≡ self.device.verified) × (result.number ≡ self.device.number) }
     {
         let device = self.device;
         let _ = &device.program;
@@ -118,11 +118,11 @@ fn at_rest(alloc: Global, tables: &Tables, first: FirstValues) -> Result<Running
 /// Refused as [`check_text`](fb_tables::fb_check::check_text) refuses, with `NoDevice` where the text has no such device, and with `CannotRun`
 /// where the device has a leaf that devices do not run so far.
 pub fn load(alloc: Global, text: &str, certificate: &str, device: &str) -> Result<Ready, Refusal>
-    ensures loaded { IfOk result (λ r. IsLoaded EVENT_BLOCKS.now text.now certificate.now device.now r.device) }
-    ensures refused { IfErr result (IsLoadFault EVENT_BLOCKS.now text.now certificate.now device.now) }
+    ensures loaded { IfOk result (λ r. IsLoaded text.now certificate.now device.now r.device) }
+    ensures refused { IfErr result (IsLoadFault text.now certificate.now device.now) }
     ensures accepts { (source : SourceTree) (system : System) (rows : certs.Certificate) → length text.now ≤ 1048576 → length certificate.now ≤ most_characters
-        → IsSource text.now source → IsResolved EVENT_BLOCKS.now source system → Spells certificate.now rows → certs.Fits system rows
-        → ((s : System) → IsSystemOf EVENT_BLOCKS.now text.now s → IsThere s device.now × AllRun s) → IfErr result (λ f. f ≡ no_memory) }
+        → IsSource text.now source → Elaborates source system → Spells certificate.now rows → certs.Fits system rows
+        → ((s : System) → IsSystemOf text.now s → IsThere s device.now × AllRun s) → IfErr result (λ f. f ≡ no_memory) }
 {
     match check_text(alloc, text, certificate) {
         Ok(verified) => made_ready(alloc, verified, device),
@@ -130,37 +130,75 @@ pub fn load(alloc: Global, text: &str, certificate: &str, device: &str) -> Resul
     }
 }
 
+// How a device of these tables stands at first.
+fn first_state(
+    alloc: Global,
+    verified: &Verified,
+    number: usize,
+    tables: &Tables,
+) -> Result<Running, AllocError>
+    requires within { number < length (system_in verified.now).devices }
+    ensures { IfOk result (IsFirst verified.now number tables.now) }
+{
+    let first = first_values(alloc, verified, number)?;
+    at_rest(alloc, tables, first)
+}
+
+// The tables of a device, and how it stands at first.
+fn made(alloc: Global, verified: &Verified, number: usize) -> Result<(Tables, Running), Refusal>
+    requires within { number < length (system_in verified.now).devices }
+    ensures tables { (d : book) → slice_get (system_in verified.now).devices number ≡ Some d → IfOk result (λ p. AreTables (certificate_in verified.now) d p.0) }
+    ensures first { IfOk result (λ p. IsFirst verified.now number p.0 p.1) }
+    ensures refused { IfErr result (IsUnready verified.now number) }
+{
+    let tables = tables(alloc, verified, number)?;
+    match first_state(alloc, verified, number, &tables) {
+        Ok(running) => Ok((tables, running)),
+        Err(_) => {
+            tables.let_go();
+            Err(Refusal::Checked(fb_tables::fb_check::Refusal::OutOfMemory))
+        }
+    }
+}
+
 /// Loads the device of this number, counted from 0, of what was checked. Its first cause is 1.
 ///
 /// Refused with `CannotRun` where the device has a leaf that devices do not run so far, and else only where memory runs out.
 pub fn load_checked(alloc: Global, verified: Verified, number: usize) -> Result<Ready, Refusal>
-    requires checked { IsChecked verified }
     requires within { number < length (system_in verified).devices }
     ensures ready { IfOk result (λ r. (r.device.verified ≡ verified) × (r.device.number ≡ number) × (machine_of r.device ≡ silent (device_in r.device) 1)) }
     ensures refused { IfErr result (IsUnready verified number) }
 {
-    let tables = tables(alloc, &verified, number)?;
-    let first = first_values(alloc, &verified, number)?;
-    let running = at_rest(alloc, &tables, first)?;
-    let program = Program {
-        verified,
-        number,
-        tables,
-    };
-    Ok(Ready {
-        device: Device { program, running },
-    })
+    verified.fits();
+    match made(alloc, &verified, number) {
+        Ok((tables, running)) => {
+            let program = Program {
+                verified,
+                number,
+                tables,
+            };
+            Ok(Ready {
+                device: Device { program, running },
+            })
+        }
+        Err(refusal) => {
+            verified.let_go();
+            Err(refusal)
+        }
+    }
 }
 
 // The device of a name, where there is one.
 fn made_ready(alloc: Global, verified: Verified, device: &str) -> Result<Ready, Refusal>
-    requires { IsChecked verified }
     ensures ready { IfOk result (IsReadyOf verified device.now) }
     ensures refused { IfErr result (IsMissing verified device.now) }
 {
     match device_named(&verified, device) {
         Some(number) => load_checked(alloc, verified, number),
-        None => Err(no_device(alloc, device)),
+        None => {
+            verified.let_go();
+            Err(no_device(alloc, device))
+        }
     }
 }
 

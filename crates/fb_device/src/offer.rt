@@ -49,22 +49,6 @@ fn arriving(body: &Body) -> &[ElemType]
     }
 }
 
-// Whether a number is a value of a type: IEC 61131-3 edition 3, 6.4.2.
-fn fits(of_type: ElemType, number: i64) -> bool
-    ensures { result ≡ in_type of_type number }
-{
-    match of_type {
-        ElemType::Bool => 0 <= number && number <= 1,
-        ElemType::Sint => -128 <= number && number <= 127,
-        ElemType::Int => -32_768 <= number && number <= 32_767,
-        ElemType::Dint => -2_147_483_648 <= number && number <= 2_147_483_647,
-        ElemType::Lint | ElemType::Time => true,
-        ElemType::Usint => 0 <= number && number <= 255,
-        ElemType::Uint => 0 <= number && number <= 65_535,
-        ElemType::Udint => 0 <= number && number <= 4_294_967_295,
-    }
-}
-
 // The values of an offer as those of an entry, of which each has its type.
 fn taken(types: &[ElemType], values: &[i64]) -> Result<Values, Denied>
     requires { length types.now ≤ 16 }
@@ -76,7 +60,7 @@ fn taken(types: &[ElemType], values: &[i64]) -> Result<Values, Denied>
     }
     let mut taken = Values::new();
     for at in 0..values.len() {
-        if !fits(types[at], values[at]) {
+        if !types[at].fits(i128::from(values[at])) {
             return Err(Denied::BadValue(at as u16 + 1));
         }
         taken.push(values[at]);

@@ -7,7 +7,7 @@ use std::alloc::{AllocError, AllocFailed};
 use std::fmt;
 
 /// Why an application, its certificate and the name of a device are refused.
-#[derive(Debug, Drop)]
+#[derive(Drop)]
 pub enum Refusal {
     /// The application or its certificate is refused, or memory ran out. Codes 1 to 20 and 30 to 40.
     Checked(fb_tables::fb_check::Refusal),

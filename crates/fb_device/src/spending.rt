@@ -5,7 +5,7 @@ ghost use Rattle.fb_device.specs.Machines.{spent_in};
 ghost use Rattle.fb_device.specs.Numbers.{with_steps, without};
 
 /// The steps so far of a cause.
-#[derive(Clone, Copy, Debug)]
+#[derive(Clone, Copy)]
 pub struct Spent {
     pub cause: u64,
     pub steps: u64,

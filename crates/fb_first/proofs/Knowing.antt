@@ -9,7 +9,8 @@ use Rattle.fb_model.specs.Wires as wires
 use Rattle.fb_model.specs.Wires.{leaves, resource_leaves, leaves_from}
 use Rattle.fb_model.specs.Store.{variable_names, inputs}
 use Rattle.fb_model.specs.Ranges.{Range, LeafLies}
-use Rattle.fb_model.specs.Certificates.{DeviceFits}
+use Rattle.fb_model.specs.Certificates.{DeviceHolds}
+use Rattle.fb_check.proofs.Composed.{devices_hold}
 use Rattle.fb_leaves.specs.Leaves.{IsFed}
 use Rattle.fb_leaves.proofs.Values.{all_fed}
 use Rattle.fb_invoke.specs.st_exec.Cells.{Cell}
@@ -83,12 +84,12 @@ known ranges all (b ∷ bs) s w f h = (record { small = s.0; written = w.0; good
 known_at : (v : Verified) (n : ℕ) (d : book.Device) → IsChecked v → slice_get (system_in v).devices n ≡ Some d → AllByRecursion (IsKnown (certificate_in v).ranges) (leaves d)
 known_at v n d checked e =
     let s = system_in v in
-    let elaborated = checked.written.2.typed.typed in
-    let fits = all_got (DeviceFits (certificate_in v)) s.devices n d checked.fits.devices e in
+    let elaborated = checked.written.1.typed.typed in
+    let holds = all_got (DeviceHolds (certificate_in v)) s.devices n d (devices_hold s (certificate_in v) checked.written checked.fits) e in
     known (certificate_in v).ranges (leaves d) (leaves d)
     (all_got (λ (x : book.Device). AllByRecursion (λ (leaf : wires.Leaf). IsSmallKind leaf.kind) (leaves x)) s.devices n d (services_small _ _ s elaborated) e)
     (all_got (λ (x : book.Device). AllByRecursion (λ (leaf : wires.Leaf). written_inputs leaf.kind ≡ variable_names (inputs leaf.kind)) (leaves x)) s.devices n d (inputs_written _ _ s elaborated) e)
-    (all_got (λ (x : book.Device). AllByRecursion (IsFed (leaves x)) (leaves x)) s.devices n d (all_fed _ _ s elaborated) e) fits.ranges
+    (all_got (λ (x : book.Device). AllByRecursion (IsFed (leaves x)) (leaves x)) s.devices n d (all_fed _ _ s elaborated) e) holds.ranges
 
 -- the stores that are filled for the leaves of a device that was checked have its first values
 pub firsts_are : (v : Verified) (n : ℕ) (f : FlatDevice) (d : book.Device) (r : Result FirstValues AllocError) → IsChecked v → slice_get (system_in v).devices n ≡ Some d → f ≡ get_or v.flat.devices.items n f

@@ -3,7 +3,7 @@
 ghost use Rattle.std.specs.Prelude.{◌≡◌, ◌<◌, ◌++◌, List, Some, length, slice_get, IfOk, OnOk};
 ghost use Rattle.fb_model.specs.System.{Device};
 ghost use Rattle.fb_model.specs.Wires.{leaves};
-ghost use Rattle.fb_check.specs.Verdicts.{system_in, IsChecked};
+ghost use Rattle.fb_check.specs.Verdicts.{system_in};
 ghost use Rattle.fb_check.specs.fb_flat.declared.flat.Leaf as flat;
 ghost use Rattle.fb_first.specs.First.{AreFirst};
 ghost use Rattle.fb_first.specs.Filling.{AreFilled, leaves_in};
@@ -15,7 +15,7 @@ use fb_invoke::Store;
 use std::alloc::{AllocError, Global};
 
 /// The first values of all blocks of a device, by their numbers: working values of all variables, and issued values of outputs.
-#[derive(Debug, Drop)]
+#[derive(Drop)]
 pub struct FirstValues {
     pub own: Vec<Store>,
     pub issued: Vec<Store>,
@@ -54,9 +54,9 @@ pub fn first_values(
     verified: &Verified,
     device: usize,
 ) -> Result<FirstValues, AllocError>
-    requires checked { IsChecked verified.now }
     requires within { device < length (system_in verified.now).devices }
     ensures { (d : Device) → slice_get (system_in verified.now).devices device ≡ Some d → IfOk result (λ f. AreFirst (leaves d) f.own.items f.issued.items) }
 {
+    verified.fits();
     leaf_values(alloc, &verified.flat().devices[device].resources)
 }

@@ -16,3 +16,4 @@ pub mod Texts
 pub mod Placing
 pub mod Bundling
 pub mod Indexing
+pub mod Crowding

@@ -5,7 +5,7 @@ use fb_networks::fb_services::fb_blocks::Block;
 use std::rc::Rc;
 
 /// An event input of a leaf that an event output leads to: the leaf's path and the event.
-#[derive(Debug, Drop)]
+#[derive(Drop)]
 pub struct Target {
     /// Device, resource and instance names, joined by dots.
     pub path: String,
@@ -13,14 +13,14 @@ pub struct Target {
 }
 
 /// An event output of a leaf, and where it leads, in the order of the connection text.
-#[derive(Debug, Drop)]
+#[derive(Drop)]
 pub struct Output {
     pub name: String,
     pub targets: Vec<Target>,
 }
 
 /// Where the value of a data input comes from.
-#[derive(Debug, Drop)]
+#[derive(Drop)]
 pub enum Source {
     /// A data output of a leaf: the leaf's path (names joined by dots) and the output's name.
     Output(String, String),
@@ -31,21 +31,21 @@ pub enum Source {
 }
 
 /// A data input of a leaf, and where its value comes from.
-#[derive(Debug, Drop)]
+#[derive(Drop)]
 pub struct Input {
     pub name: String,
     pub source: Source,
 }
 
 /// What a leaf is.
-#[derive(Debug, Drop)]
+#[derive(Drop)]
 pub enum Body {
     Basic(Rc<Block>),
     Served(Service),
 }
 
 /// A basic or service instance.
-#[derive(Debug, Drop)]
+#[derive(Drop)]
 pub struct Leaf {
     /// Device, resource and instance names, joined by dots.
     pub path: String,
@@ -57,21 +57,26 @@ pub struct Leaf {
 }
 
 /// A resource and its leaves, depth first in text order. Its path is the device's and its own name, joined by a dot.
-#[derive(Debug, Drop)]
+#[derive(Drop)]
 pub struct FlatResource {
     pub path: String,
     pub leaves: Vec<Leaf>,
 }
 
 /// A device: its resources in text order.
-#[derive(Debug, Drop)]
+#[derive(Drop)]
 pub struct FlatDevice {
     pub name: String,
     pub resources: Vec<FlatResource>,
 }
 
 /// All devices of a system.
-#[derive(Debug, Drop)]
+#[derive(Drop)]
 pub struct Flat {
     pub devices: Vec<FlatDevice>,
+}
+
+impl Flat {
+    /// Lets the leaves go. (A crate that lets them go by itself proves the end of each of their parts anew; this call is proved once.)
+    pub fn let_go(self) {}
 }

@@ -30,7 +30,7 @@ use crate::walk::{Stop, Walk};
 use fb_networks::fb_services::Service;
 use fb_networks::fb_services::fb_blocks::{Block, Events, TypeFault};
 use fb_networks::{Instance, Network};
-use fb_types::{Device, Resource, Typed};
+use fb_types::{Configuration, Device, Resource, Typed};
 use fb_words::ElemType;
 use std::alloc::{AllocError, Global};
 use std::rc::Rc;
@@ -322,10 +322,8 @@ fn device(alloc: Global, source: &Device) -> Result<FlatDevice, TypeFault>
     Ok(FlatDevice { name, resources })
 }
 
-/// The leaves of a system and their wires, in text order.
-///
-/// More than [`FOLLOWED`] followings of connections in a resource are refused with `Limit` at its name.
-pub fn flatten(alloc: Global, typed: &Typed) -> Result<Flat, TypeFault>
+// The devices of a system, in order.
+fn flat_devices(alloc: Global, typed: &Configuration) -> Result<Flat, TypeFault>
     ensures leaves { IfOk result (λ f. map flat_device f.devices.items ≡ map written_device (system_of typed.now).devices) }
     ensures few { OnOk result (AllByRecursion (λ d. AllByRecursion (λ r. resource_count r ≤ most_followed) d.resources) (system_of typed.now).devices) }
     ensures refused { IfErr result (IsLimitAt (λ at. Any (λ d. Any (λ r. IsFull r at) d.resources.items) typed.now.devices.items)) }
@@ -335,4 +333,15 @@ pub fn flatten(alloc: Global, typed: &Typed) -> Result<Flat, TypeFault>
         devices.push(device(alloc, source)?)?;
     }
     Ok(Flat { devices })
+}
+
+/// The leaves of a system and their wires, in text order.
+///
+/// More than [`FOLLOWED`] followings of connections in a resource are refused with `Limit` at its name.
+pub fn flatten(alloc: Global, typed: &Typed) -> Result<Flat, TypeFault>
+    ensures leaves { IfOk result (λ f. map flat_device f.devices.items ≡ map written_device (system_of typed.now).devices) }
+    ensures few { OnOk result (AllByRecursion (λ d. AllByRecursion (λ r. resource_count r ≤ most_followed) d.resources) (system_of typed.now).devices) }
+    ensures refused { IfErr result (IsLimitAt (λ at. Any (λ d. Any (λ r. IsFull r at) d.resources.items) typed.now.devices.items)) }
+{
+    flat_devices(alloc, typed.configuration())
 }

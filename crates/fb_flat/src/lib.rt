@@ -18,6 +18,8 @@ mod walk;
 
 pub use fb_types;
 pub use flat::{Body, Flat, FlatDevice, FlatResource, Input, Leaf, Output, Source, Target};
-pub use laws::{all_inputs_are_written, paths_are_read_back, tables_are_leaves};
+pub use laws::{
+    all_inputs_are_written, limits_are_at_resources, paths_are_read_back, tables_are_leaves,
+};
 pub use leaves::{FOLLOWED, flatten};
 pub use site::joined;

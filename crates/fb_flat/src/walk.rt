@@ -12,7 +12,7 @@ use fb_networks::End;
 use std::alloc::{AllocError, AllocFailed, Global};
 
 /// Why connections are followed no further.
-#[derive(Debug, Drop)]
+#[derive(Drop)]
 pub enum Stop {
     /// Memory ran out.
     OutOfMemory,

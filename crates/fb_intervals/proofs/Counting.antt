@@ -6,7 +6,7 @@ use Rattle.std.proofs.lemmas.Int.{ints, by_lt_z}
 use Rattle.fb_model.specs.Language.{turn_count}
 use Rattle.fb_model.specs.Spans.{Span, span, joined}
 use Rattle.fb_model.specs.Clear.{most_turns, is_single, last_value, taken, may_skip, left_with}
-use Rattle.fb_model.proofs.Types.{lt_true, lt_false, le_is}
+use Rattle.fb_words.proofs.Types.{lt_true, lt_false, le_is}
 
 pub last_is : (a k : ℤ) (n : ℕ) → 0 < n → last_value a k n ≡ a +ℤ pos (n - 1) *ℤ k
 last_is a k zero h = absurd (omega (arith, h))

@@ -10,43 +10,16 @@ ghost use Rattle.fb_intervals.specs.Views.{span_of};
 use crate::interval::{Interval, Wide};
 use fb_words::ElemType;
 
-fn lowest(of: ElemType) -> i64
-    ensures { result ≡ lowest of }
-{
-    match of {
-        ElemType::Bool | ElemType::Usint | ElemType::Uint | ElemType::Udint => 0,
-        ElemType::Sint => -128,
-        ElemType::Int => -32_768,
-        ElemType::Dint => -2_147_483_648,
-        ElemType::Lint | ElemType::Time => -9_223_372_036_854_775_808,
-    }
-}
-
-fn highest(of: ElemType) -> i64
-    ensures { result ≡ highest of }
-{
-    match of {
-        ElemType::Bool => 1,
-        ElemType::Sint => 127,
-        ElemType::Int => 32_767,
-        ElemType::Dint => 2_147_483_647,
-        ElemType::Lint | ElemType::Time => 9_223_372_036_854_775_807,
-        ElemType::Usint => 255,
-        ElemType::Uint => 65_535,
-        ElemType::Udint => 4_294_967_295,
-    }
-}
-
 /// The numbers of a type.
-#[tactic(auto, using(fb_model::proofs::Types::bounded))]
+#[tactic(auto, using(fb_words::proofs::Types::bounded))]
 pub fn whole(of: ElemType) -> Interval
     ensures value { span_of result ≡ book.whole of }
     ensures low { result.low ≡ lowest of }
     ensures high { result.high ≡ highest of }
 {
     Interval {
-        low: lowest(of),
-        high: highest(of),
+        low: of.lowest(),
+        high: of.highest(),
     }
 }
 

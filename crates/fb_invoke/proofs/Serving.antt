@@ -29,13 +29,13 @@ use Rattle.fb_invoke.specs.declared.table.Event.{Event}
 use Rattle.fb_invoke.specs.declared.table.Output.{Output}
 use Rattle.fb_invoke.specs.declared.table.Block.{Block}
 use Rattle.fb_invoke.specs.declared.entry.Entry.{Entry}
-use Rattle.fb_invoke.specs.declared.dispatch.Written.{Written}
+use Rattle.fb_invoke.specs.declared.dispatch.Effect.{Effect as Outside}
 use Rattle.fb_invoke.specs.Views.{named, event_names, output_names, given_by, taken_by, kind_of, outputs_of}
 use Rattle.fb_invoke.specs.Tables.{most_values}
 use Rattle.fb_invoke.specs.Sending.{follow, targets_of, sent_to}
 use Rattle.fb_invoke.specs.Sampling.{AreStores, CanGive}
 use Rattle.fb_invoke.specs.Receiving.{IsPlain, received_in, numbers_at}
-use Rattle.fb_invoke.specs.Turning.{CanRun, HasRun, leaf_state}
+use Rattle.fb_invoke.specs.Turning.{CanRun, HasRun, leaf_state, effect_in}
 use Rattle.fb_invoke.proofs.Lists.{all_got}
 use Rattle.fb_invoke.proofs.Acting.{in_front, gives_can}
 
@@ -206,15 +206,15 @@ module _ (x : Block) (own issued : List Cell) (state : ℕ) (first : Entry) (mos
       pub output_few : length e.takes.items ≤ most_values
       output_few = omega (arith, few, ap length takes_are, length-map e.takes.items (λ t. string_bytes t.input), numbered_length sent 1 types)
 
-      pub output_ran : (written : Written) (old : List Entry) → written.number ≡ number → written.values.items ≡ numbers_at (taken_by e) (values_of own) → HasRun x first (leaf_state (kind_of x) own issued state) (leaf_state (kind_of x) own issued state) old old 1 (Some written)
-      output_ran written old n v = record {
+      pub output_ran : (effect : Outside) (old : List Entry) → effect_in effect ≡ Rattle.fb_model.specs.Serving.Write number (numbers_at (taken_by e) (values_of own)) → HasRun x first (leaf_state (kind_of x) own issued state) (leaf_state (kind_of x) own issued state) old old 1 (Some effect)
+      output_ran effect old h = record {
         outs = [];
-        served = λ clock. subst (λ k. Serves k clock (named (event_names x) first.point.event) first.values.items (leaf_state k own issued state) (leaf_state k own issued state) 1 [] (Some (Rattle.fb_model.specs.Serving.Write written.number written.values.items))) (sym kind)
+        served = λ clock. subst (λ k. Serves k clock (named (event_names x) first.point.event) first.values.items (leaf_state k own issued state) (leaf_state k own issued state) 1 [] (Some (effect_in effect))) (sym kind)
             (record {
               after_is = refl;
               steps_are = refl;
               outs_are = refl;
-              effect_is = ap (λ k. Some (Rattle.fb_model.specs.Serving.Write k written.values.items)) n ∙ ap (λ vs. Some (Rattle.fb_model.specs.Serving.Write number vs)) (v ∙ ap (λ ns. numbers_at ns (values_of own)) takes_are ∙ typed_numbers 1 types (values_of own));
+              effect_is = ap Some h ∙ ap (λ vs. Some (Rattle.fb_model.specs.Serving.Write number vs)) (ap (λ ns. numbers_at ns (values_of own)) takes_are ∙ typed_numbers 1 types (values_of own));
             });
         entries = sym (append-nil old);
         known = tt;

@@ -20,7 +20,8 @@ use Rattle.fb_invoke.specs.declared.table.Event.{Event}
 use Rattle.fb_invoke.specs.declared.table.Output.{Output}
 use Rattle.fb_invoke.specs.declared.table.Block.{Block}
 use Rattle.fb_invoke.specs.declared.entry.Entry.{Entry}
-use Rattle.fb_invoke.specs.declared.dispatch.Written.{Written}
+use Rattle.fb_invoke.specs.declared.dispatch.Effect.{Effect as Outside}
+use Rattle.fb_invoke.specs.declared.dispatch.Effect.TheVariants as outside
 use Rattle.fb_invoke.specs.Views.{named, event_names, output_names, kind_of}
 use Rattle.fb_invoke.specs.Tables.{IsTable}
 use Rattle.fb_invoke.specs.Sending.{follow, sent_to}
@@ -79,12 +80,15 @@ pub record CanRun (x : Block) (own issued : List Cell) (number : ℕ) (first : E
 
 -- ---- what a dispatch does
 
-abbrev pub effect_of : Option Written → Option Effect
-effect_of w = option_map (λ (e : Written). Write e.number e.values.items) w
+abbrev pub effect_in : Outside → Effect
+effect_in (outside.Write number values) = Write number values.items
+
+abbrev pub effect_of : Option Outside → Option Effect
+effect_of e = option_map effect_in e
 
 -- it has run to its end as the book says, and what its outputs reach is appended
-pub record HasRun (x : Block) (first : Entry) (before after : LeafState) (old new : List Entry) (steps : ℕ) (written : Option Written) : Type 0 where
+pub record HasRun (x : Block) (first : Entry) (before after : LeafState) (old new : List Entry) (steps : ℕ) (effect : Option Outside) : Type 0 where
   pub outs : List Name
-  pub served : (clock : ℕ) → Serves (kind_of x) clock (named (event_names x) first.point.event) first.values.items before after steps outs (effect_of written)
+  pub served : (clock : ℕ) → Serves (kind_of x) clock (named (event_names x) first.point.event) first.values.items before after steps outs (effect_of effect)
   pub entries : new ≡ old ++ map (follow first) (sent_to x.outputs.items outs)
   pub known : AllByRecursion (λ (o : Name). is_in o (output_names x) ≡ true) outs

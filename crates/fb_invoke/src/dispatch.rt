@@ -12,19 +12,19 @@ use crate::service::{arrive, sent_values};
 use crate::table::{Block, Body};
 use st_exec::Store;
 
-/// The values that an OUTPUT has written, with its number.
-#[derive(Debug, Drop)]
-pub struct Written {
-    pub number: u16,
-    pub values: Values,
+/// What a dispatch has done outside of its device.
+#[derive(Drop)]
+pub enum Effect {
+    /// The OUTPUT of this number has written these values.
+    Write(u16, Values),
 }
 
-/// What a dispatch has come to: the number of the chart's state, the steps, and what was written.
-#[derive(Debug, Drop)]
+/// What a dispatch has come to: the number of the chart's state, the steps, and the effect.
+#[derive(Drop)]
 pub struct Invoked {
     pub state: u16,
     pub steps: u64,
-    pub written: Option<Written>,
+    pub effect: Option<Effect>,
 }
 
 /// Runs a block from dispatch to its end. Its inputs are sampled already.
@@ -40,7 +40,7 @@ pub fn run(
     queue: &mut Vec<Entry>,
 ) -> Invoked
     requires { CanRun block.now own.old issued.old state first.now most (vec_len queue.old) (vec_capacity queue.old) }
-    ensures ran { HasRun block.now first.now (leaf_state (kind_of block.now) own.old issued.old state) (leaf_state (kind_of block.now) own.new issued.new result.state) queue.old.items queue.new.items result.steps result.written }
+    ensures ran { HasRun block.now first.now (leaf_state (kind_of block.now) own.old issued.old state) (leaf_state (kind_of block.now) own.new issued.new result.state) queue.old.items queue.new.items result.steps result.effect }
     ensures state { OnChart (IsStateNumber result.state) (kind_of block.now) }
     ensures own { forms_of own.new ≡ forms_of own.old }
     ensures issued { forms_of issued.new ≡ forms_of issued.old }
@@ -61,7 +61,7 @@ pub fn run(
             Invoked {
                 state,
                 steps,
-                written: None,
+                effect: None,
             }
         }
         Body::Input(..) => {
@@ -69,16 +69,13 @@ pub fn run(
             Invoked {
                 state,
                 steps: 1,
-                written: None,
+                effect: None,
             }
         }
         Body::Output(number, _) => Invoked {
             state,
             steps: 1,
-            written: Some(Written {
-                number: *number,
-                values: sent_values(&block.events[0].takes, own),
-            }),
+            effect: Some(Effect::Write(*number, sent_values(&block.events[0].takes, own))),
         },
     }
 }

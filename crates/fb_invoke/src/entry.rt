@@ -10,7 +10,7 @@ pub const MOST_VALUES: usize = 16;
 pub type Values = ArrayVec<i64, 16>;
 
 /// A pending entry: its cause, the arrival that opened the cause, the event input that it is for, and the values of an arrival.
-#[derive(Debug, Drop)]
+#[derive(Drop)]
 pub struct Entry {
     pub cause: u64,
     pub opening: Point,

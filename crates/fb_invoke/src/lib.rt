@@ -10,7 +10,7 @@ mod sampling;
 mod service;
 mod table;
 
-pub use dispatch::{Invoked, Written, run};
+pub use dispatch::{Effect, Invoked, run};
 pub use entry::{Entry, MOST_VALUES, Values};
 pub use queue::put;
 pub use sampling::sample;

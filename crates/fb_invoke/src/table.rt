@@ -5,14 +5,14 @@ use fb_words::ElemType;
 use std::rc::Rc;
 
 /// An event input or an arrival of a block: the block's number in its device, and the event's number in its block. Both count from 0.
-#[derive(Clone, Copy, Debug, PartialEq, Eq)]
+#[derive(Clone, Copy)]
 pub struct Point {
     pub block: u16,
     pub event: u16,
 }
 
 /// Where a data input takes its value from.
-#[derive(Debug, Drop)]
+#[derive(Drop)]
 pub enum Source {
     /// The data output of this name of the block of this number in the device.
     Output(u16, String),
@@ -21,14 +21,14 @@ pub enum Source {
 }
 
 /// A data input that takes a value at an event.
-#[derive(Debug, Drop)]
+#[derive(Drop)]
 pub struct Take {
     pub input: String,
     pub source: Source,
 }
 
 /// An event input or an arrival: the steps and the places of its WEIGHT row, and the data inputs that it is WITH.
-#[derive(Debug, Drop)]
+#[derive(Drop)]
 pub struct Event {
     pub name: String,
     pub steps: u64,
@@ -37,7 +37,7 @@ pub struct Event {
 }
 
 /// An event output: where it leads, in the order of the connection text, and the data outputs that it is WITH.
-#[derive(Debug, Drop)]
+#[derive(Drop)]
 pub struct Output {
     pub name: String,
     pub targets: Vec<Point>,
@@ -45,21 +45,21 @@ pub struct Output {
 }
 
 /// An action of a state: the algorithm that it runs, and the number of the event output that it emits.
-#[derive(Debug, Drop)]
+#[derive(Drop)]
 pub struct Action {
     pub algorithm: Option<String>,
     pub output: Option<u16>,
 }
 
 /// A state of a chart, with its actions in order.
-#[derive(Debug, Drop)]
+#[derive(Drop)]
 pub struct State {
     pub name: String,
     pub actions: Vec<Action>,
 }
 
 /// A transition of a chart: the numbers of the states that it leaves and enters, and of its event. Without an event it is crossed freely.
-#[derive(Clone, Copy, Debug, PartialEq, Eq)]
+#[derive(Clone, Copy)]
 pub struct Transition {
     pub source: u16,
     pub target: u16,
@@ -69,7 +69,7 @@ pub struct Transition {
 /// An execution control chart: IEC 61499-1 edition 2, 5.2.1.2. State 0 is the initial one.
 ///
 /// The guard of a transition is that of the block type's transition of the same number.
-#[derive(Debug, Drop)]
+#[derive(Drop)]
 pub struct Chart {
     pub block: Rc<BlockType>,
     pub states: Vec<State>,
@@ -77,7 +77,7 @@ pub struct Chart {
 }
 
 /// What a block is made of.
-#[derive(Debug, Drop)]
+#[derive(Drop)]
 pub enum Body {
     Chart(Chart),
     /// The service INPUT of this number, with values of these types.
@@ -87,7 +87,7 @@ pub enum Body {
 }
 
 /// A basic or service instance.
-#[derive(Debug, Drop)]
+#[derive(Drop)]
 pub struct Block {
     /// Device, resource and instance names, joined by dots.
     pub path: String,

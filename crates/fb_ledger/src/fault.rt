@@ -6,7 +6,7 @@ ghost use Rattle.fb_ledger.specs.declared.fault.RowFault.TheVariants.{OutOfMemor
 use std::alloc::{AllocError, AllocFailed};
 
 /// Why the rows of a certificate are refused. A row goes by its path as it is written: in upper case, its names joined by dots.
-#[derive(Debug, Drop)]
+#[derive(Drop)]
 pub enum RowFault {
     /// Memory ran out. Code 9.
     OutOfMemory,
@@ -16,6 +16,21 @@ pub enum RowFault {
     /// The system must have a row of this path, and the certificate has none: no `DEPTH D.R` for the resource `R` of the device `D`.
     /// Code 33.
     Missing(String),
+}
+
+impl RowFault {
+    ghost use Rattle.fb_ledger.specs.Codes.{code_of};
+
+    /// The number of the refusal.
+    pub fn code(&self) -> u8
+        ensures { result ≡ code_of self.now }
+    {
+        match self {
+            RowFault::OutOfMemory => 9,
+            RowFault::Unknown(_) => 32,
+            RowFault::Missing(_) => 33,
+        }
+    }
 }
 
 impl From<AllocError> for RowFault {

@@ -9,7 +9,7 @@ ghost use Rattle.fb_ledger.specs.Texts.{paths_of};
 use fb_cert::Certificate;
 
 /// A kind of rows.
-#[derive(Clone, Copy, Debug)]
+#[derive(Clone, Copy)]
 pub enum RowKind {
     Charge,
     Weight,

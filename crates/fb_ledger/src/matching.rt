@@ -10,7 +10,7 @@ ghost use Rattle.fb_flat.specs.Tables.{AreDevices};
 ghost use Rattle.fb_cert.specs.Views.{rows_of, certificate_of};
 ghost use Rattle.fb_ledger.specs.Members.{AreAmong, HasSame};
 ghost use Rattle.fb_ledger.specs.Texts.{paths_of, texts_of, HaveSameRows, HaveOtherRows};
-ghost use Rattle.fb_ledger.specs.Faults.{IsDifference, IsRowFault, HasNoRowTwice};
+ghost use Rattle.fb_ledger.specs.Faults.{IsDifference, IsRowFault};
 
 use crate::fault::RowFault;
 use crate::kind::{RowKind, has_row, path_at, row_count};
@@ -89,8 +89,9 @@ fn compare(alloc: Global, flat: &Flat, certificate: &Certificate) -> Result<(), 
 
 /// The certificate has each row that the system must have, and no other.
 pub fn rows_match(alloc: Global, flat: &Flat, certificate: &Certificate) -> Result<(), RowFault>
-    ensures rows { (s : System) → AreDevices flat.now.devices.items s.devices → AllByRecursion IsWordyDevice s.devices → HasNoRowTwice (certificate_of certificate.now) → OnOk result (AllRows s (certificate_of certificate.now)) }
+    ensures rows { (s : System) → AreDevices flat.now.devices.items s.devices → AllByRecursion IsWordyDevice s.devices → OnOk result (AllRows s (certificate_of certificate.now)) }
     ensures refused { (s : System) → AreDevices flat.now.devices.items s.devices → AllByRecursion IsWordyDevice s.devices → IfErr result (IsRowFault s (certificate_of certificate.now)) }
 {
+    certificate.stands_in_text();
     compare(alloc, flat, certificate)
 }

@@ -7,7 +7,7 @@ use std::alloc::{AllocError, AllocFailed};
 use std::fmt;
 
 /// Why a text is no application. An offset is in bytes from the text's beginning.
-#[derive(Debug, Drop)]
+#[derive(Drop)]
 pub enum TextFault {
     /// Memory ran out. Code 9.
     OutOfMemory,

@@ -10,8 +10,6 @@ mod number;
 mod scan;
 mod sign;
 mod span;
-#[cfg(test)]
-mod tests;
 mod token;
 mod word;
 

@@ -3,7 +3,7 @@
 use fb_words::{ElemType, Mark};
 
 /// What a token is.
-#[derive(Debug, Drop)]
+#[derive(Drop)]
 pub enum Kind {
     /// A name, in upper case.
     Name(String),
@@ -18,7 +18,7 @@ pub enum Kind {
 }
 
 /// A token and the bytes of the text that it takes, from `start` to before `end`.
-#[derive(Debug, Drop)]
+#[derive(Drop)]
 pub struct Token {
     pub kind: Kind,
     pub start: usize,

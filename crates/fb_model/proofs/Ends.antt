@@ -6,7 +6,7 @@ use Rattle.fb_model.specs.Language.{quotient, remainder, least, greatest}
 use Rattle.fb_model.specs.Spans.{Span, span, holds_zero, corners, opposites, sums, differences, minima, maxima, sizes, rests}
 use Rattle.fb_model.specs.Shapes.{IsIn}
 use Rattle.fb_model.specs.Exact.{size_of, IsFilled, HoldsTwo, HoldsQuotients, OneReaches, TwoReach, ReachesOne, ReachesTwo, ReachesQuotients}
-use Rattle.fb_model.proofs.Types.{le_true, le_false}
+use Rattle.fb_words.proofs.Types.{le_true, le_false}
 use Rattle.fb_model.proofs.Results.{nonzero, quotient_lies, remainder_lies}
 
 at_low : (r : Span) → IsFilled r → IsIn r r.low

@@ -1,5 +1,5 @@
 -- Runs of FOR.
-use Rattle.std.proofs.Common.{◌≡◌, ℕ, zero, suc, ◌+◌, ◌*◌, ◌≤◌, ℤ, pos, ◌+ℤ◌, ◌*ℤ◌, Bool, true, false, List, [], ◌∷◌, Some, None, refl, sym, ◌∙◌, ap, subst, arith}
+use Rattle.std.proofs.Common.{◌≡◌, ℕ, zero, suc, ◌+◌, ◌*◌, ◌≤◌, ℤ, pos, ◌+ℤ◌, ◌*ℤ◌, Bool, true, false, List, ◌∷◌, Some, None, refl, sym, ◌∙◌, ap, subst, arith}
 use Rattle.std.specs.Prelude.{if◌then◌else◌}
 use Rattle.std.specs.List.{AllByRecursion}
 use Rattle.std.specs.Str.{bytes_eq}
@@ -96,8 +96,8 @@ module _ (shape : Shape) (rows : Spans) (xs ys : List Name) (x : Name) (k : ℤ)
   no_turn zero u n s values z l fit lie = record { steps = omega (arith, l); lies = lie; fits = fit; still = λ y p e. refl; same = λ y e. refl }
   no_turn (suc j) u n s values z l fit lie = absurd (omega (arith, z))
 
-  -- and assigns nothing
-  pub unassigned : (j : ℕ) (u : ℤ) (n : ℕ) (s : Spans) (zs ws : List Name) (values : Values) → j ≡ 0 → Runs shape n s zs ws values (more 1 (turns j body x u k values)) → Runs shape n s [] ws values (more 1 (turns j body x u k values))
+  -- and assigns not even its variable
+  pub unassigned : (j : ℕ) (u : ℤ) (n : ℕ) (s : Spans) (zs ws : List Name) (values : Values) → j ≡ 0 → Runs shape n s zs ws values (more 1 (turns j body x u k values)) → Runs shape n s xs ws values (more 1 (turns j body x u k values))
   unassigned zero u n s zs ws values z g = record { steps = g.steps; lies = g.lies; fits = g.fits; still = λ y p e. refl; same = g.same }
   unassigned (suc j) u n s zs ws values z g = absurd (omega (arith, z))
 

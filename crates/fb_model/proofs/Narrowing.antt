@@ -15,7 +15,7 @@ use Rattle.fb_model.specs.Language.{given, bit, is_zero, on_one, on_two, value_o
 use Rattle.fb_model.specs.Spans.{Span, span}
 use Rattle.fb_model.specs.Clear.{Spans, changed, cut, at_most, at_least, just, without, meets, opposite, mirrored, is_truth, related, narrowed}
 use Rattle.fb_model.specs.Shapes.{IsIn, Lies, Shape, HasForm, HasShape, TermFits}
-use Rattle.fb_model.proofs.Types.{lt_true, lt_false, le_true, le_is}
+use Rattle.fb_words.proofs.Types.{lt_true, lt_false, le_true, le_is}
 use Rattle.fb_model.proofs.Results.{and_left, and_right}
 use Rattle.fb_model.proofs.Names.{by_name, or_left, or_right}
 use Rattle.fb_model.proofs.Terms.{plain_lies}

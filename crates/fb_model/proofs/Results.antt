@@ -14,7 +14,7 @@ use Rattle.fb_words.specs.declared.operator.Operation.TheVariants.{Infix, Negate
 use Rattle.fb_model.specs.Language.{wrapped, bit, is_zero, remainder, least, greatest, on_one, on_two}
 use Rattle.fb_model.specs.Spans.{Span, span, within, joined, whole, truth, fitted, holds_zero, corners, sizes, range_one, range_two}
 use Rattle.fb_model.specs.Shapes.{IsIn}
-use Rattle.fb_model.proofs.Types.{le_true, le_false, wrapped_fits, wrapped_same, le_is}
+use Rattle.fb_words.proofs.Types.{le_true, le_false, wrapped_fits, wrapped_same, le_is}
 
 -- ---- products
 

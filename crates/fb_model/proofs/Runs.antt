@@ -10,7 +10,7 @@ use Rattle.fb_model.proofs.Lists.{same_name, all_weaker}
 use Rattle.fb_model.specs.Spans.{Span, within}
 use Rattle.fb_model.specs.Clear.{Spans, changed, are_kept, reset}
 use Rattle.fb_model.specs.Shapes.{IsIn, Lies, Shape, HasForm, HasShape}
-use Rattle.fb_model.proofs.Types.{le_true}
+use Rattle.fb_words.proofs.Types.{le_true}
 use Rattle.fb_model.proofs.Results.{and_left, and_right, within_is}
 use Rattle.fb_model.proofs.Names.{by_name, not_first, not_front, not_back}
 use Rattle.fb_model.proofs.Rowed.{Rowed}

@@ -89,11 +89,11 @@ module _ (shape : Shape) (rows : Spans) where
 
   -- ---- FOR
 
-  -- the variables that a FOR assigns, none where it stands there without a turn
+  -- the variables that a FOR assigns, its own not where it stands there without a turn
   named : (b : Bool) (xs ys : List Name) (x : Name) (k : ℤ) (body : Values → Outcome) (j : ℕ) (u : ℤ) (values : Values) (F : Found) → (b ≡ true → j ≡ 0) → IsSound (x ∷ xs) (x ∷ ys) values (more 1 (turns j body x u k values)) F
-      → IsSound (if b then [] else x ∷ xs) (x ∷ ys) values (more 1 (turns j body x u k values)) F
+      → IsSound (if b then xs else x ∷ xs) (x ∷ ys) values (more 1 (turns j body x u k values)) F
   named true xs ys x k body j u values F z h =
-      map_clear F (λ t n. Runs shape n t (x ∷ xs) (x ∷ ys) values (more 1 (turns j body x u k values))) (λ t n. Runs shape n t [] (x ∷ ys) values (more 1 (turns j body x u k values)))
+      map_clear F (λ t n. Runs shape n t (x ∷ xs) (x ∷ ys) values (more 1 (turns j body x u k values))) (λ t n. Runs shape n t xs (x ∷ ys) values (more 1 (turns j body x u k values)))
       (λ t n g. unassigned shape rows xs ys x k body j u n t (x ∷ xs) (x ∷ ys) values (z refl) g) h
   named false xs ys x k body j u values F z h = h
 
@@ -125,9 +125,9 @@ module _ (shape : Shape) (rows : Spans) where
     sound_one (count x a e g k plain body) h spans values b fit lie =
         on_range (range_of e spans) _ (λ r. LiesIn r (value_of e values)) _ (term_lies shape spans values fit lie e h.2)
         (λ r l. on_range (range_of g spans) _ (λ s. LiesIn s (value_of g values)) _ (term_lies shape spans values fit lie g h.3)
-        (λ s m. with_there (λ o. IsSound (if is_idle plain e g k then [] else x ∷ assigned body) (x ∷ written body) values o (looped (most_turns r s k) (assigned body) rows (examine rows body) x r s k spans)) r (value_of e values)
+        (λ s m. with_there (λ o. IsSound (if is_idle plain e g k then assigned body else x ∷ assigned body) (x ∷ written body) values o (looped (most_turns r s k) (assigned body) rows (examine rows body) x r s k spans)) r (value_of e values)
         (λ u. with_value (value_of g values) (λ v. more 1 (turns (turn_count u v k) (run body) x u k values))) l
-        (λ u p i. with_there (λ o. IsSound (if is_idle plain e g k then [] else x ∷ assigned body) (x ∷ written body) values o (looped (most_turns r s k) (assigned body) rows (examine rows body) x r s k spans)) s (value_of g values)
+        (λ u p i. with_there (λ o. IsSound (if is_idle plain e g k then assigned body else x ∷ assigned body) (x ∷ written body) values o (looped (most_turns r s k) (assigned body) rows (examine rows body) x r s k spans)) s (value_of g values)
         (λ v. more 1 (turns (turn_count u v k) (run body) x u k values)) m
         (λ v q j. named (is_idle plain e g k) (assigned body) (written body) x k (run body) (turn_count u v k) u values (looped (most_turns r s k) (assigned body) rows (examine rows body) x r s k spans) (λ z. idle_none plain e g k values u v z p q)
         (loop_runs shape rows (assigned body) (written body) x k (run body) (examine rows body) h.0 h.1 (λ t c. rowed_all shape rows body h.4 t c) (λ t vs c f w. sound_all body h.4 t vs c f w) r s u v spans values i j b fit lie (most_turns r s k) refl)))))

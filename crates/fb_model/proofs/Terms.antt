@@ -10,7 +10,7 @@ use Rattle.fb_model.specs.Language.{Guard, given, element_at, on_one, on_two, va
 use Rattle.fb_model.specs.Spans.{Span, span, within, range_one, range_two}
 use Rattle.fb_model.specs.Clear.{Spans, range_of, guard_range}
 use Rattle.fb_model.specs.Shapes.{IsIn, Lies, Shape, HasForm, HasShape, TermFits}
-use Rattle.fb_model.proofs.Types.{le_true}
+use Rattle.fb_words.proofs.Types.{le_true}
 use Rattle.fb_model.proofs.Results.{LiesIn, one_lies, two_lies, within_is}
 
 -- ---- options

@@ -8,7 +8,7 @@ use Rattle.fb_model.specs.Spans.{Span, span, joined}
 use Rattle.fb_model.specs.Clear.{most_turns, is_single, last_value, taken, may_skip, left_with}
 use Rattle.fb_model.specs.Shapes.{IsIn}
 use Rattle.fb_model.specs.Counts.{Taken}
-use Rattle.fb_model.proofs.Types.{lt_true, lt_false, le_is}
+use Rattle.fb_words.proofs.Types.{lt_true, lt_false, le_is}
 use Rattle.fb_model.proofs.Results.{div_up, joined_left, joined_right, and_left, and_right}
 use Rattle.fb_model.proofs.Narrowing.{not_lt_is}
 

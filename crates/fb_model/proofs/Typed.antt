@@ -8,7 +8,7 @@ use Rattle.fb_model.specs.Names.{Name, is_in}
 use Rattle.fb_model.specs.StructuredText.{Expression, Statements, Branches, Arms, Statement}
 use Rattle.fb_model.specs.TypedText.{Term, Command, Choices, Cases}
 use Rattle.fb_model.specs.Language.{Algorithm, Guard, given}
-use Rattle.fb_model.specs.TextTyping.{Entry, found, Loose, Operand, fixed, free, whole, Settles, a_number, a_single, a_double, Takes, widened, settles, Single, one_free, one, Double, two_free, two, Triple, three_free, three, IsIndex, an_integer, a_free_one, IsTyped, a_whole_number, a_typed_number, a_time, a_truth, a_variable, an_array, an_element, a_negation, an_inversion, an_operation, on_one, on_two, on_three, IsAsked, IsSelector, IsCommand, an_assignment, to_element, a_choice, a_selection, an_iteration, AreCommands, no_command, a_command, AreChoices, no_choices, more_choices, AreCases, no_cases, more_cases}
+use Rattle.fb_model.specs.TextTyping.{Entry, found, Loose, Operand, fixed, free, whole, Settles, a_number, a_single, a_double, Takes, widened, settles, Single, one_free, one, Double, two_free, two, Triple, three_free, three, IsIndex, an_integer, a_free_one, IsTyped, a_whole_number, a_typed_number, a_time, a_truth, a_variable, an_array, an_element, a_negation, an_inversion, an_operation, on_one, on_two, on_three, IsAsked, IsCondition, IsSelector, IsCommand, an_assignment, to_element, a_choice, a_selection, an_iteration, AreCommands, no_command, a_command, AreChoices, no_choices, more_choices, AreCases, no_cases, more_cases}
 use Rattle.fb_model.proofs.Placed.{name_same}
 use Rattle.fb_model.proofs.Lists.{same_name}
 use Rattle.fb_model.specs.Clear.{assigned_one, assigned, assigned_choices, assigned_cases}
@@ -104,8 +104,8 @@ module _ (env : List Entry) where
     by true e = refl
     by false e = e
 
-  left_loop : (busy : List Name) (x : Name) (xs : List Name) (b : Bool) → is_in x busy ≡ false → AreLeft (busy ++ x ∷ []) xs → AreLeft busy (if b then [] else x ∷ xs)
-  left_loop busy x xs true h k y i = refl
+  left_loop : (busy : List Name) (x : Name) (xs : List Name) (b : Bool) → is_in x busy ≡ false → AreLeft (busy ++ x ∷ []) xs → AreLeft busy (if b then xs else x ∷ xs)
+  left_loop busy x xs true h k y i = k y (still_busy y busy (x ∷ []) i)
   left_loop busy x xs false h k y i = not_both y (x ∷ []) xs (left_one busy x h y i) (k y (still_busy y busy (x ∷ []) i))
 
   mutual
@@ -137,7 +137,7 @@ module _ (env : List Entry) where
     choices_fit busy _ _ (more_choices {e = e} {xs = xs} {bs = bs} {y = z} {c = c} {cs = cs} t h k) =
         let a = commands_fit busy xs c h in
         let b = choices_fit busy bs cs k in
-        ((asked_fits _ e z t, a.0, b.0), left_both busy (assigned c) (assigned_choices cs) a.1 b.1)
+        ((typed_fits e _ t, a.0, b.0), left_both busy (assigned c) (assigned_choices cs) a.1 b.1)
 
     cases_fit : (busy : List Name) (type : ElemType) (bs : Arms) (cs : Cases) → AreCases env busy type bs cs → CasesFit (shape_of env) cs × AreLeft busy (assigned_cases cs)
     cases_fit busy type _ _ no_cases = (tt, λ y h. refl)
@@ -150,5 +150,8 @@ module _ (env : List Entry) where
 pub typed_algorithm_fits : (env : List Entry) (xs : Statements) (a : Algorithm) → AreCommands env [] xs a → AlgorithmFits (shape_of env) a
 typed_algorithm_fits env xs a h = (commands_fit env [] xs a h).0
 
-pub typed_guard_fits : (env : List Entry) (type : ElemType) (e : Expression) (g : Guard) → IsAsked env type e g → TermFits (shape_of env) g
-typed_guard_fits env type e g h = asked_fits env type e g h
+pub typed_guard_fits : (env : List Entry) (e : Expression) (g : Guard) → IsCondition env e g → TermFits (shape_of env) g
+typed_guard_fits env e g h = typed_fits env e _ h
+
+pub typed_term_fits : (env : List Entry) (type : ElemType) (e : Expression) (x : Term) → IsAsked env type e x → TermFits (shape_of env) x
+typed_term_fits env type e x h = asked_fits env type e x h

@@ -12,7 +12,7 @@ use Rattle.fb_model.specs.Trees.{Constant, ActionTree, StateTree}
 use Rattle.fb_model.specs.Declarations.{EventTree, BoundsTree, StartTree, VariableTree, GuardTree, TransitionTree, AlgorithmTree, ChartTree, BlockTree}
 use Rattle.fb_model.specs.StructuredText.{literal}
 use Rattle.fb_model.specs.TypedText.{Term, constant}
-use Rattle.fb_model.specs.TextTyping.{Entry, IsAsked, IsNumber, AreCommands}
+use Rattle.fb_model.specs.TextTyping.{Entry, IsAsked, IsCondition, IsNumber, AreCommands}
 use Rattle.fb_model.specs.System.{Variable, Event, Transition, Procedure, Block, Face}
 use Rattle.fb_model.specs.Typing.{texts, AreDistinct, IsKnown, most_ports, most_states, most_transitions, typed_state, state_texts}
 
@@ -119,7 +119,7 @@ scope ins outs internals = map (entry_of false) ins ++ map (entry_of true) outs 
 
 pub data IsGuard (env : List Entry) : Option GuardTree → Option Term → Type 0 where
   no_guard : IsGuard env None None
-  a_guard : {g : GuardTree} {x : Term} → IsAsked env t.Bool g.condition x → IsGuard env (Some g) (Some x)
+  a_guard : {g : GuardTree} {x : Term} → IsCondition env g.condition x → IsGuard env (Some g) (Some x)
 
 pub record IsTransition (env : List Entry) (states inputs : List Name) (c : TransitionTree) (d : Transition) : Type 0 where
   pub known_source : is_in c.source.text states ≡ true

@@ -186,6 +186,10 @@ pub record Spells (text : List ℕ) (certificate : Certificate) : Type 0 where
   pub none_twice : NoneTwice entries
   pub certificate_is : certificate ≡ certificate_in entries
 
+-- The certificate stands in a text.
+abbrev pub IsTold : Certificate → Type 0
+IsTold certificate = (text : List ℕ) × Spells text certificate
+
 -- Up to this row the text is right, and the rows after the first have said these.
 pub record Reaches (text : List ℕ) (entries : List Entry) (here : Written) : Type 0 where
   pub first : Written

@@ -130,9 +130,9 @@ either (Clear spans n) other = other
 either Leaves other = Leaves
 either Traps other = Traps
 
--- ---- assigned variables, as they stand in the text
+-- ---- assigned variables, as they stand in the text: the own variable of a FOR too, but of an idle one; what stands in its body counts
 
--- a FOR between two spelled numbers that has no turn assigns nothing
+-- a FOR between two spelled numbers that has no turn
 abbrev pub is_idle : Bool → Term → Term → ℤ → Bool
 is_idle true (constant a) (constant b) k = nat_eq (turn_count a b k) 0
 is_idle plain e g k = false
@@ -143,7 +143,7 @@ abbrev mutual
   assigned_one (set_part x low high i e) = []
   assigned_one (choose choices other) = assigned_choices choices ++ assigned other
   assigned_one (match_on e cases other) = assigned_cases cases ++ assigned other
-  assigned_one (count x a e g k plain body) = if is_idle plain e g k then [] else x ∷ assigned body
+  assigned_one (count x a e g k plain body) = if is_idle plain e g k then assigned body else x ∷ assigned body
 
   pub assigned : Algorithm → List Name
   assigned done = []

@@ -19,6 +19,7 @@ pub mod DeclarationGrammar
 pub mod BlockTyping
 pub mod Wires
 pub mod NetworkTyping
+pub mod EventBlocks
 pub mod Store
 pub mod Charts
 pub mod Messages

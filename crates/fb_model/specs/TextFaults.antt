@@ -14,7 +14,7 @@ use Rattle.fb_model.specs.Productions.{Word}
 use Rattle.fb_model.specs.Trees.{Literal, Whole, Typed, Duration, Constant}
 use Rattle.fb_model.specs.StructuredText.{Expression, literal, variable, element, call, negative, inverse, binary, Expressions, no_expression, expression, Label, Statement, assign, assign_element, branch, select, repeat, Statements, statement, Branches, a_branch, Arms, an_arm}
 use Rattle.fb_model.specs.TypedText.{Term}
-use Rattle.fb_model.specs.TextTyping.{allows, stays_free, called, arity, Entry, found, Loose, loose_number, loose_single, loose_double, Operand, fixed, free, whole, widens, may_be, is_free, IsOneOf, Brings, IsTyped, IsSelector, is_whole}
+use Rattle.fb_model.specs.TextTyping.{same_type, allows, stays_free, called, arity, Entry, found, Loose, loose_number, loose_single, loose_double, Operand, fixed, free, whole, widens, may_be, is_free, IsOneOf, Brings, IsTyped, IsSelector, is_whole}
 
 -- what is wrong, with its place
 pub data Fault : Type 0 where
@@ -101,6 +101,16 @@ pub data IsNotAsked (env : List Entry) (a : ElemType) (s : ℕ) (e : Expression)
   in_it : {w : Fault} → IsWrong env e w → IsNotAsked env a s e w
   not_taken : {p : Operand} {w : Fault} → IsTyped env e p → NotTaken a s p w → IsNotAsked env a s e w
 
+-- whether an operand is BOOL by itself
+abbrev pub is_truth : Operand → Bool
+is_truth (fixed a x) = same_type a t.Bool
+is_truth operand = false
+
+-- what is wrong where a place asks for a condition
+pub data IsNoCondition (env : List Entry) (s : ℕ) (e : Expression) : Fault → Type 0 where
+  in_condition : {w : Fault} → IsWrong env e w → IsNoCondition env s e w
+  no_truth : {p : Operand} → IsTyped env e p → is_truth p ≡ false → IsNoCondition env s e (type_mismatch s)
+
 -- ---- statements
 
 -- a name that may not be assigned
@@ -157,7 +167,7 @@ mutual
     later_one : {busy : List Name} {x : Statement} {xs : Statements} {w : Fault} → SomeMisdone env busy xs w → SomeMisdone env busy (statement x xs) w
 
   pub data SomeBranchWrong (env : List Entry) : List Name → Branches → Fault → Type 0 where
-    bad_condition : {busy : List Name} {s : ℕ} {e : Expression} {xs : Statements} {bs : Branches} {w : Fault} → IsNotAsked env t.Bool s e w → SomeBranchWrong env busy (a_branch s e xs bs) w
+    bad_condition : {busy : List Name} {s : ℕ} {e : Expression} {xs : Statements} {bs : Branches} {w : Fault} → IsNoCondition env s e w → SomeBranchWrong env busy (a_branch s e xs bs) w
     in_branch : {busy : List Name} {s : ℕ} {e : Expression} {xs : Statements} {bs : Branches} {w : Fault} → SomeMisdone env busy xs w → SomeBranchWrong env busy (a_branch s e xs bs) w
     later_branch : {busy : List Name} {s : ℕ} {e : Expression} {xs : Statements} {bs : Branches} {w : Fault} → SomeBranchWrong env busy bs w → SomeBranchWrong env busy (a_branch s e xs bs) w
 

@@ -230,6 +230,10 @@ pub record IsAsked (env : List Entry) (a : ElemType) (e : Expression) (x : Term)
   pub typed : IsTyped env e operand
   pub taken : Takes a operand x
 
+-- a condition, of IF, ELSIF or a transition: an expression that is BOOL by itself, since nothing there gives a free number a type
+abbrev pub IsCondition : List Entry → Expression → Term → Type 0
+IsCondition env e x = IsTyped env e (fixed t.Bool x)
+
 -- ---- statements
 
 -- a variable that may be assigned: it is writable, and no FOR counts with it
@@ -290,7 +294,7 @@ mutual
   pub data AreChoices (env : List Entry) : List Name → Branches → Choices → Type 0 where
     no_choices : {busy : List Name} → AreChoices env busy no_branch no_choice
     more_choices : {busy : List Name} {s : ℕ} {e : Expression} {xs : Statements} {bs : Branches} {y : Term} {c : Commands} {cs : Choices}
-        → IsAsked env t.Bool e y → AreCommands env busy xs c → AreChoices env busy bs cs → AreChoices env busy (a_branch s e xs bs) (choice y c cs)
+        → IsCondition env e y → AreCommands env busy xs c → AreChoices env busy bs cs → AreChoices env busy (a_branch s e xs bs) (choice y c cs)
 
   pub data AreCases (env : List Entry) : List Name → ElemType → Arms → Cases → Type 0 where
     no_cases : {busy : List Name} {a : ElemType} → AreCases env busy a no_arm no_case

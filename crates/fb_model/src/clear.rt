@@ -3,7 +3,7 @@
 ghost use Rattle.std.specs.Prelude.{◌≡◌, ◌≤◌, ℕ, suc, ℤ, neg_ℤ, ◌+ℤ◌, ◌-ℤ◌, ◌*ℤ◌, int_div, Bool, not, List, [], Some};
 ghost use Rattle.fb_words.specs.declared.elem_type.ElemType.{ElemType};
 ghost use Rattle.fb_model.specs.StructuredText.{Expression, Statements};
-ghost use Rattle.fb_model.specs.TextTyping.{AreCommands, Entry, IsAsked};
+ghost use Rattle.fb_model.specs.TextTyping.{AreCommands, Entry, IsAsked, IsCondition};
 ghost use Rattle.fb_model.specs.Values.{Values};
 ghost use Rattle.fb_model.specs.TypedText.{Term};
 ghost use Rattle.fb_model.specs.Language.{Algorithm, Guard, greatest, holds, is_zero, least, remainder, run, turn_count, value_of};
@@ -65,8 +65,9 @@ pub fn ends_are_reached()
     ensures maxima { ReachesTwo greatest maxima }
 {}
 
-/// What is well typed has the shape of its variables: each algorithm, and each guard or other expression where a type is asked for.
+/// What is well typed has the shape of its variables: each algorithm, each guard, and each expression where a type is asked for.
 pub fn typed_texts_fit()
     ensures algorithms { (env : List Entry) (xs : Statements) (a : Algorithm) → AreCommands env [] xs a → AlgorithmFits (shape_of env) a }
-    ensures guards { (env : List Entry) (type : ElemType) (e : Expression) (g : Guard) → IsAsked env type e g → TermFits (shape_of env) g }
+    ensures guards { (env : List Entry) (e : Expression) (g : Guard) → IsCondition env e g → TermFits (shape_of env) g }
+    ensures expressions { (env : List Entry) (type : ElemType) (e : Expression) (x : Term) → IsAsked env type e x → TermFits (shape_of env) x }
 {}

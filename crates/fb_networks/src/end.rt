@@ -30,7 +30,7 @@ pub struct Site<'a> {
 }
 
 /// What an end is: where events come from and go to, and where values do.
-#[derive(Clone, Copy, Debug, PartialEq, Eq)]
+#[derive(Clone, Copy)]
 pub enum Way {
     EventSource,
     EventTarget,
@@ -39,7 +39,7 @@ pub enum Way {
 }
 
 /// What a port carries: events, or values of a type.
-#[derive(Clone, Copy, Debug, PartialEq, Eq)]
+#[derive(Clone, Copy)]
 pub enum Carried {
     Events,
     Values(ElemType),

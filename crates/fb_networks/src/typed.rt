@@ -5,28 +5,28 @@ use fb_services::fb_blocks::{Block, Face};
 use std::rc::Rc;
 
 /// The value of a data input of an instance.
-#[derive(Debug, Drop)]
+#[derive(Drop)]
 pub struct Parameter {
     pub name: String,
     pub value: i64,
 }
 
 /// A port of an instance, or of the composite itself.
-#[derive(Debug, PartialEq, Eq, Hash, Drop)]
+#[derive(PartialEq, Eq, Hash, Drop)]
 pub struct End {
     pub instance: Option<String>,
     pub port: String,
 }
 
 /// A connection.
-#[derive(Debug, Drop)]
+#[derive(Drop)]
 pub struct Connection {
     pub source: End,
     pub target: End,
 }
 
 /// What an instance is made of. Instances of one type share it.
-#[derive(Debug, Drop)]
+#[derive(Drop)]
 #[cycle(body)]
 pub enum Body {
     /// A basic block.
@@ -37,7 +37,7 @@ pub enum Body {
 }
 
 /// A function block instance, with the place of its name.
-#[derive(Debug, Drop)]
+#[derive(Drop)]
 #[cycle(body)]
 pub struct Instance {
     pub name: String,
@@ -47,7 +47,7 @@ pub struct Instance {
 }
 
 /// Instances, and connections of events and of data, in text order.
-#[derive(Debug, Drop)]
+#[derive(Drop)]
 #[cycle(body)]
 pub struct Network {
     pub instances: Vec<Instance>,

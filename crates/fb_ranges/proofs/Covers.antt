@@ -14,7 +14,7 @@ use Rattle.fb_model.specs.TypedText.{Term, constant, read, part, single, double}
 use Rattle.fb_model.specs.Spans.{Span, span, joined}
 use Rattle.fb_model.specs.Clear.{Spans, changed, cut, at_most, at_least, just, without, meets, opposite, mirrored, is_truth, related, narrowed}
 use Rattle.fb_model.proofs.Names.{not_first, not_front, not_back}
-use Rattle.fb_model.proofs.Types.{le_is}
+use Rattle.fb_words.proofs.Types.{le_is}
 use Rattle.fb_ranges.specs.Narrowing.{read_in}
 
 -- ---- smallest ranges that hold two

@@ -69,7 +69,7 @@ looped_frames (suc n) xs rows f x r s k spans = by (are_kept xs rows spans) (f (
   by true Traps = tt
   by false found = tt
 
-looped_none : (n : ℕ) (xs : List Name) (rows : Spans) (f : Spans → Found) (x : Name) (r s : Span) (k : ℤ) (spans : Spans) → n ≡ 0 → Frames [] spans (looped n xs rows f x r s k spans)
+looped_none : (n : ℕ) (xs : List Name) (rows : Spans) (f : Spans → Found) (x : Name) (r s : Span) (k : ℤ) (spans : Spans) → n ≡ 0 → Frames xs spans (looped n xs rows f x r s k spans)
 looped_none zero xs rows f x r s k spans e = λ y out. refl
 looped_none (suc n) xs rows f x r s k spans e = absurd (omega (arith, e))
 
@@ -79,14 +79,14 @@ most_between a b (negsuc n) = refl
 
 -- a FOR
 count_frames : (x : Name) (e g : Term) (k : ℤ) (plain : Bool) (xs : List Name) (rows : Spans) (f : Spans → Found) (spans : Spans)
-    → Frames (if is_idle plain e g k then [] else x ∷ xs) spans (with_range (range_of e spans) (λ r. with_range (range_of g spans) (λ s. looped (most_turns r s k) xs rows f x r s k spans)))
+    → Frames (if is_idle plain e g k then xs else x ∷ xs) spans (with_range (range_of e spans) (λ r. with_range (range_of g spans) (λ s. looped (most_turns r s k) xs rows f x r s k spans)))
 count_frames x e g k plain xs rows f spans = by (is_idle plain e g k) refl where
   some : Frames (x ∷ xs) spans (with_range (range_of e spans) (λ r. with_range (range_of g spans) (λ s. looped (most_turns r s k) xs rows f x r s k spans)))
   some =
       with_range_frames (x ∷ xs) spans (range_of e spans) (λ r. with_range (range_of g spans) (λ s. looped (most_turns r s k) xs rows f x r s k spans))
       (λ r. with_range_frames (x ∷ xs) spans (range_of g spans) (λ s. looped (most_turns r s k) xs rows f x r s k spans) (λ s. looped_frames (most_turns r s k) xs rows f x r s k spans))
 
-  none : (plain : Bool) (e g : Term) → is_idle plain e g k ≡ true → Frames [] spans (with_range (range_of e spans) (λ r. with_range (range_of g spans) (λ s. looped (most_turns r s k) xs rows f x r s k spans)))
+  none : (plain : Bool) (e g : Term) → is_idle plain e g k ≡ true → Frames xs spans (with_range (range_of e spans) (λ r. with_range (range_of g spans) (λ s. looped (most_turns r s k) xs rows f x r s k spans)))
   none true (constant a) (constant b) h = looped_none (most_turns (span a a) (span b b) k) xs rows f x (span a a) (span b b) k spans (most_between a b k ∙ eqb-true (turn_count a b k) 0 h)
   none true (constant a) (read z) h = cc
   none true (constant a) (part z low high i) h = cc
@@ -98,7 +98,7 @@ count_frames x e g k plain xs rows f spans = by (is_idle plain e g k) refl where
   none true (double o c i j) g h = cc
   none false e g h = cc
 
-  by : (b : Bool) → is_idle plain e g k ≡ b → Frames (if b then [] else x ∷ xs) spans (with_range (range_of e spans) (λ r. with_range (range_of g spans) (λ s. looped (most_turns r s k) xs rows f x r s k spans)))
+  by : (b : Bool) → is_idle plain e g k ≡ b → Frames (if b then xs else x ∷ xs) spans (with_range (range_of e spans) (λ r. with_range (range_of g spans) (λ s. looped (most_turns r s k) xs rows f x r s k spans)))
   by true h = none plain e g h
   by false h = some
 

@@ -9,12 +9,12 @@ ghost use Rattle.fb_ranges.specs.Views.{spans_of};
 
 use crate::assigned::names_assigned;
 use crate::examine::examine;
-use crate::fault::RangeFault;
+use crate::fault::{OutOfMemory, RangeFault};
 use crate::join::{are_kept, copied};
 use crate::rows::Ranges;
 use crate::steps::told;
 use st_types::Algo;
-use std::alloc::{AllocError, Global};
+use std::alloc::Global;
 
 // The most steps of an algorithm that is clear, as they are told apart.
 fn examined(alloc: Global, algo: &Algo, rows: &Ranges) -> Result<u64, RangeFault>
@@ -43,12 +43,12 @@ pub fn check_algorithm(alloc: Global, algo: &Algo, rows: &Ranges) -> Result<(), 
 }
 
 /// The most steps of an algorithm, where it is clear under the rows of its variables and these are no more than 1,000,000,000,000.
-pub fn max_steps(alloc: Global, algo: &Algo, rows: &Ranges) -> Result<Option<u64>, AllocError>
+pub fn max_steps(alloc: Global, algo: &Algo, rows: &Ranges) -> Result<Option<u64>, OutOfMemory>
     ensures { IfOk result (λ most. most ≡ most_steps (book.examined (spans_of rows.now) (commands_of algo.now.statements.items))) }
 {
     match examined(alloc, algo, rows) {
         Ok(steps) => Ok(told(steps)),
-        Err(RangeFault::OutOfMemory) => Err(AllocError),
+        Err(RangeFault::OutOfMemory) => Err(OutOfMemory),
         Err(RangeFault::Leaves) | Err(RangeFault::Traps) => Ok(None),
     }
 }

@@ -31,7 +31,8 @@ pub(crate) fn pushed(name: &String, names: &mut Vec<String>) -> Result<(), Alloc
     Ok(())
 }
 
-/// The variables that statements assign, as they stand in the text.
+/// The variables that statements assign, as they stand in the text: the own variable of each FOR too, but of one between two spelled numbers
+/// that has no turn.
 pub(crate) fn names_assigned(alloc: Global, list: &[TypedStmt]) -> Result<Vec<String>, AllocError>
     ensures { IfOk result (λ names. busy_of names.items ≡ book.assigned (commands_of list.now)) }
 {
@@ -68,7 +69,7 @@ fn assigned_one(statement: &TypedStmt, names: &mut Vec<String>) -> Result<(), Al
         }
         TypedStmt::For(counting, body) => {
             if is_idle(counting) {
-                return Ok(());
+                return assigned(body, names);
             }
             pushed(&counting.variable, names)?;
             assigned(body, names)

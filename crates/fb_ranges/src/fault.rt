@@ -1,13 +1,26 @@
 //! Why a guard or an algorithm is not clear.
 
 ghost use Rattle.std.specs.Prelude.{◌≡◌};
-ghost use Rattle.fb_ranges.specs.declared.fault.RangeFault.TheVariants.{OutOfMemory};
+ghost use Rattle.fb_ranges.specs.declared.fault.RangeFault.TheVariants as fault;
 
 use std::alloc::{AllocError, AllocFailed};
 use std::fmt;
 
+/// Memory ran out. Code 9.
+#[derive(Clone, Copy)]
+pub struct OutOfMemory;
+
+impl OutOfMemory {
+    /// The number of the refusal.
+    pub fn code(&self) -> u8
+        ensures { result ≡ 9 }
+    {
+        9
+    }
+}
+
 /// Why a guard or an algorithm is not clear under the ranges of its variables.
-#[derive(Debug, Drop)]
+#[derive(Drop)]
 pub enum RangeFault {
     /// A variable may leave its row: after the algorithm, before a FOR that assigns it, or after one of its turns; or an element of an
     /// array may get a value beyond the array's row. Code 36.
@@ -50,7 +63,7 @@ impl fmt::Display for RangeFault {
 }
 
 impl From<AllocError> for RangeFault {
-    ghost from_gives = { λ _ e. e ≡ OutOfMemory };
+    ghost from_gives = { λ _ e. e ≡ fault.OutOfMemory };
 
     fn from(_: AllocError) -> RangeFault {
         RangeFault::OutOfMemory
@@ -58,7 +71,7 @@ impl From<AllocError> for RangeFault {
 }
 
 impl<T: Drop> From<AllocFailed<T>> for RangeFault {
-    ghost from_gives = { λ _ e. e ≡ OutOfMemory };
+    ghost from_gives = { λ _ e. e ≡ fault.OutOfMemory };
 
     fn from(_: AllocFailed<T>) -> RangeFault {
         RangeFault::OutOfMemory

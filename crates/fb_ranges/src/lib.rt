@@ -19,7 +19,7 @@ mod touched;
 mod way;
 
 pub use algorithm::{check_algorithm, max_steps};
-pub use fault::RangeFault;
+pub use fault::{OutOfMemory, RangeFault};
 pub use fb_intervals::Interval;
 pub use guard::check_guard;
 pub use law::{clear_algorithms_keep, clear_guards_answer, steps_are_enough};

@@ -5,7 +5,7 @@ use indexmap::IndexMap;
 use std::alloc::Global;
 
 /// The ranges of a block's variables, by their names. A variable without one has all numbers of LINT.
-#[derive(Debug, Drop)]
+#[derive(Drop)]
 pub struct Ranges {
     pub(crate) alloc: Global,
     pub(crate) rows: IndexMap<String, Interval>,

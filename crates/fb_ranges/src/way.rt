@@ -7,7 +7,7 @@ use std::alloc::Global;
 
 /// What an examination of one way finds: the variables that it may touch, their ranges at its end, and its most steps, up to the first
 /// number that stands for all greater ones.
-#[derive(Debug, Drop)]
+#[derive(Drop)]
 pub(crate) struct Way {
     pub names: Vec<String>,
     pub ends: Ranges,
@@ -15,14 +15,14 @@ pub(crate) struct Way {
 }
 
 /// The smallest range that holds those of a variable at the ends of ways, and how many ways there were with the last that touched it.
-#[derive(Clone, Copy, Debug)]
+#[derive(Clone, Copy)]
 pub(crate) struct Reached {
     pub range: Interval,
     pub ways: usize,
 }
 
 /// What ways have come to: each variable that one of them touched, how many they are, and the steps of the longest.
-#[derive(Debug, Drop)]
+#[derive(Drop)]
 pub(crate) struct Ways {
     pub alloc: Global,
     pub rows: IndexMap<String, Reached>,

@@ -9,7 +9,7 @@ use fb_lex::{TextFault, Token};
 use std::alloc::{AllocError, AllocFailed};
 
 /// Why reading stopped, and how many tokens were left then.
-#[derive(Debug, Drop)]
+#[derive(Drop)]
 pub enum Stop {
     /// Memory ran out.
     Memory,

@@ -12,7 +12,7 @@ use fb_lex::{Kind, Token};
 use fb_words::{ElemType, Mark};
 
 /// A name and the place of its first byte.
-#[derive(Debug, Drop)]
+#[derive(Drop)]
 pub struct Name {
     /// In upper case.
     pub text: String,

@@ -11,7 +11,7 @@ use Rattle.fb_model.specs.System.{start_of, zeros}
 use Rattle.fb_model.specs.BlockTyping.{extent, variable_of}
 use Rattle.fb_model.specs.Spans.{Span, span, within, whole}
 use Rattle.fb_model.specs.Shapes.{IsIn}
-use Rattle.fb_model.proofs.Types.{le_is, le_true}
+use Rattle.fb_words.proofs.Types.{le_is, le_true}
 use Rattle.fb_flat.specs.fb_blocks.declared.typed.Variable.{Variable}
 use Rattle.fb_flat.specs.fb_blocks.Views.{declared_of}
 use Rattle.fb_rows.specs.Beginning.{IsRange, Begins}

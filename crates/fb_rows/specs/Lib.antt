@@ -13,3 +13,4 @@ pub mod Beginning
 pub mod Clearing
 pub mod Fitting
 pub mod Tables
+pub mod Codes

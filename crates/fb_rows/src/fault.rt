@@ -6,7 +6,7 @@ ghost use Rattle.fb_rows.specs.declared.fault.Unclear.TheVariants.{OutOfMemory};
 use std::alloc::{AllocError, AllocFailed};
 
 /// Why rows of variables do not fit. A path is in upper case, its names joined by dots.
-#[derive(Debug, Drop)]
+#[derive(Drop)]
 pub enum Unclear {
     /// Memory ran out. Code 9.
     OutOfMemory,
@@ -19,6 +19,23 @@ pub enum Unclear {
     Kept(String),
     /// This algorithm, or a guard of a transition that leaves this state, may divide by 0 or index out of bounds. Code 37.
     IndexOrDivisor(String),
+}
+
+impl Unclear {
+    ghost use Rattle.fb_rows.specs.Codes.{code_of};
+
+    /// The number of the refusal.
+    pub fn code(&self) -> u8
+        ensures { result ≡ code_of self.now }
+    {
+        match self {
+            Unclear::OutOfMemory => 9,
+            Unclear::Start(_) => 34,
+            Unclear::Link(_) => 35,
+            Unclear::Kept(_) => 36,
+            Unclear::IndexOrDivisor(_) => 37,
+        }
+    }
 }
 
 impl From<AllocError> for Unclear {

@@ -14,7 +14,7 @@ use Rattle.fb_device.specs.fb_check.Verdicts.{system_in, certificate_in}
 use Rattle.fb_device.specs.Sessions.{Session}
 use Rattle.fb_device.specs.Machines.{device_in, cert_in, machine_of, device_at}
 use Rattle.fb_script.specs.Playing.{IsBad}
-use Rattle.fb_script.specs.Runs.{Runs, done, memory, bad, blank, answered, Answers, IsRun, first_line}
+use Rattle.fb_script.specs.Runs.{Runs, done, memory, bad, blank, answered, Answers, IsRun}
 use Rattle.fb_script.specs.Steps.{IsStep}
 use Rattle.fb_script.specs.Views.{texts}
 use Rattle.fb_script.specs.declared.run.End.{End}
@@ -162,52 +162,3 @@ stopped {t} {x} {number} {first} {now} {later} {script} {before} {after} {wider}
     by : (end ≡ ends.OutOfMemory) ⊎ (IsBad (device_in now) x × (end ≡ ends.Line (number + 1))) → IsRun first script before wider end later
     by (inl e) = runs_so (subst (λ k. Runs (cert_in first) (device_in first) (number + 1) (x ∷ a.rest) (machine_of now) [] k (machine_of now)) (sym e) memory)
     by (inr h) = runs_so (subst (λ k. Runs (cert_in first) (device_in first) (number + 1) (x ∷ a.rest) (machine_of now) [] k (machine_of now)) (sym h.1) (bad (subst (λ d. IsBad d x) (same_device now first a.verified a.device) h.0)))
-
--- ---- where no device is named
-
-pub record Seeking (s : Lines) (number : ℕ) (script : List ℕ) : Type 0 where
-  pub rest : List (List ℕ)
-  pub yields : AlwaysYields lines_steps (λ x. x.now) s rest
-  pub counted : number + length rest ≡ length (lines script)
-  pub same : first_line (number + 1) rest ≡ first_line 1 (lines script)
-
-pub seek : {s : Lines} (script : List ℕ) → AlwaysYields lines_steps (λ x. x.now) s (lines script) → Seeking s 0 script
-seek {s} script y = record { rest = lines script; yields = y; counted = omega arith; same = refl }
-
--- a line is looked at
-pub record Look (t : Lines) (x : List ℕ) (number : ℕ) (script : List ℕ) : Type 0 where
-  pub rest : List (List ℕ)
-  pub yields : AlwaysYields lines_steps (λ y. y.now) t rest
-  pub counted : number + 1 + length rest ≡ length (lines script)
-  pub same : first_line (number + 1) (x ∷ rest) ≡ first_line 1 (lines script)
-
-pub look : {s t : Lines} (x : Bor (List ℕ)) {number : ℕ} {script : List ℕ} → Seeking s number script → lines_steps s (Some x) t → Look t x.now number script
-look {s} {t} x {number} {script} a k = by a.rest a.yields a.counted a.same
-  where
-    by : (rest : List (List ℕ)) → AlwaysYields lines_steps (λ z. z.now) s rest → number + length rest ≡ length (lines script) → first_line (number + 1) rest ≡ first_line 1 (lines script) → Look t x.now number script
-    by [] y counted same = absurd (y x t k)
-    by (l ∷ ls) y counted same =
-        let p = y.1 x t k in
-        record { rest = ls; yields = p.1; counted = omega arith; same = subst (λ v. first_line (number + 1) (v ∷ ls) ≡ first_line 1 (lines script)) (sym p.0) same }
-
-pub passed : {t : Lines} {x : List ℕ} {number : ℕ} {script : List ℕ} → Look t x number script → (length (words x) == 0) ≡ true → Seeking t (number + 1) script
-passed {t} {x} {number} {script} a e = record { rest = a.rest; yields = a.yields; counted = a.counted; same = ap (λ b. cond b (first_line (number + 1 + 1) a.rest) (ends.Line (number + 1))) (sym e) ∙ a.same }
-
-pub found : {t : Lines} {x : List ℕ} {number : ℕ} {script : List ℕ} → Look t x number script → (length (words x) == 0) ≡ false → first_line 1 (lines script) ≡ ends.Line (number + 1)
-found {t} {x} {number} {script} a e = sym a.same ∙ ap (λ b. cond b (first_line (number + 1 + 1) a.rest) (ends.Line (number + 1))) e
-
-pub all_blank : {s t : Lines} {number : ℕ} {script : List ℕ} → Seeking s number script → lines_steps s None t → first_line 1 (lines script) ≡ ends.Done
-all_blank {s} {t} {number} {script} a k = by a.rest a.yields a.same
-  where
-    by : (rest : List (List ℕ)) → AlwaysYields lines_steps (λ x. x.now) s rest → first_line (number + 1) rest ≡ first_line 1 (lines script) → first_line 1 (lines script) ≡ ends.Done
-    by [] y same = sym same
-    by (l ∷ ls) y same = absurd (y.0 t k)
-
--- as many words as there are in the code's list
-pub has_none : (items : List (Bor (List ℕ))) (ws : List (List ℕ)) → texts items ≡ ws → length items ≡ 0 → (length ws == 0) ≡ true
-has_none [] ws e n = subst (λ v. (length v == 0) ≡ true) e refl
-has_none (x ∷ xs) ws e n = absurd (omega (arith, n))
-
-pub has_some : (items : List (Bor (List ℕ))) (ws : List (List ℕ)) → texts items ≡ ws → 0 < length items → (length ws == 0) ≡ false
-has_some [] ws e n = absurd (omega (arith, n))
-has_some (x ∷ xs) ws e n = subst (λ v. (length v == 0) ≡ false) e (grind arith)

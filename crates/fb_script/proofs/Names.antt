@@ -1,5 +1,5 @@
 -- The names of answers.
-use Rattle.std.proofs.Common.{◌≡◌, ℕ, zero, suc, List, [], ◌∷◌, ◌++◌, length, true, false, Option, Some, None, refl, sym, ◌∙◌, ap, arith, Bor, codes}
+use Rattle.std.proofs.Common.{◌≡◌, ◌≤◌, ℕ, zero, suc, List, [], ◌∷◌, ◌++◌, length, true, false, Option, Some, None, refl, sym, ◌∙◌, ap, arith, Bor, codes}
 use Rattle.std.specs.Prelude.{slice_get, ℤ}
 use Rattle.std.specs.Fmt.{decimal}
 use Rattle.std.specs.List.{join_with_byte}
@@ -8,22 +8,24 @@ use Rattle.std.proofs.lemmas.List.Splits.{join_with_byte-slice_split}
 use Rattle.fb_model.specs.Names.{Name}
 use Rattle.fb_model.specs.Wires.{Leaf}
 use Rattle.fb_model.specs.System.{Device, Resource}
-use Rattle.fb_model.specs.Certificates.{Certificate}
+use Rattle.fb_model.specs.Certificates.{Certificate, events_of}
 use Rattle.fb_model.specs.Devices as model
 use Rattle.fb_model.specs.Devices.{Event, Machine, Happens}
 use Rattle.fb_device.specs.fb_check.Lookups.{is_same_path}
 use Rattle.fb_device.specs.fb_tables.Views.{place_at, place_in}
-use Rattle.fb_device.specs.Answers.{IsNamed, IsNoPoint, IsNumberOf, IsNoNumber, turned_of, denial_of}
+use Rattle.fb_device.specs.Answers.{IsNamed, IsNoPoint, IsNumberOf, IsNoNumber, turned_of, end_of, denial_of}
 use Rattle.fb_device.specs.declared.answer.Denied.{Denied}
 use Rattle.fb_device.specs.declared.answer.Denied.TheVariants as d
 use Rattle.fb_device.specs.declared.answer.Ended.{Ended}
-use Rattle.fb_device.specs.fb_invoke.declared.dispatch.Written.{Written}
+use Rattle.fb_device.specs.fb_invoke.declared.dispatch.Effect.{Effect as Outside}
+use Rattle.fb_device.specs.fb_invoke.declared.dispatch.Effect.TheVariants as outside
+use Rattle.fb_device.specs.fb_tables.Tables.{IsPoint}
 use Rattle.fb_device.specs.fb_invoke.Turning.{effect_of}
 use Rattle.fb_device.specs.declared.answer.Ran.{Ran as RanRecord}
 use Rattle.fb_device.specs.declared.answer.Turned.TheVariants as turned
 use Rattle.fb_script.specs.Lines.{Offer, Dispatch}
-use Rattle.fb_script.specs.Playing.{Asks, Plays, IsText}
-use Rattle.fb_script.specs.Texts.{place_text, values_text, effect_text, end_text, written_text, ended_text, denial_text, why_text, told_text, answer_text}
+use Rattle.fb_script.specs.Playing.{Asks, Plays}
+use Rattle.fb_script.specs.Texts.{place_text, values_text, effect_text, end_text, outside_text, done_text, ended_text, denial_text, why_text, told_text, answer_text}
 use Rattle.fb_script.specs.declared.told.Told.TheVariants as told
 
 place_named : (all : List Leaf) (block event : ℕ) (path name : List ℕ) → IsNamed all block event path name → place_text (place_at all (record { block = block; event = event })) ≡ path ++ codes "." ++ name
@@ -32,32 +34,33 @@ place_named all block event path name n =
     ∙ (ap (λ o. join_with_byte 46 n.leaf.path ++ codes "." ++ elim o [ None ↦ [] | Some x ↦ x ]) n.name_is
     ∙ ap (λ t. t ++ codes "." ++ name) (ap (join_with_byte 46) (sym n.path_is) ∙ join_with_byte-slice_split 46 path))
 
-place_unnamed : (all : List Leaf) (block event : ℕ) → IsNoPoint all block event → (place_at all (record { block = block; event = event })).event ≡ []
-place_unnamed all block event h = by (slice_get all block) refl
-  where
-    by : (o : Option Leaf) → slice_get all block ≡ o → (place_in o event).event ≡ []
-    by None e = refl
-    by (Some leaf) e = ap (λ (o : Option Name). elim o [ None ↦ [] | Some x ↦ x ]) (h leaf e)
+same_end : (o : Option Ended) → ended_text o ≡ end_text (option_map end_of o)
+same_end None = refl
+same_end (Some e) = refl
 
-same_end : (cause : ℕ) (o : Option Ended) → ended_text cause o ≡ end_text cause (option_map (λ (e : Ended). (e.total, e.bound)) o)
-same_end cause None = refl
-same_end cause (Some e) = refl
-
-same_effect : (written : Option (Bor Written)) → written_text written ≡ effect_text (effect_of (option_copied written))
+same_effect : (effect : Option (Bor Outside)) → done_text effect ≡ effect_text (effect_of (option_copied effect))
 same_effect None = refl
-same_effect (Some w) = refl
+same_effect (Some e) = by e.now
+  where
+    by : (x : Outside) → outside_text x ≡ effect_text (effect_of (Some x))
+    by (outside.Write number values) = refl
 
 -- a run is told by its names
-pub run_told : (all : List Leaf) (r : RanRecord) (path event : Bor (List ℕ)) (written : Option (Bor Written)) → IsNamed all r.block r.event path.now event.now → option_copied written ≡ r.written
-    → told_text (told.Ran r.cause path event r.steps written r.ended) ≡ answer_text (turned_of all (turned.Ran r))
-run_told all r path event written n lent =
-    ap (λ t. codes "ran " ++ t ++ codes " steps " ++ decimal r.steps ++ written_text written ++ ended_text r.cause r.ended) (sym (place_named all r.block r.event path.now event.now n))
-    ∙ ap (λ t. codes "ran " ++ place_text (place_at all (record { block = r.block; event = r.event })) ++ codes " steps " ++ decimal r.steps ++ t ++ ended_text r.cause r.ended) (same_effect written ∙ ap (λ o. effect_text (effect_of o)) lent)
-    ∙ ap (λ t. codes "ran " ++ place_text (place_at all (record { block = r.block; event = r.event })) ++ codes " steps " ++ decimal r.steps ++ effect_text (effect_of r.written) ++ t) (same_end r.cause r.ended)
+pub run_told : (all : List Leaf) (r : RanRecord) (path event : Bor (List ℕ)) (effect : Option (Bor Outside)) → IsNamed all r.block r.event path.now event.now → option_copied effect ≡ r.effect
+    → told_text (told.Ran r.cause path event r.steps effect r.ended) ≡ answer_text (turned_of all (turned.Ran r))
+run_told all r path event effect n lent =
+    ap (λ t. codes "ran " ++ t ++ codes " steps " ++ decimal r.steps ++ done_text effect ++ ended_text r.ended) (sym (place_named all r.block r.event path.now event.now n))
+    ∙ ap (λ t. codes "ran " ++ place_text (place_at all (record { block = r.block; event = r.event })) ++ codes " steps " ++ decimal r.steps ++ t ++ ended_text r.ended) (same_effect effect ∙ ap (λ o. effect_text (effect_of o)) lent)
+    ∙ ap (λ t. codes "ran " ++ place_text (place_at all (record { block = r.block; event = r.event })) ++ codes " steps " ++ decimal r.steps ++ effect_text (effect_of r.effect) ++ t) (same_end r.ended)
 
--- an event without a name is not told
-pub run_untold : (all : List Leaf) (r : RanRecord) (text : List ℕ) → IsNoPoint all r.block r.event → IsText (turned_of all (turned.Ran r)) text
-run_untold all r text h = λ some. absurd (omega (arith, some, ap (λ (xs : List ℕ). length xs) (place_unnamed all r.block r.event h)))
+-- an answer of the device has a name
+pub never_unnamed : (all : List Leaf) (block event : ℕ) → IsPoint all (record { block = block; event = event }) → IsNoPoint all block event → ⊥
+never_unnamed all block event p h = absurd (omega (arith, p.event, none_there_at (events_of p.leaf.kind) event (h p.leaf p.block)))
+  where
+    none_there_at : (names : List Name) (k : ℕ) → slice_get names k ≡ None → length names ≤ k
+    none_there_at [] k e = omega arith
+    none_there_at (x ∷ xs) zero e = absurd cc
+    none_there_at (x ∷ xs) (suc k) e = let l = none_there_at xs k e in omega arith
 
 pub same_why : (why : Denied) → why_text why ≡ denial_text (denial_of why)
 same_why d.UnknownInput = refl

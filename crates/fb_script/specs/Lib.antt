@@ -8,3 +8,4 @@ pub mod Texts
 pub mod Playing
 pub mod Runs
 pub mod Steps
+pub mod Codes

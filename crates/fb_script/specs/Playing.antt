@@ -1,14 +1,13 @@
 -- What a line does to a device.
-use Rattle.std.specs.Prelude.{◌≡◌, ◌≢◌, ◌<◌, ℕ, true, List, [], length, Some}
+use Rattle.std.specs.Prelude.{◌≡◌, ◌≢◌, ℕ, true, List, [], Some}
 use Rattle.fb_model.specs.System.{Device}
 use Rattle.fb_model.specs.Certificates.{Certificate}
-use Rattle.fb_model.specs.Devices.{Machine, Event, Answer, Ran, Happens}
+use Rattle.fb_model.specs.Devices.{Machine, Event, Answer, Happens}
 use Rattle.fb_model.specs.Devices as book
 use Rattle.fb_model.specs.CertificateText.{words}
 use Rattle.fb_device.specs.fb_check.Lookups.{is_same_path}
 use Rattle.fb_device.specs.Answers.{IsNumberOf}
 use Rattle.fb_script.specs.Lines.{Command, Offer, Dispatch, command_in}
-use Rattle.fb_script.specs.Texts.{answer_text}
 
 -- the event of a command at a device of its name. Letter case has no meaning in names
 abbrev pub Asks : Device → Command → Event → Type 0
@@ -22,15 +21,6 @@ Means device line event = (command : Command) × (command_in (words line) ≡ So
 -- a line that has words, and means no event
 abbrev pub IsBad : Device → List ℕ → Type 0
 IsBad device line = (words line ≢ []) × ((event : Event) → Means device line event → ⊥)
-
--- the event that an answer tells of has a name
-abbrev pub HasName : Answer → Type 0
-HasName (Ran cause place steps effect ended) = 0 < length place.event
-HasName other = Unit {0}
-
--- this is the answer's text
-abbrev pub IsText : Answer → List ℕ → Type 0
-IsText answer text = HasName answer → text ≡ answer_text answer
 
 -- a command is an event that happens, and this is its answer
 abbrev pub Plays : Certificate → Device → Command → Machine → Answer → Machine → Type 0

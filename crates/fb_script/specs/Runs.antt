@@ -1,5 +1,5 @@
 -- What a script does: its lines are run in order, and none is run after one that is bad.
-use Rattle.std.specs.Prelude.{◌≡◌, ℕ, ◌+◌, ◌==◌, List, [], ◌∷◌, ◌++◌, length, Option, if◌then◌else◌}
+use Rattle.std.specs.Prelude.{◌≡◌, ℕ, ◌+◌, List, [], ◌∷◌, ◌++◌, Option}
 use Rattle.std.specs.Io.KnownBytes.{Appends}
 use Rattle.std.specs.Str.Lines.{lines}
 use Rattle.fb_device.specs.Sessions.{Session}
@@ -8,7 +8,8 @@ use Rattle.fb_model.specs.System.{Device}
 use Rattle.fb_model.specs.Certificates.{Certificate}
 use Rattle.fb_model.specs.Devices.{Machine, Event, Answer, Happens}
 use Rattle.fb_model.specs.CertificateText.{words}
-use Rattle.fb_script.specs.Playing.{Means, IsBad, IsText}
+use Rattle.fb_script.specs.Playing.{Means, IsBad}
+use Rattle.fb_script.specs.Texts.{answer_text}
 use Rattle.fb_script.specs.declared.run.End.{End}
 use Rattle.fb_script.specs.declared.run.End.TheVariants.{Done, Line, OutOfMemory}
 
@@ -18,7 +19,7 @@ pub record Answers (cert : Certificate) (device : Device) (line : List ℕ) (old
   pub answer : Answer
   pub means : Means device line event
   pub happens : Happens cert device old event answer new
-  pub text_is : IsText answer text
+  pub text_is : text ≡ answer_text answer
 
 -- these lines, the first of which has this number: the text that they print, how they end, and where the machine comes to
 pub data Runs (cert : Certificate) (device : Device) : ℕ → List (List ℕ) → Machine → List ℕ → End → Machine → Type 0 where
@@ -35,13 +36,3 @@ pub record IsRun (old : Session) (script : List ℕ) (before after : Option (Lis
   pub text : List ℕ
   pub runs : Runs (cert_in old) (device_in old) 1 (lines script) (machine_of old) text end (machine_of new)
   pub printed : Appends before after text
-
--- where no device is named, the first line that has words is bad
-abbrev pub first_line : ℕ → List (List ℕ) → End
-first_line n [] = Done
-first_line n (line ∷ rest) = if length (words line) == 0 then first_line (n + 1) rest else Line n
-
-abbrev pub IsFirst : List (List ℕ) → End → Type 0
-IsFirst all Done = first_line 1 all ≡ Done
-IsFirst all (Line n) = first_line 1 all ≡ Line n
-IsFirst all OutOfMemory = Unit {0}

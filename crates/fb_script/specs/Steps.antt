@@ -6,14 +6,15 @@ use Rattle.fb_model.specs.CertificateText.{words}
 use Rattle.fb_device.specs.Sessions.{Session}
 use Rattle.fb_device.specs.Machines.{device_in, cert_in, machine_of}
 use Rattle.fb_script.specs.Lines.{Command}
-use Rattle.fb_script.specs.Playing.{Asks, Plays, IsBad, IsText}
+use Rattle.fb_script.specs.Playing.{Asks, Plays, IsBad}
+use Rattle.fb_script.specs.Texts.{answer_text}
 use Rattle.fb_script.specs.Runs.{Answers}
 use Rattle.fb_script.specs.declared.run.End.{End}
 use Rattle.fb_script.specs.declared.run.End.TheVariants.{Line, OutOfMemory}
 
 -- the text of an answer is written, and a line feed
 abbrev pub IsWritten : Answer → Option (List ℕ) → Option (List ℕ) → Type 0
-IsWritten answer before after = (text : List ℕ) × IsText answer text × Appends before after (text ++ 10 ∷ [])
+IsWritten answer before after = Appends before after (answer_text answer ++ 10 ∷ [])
 
 -- nothing happens
 abbrev pub Stays : Session → Option (List ℕ) → Option (List ℕ) → Session → Type 0

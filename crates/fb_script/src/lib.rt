@@ -10,5 +10,5 @@ mod told;
 pub use fb_device;
 pub use line::{Line, LineFault, read_line};
 pub use playing::{play, tell};
-pub use run::{End, first_line, simulate};
+pub use run::{End, simulate};
 pub use told::Told;

@@ -9,7 +9,7 @@ use crate::number::{read_number, read_value};
 use std::alloc::{AllocError, AllocFailed, Global};
 
 /// A line that has words.
-#[derive(Debug, Drop)]
+#[derive(Drop)]
 pub enum Line<'a> {
     /// `offer DEVICE NUMBER VALUES`: an arrival at the INPUT of a number, with its values.
     Offer {
@@ -25,12 +25,26 @@ pub enum Line<'a> {
 }
 
 /// Why a line is not read.
-#[derive(Clone, Copy, Debug, PartialEq, Eq)]
+#[derive(Clone, Copy)]
 pub enum LineFault {
     /// Memory ran out.
     OutOfMemory,
     /// The words are none of the two forms, or one of them is no number that fits.
     Form,
+}
+
+impl LineFault {
+    ghost use Rattle.fb_script.specs.Codes.{code_of};
+
+    /// The number of the refusal.
+    pub fn code(&self) -> u8
+        ensures { result ≡ code_of self.now }
+    {
+        match self {
+            LineFault::OutOfMemory => 9,
+            LineFault::Form => 60,
+        }
+    }
 }
 
 impl From<AllocError> for LineFault {

@@ -1,16 +1,15 @@
 //! One line, and its answer.
 
-ghost use Rattle.std.specs.Prelude.{◌≡◌, None, List, ℕ, ℤ};
+ghost use Rattle.std.specs.Prelude.{◌≡◌, IfSome, None, List, ℕ, ℤ};
 ghost use Rattle.fb_model.specs.Devices.{Event};
 ghost use Rattle.fb_model.specs.Wires.{leaves};
 ghost use Rattle.fb_device.specs.fb_check.Lookups.{is_same_path};
 ghost use Rattle.fb_device.specs.Machines.{device_in, cert_in, machine_of};
-ghost use Rattle.fb_device.specs.Answers.{answer_of, turned_of};
+ghost use Rattle.fb_device.specs.Answers.{answer_of, turned_of, HasPoint, HasPlace};
 ghost use Rattle.fb_device.specs.declared.answer.Turned.TheVariants as turned;
 ghost use Rattle.fb_script.specs.Lines as book;
 ghost use Rattle.fb_script.specs.Views.{command_of, IsPlayed};
-ghost use Rattle.fb_script.specs.Playing.{IsText};
-ghost use Rattle.fb_script.specs.Texts.{told_text};
+ghost use Rattle.fb_script.specs.Texts.{told_text, answer_text};
 
 use crate::line::Line;
 use crate::told::Told;
@@ -25,6 +24,7 @@ fn is_named(device: &Device, name: &str) -> bool
 
 fn play_offer(device: &mut Device, name: &str, number: u16, values: &[i64]) -> Option<Answer>
     ensures plays { IsPlayed device.old (book.Offer name.now number values.now) result device.new }
+    ensures place { IfSome result (HasPlace (leaves (device_in device.new))) }
     ensures same { (device.new.verified ≡ device.old.verified) × (device.new.number ≡ device.old.number) }
 {
     if !is_named(device, name) {
@@ -35,6 +35,7 @@ fn play_offer(device: &mut Device, name: &str, number: u16, values: &[i64]) -> O
 
 fn play_dispatch(device: &mut Device, name: &str, resource: &str) -> Option<Answer>
     ensures plays { IsPlayed device.old (book.Dispatch name.now resource.now) result device.new }
+    ensures place { IfSome result (HasPlace (leaves (device_in device.new))) }
     ensures same { (device.new.verified ≡ device.old.verified) × (device.new.number ≡ device.old.number) }
 {
     if !is_named(device, name) {
@@ -50,6 +51,7 @@ fn play_dispatch(device: &mut Device, name: &str, resource: &str) -> Option<Answ
 /// the device has not: it is as it was then.
 pub fn play(device: &mut Device, line: &Line<'_>) -> Option<Answer>
     ensures plays { IsPlayed device.old (command_of line.now) result device.new }
+    ensures place { IfSome result (HasPlace (leaves (device_in device.new))) }
     ensures same { (device.new.verified ≡ device.old.verified) × (device.new.number ≡ device.old.number) }
 {
     match line {
@@ -67,7 +69,7 @@ pub fn play(device: &mut Device, line: &Line<'_>) -> Option<Answer>
 
 // A block that ran, by its names.
 fn tell_run<'a>(device: &'a Device, ran: &'a Ran) -> Told<'a>
-    ensures { IsText (turned_of (leaves (device_in device.now)) (turned.Ran ran.now)) (told_text result) }
+    ensures { HasPoint (leaves (device_in device.now)) (turned.Ran ran.now) → told_text result ≡ answer_text (turned_of (leaves (device_in device.now)) (turned.Ran ran.now)) }
 {
     match device.path(ran.block, ran.event) {
         Some((path, event)) => Told::Ran {
@@ -75,7 +77,7 @@ fn tell_run<'a>(device: &'a Device, ran: &'a Ran) -> Told<'a>
             path,
             event,
             steps: ran.steps,
-            written: ran.written.as_ref(),
+            effect: ran.effect.as_ref(),
             ended: ran.ended,
         },
         None => Told::Ran {
@@ -83,7 +85,7 @@ fn tell_run<'a>(device: &'a Device, ran: &'a Ran) -> Told<'a>
             path: "",
             event: "",
             steps: ran.steps,
-            written: ran.written.as_ref(),
+            effect: ran.effect.as_ref(),
             ended: ran.ended,
         },
     }
@@ -91,7 +93,7 @@ fn tell_run<'a>(device: &'a Device, ran: &'a Ran) -> Told<'a>
 
 /// An answer of a device, with the names of its block and event.
 pub fn tell<'a>(device: &'a Device, answer: &'a Answer) -> Told<'a>
-    ensures { IsText (answer_of (leaves (device_in device.now)) answer.now) (told_text result) }
+    ensures { HasPlace (leaves (device_in device.now)) answer.now → told_text result ≡ answer_text (answer_of (leaves (device_in device.now)) answer.now) }
 {
     match answer {
         Answer::Admitted(Ok(cause)) => Told::Admitted(*cause),

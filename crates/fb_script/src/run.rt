@@ -1,15 +1,14 @@
 //! Whole scripts.
 
 ghost use Rattle.std.specs.Prelude.{◌≡◌, ◌≤◌, length, IfOk};
-ghost use Rattle.std.specs.Str.Lines.{lines};
 ghost use Rattle.fb_model.specs.Wires.{leaves};
 ghost use Rattle.fb_device.specs.Machines.{device_in};
-ghost use Rattle.fb_device.specs.Answers.{answer_of};
+ghost use Rattle.fb_device.specs.Answers.{answer_of, HasPlace};
 ghost use Rattle.fb_script.specs.Views.{command_of};
 ghost use Rattle.fb_script.specs.Steps.{IsWritten, IsObeyed, IsStep};
-ghost use Rattle.fb_script.specs.Runs.{IsRun, IsFirst};
+ghost use Rattle.fb_script.specs.Runs.{IsRun};
 
-use crate::line::{Line, LineFault, read_line, words_of};
+use crate::line::{Line, LineFault, read_line};
 use crate::playing::{play, tell};
 use fb_device::{Answer, Device};
 use std::alloc::Global;
@@ -17,7 +16,7 @@ use std::io;
 use std::io::Write;
 
 /// How a script ends.
-#[derive(Clone, Copy, Debug, PartialEq, Eq)]
+#[derive(Clone, Copy)]
 pub enum End {
     /// Every line was run.
     Done,
@@ -29,6 +28,7 @@ pub enum End {
 
 // Writes the answer of a device.
 fn write_answer<W: Write>(device: &Device, answer: &Answer, output: &mut W) -> io::Result<()>
+    requires { HasPlace (leaves (device_in device.now)) answer.now }
     ensures { IfOk result (λ _. IsWritten (answer_of (leaves (device_in device.now)) answer.now) (W.contents output.old) (W.contents output.new)) }
 {
     let told = tell(device, answer);
@@ -94,24 +94,4 @@ pub fn simulate<W: Write>(
         }
     }
     Ok(End::Done)
-}
-
-/// Where a script ends that has no device to run on: at the first line that has words.
-pub fn first_line(alloc: Global, script: &str) -> End
-    requires { length script.now ≤ 33554432 }
-    ensures { IsFirst (lines script.now) result }
-{
-    let mut count = 0;
-    for line in script.lines() {
-        count += 1;
-        match words_of(alloc, line) {
-            Ok(words) => {
-                if !words.is_empty() {
-                    return End::Line(count);
-                }
-            }
-            Err(_) => return End::OutOfMemory,
-        }
-    }
-    End::Done
 }

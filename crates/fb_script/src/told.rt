@@ -1,10 +1,10 @@
 //! How answers are printed.
 
-use fb_device::{Denied, Ended, Written};
+use fb_device::{Denied, Effect, Ended};
 use std::fmt;
 
 /// The answer to a line, with names in the place of numbers.
-#[derive(Clone, Copy, Debug)]
+#[derive(Clone, Copy)]
 pub enum Told<'a> {
     /// An offer is admitted as this cause.
     Admitted(u64),
@@ -18,48 +18,70 @@ pub enum Told<'a> {
         path: &'a str,
         event: &'a str,
         steps: u64,
-        written: Option<&'a Written>,
+        effect: Option<&'a Effect>,
         ended: Option<Ended>,
     },
 }
 
-// What an OUTPUT has written, as ` write 1 9`.
+// Values, each behind a space.
 #[derive(Clone, Copy)]
-struct Wrote<'a>(Option<&'a Written>);
+struct Row<'a>(&'a [i64]);
 
-impl fmt::Display for Wrote<'_> {
+impl fmt::Display for Row<'_> {
     ghost use Rattle.std.specs.Prelude.{Some};
-    ghost use Rattle.fb_script.specs.Texts.{written_text};
+    ghost use Rattle.fb_script.specs.Texts.{values_text};
 
-    ghost output = { λ w. Some (written_text w.0) };
+    ghost output = { λ r. Some (values_text r.0.now) };
 
     fn fmt<W: fmt::Write>(&self, f: &mut fmt::Formatter<W>) -> fmt::Result {
-        if let Some(written) = self.0 {
-            let number = written.number;
-            write!(f, " write {number}")?;
-            for value in written.values.as_slice() {
-                write!(f, " {value}")?;
-            }
+        for value in self.0 {
+            write!(f, " {value}")?;
         }
         Ok(())
     }
 }
 
+// What a dispatch has done outside of the device: of an OUTPUT, ` write 1 9`.
+#[derive(Clone, Copy)]
+struct Done<'a>(Option<&'a Effect>);
+
+impl fmt::Display for Done<'_> {
+    ghost use Rattle.std.specs.Prelude.{Some};
+    ghost use Rattle.fb_script.specs.Texts.{done_text};
+
+    ghost output = { λ d. Some (done_text d.0) };
+
+    fn fmt<W: fmt::Write>(&self, f: &mut fmt::Formatter<W>) -> fmt::Result {
+        match self.0 {
+            None => Ok(()),
+            Some(Effect::Write(number, values)) => {
+                let row = Row(values.as_slice());
+                write!(f, " write {number}{row}")
+            }
+        }
+    }
+}
+
 // The end of a cause, as ` ended 1 4 of 4`.
 #[derive(Clone, Copy)]
-struct Closed(u64, Option<Ended>);
+struct Closed(Option<Ended>);
 
 impl fmt::Display for Closed {
     ghost use Rattle.std.specs.Prelude.{Some};
     ghost use Rattle.fb_script.specs.Texts.{ended_text};
 
-    ghost output = { λ c. Some (ended_text c.0 c.1) };
+    ghost output = { λ c. Some (ended_text c.0) };
 
     fn fmt<W: fmt::Write>(&self, f: &mut fmt::Formatter<W>) -> fmt::Result {
-        let cause = self.0;
-        match self.1 {
+        match self.0 {
             None => Ok(()),
-            Some(Ended { total, bound }) => write!(f, " ended {cause} {total} of {bound}"),
+            Some(
+                Ended {
+                    cause,
+                    total,
+                    bound,
+                },
+            ) => write!(f, " ended {cause} {total} of {bound}"),
         }
     }
 }
@@ -88,14 +110,14 @@ impl fmt::Display for Told<'_> {
                 path,
                 event,
                 steps,
-                written,
+                effect,
                 ended,
             } => {
                 let path: &str = path;
                 let event: &str = event;
-                let wrote = Wrote(*written);
-                let closed = Closed(*cause, *ended);
-                write!(f, "ran {path}.{event} steps {steps}{wrote}{closed}")
+                let done = Done(*effect);
+                let closed = Closed(*ended);
+                write!(f, "ran {path}.{event} steps {steps}{done}{closed}")
             }
         }
     }

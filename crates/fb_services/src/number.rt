@@ -9,19 +9,11 @@ use fb_words::ElemType;
 use st_tree::Literal;
 
 // The greatest whole number of a type.
+#[tactic(auto, using(fb_words::proofs::Types::bounded))]
 fn highest(of: ElemType) -> u64
     ensures { pos result ≡ highest of }
 {
-    match of {
-        ElemType::Bool => 1,
-        ElemType::Sint => 127,
-        ElemType::Int => 32_767,
-        ElemType::Dint => 2_147_483_647,
-        ElemType::Lint | ElemType::Time => 9_223_372_036_854_775_807,
-        ElemType::Usint => 255,
-        ElemType::Uint => 65_535,
-        ElemType::Udint => 4_294_967_295,
-    }
+    of.highest().unsigned_abs()
 }
 
 /// The whole number that a literal is, where it is none below 0.

@@ -3,7 +3,7 @@
 use fb_words::ElemType;
 
 /// A service of this project's profile: IEC 61499-1 edition 2, 6.1. A number or channel, and the types of its values.
-#[derive(Debug, Drop)]
+#[derive(Drop)]
 pub enum Service {
     Input(u16, Vec<ElemType>),
     Output(u16, Vec<ElemType>),

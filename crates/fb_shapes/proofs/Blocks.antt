@@ -2,7 +2,6 @@
 use Rattle.std.proofs.Common.{◌≡◌, sym, ap, ap₂, subst, true, List, [], ◌++◌, map, Option}
 use Rattle.std.specs.List.{AllByRecursion}
 use Rattle.std.specs.Option.{option_map}
-use Rattle.fb_words.specs.declared.elem_type.ElemType.TheVariants as t
 use Rattle.fb_model.specs.Names.{Name, is_in}
 use Rattle.fb_model.specs.Declarations.{GuardTree, TransitionTree, AlgorithmTree, ChartTree, BlockTree, SourceTree}
 use Rattle.fb_model.specs.TypedText.{Term}
@@ -25,7 +24,7 @@ use Rattle.fb_shapes.proofs.Lengths.{scope_lengths, writable_own}
 
 guard_fits : (env : List Entry) (o : Option GuardTree) (g : Option Term) → IsGuard env o g → GuardFits (shape_of env) g
 guard_fits env _ _ no_guard = tt
-guard_fits env _ _ (a_guard {g = g} {x = x} h) = typed_guard_fits env t.Bool g.condition x h
+guard_fits env _ _ (a_guard {g = g} {x = x} h) = typed_guard_fits env g.condition x h
 
 guards_fit : (env : List Entry) (states inputs : List Name) (cs : List TransitionTree) (ds : List Transition) → AreTransitions env states inputs cs ds → AllByRecursion (λ (d : Transition). GuardFits (shape_of env) d.guard) ds
 guards_fit env states inputs _ _ no_transition = tt

@@ -8,9 +8,10 @@ use Rattle.fb_model.specs.Typing.{AreDistinct}
 use Rattle.fb_model.specs.Wires as wires
 use Rattle.fb_model.specs.Wires.{leaves}
 use Rattle.fb_model.specs.Ranges.{LeafLies}
-use Rattle.fb_model.specs.Certificates.{DeviceFits, IsWired, name_at, depth_at}
+use Rattle.fb_model.specs.Certificates.{DeviceHolds, IsWired, name_at, depth_at}
 use Rattle.fb_model.specs.CertificateText.{names_in}
 use Rattle.fb_spelled.specs.Words.{IsWordyLeaf, IsWordyDevice}
+use Rattle.fb_check.proofs.Composed.{devices_hold}
 use Rattle.fb_leaves.specs.Leaves.{AreApart, IsClosed}
 use Rattle.fb_leaves.proofs.Paths.{all_apart}
 use Rattle.fb_leaves.proofs.Closed.{all_charts_closed}
@@ -80,16 +81,16 @@ pub known_at : (v : Verified) (n : ℕ) (f : FlatDevice) (d : book.Device) → I
 known_at v n f d checked e g =
     let s = system_in v in
     let w = checked.written in
-    let elaborated = w.2.typed.typed in
+    let elaborated = w.1.typed.typed in
     let flat = flat_at v.flat.devices.items s.devices n d f (composed.tables_are s v.flat.devices.items w checked.tables) e g in
     let few = all_got (λ (x : book.Device). (length (leaves x) ≤ 16384) × (length x.resources ≤ 16)) s.devices n d (devices_few _ _ s elaborated) e in
-    let fits = all_got (DeviceFits (certificate_in v)) s.devices n d checked.fits.devices e in
+    let holds = all_got (DeviceHolds (certificate_in v)) s.devices n d (devices_hold s (certificate_in v) w checked.fits) e in
     record {
       words = all_got IsWordyDevice s.devices n d (words s w) e;
       seated = all_seated 0 (d.name ∷ []) f.resources.items d.resources flat.resources;
       closed = all_got (λ (x : book.Device). AllByRecursion (λ (leaf : wires.Leaf). IsClosed leaf.kind) (leaves x)) s.devices n d (all_charts_closed _ _ s elaborated) e;
-      wired = fits.wired;
-      lies = fits.ranges;
+      wired = holds.wired;
+      lies = holds.ranges;
       apart = all_got (λ (x : book.Device). AreApart (leaves x)) s.devices n d (all_apart _ _ s elaborated) e;
       few = omega (arith, few.0);
       few_resources = omega (arith, few.1, as_many_resources 0 (d.name ∷ []) f.resources.items d.resources flat.resources);

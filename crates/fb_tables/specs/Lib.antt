@@ -7,3 +7,4 @@ pub mod Runnable
 pub mod Views
 pub mod Tables
 pub mod Filling
+pub mod Codes

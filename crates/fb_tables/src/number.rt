@@ -5,7 +5,7 @@ ghost use Rattle.std.specs.List.{AllByRecursion};
 ghost use Rattle.fb_model.specs.System.{Device};
 ghost use Rattle.fb_model.specs.Wires.{Leaf, leaves};
 ghost use Rattle.fb_cert.specs.Views.{depth_in};
-ghost use Rattle.fb_check.specs.Verdicts.{system_in, certificate_in, IsChecked};
+ghost use Rattle.fb_check.specs.Verdicts.{system_in, certificate_in};
 ghost use Rattle.fb_tables.specs.Runnable.{CanRun, IsUnfit};
 ghost use Rattle.fb_tables.specs.Tables.{AreTables};
 ghost use Rattle.fb_invoke.specs.Tables.{Each};
@@ -69,12 +69,12 @@ fn resources(
 /// Its blocks are the leaves of the device, depth first in text order, and its numbers are those of the certificate.
 /// Refused with `CannotRun` where there is a leaf that a device cannot run yet, at the first.
 pub fn tables(alloc: Global, verified: &Verified, device: usize) -> Result<Tables, Unfit>
-    requires checked { IsChecked verified.now }
     requires within { device < length (system_in verified.now).devices }
     ensures tables { (d : Device) → slice_get (system_in verified.now).devices device ≡ Some d → IfOk result (AreTables (certificate_in verified.now) d) }
     ensures refused { (d : Device) → slice_get (system_in verified.now).devices device ≡ Some d → IfErr result (IsUnfit d) }
     ensures runs { (d : Device) → slice_get (system_in verified.now).devices device ≡ Some d → AllByRecursion (λ (leaf : Leaf). CanRun leaf.kind) (leaves d) → IfErr result (λ f. f ≡ OutOfMemory) }
 {
+    verified.fits();
     let certificate = verified.certificate();
     let flat = &verified.flat().devices[device];
     let typed = &verified.typed().devices[device];

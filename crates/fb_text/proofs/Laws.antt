@@ -21,7 +21,7 @@ use Rattle.st_expr.proofs.Nesting.{expression_opens}
 use Rattle.st_parse.specs.Reading.{algorithm_at}
 use Rattle.st_parse.proofs.Complete.{deeper}
 use Rattle.st_parse.proofs.Laws.{algorithm_sound, algorithm_complete, algorithm_no_longer, algorithm_steady, algorithm_opens}
-use Rattle.fb_text.specs.declared.tree.Source.{Source}
+use Rattle.fb_text.specs.declared.tree.FileTree.{FileTree}
 use Rattle.fb_text.specs.Views.{source_of}
 use Rattle.fb_text.specs.Reading.{file_at, whole_at}
 use Rattle.fb_text.specs.Answers.{IsNested, IsTree, IsSomeTree, Reads, FindsTree, SyntaxAt, TooDeepAt, IsNestedSource}
@@ -109,7 +109,7 @@ reads_of end ts stop fault s h = answers.reads_of source_of (whole_at ts) end ts
 pub reads_only : (end : ℕ) (ts : List Token) (fault : TextFault) (x : SourceTree) → Reads end ts (Err fault) → IsTree ts x → FindsTree (Err fault) x
 reads_only end ts fault x e h = answers.reads_only source_of end ts fault (whole_at ts) x e (tree_read ts x h)
 
-pub reads_syntax : (end : ℕ) (ts : List Token) (fault : TextFault) → Reads end ts (Err fault) → IfSyntax {X = Source} (Err fault) ((n k : ℕ) (x : SourceTree) → IsNested n k ts x → ⊥)
+pub reads_syntax : (end : ℕ) (ts : List Token) (fault : TextFault) → Reads end ts (Err fault) → IfSyntax {X = FileTree} (Err fault) ((n k : ℕ) (x : SourceTree) → IsNested n k ts x → ⊥)
 reads_syntax end ts fault e = answers.reads_syntax source_of end ts fault (whole_at ts) _ (λ s n k x h. not_stuck ts x s (n, k, h)) e
 
 pub reads_place : (end : ℕ) (ts : List Token) (fault : TextFault) → Reads end ts (Err fault) → SyntaxAt end ts (Err fault)

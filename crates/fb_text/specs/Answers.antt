@@ -9,7 +9,7 @@ use Rattle.fb_model.specs.StructuredTextGrammar.{IsExpression, IsAlgorithm, most
 use Rattle.fb_model.specs.Declarations.{SourceTree}
 use Rattle.fb_model.specs.DeclarationGrammar.{IsFile}
 use Rattle.fb_read.specs.Whole.{Tells, Finds, PlacesSyntax, PlacesTooDeep}
-use Rattle.fb_text.specs.declared.tree.Source.{Source}
+use Rattle.fb_text.specs.declared.tree.FileTree.{FileTree}
 use Rattle.fb_text.specs.Views.{source_of}
 use Rattle.fb_text.specs.Reading.{whole_at}
 
@@ -30,31 +30,31 @@ IsSomeTree ts x = (n : ℕ) × (k : ℕ) × IsNested n k ts x
 -- ---- what is answered of tokens
 
 -- the tree that is read of the tokens of a text with this end, or why and where there is none, unless memory ran out
-abbrev pub Reads : ℕ → List Token → Result Source TextFault → Type 0
+abbrev pub Reads : ℕ → List Token → Result FileTree TextFault → Type 0
 Reads end ts answer = Tells source_of (whole_at ts) end ts answer
 
 -- the tree is found, unless memory runs out
-abbrev pub FindsTree : Result Source TextFault → SourceTree → Type 0
+abbrev pub FindsTree : Result FileTree TextFault → SourceTree → Type 0
 FindsTree answer x = Finds source_of answer x
 
 -- where the answer is Syntax, it is at the end, or at a token with which no tree goes on, however deep
-abbrev pub SyntaxAt : ℕ → List Token → Result Source TextFault → Type 0
+abbrev pub SyntaxAt : ℕ → List Token → Result FileTree TextFault → Type 0
 SyntaxAt end ts answer = PlacesSyntax IsSomeTree end ts answer
 
 -- where the answer is TooDeep, it is at a token with which no tree within the limits goes on
-abbrev pub TooDeepAt : List Token → Result Source TextFault → Type 0
+abbrev pub TooDeepAt : List Token → Result FileTree TextFault → Type 0
 TooDeepAt ts answer = PlacesTooDeep IsTree ts answer
 
 -- ---- what is answered of texts
 
 -- The tokens that the text spells are read so.
-pub record ReadsSpelled (text : List ℕ) (answer : Result Source TextFault) : Type 0 where
+pub record ReadsSpelled (text : List ℕ) (answer : Result FileTree TextFault) : Type 0 where
   pub tokens : List Token
   pub spelled : Spells 0 text tokens
   pub read_is : Reads (length text) tokens answer
 
 -- the tree of a text, or why and where there is none, unless memory ran out
-abbrev pub ReadsText : List ℕ → Result Source TextFault → Type 0
+abbrev pub ReadsText : List ℕ → Result FileTree TextFault → Type 0
 ReadsText text (Ok source) = ReadsSpelled text (Ok source)
 ReadsText text (Err (faults.Syntax offset)) = ReadsSpelled text (Err (faults.Syntax offset))
 ReadsText text (Err (faults.TooDeep offset)) = ReadsSpelled text (Err (faults.TooDeep offset))
@@ -68,16 +68,20 @@ IsNestedSource n k text x = (ts : List Token) × Spells 0 text ts × IsNested n 
 abbrev pub IsSource : List ℕ → SourceTree → Type 0
 IsSource text x = IsNestedSource most_nested most_nested_statements text x
 
+-- the tree stands in a text
+abbrev pub IsSpelled : SourceTree → Type 0
+IsSpelled x = (text : List ℕ) × IsSource text x
+
 -- the text is spelled by tokens, and by those of no tree, however deep
 abbrev pub IsNoSource : List ℕ → Type 0
 IsNoSource text = ((ts : List Token) × Spells 0 text ts) × ((n k : ℕ) (x : SourceTree) → IsNestedSource n k text x → ⊥)
 
 -- where the answer is Syntax, it is at the text's end, or at a token of the text with which no tree goes on, however deep
-abbrev pub SyntaxIn : List ℕ → Result Source TextFault → Type 0
+abbrev pub SyntaxIn : List ℕ → Result FileTree TextFault → Type 0
 SyntaxIn text (Err (faults.Syntax offset)) = (ts : List Token) × Spells 0 text ts × SyntaxAt (length text) ts (Err (faults.Syntax offset))
 SyntaxIn text other = Unit {0}
 
 -- where the answer is TooDeep, it is at a token of the text with which no tree within the limits goes on
-abbrev pub TooDeepIn : List ℕ → Result Source TextFault → Type 0
+abbrev pub TooDeepIn : List ℕ → Result FileTree TextFault → Type 0
 TooDeepIn text (Err (faults.TooDeep offset)) = (ts : List Token) × Spells 0 text ts × TooDeepAt ts (Err (faults.TooDeep offset))
 TooDeepIn text other = Unit {0}

@@ -22,7 +22,7 @@ use Rattle.fb_text.specs.declared.tree.BlockTree.{BlockTree}
 use Rattle.fb_text.specs.declared.tree.ResourceTree.{ResourceTree}
 use Rattle.fb_text.specs.declared.tree.DeviceTree.{DeviceTree}
 use Rattle.fb_text.specs.declared.tree.SystemTree.{SystemTree}
-use Rattle.fb_text.specs.declared.tree.Source.{Source}
+use Rattle.fb_text.specs.declared.tree.FileTree.{FileTree}
 use Rattle.fb_text.specs.declared.tree.BodyTree.TheVariants as b
 use Rattle.fb_model.specs.Trees as book
 use Rattle.fb_model.specs.Declarations as decl
@@ -102,5 +102,5 @@ device_of x = record { name = word_of x.name; resources = map resource_of x.reso
 abbrev pub system_of : SystemTree → decl.SystemTree
 system_of x = record { name = word_of x.name; devices = map device_of x.devices.items }
 
-abbrev pub source_of : Source → decl.SourceTree
+abbrev pub source_of : FileTree → decl.SourceTree
 source_of x = record { blocks = map block_of x.blocks.items; system = system_of x.system }

@@ -6,6 +6,7 @@ mod chart;
 mod constant;
 mod event;
 mod network;
+mod source;
 mod state;
 mod system;
 mod text;
@@ -13,9 +14,10 @@ mod tree;
 mod variable;
 mod word;
 
+pub use source::Source;
 pub use text::{one_source, one_tree, parse, parse_tokens};
 pub use tree::{
     ActionTree, AlgorithmTree, BlockTree, BodyTree, BoundsTree, ChartTree, ConnectionTree,
-    DeviceTree, EventTree, GuardTree, InstanceTree, NetworkTree, ParameterTree, PortTree,
-    ResourceTree, Source, StartTree, StateTree, SystemTree, TransitionTree, VariableTree,
+    DeviceTree, EventTree, FileTree, GuardTree, InstanceTree, NetworkTree, ParameterTree, PortTree,
+    ResourceTree, StartTree, StateTree, SystemTree, TransitionTree, VariableTree,
 };

@@ -13,8 +13,9 @@ ghost use Rattle.fb_model.specs.Tokens as book;
 ghost use Rattle.fb_model.specs.StructuredTextGrammar.{most_nested, most_nested_statements};
 ghost use Rattle.fb_model.specs.Declarations.{SourceTree};
 
+use crate::source::Source;
 use crate::system::system;
-use crate::tree::{BlockTree, Source};
+use crate::tree::{BlockTree, FileTree};
 use fb_lex::{TextFault, Token, lex};
 use fb_read::{Stop, many};
 use fb_words::Mark;
@@ -22,24 +23,24 @@ use std::alloc::Global;
 
 // Block types and the system, and what is left behind them.
 #[tactic(auto, unfolding(crate::specs::Reading::file_at))]
-fn file(alloc: Global, tokens: &[Token]) -> Result<(Source, &[Token]), Stop>
+fn file(alloc: Global, tokens: &[Token]) -> Result<(FileTree, &[Token]), Stop>
     ensures { Gives (λ x. (source_of x.0, tokens_of x.1.now)) result (file_at (expression_at most_nested) (algorithm_at most_nested most_nested_statements) (tokens_of tokens.now)) }
 {
     let (blocks, rest) = many::<BlockTree>(alloc, tokens, Mark::System)?;
     let (system, rest) = system(alloc, rest)?;
-    Ok((Source { blocks, system }, rest))
+    Ok((FileTree { blocks, system }, rest))
 }
 
 // All of the tokens.
 #[tactic(auto, unfolding(crate::specs::Reading::whole_at))]
-fn whole(alloc: Global, tokens: &[Token]) -> Result<Source, Stop>
+fn whole(alloc: Global, tokens: &[Token]) -> Result<FileTree, Stop>
     ensures { Gives source_of result (whole_at (tokens_of tokens.now)) }
 {
-    let (source, rest) = file(alloc, tokens)?;
+    let (tree, rest) = file(alloc, tokens)?;
     if !rest.is_empty() {
         return Err(Stop::Syntax(rest.len()));
     }
-    Ok(source)
+    Ok(tree)
 }
 
 /// The source tree of tokens, which are those of a text of so many bytes.
@@ -47,9 +48,9 @@ fn whole(alloc: Global, tokens: &[Token]) -> Result<Source, Stop>
 /// `Syntax` names the first token that cannot stand there, or the text's length where the tokens end too soon; `TooDeep` the
 /// token that opens one nesting too many, where 64 brackets, calls and signs may nest in an expression, and 32 statements in an
 /// algorithm; `OutOfMemory` comes where memory ran out.
-pub fn parse_tokens(alloc: Global, tokens: &[Token], length: usize) -> Result<Source, TextFault>
+pub fn parse_tokens(alloc: Global, tokens: &[Token], length: usize) -> Result<FileTree, TextFault>
     ensures reads { Reads length (tokens_of tokens.now) result }
-    ensures found { IfOk result (λ source. IsTree (tokens_of tokens.now) (source_of source)) }
+    ensures found { IfOk result (λ tree. IsTree (tokens_of tokens.now) (source_of tree)) }
     ensures only { (x : SourceTree) → IsTree (tokens_of tokens.now) x → FindsTree result x }
     ensures syntax { IfSyntax result ((n k : ℕ) (x : SourceTree) → IsNested n k (tokens_of tokens.now) x → ⊥) }
     ensures place { SyntaxAt length (tokens_of tokens.now) result }
@@ -75,7 +76,8 @@ pub fn parse(alloc: Global, text: &str) -> Result<Source, TextFault>
     ensures deep { TooDeepIn text.now result }
 {
     let tokens = lex(alloc, text)?;
-    parse_tokens(alloc, &tokens, text.len())
+    let tree = parse_tokens(alloc, &tokens, text.len())?;
+    Ok(Source { tree })
 }
 
 /// No tokens are two trees, however deep each nests.

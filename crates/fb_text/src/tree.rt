@@ -5,28 +5,28 @@ use fb_words::ElemType;
 use st_tree::{Constant, Expr, Stmt};
 
 /// An event of a block, and the variables that it is WITH.
-#[derive(Debug, Drop)]
+#[derive(Drop)]
 pub struct EventTree {
     pub name: Name,
     pub carries: Vec<Name>,
 }
 
 /// The lowest and the highest index of an array.
-#[derive(Clone, Copy, Debug, PartialEq, Eq)]
+#[derive(Clone, Copy)]
 pub struct BoundsTree {
     pub low: Constant,
     pub high: Constant,
 }
 
 /// A start value, with the place of its `:=`.
-#[derive(Clone, Copy, Debug, PartialEq, Eq)]
+#[derive(Clone, Copy)]
 pub struct StartTree {
     pub at: usize,
     pub value: Constant,
 }
 
 /// Variables of one type, of an array's elements where there are bounds.
-#[derive(Debug, Drop)]
+#[derive(Drop)]
 pub struct VariableTree {
     pub names: Vec<Name>,
     pub bounds: Option<BoundsTree>,
@@ -35,28 +35,28 @@ pub struct VariableTree {
 }
 
 /// An action: the algorithm that it runs and the event output that it emits.
-#[derive(Debug, Drop)]
+#[derive(Drop)]
 pub struct ActionTree {
     pub algorithm: Option<Name>,
     pub output: Option<Name>,
 }
 
 /// A state with its actions.
-#[derive(Debug, Drop)]
+#[derive(Drop)]
 pub struct StateTree {
     pub name: Name,
     pub actions: Vec<ActionTree>,
 }
 
 /// A guard, with the place of its `[`.
-#[derive(Debug, Drop)]
+#[derive(Drop)]
 pub struct GuardTree {
     pub at: usize,
     pub condition: Expr,
 }
 
 /// A transition. Without an event and without a guard its condition is 1.
-#[derive(Debug, Drop)]
+#[derive(Drop)]
 pub struct TransitionTree {
     pub source: Name,
     pub target: Name,
@@ -65,14 +65,14 @@ pub struct TransitionTree {
 }
 
 /// An algorithm in Structured Text.
-#[derive(Debug, Drop)]
+#[derive(Drop)]
 pub struct AlgorithmTree {
     pub name: Name,
     pub body: Vec<Stmt>,
 }
 
 /// What a basic block does.
-#[derive(Debug, Drop)]
+#[derive(Drop)]
 pub struct ChartTree {
     pub internals: Vec<VariableTree>,
     pub states: Vec<StateTree>,
@@ -81,7 +81,7 @@ pub struct ChartTree {
 }
 
 /// A parameter of an instance, with the place of its `:=`.
-#[derive(Debug, Drop)]
+#[derive(Drop)]
 pub struct ParameterTree {
     pub name: Name,
     pub at: usize,
@@ -89,7 +89,7 @@ pub struct ParameterTree {
 }
 
 /// A function block instance: its parameters, and the types in square brackets, where these stand.
-#[derive(Debug, Drop)]
+#[derive(Drop)]
 pub struct InstanceTree {
     pub name: Name,
     pub of_type: Name,
@@ -98,14 +98,14 @@ pub struct InstanceTree {
 }
 
 /// A port of an instance, or an own port where there is no second name.
-#[derive(Debug, Drop)]
+#[derive(Drop)]
 pub struct PortTree {
     pub first: Name,
     pub second: Option<Name>,
 }
 
 /// A connection, with the place of its TO.
-#[derive(Debug, Drop)]
+#[derive(Drop)]
 pub struct ConnectionTree {
     pub source: PortTree,
     pub at: usize,
@@ -113,7 +113,7 @@ pub struct ConnectionTree {
 }
 
 /// What composites and resources are made of: instances, and connections of events and of data.
-#[derive(Debug, Drop)]
+#[derive(Drop)]
 pub struct NetworkTree {
     pub instances: Vec<InstanceTree>,
     pub events: Vec<ConnectionTree>,
@@ -121,7 +121,7 @@ pub struct NetworkTree {
 }
 
 /// What a block type is made of.
-#[derive(Debug, Drop)]
+#[derive(Drop)]
 pub enum BodyTree {
     /// A basic block.
     Chart(ChartTree),
@@ -130,7 +130,7 @@ pub enum BodyTree {
 }
 
 /// The declaration of a block type.
-#[derive(Debug, Drop)]
+#[derive(Drop)]
 pub struct BlockTree {
     pub name: Name,
     pub event_inputs: Vec<EventTree>,
@@ -141,29 +141,34 @@ pub struct BlockTree {
 }
 
 /// A resource.
-#[derive(Debug, Drop)]
+#[derive(Drop)]
 pub struct ResourceTree {
     pub name: Name,
     pub network: NetworkTree,
 }
 
 /// A device: its resources.
-#[derive(Debug, Drop)]
+#[derive(Drop)]
 pub struct DeviceTree {
     pub name: Name,
     pub resources: Vec<ResourceTree>,
 }
 
 /// The system: its devices.
-#[derive(Debug, Drop)]
+#[derive(Drop)]
 pub struct SystemTree {
     pub name: Name,
     pub devices: Vec<DeviceTree>,
 }
 
 /// A whole text: block types and one system.
-#[derive(Debug, Drop)]
-pub struct Source {
+#[derive(Drop)]
+pub struct FileTree {
     pub blocks: Vec<BlockTree>,
     pub system: SystemTree,
+}
+
+impl FileTree {
+    /// Lets the tree go. (A crate that lets a tree go by itself proves the end of each of its parts anew; this call is proved once.)
+    pub fn let_go(self) {}
 }

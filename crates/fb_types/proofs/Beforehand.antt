@@ -1,14 +1,21 @@
--- Event blocks that are declared beforehand.
-use Rattle.std.proofs.Common.{◌≡◌, sym, subst}
-use Rattle.fb_model.specs.Declarations.{SourceTree}
+-- Sources with event blocks that are declared beforehand have one system, and no fault.
+use Rattle.std.proofs.Common.{◌≡◌, List}
+use Rattle.fb_model.specs.Declarations.{BlockTree, SourceTree}
 use Rattle.fb_model.specs.System.{System}
 use Rattle.fb_model.specs.NetworkTyping.{ElaboratesWith}
+use Rattle.fb_model.specs.EventBlocks.{event_blocks, AreEventBlocks, Elaborates}
 use Rattle.fb_networks.specs.fb_blocks.declared.fault.TypeFault.{TypeFault}
-use Rattle.fb_types.specs.Refusals.{IsSourceFault}
+use Rattle.fb_networks.specs.fb_blocks.declared.fault.TypeFault.TheVariants.{OutOfMemory}
+use Rattle.fb_types.specs.Beforehand.{IsRefused}
+use Rattle.fb_types.proofs.Swapped.{swapped}
+use Rattle.fb_types.proofs.Whole.{one_whole, whole_true}
 
--- what is read is what is spelled
-pub faulty_with : (read library source : SourceTree) (f : TypeFault) → read ≡ library → IsSourceFault read.blocks source f → IsSourceFault library.blocks source f
-faulty_with read library source f e h = subst (λ l. IsSourceFault l.blocks source f) e h
+-- with whichever declarations of the event blocks
+pub elaborated_with : (library : List BlockTree) (source : SourceTree) (s : System) → AreEventBlocks library → Elaborates source s → ElaboratesWith library source s
+elaborated_with library source s all h = swapped h.library library event_blocks source s h.beforehand all h.typed
 
-pub typed_with : (read library source : SourceTree) (s : System) → read ≡ library → ElaboratesWith library.blocks source s → ElaboratesWith read.blocks source s
-typed_with read library source s e h = subst (λ l. ElaboratesWith l.blocks source s) (sym e) h
+pub one_elaborated : (source : SourceTree) (s t : System) → Elaborates source s → Elaborates source t → s ≡ t
+one_elaborated source s t h k = one_whole k.library source s t (elaborated_with k.library source s k.beforehand h) k.typed
+
+pub elaborated_true : (source : SourceTree) (s : System) (f : TypeFault) → Elaborates source s → IsRefused source f → f ≡ OutOfMemory
+elaborated_true source s f h k = whole_true k.library source s f (elaborated_with k.library source s k.beforehand h) k.fault

@@ -1,6 +1,6 @@
 -- Resources, devices and systems.
-use Rattle.std.proofs.Common.{◌≡◌, ◌⊎◌, inl, inr, ℕ, ◌≤◌, List, [], ◌∷◌, ◌++◌, map, Some, None, refl, sym, ap, subst, ◌∙◌, append_assoc, string_bytes}
-use Rattle.std.proofs.lemmas.List.{append-nil}
+use Rattle.std.proofs.Common.{◌≡◌, ◌⊎◌, inl, inr, ℕ, ◌+◌, ◌<◌, ◌≤◌, length, get_or, take, List, [], ◌∷◌, ◌++◌, map, Some, None, refl, sym, ap, subst, ◌∙◌, append_assoc, string_bytes}
+use Rattle.std.proofs.lemmas.List.{append-nil, map_push}
 use Rattle.std.specs.Map.{lookup}
 use Rattle.std.specs.Str.{bytes_eq}
 use Rattle.std.specs.declared.string.String.{String}
@@ -18,7 +18,7 @@ use Rattle.fb_networks.specs.fb_text.declared.tree.DeviceTree.{DeviceTree as Dev
 use Rattle.fb_networks.specs.fb_text.Views as trees_of
 use Rattle.fb_networks.specs.fb_blocks.declared.fault.TypeFault.{TypeFault}
 use Rattle.fb_networks.specs.fb_blocks.declared.fault.TypeFault.TheVariants as faults
-use Rattle.fb_networks.proofs.of_fb_blocks.Lists.{map_map}
+use Rattle.fb_networks.proofs.of_fb_blocks.Lists.{map_map, mapped_more}
 use Rattle.fb_networks.specs.declared.typed.Instance.{Instance, out-Instance}
 use Rattle.fb_networks.specs.declared.typed.Network.{out-Network}
 use Rattle.fb_networks.specs.Views.{placed_in, placed_of, instances_of, wired_of}
@@ -26,7 +26,7 @@ use Rattle.fb_networks.specs.Answers.{IsWired, AreNamed}
 use Rattle.fb_types.specs.declared.typed.Resource.{Resource}
 use Rattle.fb_types.specs.declared.typed.Device.{Device}
 use Rattle.fb_types.specs.Uses.{Used, uses_in}
-use Rattle.fb_types.specs.Views.{resource_of, resource_uses, device_uses, system_uses}
+use Rattle.fb_types.specs.Views.{resource_of, resource_places, system_places, places_in, all_places, resource_uses, device_uses, system_uses}
 use Rattle.fb_types.specs.Counts.{IsCrowded, crowded}
 use Rattle.fb_types.specs.Nesting.{IsOf, AllProvide, ResourcesProvide, by_no_resource, by_each_resource, DevicesProvide, by_no_device, by_each_device}
 use Rattle.fb_types.specs.Refusals.{IsTypeFault, too_deep, IsInstanceFault, faulty_type, IsCrowd}
@@ -131,6 +131,26 @@ pub resource_provides : (bs : List BlockTree) (r : ResourceTree) (q : Resource) 
 resource_provides bs r q xs h e = subst (λ us. AllProvide bs r.network.instances us) (sym (ap uses_in e)) h.parts.uses
 
 -- ---- one after another
+
+-- one more behind those so far, seen alike
+placed_more : {X Y T : Type 0} (f : X → T) (g : Y → T) (made : List Y) (xs : List X) (i : ℕ) (x : X) (new : List Y) (y : Y) → i < length xs → x ≡ get_or xs i x → new ≡ made ++ y ∷ [] → map g made ≡ map f (take i xs) → g y ≡ f x
+    → map g new ≡ map f (take (i + 1) xs)
+placed_more f g made xs i x new y lt is e h k =
+    ap (map g) e ∙ map_push g made y ∙ ap (λ l. l ++ g y ∷ []) h ∙ ap (λ p. map f (take i xs) ++ p ∷ []) k ∙ sym (mapped_more f xs i x lt is)
+
+pub places_more : (made : List Resource) (xs : List ResourceRow) (i : ℕ) (x : ResourceRow) (new : List Resource) (q : Resource) → i < length xs → x ≡ get_or xs i x → new ≡ made ++ q ∷ []
+    → resource_places made ≡ places_in (map trees_of.resource_of (take i xs)) → q.at ≡ (trees_of.resource_of x).name.at → resource_places new ≡ places_in (map trees_of.resource_of (take (i + 1) xs))
+places_more made xs i x new q lt is e h k =
+    let view : ResourceRow → ResourceTree = trees_of.resource_of in
+    let place : ResourceTree → ℕ = λ r. r.name.at in
+    placed_more (λ (r : ResourceRow). place (view r)) (λ (r : Resource). r.at) made xs i x new q lt is e (h ∙ map_map place view (take i xs)) k ∙ sym (map_map place view (take (i + 1) xs))
+
+pub all_places_more : (made : List Device) (xs : List DeviceRow) (i : ℕ) (x : DeviceRow) (new : List Device) (q : Device) → i < length xs → x ≡ get_or xs i x → new ≡ made ++ q ∷ []
+    → system_places made ≡ all_places (map trees_of.device_of (take i xs)) → resource_places q.resources.items ≡ places_in (trees_of.device_of x).resources → system_places new ≡ all_places (map trees_of.device_of (take (i + 1) xs))
+all_places_more made xs i x new q lt is e h k =
+    let view : DeviceRow → DeviceTree = trees_of.device_of in
+    let place : DeviceTree → List ℕ = λ d. places_in d.resources in
+    placed_more (λ (d : DeviceRow). place (view d)) (λ (d : Device). resource_places d.resources.items) made xs i x new q lt is e (h ∙ map_map place view (take i xs)) k ∙ sym (map_map place view (take (i + 1) xs))
 
 pub resources_more : (bs : List BlockTree) (rs : List ResourceTree) (qs : List book.Resource) (r : ResourceTree) (q : book.Resource) → AreResources bs rs qs → IsResource bs r q → AreResources bs (rs ++ r ∷ []) (qs ++ q ∷ [])
 resources_more bs rs qs r q no_resource h = a_resource h no_resource

@@ -19,7 +19,7 @@ use Rattle.fb_networks.proofs.of_fb_services.Services.{known, once}
 use Rattle.fb_networks.specs.Views.{Wired, placed_in}
 use Rattle.fb_networks.proofs.Faultless.{events_are, values_are}
 use Rattle.fb_networks.proofs.Networks.{wired_true}
-use Rattle.fb_types.specs.declared.typed.Typed.{Typed}
+use Rattle.fb_types.specs.declared.typed.Configuration.{Configuration}
 use Rattle.fb_types.specs.Uses.{Used, services_at}
 use Rattle.fb_types.specs.Views.{system_of}
 use Rattle.fb_types.specs.Nesting.{Provides, by_basic, by_composite, InstanceProvides, by_type, by_service, AllProvide, by_none, by_each, ResourcesProvide, by_no_resource, by_each_resource, DevicesProvide, by_no_device, by_each_device}
@@ -202,6 +202,6 @@ whole_true library source s f h (fault.faulty_device {d = d} a w) = devices_true
 whole_true library source s f h (fault.unlike_channels {us = us} p w) =
     no_unlike us f (subst AreAlike (sym (devices_provide (source.blocks ++ library) source.system.devices s.devices us h.devices p)) h.channels) w
 
-pub only_whole : (library : List BlockTree) (source : SourceTree) (r : Result Typed TypeFault) → IfOk r (λ t. ElaboratesWith library source (system_of t)) → IfErr r (fault.IsSourceFault library source) → (s : book.System) → ElaboratesWith library source s → Finds system_of r s
+pub only_whole : (library : List BlockTree) (source : SourceTree) (r : Result Configuration TypeFault) → IfOk r (λ t. ElaboratesWith library source (system_of t)) → IfErr r (fault.IsSourceFault library source) → (s : book.System) → ElaboratesWith library source s → Finds system_of r s
 only_whole library source (Ok t) typed refused s h = one_whole library source (system_of t) s typed h
 only_whole library source (Err f) typed refused s h = subst (λ w. Finds system_of (Err w) s) (sym (whole_true library source s f h refused)) tt

@@ -13,3 +13,4 @@ pub mod Nesting
 pub mod Refusals
 pub mod Made
 pub mod Beforehand
+pub mod Written

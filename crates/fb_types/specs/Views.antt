@@ -1,11 +1,12 @@
 -- What typed systems are in the book, without where they lie in memory, and the services in them with their places.
-use Rattle.std.specs.Prelude.{List, [], ◌∷◌, ◌++◌, map, string_bytes}
+use Rattle.std.specs.Prelude.{ℕ, List, [], ◌∷◌, ◌++◌, map, string_bytes}
 use Rattle.fb_model.specs.System as book
+use Rattle.fb_model.specs.Declarations as decl
 use Rattle.fb_networks.specs.Views.{placed_in, wired_of}
 use Rattle.fb_networks.specs.declared.typed.Network.{out-Network}
 use Rattle.fb_types.specs.declared.typed.Resource.{Resource}
 use Rattle.fb_types.specs.declared.typed.Device.{Device}
-use Rattle.fb_types.specs.declared.typed.Typed.{Typed}
+use Rattle.fb_types.specs.declared.typed.Configuration.{Configuration}
 use Rattle.fb_types.specs.Uses.{Used, uses_in}
 
 abbrev pub resource_of : Resource → book.Resource
@@ -14,8 +15,22 @@ resource_of r = record { name = string_bytes r.name; inner = placed_in ((wired_o
 abbrev pub device_of : Device → book.Device
 device_of d = record { name = string_bytes d.name; resources = map resource_of d.resources.items }
 
-abbrev pub system_of : Typed → book.System
+abbrev pub system_of : Configuration → book.System
 system_of t = record { devices = map device_of t.devices.items }
+
+-- the places of the names of resources, and of those of devices, in order
+abbrev pub resource_places : List Resource → List ℕ
+resource_places rs = map (λ r. r.at) rs
+
+abbrev pub system_places : List Device → List (List ℕ)
+system_places ds = map (λ d. resource_places d.resources.items) ds
+
+-- as they stand in a source
+abbrev pub places_in : List decl.ResourceTree → List ℕ
+places_in rs = map (λ r. r.name.at) rs
+
+abbrev pub all_places : List decl.DeviceTree → List (List ℕ)
+all_places ds = map (λ d. places_in d.resources) ds
 
 abbrev pub resource_uses : Resource → List Used
 resource_uses r = uses_in (out-Network r.network).instances.items

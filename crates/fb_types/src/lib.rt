@@ -18,11 +18,14 @@ mod uses;
 
 pub use count::few;
 pub use ends::{channels_alike, numbers_differ};
-pub use event_blocks::{EVENT_BLOCKS, resolve};
+pub use event_blocks::resolve;
+pub use fb_events;
 pub use fb_networks;
-pub use laws::{one_system, refusals_are_true};
+pub use fb_networks::fb_services::fb_blocks::TypeFault;
+pub use fb_networks::fb_services::fb_blocks::st_types::{Algo, TypedExpr};
+pub use laws::{event_blocks_are_alike, one_system, refusals_are_true};
 pub use numbers::{Kind, differ};
 pub use shapes::alike;
 pub use source::resolve_with;
-pub use typed::{Device, Resource, Typed};
+pub use typed::{Configuration, Device, Resource, Typed};
 pub use uses::{Use, gather_all};

@@ -13,7 +13,7 @@ use std::alloc::{AllocError, AllocFailed, Global};
 use std::rc::Rc;
 
 /// What the instances of a declared type share.
-#[derive(Debug, Drop)]
+#[derive(Drop)]
 pub(crate) enum Shape {
     /// A basic block.
     Basic(Rc<Block>),
@@ -22,7 +22,7 @@ pub(crate) enum Shape {
 }
 
 /// A declared type that is made, with how deep composites nest in it.
-#[derive(Debug, Drop)]
+#[derive(Drop)]
 pub(crate) struct Made {
     pub(crate) shape: Shape,
     pub(crate) deep: usize,
@@ -32,7 +32,7 @@ pub(crate) struct Made {
 pub(crate) type Memo = IndexMap<String, Made>;
 
 /// Why a type is not made.
-#[derive(Debug, Drop)]
+#[derive(Drop)]
 pub(crate) enum Unmade {
     Fault(TypeFault),
     /// More composites nest in the type whose name stands at the offset than may.

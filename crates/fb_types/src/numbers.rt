@@ -14,7 +14,7 @@ use indexmap::IndexSet;
 use std::alloc::Global;
 
 /// What has a number of its own in a device: INPUTs, OUTPUTs, and the channels of SUBSCRIBEs.
-#[derive(Clone, Copy, Debug, PartialEq, Eq)]
+#[derive(Clone, Copy)]
 pub enum Kind {
     Input,
     Output,

@@ -9,7 +9,7 @@ ghost use Rattle.fb_model.specs.System as book;
 ghost use Rattle.fb_model.specs.NetworkTyping.{IsProper, ElaboratesWith};
 ghost use Rattle.fb_networks.specs.fb_text.Views as trees_of;
 ghost use Rattle.fb_networks.specs.fb_blocks.Answers.{Finds};
-ghost use Rattle.fb_types.specs.Views.{system_of};
+ghost use Rattle.fb_types.specs.Views.{system_of, system_places, all_places};
 ghost use Rattle.fb_types.specs.Refusals.{IsBlockFault, IsSourceFault};
 ghost use Rattle.fb_types.specs.Made.{IsTable, IsMemo, IsNamed};
 
@@ -19,8 +19,8 @@ use crate::made::Memo;
 use crate::make::body_of_type;
 use crate::resource::{DEEP, refusal};
 use crate::table::{Types, table_of};
-use crate::typed::Typed;
-use fb_networks::fb_services::fb_blocks::fb_text::{BlockTree, Source};
+use crate::typed::Configuration;
+use fb_networks::fb_services::fb_blocks::fb_text::{BlockTree, FileTree};
 use fb_networks::fb_services::fb_blocks::{TypeFault, at_most, table};
 use indexmap::IndexMap;
 use std::alloc::Global;
@@ -79,8 +79,13 @@ fn all_declared<'a>(
 }
 
 // The system of a source, by its parts.
-fn resolved(alloc: Global, library: &[BlockTree], source: &Source) -> Result<Typed, TypeFault>
+fn resolved(
+    alloc: Global,
+    library: &[BlockTree],
+    source: &FileTree,
+) -> Result<Configuration, TypeFault>
     ensures typed { IfOk result (λ t. ElaboratesWith (map trees_of.block_of library.now) (trees_of.source_of source.now) (system_of t)) }
+    ensures places { IfOk result (λ t. system_places t.devices.items ≡ all_places (trees_of.source_of source.now).system.devices) }
     ensures refused { IfErr result (IsSourceFault (map trees_of.block_of library.now) (trees_of.source_of source.now)) }
 {
     table(alloc, &source.blocks)?;
@@ -91,7 +96,7 @@ fn resolved(alloc: Global, library: &[BlockTree], source: &Source) -> Result<Typ
     table(alloc, &source.system.devices)?;
     let devices = devices(alloc, &types, &mut memo, &source.system.devices)?;
     channels_alike(alloc, &devices)?;
-    Ok(Typed { devices })
+    Ok(Configuration { devices })
 }
 
 /// The system that a source is with these event blocks. Types of the source come before event blocks of the same name, and each is made
@@ -107,9 +112,10 @@ fn resolved(alloc: Global, library: &[BlockTree], source: &Source) -> Result<Typ
 pub fn resolve_with(
     alloc: Global,
     library: &[BlockTree],
-    source: &Source,
-) -> Result<Typed, TypeFault>
+    source: &FileTree,
+) -> Result<Configuration, TypeFault>
     ensures typed { IfOk result (λ t. ElaboratesWith (map trees_of.block_of library.now) (trees_of.source_of source.now) (system_of t)) }
+    ensures places { IfOk result (λ t. system_places t.devices.items ≡ all_places (trees_of.source_of source.now).system.devices) }
     ensures refused { IfErr result (IsSourceFault (map trees_of.block_of library.now) (trees_of.source_of source.now)) }
     ensures only { (s : book.System) → ElaboratesWith (map trees_of.block_of library.now) (trees_of.source_of source.now) s → Finds system_of result s }
 {

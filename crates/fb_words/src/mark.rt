@@ -7,7 +7,7 @@ use crate::elem_type::ElemType;
 /// A sign or a reserved word, the names of the element types among them.
 ///
 /// This project's profile of IEC 61131-3 edition 3, 6.1 (character set, keywords).
-#[derive(Clone, Copy, Debug, PartialEq, Eq)]
+#[derive(Clone, Copy, PartialEq, Eq)]
 pub enum Mark {
     Assign,
     Arrow,

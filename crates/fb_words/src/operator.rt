@@ -3,7 +3,7 @@
 use crate::elem_type::ElemType;
 
 /// An operator between two operands: IEC 61131-3 edition 3, 7.3.2 (expressions of Structured Text), the part that this profile has.
-#[derive(Clone, Copy, Debug, PartialEq, Eq)]
+#[derive(Clone, Copy)]
 pub enum Operator {
     Or,
     Xor,
@@ -25,7 +25,7 @@ pub enum Operator {
 
 /// What is done with operands that are brought to one type: IEC 61131-3 edition 3, 7.3.2 and 6.6.2 (standard functions), the part
 /// that this profile has.
-#[derive(Clone, Copy, Debug, PartialEq, Eq)]
+#[derive(Clone, Copy)]
 pub enum Operation {
     /// An operator between two operands.
     Infix(Operator),

@@ -3,3 +3,4 @@ pub mod Halves
 pub mod Outcomes
 pub mod Program
 pub mod Simulation
+pub mod Codes

@@ -3,7 +3,6 @@ use Rattle.std.specs.Prelude.{◌≡◌, ◌≤◌, ℕ, true, ◌⊎◌, List, 
 use Rattle.std.specs.Io.KnownBytes.{Appends}
 use Rattle.std.specs.Fmt.{decimal}
 use Rattle.std.specs.Str.{is_utf8}
-use Rattle.fb_script.specs.fb_types.declared.event_blocks.TheConstants.{EVENT_BLOCKS}
 use Rattle.fb_script.specs.fb_check.Refusals as refusals
 use Rattle.fb_script.specs.fb_device.Refusals as loading
 use Rattle.fb_script.specs.fb_check.Verdicts as verdicts
@@ -62,9 +61,9 @@ Tells o old new status = (status ≡ o.status) × Appends old new (o.line ++ 10 
 
 -- two texts are accepted only where what was verified is theirs, and a fault of a text is one that the text has
 abbrev pub IsVerdict : {A : Type 0} → List ℕ → List ℕ → Result A Fault → Type 0
-IsVerdict app cert (Ok a) = (v : Verified) × verdicts.IsOfTexts EVENT_BLOCKS.now app cert v
+IsVerdict app cert (Ok a) = (v : Verified) × verdicts.IsOfTexts app cert v
 IsVerdict app cert (Err Memory) = Unit {0}
-IsVerdict app cert (Err (Refused refusal)) = verdicts.IsFaultOf EVENT_BLOCKS.now app cert refusal
+IsVerdict app cert (Err (Refused refusal)) = verdicts.IsFaultOf app cert refusal
 IsVerdict app cert (Err other) = ⊥
 
 -- bytes hold two texts: they are within the limit, and both halves are UTF-8

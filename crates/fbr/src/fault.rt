@@ -8,7 +8,7 @@ use std::alloc::AllocError;
 use std::fmt;
 
 /// Why a command was refused.
-#[derive(Debug, Drop)]
+#[derive(Drop)]
 pub enum Fault<'a> {
     /// Memory ran out. Code 9, status 4.
     Memory,

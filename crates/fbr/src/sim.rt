@@ -1,8 +1,7 @@
-//! Checks two files, and runs a script on the device of the system.
+//! Checks two files, and runs a script on the one device of the system.
 
-ghost use Rattle.std.specs.Prelude.{◌≡◌, ◌≤◌, ◌<◌, length, IfOk, IfSome, MatchResult, string_bytes};
-ghost use Rattle.fb_script.specs.fb_check.Verdicts.{IsChecked, system_in};
-ghost use Rattle.fbr.specs.Simulation.{IsVerified, IsScript, IsScriptFault, IsVerifiedTexts, TellsEnd, IsFresh, IsNamed, IsSecond, TellsRun, TellsRunFrom, TellsScript, TellsSim};
+ghost use Rattle.std.specs.Prelude.{◌≡◌, ◌≤◌, ◌<◌, length, IfOk, MatchResult, string_bytes, true, false};
+ghost use Rattle.fbr.specs.Simulation.{IsVerified, IsScript, IsScriptFault, IsVerifiedTexts, TellsEnd, IsSilent, HasOneDevice, TellsRun, TellsRunFrom, TellsScript, TellsSim};
 ghost use Rattle.fb_script.specs.fb_check.declared.verified.Verified as of_check;
 
 use crate::check::{LIMIT, print_outcome, read_text, read_whole};
@@ -10,7 +9,7 @@ use crate::fault::Fault;
 use crate::sources::{ReadFault, Sources};
 use fb_script::fb_device::fb_tables::fb_check::{Refusal, Verified, check_text};
 use fb_script::fb_device::{Device, Ready, load_checked};
-use fb_script::{End, fb_device, first_line, simulate};
+use fb_script::{End, simulate};
 use std::alloc::Global;
 use std::io;
 use std::io::{Read, Write};
@@ -94,51 +93,37 @@ fn run_device<W: Write>(
 // Starts a device, and runs a script on it.
 fn run_ready<W: Write>(alloc: Global, ready: Ready, script: &str, output: &mut W) -> io::Result<u8>
     requires short { length script.now ≤ 33554432 }
-    ensures told { (v : of_check.Verified) → IsFresh v ready.device → IfOk result (λ status. TellsRun v script.now (W.contents output.old) (W.contents output.new) status) }
+    ensures told { (v : of_check.Verified) → HasOneDevice v → IsSilent v ready.device → IfOk result (λ status. TellsRun v script.now (W.contents output.old) (W.contents output.new) status) }
     ensures status { IfOk result (λ status. status ≤ 4) }
 {
     let mut device = ready.start();
-    run_device(alloc, &mut device, script, output)
+    let ran = run_device(alloc, &mut device, script, output);
+    device.let_go();
+    ran
 }
 
-// A refusal that names a device.
-fn named(alloc: Global, name: &str) -> fb_device::Refusal
-    ensures { IsNamed name.now result }
+// Whether a system has exactly one device.
+fn has_one_device(verified: &Verified) -> bool
+    ensures one { result ≡ true → HasOneDevice verified.now }
+    ensures other { result ≡ false → HasOneDevice verified.now → ⊥ }
 {
-    match String::from_str(alloc, name) {
-        Ok(name) => fb_device::Refusal::CannotRun(name),
-        Err(_) => fb_device::Refusal::Checked(Refusal::OutOfMemory),
-    }
+    verified.typed().devices.len() == 1
 }
 
-// The refusal of a second device, where there is one.
-fn second(alloc: Global, verified: &Verified) -> Option<fb_device::Refusal>
-    ensures { IfSome result (IsSecond verified.now) }
-{
-    match verified.typed().devices.get(1) {
-        Some(device) => Some(named(alloc, device.name.as_str())),
-        None => None,
-    }
-}
-
-// Runs a script on the device of what was verified, where it has one and no second.
+// Runs a script on the device of what was verified, where it has exactly one.
 fn run_script<W: Write>(
     alloc: Global,
     verified: Verified,
     script: &str,
     output: &mut W,
 ) -> io::Result<u8>
-    requires checked { IsChecked verified }
     requires short { length script.now ≤ 33554432 }
     ensures told { IfOk result (λ status. TellsRun verified script.now (W.contents output.old) (W.contents output.new) status) }
     ensures status { IfOk result (λ status. status ≤ 4) }
 {
-    if verified.typed().devices.is_empty() {
-        return print_end(first_line(alloc, script), output);
-    }
-    match second(alloc, &verified) {
-        Some(refusal) => return print_outcome(Err(Fault::Unloaded(refusal)), output),
-        None => {}
+    if !has_one_device(&verified) {
+        verified.let_go();
+        return print_outcome(Err(Fault::Usage), output);
     }
     match load_checked(alloc, verified, 0) {
         Ok(ready) => run_ready(alloc, ready, script, output),
@@ -153,18 +138,20 @@ fn run_input<I: Read, W: Write>(
     input: &mut I,
     output: &mut W,
 ) -> io::Result<u8>
-    requires { IsChecked verified }
     ensures told { IfOk result (λ status. TellsScript verified (I.remaining input.old) (W.contents output.old) (W.contents output.new) status) }
     ensures status { IfOk result (λ status. status ≤ 4) }
 {
     match read_script(alloc, input) {
         Ok(script) => run_script(alloc, verified, script.as_str(), output),
-        Err(fault) => print_outcome(Err(fault), output),
+        Err(fault) => {
+            verified.let_go();
+            print_outcome(Err(fault), output)
+        }
     }
 }
 
-/// Checks two files, and runs the script on standard input on the device of their system. Each answer is a line; where the files are refused
-/// their outcome is written and nothing else.
+/// Checks two files, and runs the script on standard input on the one device of their system. Each answer is a line; where the files are
+/// refused their outcome is written and nothing else. A system without a device, or with several, is `refused 63` until there is a world.
 pub fn sim_files<'a, S: Sources, I: Read, W: Write>(
     alloc: Global,
     files: &S,

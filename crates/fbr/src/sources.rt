@@ -8,10 +8,24 @@ use std::fs;
 use std::rt::Files;
 
 /// Why a file was not read.
-#[derive(Clone, Copy, Debug, PartialEq, Eq)]
+#[derive(Clone, Copy)]
 pub enum ReadFault {
     Memory,
     Unreadable,
+}
+
+impl ReadFault {
+    ghost use Rattle.fbr.specs.Codes.{code_of};
+
+    /// The number of the refusal.
+    pub fn code(&self) -> u8
+        ensures { result ≡ code_of self.now }
+    {
+        match self {
+            ReadFault::Memory => 9,
+            ReadFault::Unreadable => 61,
+        }
+    }
 }
 
 /// A source of files, by name.

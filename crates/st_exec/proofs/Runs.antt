@@ -2,7 +2,7 @@
 use Rattle.std.proofs.Common.{◌≡◌, ℕ, zero, suc, ◌+◌, ◌≤◌, ℤ, pos, ◌+ℤ◌, ◌*ℤ◌, ◌≤ℤ◌, int_le, ◌&&◌, Bool, true, false, Option, Some, None, IsSome, refl, sym, ◌∙◌, ap, subst, arith, add_assoc, zero-add}
 use Rattle.std.specs.Prelude.{if◌then◌else◌}
 use Rattle.std.proofs.lemmas.Int.{ints}
-use Rattle.fb_model.proofs.Types.{le_is}
+use Rattle.fb_words.proofs.Types.{le_is}
 use Rattle.fb_model.specs.Names.{Name}
 use Rattle.fb_model.specs.Values.{One, Values}
 use Rattle.fb_model.specs.Language.{Outcome, Done, Trap, more, after, with_value, setting, setting_part, turn_count, turns}

@@ -1,11 +1,9 @@
 -- What is asked of the parts of an algorithm.
-use Rattle.std.proofs.Common.{◌≡◌, ℤ, Bool, true, false, ◌||◌, ◌&&◌, List, [], ◌∷◌, ◌++◌, Option, None, Some, refl, sym, ap, subst, ◌∙◌}
-use Rattle.std.specs.List.{list_all}
+use Rattle.std.proofs.Common.{◌≡◌, ℤ, Bool, true, false, ◌||◌, List, [], ◌∷◌, ◌++◌, Option, None, Some, refl, sym, ap, ◌∙◌}
 use Rattle.std.specs.Option.{option_map}
 use Rattle.std.specs.Str.{bytes_eq}
 use Rattle.fb_words.specs.declared.elem_type.ElemType.{ElemType}
 use Rattle.fb_model.specs.Names.{Name, is_in}
-use Rattle.fb_model.proofs.Lists.{same_name}
 use Rattle.fb_model.proofs.Placed.{name_same}
 use Rattle.fb_model.specs.TypedText.{Term, constant, Command, set, set_part, choose, match_on, count, Commands, then_do, Choices, no_choice, choice, Cases, no_case, a_case}
 use Rattle.fb_model.specs.BlockTyping.{extent}
@@ -43,15 +41,6 @@ among_back xs ys zs h = λ x e. h x (in_back x xs ys e)
 
 first_among : (x : Name) (xs zs : List Name) → AreAmong (x ∷ xs) zs → is_in x zs ≡ true
 first_among x xs zs h = h x (ap (λ b. b || is_in x xs) (name_same x))
-
--- names that are all found among others, by a test
-pub among_all : (xs ys : List Name) → list_all (λ x. is_in x ys) xs ≡ true → AreAmong xs ys
-among_all [] ys h = λ y e. absurd (cc)
-among_all (x ∷ xs) ys h = λ y e. by (is_in x ys) (bytes_eq y x) y refl refl h e (among_all xs ys) where
-  by : (b c : Bool) (y : Name) → is_in x ys ≡ b → bytes_eq y x ≡ c → (b && list_all (λ x. is_in x ys) xs) ≡ true → (c || is_in y xs) ≡ true → (list_all (λ x. is_in x ys) xs ≡ true → AreAmong xs ys) → is_in y ys ≡ true
-  by true true y f g h e again = subst (λ z. is_in z ys ≡ true) (sym (same_name y x g)) f
-  by true false y f g h e again = again h y e
-  by false c y f g h e again = absurd (cc)
 
 -- what is no array by a shape is declared so
 plain_alike : (b c : Option (ℤ × ℤ)) → option_map extent b ≡ option_map extent c → b ≡ None → c ≡ None

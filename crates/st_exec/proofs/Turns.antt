@@ -3,7 +3,7 @@ use Rattle.std.proofs.Common.{◌≡◌, ℕ, zero, suc, ◌*◌, ◌/◌, ◌<�
 use Rattle.std.proofs.Math.Nat.{mul-le-mul_right}
 use Rattle.std.proofs.lemmas.Int.{ints, by_lt_z}
 use Rattle.fb_model.specs.Language.{turn_count}
-use Rattle.fb_model.proofs.Types.{lt_true, lt_false}
+use Rattle.fb_words.proofs.Types.{lt_true, lt_false}
 
 up_to : (d n i : ℕ) → i < suc (d / suc n) → i * suc n ≤ d
 up_to d n i h = let le : i ≤ d / suc n = omega arith in omega (arith, mul-le-mul_right (suc n) le)

@@ -7,7 +7,7 @@ use Rattle.std.proofs.lemmas.List.Edits.{sets, sets-eq}
 use Rattle.std.specs.Option.{option_map}
 use Rattle.std.proofs.Math.Seq.{take-set-lt}
 use Rattle.std.proofs.lemmas.Int.{ints}
-use Rattle.fb_model.proofs.Types.{le_true}
+use Rattle.fb_words.proofs.Types.{le_true}
 use Rattle.std.proofs.Math.Path.{fun_ext}
 use Rattle.fb_model.specs.Names.{Name}
 use Rattle.fb_model.proofs.Lists.{same_name}

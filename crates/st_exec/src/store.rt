@@ -15,7 +15,7 @@ use std::marker::Model;
 
 /// The values of the variables of one block. Contracts see the variables in the order in which they were declared, each with its
 /// name, its bounds and its value.
-#[derive(Debug, Drop)]
+#[derive(Drop)]
 pub struct Store {
     places: IndexMap<String, Place>,
     numbers: Vec<i64>,

@@ -8,7 +8,7 @@ use fb_lex::{Kind, Token};
 use fb_words::{Mark, Operator};
 
 /// What a mark does behind an operand.
-#[derive(Clone, Copy, Debug, PartialEq, Eq)]
+#[derive(Clone, Copy)]
 pub enum Role {
     /// An operator, and its level.
     Infix(u8, Operator),

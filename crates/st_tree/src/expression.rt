@@ -5,7 +5,7 @@ use fb_read::Name;
 use fb_words::Operator;
 
 /// An expression: IEC 61131-3 edition 3, 7.3.2. A place is the offset of a token's first byte. Parentheses leave no trace.
-#[derive(Debug, Drop)]
+#[derive(Drop)]
 #[cycle(expr)]
 pub enum Expr {
     /// A literal, with the sign of a number that has a `-` directly before it.
@@ -24,7 +24,7 @@ pub enum Expr {
 }
 
 /// An operator with its place, and its second operand.
-#[derive(Debug, Drop)]
+#[derive(Drop)]
 #[cycle(expr)]
 pub struct Link {
     pub operator: Operator,

@@ -3,7 +3,7 @@
 use fb_words::ElemType;
 
 /// A literal: IEC 61131-3 edition 3, 6.3.
-#[derive(Clone, Copy, Debug, PartialEq, Eq)]
+#[derive(Clone, Copy)]
 pub enum Literal {
     /// A number without a type, with a `-` directly before it or not, and its size.
     Whole(bool, u64),
@@ -16,7 +16,7 @@ pub enum Literal {
 }
 
 /// A literal and its place, which is behind a `-` before it.
-#[derive(Clone, Copy, Debug, PartialEq, Eq)]
+#[derive(Clone, Copy)]
 pub struct Constant {
     pub value: Literal,
     pub at: usize,

@@ -5,7 +5,7 @@ use crate::literal::Constant;
 use fb_read::Name;
 
 /// A statement: IEC 61131-3 edition 3, 7.3.3. A place is the offset of a token's first byte.
-#[derive(Debug, Drop)]
+#[derive(Drop)]
 #[cycle(stmt)]
 pub enum Stmt {
     /// `name := expr`, with the place of `:=`.
@@ -21,7 +21,7 @@ pub enum Stmt {
 }
 
 /// A condition with the place of its IF or ELSIF, and what is done where it holds.
-#[derive(Debug, Drop)]
+#[derive(Drop)]
 #[cycle(stmt)]
 pub struct Branch {
     pub at: usize,
@@ -30,7 +30,7 @@ pub struct Branch {
 }
 
 /// Labels, and what is done where one of them has the value.
-#[derive(Debug, Drop)]
+#[derive(Drop)]
 #[cycle(stmt)]
 pub struct Arm {
     pub labels: Vec<Label>,
@@ -38,7 +38,7 @@ pub struct Arm {
 }
 
 /// A number by which an arm is chosen, or all numbers from one to another.
-#[derive(Clone, Copy, Debug, PartialEq, Eq)]
+#[derive(Clone, Copy)]
 pub struct Label {
     pub low: Constant,
     pub high: Option<Constant>,

@@ -4,6 +4,8 @@ use Rattle.std.specs.Prelude.{int_le}
 use Rattle.std.proofs.Math.Dec.{leb-suc-zero}
 use Rattle.fb_words.specs.declared.elem_type.ElemType.{ElemType}
 use Rattle.fb_words.specs.declared.elem_type.ElemType.TheVariants as t
+use Rattle.fb_words.specs.contracts.elem_type.ElemType.{the_type}
+use denote.Enum.Bare.{same_true}
 use Rattle.fb_model.specs.Names.{Name, is_in}
 use Rattle.fb_model.specs.Spelling.{is_integer}
 use Rattle.fb_model.specs.Values.{signed, in_type}
@@ -11,9 +13,9 @@ use Rattle.fb_model.specs.Productions.{Word}
 use Rattle.fb_model.specs.Trees.{Literal, Whole, Typed, Duration, Truth, Constant}
 use Rattle.fb_model.specs.StructuredText.{Expression, Label, Statement, assign, assign_element, branch, select, repeat, Statements, no_statement, statement, Branches, no_branch, a_branch, Arms, no_arm, an_arm}
 use Rattle.fb_model.specs.TypedText.{Term, Command, set, set_part, choose, match_on, count, Commands, done, then_do, Choices, no_choice, choice, Cases, no_case, a_case}
-use Rattle.fb_model.specs.TextTyping.{Entry, found, Operand, fixed, free, whole, is_plain, IsAsked, IsAssignable, IsNumber, a_number, IsLabel, one, from_to, AreLabels, no_label, a_label, IsStep, no_step, a_step, IsSelector, an_integer, a_free_one, IsCommand, an_assignment, to_element, a_choice, a_selection, an_iteration, AreCommands, no_command, a_command, AreChoices, no_choices, more_choices, AreCases, no_cases, more_cases}
+use Rattle.fb_model.specs.TextTyping.{same_type, Entry, found, Operand, fixed, free, whole, is_plain, IsTyped, IsAsked, IsCondition, IsAssignable, IsNumber, a_number, IsLabel, one, from_to, AreLabels, no_label, a_label, IsStep, no_step, a_step, IsSelector, an_integer, a_free_one, IsCommand, an_assignment, to_element, a_choice, a_selection, an_iteration, AreCommands, no_command, a_command, AreChoices, no_choices, more_choices, AreCases, no_cases, more_cases}
 use Rattle.fb_model.specs.TextFaults.{type_mismatch, bad_literal, not_writable}
-use Rattle.st_types.specs.Elaborating.{◌>>=◌, known, bounds_by, settled, integer_of, typed, taken, asked}
+use Rattle.st_types.specs.Elaborating.{◌>>=◌, known, bounds_by, settled, integer_of, truth_of, typed, taken, asked, condition}
 use Rattle.st_types.specs.Commanding.{idle_by, assignable, scalar_by, scalar, counter, number_by, number_of, high_of, label_of, labels_of, is_nought, step_of, Counted, counted, commanded, all_commanded, chosen, cased}
 use Rattle.st_types.proofs.Rules.{bind_ok, test_ok, ok_same, settled_sound, settled_complete, taken_sound, taken_complete, integer_sound, integer_complete}
 use Rattle.st_types.proofs.Elaboration.{known_ok, sound, complete}
@@ -30,6 +32,24 @@ asked_complete env a s e x h = rw (complete env e h.operand h.typed) (taken_comp
 
 pub one_asked : (env : List Entry) (a : ElemType) (e : Expression) (x y : Term) → IsAsked env a e x → IsAsked env a e y → x ≡ y
 one_asked env a e x y h k = ok_same x y (sym (asked_complete env a 0 e x h) ∙ asked_complete env a 0 e y k)
+
+pub truth_sound : (s : ℕ) (p : Operand) (x : Term) → truth_of s p ≡ Ok x → p ≡ fixed t.Bool x
+truth_sound s (fixed a y) x h =
+    let p = test_ok (same_type a t.Bool) (Ok y) (type_mismatch s) x h in
+    ap (λ b. fixed b y) (same_true the_type tt a t.Bool p.0) ∙ ap (λ z. fixed t.Bool z) (ok_same y x p.1)
+truth_sound s (free l) x h = absurd (cc)
+truth_sound s whole x h = absurd (cc)
+
+pub condition_sound : (env : List Entry) (s : ℕ) (e : Expression) (x : Term) → condition env s e ≡ Ok x → IsCondition env e x
+condition_sound env s e x h =
+    let p = bind_ok (typed env e) (λ p. truth_of s p) x h in
+    subst (IsTyped env e) (truth_sound s p.0 x p.2) (sound env e p.0 p.1)
+
+pub condition_complete : (env : List Entry) (s : ℕ) (e : Expression) (x : Term) → IsCondition env e x → condition env s e ≡ Ok x
+condition_complete env s e x h = rw (complete env e (fixed t.Bool x) h) refl
+
+pub one_condition : (env : List Entry) (e : Expression) (x y : Term) → IsCondition env e x → IsCondition env e y → x ≡ y
+one_condition env e x y h k = ok_same x y (sym (condition_complete env 0 e x h) ∙ condition_complete env 0 e y k)
 
 -- ---- what is assigned
 
@@ -231,11 +251,11 @@ mutual
   pub choices_sound : (env : List Entry) (busy : List Name) (bs : Branches) (cs : Choices) → chosen env busy bs ≡ Ok cs → AreChoices env busy bs cs
   choices_sound env busy no_branch cs h = subst (AreChoices env busy no_branch) (ok_same no_choice cs h) no_choices
   choices_sound env busy (a_branch s e xs bs) cs h =
-      let p = bind_ok (asked env t.Bool s e) (λ y. all_commanded env busy xs >>= λ c. chosen env busy bs >>= λ ds. Ok (choice y c ds)) cs h in
+      let p = bind_ok (condition env s e) (λ y. all_commanded env busy xs >>= λ c. chosen env busy bs >>= λ ds. Ok (choice y c ds)) cs h in
       let q = bind_ok (all_commanded env busy xs) (λ c. chosen env busy bs >>= λ ds. Ok (choice p.0 c ds)) cs p.2 in
       let r = bind_ok (chosen env busy bs) (λ ds. Ok (choice p.0 q.0 ds)) cs q.2 in
       subst (AreChoices env busy (a_branch s e xs bs)) (ok_same (choice p.0 q.0 r.0) cs r.2)
-      (more_choices (asked_sound env t.Bool s e p.0 p.1) (commands_sound env busy xs q.0 q.1) (choices_sound env busy bs r.0 r.1))
+      (more_choices (condition_sound env s e p.0 p.1) (commands_sound env busy xs q.0 q.1) (choices_sound env busy bs r.0 r.1))
 
   pub cases_sound : (env : List Entry) (busy : List Name) (a : ElemType) (bs : Arms) (cs : Cases) → cased env busy a bs ≡ Ok cs → AreCases env busy a bs cs
   cases_sound env busy a no_arm cs h = subst (AreCases env busy a no_arm) (ok_same no_case cs h) no_cases
@@ -263,7 +283,7 @@ mutual
 
   pub choices_complete : (env : List Entry) (busy : List Name) (bs : Branches) (cs : Choices) → AreChoices env busy bs cs → chosen env busy bs ≡ Ok cs
   choices_complete env busy no_branch cs no_choices = refl
-  choices_complete env busy (a_branch s e xs bs) cs (more_choices {y = y} {c = c} {cs = ds} h k m) = rw (asked_complete env t.Bool s e y h, commands_complete env busy xs c k, choices_complete env busy bs ds m) refl
+  choices_complete env busy (a_branch s e xs bs) cs (more_choices {y = y} {c = c} {cs = ds} h k m) = rw (condition_complete env s e y h, commands_complete env busy xs c k, choices_complete env busy bs ds m) refl
 
   pub cases_complete : (env : List Entry) (busy : List Name) (a : ElemType) (bs : Arms) (cs : Cases) → AreCases env busy a bs cs → cased env busy a bs ≡ Ok cs
   cases_complete env busy a no_arm cs no_cases = refl

@@ -14,8 +14,8 @@ use Rattle.fb_model.specs.Productions.{Word}
 use Rattle.fb_model.specs.Trees.{Whole, Constant}
 use Rattle.fb_model.specs.StructuredText.{Expression, element, call, negative, inverse, binary, Expressions, no_expression, expression, Label, Statement, assign, assign_element, branch, select, repeat, Statements, no_statement, statement, Branches, no_branch, a_branch, Arms, no_arm, an_arm}
 use Rattle.fb_model.specs.TypedText.{Term, Command, Commands, Choices, Cases}
-use Rattle.fb_model.specs.TextTyping.{allows, stays_free, asks, called, arity, Entry, Loose, Operand, fixed, free, whole, may_be, is_free, Settles, a_number, a_single, a_double, Takes, widened, settles, IsOneOf, front, behind, Brings, alone, Single, one_free, one, Double, two_free, two, Triple, three_free, three, IsIndex, an_integer, a_free_one, IsTyped, a_whole_number, a_typed_number, a_time, a_truth, a_variable, an_array, an_element, a_negation, an_inversion, an_operation, on_one, on_two, on_three, IsAsked, IsAssignable, IsNumber, IsLabel, from_to, AreLabels, a_label, IsStep, a_step, IsSelector, IsCommand, an_assignment, to_element, a_choice, a_selection, an_iteration, AreCommands, a_command, AreChoices, more_choices, AreCases, more_cases}
-use Rattle.fb_model.specs.TextFaults.{Fault, Unsettled, bad_number, bad_single, bad_double, in_single, in_left, in_right, NotTaken, too_wide, unsettled, NotInteger, another_type, unsettled_one, NotOn, mismatched, not_settled, first, later, AreTyped, no_operand, an_operand, IsWrong, bad_typed, bad_time, unknown_variable, unknown_array, not_an_array, in_index, bad_index, in_negation, bad_negation, in_inversion, bad_inversion, in_first, in_second, bad_operation, unknown_function, bad_count, in_argument, bad_call, IsNotAsked, in_it, not_taken, IsNotAssignable, unknown, read_only, counted_with, IsNoNumber, not_fitting, not_whole, IsNoLabel, bad_low, bad_high, SomeNoLabel, this_label, later_label, IsNoStep, bad_step, no_progress, IsMisdone, bad_target, whole_array, bad_value, bad_element, no_array, wrong_index, no_index, bad_element_value, in_branches, in_else, in_selector, bad_selector, in_arms, in_other_arm, bad_counter, array_counter, no_integer, bad_first, bad_last, wrong_step, in_turn, SomeMisdone, this_one, later_one, SomeBranchWrong, bad_condition, in_branch, later_branch, SomeArmWrong, bad_label, in_arm, later_arm}
+use Rattle.fb_model.specs.TextTyping.{allows, stays_free, asks, called, arity, Entry, Loose, Operand, fixed, free, whole, may_be, is_free, Settles, a_number, a_single, a_double, Takes, widened, settles, IsOneOf, front, behind, Brings, alone, Single, one_free, one, Double, two_free, two, Triple, three_free, three, IsIndex, an_integer, a_free_one, IsTyped, a_whole_number, a_typed_number, a_time, a_truth, a_variable, an_array, an_element, a_negation, an_inversion, an_operation, on_one, on_two, on_three, IsAsked, IsCondition, IsAssignable, IsNumber, IsLabel, from_to, AreLabels, a_label, IsStep, a_step, IsSelector, IsCommand, an_assignment, to_element, a_choice, a_selection, an_iteration, AreCommands, a_command, AreChoices, more_choices, AreCases, more_cases}
+use Rattle.fb_model.specs.TextFaults.{Fault, Unsettled, bad_number, bad_single, bad_double, in_single, in_left, in_right, NotTaken, too_wide, unsettled, NotInteger, another_type, unsettled_one, NotOn, mismatched, not_settled, first, later, AreTyped, no_operand, an_operand, IsWrong, bad_typed, bad_time, unknown_variable, unknown_array, not_an_array, in_index, bad_index, in_negation, bad_negation, in_inversion, bad_inversion, in_first, in_second, bad_operation, unknown_function, bad_count, in_argument, bad_call, IsNotAsked, in_it, not_taken, is_truth, IsNoCondition, in_condition, no_truth, IsNotAssignable, unknown, read_only, counted_with, IsNoNumber, not_fitting, not_whole, IsNoLabel, bad_low, bad_high, SomeNoLabel, this_label, later_label, IsNoStep, bad_step, no_progress, IsMisdone, bad_target, whole_array, bad_value, bad_element, no_array, wrong_index, no_index, bad_element_value, in_branches, in_else, in_selector, bad_selector, in_arms, in_other_arm, bad_counter, array_counter, no_integer, bad_first, bad_last, wrong_step, in_turn, SomeMisdone, this_one, later_one, SomeBranchWrong, bad_condition, in_branch, later_branch, SomeArmWrong, bad_label, in_arm, later_arm}
 use Rattle.st_types.proofs.Rules.{brings_one}
 use Rattle.st_types.proofs.Elaboration.{one_operand}
 
@@ -209,6 +209,11 @@ asked_faultless env a s e x w h (in_it k) = typed_faultless env e h.operand w h.
 asked_faultless env a s e x w h (not_taken {p = q} k n) =
     taken_faultless a s h.operand x w h.taken (subst (λ v. NotTaken a s v w) (one_operand env e q h.operand k h.typed) n)
 
+-- and of a condition
+pub condition_faultless : (env : List Entry) (s : ℕ) (e : Expression) (x : Term) (w : Fault) → IsCondition env e x → IsNoCondition env s e w → ⊥
+condition_faultless env s e x w h (in_condition k) = typed_faultless env e (fixed t.Bool x) w h k
+condition_faultless env s e x w h (no_truth {p = p} k n) = true≢false (subst (λ q. is_truth q ≡ false) (one_operand env e p (fixed t.Bool x) k h) n)
+
 -- and where the type is that of a variable
 asked_by_variable : {x : Option Entry} (env : List Entry) (v u : Entry) (s : ℕ) (e : Expression) (y : Term) (w : Fault) → x ≡ Some v → IsAsked env v.type e y → x ≡ Some u → IsNotAsked env u.type s e w → ⊥
 asked_by_variable env v u s e y w h k i n =
@@ -283,7 +288,7 @@ mutual
 
   pub choices_faultless : (env : List Entry) (busy : List Name) (bs : Branches) (cs : Choices) (w : Fault) → AreChoices env busy bs cs → SomeBranchWrong env busy bs w → ⊥
   choices_faultless env busy no_branch cs w h n = elim n [ ]
-  choices_faultless env busy (a_branch s e xs bs) cs w (more_choices {y = y} h k m) (bad_condition n) = asked_faultless env t.Bool s e y w h n
+  choices_faultless env busy (a_branch s e xs bs) cs w (more_choices {y = y} h k m) (bad_condition n) = condition_faultless env s e y w h n
   choices_faultless env busy (a_branch s e xs bs) cs w (more_choices {c = c} h k m) (in_branch n) = commands_faultless env busy xs c w k n
   choices_faultless env busy (a_branch s e xs bs) cs w (more_choices {cs = ds} h k m) (later_branch n) = choices_faultless env busy bs ds w m n
 

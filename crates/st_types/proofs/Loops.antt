@@ -5,12 +5,11 @@ use Rattle.fb_model.specs.Names.{Name}
 use Rattle.fb_model.specs.StructuredText.{Label, Statement, statements, Branch, branches, Arm, arms}
 use Rattle.fb_model.specs.TypedText.{Command, done, then_do, Choices, no_choice, choice, Cases, no_case, a_case}
 use Rattle.fb_model.specs.TextTyping.{Entry}
-use Rattle.st_types.specs.Elaborating.{◌>>=◌, asked}
+use Rattle.st_types.specs.Elaborating.{◌>>=◌, condition}
 use Rattle.st_types.specs.Commanding.{label_of, labels_of, commanded, all_commanded, chosen, cased, one_chosen, one_cased}
 use Rattle.st_types.specs.CommandViews.{Chosen, Cased, then_all, all_choices, all_cases}
 use Rattle.st_types.proofs.Steps.{bind_again, bind_same}
 use Rattle.st_types.proofs.Gathering.{gathered, Left}
-use Rattle.fb_words.specs.declared.elem_type.ElemType.TheVariants as t
 
 -- ---- labels
 
@@ -47,10 +46,10 @@ pub choices_gathered : (env : List Entry) (busy : List Name) (bs : List Branch) 
 choices_gathered env busy [] = refl
 choices_gathered env busy (b ∷ bs) =
     let rest = gathered (one_chosen env busy) no_choice put_choice bs in
-    bind_same (asked env t.Bool b.0 b.1) (λ y. all_commanded env busy b.2 >>= λ c. chosen env busy (branches bs) >>= λ cs. Ok (choice y c cs)) (λ y. all_commanded env busy b.2 >>= λ c. rest >>= λ cs. Ok (choice y c cs))
+    bind_same (condition env b.0 b.1) (λ y. all_commanded env busy b.2 >>= λ c. chosen env busy (branches bs) >>= λ cs. Ok (choice y c cs)) (λ y. all_commanded env busy b.2 >>= λ c. rest >>= λ cs. Ok (choice y c cs))
     (λ y. ap (λ q. all_commanded env busy b.2 >>= λ c. q >>= λ cs. Ok (choice y c cs)) (choices_gathered env busy bs))
-    ∙ sym (bind_again (asked env t.Bool b.0 b.1) (λ y. all_commanded env busy b.2 >>= λ c. Ok (y, c)) (λ (c : Chosen). rest >>= λ cs. Ok (put_choice c cs))
-    ∙ bind_same (asked env t.Bool b.0 b.1) (λ y. (all_commanded env busy b.2 >>= λ c. Ok (y, c)) >>= λ (c : Chosen). rest >>= λ cs. Ok (put_choice c cs)) (λ y. all_commanded env busy b.2 >>= λ c. rest >>= λ cs. Ok (choice y c cs))
+    ∙ sym (bind_again (condition env b.0 b.1) (λ y. all_commanded env busy b.2 >>= λ c. Ok (y, c)) (λ (c : Chosen). rest >>= λ cs. Ok (put_choice c cs))
+    ∙ bind_same (condition env b.0 b.1) (λ y. (all_commanded env busy b.2 >>= λ c. Ok (y, c)) >>= λ (c : Chosen). rest >>= λ cs. Ok (put_choice c cs)) (λ y. all_commanded env busy b.2 >>= λ c. rest >>= λ cs. Ok (choice y c cs))
     (λ y. bind_again (all_commanded env busy b.2) (λ c. Ok (y, c)) (λ (c : Chosen). rest >>= λ cs. Ok (put_choice c cs))))
 
 abbrev pub ChoicesLeft : List Entry → List Name → List Branch → List Chosen → List Branch → Type 0

@@ -9,9 +9,9 @@ use Rattle.fb_model.specs.Productions.{Word}
 use Rattle.fb_model.specs.Trees.{Literal, Whole, Typed, Duration, Truth, Constant}
 use Rattle.fb_model.specs.StructuredText.{Expression, Label, Statement, assign, assign_element, branch, select, repeat, Statements, no_statement, statement, Branches, no_branch, a_branch, Arms, no_arm, an_arm}
 use Rattle.fb_model.specs.TypedText.{Term, set, set_part, choose, match_on, count, done, then_do, no_choice, choice, no_case, a_case}
-use Rattle.fb_model.specs.TextTyping.{Entry, found, is_plain, IsNumber, a_number}
-use Rattle.fb_model.specs.TextFaults.{Fault, type_mismatch, bad_literal, not_writable, IsNotAsked, in_it, not_taken, IsNotAssignable, unknown, read_only, counted_with, IsNoNumber, not_fitting, not_whole, IsNoLabel, bad_low, bad_high, SomeNoLabel, this_label, later_label, IsNoStep, bad_step, no_progress, IsMisdone, bad_target, whole_array, bad_value, bad_element, no_array, wrong_index, no_index, bad_element_value, in_branches, in_else, in_selector, bad_selector, in_arms, in_other_arm, bad_counter, array_counter, no_integer, bad_first, bad_last, wrong_step, in_turn, SomeMisdone, this_one, later_one, SomeBranchWrong, bad_condition, in_branch, later_branch, SomeArmWrong, bad_label, in_arm, later_arm}
-use Rattle.st_types.specs.Elaborating.{◌>>=◌, known, bounds_by, integer_of, typed, taken, asked}
+use Rattle.fb_model.specs.TextTyping.{same_type, Entry, found, Operand, fixed, free, whole, is_plain, IsNumber, a_number}
+use Rattle.fb_model.specs.TextFaults.{Fault, type_mismatch, bad_literal, not_writable, IsNotAsked, in_it, not_taken, is_truth, IsNoCondition, in_condition, no_truth, IsNotAssignable, unknown, read_only, counted_with, IsNoNumber, not_fitting, not_whole, IsNoLabel, bad_low, bad_high, SomeNoLabel, this_label, later_label, IsNoStep, bad_step, no_progress, IsMisdone, bad_target, whole_array, bad_value, bad_element, no_array, wrong_index, no_index, bad_element_value, in_branches, in_else, in_selector, bad_selector, in_arms, in_other_arm, bad_counter, array_counter, no_integer, bad_first, bad_last, wrong_step, in_turn, SomeMisdone, this_one, later_one, SomeBranchWrong, bad_condition, in_branch, later_branch, SomeArmWrong, bad_label, in_arm, later_arm}
+use Rattle.st_types.specs.Elaborating.{◌>>=◌, known, bounds_by, integer_of, truth_of, typed, taken, asked, condition}
 use Rattle.st_types.specs.Commanding.{idle_by, assignable, scalar_by, scalar, counter, number_by, number_of, high_of, label_of, labels_of, is_nought, step_of, Counted, counted, commanded, all_commanded, chosen, cased}
 use Rattle.st_types.proofs.Rules.{bind_err}
 use Rattle.st_types.proofs.Refusals.{test_err, never_err, not_taken_of, not_integer_of}
@@ -49,6 +49,17 @@ test_step {A} b r v w Q fail on h = by (test_err b r v w h)
 pub asked_refused : (env : List Entry) (a : ElemType) (s : ℕ) (e : Expression) (w : Fault) → asked env a s e ≡ Err w → IsNotAsked env a s e w
 asked_refused env a s e w h =
     step (typed env e) (λ p. taken a s p) w (IsNotAsked env a s e w) (λ k. in_it (refused env e w k)) (λ p k m. not_taken (sound env e p k) (not_taken_of a s p w m)) h
+
+not_truth : (s : ℕ) (p : Operand) (w : Fault) → truth_of s p ≡ Err w → (is_truth p ≡ false) × (type_mismatch s ≡ w)
+not_truth s (fixed a x) w h =
+    test_step (same_type a t.Bool) (Ok x) (type_mismatch s) w (λ v. (same_type a t.Bool ≡ false) × (type_mismatch s ≡ v)) (λ k. (k, refl)) (λ k m. absurd (never_err x w m)) h
+not_truth s (free l) w h = (refl, same_fault {A = Term} (type_mismatch s) w h)
+not_truth s whole w h = (refl, same_fault {A = Term} (type_mismatch s) w h)
+
+pub condition_refused : (env : List Entry) (s : ℕ) (e : Expression) (w : Fault) → condition env s e ≡ Err w → IsNoCondition env s e w
+condition_refused env s e w h =
+    step (typed env e) (λ p. truth_of s p) w (IsNoCondition env s e w) (λ k. in_condition (refused env e w k))
+    (λ p k m. let q = not_truth s p w m in subst (IsNoCondition env s e) q.1 (no_truth (sound env e p k) q.0)) h
 
 -- ---- what is assigned
 
@@ -195,7 +206,7 @@ mutual
       let inside = commands_refused env busy xs w in
       let more = choices_refused env busy bs w in
       let Q = SomeBranchWrong env busy (a_branch s e xs bs) w in
-      step (asked env t.Bool s e) (λ y. all_commanded env busy xs >>= λ c. chosen env busy bs >>= λ cs. Ok (choice y c cs)) w Q (λ k. bad_condition (asked_refused env t.Bool s e w k))
+      step (condition env s e) (λ y. all_commanded env busy xs >>= λ c. chosen env busy bs >>= λ cs. Ok (choice y c cs)) w Q (λ k. bad_condition (condition_refused env s e w k))
       (λ y k. step (all_commanded env busy xs) (λ c. chosen env busy bs >>= λ cs. Ok (choice y c cs)) w Q (λ m. in_branch (inside m))
       (λ c m. last_step (chosen env busy bs) (λ cs. choice y c cs) w Q (λ n. later_branch (more n)))) h
 

@@ -4,7 +4,6 @@ use Rattle.std.proofs.lemmas.Bool.{eq-eqb}
 use Rattle.std.specs.declared.alloc.Global.{Global}
 use Rattle.fb_model.specs.StructuredText.{Expression, binary, Link, grouped, statements}
 use Rattle.fb_model.specs.StructuredText as text
-use Rattle.fb_words.specs.declared.elem_type.ElemType.TheVariants as t
 use Rattle.fb_model.specs.Names.{Name}
 use Rattle.fb_model.specs.TypedText.{Term, Commands}
 use Rattle.fb_model.specs.TextTyping.{Entry, is_plain}
@@ -15,7 +14,7 @@ use Rattle.st_types.specs.declared.command.TypedStmt as typed
 use Rattle.st_types.specs.declared.command.TypedBranch.{roll-TypedBranch}
 use Rattle.st_types.specs.declared.command.TypedArm.{roll-TypedArm}
 use Rattle.st_types.specs.Answers.{Fails}
-use Rattle.st_types.specs.Elaborating.{◌>>=◌, asked}
+use Rattle.st_types.specs.Elaborating.{◌>>=◌, condition}
 use Rattle.st_types.specs.Commanding.{all_commanded, one_chosen}
 use Rattle.st_types.specs.Views.{term_of}
 use Rattle.st_types.specs.CommandViews.{Chosen, commands_of, choice_of, case_of}
@@ -65,13 +64,13 @@ view_case ls v = search (rules, typed.the_lemmas)
 
 -- ---- a condition and its body, step by step
 
-pub condition_fails : (env : List Entry) (busy : List Name) (s : ℕ) (e : Expression) (xs : text.Statements) (w : TypingFault) → Fails w (asked env t.Bool s e) → Fails w (one_chosen env busy (s, e, xs))
-condition_fails env busy s e xs w h = fails_then w (asked env t.Bool s e) (λ y. all_commanded env busy xs >>= λ c. Ok (y, c)) h
+pub condition_fails : (env : List Entry) (busy : List Name) (s : ℕ) (e : Expression) (xs : text.Statements) (w : TypingFault) → Fails w (condition env s e) → Fails w (one_chosen env busy (s, e, xs))
+condition_fails env busy s e xs w h = fails_then w (condition env s e) (λ y. all_commanded env busy xs >>= λ c. Ok (y, c)) h
 
-pub body_fails : (env : List Entry) (busy : List Name) (s : ℕ) (e : Expression) (xs : text.Statements) (y : Term) (w : TypingFault) → asked env t.Bool s e ≡ Ok y → Fails w (all_commanded env busy xs) → Fails w (one_chosen env busy (s, e, xs))
+pub body_fails : (env : List Entry) (busy : List Name) (s : ℕ) (e : Expression) (xs : text.Statements) (y : Term) (w : TypingFault) → condition env s e ≡ Ok y → Fails w (all_commanded env busy xs) → Fails w (one_chosen env busy (s, e, xs))
 body_fails env busy s e xs y w h f = subst (λ r. Fails {Y = Chosen} w (r >>= λ y. all_commanded env busy xs >>= λ c. Ok (y, c))) (sym h) (fails_then w (all_commanded env busy xs) (λ c. Ok (y, c)) f)
 
-pub choice_is : (env : List Entry) (busy : List Name) (s : ℕ) (e : Expression) (xs : text.Statements) (y : Term) (c : Commands) → asked env t.Bool s e ≡ Ok y → all_commanded env busy xs ≡ Ok c → one_chosen env busy (s, e, xs) ≡ Ok (y, c)
+pub choice_is : (env : List Entry) (busy : List Name) (s : ℕ) (e : Expression) (xs : text.Statements) (y : Term) (c : Commands) → condition env s e ≡ Ok y → all_commanded env busy xs ≡ Ok c → one_chosen env busy (s, e, xs) ≡ Ok (y, c)
 choice_is env busy s e xs y c h f = ap (λ r. r >>= λ y. all_commanded env busy xs >>= λ c. Ok (y, c)) h ∙ ap (λ r. r >>= λ c. Ok (y, c)) f
 
 -- the body of a FOR is smaller than the FOR

@@ -1,7 +1,6 @@
 -- The command that a statement is, or why it is none, reckoned from its parts.
 use Rattle.std.specs.Prelude.{ℕ, ℤ, pos, int_le, Bool, true, false, ◌&&◌, cond, List, [], ◌∷◌, ◌++◌, Option, None, Some, Result, Ok, Err}
 use Rattle.fb_words.specs.declared.elem_type.ElemType.{ElemType}
-use Rattle.fb_words.specs.declared.elem_type.ElemType.TheVariants as t
 use Rattle.fb_model.specs.Names.{Name, is_in}
 use Rattle.fb_model.specs.Spelling.{is_integer}
 use Rattle.fb_model.specs.Values.{signed, in_type}
@@ -11,7 +10,7 @@ use Rattle.fb_model.specs.StructuredText.{Expression, Label, Statement, assign, 
 use Rattle.fb_model.specs.TypedText.{Term, Command, set, set_part, choose, match_on, count, Commands, done, then_do, Choices, no_choice, choice, Cases, no_case, a_case}
 use Rattle.fb_model.specs.TextTyping.{Entry, is_plain}
 use Rattle.fb_model.specs.TextFaults.{Fault, type_mismatch, bad_literal, not_writable}
-use Rattle.st_types.specs.Elaborating.{◌>>=◌, known, bounds_by, integer_of, typed, asked}
+use Rattle.st_types.specs.Elaborating.{◌>>=◌, known, bounds_by, integer_of, typed, asked, condition}
 
 -- ---- what is assigned
 
@@ -96,7 +95,7 @@ abbrev mutual
 
   pub chosen : List Entry → List Name → Branches → Result Choices Fault
   chosen env busy no_branch = Ok no_choice
-  chosen env busy (a_branch s e xs bs) = asked env t.Bool s e >>= λ y. all_commanded env busy xs >>= λ c. chosen env busy bs >>= λ cs. Ok (choice y c cs)
+  chosen env busy (a_branch s e xs bs) = condition env s e >>= λ y. all_commanded env busy xs >>= λ c. chosen env busy bs >>= λ cs. Ok (choice y c cs)
 
   pub cased : List Entry → List Name → ElemType → Arms → Result Cases Fault
   cased env busy a no_arm = Ok no_case
@@ -104,7 +103,7 @@ abbrev mutual
 
 -- one condition, with what is done where it holds
 abbrev pub one_chosen : List Entry → List Name → Branch → Result (Term × Commands) Fault
-one_chosen env busy b = asked env t.Bool b.0 b.1 >>= λ y. all_commanded env busy b.2 >>= λ c. Ok (y, c)
+one_chosen env busy b = condition env b.0 b.1 >>= λ y. all_commanded env busy b.2 >>= λ c. Ok (y, c)
 
 -- one arm
 abbrev pub one_cased : List Entry → List Name → ElemType → Arm → Result (List (ℤ × ℤ) × Commands) Fault

@@ -11,7 +11,7 @@ use Rattle.fb_model.specs.Values.{signed, in_type}
 use Rattle.fb_model.specs.Trees.{Literal, Whole, Typed, Duration, Truth}
 use Rattle.fb_model.specs.StructuredText.{Expression, literal, variable, element, call, negative, inverse, binary, Expressions, no_expression, expression, Link}
 use Rattle.fb_model.specs.TypedText.{Term, constant, read, part, single, double}
-use Rattle.fb_model.specs.TextTyping.{allows, gives, stays_free, asks, called, arity, Entry, found, Loose, loose_number, loose_single, loose_double, Operand, fixed, free, whole, widens, may_be, is_free, bit}
+use Rattle.fb_model.specs.TextTyping.{same_type, allows, gives, stays_free, asks, called, arity, Entry, found, Loose, loose_number, loose_single, loose_double, Operand, fixed, free, whole, widens, may_be, is_free, bit}
 use Rattle.fb_model.specs.TextFaults.{Fault, unknown_name, type_mismatch, bad_literal}
 use Rattle.st_types.specs.Views.{LooseTail}
 
@@ -73,6 +73,11 @@ abbrev pub taken : ElemType → ℕ → Operand → Result Term Fault
 taken a s (fixed b x) = cond (widens b a) (Ok x) (Err (type_mismatch s))
 taken a s (free l) = settled a l
 taken a s whole = Err (type_mismatch s)
+
+-- a truth, where a place asks for one: no free operand is one
+abbrev pub truth_of : ℕ → Operand → Result Term Fault
+truth_of s (fixed a x) = cond (same_type a t.Bool) (Ok x) (Err (type_mismatch s))
+truth_of s p = Err (type_mismatch s)
 
 -- ---- operations
 
@@ -187,3 +192,7 @@ typed_links env p (l ∷ ls) = typed env l.2 >>= λ q. on_two (Infix l.0) l.1 p 
 -- an expression where a type is asked for at a place
 abbrev pub asked : List Entry → ElemType → ℕ → Expression → Result Term Fault
 asked env a s e = typed env e >>= λ p. taken a s p
+
+-- a condition, at a place
+abbrev pub condition : List Entry → ℕ → Expression → Result Term Fault
+condition env s e = typed env e >>= λ p. truth_of s p

@@ -3,3 +3,4 @@ pub mod Views
 pub mod Answers
 pub mod Commanding
 pub mod CommandViews
+pub mod Codes

@@ -4,7 +4,7 @@ use crate::term::TypedExpr;
 use fb_words::ElemType;
 
 /// A statement whose expressions have types: IEC 61131-3 edition 3, 7.3.3.
-#[derive(Debug, Drop)]
+#[derive(Drop)]
 #[cycle(command)]
 pub enum TypedStmt {
     /// A variable and its new value.
@@ -20,7 +20,7 @@ pub enum TypedStmt {
 }
 
 /// How a FOR counts.
-#[derive(Debug, Drop)]
+#[derive(Drop)]
 pub struct Counting {
     pub variable: String,
     pub of_type: ElemType,
@@ -33,7 +33,7 @@ pub struct Counting {
 }
 
 /// A condition, and what is done where it holds.
-#[derive(Debug, Drop)]
+#[derive(Drop)]
 #[cycle(command)]
 pub struct TypedBranch {
     pub condition: TypedExpr,
@@ -41,7 +41,7 @@ pub struct TypedBranch {
 }
 
 /// Labels, each the numbers from one to another, and what is done where one of them has the selector's value.
-#[derive(Debug, Drop)]
+#[derive(Drop)]
 #[cycle(command)]
 pub struct TypedArm {
     pub labels: Vec<(i64, i64)>,

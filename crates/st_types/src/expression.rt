@@ -11,7 +11,9 @@ ghost use Rattle.st_types.specs.Elaborating as book;
 ghost use Rattle.st_types.specs.Views.{term_of, operand_of, entries, entry_of};
 
 use crate::fault::TypingFault;
-use crate::operand::{Operand, constant, integer, linked, loosely_linked, operands_type, taken};
+use crate::operand::{
+    Operand, constant, integer, linked, loosely_linked, operands_type, taken, truth,
+};
 use crate::operation::{arity, called, gives, stays_free};
 use crate::scope::{Scope, Variable, find};
 use crate::term::{Loose, TypedExpr};
@@ -405,4 +407,19 @@ pub fn asked(
 {
     let operand = typed(alloc, scope, expr)?;
     taken(alloc, of, at, operand)
+}
+
+/// A condition at a place: an expression that is BOOL by itself.
+///
+/// Refused as `typed`, and with `TypeMismatch` at the place where the expression is no BOOL, as a number without a type.
+pub fn condition(
+    alloc: Global,
+    scope: &Scope,
+    at: usize,
+    expr: &Expr,
+) -> Result<TypedExpr, TypingFault>
+    ensures { Gives term_of result (book.condition (entries scope.now) at (expr_of expr.now)) }
+{
+    let operand = typed(alloc, scope, expr)?;
+    truth(at, operand)
 }

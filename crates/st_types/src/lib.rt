@@ -17,7 +17,8 @@ pub use expression::signed;
 pub use fault::TypingFault;
 pub use scope::{Scope, Variable};
 pub use term::{TypedExpr, TypedLink};
-pub use types::{fits, widens};
+pub use types::widens;
 pub use whole::{
-    Algo, one_algorithm, one_term, refusals_are_true, resolve_algorithm, resolve_expr,
+    Algo, one_algorithm, one_term, refusals_are_true, resolve_algorithm, resolve_condition,
+    resolve_expr,
 };

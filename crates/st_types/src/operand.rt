@@ -5,18 +5,18 @@ ghost use Rattle.fb_model.specs.TypedText.{double};
 ghost use Rattle.std.specs.List.{list_all};
 ghost use Rattle.fb_model.specs.TextTyping.{may_be, is_free, loose_double};
 ghost use Rattle.st_types.specs.Answers.{Gives};
-ghost use Rattle.st_types.specs.Elaborating.{fixed_type, offered, common, brought, operands_type, constant_of, settled, settled_tails, taken, integer_of};
+ghost use Rattle.st_types.specs.Elaborating.{fixed_type, offered, common, brought, operands_type, constant_of, settled, settled_tails, taken, truth_of, integer_of};
 ghost use Rattle.st_types.specs.Views.{term_of, tail_of, loose_of, loose_tail_of, operand_of, operands_of};
 
 use crate::fault::TypingFault;
 use crate::operation::{allows, asks};
 use crate::term::{Loose, LooseLink, TypedExpr, TypedLink};
-use crate::types::{fits, is_integer, widens};
+use crate::types::{is_integer, widens};
 use fb_words::{ElemType, Operation};
 use std::alloc::Global;
 
 /// What an expression is before something asks it for a type.
-#[derive(Debug, Drop)]
+#[derive(Drop)]
 pub enum Operand {
     /// An expression of a type.
     Fixed(ElemType, TypedExpr),
@@ -140,7 +140,7 @@ pub(crate) fn operands_type(
 pub(crate) fn constant(of: ElemType, number: i128, at: usize) -> Result<TypedExpr, TypingFault>
     ensures { Gives term_of result (constant_of of number at) }
 {
-    if !fits(of, number) {
+    if !of.fits(number) {
         return Err(TypingFault::BadLiteral(at));
     }
     Ok(TypedExpr::Constant(number as i64))
@@ -265,6 +265,22 @@ pub(crate) fn taken(
         }
         Operand::Free(loose) => settled(alloc, of, &loose),
         Operand::Whole => Err(TypingFault::TypeMismatch(at)),
+    }
+}
+
+/// A truth where a place asks for one, which no free operand is.
+pub(crate) fn truth(at: usize, operand: Operand) -> Result<TypedExpr, TypingFault>
+    ensures { Gives term_of result (truth_of at (operand_of operand)) }
+{
+    match operand {
+        Operand::Fixed(own, expr) => {
+            if own == ElemType::Bool {
+                Ok(expr)
+            } else {
+                Err(TypingFault::TypeMismatch(at))
+            }
+        }
+        Operand::Free(_) | Operand::Whole => Err(TypingFault::TypeMismatch(at)),
     }
 }
 

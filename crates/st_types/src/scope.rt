@@ -9,7 +9,7 @@ use fb_words::ElemType;
 use indexmap::IndexMap;
 
 /// A variable as expressions see it.
-#[derive(Clone, Copy, Debug, PartialEq, Eq)]
+#[derive(Clone, Copy)]
 pub struct Variable {
     pub of_type: ElemType,
     /// The lowest and the highest index of an array.

@@ -13,11 +13,11 @@ ghost use Rattle.st_types.specs.Views.{entries, entry_of};
 ghost use Rattle.st_types.specs.CommandViews.{busy_of, counting_of, command_of, commands_of, choice_of, choices_of, case_of, cases_of};
 
 use crate::command::{Counting, TypedArm, TypedBranch, TypedStmt};
-use crate::expression::{asked, known, signed, typed};
+use crate::expression::{asked, condition, known, signed, typed};
 use crate::fault::TypingFault;
 use crate::operand::integer;
 use crate::scope::{Scope, Variable};
-use crate::types::{fits, is_integer};
+use crate::types::is_integer;
 use fb_read::Name;
 use fb_words::ElemType;
 use st_tree::{Arm, Branch, Constant, Expr, Label, Literal, Stmt};
@@ -88,7 +88,7 @@ fn number(of: ElemType, constant: &Constant) -> Result<i64, TypingFault>
     match constant.value {
         Literal::Whole(negative, size) => {
             let number = signed(negative, size);
-            if !fits(of, number) {
+            if !of.fits(number) {
                 return Err(TypingFault::BadLiteral(constant.at));
             }
             Ok(number as i64)
@@ -297,7 +297,7 @@ fn choice(
 ) -> Result<TypedBranch, TypingFault>
     ensures { Gives choice_of result (book.one_chosen (entries scope.now) (busy_of busy.now) (tree.branch_of branch.now)) }
 {
-    let condition = asked(alloc, scope, ElemType::Bool, branch.at, &branch.condition)?;
+    let condition = condition(alloc, scope, branch.at, &branch.condition)?;
     let body = commands(alloc, scope, busy, &branch.body)?;
     Ok(TypedBranch { condition, body })
 }

@@ -3,7 +3,7 @@
 use fb_words::{ElemType, Operation};
 
 /// An expression whose operations have types: IEC 61131-3 edition 3, 7.3.2.
-#[derive(Debug, Drop)]
+#[derive(Drop)]
 #[cycle(term)]
 pub enum TypedExpr {
     /// A number, or a truth value as 0 or 1.
@@ -19,7 +19,7 @@ pub enum TypedExpr {
 }
 
 /// An operation on what stands before it and on one more operand, which both are brought to the type.
-#[derive(Debug, Drop)]
+#[derive(Drop)]
 #[cycle(term)]
 pub struct TypedLink {
     pub operation: Operation,
@@ -28,7 +28,7 @@ pub struct TypedLink {
 }
 
 /// An expression of numbers alone, whose type is still free. A place is the offset of a token's first byte.
-#[derive(Debug, Drop)]
+#[derive(Drop)]
 #[cycle(loose)]
 pub enum Loose {
     Number(i128, usize),
@@ -37,7 +37,7 @@ pub enum Loose {
 }
 
 /// An operation with its place, on what stands before it and on one more operand.
-#[derive(Debug, Drop)]
+#[derive(Drop)]
 #[cycle(loose)]
 pub struct LooseLink {
     pub operation: Operation,

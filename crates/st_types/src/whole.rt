@@ -4,15 +4,15 @@ ghost use Rattle.std.specs.Prelude.{◌≡◌, ℕ, List, [], IfOk};
 ghost use Rattle.fb_model.specs.Names.{Name};
 ghost use Rattle.fb_model.specs.StructuredText.{Expression, Statements};
 ghost use Rattle.fb_model.specs.TypedText.{Term, Commands};
-ghost use Rattle.fb_model.specs.TextTyping.{Entry, IsAsked, AreCommands};
-ghost use Rattle.fb_model.specs.TextFaults.{Fault, IsNotAsked, SomeMisdone};
+ghost use Rattle.fb_model.specs.TextTyping.{Entry, IsAsked, IsCondition, AreCommands};
+ghost use Rattle.fb_model.specs.TextFaults.{Fault, IsNotAsked, IsNoCondition, SomeMisdone};
 ghost use Rattle.st_tree.specs.Views.{expr_of, body_of};
 ghost use Rattle.st_types.specs.Answers.{Finds, Refuses};
 ghost use Rattle.st_types.specs.Views.{term_of, entries};
 ghost use Rattle.st_types.specs.CommandViews.{commands_of};
 
 use crate::command::TypedStmt;
-use crate::expression::asked;
+use crate::expression::{asked, condition};
 use crate::fault::TypingFault;
 use crate::scope::Scope;
 use crate::statement::commands;
@@ -22,12 +22,12 @@ use st_tree::{Expr, Stmt};
 use std::alloc::Global;
 
 /// A typed algorithm: its statements, in order.
-#[derive(Debug, Drop)]
+#[derive(Drop)]
 pub struct Algo {
     pub statements: Vec<TypedStmt>,
 }
 
-/// The typed form of an expression where a type is asked for at a place, as BOOL of a guard.
+/// The typed form of an expression where a type is asked for at a place.
 ///
 /// Refused with `UnknownName` at a name that stands for no variable or function, `TypeMismatch` at the operator, function or `[` that
 /// is not given the type that it asks for, or at the place itself, and `BadLiteral` at a literal that does not fit its type.
@@ -45,6 +45,23 @@ pub fn resolve_expr(
     asked(alloc, scope, of, at, expr)
 }
 
+/// The typed form of a condition at a place, as a guard: an expression that is BOOL by itself.
+///
+/// Refused as `resolve_expr`; with `TypeMismatch` at the place also where the expression is of numbers alone, which nothing there gives a
+/// type.
+pub fn resolve_condition(
+    alloc: Global,
+    scope: &Scope,
+    at: usize,
+    expr: &Expr,
+) -> Result<TypedExpr, TypingFault>
+    ensures found { IfOk result (λ x. IsCondition (entries scope.now) (expr_of expr.now) (term_of x)) }
+    ensures only { (x : Term) → IsCondition (entries scope.now) (expr_of expr.now) x → Finds term_of result x }
+    ensures refused { Refuses (IsNoCondition (entries scope.now) at (expr_of expr.now)) result }
+{
+    condition(alloc, scope, at, expr)
+}
+
 /// The typed form of an algorithm.
 ///
 /// Refused as `resolve_expr`; with `NotWritable` at a variable that may not be assigned, as an input or the variable of a FOR in its
@@ -59,9 +76,10 @@ pub fn resolve_algorithm(alloc: Global, scope: &Scope, list: &[Stmt]) -> Result<
     Ok(Algo { statements })
 }
 
-/// An expression has one typed form at most where a type is asked for.
+/// An expression has one typed form at most where a type is asked for, and so has a condition.
 pub fn one_term()
-    ensures { (env : List Entry) (a : ElemType) (e : Expression) (x y : Term) → IsAsked env a e x → IsAsked env a e y → x ≡ y }
+    ensures asked { (env : List Entry) (a : ElemType) (e : Expression) (x y : Term) → IsAsked env a e x → IsAsked env a e y → x ≡ y }
+    ensures conditions { (env : List Entry) (e : Expression) (x y : Term) → IsCondition env e x → IsCondition env e y → x ≡ y }
 {}
 
 /// Statements have one typed form at most.
@@ -72,5 +90,6 @@ pub fn one_algorithm()
 /// What is well typed has no fault that a refusal could name.
 pub fn refusals_are_true()
     ensures expressions { (env : List Entry) (a : ElemType) (s : ℕ) (e : Expression) (x : Term) (w : Fault) → IsAsked env a e x → IsNotAsked env a s e w → ⊥ }
+    ensures conditions { (env : List Entry) (s : ℕ) (e : Expression) (x : Term) (w : Fault) → IsCondition env e x → IsNoCondition env s e w → ⊥ }
     ensures statements { (env : List Entry) (busy : List Name) (xs : Statements) (c : Commands) (w : Fault) → AreCommands env busy xs c → SomeMisdone env busy xs w → ⊥ }
 {}

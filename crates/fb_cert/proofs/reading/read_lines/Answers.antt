@@ -3,7 +3,7 @@ use Rattle.std.proofs.lemmas.Iterator.Splits.{YieldsList-from_lines}
 use Rattle.std.proofs.lemmas.Result.{err_from_is_err_and}
 use Rattle.std.specs.Str.Lines.{lines}
 use Rattle.fb_model.specs.CertificateText.{words}
-use Rattle.fb_cert.specs.Views.{rows_of, texts}
+use Rattle.fb_cert.specs.Views.{rows_in, texts}
 use Rattle.fb_cert.specs.Reading.{read, whole, lines_at}
 use Rattle.fb_cert.proofs.Lines.{turn, next, failed, ended, lines_le}
 use Rattle.fb_cert.proofs.reading.read_lines.Goals as goal
@@ -32,7 +32,7 @@ loop-line-preserved c =
     next (turn c.in-Some.line c.loop-line.invariant c.in-Some.ensures.steps) (rw (← e) c.in_ok-take.ensures)
 
 pub returns-then-not-reader : goal.returns-then-not-reader
-returns-then-not-reader c = ap whole (ended c.loop-line.invariant c.in-None.ensures.steps) ∙ ap (λ b. whole (Ok (read b (rows_of c.loop-line.reader.certificate)))) c.if-not-reader.true
+returns-then-not-reader c = ap whole (ended c.loop-line.invariant c.in-None.ensures.steps) ∙ ap (λ b. whole (Ok (read b (rows_in c.loop-line.reader.lists)))) c.if-not-reader.true
 
 pub returns : goal.returns
-returns c = ap whole (ended c.loop-line.invariant c.in-None.ensures.steps) ∙ ap (λ b. whole (Ok (read b (rows_of c.loop-line.reader.certificate)))) c.if-not-reader.false
+returns c = ap whole (ended c.loop-line.invariant c.in-None.ensures.steps) ∙ ap (λ b. whole (Ok (read b (rows_in c.loop-line.reader.lists)))) c.if-not-reader.false

@@ -6,10 +6,10 @@ use Rattle.fb_check.proofs.Reading.{typing_fault, no_space}
 use Rattle.fb_check.proofs.texts.resolved.Goals as goal
 
 pub returns-in-Ok-clause-accepts : goal.returns-in-Ok-clause-accepts
-returns-in-Ok-clause-accepts c = λ system is. c.in-Ok.ensures.only is.library is.spelled system is.typed
+returns-in-Ok-clause-accepts c = λ system is. c.in-Ok.ensures.only system is
 
 pub returns-in-Err-clause-refused : goal.returns-in-Err-clause-refused
-returns-in-Err-clause-refused c = subst (IsTypingFault _ (source_of c.args.source.now)) (sym c.from.ensures) (typing_fault _ (source_of c.args.source.now) c.in-Err.fault c.in-Err.ensures.refused)
+returns-in-Err-clause-refused c = subst (IsTypingFault (source_of c.args.source.now)) (sym c.from.ensures) (typing_fault (source_of c.args.source.now) c.in-Err.fault c.in-Err.ensures.refused)
 
 pub returns-in-Err-clause-accepts : goal.returns-in-Err-clause-accepts
-returns-in-Err-clause-accepts c = λ system is. c.from.ensures ∙ no_space system_of c.in-Err.fault system (c.in-Err.ensures.only is.library is.spelled system is.typed)
+returns-in-Err-clause-accepts c = λ system is. c.from.ensures ∙ no_space system_of c.in-Err.fault system (c.in-Err.ensures.only system is)

@@ -4,4 +4,4 @@ use Rattle.fb_check.proofs.Denied.{denied}
 use Rattle.fb_check.proofs.verdict.check.Goals as goal
 
 pub returns-clause-accepts : goal.returns-clause-accepts
-returns-clause-accepts c = λ w t fits. IfErr-weaker c.verified.result _ _ (λ f h. denied c.args.typed (certificate_of c.args.certificate) f h fits) (c.verified.ensures.refused w t)
+returns-clause-accepts c = λ fits. IfErr-weaker c.verified.result _ _ (λ f h. denied c.args.typed (certificate_of c.args.certificate) f h fits) c.verified.ensures.refused

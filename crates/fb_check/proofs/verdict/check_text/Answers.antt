@@ -11,21 +11,20 @@ pub returns-in-Ok-read_certificate-clause-accepted : goal.returns-in-Ok-read_cer
 returns-in-Ok-read_certificate-clause-accepted c =
     let system = system_of c.in-Ok.typed in
     let rows = certificate_of c.in-Ok-read_certificate.rows in
-    accepted_by _ c.args.text.now c.args.certificate.now system rows c.check.result c.in-Ok.ensures.typed c.in-Ok-read_certificate.ensures.spelled c.check.ensures.same
-    c.check.ensures.tables
-    (c.check.ensures.fits (_, c.args.text.now, c.in-Ok.ensures.typed) (c.args.certificate.now, c.in-Ok-read_certificate.ensures.spelled))
+    accepted_by c.args.text.now c.args.certificate.now system rows c.check.result c.in-Ok.ensures.typed.system_is c.in-Ok-read_certificate.ensures.spelled c.check.ensures.same
+    c.check.ensures.fits
 
 pub returns-in-Ok-read_certificate-clause-refused : goal.returns-in-Ok-read_certificate-clause-refused
 returns-in-Ok-read_certificate-clause-refused c =
     IfErr-weaker c.check.result _ _
-    (λ f h. of_both (record { typed = c.in-Ok.typed; rows = certificate_of c.in-Ok-read_certificate.rows; system_is = c.in-Ok.ensures.typed; certificate_is = c.in-Ok-read_certificate.ensures.spelled; fault = h }))
-    (c.check.ensures.refused (_, c.args.text.now, c.in-Ok.ensures.typed) (c.args.certificate.now, c.in-Ok-read_certificate.ensures.spelled))
+    (λ f h. of_both (record { typed = c.in-Ok.typed; rows = certificate_of c.in-Ok-read_certificate.rows; typed_is = c.in-Ok.ensures.typed; certificate_is = c.in-Ok-read_certificate.ensures.spelled; fault = h }))
+    c.check.ensures.refused
 
 pub returns-in-Ok-read_certificate-clause-accepts : goal.returns-in-Ok-read_certificate-clause-accepts
 returns-in-Ok-read_certificate-clause-accepts c = λ source system rows short few is e written_is fits.
     let s : system_of c.in-Ok.typed ≡ system = c.in-Ok.ensures.accepts source system short is e in
     let r : certificate_of c.in-Ok-read_certificate.rows ≡ rows = c.in-Ok-read_certificate.ensures.accepts rows few written_is in
-    c.check.ensures.accepts (_, c.args.text.now, c.in-Ok.ensures.typed) (c.args.certificate.now, c.in-Ok-read_certificate.ensures.spelled) (subst (λ x. Fits x (certificate_of c.in-Ok-read_certificate.rows)) (sym s) (subst (Fits system) (sym r) fits))
+    c.check.ensures.accepts (subst (λ x. Fits x (certificate_of c.in-Ok-read_certificate.rows)) (sym s) (subst (Fits system) (sym r) fits))
 
 pub returns-in-Err-read_certificate-clause-accepts : goal.returns-in-Err-read_certificate-clause-accepts
 returns-in-Err-read_certificate-clause-accepts c = λ source system rows short few is e written_is fits. c.in-Err-read_certificate.ensures.accepts rows few written_is

@@ -41,11 +41,11 @@ returns c =
           ∙ ap (λ (o : List Cell). sampled_by c.args.running.now.issued.items (forms_of o) c.deref.result.now (values_of o)) eo
           ∙ ap (λ ts. sampled_by c.args.running.now.issued.items (forms_of s.own) ts (values_of s.own)) tk;
       has_run =
-          subst (λ (b : Block). HasRun b c.args.first.now (leaf_state (kind_of b) c.sample.new.own s.issued s.state) (leaf_state (kind_of b) c.run-ran.new.own c.run-ran.new.issued c.run-ran.result.state) s.queue.items c.run-ran.new.queue.items c.run-ran.result.steps c.run-ran.result.written) eb
-          (subst (λ (q : Vec Entry Global). HasRun c.index-blocks-at.result c.args.first.now (leaf_state (kind_of c.index-blocks-at.result) c.sample.new.own s.issued s.state) (leaf_state (kind_of c.index-blocks-at.result) c.run-ran.new.own c.run-ran.new.issued c.run-ran.result.state) q.items c.run-ran.new.queue.items c.run-ran.result.steps c.run-ran.result.written) eq
-          (subst (λ (n : ℕ). HasRun c.index-blocks-at.result c.args.first.now (leaf_state (kind_of c.index-blocks-at.result) c.sample.new.own s.issued n) (leaf_state (kind_of c.index-blocks-at.result) c.run-ran.new.own c.run-ran.new.issued c.run-ran.result.state) c.index_mut-4.result.now.items c.run-ran.new.queue.items c.run-ran.result.steps c.run-ran.result.written) es
-          (subst (λ (x : List Cell). HasRun c.index-blocks-at.result c.args.first.now (leaf_state (kind_of c.index-blocks-at.result) c.sample.new.own x c.index.result.now) (leaf_state (kind_of c.index-blocks-at.result) c.run-ran.new.own c.run-ran.new.issued c.run-ran.result.state) c.index_mut-4.result.now.items c.run-ran.new.queue.items c.run-ran.result.steps c.run-ran.result.written) ei
-          (subst (λ (o : List Cell). HasRun c.index-blocks-at.result c.args.first.now (leaf_state (kind_of c.index-blocks-at.result) o c.index_mut-3.result.now c.index.result.now) (leaf_state (kind_of c.index-blocks-at.result) c.run-ran.new.own c.run-ran.new.issued c.run-ran.result.state) c.index_mut-4.result.now.items c.run-ran.new.queue.items c.run-ran.result.steps c.run-ran.result.written) eo2 c.run-ran.ensures.ran))));
+          subst (λ (b : Block). HasRun b c.args.first.now (leaf_state (kind_of b) c.sample.new.own s.issued s.state) (leaf_state (kind_of b) c.run-ran.new.own c.run-ran.new.issued c.run-ran.result.state) s.queue.items c.run-ran.new.queue.items c.run-ran.result.steps c.run-ran.result.effect) eb
+          (subst (λ (q : Vec Entry Global). HasRun c.index-blocks-at.result c.args.first.now (leaf_state (kind_of c.index-blocks-at.result) c.sample.new.own s.issued s.state) (leaf_state (kind_of c.index-blocks-at.result) c.run-ran.new.own c.run-ran.new.issued c.run-ran.result.state) q.items c.run-ran.new.queue.items c.run-ran.result.steps c.run-ran.result.effect) eq
+          (subst (λ (n : ℕ). HasRun c.index-blocks-at.result c.args.first.now (leaf_state (kind_of c.index-blocks-at.result) c.sample.new.own s.issued n) (leaf_state (kind_of c.index-blocks-at.result) c.run-ran.new.own c.run-ran.new.issued c.run-ran.result.state) c.index_mut-4.result.now.items c.run-ran.new.queue.items c.run-ran.result.steps c.run-ran.result.effect) es
+          (subst (λ (x : List Cell). HasRun c.index-blocks-at.result c.args.first.now (leaf_state (kind_of c.index-blocks-at.result) c.sample.new.own x c.index.result.now) (leaf_state (kind_of c.index-blocks-at.result) c.run-ran.new.own c.run-ran.new.issued c.run-ran.result.state) c.index_mut-4.result.now.items c.run-ran.new.queue.items c.run-ran.result.steps c.run-ran.result.effect) ei
+          (subst (λ (o : List Cell). HasRun c.index-blocks-at.result c.args.first.now (leaf_state (kind_of c.index-blocks-at.result) o c.index_mut-3.result.now c.index.result.now) (leaf_state (kind_of c.index-blocks-at.result) c.run-ran.new.own c.run-ran.new.issued c.run-ran.result.state) c.index_mut-4.result.now.items c.run-ran.new.queue.items c.run-ran.result.steps c.run-ran.result.effect) eo2 c.run-ran.ensures.ran))));
       number = subst (λ (b : Block). OnChart (IsStateNumber c.run-ran.result.state) (kind_of b)) eb c.run-ran.ensures.state;
       own_forms = c.run-ran.ensures.own ∙ ap forms_of eo2 ∙ c.sample.ensures.forms ∙ ap forms_of eo;
       issued_forms = c.run-ran.ensures.issued ∙ ap forms_of ei;

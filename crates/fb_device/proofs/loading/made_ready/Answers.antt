@@ -10,10 +10,10 @@ use Rattle.fb_device.proofs.Devices.{device_stands}
 use Rattle.fb_device.proofs.Found.{found_device, no_device_named, missing_so, unready_so}
 use Rattle.fb_device.proofs.loading.made_ready.Goals as goal
 
-pub load_checked-requires-clause-within : goal.load_checked-requires-clause-within
-load_checked-requires-clause-within c =
+pub load_checked-requires : goal.load_checked-requires
+load_checked-requires c =
     let f = found_device c.args.verified c.args.device.now c.in-Some.number (sym c.device_named.ensures ∙ c.in-Some.is) in
-    within (system_in c.args.verified).devices c.in-Some.number f.0 f.1
+    record { within = within (system_in c.args.verified).devices c.in-Some.number f.0 f.1 }
 
 pub returns-in-Some-clause-ready : goal.returns-in-Some-clause-ready
 returns-in-Some-clause-ready c =

@@ -1,5 +1,7 @@
-use Rattle.std.proofs.Common.{map, length, string_bytes, refl, ap, subst, ◌∙◌, arith}
+use Rattle.std.proofs.Common.{map, length, string_bytes, ap, subst, ◌∙◌, arith}
 use Rattle.st_exec.specs.Cells.{values_of}
+use Rattle.fb_model.specs.Serving.{Write}
+use Rattle.fb_invoke.specs.declared.dispatch.Effect.TheVariants as outside
 use Rattle.fb_invoke.specs.Views.{named, body_kind, event_names, output_names}
 use Rattle.fb_invoke.specs.Tables.{IsBody}
 use Rattle.fb_invoke.specs.Receiving.{numbers_at}
@@ -54,7 +56,7 @@ returns-in-Output-clause-ran c =
     let few = subst (IsBody (event_names c.args.block.now) (output_names c.args.block.now)) c.in-Output.is c.requires.table.body in
     let l = has_event c.args.block.now c.args.own.now c.args.issued.now c.args.state c.args.first.now c.args.most _ _ c.requires c.in-Output.number c.in-Output.field-1.items few kind in
     output_ran c.args.block.now c.args.own.now c.args.issued.now c.args.state c.args.first.now c.args.most _ _ c.requires c.in-Output.number c.in-Output.field-1.items few kind e (stands_at c.args.block.now.events.items 0 e e l c.index-in-Output.ensures)
-    (record { number = c.in-Output.number; values = c.sent_values.result }) c.args.queue.now.items refl (c.sent_values.ensures ∙ ap (λ ts. numbers_at (map (λ t. string_bytes t.input) ts) (values_of c.args.own.now)) c.deref-in-Output.ensures.value)
+    (outside.Write c.in-Output.number c.sent_values.result) c.args.queue.now.items (ap (λ vs. Write c.in-Output.number vs) (c.sent_values.ensures ∙ ap (λ ts. numbers_at (map (λ t. string_bytes t.input) ts) (values_of c.args.own.now)) c.deref-in-Output.ensures.value))
 
 pub returns-in-Chart-clause-ran : goal.returns-in-Chart-clause-ran
 returns-in-Chart-clause-ran c =

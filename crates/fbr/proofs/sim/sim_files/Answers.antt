@@ -1,8 +1,5 @@
-use Rattle.fbr.proofs.Simulated.{checked, script_run}
+use Rattle.fbr.proofs.Simulated.{script_run}
 use Rattle.fbr.proofs.sim.sim_files.Goals as goal
-
-pub run_input-requires : goal.run_input-requires
-run_input-requires g c = checked c.args.app.now c.args.cert.now _ _ c.in-Ok.verified c.in-Ok.ensures
 
 pub returns-in-Ok-clause-told : goal.returns-in-Ok-clause-told
 returns-in-Ok-clause-told g c =

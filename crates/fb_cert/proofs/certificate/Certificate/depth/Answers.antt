@@ -6,7 +6,7 @@ use Rattle.fb_cert.proofs.certificate.Certificate.depth.Goals as goal
 
 pub returns : goal.returns
 returns c =
-    let table = texts_of c.args.self.now.depths in
+    let table = texts_of c.self.inside.lists.depths in
     let path = c.args.path.now in
-    let e : c.copied.result ≡ first_at path table = c.copied.ensures ∙ c.get.ensures.value ∙ first_from_lookup path c.args.self.now.depths.entries in
-    record { row = e; depth = ap depth_in e ∙ sym (depths_same table path) }
+    let e : c.copied.result ≡ first_at path table = c.copied.ensures ∙ c.get.ensures.value ∙ first_from_lookup path c.self.inside.lists.depths.entries in
+    rw (← c.self.view_is) (record { row = e; depth = ap depth_in e ∙ sym (depths_same table path) })

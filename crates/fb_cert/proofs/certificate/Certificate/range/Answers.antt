@@ -8,7 +8,7 @@ use Rattle.fb_cert.proofs.certificate.Certificate.range.Goals as goal
 
 pub returns : goal.returns
 returns c =
-    let table = texts_of c.args.self.now.ranges in
+    let table = texts_of c.self.inside.lists.ranges in
     let path = c.args.path.now in
-    let e : option_map span_of c.copied.result ≡ first_at path (spans_of table) = ap (option_map span_of) (c.copied.ensures ∙ c.get.ensures.value ∙ first_from_lookup path c.args.self.now.ranges.entries) ∙ first_span path table in
-    record { row = e; span = λ v h. ap (λ o. unwrap_or o (whole v.type)) e ∙ sym (span_same (spans_of table) path v h) }
+    let e : option_map span_of c.copied.result ≡ first_at path (spans_of table) = ap (option_map span_of) (c.copied.ensures ∙ c.get.ensures.value ∙ first_from_lookup path c.self.inside.lists.ranges.entries) ∙ first_span path table in
+    rw (← c.self.view_is) (record { row = e; span = λ v h. ap (λ o. unwrap_or o (whole v.type)) e ∙ sym (span_same (spans_of table) path v h) })

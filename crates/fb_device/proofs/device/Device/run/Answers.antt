@@ -1,9 +1,10 @@
 use Rattle.std.proofs.Common.{◌<◌, length, ◌∙◌, subst, arith}
 use Rattle.fb_model.specs.Wires.{leaves}
-use Rattle.fb_model.specs.Certificates.{DeviceFits}
+use Rattle.fb_model.specs.Certificates.{DeviceHolds}
 use Rattle.fb_model.specs.Headline.{IsSound}
 use Rattle.fb_model.proofs.Ending.{keeps_bounds}
 use Rattle.fb_model.proofs.Admitting.{sound_after}
+use Rattle.fb_model.proofs.Starting.{stays_within_all}
 use Rattle.fb_device.specs.Sessions.{Session}
 use Rattle.fb_device.specs.Machines.{device_in, cert_in, machine_of}
 use Rattle.fb_device.specs.Answers.{event_of, answer_of}
@@ -25,13 +26,19 @@ loop-at-preserved c =
 
 pub returns-clause-bounds : goal.returns-clause-bounds
 returns-clause-bounds c =
-    let fits : DeviceFits (cert_in c.args.self.now) (device_in c.args.self.now) = subst (λ (s : Session). DeviceFits (cert_in s) (device_in s)) c.self.view_is c.self.invariant.fits in
+    let fits : DeviceHolds (cert_in c.args.self.now) (device_in c.args.self.now) = subst (λ (s : Session). DeviceHolds (cert_in s) (device_in s)) c.self.view_is c.self.invariant.holds in
     let sound : IsSound (cert_in c.args.self.now) (device_in c.args.self.now) (machine_of c.args.self.now) = subst (λ (s : Session). IsSound (cert_in s) (device_in s) (machine_of s)) c.self.view_is c.self.invariant.sound in
     keeps_bounds _ _ fits _ _ _ _ sound
     (run_whole event_of (answer_of (leaves (device_in c.args.self.now))) _ _ c.args.steps.now c.loop-at.answers c.loop-at.at _ _ c.loop-at-test.false c.loop-at.auto.at-end c.loop-at.invariant.run)
 
 pub returns-clause-bounded : goal.returns-clause-bounded
 returns-clause-bounded c =
-    let fits : DeviceFits (cert_in c.args.self.now) (device_in c.args.self.now) = subst (λ (s : Session). DeviceFits (cert_in s) (device_in s)) c.self.view_is c.self.invariant.fits in
+    let fits : DeviceHolds (cert_in c.args.self.now) (device_in c.args.self.now) = subst (λ (s : Session). DeviceHolds (cert_in s) (device_in s)) c.self.view_is c.self.invariant.holds in
     let sound : IsSound (cert_in c.args.self.now) (device_in c.args.self.now) (machine_of c.args.self.now) = subst (λ (s : Session). IsSound (cert_in s) (device_in s) (machine_of s)) c.self.view_is c.self.invariant.sound in
     promised _ _ _ fits (sound_after _ _ fits _ _ _ _ sound c.loop-at.invariant.run)
+
+pub returns-clause-between : goal.returns-clause-between
+returns-clause-between c =
+    let fits : DeviceHolds (cert_in c.args.self.now) (device_in c.args.self.now) = subst (λ (s : Session). DeviceHolds (cert_in s) (device_in s)) c.self.view_is c.self.invariant.holds in
+    let sound : IsSound (cert_in c.args.self.now) (device_in c.args.self.now) (machine_of c.args.self.now) = subst (λ (s : Session). IsSound (cert_in s) (device_in s) (machine_of s)) c.self.view_is c.self.invariant.sound in
+    stays_within_all _ _ fits _ _ sound

@@ -1,0 +1,14 @@
+use Rattle.fb_cert.specs.Views.{rows_in, texts_of, spans_of}
+use Rattle.fb_cert.proofs.Tables.{adds_span, range_added, ok_so}
+use Rattle.fb_cert.proofs.lists.Lists.add.Goals as goal
+
+pub returns-in-Range : goal.returns-in-Range
+returns-in-Range c =
+    let old = texts_of c.args.self.now.ranges in
+    let new = texts_of c.add.new.rows in
+    let path = c.in-Range.path.now in
+    let bounds = c.in-Range.bounds in
+    rw c.in-Range.is
+    (ok_so
+    (λ said h. range_added (rows_in c.args.self.now) path bounds (spans_of new) said (adds_span old new path bounds said h))
+    c.add.result c.add.ensures)

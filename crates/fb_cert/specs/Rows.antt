@@ -1,0 +1,52 @@
+-- The rows of a certificate, without where they lie in memory.
+use Rattle.std.specs.Prelude.{ℕ, List, [], map, string_bytes, None}
+use Rattle.std.specs.declared.string.String.{String}
+use Rattle.std.specs.declared.alloc.Global.{Global}
+use Rattle.indexmap.specs.IndexMap.{IndexMap}
+use Rattle.fb_model.specs.Certificates as book
+use Rattle.fb_model.specs.Ranges.{Range}
+use Rattle.fb_model.specs.Spans.{Span, span}
+use Rattle.fb_model.specs.CertificateText.{range_row, row_of, depth_row}
+use Rattle.fb_cert.specs.declared.bounds.Bounds.{Bounds}
+use Rattle.fb_cert.specs.declared.certificate.Amount.{Amount}
+use Rattle.fb_cert.specs.declared.lists.Lists.{Lists}
+
+-- the rows of a kind, each by its path
+abbrev pub Table : Type 0 → Type 0
+Table V = List ((List ℕ) × V)
+
+abbrev pub texts_of : {V S : Type 0} → IndexMap (String Global) V S → Table V
+texts_of m = map (λ e. (string_bytes e.0, e.1)) m.entries
+
+abbrev pub span_of : Bounds → Span
+span_of b = span b.low b.high
+
+-- the paths with the spans of their bounds
+abbrev pub spans_of : Table Bounds → Table Span
+spans_of rows = map (λ r. (r.0, span_of r.1)) rows
+
+-- the rows of a text by their kinds
+pub record Rows : Type 0 where
+  pub ranges : Table Span
+  pub charges : Table Amount
+  pub weights : Table Amount
+  pub depths : Table ℕ
+
+abbrev pub no_rows : Rows
+no_rows = record { ranges = []; charges = []; weights = []; depths = [] }
+
+abbrev pub rows_in : Lists → Rows
+rows_in c = record { ranges = spans_of (texts_of c.ranges); charges = texts_of c.charges; weights = texts_of c.weights; depths = texts_of c.depths }
+
+abbrev pub range_rows : Table Span → List Range
+range_rows rows = map (λ r. range_row r.0 r.1.low r.1.high) rows
+
+abbrev pub amount_rows : Table Amount → List book.Row
+amount_rows rows = map (λ r. row_of r.0 r.1.steps r.1.places) rows
+
+abbrev pub depth_rows : Table ℕ → List book.DepthRow
+depth_rows rows = map (λ r. depth_row r.0 r.1) rows
+
+-- the certificate that the checker speaks of
+abbrev pub book_of : Rows → book.Certificate
+book_of rows = record { ranges = range_rows rows.ranges; charges = amount_rows rows.charges; weights = amount_rows rows.weights; depths = depth_rows rows.depths; repeats = None; fars = []; far_states = []; channels = [] }

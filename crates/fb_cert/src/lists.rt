@@ -1,0 +1,61 @@
+//! The rows of a certificate by their kinds.
+
+ghost use Rattle.std.specs.Prelude.{◌≡◌, IfOk};
+ghost use Rattle.fb_cert.specs.Views.{rows_in, no_rows, texts_of, Adds, AddsRow, entry_of};
+
+use crate::bounds::Bounds;
+use crate::certificate::Amount;
+use crate::row::Row;
+use indexmap::IndexMap;
+use std::alloc::{AllocError, Global};
+
+/// Rows in text order, by the path that each names.
+#[derive(Drop)]
+pub(crate) struct Lists {
+    pub(crate) ranges: IndexMap<String, Bounds>,
+    pub(crate) charges: IndexMap<String, Amount>,
+    pub(crate) weights: IndexMap<String, Amount>,
+    pub(crate) depths: IndexMap<String, u64>,
+}
+
+// Adds a row at the end, unless its path stands in an earlier one; says whether it is new.
+fn add<V: Drop>(
+    alloc: Global,
+    rows: &mut IndexMap<String, V>,
+    path: &str,
+    value: V,
+) -> Result<bool, AllocError>
+    ensures { IfOk result (λ new. Adds (texts_of rows.old) path.now value (texts_of rows.new) new) }
+{
+    if rows.contains_key(path) {
+        return Ok(false);
+    }
+    rows.insert(String::from_str(alloc, path)?, value)?;
+    Ok(true)
+}
+
+impl Lists {
+    /// No rows.
+    pub(crate) fn new(alloc: Global) -> Lists
+        ensures { rows_in result ≡ no_rows }
+    {
+        Lists {
+            ranges: IndexMap::new(alloc),
+            charges: IndexMap::new(alloc),
+            weights: IndexMap::new(alloc),
+            depths: IndexMap::new(alloc),
+        }
+    }
+
+    /// Adds a row at the end, unless its path stands in an earlier one of its kind; says whether it is new.
+    pub(crate) fn add(&mut self, alloc: Global, row: Row) -> Result<bool, AllocError>
+        ensures { IfOk result (λ new. AddsRow (rows_in self.old) (entry_of row.entry) (rows_in self.new) new) }
+    {
+        match row {
+            Row::Range(path, bounds) => add(alloc, &mut self.ranges, path, bounds),
+            Row::Charge(path, amount) => add(alloc, &mut self.charges, path, amount),
+            Row::Weight(path, amount) => add(alloc, &mut self.weights, path, amount),
+            Row::Depth(path, depth) => add(alloc, &mut self.depths, path, depth),
+        }
+    }
+}

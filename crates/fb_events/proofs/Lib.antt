@@ -1,0 +1,4 @@
+pub mod Reckoned
+pub mod EventTrees
+pub mod Declared
+pub mod Spelled

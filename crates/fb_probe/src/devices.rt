@@ -1,0 +1,130 @@
+//! What devices are made of, and what they answer.
+
+use crate::case::Case;
+use crate::texts::{ended, refused, text_of};
+use fb_device::{Answer, Denied, Device, Step, load};
+use fb_script::tell;
+use std::alloc::{AllocError, Global};
+use std::fmt::Write;
+
+// The words of a line that are numbers.
+fn numbers(alloc: Global, line: &str) -> Result<Vec<i64>, AllocError> {
+    let mut found = Vec::new(alloc);
+    for word in line.split_whitespace() {
+        if let Ok(number) = word.parse::<i64>() {
+            found.push(number)?;
+        }
+    }
+    Ok(found)
+}
+
+// A number of an input, a block or an event; the largest one where it is not given.
+fn small(found: &[i64], at: usize) -> u16 {
+    match found.get(at) {
+        Some(number) => u16::try_from(*number).unwrap_or(u16::MAX),
+        None => u16::MAX,
+    }
+}
+
+// An offer or a dispatch: `offer NUMBER VALUES`, `dispatch NUMBER`.
+fn step(alloc: Global, line: &str) -> Result<Step, AllocError> {
+    let mut found = numbers(alloc, line)?;
+    let first = small(found.as_slice(), 0);
+    if line.starts_with("dispatch") {
+        return Ok(Step::Dispatch(first));
+    }
+    if !found.is_empty() {
+        let _ = found.remove(0);
+    }
+    Ok(Step::Offer(first, found))
+}
+
+// What the device says of itself: `opening CAUSE`, `path BLOCK EVENT`, `resource NAME`, `name`.
+fn asked(alloc: Global, out: &mut String, device: &Device, line: &str) -> Result<(), AllocError> {
+    let found = numbers(alloc, line)?;
+    let said = found.as_slice();
+    if line.starts_with("opening") {
+        match device.opening(u64::from(small(said, 0))) {
+            Some(opening) => writeln!(
+                out,
+                "block {} event {} weight {}",
+                opening.block, opening.event, opening.weight
+            ),
+            None => writeln!(out, "none"),
+        }
+    } else if line.starts_with("path") {
+        match device.path(small(said, 0), small(said, 1)) {
+            Some((path, event)) => writeln!(out, "{path} {event}"),
+            None => writeln!(out, "none"),
+        }
+    } else if let Some(name) = line.strip_prefix("resource ") {
+        match device.resource(name) {
+            Some(number) => writeln!(out, "{number}"),
+            None => writeln!(out, "none"),
+        }
+    } else {
+        writeln!(out, "{}", device.name())
+    }
+}
+
+// Runs the lines of a text in one call, with one more place for answers than it needs, and tells all of them.
+fn run(alloc: Global, out: &mut String, device: &mut Device, text: &str) -> Result<(), AllocError> {
+    let mut steps = Vec::new(alloc);
+    let mut answers = Vec::new(alloc);
+    answers.push(Answer::Admitted(Err(Denied::Spent)))?;
+    for line in text.lines() {
+        steps.push(step(alloc, line)?)?;
+        answers.push(Answer::Admitted(Err(Denied::Spent)))?;
+    }
+    if steps.len() <= answers.len() {
+        device.run(steps.as_slice(), answers.as_mut_slice());
+    }
+    for answer in &answers {
+        writeln!(out, "{}", tell(device, answer))?;
+    }
+    Ok(())
+}
+
+// One call of a device, and what it answers.
+fn call(
+    alloc: Global,
+    out: &mut String,
+    device: &mut Device,
+    line: &str,
+) -> Result<(), AllocError> {
+    if !line.starts_with("offer") && !line.starts_with("dispatch") {
+        return asked(alloc, out, device, line);
+    }
+    let answer = match step(alloc, line)? {
+        Step::Offer(number, values) => Answer::Admitted(device.offer(number, values.as_slice())),
+        Step::Dispatch(number) => Answer::Served(device.dispatch(number)),
+    };
+    writeln!(out, "{}", tell(device, &answer))
+}
+
+// What a device answers to the lines of a case.
+fn played(alloc: Global, device: &mut Device, case: &Case<'_>) -> Result<String, AllocError> {
+    let mut out = String::new(alloc);
+    for line in case.text("calls").lines() {
+        call(alloc, &mut out, device, line)?;
+    }
+    if let Some(lines) = case.given("run") {
+        run(alloc, &mut out, device, lines)?;
+    }
+    Ok(ended(out))
+}
+
+/// What a device answers to the lines of the section `calls`, one by one, and to those of `run` in one call.
+pub fn devices(alloc: Global, case: &Case<'_>) -> Result<String, AllocError> {
+    let text = text_of(alloc, case)?;
+    let certificate = case.text("certificate");
+    match load(alloc, text.as_str(), certificate, case.text("device")) {
+        Ok(ready) => {
+            let mut device = ready.start();
+            let answer = played(alloc, &mut device, case);
+            device.let_go();
+            answer
+        }
+        Err(refusal) => refused(alloc, &refusal),
+    }
+}

@@ -1,0 +1,32 @@
+//! The kinds of cases.
+
+use crate::case::Case;
+use crate::{devices, made, programs, systems, texts, verdicts};
+use std::alloc::AllocError;
+
+/// What the product answers for a case of a kind.
+pub fn answer<R: AllocGlobal>(rt: &R, kind: &str, case: &Case<'_>) -> Result<String, AllocError> {
+    let alloc = rt.alloc();
+    match kind {
+        "commands" => programs::commands(rt, case),
+        "devices" => devices::devices(alloc, case),
+        "first" => made::first(alloc, case),
+        "ranges" => verdicts::ranges(alloc, case),
+        "stages" => verdicts::stages(alloc, case),
+        "tables" => made::tables_of(alloc, case),
+        "verified" => verdicts::verified(alloc, case),
+        "tokens" => texts::tokens(alloc, case),
+        "expressions" => texts::expressions(alloc, case),
+        "statements" => texts::statements(alloc, case),
+        "texts" => texts::texts(alloc, case),
+        "cuts" => texts::cuts(alloc, case),
+        "certificates" => texts::certificates(alloc, case),
+        "faults" => texts::faults(alloc),
+        "systems" => systems::systems(alloc, case),
+        "guards" => systems::guards(alloc, case),
+        "networks" => systems::networks(alloc, case),
+        "leaves" => systems::leaves(alloc, case),
+        "services" => systems::services(alloc, case),
+        _ => String::from_str(alloc, "no such kind"),
+    }
+}

@@ -1,0 +1,17 @@
+//! What the product's calls answer for a case, as short text.
+#![tactic(auto)]
+
+mod case;
+mod declared;
+mod devices;
+mod kinds;
+mod made;
+mod programs;
+mod systems;
+mod terms;
+mod texts;
+mod trees;
+mod verdicts;
+
+pub use case::{Case, Section};
+pub use kinds::answer;

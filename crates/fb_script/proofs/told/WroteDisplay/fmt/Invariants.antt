@@ -1,8 +1,0 @@
-use Rattle.std.proofs.Common.{◌++◌, take, codes, decimal}
-use Rattle.std.specs.Fmt.{HasWritten, IsPlainFormatter}
-use Rattle.fb_script.specs.Texts.{values_text}
-use Rattle.fb_script.proofs.told.WroteDisplay.fmt.Given as goal
-
-abbrev pub invariant-loop-value : goal.invariant-loop-value
-invariant-loop-value g l =
-    IsPlainFormatter l.fn.f → HasWritten g.W.Write.write_str_gives l.fn.f (codes " write " ++ decimal l.number ++ values_text (take l.value-index l.value-items)) l.f
