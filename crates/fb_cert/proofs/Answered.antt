@@ -9,12 +9,18 @@ use Rattle.fb_cert.specs.declared.fault.CertFault.TheVariants.{OutOfMemory, TooL
 use Rattle.fb_cert.specs.Views.{Rows, rows_in, book_of}
 use Rattle.fb_cert.specs.Reading.{text_at}
 use Rattle.fb_cert.specs.Answers.{Gives, Finds, Faulty, Refuses, Tells}
+use Rattle.fb_cert.specs.Sayable.{AreSayable}
+use Rattle.fb_cert.proofs.Capitals.{text_sayable}
 use Rattle.fb_cert.proofs.Refusals.{text_told}
 use Rattle.fb_cert.proofs.Texts.{text_found, text_read, text_refused}
 
 pub found : (text : List ℕ) (r : Result Lists CertFault) → Gives rows_in r (text_at text) → IfOk r (λ c. Spells text (book_of (rows_in c)))
 found text (Ok c) h = (text_found text (rows_in c) h).1
 found text (Err e) h = tt
+
+pub sayable : (text : List ℕ) (r : Result Lists CertFault) → Gives rows_in r (text_at text) → IfOk r (λ c. AreSayable (rows_in c))
+sayable text (Ok c) h = text_sayable text (rows_in c) h
+sayable text (Err e) h = tt
 
 pub within : (text : List ℕ) (r : Result Lists CertFault) → Gives rows_in r (text_at text) → IfOk r (λ c. length text ≤ most_characters)
 within text (Ok c) h = (text_found text (rows_in c) h).0

@@ -11,28 +11,28 @@ use Rattle.fb_cert.specs.Views.{Table, Rows, amount, has_path, has_row, with_row
 
 -- ---- the tables that entries fill
 
-abbrev range_table : List Entry → Table Span
+abbrev pub range_table : List Entry → Table Span
 range_table [] = []
 range_table (range p l h ∷ es) = (p, span l h) ∷ range_table es
 range_table (charge p s k ∷ es) = range_table es
 range_table (weight p s k ∷ es) = range_table es
 range_table (depth p n ∷ es) = range_table es
 
-abbrev charge_table : List Entry → Table Amount
+abbrev pub charge_table : List Entry → Table Amount
 charge_table [] = []
 charge_table (range p l h ∷ es) = charge_table es
 charge_table (charge p s k ∷ es) = (p, amount s k) ∷ charge_table es
 charge_table (weight p s k ∷ es) = charge_table es
 charge_table (depth p n ∷ es) = charge_table es
 
-abbrev weight_table : List Entry → Table Amount
+abbrev pub weight_table : List Entry → Table Amount
 weight_table [] = []
 weight_table (range p l h ∷ es) = weight_table es
 weight_table (charge p s k ∷ es) = weight_table es
 weight_table (weight p s k ∷ es) = (p, amount s k) ∷ weight_table es
 weight_table (depth p n ∷ es) = weight_table es
 
-abbrev depth_table : List Entry → Table ℕ
+abbrev pub depth_table : List Entry → Table ℕ
 depth_table [] = []
 depth_table (range p l h ∷ es) = depth_table es
 depth_table (charge p s k ∷ es) = depth_table es
@@ -77,28 +77,28 @@ book_in es = λ i. record (book_of (rows_in es)) { ranges = ranges_same es i; ch
 
 -- ---- one row more
 
-range_none : (p : List ℕ) (l h : ℤ) (es : List Entry) → has_path p (range_table es) ≡ list_any (is_same (range p l h)) es
+pub range_none : (p : List ℕ) (l h : ℤ) (es : List Entry) → has_path p (range_table es) ≡ list_any (is_same (range p l h)) es
 range_none p l h [] = refl
 range_none p l h (range q a b ∷ es) = ap (λ t. bytes_eq p q || t) (range_none p l h es)
 range_none p l h (charge q t k ∷ es) = range_none p l h es
 range_none p l h (weight q t k ∷ es) = range_none p l h es
 range_none p l h (depth q n ∷ es) = range_none p l h es
 
-charge_none : (p : List ℕ) (s k : ℕ) (es : List Entry) → has_path p (charge_table es) ≡ list_any (is_same (charge p s k)) es
+pub charge_none : (p : List ℕ) (s k : ℕ) (es : List Entry) → has_path p (charge_table es) ≡ list_any (is_same (charge p s k)) es
 charge_none p s k [] = refl
 charge_none p s k (range q a b ∷ es) = charge_none p s k es
 charge_none p s k (charge q t l ∷ es) = ap (λ b. bytes_eq p q || b) (charge_none p s k es)
 charge_none p s k (weight q t l ∷ es) = charge_none p s k es
 charge_none p s k (depth q n ∷ es) = charge_none p s k es
 
-weight_none : (p : List ℕ) (s k : ℕ) (es : List Entry) → has_path p (weight_table es) ≡ list_any (is_same (weight p s k)) es
+pub weight_none : (p : List ℕ) (s k : ℕ) (es : List Entry) → has_path p (weight_table es) ≡ list_any (is_same (weight p s k)) es
 weight_none p s k [] = refl
 weight_none p s k (range q a b ∷ es) = weight_none p s k es
 weight_none p s k (charge q t l ∷ es) = weight_none p s k es
 weight_none p s k (weight q t l ∷ es) = ap (λ b. bytes_eq p q || b) (weight_none p s k es)
 weight_none p s k (depth q n ∷ es) = weight_none p s k es
 
-depth_none : (p : List ℕ) (n : ℕ) (es : List Entry) → has_path p (depth_table es) ≡ list_any (is_same (depth p n)) es
+pub depth_none : (p : List ℕ) (n : ℕ) (es : List Entry) → has_path p (depth_table es) ≡ list_any (is_same (depth p n)) es
 depth_none p n [] = refl
 depth_none p n (range q a b ∷ es) = depth_none p n es
 depth_none p n (charge q t l ∷ es) = depth_none p n es
@@ -112,28 +112,28 @@ has_in (charge p s k) es = charge_none p s k es
 has_in (weight p s k) es = weight_none p s k es
 has_in (depth p n) es = depth_none p n es
 
-range_more : (es fs : List Entry) → range_table (es ++ fs) ≡ range_table es ++ range_table fs
+pub range_more : (es fs : List Entry) → range_table (es ++ fs) ≡ range_table es ++ range_table fs
 range_more [] fs = refl
 range_more (range p l h ∷ es) fs = ap (λ r. (p, span l h) ∷ r) (range_more es fs)
 range_more (charge p s k ∷ es) fs = range_more es fs
 range_more (weight p s k ∷ es) fs = range_more es fs
 range_more (depth p n ∷ es) fs = range_more es fs
 
-charge_more : (es fs : List Entry) → charge_table (es ++ fs) ≡ charge_table es ++ charge_table fs
+pub charge_more : (es fs : List Entry) → charge_table (es ++ fs) ≡ charge_table es ++ charge_table fs
 charge_more [] fs = refl
 charge_more (range p l h ∷ es) fs = charge_more es fs
 charge_more (charge p s k ∷ es) fs = ap (λ r. (p, amount s k) ∷ r) (charge_more es fs)
 charge_more (weight p s k ∷ es) fs = charge_more es fs
 charge_more (depth p n ∷ es) fs = charge_more es fs
 
-weight_more : (es fs : List Entry) → weight_table (es ++ fs) ≡ weight_table es ++ weight_table fs
+pub weight_more : (es fs : List Entry) → weight_table (es ++ fs) ≡ weight_table es ++ weight_table fs
 weight_more [] fs = refl
 weight_more (range p l h ∷ es) fs = weight_more es fs
 weight_more (charge p s k ∷ es) fs = weight_more es fs
 weight_more (weight p s k ∷ es) fs = ap (λ r. (p, amount s k) ∷ r) (weight_more es fs)
 weight_more (depth p n ∷ es) fs = weight_more es fs
 
-depth_more : (es fs : List Entry) → depth_table (es ++ fs) ≡ depth_table es ++ depth_table fs
+pub depth_more : (es fs : List Entry) → depth_table (es ++ fs) ≡ depth_table es ++ depth_table fs
 depth_more [] fs = refl
 depth_more (range p l h ∷ es) fs = depth_more es fs
 depth_more (charge p s k ∷ es) fs = depth_more es fs

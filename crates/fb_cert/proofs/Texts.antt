@@ -53,7 +53,7 @@ head_chain : (b : Bool) (n : ℕ) (f : Read → Result Read CertFault) (r : Resu
 head_chain true n f r h = h
 head_chain false n f r h = refl
 
-all_lines : (n : ℕ) (ls : List (List ℕ)) → whole (lines_at n ls (read false no_rows)) ≡ all_at (rows_from n ls)
+pub all_lines : (n : ℕ) (ls : List (List ℕ)) → whole (lines_at n ls (read false no_rows)) ≡ all_at (rows_from n ls)
 unfolding lines_at all_at
 all_lines n [] = refl
 all_lines n (l ∷ ls) = by (words l) (all_lines (n + 1) ls)
@@ -104,7 +104,7 @@ record RestSays (ws : List Written) (done : List Entry) (rs : Rows) : Type 0 whe
   new : AreNew done es
   rows_are : rs ≡ rows_in (done ++ es)
 
-next_ok : (r : Result Rows CertFault) (f : Rows → Result Rows CertFault) (y : Rows) → next_rows r f ≡ Ok y → (x : Rows) × (r ≡ Ok x) × (f x ≡ Ok y)
+pub next_ok : (r : Result Rows CertFault) (f : Rows → Result Rows CertFault) (y : Rows) → next_rows r f ≡ Ok y → (x : Rows) × (r ≡ Ok x) × (f x ≡ Ok y)
 unfolding next_rows
 next_ok (Ok x) f y h = (x, refl, h)
 next_ok (Err e) f y h = absurd (cc)

@@ -1,5 +1,7 @@
 -- The rows of a certificate, without where they lie in memory.
-use Rattle.std.specs.Prelude.{ℕ, List, [], map, string_bytes, None}
+use Rattle.std.specs.Prelude.{ℕ, Bool, List, [], map, string_bytes, None}
+use Rattle.std.specs.List.{list_any}
+use Rattle.std.specs.Str.{bytes_eq}
 use Rattle.std.specs.declared.string.String.{String}
 use Rattle.std.specs.declared.alloc.Global.{Global}
 use Rattle.indexmap.specs.IndexMap.{IndexMap}
@@ -24,6 +26,13 @@ span_of b = span b.low b.high
 -- the paths with the spans of their bounds
 abbrev pub spans_of : Table Bounds → Table Span
 spans_of rows = map (λ r. (r.0, span_of r.1)) rows
+
+abbrev pub amount : ℕ → ℕ → Amount
+amount steps places = record { steps = steps; places = places }
+
+-- the path stands in a row
+abbrev pub has_path : {V : Type 0} → List ℕ → Table V → Bool
+has_path path rows = list_any (λ r. bytes_eq path r.0) rows
 
 -- the rows of a text by their kinds
 pub record Rows : Type 0 where

@@ -1,6 +1,5 @@
 -- What certificates are, without where they lie in memory.
 use Rattle.std.specs.Prelude.{◌≡◌, ℕ, Bool, not, List, [], ◌∷◌, ◌++◌, map, string_bytes, Option, Some, None, if◌then◌else◌}
-use Rattle.std.specs.List.{list_any}
 use Rattle.std.specs.Option.{option_map, unwrap_or}
 use Rattle.std.specs.Str.{bytes_eq}
 use Rattle.std.specs.declared.string.String.{String}
@@ -9,7 +8,7 @@ use Rattle.indexmap.specs.IndexMap.{IndexMap}
 use Rattle.fb_cert.specs.declared.bounds.Bounds.{Bounds}
 use Rattle.fb_cert.specs.declared.certificate.Amount.{Amount}
 use Rattle.fb_cert.specs.declared.certificate.Certificate.{Certificate}
-pub use Rattle.fb_cert.specs.Rows.{Table, texts_of, span_of, spans_of, Rows, no_rows, rows_in, range_rows, amount_rows, depth_rows, book_of}
+pub use Rattle.fb_cert.specs.Rows.{Table, texts_of, span_of, spans_of, has_path, amount, Rows, no_rows, rows_in, range_rows, amount_rows, depth_rows, book_of}
 use denote.Ref.{Bor}
 use Rattle.fb_model.specs.Certificates as book
 use Rattle.fb_model.specs.Ranges.{Range}
@@ -32,9 +31,6 @@ abbrev pub first_at : {V : Type 0} → List ℕ → Table V → Option V
 first_at path [] = None
 first_at path (r ∷ rs) = if bytes_eq path r.0 then Some r.1 else first_at path rs
 
-abbrev pub has_path : {V : Type 0} → List ℕ → Table V → Bool
-has_path path rows = list_any (λ r. bytes_eq path r.0) rows
-
 -- whether a path is new, and the rows with it at the end
 abbrev pub Adds : {V : Type 0} → Table V → List ℕ → V → Table V → Bool → Type 0
 Adds old path value new said = (said ≡ not (has_path path old)) × (new ≡ (if said then old ++ (path, value) ∷ [] else old))
@@ -54,9 +50,6 @@ entry_of (kinds.Depth path n) = depth path.now n
 abbrev pub row_seen : Option Row → Option Entry
 row_seen None = None
 row_seen (Some row) = Some (entry_of row)
-
-abbrev pub amount : ℕ → ℕ → Amount
-amount steps places = record { steps = steps; places = places }
 
 -- the row's path stands already in a row of its kind
 abbrev pub has_row : Entry → Rows → Bool

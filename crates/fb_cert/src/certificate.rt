@@ -1,8 +1,9 @@
 //! Certificates as tables of their rows.
 
-ghost use Rattle.std.specs.Prelude.{◌≡◌, length, slice_get};
+ghost use Rattle.std.specs.Prelude.{◌≡◌, ◌&&◌, not, length, slice_get, IfOk, IfErr, if◌then◌else◌};
 ghost use Rattle.std.specs.Option.{option_map};
-ghost use Rattle.fb_cert.specs.Views.{rows_of, first_at, shown, span_of, span_shown, row_shown, depth_shown, range_shown, certificate_of, steps_in, places_in, depth_in, span_in};
+ghost use Rattle.fb_cert.specs.Views.{rows_of, no_rows, entry_of, has_row, with_row, first_at, shown, span_of, span_shown, row_shown, depth_shown, range_shown, certificate_of, steps_in, places_in, depth_in, span_in};
+ghost use Rattle.fb_cert.specs.Adding.{is_sayable};
 ghost use Rattle.fb_model.specs.Certificates as book;
 ghost use Rattle.fb_model.specs.CertificateText.{place_of, names_in, all_but_last, last_name, IsTold};
 ghost use Rattle.fb_model.specs.Ranges.{row_at};
@@ -10,6 +11,9 @@ ghost use Rattle.fb_model.specs.System.{Variable};
 
 use crate::bounds::Bounds;
 use crate::lists::Lists;
+use crate::row::Row;
+use crate::sayable::is_sayable;
+use std::alloc::{AllocError, Global};
 use std::marker::Model;
 
 /// What a place costs: steps, and places in the queue.
@@ -21,24 +25,45 @@ pub struct Amount {
 
 /// The rows of a certificate in text order, by the path that each names. Paths are in upper case, their names joined by dots.
 ///
-/// It stands in a text: [`parse_cert`](crate::parse_cert) alone makes one.
+/// It stands in a text: [`parse_cert`](crate::parse_cert) reads it there, or [`print_cert`](crate::print_cert) prints one.
 #[derive(Drop)]
 pub struct Certificate {
     pub(crate) lists: Lists,
 }
 
 impl Model for Certificate {
-    ghost use Rattle.fb_cert.specs.Rows.{Rows, rows_in, book_of};
-    ghost use Rattle.fb_model.specs.CertificateText.{IsTold};
+    ghost use Rattle.fb_cert.specs.Rows.{Rows, rows_in};
+    ghost use Rattle.fb_cert.specs.Sayable.{AreSayable};
 
     ghost Value = { Rows };
 
     ghost view = { λ c. rows_in c.lists };
 
-    ghost invariant = { λ c. IsTold (book_of (rows_in c.lists)) };
+    ghost invariant = { λ c. AreSayable (rows_in c.lists) };
 }
 
 impl Certificate {
+    /// No rows.
+    pub fn new(alloc: Global) -> Certificate
+        ensures { rows_of result ≡ no_rows }
+    {
+        Certificate {
+            lists: Lists::new(alloc),
+        }
+    }
+
+    /// Adds a row at the end of its kind, if a text can say it and its path stands in no row of its kind; says whether it did.
+    pub fn add(&mut self, alloc: Global, row: Row) -> Result<bool, AllocError>
+        ensures new { IfOk result (λ new. new ≡ (is_sayable (entry_of row.entry) && not (has_row (entry_of row.entry) (rows_of self.old)))) }
+        ensures added { IfOk result (λ new. rows_of self.new ≡ (if new then with_row (entry_of row.entry) (rows_of self.old) else rows_of self.old)) }
+        ensures kept { IfErr result (λ _. rows_of self.new ≡ rows_of self.old) }
+    {
+        if !is_sayable(&row) {
+            return Ok(false);
+        }
+        self.lists.add(alloc, row)
+    }
+
     /// Lets the certificate go. (A crate that lets it go by itself proves the end of each of its parts anew; this call is proved once.)
     pub fn let_go(self) {}
 

@@ -1,10 +1,23 @@
-//! Why a text is no certificate.
+//! Why a text is no certificate, and why none is printed.
 
 ghost use Rattle.std.specs.Prelude.{◌≡◌};
-ghost use Rattle.fb_cert.specs.declared.fault.CertFault.TheVariants.{OutOfMemory};
+ghost use Rattle.fb_cert.specs.declared.fault.CertFault.TheVariants as fault;
 
 use std::alloc::{AllocError, AllocFailed};
 use std::fmt;
+
+/// Memory ran out. Code 9.
+#[derive(Clone, Copy)]
+pub struct OutOfMemory;
+
+impl OutOfMemory {
+    /// The number of the refusal.
+    pub fn code(&self) -> u8
+        ensures { result ≡ 9 }
+    {
+        9
+    }
+}
 
 /// Why a text is no certificate. Lines count from 1, lines without words among them.
 #[derive(Drop)]
@@ -55,7 +68,7 @@ impl fmt::Display for CertFault {
 }
 
 impl From<AllocError> for CertFault {
-    ghost from_gives = { λ _ e. e ≡ OutOfMemory };
+    ghost from_gives = { λ _ e. e ≡ fault.OutOfMemory };
 
     fn from(_: AllocError) -> CertFault {
         CertFault::OutOfMemory
@@ -63,7 +76,7 @@ impl From<AllocError> for CertFault {
 }
 
 impl<T: Drop> From<AllocFailed<T>> for CertFault {
-    ghost from_gives = { λ _ e. e ≡ OutOfMemory };
+    ghost from_gives = { λ _ e. e ≡ fault.OutOfMemory };
 
     fn from(_: AllocFailed<T>) -> CertFault {
         CertFault::OutOfMemory

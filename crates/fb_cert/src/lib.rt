@@ -1,4 +1,4 @@
-//! Certificate texts.
+//! Certificates and their texts.
 #![tactic(auto)]
 
 mod bounds;
@@ -6,11 +6,15 @@ mod certificate;
 mod fault;
 mod law;
 mod lists;
+mod printing;
 mod reading;
 mod row;
+mod sayable;
 
 pub use bounds::Bounds;
 pub use certificate::{Amount, Certificate};
-pub use fault::CertFault;
-pub use law::spelled_once;
+pub use fault::{CertFault, OutOfMemory};
+pub use law::{printed_spells, spelled_once};
+pub use printing::print_cert;
 pub use reading::parse_cert;
+pub use row::Row;

@@ -1,6 +1,6 @@
 //! The rows of a certificate by their kinds.
 
-ghost use Rattle.std.specs.Prelude.{◌≡◌, IfOk};
+ghost use Rattle.std.specs.Prelude.{◌≡◌, IfOk, IfErr};
 ghost use Rattle.fb_cert.specs.Views.{rows_in, no_rows, texts_of, Adds, AddsRow, entry_of};
 
 use crate::bounds::Bounds;
@@ -25,7 +25,8 @@ fn add<V: Drop>(
     path: &str,
     value: V,
 ) -> Result<bool, AllocError>
-    ensures { IfOk result (λ new. Adds (texts_of rows.old) path.now value (texts_of rows.new) new) }
+    ensures added { IfOk result (λ new. Adds (texts_of rows.old) path.now value (texts_of rows.new) new) }
+    ensures kept { IfErr result (λ _. texts_of rows.new ≡ texts_of rows.old) }
 {
     if rows.contains_key(path) {
         return Ok(false);
@@ -49,7 +50,8 @@ impl Lists {
 
     /// Adds a row at the end, unless its path stands in an earlier one of its kind; says whether it is new.
     pub(crate) fn add(&mut self, alloc: Global, row: Row) -> Result<bool, AllocError>
-        ensures { IfOk result (λ new. AddsRow (rows_in self.old) (entry_of row.entry) (rows_in self.new) new) }
+        ensures added { IfOk result (λ new. AddsRow (rows_in self.old) (entry_of row.entry) (rows_in self.new) new) }
+        ensures kept { IfErr result (λ _. rows_in self.new ≡ rows_in self.old) }
     {
         match row {
             Row::Range(path, bounds) => add(alloc, &mut self.ranges, path, bounds),

@@ -6,6 +6,7 @@ ghost use Rattle.fb_model.specs.CertificateText.{words, most_characters, Spells}
 ghost use Rattle.fb_model.specs.Certificates as book;
 ghost use Rattle.fb_cert.specs.Views.{rows_in, book_of, no_rows, texts, certificate_of};
 ghost use Rattle.fb_cert.specs.Reading.{read, row_at, words_at, lines_at, whole, text_at};
+ghost use Rattle.fb_cert.specs.Sayable.{AreSayable};
 ghost use Rattle.fb_cert.specs.declared.fault.CertFault.{CertFault};
 ghost use Rattle.fb_cert.specs.Answers.{Gives, Makes, Finds, Faulty, Refuses, Tells};
 
@@ -107,6 +108,7 @@ fn read_text(alloc: Global, text: &str) -> Result<Lists, CertFault>
 // The rows that a text spells.
 fn read_spelled(alloc: Global, text: &str) -> Result<Lists, CertFault>
     ensures found { IfOk result (λ c. Spells text.now (book_of (rows_in c))) }
+    ensures sayable { IfOk result (λ c. AreSayable (rows_in c)) }
     ensures within { IfOk result (λ c. length text.now ≤ most_characters) }
     ensures only { (certificate : book.Certificate) → length text.now ≤ most_characters → Spells text.now certificate → Finds (λ c. book_of (rows_in c)) result certificate }
     ensures refused { IfErr result (Refuses text.now) }

@@ -11,20 +11,24 @@ use crate::bounds::Bounds;
 use crate::certificate::Amount;
 
 /// The most steps of a row.
-const MOST_STEPS: u64 = 1_000_000_000_000;
+pub(crate) const MOST_STEPS: u64 = 1_000_000_000_000;
 
 /// The most places of a row, and the most depth.
-const MOST_PLACES: u64 = 4096;
+pub(crate) const MOST_PLACES: u64 = 4096;
 
 /// The greatest number of LINT.
 const MOST_LINT: u64 = 9_223_372_036_854_775_807;
 
-/// A row after the first.
+/// A row after the first, with its path.
 #[derive(Clone, Copy)]
-pub(crate) enum Row<'a> {
+pub enum Row<'a> {
+    /// The numbers of a variable.
     Range(&'a str, Bounds),
+    /// What a state costs.
     Charge(&'a str, Amount),
+    /// What an event input or an arrival costs.
     Weight(&'a str, Amount),
+    /// The places of a resource's queue.
     Depth(&'a str, u64),
 }
 
@@ -97,7 +101,7 @@ fn read_whole(word: &str) -> Option<i64>
 }
 
 // Whether names stand there, joined by dots.
-fn is_path(word: &str) -> bool
+pub(crate) fn is_path(word: &str) -> bool
     ensures { result ≡ is_path word.now }
 {
     let mut name_begins = true;

@@ -7,6 +7,7 @@ returns c =
     let r = c.read_text.result in
     record {
       found = answered.found text r c.read_text.ensures;
+      sayable = answered.sayable text r c.read_text.ensures;
       within = answered.within text r c.read_text.ensures;
       only = answered.only text r c.read_text.ensures;
       refused = answered.refused text r c.read_text.ensures;

@@ -2,8 +2,8 @@ use Rattle.fb_cert.specs.Views.{rows_in, texts_of, spans_of}
 use Rattle.fb_cert.proofs.Tables.{adds_span, range_added, ok_so}
 use Rattle.fb_cert.proofs.lists.Lists.add.Goals as goal
 
-pub returns-in-Range : goal.returns-in-Range
-returns-in-Range c =
+pub returns-in-Range-clause-added : goal.returns-in-Range-clause-added
+returns-in-Range-clause-added c =
     let old = texts_of c.args.self.now.ranges in
     let new = texts_of c.add.new.rows in
     let path = c.in-Range.path.now in
@@ -11,4 +11,4 @@ returns-in-Range c =
     rw c.in-Range.is
     (ok_so
     (λ said h. range_added (rows_in c.args.self.now) path bounds (spans_of new) said (adds_span old new path bounds said h))
-    c.add.result c.add.ensures)
+    c.add.result c.add.ensures.added)
