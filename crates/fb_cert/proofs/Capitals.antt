@@ -1,5 +1,5 @@
 -- What is read of a text, a text can say.
-use Rattle.std.proofs.Common.{◌≡◌, ℕ, ℤ, pos, zero, suc, neg_ℤ, ◌+◌, ◌-◌, ◌<◌, ◌≤◌, ◌==◌, Bool, true, false, cond, not, List, [], ◌∷◌, ◌++◌, length, filter, take, Option, Some, None, Result, Ok, Err, codes, refl, sym, ap, subst, ◌∙◌, arith, inl, inr}
+use Rattle.std.proofs.Common.{◌≡◌, ℕ, ℤ, pos, zero, suc, neg_ℤ, ◌+◌, ◌-◌, ◌≤◌, ◌==◌, Bool, true, false, cond, not, List, [], ◌∷◌, length, filter, take, Option, Some, None, Ok, Err, refl, sym, ap, subst, ◌∙◌, arith, inl, inr}
 use Rattle.std.specs.Prelude.{nat_lt}
 use Rattle.std.specs.List.{AllByRecursion, slice_split, onto_first}
 use Rattle.std.specs.Char.{to_ascii_uppercase}
@@ -8,15 +8,14 @@ use mir.Syntax.{w64}
 use Rattle.std.specs.Str.Lines.{lines, lines_of_parts, strip_carriage_return}
 use Rattle.std.proofs.lemmas.Str.Ascii.{uppercase-uppercase}
 use Rattle.fb_model.specs.Spelling.{upper}
-use Rattle.fb_model.specs.CertificateText.{words, Written, written, rows_from, Entry, range, charge, weight, depth, IsNumberIn, IsWhole, plain, negative, IsEntry, a_range, a_charge, a_weight, a_depth, begins_cert, most_lint, most_characters}
-use Rattle.fb_cert.specs.declared.fault.CertFault.{CertFault}
+use Rattle.fb_model.specs.CertificateText.{words, Written, written, rows_from, Entry, IsWhole, plain, negative, IsEntry, a_range, a_charge, a_weight, a_depth, begins_cert, most_lint, most_characters}
 use Rattle.fb_cert.specs.declared.fault.CertFault.TheVariants.{TooLong, Row, DuplicateRow}
 use Rattle.fb_cert.specs.Views.{Rows, no_rows, has_row, with_row}
 use Rattle.fb_cert.specs.Sayable.{IsSayable, AreSayable}
 use Rattle.fb_cert.specs.Reading.{read, entry_at, is_head, entered, row_at, lines_at, whole, text_at}
 use Rattle.fb_cert.proofs.Deciding.{chosen}
 use Rattle.fb_cert.proofs.Entries.{entry_found}
-use Rattle.fb_cert.proofs.Texts.{next_rows, rest_at, all_at, next_ok, all_lines}
+use Rattle.fb_cert.proofs.Texts.{rest_at, all_at, next_ok, all_lines}
 use Rattle.fb_cert.proofs.Sayables.{sayable_with, sayable_none}
 
 -- ---- words in upper case

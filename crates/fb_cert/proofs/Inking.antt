@@ -1,5 +1,5 @@
 -- Paths in upper case and numbers are printed words.
-use Rattle.std.proofs.Common.{◌≡◌, ℕ, ℤ, pos, negsuc, suc, ◌+◌, ◌-◌, ◌^◌, ◌<◌, ◌≤◌, ◌==◌, ◌⊎◌, Bool, true, false, cond, List, [], ◌∷◌, length, refl, sym, ap, subst, ◌∙◌, arith, inl, inr}
+use Rattle.std.proofs.Common.{◌≡◌, ℕ, ℤ, pos, negsuc, suc, ◌-◌, ◌^◌, ◌<◌, ◌≤◌, ◌==◌, ◌⊎◌, Bool, true, false, cond, List, [], ◌∷◌, length, refl, ap, arith, inl, inr}
 use Rattle.std.specs.Prelude.{◌&&◌, ◌||◌, not, nat_le, nat_lt}
 use Rattle.std.specs.List.{AllByRecursion, list_all}
 use Rattle.std.specs.Char.{to_ascii_uppercase}
@@ -10,7 +10,7 @@ use Rattle.std.proofs.lemmas.Bool.{leb-true, ltb-true, lt-ltb, eqb-true}
 use Rattle.fb_model.specs.Spelling.{is_digit, is_start, upper}
 use Rattle.fb_cert.specs.Sayable.{IsUpperPath}
 use Rattle.fb_cert.specs.Reading.{path_from, is_path}
-use Rattle.fb_cert.proofs.Deciding.{chosen, both_true, test_of}
+use Rattle.fb_cert.proofs.Deciding.{chosen, both_true}
 use Rattle.fb_cert.proofs.Paths.{dotted_read}
 use Rattle.fb_cert.proofs.Decimals.{decimal_writes}
 use Rattle.fb_cert.proofs.Splitting.{IsInk, IsPrinted}

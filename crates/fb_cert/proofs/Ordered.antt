@@ -1,5 +1,5 @@
 -- The rows in the order in which they are printed are those rows, and none stands twice.
-use Rattle.std.proofs.Common.{◌≡◌, ℕ, ℤ, false, List, [], ◌∷◌, ◌++◌, map, refl, sym, ap, subst, ◌∙◌, append_assoc}
+use Rattle.std.proofs.Common.{◌≡◌, ℕ, List, [], ◌∷◌, ◌++◌, map, refl, sym, ap, subst, ◌∙◌, append_assoc}
 use Rattle.std.specs.List.{list_any}
 use Rattle.std.proofs.lemmas.List.{append-nil}
 use Rattle.fb_model.specs.Spans.{Span}
@@ -99,14 +99,14 @@ entries_new rows h =
     let d = depth_entries rows.depths in
     let no_charges : charge_table a ≡ [] = others_none as_range charge_table refl (λ r es. refl) rows.ranges in
     let no_weights : weight_table (a ++ b) ≡ [] =
-        weight_more a b ∙ ap (λ t. t ++ weight_table b) (others_none as_range weight_table refl (λ r es. refl) rows.ranges) ∙ others_none as_charge weight_table refl (λ r es. refl) rows.charges in
+    weight_more a b ∙ ap (λ t. t ++ weight_table b) (others_none as_range weight_table refl (λ r es. refl) rows.ranges) ∙ others_none as_charge weight_table refl (λ r es. refl) rows.charges in
     let no_depths : depth_table ((a ++ b) ++ c) ≡ [] =
-        depth_more (a ++ b) c ∙ ap (λ t. t ++ depth_table c) (depth_more a b)
-        ∙ ap (λ t. (t ++ depth_table b) ++ depth_table c) (others_none as_range depth_table refl (λ r es. refl) rows.ranges)
-        ∙ ap (λ t. t ++ depth_table c) (others_none as_charge depth_table refl (λ r es. refl) rows.charges)
-        ∙ others_none as_weight depth_table refl (λ r es. refl) rows.weights in
+    depth_more (a ++ b) c ∙ ap (λ t. t ++ depth_table c) (depth_more a b)
+    ∙ ap (λ t. (t ++ depth_table b) ++ depth_table c) (others_none as_range depth_table refl (λ r es. refl) rows.ranges)
+    ∙ ap (λ t. t ++ depth_table c) (others_none as_charge depth_table refl (λ r es. refl) rows.charges)
+    ∙ others_none as_weight depth_table refl (λ r es. refl) rows.weights in
     let last : AreNew ((a ++ b) ++ c) (d ++ []) =
-        kind_new IsDepth as_depth depth_table (λ r es. depth_none r.0 r.1 es) (λ r es. depth_more es (as_depth r ∷ [])) ((a ++ b) ++ c) [] rows.depths [] no_depths h.depths_are tt in
+    kind_new IsDepth as_depth depth_table (λ r es. depth_none r.0 r.1 es) (λ r es. depth_more es (as_depth r ∷ [])) ((a ++ b) ++ c) [] rows.depths [] no_depths h.depths_are tt in
     kind_new IsRange as_range range_table (λ r es. range_none r.0 r.1.low r.1.high es) (λ r es. range_more es (as_range r ∷ [])) [] [] rows.ranges (b ++ (c ++ d)) refl h.ranges_are
     (kind_new IsAmount as_charge charge_table (λ r es. charge_none r.0 r.1.steps r.1.places es) (λ r es. charge_more es (as_charge r ∷ [])) a [] rows.charges (c ++ d) no_charges h.charges_are
     (kind_new IsAmount as_weight weight_table (λ r es. weight_none r.0 r.1.steps r.1.places es) (λ r es. weight_more es (as_weight r ∷ [])) (a ++ b) [] rows.weights d no_weights h.weights_are

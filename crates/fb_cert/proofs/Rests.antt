@@ -1,5 +1,5 @@
 -- What is printed of rows, and what is left to print.
-use Rattle.std.proofs.Common.{◌≡◌, ℕ, zero, suc, ◌+◌, List, [], ◌∷◌, ◌++◌, map, drop, length, slice_get, Option, Some, None, codes, refl, sym, ap, subst, ◌∙◌, append_assoc, add-one, arith}
+use Rattle.std.proofs.Common.{◌≡◌, ℕ, zero, suc, ◌+◌, List, [], ◌∷◌, ◌++◌, map, drop, slice_get, Some, None, codes, refl, sym, ap, ◌∙◌, append_assoc, add-one}
 use Rattle.std.specs.Prelude.{flat_map}
 use Rattle.std.proofs.lemmas.Grind.{flat_map-append}
 use Rattle.fb_model.specs.CertificateText.{Entry}
@@ -41,7 +41,7 @@ all_printed rs t r c w d e f g h k =
     let v = weight_entries rs.weights in
     let z = depth_entries rs.depths in
     let whole : flat_map row_line (a ++ (b ++ (v ++ z))) ≡ flat_map row_line a ++ (flat_map row_line b ++ (flat_map row_line v ++ flat_map row_line z)) =
-        flat_map-append row_line a (b ++ (v ++ z)) ∙ ap (λ l. flat_map row_line a ++ l) (flat_map-append row_line b (v ++ z)) ∙ ap (λ l. flat_map row_line a ++ (flat_map row_line b ++ l)) (flat_map-append row_line v z) in
+    flat_map-append row_line a (b ++ (v ++ z)) ∙ ap (λ l. flat_map row_line a ++ l) (flat_map-append row_line b (v ++ z)) ∙ ap (λ l. flat_map row_line a ++ (flat_map row_line b ++ l)) (flat_map-append row_line v z) in
     k ∙ ap (λ l. l ++ flat_map row_line z) (h ∙ ap (λ l. l ++ flat_map row_line v) (g ∙ ap (λ l. l ++ flat_map row_line b) (f ∙ ap (λ l. l ++ flat_map row_line a) e)))
     ∙ append_assoc (((codes "CERT 1" ++ 10 ∷ []) ++ flat_map row_line a) ++ flat_map row_line b) (flat_map row_line v) (flat_map row_line z)
     ∙ append_assoc ((codes "CERT 1" ++ 10 ∷ []) ++ flat_map row_line a) (flat_map row_line b) (flat_map row_line v ++ flat_map row_line z)

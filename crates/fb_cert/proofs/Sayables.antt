@@ -1,10 +1,9 @@
 -- Rows that a text can say, and one more.
-use Rattle.std.proofs.Common.{◌≡◌, ℕ, ◌≤◌, ℤ, ◌≤ℤ◌, int_le, arith, Bool, true, false, not, Result, Ok, Err, IfOk, IfErr, List, [], ◌∷◌, ◌++◌, refl, sym, subst, append_assoc}
-use Rattle.std.specs.Prelude.{◌&&◌, nat_le}
+use Rattle.std.proofs.Common.{◌≡◌, ℕ, ℤ, ◌≤ℤ◌, int_le, arith, Bool, true, false, not, Result, Ok, Err, IfOk, IfErr, List, [], ◌∷◌, ◌++◌, refl, sym, subst, append_assoc}
+use Rattle.std.specs.Prelude.{nat_le}
 use Rattle.std.proofs.lemmas.List.{append-nil}
 use Rattle.std.proofs.lemmas.Int.{ints}
 use Rattle.std.proofs.lemmas.Bool.{leb-true}
-use Rattle.std.specs.Str.{bytes_eq}
 use Rattle.std.proofs.lemmas.Slice.Eq.{bytes_eq-Decides}
 use Rattle.fb_model.specs.Spelling.{upper}
 use Rattle.fb_model.specs.Spans.{span}
@@ -13,7 +12,7 @@ use Rattle.fb_cert.specs.Rows.{Table, Rows, no_rows, has_path}
 use Rattle.fb_cert.specs.Views.{amount, has_row, with_row, AddsRow}
 use Rattle.fb_cert.specs.Sayable.{IsUpperPath, IsRange, IsAmount, IsDepth, IsSayable, AreRows, AreSayable}
 use Rattle.fb_cert.specs.Reading.{is_path}
-use Rattle.fb_cert.specs.Adding.{is_upper, is_upper_path, is_amount, is_depth, is_sayable}
+use Rattle.fb_cert.specs.Adding.{is_upper, is_upper_path, is_amount, is_depth}
 use Rattle.fb_cert.proofs.Deciding.{both_true, true_both, text_is}
 use Rattle.fb_cert.proofs.Paths.{dotted_found, dotted_read}
 

@@ -1,5 +1,5 @@
 -- Lines that are printed are the lines of the text, and their words are the words of the lines.
-use Rattle.std.proofs.Common.{◌≡◌, ℕ, zero, suc, ◌+◌, ◌-◌, ◌<◌, ◌==◌, true, false, cond, not, List, [], ◌∷◌, ◌++◌, length, filter, take, get_or, refl, sym, ap, subst, ◌∙◌, arith}
+use Rattle.std.proofs.Common.{◌≡◌, ℕ, zero, suc, ◌+◌, ◌-◌, ◌<◌, ◌==◌, false, cond, not, List, [], ◌∷◌, ◌++◌, length, filter, take, get_or, refl, ap, ◌∙◌, arith}
 use Rattle.std.specs.List.{AllByRecursion, slice_split, onto_first, join_with_byte}
 use Rattle.std.specs.Char.{to_ascii_uppercase}
 use Rattle.std.specs.Str.Lines.{lines, lines_of_parts, strip_carriage_return}

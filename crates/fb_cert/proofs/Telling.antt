@@ -1,18 +1,18 @@
 -- What is printed of rows that a text can say spells them.
-use Rattle.std.proofs.Common.{◌≡◌, ℕ, ◌+◌, ◌^◌, ◌<◌, ◌≤◌, true, List, [], ◌∷◌, ◌++◌, map, codes, refl, sym, ap, ◌∙◌, arith, lit<}
-use Rattle.std.specs.Prelude.{flat_map, int_le}
+use Rattle.std.proofs.Common.{◌≡◌, ℕ, ◌+◌, ◌^◌, ◌<◌, ◌≤◌, List, [], ◌∷◌, ◌++◌, map, codes, refl, sym, ap, ◌∙◌, arith}
+use Rattle.std.specs.Prelude.{flat_map}
 use Rattle.std.specs.List.{AllByRecursion, join_with_byte}
 use Rattle.std.specs.Str.Lines.{lines}
 use Rattle.std.specs.Fmt.{decimal, signed_decimal}
 use Rattle.fb_model.specs.Spelling.{upper}
 use Rattle.fb_model.specs.Spans.{Span}
-use Rattle.fb_model.specs.CertificateText.{Written, written, rows, rows_from, Entry, range, charge, weight, depth, IsHead, head, IsNumberIn, IsEntry, a_range, a_charge, a_weight, a_depth, AreEntries, no_entry, entry, Spells, IsTold, most_steps, most_places}
+use Rattle.fb_model.specs.CertificateText.{Written, written, rows_from, Entry, range, charge, weight, depth, head, IsNumberIn, IsEntry, a_range, a_charge, a_weight, a_depth, AreEntries, no_entry, entry, Spells, IsTold, most_steps, most_places}
 use Rattle.fb_cert.specs.declared.certificate.Amount.{Amount}
 use Rattle.fb_cert.specs.Rows.{Table, Rows, book_of}
 use Rattle.fb_cert.specs.Sayable.{IsUpperPath, IsRange, IsAmount, IsDepth, AreRows, AreSayable}
-use Rattle.fb_cert.specs.Printed.{row_words, row_text, row_line, range_entries, charge_entries, weight_entries, depth_entries, entries, printed}
+use Rattle.fb_cert.specs.Printed.{row_words, row_line, range_entries, charge_entries, weight_entries, depth_entries, entries, printed}
 use Rattle.fb_cert.proofs.Decimals.{decimal_is, signed_is}
-use Rattle.fb_cert.proofs.Splitting.{IsPrinted, IsPlain, words_joined, joined_plain, line_upper, first_line, first_row}
+use Rattle.fb_cert.proofs.Splitting.{IsPrinted, words_joined, joined_plain, line_upper, first_line, first_row}
 use Rattle.fb_cert.proofs.Inking.{decimal_printed, signed_printed, path_printed, word_printed}
 use Rattle.fb_cert.proofs.ByKind.{book_in, none_twice}
 use Rattle.fb_cert.proofs.Ordered.{as_range, as_charge, as_weight, as_depth, rows_kept, entries_new}

@@ -54,7 +54,7 @@ impl Certificate {
 
     /// Adds a row at the end of its kind, if a text can say it and its path stands in no row of its kind; says whether it did.
     pub fn add(&mut self, alloc: Global, row: Row) -> Result<bool, AllocError>
-        ensures new { IfOk result (λ new. new ≡ (is_sayable (entry_of row.entry) && not (has_row (entry_of row.entry) (rows_of self.old)))) }
+        ensures tells { IfOk result (λ new. new ≡ (is_sayable (entry_of row.entry) && not (has_row (entry_of row.entry) (rows_of self.old)))) }
         ensures added { IfOk result (λ new. rows_of self.new ≡ (if new then with_row (entry_of row.entry) (rows_of self.old) else rows_of self.old)) }
         ensures kept { IfErr result (λ _. rows_of self.new ≡ rows_of self.old) }
     {

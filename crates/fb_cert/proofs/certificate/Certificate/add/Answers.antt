@@ -1,4 +1,3 @@
-use Rattle.std.proofs.Common.{sym, ◌∙◌}
 use Rattle.fb_cert.specs.Views.{rows_in, entry_of}
 use Rattle.fb_cert.proofs.Sayables.{added_sayable}
 use Rattle.fb_cert.proofs.certificate.Certificate.add.Goals as goal

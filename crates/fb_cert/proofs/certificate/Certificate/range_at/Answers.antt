@@ -5,7 +5,7 @@ use Rattle.fb_model.specs.CertificateText.{range_row}
 use Rattle.fb_model.specs.Ranges.{Range}
 use Rattle.fb_model.specs.Spans.{Span}
 use Rattle.fb_cert.specs.declared.bounds.Bounds.{Bounds}
-use Rattle.fb_cert.specs.Views.{texts_of, span_of, spans_of}
+use Rattle.fb_cert.specs.Views.{span_of}
 use Rattle.fb_cert.proofs.Places.{at_view}
 use Rattle.fb_cert.proofs.certificate.Certificate.range_at.Goals as goal
 
