@@ -37,8 +37,8 @@ fn only(number: &i64) -> Interval
     }
 }
 
-// The range of the start value of a variable; of an array, that of its elements.
-fn start_range(variable: &Variable) -> Interval
+/// The range of the start value of a variable; of an array, that of its elements.
+pub fn start_range(variable: &Variable) -> Interval
     ensures { (x : Name) → IsRange (span_of result) (start_of (variable_of (declared_of x variable.now))) }
 {
     match &variable.start {
@@ -58,8 +58,8 @@ fn constant_range(source: &Source, variable: &Variable) -> Interval
     }
 }
 
-// The same, where there may be no source.
-fn first_range(source: Option<&Source>, variable: &Variable) -> Interval
+/// The same, where there may be no source: then 0.
+pub fn first_range(source: Option<&Source>, variable: &Variable) -> Interval
     ensures { (x : Name) → IsRange (span_of result) (first_input (held (option_map (λ s. s.now) source.entry)) (start_of (variable_of (declared_of x variable.now)))) }
 {
     match source {

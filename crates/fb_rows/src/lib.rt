@@ -12,9 +12,12 @@ mod row;
 mod run;
 mod span;
 
+pub use begin::{first_range, start_range};
 pub use clear::rows_clear;
 pub use fault::Unclear;
 pub use fb_flat;
 pub use fb_ranges;
 pub use law::refusals_deny;
-pub use row::block_rows;
+pub use link::source_named;
+pub use place::{Places, leaves_of, places};
+pub use row::{block_rows, leaf_row};

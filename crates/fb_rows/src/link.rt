@@ -24,7 +24,7 @@ use fb_words::ElemType;
 use std::alloc::{AllocError, Global};
 
 /// Where the first input of a name takes its value from.
-pub(crate) fn source_named<'a>(inputs: &'a [Input], name: &str) -> Option<&'a Source>
+pub fn source_named<'a>(inputs: &'a [Input], name: &str) -> Option<&'a Source>
     ensures { held (option_map (λ s. s.now) result) ≡ source_at inputs.now name.now }
 {
     for input in inputs {

@@ -9,7 +9,7 @@ use indexmap::IndexMap;
 use std::alloc::{AllocError, Global};
 
 /// Leaves by their paths.
-pub(crate) type Places<'a> = IndexMap<String, &'a Leaf>;
+pub type Places<'a> = IndexMap<String, &'a Leaf>;
 
 // Adds leaves at the end.
 fn add_leaves<'a>(leaves: &'a [Leaf], all: &mut Vec<&'a Leaf>) -> Result<(), AllocError>
@@ -22,7 +22,7 @@ fn add_leaves<'a>(leaves: &'a [Leaf], all: &mut Vec<&'a Leaf>) -> Result<(), All
 }
 
 /// All leaves of resources, in order.
-pub(crate) fn leaves_of<'a>(
+pub fn leaves_of<'a>(
     alloc: Global,
     resources: &'a [FlatResource],
 ) -> Result<Vec<&'a Leaf>, AllocError>
@@ -47,7 +47,7 @@ fn put<'a>(alloc: Global, places: &mut Places<'a>, leaf: &'a Leaf) -> Result<(),
 }
 
 /// Leaves by their paths: the first of each path.
-pub(crate) fn places<'a>(alloc: Global, leaves: &[&'a Leaf]) -> Result<Places<'a>, AllocError>
+pub fn places<'a>(alloc: Global, leaves: &[&'a Leaf]) -> Result<Places<'a>, AllocError>
     ensures { IfOk result (λ m. ArePlaces (map (λ l. l.now) leaves.now) m) }
 {
     let mut places = IndexMap::new(alloc);

@@ -95,7 +95,7 @@ fn port_type(service: &Service, name: &str) -> Option<ElemType>
 }
 
 /// The row of the variable of a leaf: of a service, all numbers of its type.
-pub(crate) fn leaf_row(
+pub fn leaf_row(
     alloc: Global,
     certificate: &Certificate,
     leaf: &Leaf,
