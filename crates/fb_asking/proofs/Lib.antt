@@ -1,0 +1,3 @@
+pub mod Ranging
+pub mod Ending
+pub mod Growing
