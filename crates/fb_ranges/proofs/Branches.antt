@@ -1,80 +1,101 @@
 -- Branches of an IF and arms of a CASE, one at a time.
-use Rattle.std.proofs.Common.{◌≡◌, ℕ, suc, ◌+◌, ◌<◌, max, true, false, List, ◌++◌, length, drop, get_or, refl, sym, ap, subst, ◌∙◌, arith, rules, Option, None, Some}
-use Rattle.std.specs.Prelude.{is_some}
-use Rattle.std.specs.Option.{option_map}
+use Rattle.std.proofs.Common.{◌≡◌, ℕ, ◌+◌, ◌<◌, true, false, List, ◌++◌, length, drop, get_or, Option, None, Some, refl, sym, ap, ap₂, subst, ◌∙◌, rules}
 use Rattle.fb_model.specs.Names.{Name, is_in}
 use Rattle.fb_model.specs.TypedText.{Term, Commands}
-use Rattle.fb_model.specs.Clear.{Spans, range_of, narrowed, Found, Clear, with_range, either, assigned, reset, examine, examine_choices, examine_cases}
+use Rattle.fb_model.specs.Spans.{Span, joined}
+use Rattle.fb_model.specs.Clear.{Spans, Found, range_of, narrowed, with_range, either, assigned, reset, examine, examine_choices, examine_cases}
 use Rattle.fb_model.proofs.Names.{not_front, not_back}
 use Rattle.st_types.specs.declared.command.TypedStmt.{the_lemmas}
 use Rattle.st_types.specs.declared.command.TypedBranch.{TypedBranch}
 use Rattle.st_types.specs.declared.command.TypedArm.{TypedArm}
 use Rattle.st_types.specs.CommandViews.{commands_of, case_of, cases_of, choice_of, choices_of}
 use Rattle.st_types.proofs.Gathering.{drop_step}
-use Rattle.fb_model.specs.Spans.{Span}
-use Rattle.fb_intervals.specs.declared.interval.Interval.{Interval}
-use Rattle.fb_ranges.specs.Finding.{IsFound}
-use Rattle.fb_ranges.specs.Meeting.{Besides, Leads, Mark, joint, ranges_after}
+use Rattle.fb_asking.specs.Asking.{Asked, point, met, ask, ask_choices, ask_cases}
+use Rattle.fb_ranges.specs.declared.told.Told.{Told}
+use Rattle.fb_ranges.specs.Finding.{longer, tell}
+use Rattle.fb_ranges.specs.Meeting.{Besides, Mark, joint, met_by, ranges_after}
 use Rattle.fb_ranges.specs.Narrowing.{read_in}
-use Rattle.fb_intervals.specs.Views.{span_of}
-use Rattle.fb_ranges.proofs.Blocks.{next_choice}
 use Rattle.fb_ranges.proofs.Covers.{narrowed_besides}
-use Rattle.fb_ranges.proofs.Frames.{clear_frames}
+use Rattle.fb_ranges.proofs.Frames.{all_besides}
 use Rattle.fb_ranges.proofs.Joins.{ended_at}
-use Rattle.fb_ranges.proofs.Ways.{meets_next}
+use Rattle.fb_ranges.proofs.Telling.{longer_again, tell_either}
+use Rattle.fb_ranges.proofs.Ways.{joint_again}
 
 pub case_is : (a : TypedArm) → case_of a ≡ (a.labels.items, commands_of a.body.items)
 case_is a = search (rules, the_lemmas)
 
 -- what a branch touches
-pub branch_besides : (rows s t after : Spans) (e : Term) (a : Commands) (n : ℕ) → t ≡ narrowed e true s → examine rows a t ≡ Clear after n → Besides (read_in e ++ assigned a) s after
-branch_besides rows s t after e a n put is = λ x out.
-    clear_frames rows a t after n is x (not_back x (read_in e) (assigned a) out)
+pub branch_besides : (rows s t : Spans) (e : Term) (c : Commands) (q : Spans) → t ≡ narrowed e true s → Besides (read_in e ++ assigned c) s (ask rows c (point t q)).spans
+branch_besides rows s t e c q put = λ x out.
+    all_besides rows c (point t q) x (not_back x (read_in e) (assigned c) out)
     ∙ ap (λ (u : Spans). u x) put
-    ∙ narrowed_besides e true s x (not_front x (read_in e) (assigned a) out)
+    ∙ narrowed_besides e true s x (not_front x (read_in e) (assigned c) out)
 
-module _ (i : ℕ) (spans t : Spans) (steps more total count : ℕ) (marks : Name → Mark) (all found rest : Found) where
-  -- one more way, after which the ranges are others
-  leads_on : (later : Spans) → Leads i steps spans all (either found rest) → IsFound more t found → count ≡ i + 1 → total ≡ max steps more → ranges_after count marks later ≡ joint i spans t → Leads count total (ranges_after count marks later) all rest
-  leads_on later h w next add is =
-      let m = meets_next i spans t steps more total all found rest h w add in
-      let e : suc i ≡ count = omega (arith, next) in
-      subst (λ k. Leads k total (ranges_after count marks later) all rest) e (subst (λ (u : Spans). Leads (suc i) total u all rest) (sym is) m)
+-- a way, by what is told of its ranges
+pub way_ends : (xs ys : List Name) (s after ends : Spans) → Besides xs s after → ys ≡ xs → ((base : Spans) → reset xs ends base ≡ reset xs after base) → reset ys ends s ≡ after
+way_ends xs ys s after ends h same told = ap (λ (zs : List Name). reset zs ends s) same ∙ ended_at xs s after ends h told
+
+-- one more way, before those that are still to be examined
+meets_on : (i j : ℕ) (s t u : Spans) (rest all : Asked) → j ≡ i + 1 → u ≡ joint i s t → met_by i s (point (λ x. joined (t x) (rest.spans x)) rest.rows) ≡ all → met_by j u rest ≡ all
+meets_on i j s t u rest all next e h =
+    ap₂ (λ (k : ℕ) (v : Spans). met_by k v rest) next e
+    ∙ ap (λ (v : Spans). point v rest.rows) (joint_again i s t rest.spans)
+    ∙ h
+
+tells_on : (a b c all : Told) (f g : Found) → b ≡ tell f → c ≡ longer a b → longer a (tell (either f g)) ≡ all → longer c (tell g) ≡ all
+tells_on a b c all f g e put h = ap (λ (u : Told). longer u (tell g)) (put ∙ ap (longer a) e) ∙ longer_again a (tell f) (tell g) ∙ ap (longer a) (sym (tell_either f g)) ∙ h
+
+with_either : (o : Option Span) (p q : Found) → with_range o (λ r. either p q) ≡ either (with_range o (λ r. p)) q
+with_either None p q = refl
+with_either (Some r) p q = refl
 
 -- the next branch
-pub next_branch : (rows : Spans) (branches : List TypedBranch) (i : ℕ) (b : TypedBranch) (other : Spans → Found) (n count steps more total : ℕ) (marks marked : Name → Mark) (s ends later : Spans) (xs : List Name) (all : Found)
-    → i < length branches → b ≡ get_or branches i b → Leads n steps (ranges_after n marks s) all (examine_choices rows (choices_of (drop i branches)) other s)
-    → IsFound more (reset xs ends s) (with_range (range_of (choice_of b).0 s) (λ r. examine rows (choice_of b).1 (narrowed (choice_of b).0 true s)))
-    → xs ≡ read_in (choice_of b).0 ++ assigned (choice_of b).1 → count ≡ n + 1 → total ≡ max steps more
+pub branch_asked : (rows : Spans) (branches : List TypedBranch) (i : ℕ) (b : TypedBranch) (asks : Asked → Asked) (n count : ℕ) (marks marked : Name → Mark) (s ends later q more : Spans) (xs : List Name) (all : Asked)
+    → i < length branches → b ≡ get_or branches i b → met_by n (ranges_after n marks s) (ask_choices rows (choices_of (drop i branches)) asks (point s q)) ≡ all
+    → reset xs ends s ≡ (ask rows (choice_of b).1 (point (narrowed (choice_of b).0 true s) q)).spans → more ≡ (ask rows (choice_of b).1 (point (narrowed (choice_of b).0 true s) q)).rows
+    → xs ≡ read_in (choice_of b).0 ++ assigned (choice_of b).1 → count ≡ n + 1
     → ((others : Spans) → Besides xs s others → ranges_after count marked others ≡ joint n (ranges_after n marks s) (reset xs ends s)) → later ≡ narrowed (choice_of b).0 false s
-    → Leads count total (ranges_after count marked later) all (examine_choices rows (choices_of (drop (i + 1) branches)) other later)
-next_branch rows branches i b other n count steps more total marks marked s ends later xs all lt is h w names next add met put =
+    → met_by count (ranges_after count marked later) (ask_choices rows (choices_of (drop (i + 1) branches)) asks (point later more)) ≡ all
+branch_asked rows branches i b asks n count marks marked s ends later q more xs all lt is h w asked names next meet put =
+    let c = choice_of b in
+    let way = ask rows c.1 (point (narrowed c.0 true s) q) in
+    let rest = λ (u p : Spans). ask_choices rows (choices_of (drop (i + 1) branches)) asks (point u p) in
+    let before = ranges_after n marks s in
+    let besides : Besides xs s later = λ x out. ap (λ (u : Spans). u x) put ∙ narrowed_besides c.0 false s x (not_front x (read_in c.0) (assigned c.1) (subst (λ (ys : List Name). is_in x ys ≡ false) names out)) in
+    meets_on n count before way.spans (ranges_after count marked later) (rest later more) all next (meet later besides ∙ ap (joint n before) w)
+    (ap₂ {C = Asked} (λ u p. met_by n before (met way (rest u p))) put asked ∙ sym (ap (λ (l : List TypedBranch). met_by n before (ask_choices rows (choices_of l) asks (point s q))) (drop_step branches i b lt is)) ∙ h)
+
+pub branch_told : (rows : Spans) (branches : List TypedBranch) (i : ℕ) (b : TypedBranch) (other : Spans → Found) (s later : Spans) (before told total all : Told)
+    → i < length branches → b ≡ get_or branches i b → longer before (tell (examine_choices rows (choices_of (drop i branches)) other s)) ≡ all
+    → told ≡ tell (with_range (range_of (choice_of b).0 s) (λ r. examine rows (choice_of b).1 (narrowed (choice_of b).0 true s))) → total ≡ longer before told → later ≡ narrowed (choice_of b).0 false s
+    → longer total (tell (examine_choices rows (choices_of (drop (i + 1) branches)) other later)) ≡ all
+branch_told rows branches i b other s later before told total all lt is h e sum put =
     let c = choice_of b in
     let rest = λ (u : Spans). examine_choices rows (choices_of (drop (i + 1) branches)) other u in
-    let found = with_range (range_of c.0 s) (λ r. examine rows c.1 (narrowed c.0 true s)) in
-    let before : Leads n steps (ranges_after n marks s) all (either found (rest (narrowed c.0 false s))) = subst (λ (u : Found). Leads n steps (ranges_after n marks s) all u) (next_choice rows branches i b other s lt is) h in
-    let besides : Besides xs s later = λ x out. ap (λ (u : Spans). u x) put ∙ narrowed_besides c.0 false s x (not_front x (read_in c.0) (assigned c.1) (subst (λ (ys : List Name). is_in x ys ≡ false) names out)) in
-    subst (λ (u : Spans). Leads count total (ranges_after count marked later) all (rest u)) (sym put)
-    (leads_on n (ranges_after n marks s) (reset xs ends s) steps more total count marked all found (rest (narrowed c.0 false s)) later before w next add (met later besides))
+    let way = examine rows c.1 (narrowed c.0 true s) in
+    tells_on before told total all (with_range (range_of c.0 s) (λ r. way)) (rest later) e sum
+    (ap (λ (u : Spans). longer before (tell (either (with_range (range_of c.0 s) (λ r. way)) (rest u)))) put
+    ∙ ap (λ (f : Found). longer before (tell f)) (sym (with_either (range_of c.0 s) way (rest (narrowed c.0 false s))))
+    ∙ sym (ap (λ (l : List TypedBranch). longer before (tell (examine_choices rows (choices_of l) other s))) (drop_step branches i b lt is))
+    ∙ h)
 
 -- the next arm
-pub next_arm : (rows : Spans) (arms : List TypedArm) (i : ℕ) (a : TypedArm) (other : Found) (n count steps more total : ℕ) (marks marked : Name → Mark) (s ends : Spans) (xs : List Name) (all : Found)
-    → i < length arms → a ≡ get_or arms i a → Leads n steps (ranges_after n marks s) all (examine_cases rows (cases_of (drop i arms)) other s)
-    → IsFound more (reset xs ends s) (examine rows (case_of a).1 s) → count ≡ n + 1 → total ≡ max steps more
+pub arm_asked : (rows : Spans) (arms : List TypedArm) (i : ℕ) (a : TypedArm) (asks : Asked → Asked) (n count : ℕ) (marks marked : Name → Mark) (s ends q more : Spans) (xs : List Name) (all : Asked)
+    → i < length arms → a ≡ get_or arms i a → met_by n (ranges_after n marks s) (ask_cases rows (cases_of (drop i arms)) asks (point s q)) ≡ all
+    → reset xs ends s ≡ (ask rows (case_of a).1 (point s q)).spans → more ≡ (ask rows (case_of a).1 (point s q)).rows → count ≡ n + 1
     → ((others : Spans) → Besides xs s others → ranges_after count marked others ≡ joint n (ranges_after n marks s) (reset xs ends s))
-    → Leads count total (ranges_after count marked s) all (examine_cases rows (cases_of (drop (i + 1) arms)) other s)
-next_arm rows arms i a other n count steps more total marks marked s ends xs all lt is h w next add met =
-    let rest = examine_cases rows (cases_of (drop (i + 1) arms)) other s in
-    let found = examine rows (case_of a).1 s in
-    let before : Leads n steps (ranges_after n marks s) all (either found rest) = subst (λ (l : List TypedArm). Leads n steps (ranges_after n marks s) all (examine_cases rows (cases_of l) other s)) (drop_step arms i a lt is) h in
-    leads_on n (ranges_after n marks s) (reset xs ends s) steps more total count marked all found rest s before w next add (met s (λ x out. refl))
+    → met_by count (ranges_after count marked s) (ask_cases rows (cases_of (drop (i + 1) arms)) asks (point s more)) ≡ all
+arm_asked rows arms i a asks n count marks marked s ends q more xs all lt is h w asked next meet =
+    let way = ask rows (case_of a).1 (point s q) in
+    let rest = λ (p : Spans). ask_cases rows (cases_of (drop (i + 1) arms)) asks (point s p) in
+    let before = ranges_after n marks s in
+    meets_on n count before way.spans (ranges_after count marked s) (rest more) all next (meet s (λ x out. refl) ∙ ap (joint n before) w)
+    (ap {B = Asked} (λ p. met_by n before (met way (rest p))) asked ∙ sym (ap (λ (l : List TypedArm). met_by n before (ask_cases rows (cases_of l) asks (point s q))) (drop_step arms i a lt is)) ∙ h)
 
--- a way, by what is told of it
-pub way_found : (xs ys : List Name) (s after ends : Spans) (steps more : ℕ) (found : Found) → Besides xs s after → ys ≡ xs → ((base : Spans) → reset xs ends base ≡ reset xs after base) → more ≡ steps → IsFound steps after found → IsFound more (reset ys ends s) found
-way_found xs ys s after ends steps more found h same told e w =
-    record { most = w.most; counts = e ∙ w.counts; finds = w.finds ∙ ap (λ u. Clear u w.most) (sym (ap (λ zs. reset zs ends s) same ∙ ended_at xs s after ends h told)) }
-
--- a condition that has a range
-pub with_some : (o : Option Span) (r : Option Interval) (p : Found) → o ≡ option_map span_of r → is_some r ≡ true → with_range o (λ s. p) ≡ p
-with_some o None p e h = cc
-with_some o (Some r) p e h = ap (λ u. with_range u (λ s. p)) e
+pub arm_told : (rows : Spans) (arms : List TypedArm) (i : ℕ) (a : TypedArm) (other : Found) (s : Spans) (before told total all : Told)
+    → i < length arms → a ≡ get_or arms i a → longer before (tell (examine_cases rows (cases_of (drop i arms)) other s)) ≡ all
+    → told ≡ tell (examine rows (case_of a).1 s) → total ≡ longer before told
+    → longer total (tell (examine_cases rows (cases_of (drop (i + 1) arms)) other s)) ≡ all
+arm_told rows arms i a other s before told total all lt is h e sum =
+    tells_on before told total all (examine rows (case_of a).1 s) (examine_cases rows (cases_of (drop (i + 1) arms)) other s) e sum
+    (sym (ap (λ (l : List TypedArm). longer before (tell (examine_cases rows (cases_of l) other s))) (drop_step arms i a lt is)) ∙ h)

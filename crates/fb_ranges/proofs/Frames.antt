@@ -1,150 +1,92 @@
--- What an examination leaves as it is.
-use Rattle.std.proofs.Common.{◌≡◌, ℕ, zero, suc, ◌+◌, ◌*◌, ℤ, pos, negsuc, Bool, true, false, List, [], ◌∷◌, ◌++◌, Option, Some, None, refl, sym, ap, ap₂, subst, ◌∙◌, arith}
+-- What statements leave as it is.
+use Rattle.std.proofs.Common.{◌≡◌, ℕ, zero, suc, ℤ, pos, negsuc, Bool, true, false, List, [], ◌∷◌, ◌++◌, refl, sym, ap, ap₂, subst, ◌∙◌, arith}
 use Rattle.std.proofs.lemmas.Bool.{eqb-true}
 use Rattle.std.proofs.lemmas.List.{append_assoc}
 use Rattle.std.specs.Prelude.{if◌then◌else◌}
 use Rattle.fb_model.specs.Names.{Name}
 use Rattle.fb_model.specs.TypedText.{Term, constant, read, part, single, double, Command, set, set_part, choose, match_on, count, Commands, done, then_do, Choices, no_choice, choice, Cases, no_case, a_case}
 use Rattle.fb_model.specs.Language.{turn_count}
-use Rattle.fb_model.specs.Spans.{Span, span, within, joined}
-use Rattle.fb_model.specs.Clear.{Spans, Found, Clear, Leaves, Traps, changed, range_of, narrowed, onward, costing, with_range, either, is_idle, assigned_one, assigned, assigned_choices, assigned_cases, are_kept, reset, most_turns, taken, left_with, looped, examine_one, examine, examine_choices, examine_cases}
+use Rattle.fb_model.specs.Spans.{Span, span, joined}
+use Rattle.fb_model.specs.Clear.{Spans, changed, narrowed, is_idle, assigned_one, assigned, assigned_choices, assigned_cases, reset, most_turns, left_with}
 use Rattle.fb_model.proofs.Names.{not_first, not_later, not_front, not_back}
+use Rattle.fb_asking.specs.Asking.{Asked, point, range_in, asked_loop, ask_one, ask, ask_choices, ask_cases}
 use Rattle.fb_ranges.specs.Meeting.{Besides}
 use Rattle.fb_ranges.proofs.Covers.{joined_same, narrowed_cover}
 
--- where all is clear, the ranges of other variables than these are as before
-abbrev pub Frames : List Name → Spans → Found → Type 0
-Frames xs before (Clear after n) = Besides xs before after
-Frames xs before Leaves = Unit {0}
-Frames xs before Traps = Unit {0}
-
-costing_frames : (xs : List Name) (s : Spans) (n : ℕ) (found : Found) → Frames xs s found → Frames xs s (costing n found)
-costing_frames xs s n (Clear after m) h = h
-costing_frames xs s n Leaves h = tt
-costing_frames xs s n Traps h = tt
-
-with_range_frames : (xs : List Name) (s : Spans) (o : Option Span) (f : Span → Found) → ((r : Span) → Frames xs s (f r)) → Frames xs s (with_range o f)
-with_range_frames xs s None f h = tt
-with_range_frames xs s (Some r) f h = h r
-
-onward_frames : (xs ys : List Name) (s : Spans) (found : Found) (f : Spans → Found) → Frames xs s found → ((t : Spans) → Frames ys t (f t)) → Frames (xs ++ ys) s (onward found f)
-onward_frames xs ys s (Clear after n) f h k = by (f after) (k after) where
-  by : (found : Found) → Frames ys after found → Frames (xs ++ ys) s (elim found as (λ v. Found) [ Clear end m ↦ Clear end (n + m) | Leaves ↦ Leaves | Traps ↦ Traps ])
-  by (Clear end m) g = λ y out. g y (not_back y xs ys out) ∙ h y (not_front y xs ys out)
-  by Leaves g = tt
-  by Traps g = tt
-onward_frames xs ys s Leaves f h k = tt
-onward_frames xs ys s Traps f h k = tt
+-- one thing after another
+besides_on : (xs ys : List Name) (s t u : Spans) → Besides xs s t → Besides ys t u → Besides (xs ++ ys) s u
+besides_on xs ys s t u h k = λ y out. k y (not_back y xs ys out) ∙ h y (not_front y xs ys out)
 
 -- two ways, from ranges that make up those before
-either_frames : (xs ys : List Name) (s t u : Spans) (p q : Found) → ((y : Name) → joined (t y) (u y) ≡ s y) → Frames xs t p → Frames ys u q → Frames (xs ++ ys) s (either p q)
-either_frames xs ys s t u (Clear a n) (Clear b m) cover h k = λ y out. ap₂ joined (h y (not_front y xs ys out)) (k y (not_back y xs ys out)) ∙ cover y
-either_frames xs ys s t u (Clear a n) Leaves cover h k = tt
-either_frames xs ys s t u (Clear a n) Traps cover h k = tt
-either_frames xs ys s t u Leaves q cover h k = tt
-either_frames xs ys s t u Traps q cover h k = tt
+besides_both : (xs ys : List Name) (s t u p q : Spans) → ((y : Name) → joined (t y) (u y) ≡ s y) → Besides xs t p → Besides ys u q → Besides (xs ++ ys) s (λ x. joined (p x) (q x))
+besides_both xs ys s t u p q cover h k = λ y out. ap₂ joined (h y (not_front y xs ys out)) (k y (not_back y xs ys out)) ∙ cover y
 
-looped_frames : (n : ℕ) (xs : List Name) (rows : Spans) (f : Spans → Found) (x : Name) (r s : Span) (k : ℤ) (spans : Spans) → Frames (x ∷ xs) spans (looped n xs rows f x r s k spans)
-looped_frames zero xs rows f x r s k spans = λ y out. refl
-looped_frames (suc n) xs rows f x r s k spans = by (are_kept xs rows spans) (f (changed x (λ b. taken r s k (suc n)) (reset xs rows spans))) where
-  left : Spans
-  left = changed x (left_with r s k (suc n)) (reset xs rows spans)
+loop_besides : (n : ℕ) (xs : List Name) (rows : Spans) (f : Asked → Asked) (x : Name) (r s : Span) (k : ℤ) (a : Asked) → Besides (x ∷ xs) a.spans (asked_loop n xs rows f x r s k a).spans
+loop_besides zero xs rows f x r s k a = λ y out. refl
+loop_besides (suc n) xs rows f x r s k a = λ y out.
+    ap (λ b. if b then left_with r s k (suc n) (reset xs rows a.spans y) else reset xs rows a.spans y) (not_first x y xs out)
+    ∙ ap (λ b. if b then rows y else a.spans y) (not_later x y xs out)
 
-  besides : Besides (x ∷ xs) spans left
-  besides y out =
-      ap (λ b. if b then left_with r s k (suc n) (reset xs rows spans y) else reset xs rows spans y) (not_first x y xs out)
-      ∙ ap (λ b. if b then rows y else spans y) (not_later x y xs out)
-
-  closing : (m : ℕ) (b : Bool) → Frames (x ∷ xs) spans (if b then Clear left (1 + suc n * (1 + m)) else Leaves)
-  closing m true = besides
-  closing m false = tt
-
-  by : (b : Bool) (found : Found) → Frames (x ∷ xs) spans (if b then (elim found [
-    | Clear end m ↦ if are_kept xs rows end then Clear left (1 + suc n * (1 + m)) else Leaves
-    | Leaves ↦ Leaves
-    | Traps ↦ Traps
-  ]) else Leaves)
-  by true (Clear end m) = closing m (are_kept xs rows end)
-  by true Leaves = tt
-  by true Traps = tt
-  by false found = tt
-
-looped_none : (n : ℕ) (xs : List Name) (rows : Spans) (f : Spans → Found) (x : Name) (r s : Span) (k : ℤ) (spans : Spans) → n ≡ 0 → Frames xs spans (looped n xs rows f x r s k spans)
-looped_none zero xs rows f x r s k spans e = λ y out. refl
-looped_none (suc n) xs rows f x r s k spans e = absurd (omega (arith, e))
+loop_none : (n : ℕ) (xs : List Name) (rows : Spans) (f : Asked → Asked) (x : Name) (r s : Span) (k : ℤ) (a : Asked) → n ≡ 0 → Besides xs a.spans (asked_loop n xs rows f x r s k a).spans
+loop_none zero xs rows f x r s k a e = λ y out. refl
+loop_none (suc n) xs rows f x r s k a e = absurd (omega (arith, e))
 
 most_between : (a b k : ℤ) → most_turns (span a a) (span b b) k ≡ turn_count a b k
 most_between a b (pos n) = refl
 most_between a b (negsuc n) = refl
 
 -- a FOR
-count_frames : (x : Name) (e g : Term) (k : ℤ) (plain : Bool) (xs : List Name) (rows : Spans) (f : Spans → Found) (spans : Spans)
-    → Frames (if is_idle plain e g k then xs else x ∷ xs) spans (with_range (range_of e spans) (λ r. with_range (range_of g spans) (λ s. looped (most_turns r s k) xs rows f x r s k spans)))
-count_frames x e g k plain xs rows f spans = by (is_idle plain e g k) refl where
-  some : Frames (x ∷ xs) spans (with_range (range_of e spans) (λ r. with_range (range_of g spans) (λ s. looped (most_turns r s k) xs rows f x r s k spans)))
-  some =
-      with_range_frames (x ∷ xs) spans (range_of e spans) (λ r. with_range (range_of g spans) (λ s. looped (most_turns r s k) xs rows f x r s k spans))
-      (λ r. with_range_frames (x ∷ xs) spans (range_of g spans) (λ s. looped (most_turns r s k) xs rows f x r s k spans) (λ s. looped_frames (most_turns r s k) xs rows f x r s k spans))
+count_besides : (x : Name) (e g : Term) (k : ℤ) (plain : Bool) (xs : List Name) (rows : Spans) (f : Asked → Asked) (a : Asked)
+    → Besides (if is_idle plain e g k then xs else x ∷ xs) a.spans (asked_loop (most_turns (range_in e a.spans) (range_in g a.spans) k) xs rows f x (range_in e a.spans) (range_in g a.spans) k a).spans
+count_besides x e g k plain xs rows f a = by (is_idle plain e g k) refl where
+  end : Spans
+  end = (asked_loop (most_turns (range_in e a.spans) (range_in g a.spans) k) xs rows f x (range_in e a.spans) (range_in g a.spans) k a).spans
 
-  none : (plain : Bool) (e g : Term) → is_idle plain e g k ≡ true → Frames xs spans (with_range (range_of e spans) (λ r. with_range (range_of g spans) (λ s. looped (most_turns r s k) xs rows f x r s k spans)))
-  none true (constant a) (constant b) h = looped_none (most_turns (span a a) (span b b) k) xs rows f x (span a a) (span b b) k spans (most_between a b k ∙ eqb-true (turn_count a b k) 0 h)
-  none true (constant a) (read z) h = cc
-  none true (constant a) (part z low high i) h = cc
-  none true (constant a) (single o c i) h = cc
-  none true (constant a) (double o c i j) h = cc
+  none : (plain : Bool) (e g : Term) → is_idle plain e g k ≡ true → Besides xs a.spans (asked_loop (most_turns (range_in e a.spans) (range_in g a.spans) k) xs rows f x (range_in e a.spans) (range_in g a.spans) k a).spans
+  none true (constant b) (constant c) h = loop_none (most_turns (span b b) (span c c) k) xs rows f x (span b b) (span c c) k a (most_between b c k ∙ eqb-true (turn_count b c k) 0 h)
+  none true (constant b) (read z) h = cc
+  none true (constant b) (part z low high i) h = cc
+  none true (constant b) (single o c i) h = cc
+  none true (constant b) (double o c i j) h = cc
   none true (read z) g h = cc
   none true (part z low high i) g h = cc
   none true (single o c i) g h = cc
   none true (double o c i j) g h = cc
   none false e g h = cc
 
-  by : (b : Bool) → is_idle plain e g k ≡ b → Frames (if b then xs else x ∷ xs) spans (with_range (range_of e spans) (λ r. with_range (range_of g spans) (λ s. looped (most_turns r s k) xs rows f x r s k spans)))
+  by : (b : Bool) → is_idle plain e g k ≡ b → Besides (if b then xs else x ∷ xs) a.spans end
   by true h = none plain e g h
-  by false h = some
+  by false h = loop_besides (most_turns (range_in e a.spans) (range_in g a.spans) k) xs rows f x (range_in e a.spans) (range_in g a.spans) k a
 
--- ---- statements
-
-set_frames : (x : Name) (s : Spans) (r : Span) → Besides (x ∷ []) s (changed x (λ b. r) s)
-set_frames x s r y out = ap (λ b. if b then r else s y) (not_first x y [] out)
-
-part_frames : (a b : Bool) (s : Spans) → Frames [] s (if a then (if b then Clear s 1 else Leaves) else Traps)
-part_frames true true s = λ y out. refl
-part_frames true false s = tt
-part_frames false b s = tt
+set_besides : (x : Name) (s : Spans) (r : Span) → Besides (x ∷ []) s (changed x (λ b. r) s)
+set_besides x s r y out = ap (λ b. if b then r else s y) (not_first x y [] out)
 
 mutual
-  pub examine_one_frames : (rows : Spans) (c : Command) (s : Spans) → Frames (assigned_one c) s (examine_one rows c s)
-  examine_one_frames rows (set x e) s = with_range_frames (x ∷ []) s (range_of e s) (λ r. Clear (changed x (λ b. r) s) 1) (set_frames x s)
-  examine_one_frames rows (set_part x low high i e) s =
-      with_range_frames [] s (range_of i s) (λ k. with_range (range_of e s) (λ r. if within k (span low high) then (if within r (rows x) then Clear s 1 else Leaves) else Traps))
-      (λ k. with_range_frames [] s (range_of e s) (λ r. if within k (span low high) then (if within r (rows x) then Clear s 1 else Leaves) else Traps) (λ r. part_frames (within k (span low high)) (within r (rows x)) s))
-  examine_one_frames rows (choose choices other) s =
-      costing_frames (assigned_choices choices ++ assigned other) s 1 (examine_choices rows choices (examine rows other) s)
-      (examine_choices_frames rows choices (examine rows other) (assigned other) (λ t. examine_frames rows other t) s)
-  examine_one_frames rows (match_on e cases other) s =
-      with_range_frames (assigned_cases cases ++ assigned other) s (range_of e s) (λ r. costing 1 (examine_cases rows cases (examine rows other s) s))
-      (λ r. costing_frames (assigned_cases cases ++ assigned other) s 1 (examine_cases rows cases (examine rows other s) s) (examine_cases_frames rows cases (examine rows other s) (assigned other) s (examine_frames rows other s)))
-  examine_one_frames rows (count x a e g k plain body) s = count_frames x e g k plain (assigned body) rows (examine rows body) s
+  one_besides : (rows : Spans) (c : Command) (a : Asked) → Besides (assigned_one c) a.spans (ask_one rows c a).spans
+  one_besides rows (set x e) a = set_besides x a.spans (range_in e a.spans)
+  one_besides rows (set_part x low high i e) a = λ y out. refl
+  one_besides rows (choose choices other) a = choices_besides rows choices (ask rows other) (assigned other) (λ b. all_besides rows other b) a
+  one_besides rows (match_on e cases other) a = cases_besides rows cases (ask rows other) (assigned other) (λ b. all_besides rows other b) a
+  one_besides rows (count x kind e g k plain body) a = count_besides x e g k plain (assigned body) rows (ask rows body) a
 
-  pub examine_frames : (rows : Spans) (a : Commands) (s : Spans) → Frames (assigned a) s (examine rows a s)
-  examine_frames rows done s = λ y out. refl
-  examine_frames rows (then_do c cs) s = onward_frames (assigned_one c) (assigned cs) s (examine_one rows c s) (examine rows cs) (examine_one_frames rows c s) (λ t. examine_frames rows cs t)
+  -- the ranges of other variables than these are as before
+  pub all_besides : (rows : Spans) (c : Commands) (a : Asked) → Besides (assigned c) a.spans (ask rows c a).spans
+  all_besides rows done a = λ y out. refl
+  all_besides rows (then_do c cs) a = besides_on (assigned_one c) (assigned cs) a.spans (ask_one rows c a).spans (ask rows cs (ask_one rows c a)).spans (one_besides rows c a) (all_besides rows cs (ask_one rows c a))
 
-  examine_choices_frames : (rows : Spans) (choices : Choices) (other : Spans → Found) (ys : List Name) → ((t : Spans) → Frames ys t (other t)) → (s : Spans) → Frames (assigned_choices choices ++ ys) s (examine_choices rows choices other s)
-  examine_choices_frames rows no_choice other ys h s = h s
-  examine_choices_frames rows (choice e body rest) other ys h s =
-      subst (λ xs. Frames xs s (examine_choices rows (choice e body rest) other s)) (sym (append_assoc (assigned body) (assigned_choices rest) ys))
-      (with_range_frames (assigned body ++ (assigned_choices rest ++ ys)) s (range_of e s) (λ r. either (examine rows body (narrowed e true s)) (examine_choices rows rest other (narrowed e false s)))
-      (λ r. either_frames (assigned body) (assigned_choices rest ++ ys) s (narrowed e true s) (narrowed e false s) (examine rows body (narrowed e true s)) (examine_choices rows rest other (narrowed e false s))
-      (narrowed_cover e s) (examine_frames rows body (narrowed e true s)) (examine_choices_frames rows rest other ys h (narrowed e false s))))
+  choices_besides : (rows : Spans) (choices : Choices) (asks : Asked → Asked) (ys : List Name) → ((b : Asked) → Besides ys b.spans (asks b).spans) → (a : Asked) → Besides (assigned_choices choices ++ ys) a.spans (ask_choices rows choices asks a).spans
+  choices_besides rows no_choice asks ys h a = h a
+  choices_besides rows (choice e body rest) asks ys h a =
+      let begin = point (narrowed e true a.spans) a.rows in
+      let others = point (narrowed e false a.spans) (ask rows body begin).rows in
+      subst (λ (xs : List Name). Besides xs a.spans (ask_choices rows (choice e body rest) asks a).spans) (sym (append_assoc (assigned body) (assigned_choices rest) ys))
+      (besides_both (assigned body) (assigned_choices rest ++ ys) a.spans begin.spans others.spans (ask rows body begin).spans (ask_choices rows rest asks others).spans
+      (narrowed_cover e a.spans) (all_besides rows body begin) (choices_besides rows rest asks ys h others))
 
-  examine_cases_frames : (rows : Spans) (cases : Cases) (other : Found) (ys : List Name) (s : Spans) → Frames ys s other → Frames (assigned_cases cases ++ ys) s (examine_cases rows cases other s)
-  examine_cases_frames rows no_case other ys s h = h
-  examine_cases_frames rows (a_case labels body rest) other ys s h =
-      subst (λ xs. Frames xs s (examine_cases rows (a_case labels body rest) other s)) (sym (append_assoc (assigned body) (assigned_cases rest) ys))
-      (either_frames (assigned body) (assigned_cases rest ++ ys) s s s (examine rows body s) (examine_cases rows rest other s)
-      (λ y. joined_same (s y)) (examine_frames rows body s) (examine_cases_frames rows rest other ys s h))
-
--- an examination that is clear
-pub clear_frames : (rows : Spans) (a : Commands) (s after : Spans) (n : ℕ) → examine rows a s ≡ Clear after n → Besides (assigned a) s after
-clear_frames rows a s after n e = subst (Frames (assigned a) s) e (examine_frames rows a s)
+  cases_besides : (rows : Spans) (cases : Cases) (asks : Asked → Asked) (ys : List Name) → ((b : Asked) → Besides ys b.spans (asks b).spans) → (a : Asked) → Besides (assigned_cases cases ++ ys) a.spans (ask_cases rows cases asks a).spans
+  cases_besides rows no_case asks ys h a = h a
+  cases_besides rows (a_case labels body rest) asks ys h a =
+      let others = point a.spans (ask rows body a).rows in
+      subst (λ (xs : List Name). Besides xs a.spans (ask_cases rows (a_case labels body rest) asks a).spans) (sym (append_assoc (assigned body) (assigned_cases rest) ys))
+      (besides_both (assigned body) (assigned_cases rest ++ ys) a.spans a.spans a.spans (ask rows body a).spans (ask_cases rows rest asks others).spans
+      (λ y. joined_same (a.spans y)) (all_besides rows body a) (cases_besides rows rest asks ys h others))

@@ -1,5 +1,5 @@
 -- Ranges that are copied and set, a name at a time.
-use Rattle.std.proofs.Common.{◌≡◌, ℕ, zero, suc, ◌+◌, ◌<◌, Bool, true, false, ◌||◌, List, [], ◌∷◌, ◌++◌, length, take, get_or, Some, refl, sym, ap, ap₂, ◌∙◌, arith}
+use Rattle.std.proofs.Common.{◌≡◌, ℕ, zero, suc, ◌+◌, ◌<◌, Bool, true, false, ◌||◌, List, [], ◌∷◌, ◌++◌, length, take, drop, get_or, Some, refl, sym, ap, ap₂, ◌∙◌, arith}
 use Rattle.std.proofs.Math.Path.{fun_ext}
 use Rattle.std.specs.Prelude.{if◌then◌else◌, string_bytes, slice_get}
 use Rattle.std.specs.List.{AllZip}
@@ -13,6 +13,8 @@ use Rattle.fb_model.proofs.Lists.{same_name}
 use Rattle.fb_model.specs.Spans.{Span}
 use Rattle.fb_model.specs.Clear.{Spans, changed, reset}
 use Rattle.fb_model.proofs.Names.{eq_turned}
+use Rattle.st_types.proofs.Gathering.{drop_step}
+use Rattle.fb_asking.specs.Asking.{asking, asking_all}
 use Rattle.fb_intervals.specs.declared.interval.Interval.{Interval}
 use Rattle.fb_ranges.specs.Meeting.{Besides}
 use Rattle.fb_ranges.specs.Views.{row_of, spans_in, names_in}
@@ -124,3 +126,12 @@ next_name names i n rows before now old x r lt is name range start put =
     ∙ ap (λ z. changed (string_bytes n) (λ s. rows (string_bytes n)) z) start
     ∙ sym (reset_push (busy_of (take i names)) (string_bytes n) rows old)
     ∙ ap (λ ns. reset ns rows old) (sym (ap busy_of (take_more names i n lt ∙ ap (λ m. take i names ++ m ∷ []) (sym is)) ∙ map_push string_bytes (take i names) n))
+
+-- the row of the next of listed variables is asked to hold what it has
+pub next_ask : (names : List (String Global)) (i : ℕ) (n : String Global) (spans before now all : Spans) (x : Name) (r : Span)
+    → i < length names → n ≡ get_or names i n → x ≡ string_bytes n → r ≡ spans x → asking_all (busy_of (drop i names)) spans before ≡ all → now ≡ asking x r before
+    → asking_all (busy_of (drop (i + 1) names)) spans now ≡ all
+next_ask names i n spans before now all x r lt is name range h put =
+    ap (asking_all (busy_of (drop (i + 1) names)) spans) (put ∙ ap₂ (λ y z. asking y z before) name (range ∙ ap spans name))
+    ∙ ap (λ (l : List (String Global)). asking_all (busy_of l) spans before) (sym (drop_step names i n lt is))
+    ∙ h

@@ -6,6 +6,7 @@ pub mod Joins
 pub mod Covers
 pub mod Frames
 pub mod Ways
+pub mod Telling
 pub mod Blocks
 pub mod Branches
 pub mod Laws

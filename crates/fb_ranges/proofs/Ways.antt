@@ -1,5 +1,5 @@
 -- Ways that meet.
-use Rattle.std.proofs.Common.{◌≡◌, ℕ, zero, suc, ◌+◌, ◌<◌, ◌≤◌, max, nat_lt, Bool, true, false, ◌||◌, List, [], ◌∷◌, ◌++◌, length, take, get_or, Option, Some, None, refl, sym, ap, ap₂, ◌∙◌, arith}
+use Rattle.std.proofs.Common.{◌≡◌, ℕ, zero, suc, ◌+◌, ◌<◌, ◌≤◌, nat_lt, Bool, true, false, ◌||◌, List, [], ◌∷◌, ◌++◌, length, take, get_or, Option, Some, None, refl, sym, ap, ap₂, ◌∙◌, arith}
 use Rattle.std.proofs.Math.Path.{fun_ext}
 use Rattle.std.proofs.lemmas.List.{map_push, take_more}
 use Rattle.std.specs.Prelude.{if◌then◌else◌, string_bytes}
@@ -10,66 +10,23 @@ use Rattle.std.specs.declared.string.String.{String}
 use Rattle.std.specs.declared.alloc.Global.{Global}
 use Rattle.fb_model.specs.Names.{Name, is_in}
 use Rattle.fb_model.specs.Spans.{Span, joined}
-use Rattle.fb_model.specs.Clear.{Spans, Found, Clear, Leaves, Traps, either, reset}
+use Rattle.fb_model.specs.Clear.{Spans, reset}
 use Rattle.fb_model.proofs.Lists.{same_name}
 use Rattle.fb_model.proofs.Names.{eq_turned}
 use Rattle.st_types.specs.CommandViews.{busy_of}
 use Rattle.fb_ranges.specs.declared.way.Reached.{Reached}
-use Rattle.fb_ranges.specs.declared.fault.RangeFault.{RangeFault}
-use Rattle.fb_ranges.specs.declared.fault.RangeFault.TheVariants as f
-use Rattle.fb_ranges.specs.Finding.{Fails, IsFound}
-use Rattle.fb_ranges.specs.Meeting.{Besides, Dated, Leads, Mark, joint, marked, met, ranges_after, row_after}
-use Rattle.fb_ranges.specs.Steps.{counted}
+use Rattle.fb_ranges.specs.Meeting.{Besides, Dated, Mark, joint, marked, met, ranges_after, row_after}
 use Rattle.fb_intervals.specs.Views.{span_of}
 use Rattle.fb_ranges.specs.Views.{mark_in, names_in}
 use Rattle.fb_ranges.proofs.Covers.{joined_same, joined_again, joined_twice}
 use Rattle.fb_ranges.proofs.Joins.{in_push}
 
--- ---- what is found
+-- ---- all ways
 
-either_again : (s t : Spans) (n m : ℕ) (rest : Found) → either (Clear s n) (either (Clear t m) rest) ≡ either (Clear (λ x. joined (s x) (t x)) (max n m)) rest
-either_again s t n m (Clear u k) = ap₂ Clear (fun_ext (λ x. joined_again (s x) (t x) (u x))) (let e : max n (max m k) ≡ max (max n m) k = omega arith in e)
-either_again s t n m Leaves = refl
-either_again s t n m Traps = refl
-
-longest : (n m : ℕ) → max (counted n) (counted m) ≡ counted (max n m)
-longest n m = omega arith
-
--- a way behind i earlier ones
-pub meets_next : (i : ℕ) (s t : Spans) (a b l : ℕ) (all found rest : Found) → Leads i a s all (either found rest) → IsFound b t found → l ≡ max a b → Leads (suc i) l (joint i s t) all rest
-meets_next zero s t a b l all found rest h w k = (w.most, k ∙ ap₂ max h.0 w.counts ∙ (let e : max 0 (counted w.most) ≡ counted w.most = omega arith in e), h.1 ∙ ap (λ g. either g rest) w.finds)
-meets_next (suc i) s t a b l all found rest h w k = (
-  max h.0 w.most,
-  k ∙ ap₂ max h.1 w.counts ∙ longest h.0 w.most,
-  h.2 ∙ ap (λ g. either (Clear s h.0) (either g rest)) w.finds ∙ either_again s t h.0 w.most rest,
-)
-
--- and the last one
-pub meets_last : (i : ℕ) (s t : Spans) (a b l : ℕ) (all found : Found) → Leads i a s all found → IsFound b t found → l ≡ max a b → IsFound l (joint i s t) all
-meets_last zero s t a b l all found h w k = record { most = w.most; counts = k ∙ ap₂ max h.0 w.counts ∙ (let e : max 0 (counted w.most) ≡ counted w.most = omega arith in e); finds = h.1 ∙ w.finds }
-meets_last (suc i) s t a b l all found h w k =
-    record {
-      most = max h.0 w.most;
-      counts = k ∙ ap₂ max h.1 w.counts ∙ longest h.0 w.most;
-      finds = h.2 ∙ ap (λ g. either (Clear s h.0) g) w.finds;
-    }
-
--- a way that is not clear
-pub meets_fails : (i : ℕ) (s : Spans) (a : ℕ) (e : RangeFault) (all found rest : Found) → Leads i a s all (either found rest) → Fails e found → Fails e all
-meets_fails zero s a f.Leaves all found rest h w = h.1 ∙ ap (λ g. either g rest) w
-meets_fails zero s a f.Traps all found rest h w = h.1 ∙ ap (λ g. either g rest) w
-meets_fails zero s a f.OutOfMemory all found rest h w = tt
-meets_fails (suc i) s a f.Leaves all found rest h w = h.2 ∙ ap (λ g. either (Clear s h.0) (either g rest)) w
-meets_fails (suc i) s a f.Traps all found rest h w = h.2 ∙ ap (λ g. either (Clear s h.0) (either g rest)) w
-meets_fails (suc i) s a f.OutOfMemory all found rest h w = tt
-
-pub last_fails : (i : ℕ) (s : Spans) (a : ℕ) (e : RangeFault) (all found : Found) → Leads i a s all found → Fails e found → Fails e all
-last_fails zero s a f.Leaves all found h w = h.1 ∙ w
-last_fails zero s a f.Traps all found h w = h.1 ∙ w
-last_fails zero s a f.OutOfMemory all found h w = tt
-last_fails (suc i) s a f.Leaves all found h w = h.2 ∙ ap (either (Clear s h.0)) w
-last_fails (suc i) s a f.Traps all found h w = h.2 ∙ ap (either (Clear s h.0)) w
-last_fails (suc i) s a f.OutOfMemory all found h w = tt
+-- one more way, before those that are still to be examined
+pub joint_again : (i : ℕ) (s t u : Spans) → joint (i + 1) (joint i s t) u ≡ joint i s (λ x. joined (t x) (u x))
+joint_again zero s t u = refl
+joint_again (suc i) s t u = ap (λ n. joint n (joint (suc i) s t) u) (let e : suc i + 1 ≡ suc (suc i) = omega arith in e) ∙ fun_ext (λ x. sym (joined_again (s x) (t x) (u x)))
 
 -- ---- one variable
 

@@ -1,36 +1,44 @@
--- What the code finds, in the words of the definitions.
-use Rattle.std.specs.Prelude.{◌≡◌, ℕ, Result, Ok, Err}
-use Rattle.fb_model.specs.Clear.{Spans, Found, Clear, Leaves, Traps, reset}
-use Rattle.st_types.specs.CommandViews.{busy_of}
-use Rattle.fb_ranges.specs.declared.fault.RangeFault.{RangeFault}
-use Rattle.fb_ranges.specs.declared.fault.RangeFault.TheVariants as f
-use Rattle.fb_ranges.specs.declared.way.Way.{Way}
+-- What the code tells of what is found.
+use Rattle.std.specs.Prelude.{ℕ, ◌+◌, ◌*◌, max, Bool, true, false, if◌then◌else◌}
+use Rattle.fb_model.specs.Clear.{Found, Clear, Leaves, Traps}
+use Rattle.fb_ranges.specs.declared.told.Told.{Told}
+use Rattle.fb_ranges.specs.declared.told.Told.TheVariants as t
 use Rattle.fb_ranges.specs.Steps.{counted}
-use Rattle.fb_ranges.specs.Views.{spans_of}
 
--- what is found is clear, with these ranges, and with steps that are told apart so
-pub record IsFound (steps : ℕ) (spans : Spans) (found : Found) : Type 0 where
-  pub most : ℕ
-  pub counts : steps ≡ counted most
-  pub finds : found ≡ Clear spans most
+-- the steps as they are told apart, or the fault
+abbrev pub tell : Found → Told
+tell (Clear spans n) = t.Steps (counted n)
+tell Leaves = t.Leaves
+tell Traps = t.Traps
 
--- a fault is the one that is found, unless memory ran out
-abbrev pub Fails : RangeFault → Found → Type 0
-Fails f.Leaves found = found ≡ Leaves
-Fails f.Traps found = found ≡ Traps
-Fails f.OutOfMemory found = Unit {0}
+-- of one thing after another: the first fault, or the steps of both
+abbrev pub in_turn : Told → Told → Told
+in_turn (t.Steps n) (t.Steps m) = t.Steps (counted (n + m))
+in_turn (t.Steps n) next = next
+in_turn t.Leaves next = t.Leaves
+in_turn t.Traps next = t.Traps
 
--- the steps, with the ranges that are left
-abbrev pub Finds : Result ℕ RangeFault → Spans → Found → Type 0
-Finds (Ok steps) spans found = IsFound steps spans found
-Finds (Err e) spans found = Fails e found
+-- of one way or another: the first fault, or the steps of the longer
+abbrev pub longer : Told → Told → Told
+longer (t.Steps n) (t.Steps m) = t.Steps (max n m)
+longer (t.Steps n) other = other
+longer t.Leaves other = t.Leaves
+longer t.Traps other = t.Traps
 
--- the steps alone
-abbrev pub Costs : Result ℕ RangeFault → Found → Type 0
-Costs (Ok steps) found = (end : Spans) × IsFound steps end found
-Costs (Err e) found = Fails e found
+-- behind an expression, which is clear or not
+abbrev pub trapping : Bool → Told → Told
+trapping true told = told
+trapping false told = t.Traps
 
--- a way from these ranges
-abbrev pub FindsWay : Result Way RangeFault → Spans → Found → Type 0
-FindsWay (Ok way) before found = IsFound way.steps (reset (busy_of way.names.items) (spans_of way.ends) before) found
-FindsWay (Err e) before found = Fails e found
+-- before a test whether variables keep their rows
+abbrev pub keeping : Bool → Told → Told
+keeping kept (t.Steps n) = if kept then t.Steps n else t.Leaves
+keeping kept t.Leaves = t.Leaves
+keeping kept t.Traps = t.Traps
+
+-- of n turns, by whether variables keep their rows before them, and by what is told of one turn
+abbrev pub turned : ℕ → Bool → Told → Told
+turned n true (t.Steps m) = t.Steps (counted (1 + n * (1 + m)))
+turned n true t.Leaves = t.Leaves
+turned n true t.Traps = t.Traps
+turned n false told = t.Leaves

@@ -2,8 +2,8 @@
 use Rattle.std.specs.Prelude.{◌≡◌, ℕ, zero, suc, ◌+◌, ◌<◌, ◌≤◌, nat_lt, false, List, Option, None, Some, if◌then◌else◌}
 use Rattle.fb_model.specs.Names.{Name, is_in}
 use Rattle.fb_model.specs.Spans.{Span, joined}
-use Rattle.fb_model.specs.Clear.{Spans, Found, Clear, either}
-use Rattle.fb_ranges.specs.Steps.{counted}
+use Rattle.fb_model.specs.Clear.{Spans}
+use Rattle.fb_asking.specs.Asking.{Asked, point}
 
 -- ranges are the same, but for those of these variables
 abbrev pub Besides : List Name → Spans → Spans → Type 0
@@ -40,7 +40,6 @@ abbrev pub joint : ℕ → Spans → Spans → Spans
 joint zero spans ends = ends
 joint (suc i) spans ends = λ x. joined (spans x) (ends x)
 
--- i earlier ways, with their steps and ranges, before what is still to be examined
-abbrev pub Leads : ℕ → ℕ → Spans → Found → Found → Type 0
-Leads zero steps spans all rest = (steps ≡ 0) × (all ≡ rest)
-Leads (suc i) steps spans all rest = (n : ℕ) × (steps ≡ counted n) × (all ≡ either (Clear spans n) rest)
+-- i earlier ways with these ranges, before those that are still to be examined
+abbrev pub met_by : ℕ → Spans → Asked → Asked
+met_by i spans rest = point (joint i spans rest.spans) rest.rows

@@ -1,5 +1,5 @@
 -- What the code's ranges are in the book.
-use Rattle.std.specs.Prelude.{map, string_bytes, List, [], ◌∷◌, Option, Some}
+use Rattle.std.specs.Prelude.{map, string_bytes, List, [], ◌∷◌, Option, None, Some, if◌then◌else◌}
 use Rattle.std.specs.Option.{option_map, unwrap_or}
 use Rattle.std.specs.Map.{lookup}
 use Rattle.std.specs.Str.{bytes_eq}
@@ -13,6 +13,8 @@ use Rattle.st_types.specs.Views.{Tail}
 use Rattle.fb_model.specs.Clear.{Spans, range_of}
 use Rattle.fb_intervals.specs.declared.interval.Interval.{Interval}
 use Rattle.fb_intervals.specs.Views.{span_of}
+use Rattle.fb_asking.specs.Asking.{range_in}
+use Rattle.fb_ranges.specs.declared.expression.Ranged.{Ranged}
 use Rattle.fb_ranges.specs.declared.rows.Ranges.{Ranges}
 use Rattle.fb_ranges.specs.declared.way.Reached.{Reached}
 use Rattle.fb_ranges.specs.declared.way.Ways.{Ways}
@@ -33,6 +35,15 @@ spans_of ranges = spans_in ranges.rows.entries
 abbrev pub linked : Spans → List Tail → Span → Option Span
 linked spans [] r = Some r
 linked spans (l ∷ ls) r = given (range_of l.2 spans) (λ s. given (range_two l.0 l.1 r s) (linked spans ls))
+
+-- and its range, whatever the operands and divisors are
+abbrev pub linked_in : Spans → List Tail → Span → Span
+linked_in spans [] r = r
+linked_in spans (l ∷ ls) r = linked_in spans ls (unwrap_or (range_two l.0 l.1 r (range_in l.2 spans)) (whole l.1))
+
+-- the range of an expression that is clear
+abbrev pub clear_range : Ranged → Option Span
+clear_range e = if e.is_clear then Some (span_of e.range) else None
 
 -- the variables that have a row
 abbrev pub names_in : {A : Type 0} → List (String Global × A) → List Name

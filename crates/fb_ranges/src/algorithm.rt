@@ -1,32 +1,41 @@
-//! Algorithms that are clear.
+//! Algorithms that are clear, and what algorithms ask.
 
 ghost use Rattle.std.specs.Prelude.{◌≡◌, IfOk};
 ghost use Rattle.fb_model.specs.Clear as book;
+ghost use Rattle.fb_asking.specs.Asking.{grown};
 ghost use Rattle.st_types.specs.CommandViews.{commands_of};
 ghost use Rattle.fb_ranges.specs.Answers.{IsExamined, most_steps};
-ghost use Rattle.fb_ranges.specs.Finding.{Costs};
+ghost use Rattle.fb_ranges.specs.Finding.{tell};
 ghost use Rattle.fb_ranges.specs.Views.{spans_of};
 
 use crate::assigned::names_assigned;
 use crate::examine::examine;
 use crate::fault::{OutOfMemory, RangeFault};
-use crate::join::{are_kept, copied};
+use crate::join::{are_kept, ask_all, copied};
 use crate::rows::Ranges;
-use crate::steps::told;
+use crate::told::{Told, answer, keeping, most};
 use st_types::Algo;
-use std::alloc::Global;
+use std::alloc::{AllocError, Global};
 
-// The most steps of an algorithm that is clear, as they are told apart.
-fn examined(alloc: Global, algo: &Algo, rows: &Ranges) -> Result<u64, RangeFault>
-    ensures { Costs result (book.examined (spans_of rows.now) (commands_of algo.now.statements.items)) }
+/// What an examination of an algorithm finds: what is told of it, and the rows enlarged by what it asks.
+#[derive(Drop)]
+struct Findings {
+    told: Told,
+    asked: Ranges,
+}
+
+// The examination of an algorithm that begins with the rows of its variables.
+fn examined(alloc: Global, algo: &Algo, rows: &Ranges) -> Result<Findings, AllocError>
+    ensures tells { IfOk result (λ f. f.told ≡ tell (book.examined (spans_of rows.now) (commands_of algo.now.statements.items))) }
+    ensures asks { IfOk result (λ f. spans_of f.asked ≡ grown (spans_of rows.now) (commands_of algo.now.statements.items)) }
 {
     let mut ranges = copied(rows)?;
-    let steps = examine(alloc, rows, &algo.statements, &mut ranges)?;
+    let mut asked = copied(rows)?;
+    let told = examine(alloc, rows, &algo.statements, &mut ranges, &mut asked)?;
     let names = names_assigned(alloc, &algo.statements)?;
-    if !are_kept(&names, rows, &ranges) {
-        return Err(RangeFault::Leaves);
-    }
-    Ok(steps)
+    ask_all(&names, &ranges, &mut asked)?;
+    let all = keeping(are_kept(&names, rows, &ranges), told);
+    Ok(Findings { told: all, asked })
 }
 
 /// Whether an algorithm is clear under the rows of its variables: run from values in the rows, it neither traps nor leaves them.
@@ -37,8 +46,8 @@ pub fn check_algorithm(alloc: Global, algo: &Algo, rows: &Ranges) -> Result<(), 
     ensures { IsExamined result (book.examined (spans_of rows.now) (commands_of algo.now.statements.items)) }
 {
     match examined(alloc, algo, rows) {
-        Ok(_) => Ok(()),
-        Err(fault) => Err(fault),
+        Ok(findings) => answer(findings.told),
+        Err(_) => Err(RangeFault::OutOfMemory),
     }
 }
 
@@ -47,8 +56,20 @@ pub fn max_steps(alloc: Global, algo: &Algo, rows: &Ranges) -> Result<Option<u64
     ensures { IfOk result (λ most. most ≡ most_steps (book.examined (spans_of rows.now) (commands_of algo.now.statements.items))) }
 {
     match examined(alloc, algo, rows) {
-        Ok(steps) => Ok(told(steps)),
-        Err(RangeFault::OutOfMemory) => Err(OutOfMemory),
-        Err(RangeFault::Leaves) | Err(RangeFault::Traps) => Ok(None),
+        Ok(findings) => Ok(most(findings.told)),
+        Err(_) => Err(OutOfMemory),
+    }
+}
+
+/// The rows of an algorithm's variables, enlarged to hold all that it asks: where it may not be clear under its rows since a value may leave
+/// one, that row holds it.
+///
+/// A division at fault counts as its whole type; an index at fault is passed over.
+pub fn grow(alloc: Global, algo: &Algo, rows: &Ranges) -> Result<Ranges, OutOfMemory>
+    ensures { IfOk result (λ r. spans_of r ≡ grown (spans_of rows.now) (commands_of algo.now.statements.items)) }
+{
+    match examined(alloc, algo, rows) {
+        Ok(findings) => Ok(findings.asked),
+        Err(_) => Err(OutOfMemory),
     }
 }

@@ -1,46 +1,47 @@
-//! The examination of statements: what ranges they leave, and how many steps they take at most.
+//! The examination of statements: what ranges they leave, what they ask of rows, and what is told of them.
+//!
+//! It goes on behind a fault, so that all is asked; what is told is the first fault in the text.
 
 ghost use Rattle.std.specs.Prelude.{◌≡◌, ◌<◌, ◌^◌, ◌++◌, true, false, if◌then◌else◌, IfOk, OnOk};
 ghost use Rattle.fb_model.specs.Names.{Name};
-ghost use Rattle.fb_model.specs.TypedText.{Command, Commands};
 ghost use Rattle.fb_model.specs.Clear as book;
-ghost use Rattle.fb_model.specs.Clear.{Clear, Found, Leaves, Traps, with_range};
+ghost use Rattle.fb_model.specs.Clear.{Clear, Leaves, Traps, with_range};
 ghost use Rattle.fb_model.specs.Spans.{within, span};
+ghost use Rattle.fb_asking.specs.Asking as asking;
+ghost use Rattle.fb_asking.specs.Asking.{point, range_in};
 ghost use Rattle.st_types.specs.Views.{term_of};
 ghost use Rattle.st_types.specs.CommandViews.{busy_of, case_of, cases_of, choice_of, choices_of, command_of, commands_of, counted_command, counting_of};
-ghost use Rattle.fb_ranges.specs.Finding.{Costs, Finds, FindsWay};
-ghost use Rattle.fb_ranges.specs.Meeting.{Dated, Leads, ranges_after};
+ghost use Rattle.fb_ranges.specs.Finding.{longer, tell};
+ghost use Rattle.fb_ranges.specs.Meeting.{Dated, joint, ranges_after};
 ghost use Rattle.fb_ranges.specs.Narrowing.{read_in};
 ghost use Rattle.fb_intervals.specs.Views.{span_of};
 ghost use Rattle.fb_ranges.specs.Views.{mark_of, spans_of};
 
 use crate::assigned::names_assigned;
 use crate::expression::{is_between, range};
-use crate::fault::RangeFault;
-use crate::join::{are_kept, reset};
+use crate::join::{are_kept, ask, ask_all, reset};
 use crate::merge::{close, ended, merged, no_ways, noted};
 use crate::narrow::narrow;
 use crate::rows::Ranges;
-use crate::steps::{added, of_turns};
+use crate::told::{Told, in_turn, keeping, trapping, turned};
 use crate::touched::names_touched;
 use crate::way::{Way, Ways};
 use fb_intervals::{Interval, is_within, left_with, most_turns, taken};
 use st_types::{Counting, TypedArm, TypedBranch, TypedExpr, TypedStmt};
-use std::alloc::Global;
+use std::alloc::{AllocError, Global};
 
 // A variable gets a value.
-fn examine_set(name: &str, value: &TypedExpr, ranges: &mut Ranges) -> Result<u64, RangeFault>
-    ensures { Finds result (spans_of ranges.new) (with_range (book.range_of (term_of value.now) (spans_of ranges.old)) (λ r. Clear (book.changed name.now (λ b. r) (spans_of ranges.old)) 1)) }
+fn examine_set(name: &str, value: &TypedExpr, ranges: &mut Ranges) -> Result<Told, AllocError>
+    ensures ranges { OnOk result (spans_of ranges.new ≡ book.changed name.now (λ b. range_in (term_of value.now) (spans_of ranges.old)) (spans_of ranges.old)) }
+    ensures tells { IfOk result (λ told. told ≡ tell (with_range (book.range_of (term_of value.now) (spans_of ranges.old)) (λ r. Clear (book.changed name.now (λ b. r) (spans_of ranges.old)) 1))) }
 {
-    let Some(value) = range(value, ranges) else {
-        return Err(RangeFault::Traps);
-    };
-    ranges.insert(name, value)?;
-    Ok(1)
+    let value = range(value, ranges);
+    ranges.insert(name, value.range)?;
+    Ok(trapping(value.is_clear, Told::Steps(1)))
 }
 
-// An element of an array gets a value.
-fn examine_element(
+// What is told of an element of an array that gets a value.
+fn element_told(
     rows: &Ranges,
     name: &str,
     low: i64,
@@ -48,41 +49,37 @@ fn examine_element(
     index: &TypedExpr,
     value: &TypedExpr,
     ranges: &Ranges,
-) -> Result<u64, RangeFault>
-    ensures { Finds result (spans_of ranges.now) (with_range (book.range_of (term_of index.now) (spans_of ranges.now)) (λ k. with_range (book.range_of (term_of value.now) (spans_of ranges.now)) (λ r. if within k (span low high) then (if within r (spans_of rows.now name.now) then Clear (spans_of ranges.now) 1 else Leaves) else Traps))) }
+) -> Told
+    ensures { result ≡ tell (with_range (book.range_of (term_of index.now) (spans_of ranges.now)) (λ k. with_range (book.range_of (term_of value.now) (spans_of ranges.now)) (λ r. if within k (span low high) then (if within r (spans_of rows.now name.now) then Clear (spans_of ranges.now) 1 else Leaves) else Traps))) }
 {
-    let Some(index) = range(index, ranges) else {
-        return Err(RangeFault::Traps);
-    };
-    let Some(value) = range(value, ranges) else {
-        return Err(RangeFault::Traps);
-    };
-    if !is_between(index, low, high) {
-        return Err(RangeFault::Traps);
-    }
-    if !is_within(value, rows.find(name)) {
-        return Err(RangeFault::Leaves);
-    }
-    Ok(1)
+    let index = range(index, ranges);
+    let value = range(value, ranges);
+    let stays = is_within(value.range, rows.find(name));
+    let fits = is_between(index.range, low, high);
+    let told = trapping(fits, keeping(stays, Told::Steps(1)));
+    trapping(index.is_clear, trapping(value.is_clear, told))
 }
 
-/// What statements make of ranges, under the rows of the variables; and the most steps that they take.
+/// What statements make of ranges and ask of rows, under the rows of the variables; and what is told of them.
 ///
-/// Refused with `Leaves` or `Traps`, as the first statement that is not clear; then nothing is said of the ranges.
+/// Fails where memory runs out; then nothing is said of the ranges.
 #[cycle(examining)]
 pub(crate) fn examine(
     alloc: Global,
     rows: &Ranges,
     list: &[TypedStmt],
     ranges: &mut Ranges,
-) -> Result<u64, RangeFault>
-    ensures { Finds result (spans_of ranges.new) (book.examine (spans_of rows.now) (commands_of list.now) (spans_of ranges.old)) }
+    asked: &mut Ranges,
+) -> Result<Told, AllocError>
+    ensures asks { OnOk result (point (spans_of ranges.new) (spans_of asked.new) ≡ asking.ask (spans_of rows.now) (commands_of list.now) (point (spans_of ranges.old) (spans_of asked.old))) }
+    ensures tells { IfOk result (λ told. told ≡ tell (book.examine (spans_of rows.now) (commands_of list.now) (spans_of ranges.old))) }
 {
-    let mut steps = 0;
+    let mut all = Told::Steps(0);
     for statement in list {
-        steps = added(steps, examine_one(alloc, rows, statement, ranges)?);
+        let told = examine_one(alloc, rows, statement, ranges, asked)?;
+        all = in_turn(all, told);
     }
-    Ok(steps)
+    Ok(all)
 }
 
 #[cycle(examining)]
@@ -91,26 +88,27 @@ fn examine_one(
     rows: &Ranges,
     statement: &TypedStmt,
     ranges: &mut Ranges,
-) -> Result<u64, RangeFault>
-    ensures { Finds result (spans_of ranges.new) (book.examine_one (spans_of rows.now) (command_of statement.now) (spans_of ranges.old)) }
+    asked: &mut Ranges,
+) -> Result<Told, AllocError>
+    ensures asks { OnOk result (point (spans_of ranges.new) (spans_of asked.new) ≡ asking.ask_one (spans_of rows.now) (command_of statement.now) (point (spans_of ranges.old) (spans_of asked.old))) }
+    ensures tells { IfOk result (λ told. told ≡ tell (book.examine_one (spans_of rows.now) (command_of statement.now) (spans_of ranges.old))) }
 {
     match statement {
         TypedStmt::Set(name, value) => examine_set(name.as_str(), value, ranges),
         TypedStmt::SetElement(name, low, high, index, value) => {
-            examine_element(rows, name.as_str(), *low, *high, index, value, ranges)
+            ask(name.as_str(), range(value, ranges).range, asked)?;
+            Ok(element_told(rows, name.as_str(), *low, *high, index, value, ranges))
         }
         TypedStmt::If(branches, other) => {
-            let steps = examine_branches(alloc, rows, branches, other, ranges)?;
-            Ok(added(1, steps))
+            let told = examine_branches(alloc, rows, branches, other, ranges, asked)?;
+            Ok(in_turn(Told::Steps(1), told))
         }
         TypedStmt::Case(selector, arms, other) => {
-            if range(selector, ranges).is_none() {
-                return Err(RangeFault::Traps);
-            }
-            let steps = examine_arms(alloc, rows, arms, other, ranges)?;
-            Ok(added(1, steps))
+            let is_clear = range(selector, ranges).is_clear;
+            let told = examine_arms(alloc, rows, arms, other, ranges, asked)?;
+            Ok(trapping(is_clear, in_turn(Told::Steps(1), told)))
         }
-        TypedStmt::For(counting, body) => examine_for(alloc, rows, counting, body, ranges),
+        TypedStmt::For(counting, body) => examine_for(alloc, rows, counting, body, ranges, asked),
     }
 }
 
@@ -122,16 +120,18 @@ fn examine_branches(
     branches: &[TypedBranch],
     other: &[TypedStmt],
     ranges: &mut Ranges,
-) -> Result<u64, RangeFault>
-    ensures { Finds result (spans_of ranges.new) (book.examine_choices (spans_of rows.now) (choices_of branches.now) (book.examine (spans_of rows.now) (commands_of other.now)) (spans_of ranges.old)) }
+    asked: &mut Ranges,
+) -> Result<Told, AllocError>
+    ensures asks { OnOk result (point (spans_of ranges.new) (spans_of asked.new) ≡ asking.ask_choices (spans_of rows.now) (choices_of branches.now) (asking.ask (spans_of rows.now) (commands_of other.now)) (point (spans_of ranges.old) (spans_of asked.old))) }
+    ensures tells { IfOk result (λ told. told ≡ tell (book.examine_choices (spans_of rows.now) (choices_of branches.now) (book.examine (spans_of rows.now) (commands_of other.now)) (spans_of ranges.old))) }
 {
     let mut ways = no_ways(alloc);
     for branch in branches {
-        let way = examine_branch(alloc, rows, branch, ranges)?;
+        let way = examine_branch(alloc, rows, branch, ranges, asked)?;
         merged(&mut ways, &way, ranges)?;
         narrow(&branch.condition, false, ranges)?;
     }
-    examine_last(alloc, rows, other, ways, ranges)
+    examine_last(alloc, rows, other, ways, ranges, asked)
 }
 
 // A branch, where its condition is true; afterwards the ranges are as before.
@@ -141,19 +141,21 @@ fn examine_branch(
     rows: &Ranges,
     branch: &TypedBranch,
     ranges: &mut Ranges,
-) -> Result<Way, RangeFault>
-    ensures found { FindsWay result (spans_of ranges.old) (with_range (book.range_of (choice_of branch.now).0 (spans_of ranges.old)) (λ r. book.examine (spans_of rows.now) (choice_of branch.now).1 (book.narrowed (choice_of branch.now).0 true (spans_of ranges.old)))) }
+    asked: &mut Ranges,
+) -> Result<Way, AllocError>
+    ensures ends { IfOk result (λ way. book.reset (busy_of way.names.items) (spans_of way.ends) (spans_of ranges.old) ≡ (asking.ask (spans_of rows.now) (choice_of branch.now).1 (point (book.narrowed (choice_of branch.now).0 true (spans_of ranges.old)) (spans_of asked.old))).spans) }
+    ensures asks { OnOk result (spans_of asked.new ≡ (asking.ask (spans_of rows.now) (choice_of branch.now).1 (point (book.narrowed (choice_of branch.now).0 true (spans_of ranges.old)) (spans_of asked.old))).rows) }
+    ensures tells { IfOk result (λ way. way.told ≡ tell (with_range (book.range_of (choice_of branch.now).0 (spans_of ranges.old)) (λ r. book.examine (spans_of rows.now) (choice_of branch.now).1 (book.narrowed (choice_of branch.now).0 true (spans_of ranges.old))))) }
     ensures touched { IfOk result (λ way. busy_of way.names.items ≡ read_in (choice_of branch.now).0 ++ book.assigned (choice_of branch.now).1) }
     ensures unchanged { OnOk result (spans_of ranges.new ≡ spans_of ranges.old) }
 {
-    if range(&branch.condition, ranges).is_none() {
-        return Err(RangeFault::Traps);
-    }
+    let is_clear = range(&branch.condition, ranges).is_clear;
     let names = names_touched(alloc, &branch.condition, &branch.body)?;
     let before = noted(alloc, &names, ranges)?;
     narrow(&branch.condition, true, ranges)?;
-    let steps = examine(alloc, rows, &branch.body, ranges)?;
-    Ok(ended(alloc, names, steps, &before, ranges)?)
+    let told = examine(alloc, rows, &branch.body, ranges, asked)?;
+    let all = trapping(is_clear, told);
+    Ok(ended(alloc, names, all, &before, ranges)?)
 }
 
 // CASE, which narrows nothing.
@@ -164,15 +166,17 @@ fn examine_arms(
     arms: &[TypedArm],
     other: &[TypedStmt],
     ranges: &mut Ranges,
-) -> Result<u64, RangeFault>
-    ensures { Finds result (spans_of ranges.new) (book.examine_cases (spans_of rows.now) (cases_of arms.now) (book.examine (spans_of rows.now) (commands_of other.now) (spans_of ranges.old)) (spans_of ranges.old)) }
+    asked: &mut Ranges,
+) -> Result<Told, AllocError>
+    ensures asks { OnOk result (point (spans_of ranges.new) (spans_of asked.new) ≡ asking.ask_cases (spans_of rows.now) (cases_of arms.now) (asking.ask (spans_of rows.now) (commands_of other.now)) (point (spans_of ranges.old) (spans_of asked.old))) }
+    ensures tells { IfOk result (λ told. told ≡ tell (book.examine_cases (spans_of rows.now) (cases_of arms.now) (book.examine (spans_of rows.now) (commands_of other.now) (spans_of ranges.old)) (spans_of ranges.old))) }
 {
     let mut ways = no_ways(alloc);
     for arm in arms {
-        let way = examine_way(alloc, rows, &arm.body, ranges)?;
+        let way = examine_way(alloc, rows, &arm.body, ranges, asked)?;
         merged(&mut ways, &way, ranges)?;
     }
-    examine_last(alloc, rows, other, ways, ranges)
+    examine_last(alloc, rows, other, ways, ranges, asked)
 }
 
 // A way that narrows nothing; afterwards the ranges are as before.
@@ -182,14 +186,17 @@ fn examine_way(
     rows: &Ranges,
     body: &[TypedStmt],
     ranges: &mut Ranges,
-) -> Result<Way, RangeFault>
-    ensures found { FindsWay result (spans_of ranges.old) (book.examine (spans_of rows.now) (commands_of body.now) (spans_of ranges.old)) }
+    asked: &mut Ranges,
+) -> Result<Way, AllocError>
+    ensures ends { IfOk result (λ way. book.reset (busy_of way.names.items) (spans_of way.ends) (spans_of ranges.old) ≡ (asking.ask (spans_of rows.now) (commands_of body.now) (point (spans_of ranges.old) (spans_of asked.old))).spans) }
+    ensures asks { OnOk result (spans_of asked.new ≡ (asking.ask (spans_of rows.now) (commands_of body.now) (point (spans_of ranges.old) (spans_of asked.old))).rows) }
+    ensures tells { IfOk result (λ way. way.told ≡ tell (book.examine (spans_of rows.now) (commands_of body.now) (spans_of ranges.old))) }
     ensures unchanged { OnOk result (spans_of ranges.new ≡ spans_of ranges.old) }
 {
     let names = names_assigned(alloc, body)?;
     let before = noted(alloc, &names, ranges)?;
-    let steps = examine(alloc, rows, body, ranges)?;
-    Ok(ended(alloc, names, steps, &before, ranges)?)
+    let told = examine(alloc, rows, body, ranges, asked)?;
+    Ok(ended(alloc, names, told, &before, ranges)?)
 }
 
 // The last way, whose ranges become those of all.
@@ -200,16 +207,19 @@ fn examine_last(
     body: &[TypedStmt],
     ways: Ways,
     ranges: &mut Ranges,
-) -> Result<u64, RangeFault>
+    asked: &mut Ranges,
+) -> Result<Told, AllocError>
     requires room { ways.count < 2 ^ 63 }
     requires dated { (x : Name) → Dated ways.count (mark_of ways x) }
-    ensures { (all : Found) → Leads ways.count ways.steps (ranges_after ways.count (mark_of ways) (spans_of ranges.old)) all (book.examine (spans_of rows.now) (commands_of body.now) (spans_of ranges.old)) → Finds result (spans_of ranges.new) all }
+    ensures ranges { OnOk result (spans_of ranges.new ≡ joint ways.count (ranges_after ways.count (mark_of ways) (spans_of ranges.old)) (asking.ask (spans_of rows.now) (commands_of body.now) (point (spans_of ranges.old) (spans_of asked.old))).spans) }
+    ensures asks { OnOk result (spans_of asked.new ≡ (asking.ask (spans_of rows.now) (commands_of body.now) (point (spans_of ranges.old) (spans_of asked.old))).rows) }
+    ensures tells { IfOk result (λ told. told ≡ longer ways.told (tell (book.examine (spans_of rows.now) (commands_of body.now) (spans_of ranges.old)))) }
 {
     let mut ways = ways;
-    let way = examine_way(alloc, rows, body, ranges)?;
+    let way = examine_way(alloc, rows, body, ranges, asked)?;
     merged(&mut ways, &way, ranges)?;
     close(&ways, ranges)?;
-    Ok(ways.steps)
+    Ok(ways.told)
 }
 
 // FOR: its bounds, once.
@@ -220,20 +230,29 @@ fn examine_for(
     counting: &Counting,
     body: &[TypedStmt],
     ranges: &mut Ranges,
-) -> Result<u64, RangeFault>
-    ensures { Finds result (spans_of ranges.new) (book.examine_one (spans_of rows.now) (counted_command (counting_of counting.now) (commands_of body.now)) (spans_of ranges.old)) }
+    asked: &mut Ranges,
+) -> Result<Told, AllocError>
+    ensures asks { OnOk result (point (spans_of ranges.new) (spans_of asked.new) ≡ asking.ask_one (spans_of rows.now) (counted_command (counting_of counting.now) (commands_of body.now)) (point (spans_of ranges.old) (spans_of asked.old))) }
+    ensures tells { IfOk result (λ told. told ≡ tell (book.examine_one (spans_of rows.now) (counted_command (counting_of counting.now) (commands_of body.now)) (spans_of ranges.old))) }
 {
-    let Some(first) = range(&counting.first, ranges) else {
-        return Err(RangeFault::Traps);
-    };
-    let Some(last) = range(&counting.last, ranges) else {
-        return Err(RangeFault::Traps);
-    };
-    if most_turns(first, last, counting.step) == 0 {
-        return Ok(1);
+    let first = range(&counting.first, ranges);
+    let last = range(&counting.last, ranges);
+    let are_clear = if first.is_clear { last.is_clear } else { false };
+    if most_turns(first.range, last.range, counting.step) == 0 {
+        return Ok(trapping(are_clear, Told::Steps(1)));
     }
-    let name = counting.variable.as_str();
-    examine_turns(alloc, rows, name, first, last, counting.step, body, ranges)
+    let told = examine_turns(
+        alloc,
+        rows,
+        counting.variable.as_str(),
+        first.range,
+        last.range,
+        counting.step,
+        body,
+        ranges,
+        asked,
+    )?;
+    Ok(trapping(are_clear, told))
 }
 
 // The turns of a FOR, of which there are some.
@@ -247,21 +266,22 @@ fn examine_turns(
     step: i64,
     body: &[TypedStmt],
     ranges: &mut Ranges,
-) -> Result<u64, RangeFault>
+    asked: &mut Ranges,
+) -> Result<Told, AllocError>
     requires { 0 < book.most_turns (span_of first) (span_of last) step }
-    ensures { Finds result (spans_of ranges.new) (book.looped (book.most_turns (span_of first) (span_of last) step) (book.assigned (commands_of body.now)) (spans_of rows.now) (book.examine (spans_of rows.now) (commands_of body.now)) name.now (span_of first) (span_of last) step (spans_of ranges.old)) }
+    ensures asks { OnOk result (point (spans_of ranges.new) (spans_of asked.new) ≡ asking.asked_loop (book.most_turns (span_of first) (span_of last) step) (book.assigned (commands_of body.now)) (spans_of rows.now) (asking.ask (spans_of rows.now) (commands_of body.now)) name.now (span_of first) (span_of last) step (point (spans_of ranges.old) (spans_of asked.old))) }
+    ensures tells { IfOk result (λ told. told ≡ tell (book.looped (book.most_turns (span_of first) (span_of last) step) (book.assigned (commands_of body.now)) (spans_of rows.now) (book.examine (spans_of rows.now) (commands_of body.now)) name.now (span_of first) (span_of last) step (spans_of ranges.old))) }
 {
     let turns = most_turns(first, last, step);
     let names = names_assigned(alloc, body)?;
-    if !are_kept(&names, rows, ranges) {
-        return Err(RangeFault::Leaves);
-    }
+    let begins = are_kept(&names, rows, ranges);
+    ask_all(&names, ranges, asked)?;
     reset(&names, rows, ranges)?;
     let before = ranges.find(name);
     let own = taken(first, last, step, turns);
-    let steps = examine_body(alloc, rows, name, own, &names, body, ranges)?;
+    let told = examine_body(alloc, rows, name, own, &names, body, ranges, asked)?;
     ranges.insert(name, left_with(first, last, step, turns, before))?;
-    Ok(of_turns(turns, steps))
+    Ok(turned(turns, begins, told))
 }
 
 // The body of a FOR, once for all turns; it has to keep the rows of the variables that it assigns, and these have them afterwards.
@@ -274,16 +294,17 @@ fn examine_body(
     names: &[String],
     body: &[TypedStmt],
     ranges: &mut Ranges,
-) -> Result<u64, RangeFault>
+    asked: &mut Ranges,
+) -> Result<Told, AllocError>
     requires { busy_of names.now ≡ book.assigned (commands_of body.now) }
-    ensures cost { Costs result (book.kept (spans_of rows.now) (busy_of names.now) (book.examine (spans_of rows.now) (commands_of body.now) (book.changed name.now (λ b. span_of own) (spans_of ranges.old)))) }
+    ensures asks { OnOk result (spans_of asked.new ≡ (let end = asking.ask (spans_of rows.now) (commands_of body.now) (point (book.changed name.now (λ b. span_of own) (spans_of ranges.old)) (spans_of asked.old)) in asking.asking_all (busy_of names.now) end.spans end.rows)) }
+    ensures tells { IfOk result (λ told. told ≡ tell (book.kept (spans_of rows.now) (busy_of names.now) (book.examine (spans_of rows.now) (commands_of body.now) (book.changed name.now (λ b. span_of own) (spans_of ranges.old))))) }
     ensures rest { OnOk result (spans_of ranges.new ≡ book.reset (busy_of names.now) (spans_of rows.now) (book.changed name.now (λ b. span_of own) (spans_of ranges.old))) }
 {
     ranges.insert(name, own)?;
-    let steps = examine(alloc, rows, body, ranges)?;
-    if !are_kept(names, rows, ranges) {
-        return Err(RangeFault::Leaves);
-    }
+    let told = examine(alloc, rows, body, ranges, asked)?;
+    ask_all(names, ranges, asked)?;
+    let all = keeping(are_kept(names, rows, ranges), told);
     reset(names, rows, ranges)?;
-    Ok(steps)
+    Ok(all)
 }

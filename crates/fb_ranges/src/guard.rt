@@ -17,8 +17,8 @@ use std::alloc::Global;
 pub fn check_guard(_alloc: Global, guard: &TypedExpr, rows: &Ranges) -> Result<(), RangeFault>
     ensures { IsGuard result (guard_range (spans_of rows.now) (term_of guard.now)) }
 {
-    match range(guard, rows) {
-        Some(_) => Ok(()),
-        None => Err(RangeFault::Traps),
+    if range(guard, rows).is_clear {
+        return Ok(());
     }
+    Err(RangeFault::Traps)
 }

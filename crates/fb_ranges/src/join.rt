@@ -1,12 +1,14 @@
-//! Ranges of variables, copied, set and tested.
+//! Ranges of variables, copied, set, tested and asked for.
 
 ghost use Rattle.std.specs.Prelude.{◌≡◌, IfOk, OnOk};
 ghost use Rattle.fb_model.specs.Clear as book;
 ghost use Rattle.st_types.specs.CommandViews.{busy_of};
+ghost use Rattle.fb_asking.specs.Asking.{asking, asking_all};
+ghost use Rattle.fb_intervals.specs.Views.{span_of};
 ghost use Rattle.fb_ranges.specs.Views.{spans_of};
 
 use crate::rows::Ranges;
-use fb_intervals::is_within;
+use fb_intervals::{Interval, is_within, joined};
 use std::alloc::AllocError;
 
 /// The same ranges.
@@ -39,4 +41,27 @@ pub(crate) fn are_kept(names: &[String], rows: &Ranges, ranges: &Ranges) -> bool
         }
     }
     true
+}
+
+/// The row of a variable is asked to hold a range too.
+pub(crate) fn ask(name: &str, range: Interval, asked: &mut Ranges) -> Result<(), AllocError>
+    ensures { OnOk result (spans_of asked.new ≡ asking name.now (span_of range) (spans_of asked.old)) }
+{
+    let row = asked.find(name);
+    asked.insert(name, joined(row, range))
+}
+
+/// The rows of these variables are asked to hold what the variables have.
+pub(crate) fn ask_all(
+    names: &[String],
+    ranges: &Ranges,
+    asked: &mut Ranges,
+) -> Result<(), AllocError>
+    ensures { OnOk result (spans_of asked.new ≡ asking_all (busy_of names.now) (spans_of ranges.now) (spans_of asked.old)) }
+{
+    for name in names {
+        let name = name.as_str();
+        ask(name, ranges.find(name), asked)?;
+    }
+    Ok(())
 }

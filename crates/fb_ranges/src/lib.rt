@@ -1,4 +1,4 @@
-//! Which guards and algorithms are clear under the ranges of their variables.
+//! Which guards and algorithms are clear under the ranges of their variables, and by how much algorithms ask to enlarge these.
 #![tactic(auto)]
 
 mod algorithm;
@@ -15,10 +15,11 @@ mod rows;
 mod side;
 mod steps;
 mod table;
+mod told;
 mod touched;
 mod way;
 
-pub use algorithm::{check_algorithm, max_steps};
+pub use algorithm::{check_algorithm, grow, max_steps};
 pub use fault::{OutOfMemory, RangeFault};
 pub use fb_intervals::Interval;
 pub use guard::check_guard;

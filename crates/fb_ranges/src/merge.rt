@@ -1,18 +1,20 @@
 //! Ways that meet.
 
-ghost use Rattle.std.specs.Prelude.{◌≡◌, ◌+◌, ◌<◌, ◌^◌, max, IfOk, None, OnOk, Some, if◌then◌else◌};
+ghost use Rattle.std.specs.Prelude.{◌≡◌, ◌+◌, ◌<◌, ◌^◌, IfOk, None, OnOk, Some, if◌then◌else◌};
 ghost use Rattle.std.specs.Str.{bytes_eq};
 ghost use Rattle.fb_model.specs.Names.{Name};
 ghost use Rattle.fb_model.specs.Clear as book;
 ghost use Rattle.fb_model.specs.Clear.{Spans};
 ghost use Rattle.st_types.specs.CommandViews.{busy_of};
+ghost use Rattle.fb_ranges.specs.declared.told.Told.TheVariants as told;
+ghost use Rattle.fb_ranges.specs.Finding.{longer};
 ghost use Rattle.fb_ranges.specs.Meeting.{Besides, Dated, joint, marked, met, ranges_after, row_after};
 ghost use Rattle.fb_intervals.specs.Views.{span_of};
 ghost use Rattle.fb_ranges.specs.Views.{mark_of, spans_of};
 
 use crate::join::reset;
 use crate::rows::Ranges;
-use crate::steps::longer;
+use crate::told::{Told, longer};
 use crate::way::{Reached, Way, Ways};
 use fb_intervals::{Interval, joined};
 use indexmap::IndexMap;
@@ -31,31 +33,31 @@ pub(crate) fn noted(alloc: Global, names: &[String], ranges: &Ranges) -> Result<
 pub(crate) fn ended(
     alloc: Global,
     names: Vec<String>,
-    steps: u64,
+    told: Told,
     before: &Ranges,
     ranges: &mut Ranges,
 ) -> Result<Way, AllocError>
-    ensures steps { IfOk result (λ way. way.steps ≡ steps) }
+    ensures told { IfOk result (λ way. way.told ≡ told) }
     ensures names { IfOk result (λ way. busy_of way.names.items ≡ busy_of names.items) }
     ensures ends { IfOk result (λ way. (base : Spans) → book.reset (busy_of names.items) (spans_of way.ends) base ≡ book.reset (busy_of names.items) (spans_of ranges.old) base) }
     ensures ranges { OnOk result (spans_of ranges.new ≡ book.reset (busy_of names.items) (spans_of before.now) (spans_of ranges.old)) }
 {
     let ends = noted(alloc, &names, ranges)?;
     reset(&names, before, ranges)?;
-    Ok(Way { names, ends, steps })
+    Ok(Way { names, ends, told })
 }
 
 /// No way.
 pub(crate) fn no_ways(alloc: Global) -> Ways
     ensures count { result.count ≡ 0 }
-    ensures steps { result.steps ≡ 0 }
+    ensures told { result.told ≡ told.Steps 0 }
     ensures rows { (x : Name) → mark_of result x ≡ None }
 {
     Ways {
         alloc,
         rows: IndexMap::new(alloc),
         count: 0,
-        steps: 0,
+        told: Told::Steps(0),
     }
 }
 
@@ -86,7 +88,7 @@ fn next_range(ways: &Ways, name: &str, before: Interval, end: Interval) -> Inter
 fn merge_row(ways: &mut Ways, name: &str, before: Interval, end: Interval) -> Result<(), AllocError>
     requires room { ways.old.count < 2 ^ 63 }
     ensures count { ways.new.count ≡ ways.old.count }
-    ensures steps { ways.new.steps ≡ ways.old.steps }
+    ensures told { ways.new.told ≡ ways.old.told }
     ensures rows { OnOk result ((x : Name) → mark_of ways.new x ≡ (if bytes_eq name.now x then Some (row_after ways.old.count (mark_of ways.old name.now) (span_of before) (span_of end), ways.old.count + 1) else mark_of ways.old x)) }
 {
     let reached = Reached {
@@ -103,12 +105,12 @@ pub(crate) fn merged(ways: &mut Ways, way: &Way, ranges: &Ranges) -> Result<(), 
     requires room { ways.old.count < 2 ^ 63 }
     requires dated { (x : Name) → Dated ways.old.count (mark_of ways.old x) }
     ensures count { OnOk result (ways.new.count ≡ ways.old.count + 1) }
-    ensures steps { OnOk result (ways.new.steps ≡ max ways.old.steps way.now.steps) }
+    ensures told { OnOk result (ways.new.told ≡ longer ways.old.told way.now.told) }
     ensures dated { OnOk result ((x : Name) → Dated ways.new.count (mark_of ways.new x)) }
     ensures ranges { OnOk result ((later : Spans) → Besides (busy_of way.now.names.items) (spans_of ranges.now) later → ranges_after ways.new.count (mark_of ways.new) later ≡ joint ways.old.count (ranges_after ways.old.count (mark_of ways.old) (spans_of ranges.now)) (book.reset (busy_of way.now.names.items) (spans_of way.now.ends) (spans_of ranges.now))) }
 {
     merge_rows(ways, &way.names, &way.ends, ranges)?;
-    ways.steps = longer(ways.steps, way.steps);
+    ways.told = longer(ways.told, way.told);
     ways.count += 1;
     Ok(())
 }
@@ -122,7 +124,7 @@ fn merge_rows(
 ) -> Result<(), AllocError>
     requires room { ways.old.count < 2 ^ 63 }
     ensures count { ways.new.count ≡ ways.old.count }
-    ensures steps { ways.new.steps ≡ ways.old.steps }
+    ensures told { ways.new.told ≡ ways.old.told }
     ensures rows { OnOk result ((x : Name) → mark_of ways.new x ≡ marked ways.old.count (busy_of names.now) (spans_of ranges.now) (spans_of ends.now) (mark_of ways.old) x) }
 {
     for name in names {

@@ -21,7 +21,7 @@ pub(crate) fn added(a: u64, b: u64) -> u64
 }
 
 /// The steps of the longer way.
-pub(crate) fn longer(a: u64, b: u64) -> u64
+pub(crate) fn longest(a: u64, b: u64) -> u64
     ensures { result ≡ max a b }
 {
     a.max(b)

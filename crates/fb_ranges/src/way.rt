@@ -1,17 +1,17 @@
 //! Ways through an algorithm, of which each touches a few variables.
 
 use crate::rows::Ranges;
+use crate::told::Told;
 use fb_intervals::Interval;
 use indexmap::IndexMap;
 use std::alloc::Global;
 
-/// What an examination of one way finds: the variables that it may touch, their ranges at its end, and its most steps, up to the first
-/// number that stands for all greater ones.
+/// What an examination of one way finds: the variables that it may touch, their ranges at its end, and what is told of it.
 #[derive(Drop)]
 pub(crate) struct Way {
     pub names: Vec<String>,
     pub ends: Ranges,
-    pub steps: u64,
+    pub told: Told,
 }
 
 /// The smallest range that holds those of a variable at the ends of ways, and how many ways there were with the last that touched it.
@@ -21,11 +21,11 @@ pub(crate) struct Reached {
     pub ways: usize,
 }
 
-/// What ways have come to: each variable that one of them touched, how many they are, and the steps of the longest.
+/// What ways have come to: each variable that one of them touched, how many they are, and what is told of all.
 #[derive(Drop)]
 pub(crate) struct Ways {
     pub alloc: Global,
     pub rows: IndexMap<String, Reached>,
     pub count: usize,
-    pub steps: u64,
+    pub told: Told,
 }

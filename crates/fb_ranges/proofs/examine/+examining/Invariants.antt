@@ -1,10 +1,12 @@
-use Rattle.std.proofs.Common.{◌≡◌, ℕ, ◌+◌, ◌*◌, max, drop}
+use Rattle.std.proofs.Common.{◌≡◌, ◌+◌, ◌*◌, max, drop}
 use Rattle.fb_model.specs.Names.{Name}
 use denote.Param.Weighed.{most}
-use Rattle.fb_model.specs.Clear.{Clear, onward, examine, examine_choices, examine_cases}
+use Rattle.fb_model.specs.Clear.{examine, examine_choices, examine_cases}
 use Rattle.st_types.specs.CommandViews.{commands_of, choices_of, cases_of}
-use Rattle.fb_ranges.specs.Meeting.{Dated, Leads, ranges_after}
-use Rattle.fb_ranges.specs.Steps.{counted}
+use Rattle.fb_asking.specs.Asking.{point, ask, ask_choices, ask_cases}
+use Rattle.fb_ranges.specs.declared.told.Told.TheVariants as t
+use Rattle.fb_ranges.specs.Finding.{in_turn, longer, tell}
+use Rattle.fb_ranges.specs.Meeting.{Dated, met_by, ranges_after}
 use Rattle.fb_ranges.specs.Views.{mark_of, spans_of}
 use Rattle.st_types.proofs.command.TypedStmt.TheLaws.{the_size as stmt_size}
 use Rattle.st_types.proofs.command.TypedBranch.TheLaws.{the_size as branch_size}
@@ -43,18 +45,28 @@ decreases-examine_body l = 5 * most stmt_size l.body.now + 2
 
 abbrev pub invariant-examine-loop-statement : goal.invariant-examine-loop-statement
 invariant-examine-loop-statement l =
-    (n : ℕ) × (l.steps ≡ counted n)
-    × (examine (spans_of l.rows) (commands_of l.list) (spans_of l.initial.ranges) ≡ onward (Clear (spans_of l.ranges) n) (examine (spans_of l.rows) (commands_of (drop l.statement-index l.list))))
+    record {
+      asks :
+          ask (spans_of l.rows) (commands_of (drop l.statement-index l.list)) (point (spans_of l.ranges) (spans_of l.asked))
+          ≡ ask (spans_of l.rows) (commands_of l.list) (point (spans_of l.initial.ranges) (spans_of l.initial.asked));
+      tells :
+          in_turn l.all (tell (examine (spans_of l.rows) (commands_of (drop l.statement-index l.list)) (spans_of l.ranges)))
+          ≡ tell (examine (spans_of l.rows) (commands_of l.list) (spans_of l.initial.ranges));
+      last : in_turn l.all (t.Steps 0) ≡ l.all;
+    }
 
 abbrev pub invariant-examine_branches-loop-branch : goal.invariant-examine_branches-loop-branch
 invariant-examine_branches-loop-branch l =
     record {
       count : l.ways.count ≡ l.branch-index;
       dated : (x : Name) → Dated l.ways.count (mark_of l.ways x);
-      leads :
-          Leads l.ways.count l.ways.steps (ranges_after l.ways.count (mark_of l.ways) (spans_of l.ranges))
-          (examine_choices (spans_of l.rows) (choices_of l.branches) (examine (spans_of l.rows) (commands_of l.other)) (spans_of l.initial.ranges))
-          (examine_choices (spans_of l.rows) (choices_of (drop l.branch-index l.branches)) (examine (spans_of l.rows) (commands_of l.other)) (spans_of l.ranges));
+      meets :
+          met_by l.ways.count (ranges_after l.ways.count (mark_of l.ways) (spans_of l.ranges))
+          (ask_choices (spans_of l.rows) (choices_of (drop l.branch-index l.branches)) (ask (spans_of l.rows) (commands_of l.other)) (point (spans_of l.ranges) (spans_of l.asked)))
+          ≡ ask_choices (spans_of l.rows) (choices_of l.branches) (ask (spans_of l.rows) (commands_of l.other)) (point (spans_of l.initial.ranges) (spans_of l.initial.asked));
+      tells :
+          longer l.ways.told (tell (examine_choices (spans_of l.rows) (choices_of (drop l.branch-index l.branches)) (examine (spans_of l.rows) (commands_of l.other)) (spans_of l.ranges)))
+          ≡ tell (examine_choices (spans_of l.rows) (choices_of l.branches) (examine (spans_of l.rows) (commands_of l.other)) (spans_of l.initial.ranges));
     }
 
 abbrev pub invariant-examine_arms-loop-arm : goal.invariant-examine_arms-loop-arm
@@ -63,8 +75,11 @@ invariant-examine_arms-loop-arm l =
       count : l.ways.count ≡ l.arm-index;
       dated : (x : Name) → Dated l.ways.count (mark_of l.ways x);
       same : spans_of l.ranges ≡ spans_of l.initial.ranges;
-      leads :
-          Leads l.ways.count l.ways.steps (ranges_after l.ways.count (mark_of l.ways) (spans_of l.ranges))
-          (examine_cases (spans_of l.rows) (cases_of l.arms) (examine (spans_of l.rows) (commands_of l.other) (spans_of l.ranges)) (spans_of l.ranges))
-          (examine_cases (spans_of l.rows) (cases_of (drop l.arm-index l.arms)) (examine (spans_of l.rows) (commands_of l.other) (spans_of l.ranges)) (spans_of l.ranges));
+      meets :
+          met_by l.ways.count (ranges_after l.ways.count (mark_of l.ways) (spans_of l.ranges))
+          (ask_cases (spans_of l.rows) (cases_of (drop l.arm-index l.arms)) (ask (spans_of l.rows) (commands_of l.other)) (point (spans_of l.ranges) (spans_of l.asked)))
+          ≡ ask_cases (spans_of l.rows) (cases_of l.arms) (ask (spans_of l.rows) (commands_of l.other)) (point (spans_of l.initial.ranges) (spans_of l.initial.asked));
+      tells :
+          longer l.ways.told (tell (examine_cases (spans_of l.rows) (cases_of (drop l.arm-index l.arms)) (examine (spans_of l.rows) (commands_of l.other) (spans_of l.ranges)) (spans_of l.ranges)))
+          ≡ tell (examine_cases (spans_of l.rows) (cases_of l.arms) (examine (spans_of l.rows) (commands_of l.other) (spans_of l.initial.ranges)) (spans_of l.initial.ranges));
     }

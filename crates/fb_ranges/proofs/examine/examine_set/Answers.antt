@@ -1,13 +1,8 @@
-use Rattle.std.proofs.Common.{refl, sym, ap, ◌∙◌}
-use Rattle.fb_model.specs.Clear.{Clear, changed, with_range}
+use Rattle.std.proofs.Common.{ap, ◌∙◌}
+use Rattle.fb_model.specs.Spans.{Span}
+use Rattle.fb_model.specs.Clear.{changed}
 use Rattle.fb_ranges.specs.Views.{spans_of}
 use Rattle.fb_ranges.proofs.examine.examine_set.Goals as goal
 
-pub returns : goal.returns
-returns c =
-    let spans = spans_of c.args.ranges.now in
-    record {
-      most = 1;
-      counts = refl;
-      finds = ap (λ o. with_range o (λ r. Clear (changed c.args.name.now (λ b. r) spans) 1)) c.in-Some.ensures ∙ ap (λ s. Clear s 1) (sym c.in_ok-insert.ensures.set);
-    }
+pub returns-clause-ranges : goal.returns-clause-ranges
+returns-clause-ranges c = c.in_ok-insert.ensures.set ∙ ap (λ (r : Span). changed c.args.name.now (λ b. r) (spans_of c.args.ranges.now)) c.range-value.ensures.range

@@ -17,7 +17,7 @@ loop-name-preserved c =
     let same = same_mark i ways.count (mark_of ways x) (span_of c.find.result) (span_of c.find-in-loop-name.result) (spans x) (ends x) h.count c.find.ensures c.find-in-loop-name.ensures in
     record {
       count = c.merge_row.ensures.count ∙ h.count;
-      steps = c.merge_row.ensures.steps ∙ h.steps;
+      told = c.merge_row.ensures.told ∙ h.told;
       rows =
           next_mark c.args.names.now c.loop-name.name-index c.name-item.result i spans ends (mark_of c.args.ways.now) (mark_of ways) (mark_of c.merge_row.new.ways) x
           c.loop-name-test.true c.name-item.is c.as_str-name.ensures.value h.rows

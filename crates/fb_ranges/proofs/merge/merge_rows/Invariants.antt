@@ -9,6 +9,6 @@ abbrev pub invariant-loop-name : goal.invariant-loop-name
 invariant-loop-name l =
     record {
       count : l.ways.count ≡ l.initial.ways.count;
-      steps : l.ways.steps ≡ l.initial.ways.steps;
+      told : l.ways.told ≡ l.initial.ways.told;
       rows : (x : Name) → mark_of l.ways x ≡ marked l.initial.ways.count (busy_of (take l.name-index l.names)) (spans_of l.ranges) (spans_of l.ends) (mark_of l.initial.ways) x;
     }

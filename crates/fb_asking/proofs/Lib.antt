@@ -1,0 +1,4 @@
+pub mod Ranging
+pub mod Ending
+pub mod Growing
+pub mod Staying
