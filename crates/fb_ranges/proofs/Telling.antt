@@ -5,7 +5,7 @@ use Rattle.std.proofs.Math.Nat.{mul-le-mul_right}
 use Rattle.std.proofs.lemmas.Int.{ints, by_lt_z}
 use Rattle.fb_model.specs.Names.{Name}
 use Rattle.fb_model.specs.Spans.{Span}
-use Rattle.fb_model.specs.Clear.{Spans, Found, Clear, Leaves, Traps, changed, onward, costing, with_range, either, are_kept, reset, taken, left_with, looped, kept}
+use Rattle.fb_model.specs.Clear.{Spans, Found, Clear, Leaves, Traps, changed, onward, with_range, either, are_kept, reset, taken, left_with, looped, kept}
 use Rattle.fb_asking.proofs.Ending.{Ends}
 use Rattle.fb_ranges.specs.declared.told.Told.{Told}
 use Rattle.fb_ranges.specs.declared.told.Told.TheVariants as t
@@ -23,11 +23,6 @@ turns_again (t.Steps n) t.Traps c = refl
 turns_again t.Leaves b c = refl
 turns_again t.Traps b c = refl
 
-pub tell_first : (found : Found) → in_turn (t.Steps 0) (tell found) ≡ tell found
-tell_first (Clear s n) = ap t.Steps (let e : counted (0 + counted n) ≡ counted n = omega arith in e)
-tell_first Leaves = refl
-tell_first Traps = refl
-
 pub tell_last : (a b : Told) → in_turn (in_turn a b) (t.Steps 0) ≡ in_turn a b
 tell_last (t.Steps n) (t.Steps m) = ap t.Steps (let e : counted (counted (n + m) + 0) ≡ counted (n + m) = omega arith in e)
 tell_last (t.Steps n) t.Leaves = refl
@@ -44,11 +39,6 @@ tell_onward (Clear end n) f s h = by (f end) ∙ ap (λ (u : Spans). in_turn (t.
 tell_onward Leaves f s h = refl
 tell_onward Traps f s h = refl
 
-pub tell_costing : (found : Found) → tell (costing 1 found) ≡ in_turn (t.Steps 1) (tell found)
-tell_costing (Clear s n) = ap t.Steps (let e : counted (1 + n) ≡ counted (1 + counted n) = omega arith in e)
-tell_costing Leaves = refl
-tell_costing Traps = refl
-
 -- ---- one way or another
 
 pub longer_again : (a b c : Told) → longer (longer a b) c ≡ longer a (longer b c)
@@ -59,11 +49,6 @@ longer_again (t.Steps n) t.Leaves c = refl
 longer_again (t.Steps n) t.Traps c = refl
 longer_again t.Leaves b c = refl
 longer_again t.Traps b c = refl
-
-pub longer_none : (a : Told) → longer (t.Steps 0) a ≡ a
-longer_none (t.Steps n) = ap t.Steps (let e : max 0 n ≡ n = omega arith in e)
-longer_none t.Leaves = refl
-longer_none t.Traps = refl
 
 pub tell_either : (f g : Found) → tell (either f g) ≡ longer (tell f) (tell g)
 tell_either (Clear s n) (Clear u m) = ap t.Steps (let e : counted (max n m) ≡ max (counted n) (counted m) = omega arith in e)
@@ -88,7 +73,7 @@ tell_element false b s = refl
 
 -- ---- FOR
 
-pub tell_kept : (rows : Spans) (xs : List Name) (found : Found) (s : Spans) → Ends found s → tell (kept rows xs found) ≡ keeping (are_kept xs rows s) (tell found)
+tell_kept : (rows : Spans) (xs : List Name) (found : Found) (s : Spans) → Ends found s → tell (kept rows xs found) ≡ keeping (are_kept xs rows s) (tell found)
 tell_kept rows xs (Clear end n) s h = by (are_kept xs rows end) ∙ ap (λ (u : Spans). keeping (are_kept xs rows u) (t.Steps (counted n))) h where
   by : (b : Bool) → tell (if b then Clear end n else Leaves) ≡ keeping b (t.Steps (counted n))
   by true = refl

@@ -15,10 +15,10 @@ ghost use Rattle.fb_ranges.specs.Finding.{longer, tell};
 ghost use Rattle.fb_ranges.specs.Meeting.{Dated, joint, ranges_after};
 ghost use Rattle.fb_ranges.specs.Narrowing.{read_in};
 ghost use Rattle.fb_intervals.specs.Views.{span_of};
-ghost use Rattle.fb_ranges.specs.Views.{mark_of, spans_of};
+ghost use Rattle.fb_ranges.specs.Views.{clear_range, mark_of, spans_of};
 
 use crate::assigned::names_assigned;
-use crate::expression::{is_between, range};
+use crate::expression::{Ranged, is_between, range};
 use crate::join::{are_kept, ask, ask_all, reset};
 use crate::merge::{close, ended, merged, no_ways, noted};
 use crate::narrow::narrow;
@@ -47,13 +47,12 @@ fn element_told(
     low: i64,
     high: i64,
     index: &TypedExpr,
-    value: &TypedExpr,
+    value: Ranged,
     ranges: &Ranges,
 ) -> Told
-    ensures { result ≡ tell (with_range (book.range_of (term_of index.now) (spans_of ranges.now)) (λ k. with_range (book.range_of (term_of value.now) (spans_of ranges.now)) (λ r. if within k (span low high) then (if within r (spans_of rows.now name.now) then Clear (spans_of ranges.now) 1 else Leaves) else Traps))) }
+    ensures { result ≡ tell (with_range (book.range_of (term_of index.now) (spans_of ranges.now)) (λ k. with_range (clear_range value) (λ r. if within k (span low high) then (if within r (spans_of rows.now name.now) then Clear (spans_of ranges.now) 1 else Leaves) else Traps))) }
 {
     let index = range(index, ranges);
-    let value = range(value, ranges);
     let stays = is_within(value.range, rows.find(name));
     let fits = is_between(index.range, low, high);
     let told = trapping(fits, keeping(stays, Told::Steps(1)));
@@ -96,7 +95,8 @@ fn examine_one(
     match statement {
         TypedStmt::Set(name, value) => examine_set(name.as_str(), value, ranges),
         TypedStmt::SetElement(name, low, high, index, value) => {
-            ask(name.as_str(), range(value, ranges).range, asked)?;
+            let value = range(value, ranges);
+            ask(name.as_str(), value.range, asked)?;
             Ok(element_told(rows, name.as_str(), *low, *high, index, value, ranges))
         }
         TypedStmt::If(branches, other) => {

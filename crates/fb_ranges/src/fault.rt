@@ -1,9 +1,7 @@
 //! Why a guard or an algorithm is not clear.
 
 ghost use Rattle.std.specs.Prelude.{◌≡◌};
-ghost use Rattle.fb_ranges.specs.declared.fault.RangeFault.TheVariants as fault;
 
-use std::alloc::{AllocError, AllocFailed};
 use std::fmt;
 
 /// Memory ran out. Code 9.
@@ -59,21 +57,5 @@ impl fmt::Display for RangeFault {
             RangeFault::Traps => write!(f, "37"),
             RangeFault::OutOfMemory => write!(f, "9"),
         }
-    }
-}
-
-impl From<AllocError> for RangeFault {
-    ghost from_gives = { λ _ e. e ≡ fault.OutOfMemory };
-
-    fn from(_: AllocError) -> RangeFault {
-        RangeFault::OutOfMemory
-    }
-}
-
-impl<T: Drop> From<AllocFailed<T>> for RangeFault {
-    ghost from_gives = { λ _ e. e ≡ fault.OutOfMemory };
-
-    fn from(_: AllocFailed<T>) -> RangeFault {
-        RangeFault::OutOfMemory
     }
 }

@@ -1,11 +1,12 @@
-use Rattle.std.proofs.Common.{◌≡◌, List, true, false, ◌++◌, ◌<◌, ◌+◌, refl, sym, ap, ap₂, subst, ◌∙◌, arith, drop, to_z, of_z, w64}
-use Rattle.std.specs.Prelude.{string_bytes}
+use Rattle.std.proofs.Common.{◌≡◌, ℤ, List, Option, true, false, ◌++◌, ◌<◌, ◌+◌, refl, sym, ap, ap₂, subst, ◌∙◌, arith, drop, to_z, of_z, w64}
+use Rattle.std.specs.Prelude.{if◌then◌else◌, string_bytes}
 use Rattle.std.specs.declared.string.String.{String}
 use Rattle.std.specs.declared.alloc.Global.{Global}
 use Rattle.std.proofs.lemmas.Int.{ints}
 use Rattle.fb_model.specs.Names.{Name}
 use Rattle.fb_model.specs.TypedText.{Commands, set_part}
-use Rattle.fb_model.specs.Clear.{Spans, changed, narrowed, reset, range_of, with_range, are_kept, kept, taken, left_with, most_turns, looped, assigned, examine, examine_one, examine_choices, examine_cases}
+use Rattle.fb_model.specs.Spans.{Span, span, within}
+use Rattle.fb_model.specs.Clear.{Spans, Clear, Leaves, Traps, changed, narrowed, reset, range_of, with_range, are_kept, kept, taken, left_with, most_turns, looped, assigned, examine, examine_one, examine_choices, examine_cases}
 use Rattle.fb_asking.specs.Asking.{Asked, point, range_in, asking_all, asked_loop, ask, ask_one, ask_choices, ask_cases}
 use Rattle.fb_asking.proofs.Ending.{Ends, ends}
 use Rattle.st_types.specs.declared.command.TypedStmt.{TypedStmt}
@@ -78,7 +79,9 @@ examine_one-returns-in_ok-ask-in-SetElement-clause-tells t c =
     let e = ap command_of c.in-SetElement.is ∙ command_element x low high c.in-SetElement.index c.in-SetElement.value in
     let a : to_z w64 (of_z w64 low) ≡ low = omega (arith, ints) in
     let b : to_z w64 (of_z w64 high) ≡ high = omega (arith, ints) in
+    let found = λ (y : Name) (l h : ℤ) (o : Option Span). tell (with_range (range_of index s) (λ k. with_range o (λ r. if within k (span l h) then (if within r (rows y) then Clear s 1 else Leaves) else Traps))) in
     c.element_told.ensures
+    ∙ ap (found c.as_str-in-SetElement-2.result.now (to_z w64 (of_z w64 low)) (to_z w64 (of_z w64 high))) c.range-value.ensures.clear
     ∙ ap (λ (y : Name). tell (examine_one rows (set_part y (to_z w64 (of_z w64 low)) (to_z w64 (of_z w64 high)) index value) s)) c.as_str-in-SetElement-2.ensures.value
     ∙ ap₂ (λ l h. tell (examine_one rows (set_part (string_bytes x) l h index value) s)) a b
     ∙ sym (ap (λ d. tell (examine_one rows d s)) e)

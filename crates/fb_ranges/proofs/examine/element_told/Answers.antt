@@ -1,4 +1,4 @@
-use Rattle.std.proofs.Common.{◌≡◌, to_z, of_z, w64, arith, sym, ap, ap₂, ◌∙◌}
+use Rattle.std.proofs.Common.{◌≡◌, to_z, of_z, w64, arith, refl, sym, ap, ap₂, ◌∙◌}
 use Rattle.std.specs.Prelude.{if◌then◌else◌}
 use Rattle.std.proofs.lemmas.Int.{ints}
 use Rattle.fb_model.specs.Spans.{span, within}
@@ -7,7 +7,7 @@ use Rattle.st_types.specs.Views.{term_of}
 use Rattle.fb_intervals.specs.Views.{span_of}
 use Rattle.fb_ranges.specs.declared.told.Told.TheVariants as t
 use Rattle.fb_ranges.specs.Finding.{keeping, trapping}
-use Rattle.fb_ranges.specs.Views.{spans_of}
+use Rattle.fb_ranges.specs.Views.{clear_range, spans_of}
 use Rattle.fb_ranges.proofs.Telling.{tell_element, tell_range}
 use Rattle.fb_ranges.proofs.examine.element_told.Goals as goal
 
@@ -17,7 +17,7 @@ returns c =
     let row = spans_of c.args.rows.now c.args.name.now in
     let bounds = span c.args.low c.args.high in
     let i = span_of c.range-index.result.range in
-    let v = span_of c.range-value.result.range in
+    let v = span_of c.args.value.range in
     let a : to_z w64 (of_z w64 c.args.low) ≡ c.args.low = omega (arith, ints) in
     let b : to_z w64 (of_z w64 c.args.high) ≡ c.args.high = omega (arith, ints) in
     let fits : c.is_between-fits.result ≡ within i bounds = c.is_between-fits.ensures ∙ ap₂ (λ x y. within i (span x y)) a b in
@@ -27,6 +27,6 @@ returns c =
     c.trapping-2.ensures
     ∙ ap (trapping c.range-index.result.is_clear)
     (c.trapping.ensures
-    ∙ ap (trapping c.range-value.result.is_clear) (inner ∙ sym (tell_element (within i bounds) (within v row) spans))
-    ∙ sym (tell_range (range_of (term_of c.args.value.now) spans) c.range-value.result.is_clear v (λ r. if within i bounds then (if within r row then Clear spans 1 else Leaves) else Traps) c.range-value.ensures.clear))
-    ∙ sym (tell_range (range_of (term_of c.args.index.now) spans) c.range-index.result.is_clear i (λ k. with_range (range_of (term_of c.args.value.now) spans) (λ r. if within k bounds then (if within r row then Clear spans 1 else Leaves) else Traps)) c.range-index.ensures.clear)
+    ∙ ap (trapping c.args.value.is_clear) (inner ∙ sym (tell_element (within i bounds) (within v row) spans))
+    ∙ sym (tell_range (clear_range c.args.value) c.args.value.is_clear v (λ r. if within i bounds then (if within r row then Clear spans 1 else Leaves) else Traps) refl))
+    ∙ sym (tell_range (range_of (term_of c.args.index.now) spans) c.range-index.result.is_clear i (λ k. with_range (clear_range c.args.value) (λ r. if within k bounds then (if within r row then Clear spans 1 else Leaves) else Traps)) c.range-index.ensures.clear)
