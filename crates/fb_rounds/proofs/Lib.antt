@@ -1,0 +1,5 @@
+pub mod Rounding
+pub mod Spans
+pub mod Looking
+pub mod Holding
+pub mod Feeding

@@ -1,0 +1,2 @@
+pub mod FinderRanges
+pub mod Holding

@@ -1,0 +1,23 @@
+//! Laws about the ranges that the finder gives variables.
+#![tactic(auto)]
+
+ghost use Rattle.std.specs.Prelude.{ℕ, ◌≡◌, List};
+ghost use Rattle.std.specs.List.{AllByRecursion};
+ghost use Rattle.fb_model.specs.Declarations.{BlockTree, SourceTree};
+ghost use Rattle.fb_model.specs.NetworkTyping.{ElaboratesWith};
+ghost use Rattle.fb_model.specs.Ranges.{Range};
+ghost use Rattle.fb_model.specs.System.{Device, System};
+ghost use Rattle.fb_model.specs.Wires.{Leaf, leaves};
+ghost use Rattle.fb_rounds.specs.FinderRanges.{IsLast, Settles};
+ghost use Rattle.fb_rounds.specs.Holding.{LeafIsFed, LeafIsGood};
+
+/// From one round on, rows come to one end.
+pub fn rounds_have_one_end()
+    ensures { (all : List Leaf) (n : ℕ) (xs ys zs : List Range) → Settles all n xs ys → Settles all n xs zs → ys ≡ zs }
+{}
+
+/// The rows of a device after its last round lie in the types of their variables, hold what these have at first, and hold the rows of the outputs
+/// that inputs take.
+pub fn last_rows_hold()
+    ensures { (library : List BlockTree) (source : SourceTree) (system : System) → ElaboratesWith library source system → AllByRecursion (λ (d : Device). (zs : List Range) → IsLast (leaves d) zs → AllByRecursion (λ (leaf : Leaf). LeafIsGood zs leaf × LeafIsFed zs (leaves d) leaf) (leaves d)) system.devices }
+{}
