@@ -29,18 +29,30 @@ def kind_of(pid, words):
     return crate, "tests" if "--test" in words else "proof"
 
 
+def stat_of(pid):
+    """What the system tells of a process, behind its name."""
+    with open(f"/proc/{pid}/stat", encoding="utf-8", errors="replace") as it:
+        return it.read().rpartition(")")[2].split()
+
+
 def seconds_of(pid):
     """When a process began, and the processor seconds that it took by itself."""
-    with open(f"/proc/{pid}/stat", encoding="utf-8", errors="replace") as it:
-        parts = it.read().rpartition(")")[2].split()
+    parts = stat_of(pid)
     return parts[19], (int(parts[11]) + int(parts[12])) / TICK
 
 
-def look(seen):
+def is_of(pid, gate):
+    """Whether a process was begun by the gate, and not by other work on the machine."""
+    while pid not in ("0", "1", str(gate)):
+        pid = stat_of(pid)[1]
+    return pid == str(gate)
+
+
+def look(seen, gate):
     for pid in filter(str.isdigit, os.listdir("/proc")):
         try:
             kind = kind_of(pid, words_of(pid))
-            if kind:
+            if kind and is_of(pid, gate):
                 began, seconds = seconds_of(pid)
                 seen[pid, began] = kind, seconds
         except (OSError, ValueError, IndexError):
@@ -79,7 +91,7 @@ def main(folder):
     listener = threading.Thread(target=listen)
     listener.start()
     while job.poll() is None:
-        look(seen)
+        look(seen, job.pid)
         time.sleep(0.25)
     listener.join()
     after = os.times()

@@ -3,3 +3,4 @@ pub mod Spans
 pub mod Looking
 pub mod Holding
 pub mod Feeding
+pub mod Finishing

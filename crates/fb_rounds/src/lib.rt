@@ -21,3 +21,8 @@ pub fn rounds_have_one_end()
 pub fn last_rows_hold()
     ensures { (library : List BlockTree) (source : SourceTree) (system : System) → ElaboratesWith library source system → AllByRecursion (λ (d : Device). (zs : List Range) → IsLast (leaves d) zs → AllByRecursion (λ (leaf : Leaf). LeafIsGood zs leaf × LeafIsFed zs (leaves d) leaf) (leaves d)) system.devices }
 {}
+
+/// The rounds of a device end.
+pub fn rounds_end()
+    ensures { (library : List BlockTree) (source : SourceTree) (system : System) → ElaboratesWith library source system → AllByRecursion (λ (d : Device). (zs : List Range) × IsLast (leaves d) zs) system.devices }
+{}
