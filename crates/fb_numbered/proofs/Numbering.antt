@@ -88,3 +88,32 @@ walk_nodes nodes ds number system walk n o s w =
           w.once j k l hk (sym (n.back (slice_index walk j) (known j hj)) ∙ (ap number same ∙ n.back (slice_index walk k) (known k hk)));
       paid = let p = w.paid in (p.0, p.1, omega (arith, many, p.2), step p.0 p.1 p.2 p.3, p.4);
     }
+
+-- ---- and back
+
+numbers_contain : (number : Node → ℕ) (ts : List Node) (t : Node) → Contains ts t → Contains (map number ts) (number t)
+numbers_contain number ts t h = (h.0, omega (arith, length-map ts number, h.1), get_or-map number ts h.0 t (number t) h.1 ∙ ap number h.2)
+
+asks_numbers : (ds : List Demand) (number : Node → ℕ) (system : System) (x y : Node) (c : ℕ) → SaysSame ds number system → Asks ds x y c → Demands system (number x) (number y) c
+asks_numbers ds number system x y c s h =
+    let a = inequality number h.0 in
+    (a, subst (λ (p : ℕ). Contains (inequalities system p) a) (ap number h.2) (s.to h.0 h.1), numbers_contain number h.0.terms y h.3, h.4)
+
+pub walk_numbers : (nodes : List Node) (ds : List Demand) (number : Node → ℕ) (system : System) (walk : List Node) → AreNumbers nodes number → AreOf nodes ds → SaysSame ds number system → IsClosedWalk ds walk → numbered.IsClosedWalk system (map number walk)
+walk_numbers nodes ds number system walk n o s w =
+    let many : length (map number walk) ≡ length walk = length-map walk number in
+    let at : (k : ℕ) → k < length walk → slice_index (map number walk) k ≡ number (node_in walk k) = λ k h. get_or-map number walk k (state (at_place [] [])) 0 h in
+    let step : (k c : ℕ) → k + 1 < length walk → Asks ds (node_in walk k) (node_in walk (k + 1)) c → Demands system (slice_index (map number walk) k) (slice_index (map number walk) (k + 1)) c =
+    λ k c h a. subst (λ (p : ℕ). Demands system p (slice_index (map number walk) (k + 1)) c) (sym (at k (omega (arith, h)))) (subst (λ (q : ℕ). Demands system (number (node_in walk k)) q c) (sym (at (k + 1) h)) (asks_numbers ds number system (node_in walk k) (node_in walk (k + 1)) c s a)) in
+    let known : (k : ℕ) → k + 1 < length walk → Contains nodes (node_in walk k) = λ k h. let a = (w.chain k h).1 in subst (λ (x : Node). Contains nodes x) a.2 (o.node a.0 a.1) in
+    record {
+      long = omega (arith, many, w.long);
+      chain = λ k h. let a = w.chain k (omega (arith, many, h)) in (a.0, step k a.0 (omega (arith, many, h)) a.1);
+      closes = at 0 (omega (arith, w.long)) ∙ (ap number w.closes ∙ (sym (at (length walk - 1) (omega (arith, w.long))) ∙ ap (λ (m : ℕ). slice_index (map number walk) (m - 1)) (sym many)));
+      once = λ j k l h e.
+          let hj : j + 1 < length walk = omega (arith, many, l, h) in
+          let hk : k + 1 < length walk = omega (arith, many, h) in
+          let same : number (node_in walk j) ≡ number (node_in walk k) = sym (at j (omega (arith, hj))) ∙ (e ∙ at k (omega (arith, hk))) in
+          w.once j k l hk (sym (n.at (node_in walk j) (known j hj)).1 ∙ (ap (node_in nodes) same ∙ (n.at (node_in walk k) (known k hk)).1));
+      paid = let p = w.paid in (p.0, p.1, omega (arith, many, p.2), step p.0 p.1 p.2 p.3, p.4);
+    }

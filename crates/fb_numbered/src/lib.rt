@@ -22,3 +22,8 @@ pub fn walks_are_walks()
 pub fn demands_pay()
     ensures { (nodes : List Node) (all : List Leaf) (number : Node → ℕ) (system : System) → AreNumbers nodes number → AreOf nodes (bare_demands all) → SaysSame (bare_demands all) number system → IsPaying system }
 {}
+
+/// And a closed walk through nodes is one through their places.
+pub fn walks_have_places()
+    ensures { (nodes : List Node) (ds : List Demand) (number : Node → ℕ) (system : System) (walk : List Node) → AreNumbers nodes number → AreOf nodes ds → SaysSame ds number system → IsClosedWalk ds walk → numbered.IsClosedWalk system (map number walk) }
+{}
