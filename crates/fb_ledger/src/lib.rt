@@ -8,7 +8,5 @@ mod matching;
 mod required;
 
 pub use fault::RowFault;
-pub use kind::RowKind;
 pub use law::no_row_is_spelled_twice;
 pub use matching::rows_match;
-pub use required::required;
