@@ -5,8 +5,10 @@ mod fault;
 mod kind;
 mod law;
 mod matching;
-mod required;
+mod requirement;
 
 pub use fault::RowFault;
+pub use kind::RowKind;
 pub use law::no_row_is_spelled_twice;
 pub use matching::rows_match;
+pub use requirement::required;

@@ -14,7 +14,7 @@ ghost use Rattle.fb_ledger.specs.Faults.{IsDifference, IsRowFault};
 
 use crate::fault::RowFault;
 use crate::kind::{RowKind, has_row, path_at, row_count};
-use crate::required::required;
+use crate::requirement::required;
 use fb_cert::Certificate;
 use fb_flat::Flat;
 use indexmap::IndexSet;

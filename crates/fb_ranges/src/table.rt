@@ -25,7 +25,7 @@ impl Ranges {
     }
 
     /// The range of the variable of a name: all numbers of LINT where it has no row.
-    pub(crate) fn find(&self, name: &str) -> Interval
+    pub fn find(&self, name: &str) -> Interval
         ensures { span_of result ≡ spans_of self.now name.now }
     {
         match self.rows.get(name) {

@@ -3,7 +3,7 @@ use Rattle.std.specs.List.{flat_map}
 use Rattle.fb_flat.specs.fb_blocks.Views.{names_of}
 use Rattle.fb_ledger.specs.Members.{HasSame}
 use Rattle.fb_ledger.specs.Texts.{resource_texts, device_texts}
-use Rattle.fb_ledger.proofs.required.require_device.Given as goal
+use Rattle.fb_ledger.proofs.requirement.require_device.Given as goal
 
 -- with the rows of the resources that are left, all are there
 abbrev pub invariant-loop-resource : goal.invariant-loop-resource

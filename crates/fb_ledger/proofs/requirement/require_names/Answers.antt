@@ -3,7 +3,7 @@ use Rattle.fb_model.specs.Names.{Name}
 use Rattle.fb_flat.specs.fb_blocks.Views.{names_of}
 use Rattle.fb_flat.specs.Sites.{dotted}
 use Rattle.fb_ledger.proofs.Members.{next_item, rest_got}
-use Rattle.fb_ledger.proofs.required.require_names.Goals as goal
+use Rattle.fb_ledger.proofs.requirement.require_names.Goals as goal
 
 pub loop-name-preserved : goal.loop-name-preserved
 loop-name-preserved c =

@@ -2,7 +2,7 @@ use Rattle.std.proofs.Common.{refl, string_bytes}
 use Rattle.fb_flat.specs.fb_blocks.Views.{names_of}
 use Rattle.fb_flat.proofs.of_fb_blocks.Lists.{with_key}
 use Rattle.fb_ledger.proofs.Members.{extended}
-use Rattle.fb_ledger.proofs.required.require.Goals as goal
+use Rattle.fb_ledger.proofs.requirement.require.Goals as goal
 
 pub returns-clause-rows : goal.returns-clause-rows
 returns-clause-rows c =

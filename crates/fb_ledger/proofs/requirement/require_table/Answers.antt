@@ -4,7 +4,7 @@ use Rattle.fb_flat.specs.Sites.{dotted}
 use Rattle.fb_ledger.specs.Members.{HasSame}
 use Rattle.fb_ledger.specs.Texts.{texts_in}
 use Rattle.fb_ledger.proofs.Members.{next_item, rest_at}
-use Rattle.fb_ledger.proofs.required.require_table.Goals as goal
+use Rattle.fb_ledger.proofs.requirement.require_table.Goals as goal
 
 pub loop-index-preserved : goal.loop-index-preserved
 loop-index-preserved g c =

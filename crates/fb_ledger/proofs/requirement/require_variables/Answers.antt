@@ -8,8 +8,8 @@ use Rattle.fb_ledger.specs.Members.{HasSame}
 use Rattle.fb_ledger.specs.Texts.{texts_in, ranged_names}
 use Rattle.fb_ledger.proofs.Members.{rest_at}
 use Rattle.fb_ledger.proofs.Tables.{listed, ranged_on, ranged_over}
-use Rattle.fb_ledger.proofs.required.require_variables.Goals as goal
-use Rattle.fb_ledger.proofs.required.require_variables.Goals.{then-not-is_boolean+in_ok-require_name, else-not-is_boolean}
+use Rattle.fb_ledger.proofs.requirement.require_variables.Goals as goal
+use Rattle.fb_ledger.proofs.requirement.require_variables.Goals.{then-not-is_boolean+in_ok-require_name, else-not-is_boolean}
 
 pub loop-index-preserved : goal.loop-index-preserved
 loop-index-preserved c =

@@ -9,7 +9,7 @@ use Rattle.fb_ledger.specs.Members.{HasSame}
 use Rattle.fb_ledger.specs.Texts.{texts_in}
 use Rattle.fb_ledger.proofs.Members.{same_behind}
 use Rattle.fb_ledger.proofs.Tables.{events_are}
-use Rattle.fb_ledger.proofs.required.require_events.Goals as goal
+use Rattle.fb_ledger.proofs.requirement.require_events.Goals as goal
 
 pub returns-in-Some-clause-rows : goal.returns-in-Some-clause-rows
 returns-in-Some-clause-rows c =

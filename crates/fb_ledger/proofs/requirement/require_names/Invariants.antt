@@ -2,7 +2,7 @@ use Rattle.std.proofs.Common.{◌++◌, map, drop}
 use Rattle.fb_flat.specs.fb_blocks.Views.{names_of}
 use Rattle.fb_ledger.specs.Members.{HasSame}
 use Rattle.fb_ledger.specs.Texts.{texts_in}
-use Rattle.fb_ledger.proofs.required.require_names.Given as goal
+use Rattle.fb_ledger.proofs.requirement.require_names.Given as goal
 
 -- with the rows of the names that are left, all are there
 abbrev pub invariant-loop-name : goal.invariant-loop-name

@@ -3,7 +3,7 @@ use Rattle.std.specs.List.{flat_map}
 use Rattle.fb_flat.specs.fb_blocks.Views.{names_of}
 use Rattle.fb_ledger.specs.Members.{HasSame}
 use Rattle.fb_ledger.specs.Texts.{device_texts, texts_of}
-use Rattle.fb_ledger.proofs.required.required.Given as goal
+use Rattle.fb_ledger.proofs.requirement.required.Given as goal
 
 -- with the rows of the devices that are left, all are there
 abbrev pub invariant-loop-device : goal.invariant-loop-device

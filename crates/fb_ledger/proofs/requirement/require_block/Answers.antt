@@ -4,7 +4,7 @@ use Rattle.fb_flat.specs.fb_blocks.Views.{names_of, block_of}
 use Rattle.fb_ledger.specs.Members.{HasSame}
 use Rattle.fb_ledger.specs.Texts.{texts_in, row_names}
 use Rattle.fb_ledger.proofs.Tables.{state_names_are, event_names_are}
-use Rattle.fb_ledger.proofs.required.require_block.Goals as goal
+use Rattle.fb_ledger.proofs.requirement.require_block.Goals as goal
 
 pub returns-in-Charge-clause-rows : goal.returns-in-Charge-clause-rows
 returns-in-Charge-clause-rows c =

@@ -6,7 +6,7 @@ use Rattle.fb_flat.specs.Sites.{dotted}
 use Rattle.fb_ledger.specs.Members.{HasSame}
 use Rattle.fb_ledger.specs.Texts.{texts_in, ranged_names}
 use Rattle.fb_ledger.proofs.Members.{same_both}
-use Rattle.fb_ledger.proofs.required.require_ranges.Goals as goal
+use Rattle.fb_ledger.proofs.requirement.require_ranges.Goals as goal
 
 pub returns-clause-rows : goal.returns-clause-rows
 returns-clause-rows c =

@@ -3,7 +3,7 @@ use Rattle.std.specs.List.{flat_map}
 use Rattle.fb_flat.specs.fb_blocks.Views.{names_of}
 use Rattle.fb_ledger.specs.Members.{HasSame}
 use Rattle.fb_ledger.specs.Texts.{leaf_texts}
-use Rattle.fb_ledger.proofs.required.require_leaves.Given as goal
+use Rattle.fb_ledger.proofs.requirement.require_leaves.Given as goal
 
 -- with the rows of the leaves that are left, all are there
 abbrev pub invariant-loop-leaf : goal.invariant-loop-leaf

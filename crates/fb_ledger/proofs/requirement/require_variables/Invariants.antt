@@ -3,7 +3,7 @@ use Rattle.fb_flat.specs.fb_blocks.Views.{names_of, variables_of}
 use Rattle.fb_ledger.specs.Members.{HasSame}
 use Rattle.fb_ledger.specs.Texts.{texts_in, ranged_names}
 use Rattle.fb_ledger.proofs.Tables.{listed}
-use Rattle.fb_ledger.proofs.required.require_variables.Given as goal
+use Rattle.fb_ledger.proofs.requirement.require_variables.Given as goal
 
 -- with the rows of the variables that are left, all are there
 abbrev pub invariant-loop-index : goal.invariant-loop-index
