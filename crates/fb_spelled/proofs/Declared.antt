@@ -1,9 +1,8 @@
--- The names in a source tree that a text spells are words.
+-- The names in a source tree that a text spells are words in capitals.
 use Rattle.std.proofs.Common.{List, [], Option, None, Some}
 use Rattle.std.specs.List.{AllByRecursion}
 use Rattle.fb_model.specs.Names.{Name}
 use Rattle.fb_model.specs.Tokens.{Token}
-use Rattle.fb_model.specs.Spelling.{IsWord}
 use Rattle.fb_model.specs.Productions as p
 use Rattle.fb_model.specs.Productions.{Gram, Word}
 use Rattle.fb_model.specs.Trees.{StateTree, PortTree, ConnectionTree}
@@ -11,7 +10,8 @@ use Rattle.fb_model.specs.Declarations.{EventTree, VariableTree, AlgorithmTree, 
 use Rattle.fb_model.specs.StructuredText.{Expression, Statements}
 use Rattle.fb_model.specs.Grammar.{IsConstant, negative, plain, with_type, time, yes, no, IsAction, runs, runs_and_emits, emits, IsState, bare, acting, IsStates, some_states, IsParameter, a_parameter, IsPort, own, inner, IsConnection, a_connection}
 use Rattle.fb_model.specs.DeclarationGrammar.{IsKind, unsaid, said, IsWith, alone, along, IsEvent, an_event, IsTypeName, a_type, IsStart, no_start, a_start, IsVariable, of_type, IsBounds, some_bounds, IsInternal, a_variable, an_array, IsTypeList, no_types, some_types, IsTypes, no_brackets, in_brackets, IsParameters, no_parameters, some_parameters, IsInstance, an_instance, IsNetwork, a_network, IsGuard, a_guard, IsCondition, always, on_event, on_event_where, guarded, IsTransition, a_transition, IsTransitions, some_transitions, IsProcedure, a_procedure, IsChart, a_chart, IsBody, basic, composite, IsBlock, a_block, IsResource, a_resource, IsDevice, a_device, IsSystem, a_system, IsFile, a_file}
-use Rattle.fb_spelled.proofs.Wordy.{AreWordy, Takes, Any, takes_many, takes_separated, takes_section, name_takes}
+use Rattle.fb_spelled.specs.Words.{IsCapital}
+use Rattle.fb_spelled.proofs.Capitals.{AreCapitalTokens, Takes, Any, takes_many, takes_separated, takes_section, name_takes}
 use Rattle.fb_spelled.proofs.Statements.{integer_takes}
 
 -- ---- what is known of trees
@@ -21,44 +21,44 @@ abbrev pub port_text : PortTree → Name
 port_text q = elim q.second [ None ↦ q.first.text | Some w ↦ w.text ]
 
 -- the names of instances, and of the ports that event connections lead to
-pub record HasNetworkWords (n : NetworkTree) : Type 0 where
-  pub instances : AllByRecursion (λ (x : InstanceTree). IsWord x.name.text) n.instances
-  pub targets : AllByRecursion (λ (x : ConnectionTree). IsWord (port_text x.target)) n.events
+pub record HasNetworkCapitals (n : NetworkTree) : Type 0 where
+  pub instances : AllByRecursion (λ (x : InstanceTree). IsCapital x.name.text) n.instances
+  pub targets : AllByRecursion (λ (x : ConnectionTree). IsCapital (port_text x.target)) n.events
 
 -- the names that a declaration of variables gives
-abbrev pub HasVariableWords : VariableTree → Type 0
-HasVariableWords v = AllByRecursion (λ (x : Word). IsWord x.text) v.names
+abbrev pub HasVariableCapitals : VariableTree → Type 0
+HasVariableCapitals v = AllByRecursion (λ (x : Word). IsCapital x.text) v.names
 
-pub record HasChartWords (c : ChartTree) : Type 0 where
-  pub internals : AllByRecursion HasVariableWords c.internals
-  pub states : AllByRecursion (λ (x : StateTree). IsWord x.name.text) c.states
-  pub algorithms : AllByRecursion (λ (x : AlgorithmTree). IsWord x.name.text) c.algorithms
+pub record HasChartCapitals (c : ChartTree) : Type 0 where
+  pub internals : AllByRecursion HasVariableCapitals c.internals
+  pub states : AllByRecursion (λ (x : StateTree). IsCapital x.name.text) c.states
+  pub algorithms : AllByRecursion (λ (x : AlgorithmTree). IsCapital x.name.text) c.algorithms
 
-abbrev pub HasBodyWords : BodyTree → Type 0
-HasBodyWords (Chart c) = HasChartWords c
-HasBodyWords (Network n) = HasNetworkWords n
+abbrev pub HasBodyCapitals : BodyTree → Type 0
+HasBodyCapitals (Chart c) = HasChartCapitals c
+HasBodyCapitals (Network n) = HasNetworkCapitals n
 
-pub record HasBlockWords (b : BlockTree) : Type 0 where
-  pub inputs : AllByRecursion (λ (x : EventTree). IsWord x.name.text) b.event_inputs
-  pub values_in : AllByRecursion HasVariableWords b.inputs
-  pub values_out : AllByRecursion HasVariableWords b.outputs
-  pub body : HasBodyWords b.body
+pub record HasBlockCapitals (b : BlockTree) : Type 0 where
+  pub inputs : AllByRecursion (λ (x : EventTree). IsCapital x.name.text) b.event_inputs
+  pub values_in : AllByRecursion HasVariableCapitals b.inputs
+  pub values_out : AllByRecursion HasVariableCapitals b.outputs
+  pub body : HasBodyCapitals b.body
 
-pub record HasResourceWords (r : ResourceTree) : Type 0 where
-  pub name : IsWord r.name.text
-  pub network : HasNetworkWords r.network
+pub record HasResourceCapitals (r : ResourceTree) : Type 0 where
+  pub name : IsCapital r.name.text
+  pub network : HasNetworkCapitals r.network
 
-pub record HasDeviceWords (d : DeviceTree) : Type 0 where
-  pub name : IsWord d.name.text
-  pub resources : AllByRecursion HasResourceWords d.resources
+pub record HasDeviceCapitals (d : DeviceTree) : Type 0 where
+  pub name : IsCapital d.name.text
+  pub resources : AllByRecursion HasResourceCapitals d.resources
 
-pub record HasSourceWords (x : SourceTree) : Type 0 where
-  pub blocks : AllByRecursion HasBlockWords x.blocks
-  pub devices : AllByRecursion HasDeviceWords x.system.devices
+pub record HasSourceCapitals (x : SourceTree) : Type 0 where
+  pub blocks : AllByRecursion HasBlockCapitals x.blocks
+  pub devices : AllByRecursion HasDeviceCapitals x.system.devices
 
 -- ---- events
 
-kind_leaves : {ts rest : List Token} → IsKind ts rest → AreWordy ts → AreWordy rest
+kind_leaves : {ts rest : List Token} → IsKind ts rest → AreCapitalTokens ts → AreCapitalTokens rest
 kind_leaves unsaid h = h
 kind_leaves said h = h.1.1
 
@@ -66,7 +66,7 @@ with_takes : Takes Any IsWith
 with_takes ts x rest alone h = (tt, h)
 with_takes ts x rest (along gs) h = (tt, (takes_separated _ name_takes gs h.1).1)
 
-event_takes : Takes (λ (x : EventTree). IsWord x.name.text) IsEvent
+event_takes : Takes (λ (x : EventTree). IsCapital x.name.text) IsEvent
 event_takes ts x rest (an_event {ts₂ = ts₂} {xs = xs} p.a_name k w) h = (h.0, (with_takes ts₂ xs _ w (kind_leaves k h.1)).1.1)
 
 -- ---- variables
@@ -86,7 +86,7 @@ start_takes : Takes Any IsStart
 start_takes ts x rest no_start h = (tt, h)
 start_takes ts x rest (a_start {ts = on} {c = c} g) h = (tt, (constant_takes on c rest g h.1).1)
 
-variable_takes : Takes HasVariableWords IsVariable
+variable_takes : Takes HasVariableCapitals IsVariable
 variable_takes ts x rest (of_type {ts₁ = ts₁} {ts₂ = ts₂} {a = a} {c = c} gs t s) h =
     let b = takes_separated _ name_takes gs h in
     let d = type_takes ts₁ a ts₂ t b.1.1 in
@@ -95,7 +95,7 @@ variable_takes ts x rest (of_type {ts₁ = ts₁} {ts₂ = ts₂} {a = a} {c = c
 bounds_take : Takes Any IsBounds
 bounds_take ts x rest (some_bounds {ts = on} {mid = mid} {c = c} {d = d} g i) h = (tt, (integer_takes mid d _ i (integer_takes on c _ g h.1).1.1).1.1)
 
-internal_takes : Takes HasVariableWords IsInternal
+internal_takes : Takes HasVariableCapitals IsInternal
 internal_takes ts x rest (a_variable g) h = variable_takes ts x rest g h
 internal_takes ts x rest (an_array {ts₁ = ts₁} {ts₂ = ts₂} {b = b} {a = a} gs g t) h =
     let c = takes_separated _ name_takes gs h in
@@ -119,19 +119,19 @@ parameters_take : Takes Any IsParameters
 parameters_take ts x rest no_parameters h = (tt, h)
 parameters_take ts x rest (some_parameters gs) h = (tt, (takes_separated Any parameter_takes gs h.1).1.1)
 
-instance_takes : Takes (λ (x : InstanceTree). IsWord x.name.text) IsInstance
+instance_takes : Takes (λ (x : InstanceTree). IsCapital x.name.text) IsInstance
 instance_takes ts x rest (an_instance {ts₂ = ts₂} {ts₃ = ts₃} {types = types} {ps = ps} p.a_name p.a_name t g) h =
     let a = types_take ts₂ types ts₃ t h.1.1.1 in
     (h.0, (parameters_take ts₃ ps _ g a.1).1.1)
 
-port_takes : Takes (λ (x : PortTree). IsWord (port_text x)) IsPort
+port_takes : Takes (λ (x : PortTree). IsCapital (port_text x)) IsPort
 port_takes ts x rest (own p.a_name) h = (h.0, h.1)
 port_takes ts x rest (inner p.a_name p.a_name) h = (h.1.1.0, h.1.1.1)
 
-connection_takes : Takes (λ (x : ConnectionTree). IsWord (port_text x.target)) IsConnection
+connection_takes : Takes (λ (x : ConnectionTree). IsCapital (port_text x.target)) IsConnection
 connection_takes ts x rest (a_connection {mid = mid} {p = p} {q = q} s t) h = let a = port_takes mid q _ t (port_takes ts p _ s h).1.1 in (a.0, a.1.1)
 
-network_takes : Takes HasNetworkWords IsNetwork
+network_takes : Takes HasNetworkCapitals IsNetwork
 network_takes ts x rest (a_network is es vs) h =
     let a = takes_section _ instance_takes is h in
     let b = takes_section _ connection_takes es a.1 in
@@ -145,11 +145,11 @@ action_takes ts x rest (runs p.a_name) h = (tt, h.1)
 action_takes ts x rest (runs_and_emits p.a_name p.a_name) h = (tt, h.1.1.1)
 action_takes ts x rest (emits p.a_name) h = (tt, h.1.1)
 
-state_takes : Takes (λ (x : StateTree). IsWord x.name.text) IsState
+state_takes : Takes (λ (x : StateTree). IsCapital x.name.text) IsState
 state_takes ts x rest (bare p.a_name) h = (h.0, h.1.1)
 state_takes ts x rest (acting p.a_name s) h = (h.0, (takes_separated _ action_takes s h.1.1).1.1)
 
-states_take : Takes (AllByRecursion (λ (x : StateTree). IsWord x.name.text)) IsStates
+states_take : Takes (AllByRecursion (λ (x : StateTree). IsCapital x.name.text)) IsStates
 states_take ts xs rest (some_states {ts = on} {mid = mid} {x = x} s ss) h = let a = state_takes on x mid s h.1 in let b = takes_many _ state_takes ss a.1 in ((a.0, b.0), b.1.1)
 
 -- of expressions, and of lists of statements, this is known
@@ -157,7 +157,7 @@ module _ (E : Gram Expression) (expr : Takes Any E) (L : Gram Statements) (list 
   guard_takes : Takes Any (IsGuard E L)
   guard_takes ts x rest (a_guard {ts = on} {x = y} g) h = (tt, (expr on y _ g h.1).1.1)
 
-  condition_leaves : (ts : List Token) (x : Option Word) (g : _) (rest : List Token) → IsCondition E L ts x g rest → AreWordy ts → AreWordy rest
+  condition_leaves : (ts : List Token) (x : Option Word) (g : _) (rest : List Token) → IsCondition E L ts x g rest → AreCapitalTokens ts → AreCapitalTokens rest
   condition_leaves ts x g rest always h = h.1
   condition_leaves ts x g rest (on_event p.a_name) h = h.1
   condition_leaves ts x g rest (on_event_where {mid = mid} {g = y} p.a_name s) h = (guard_takes mid y rest s h.1).1
@@ -169,10 +169,10 @@ module _ (E : Gram Expression) (expr : Takes Any E) (L : Gram Statements) (list 
   transitions_take : Takes Any (IsTransitions E L)
   transitions_take ts xs rest (some_transitions s) h = (tt, (takes_many Any transition_takes s h.1).1.1)
 
-  procedure_takes : Takes (λ (x : AlgorithmTree). IsWord x.name.text) (IsProcedure E L)
+  procedure_takes : Takes (λ (x : AlgorithmTree). IsCapital x.name.text) (IsProcedure E L)
   procedure_takes ts x rest (a_procedure {mid = mid} {xs = xs} p.a_name s) h = (h.1.0, (list mid xs _ s h.1.1.1.1.1).1.1)
 
-  chart_takes : Takes HasChartWords (IsChart E L)
+  chart_takes : Takes HasChartCapitals (IsChart E L)
   chart_takes ts x rest (a_chart {ts₁ = ts₁} {ts₂ = ts₂} {ts₃ = ts₃} {ss = ss} {cs = cs} vs states transitions fs) h =
       let a = takes_section _ internal_takes vs h in
       let b = states_take ts₁ ss ts₂ states a.1 in
@@ -180,11 +180,11 @@ module _ (E : Gram Expression) (expr : Takes Any E) (L : Gram Statements) (list 
       let d = takes_many _ procedure_takes fs c.1 in
       (record { internals = a.0; states = b.0; algorithms = d.0 }, d.1)
 
-  body_takes : Takes HasBodyWords (IsBody E L)
+  body_takes : Takes HasBodyCapitals (IsBody E L)
   body_takes ts x rest (basic {c = c} g) h = chart_takes ts c rest g h
   body_takes ts x rest (composite {n = n} g) h = network_takes ts n rest g h
 
-  block_takes : Takes HasBlockWords (IsBlock E L)
+  block_takes : Takes HasBlockCapitals (IsBlock E L)
   block_takes ts x rest (a_block {ts₅ = ts₅} {b = b} p.a_name is os us vs g) h =
       let a = takes_section _ event_takes is h.1.1 in
       let c = takes_section _ event_takes os a.1 in
@@ -195,14 +195,14 @@ module _ (E : Gram Expression) (expr : Takes Any E) (L : Gram Statements) (list 
 
 -- ---- systems
 
-resource_takes : Takes HasResourceWords IsResource
+resource_takes : Takes HasResourceCapitals IsResource
 resource_takes ts x rest (a_resource {mid = mid} {n = n} p.a_name g) h = let a = network_takes mid n _ g h.1.1 in (record { name = h.1.0; network = a.0 }, a.1.1)
 
-device_takes : Takes HasDeviceWords IsDevice
+device_takes : Takes HasDeviceCapitals IsDevice
 device_takes ts x rest (a_device p.a_name rs) h = let a = takes_many _ resource_takes rs h.1.1 in (record { name = h.1.0; resources = a.0 }, a.1.1)
 
-system_takes : Takes (λ (y : SystemTree). AllByRecursion HasDeviceWords y.devices) IsSystem
+system_takes : Takes (λ (y : SystemTree). AllByRecursion HasDeviceCapitals y.devices) IsSystem
 system_takes ts x rest (a_system p.a_name ds) h = let a = takes_many _ device_takes ds h.1.1 in (a.0, a.1.1)
 
-pub file_takes : (E : Gram Expression) → Takes Any E → (L : Gram Statements) → Takes Any L → (ts : List Token) (x : SourceTree) → IsFile E L ts x → AreWordy ts → HasSourceWords x
+pub file_takes : (E : Gram Expression) → Takes Any E → (L : Gram Statements) → Takes Any L → (ts : List Token) (x : SourceTree) → IsFile E L ts x → AreCapitalTokens ts → HasSourceCapitals x
 file_takes E expr L list ts x (a_file {mid = mid} {y = y} bs s) h = let a = takes_many _ (block_takes E expr L list) bs h in record { blocks = a.0; devices = (system_takes mid y [] s a.1).0 }

@@ -1,4 +1,4 @@
-pub mod Wordy
+pub mod Capitals
 pub mod Statements
 pub mod Declared
 pub mod Bodies

@@ -1,4 +1,4 @@
--- Through Structured Text the names in the tokens that are left are words.
+-- Through Structured Text the names in the tokens that are left are words in capitals.
 use Rattle.std.proofs.Common.{ℕ, zero, suc, List}
 use Rattle.fb_words.specs.declared.mark.Mark.{Mark}
 use Rattle.fb_words.specs.declared.mark.Mark.TheVariants as m
@@ -7,7 +7,7 @@ use Rattle.fb_model.specs.Productions as p
 use Rattle.fb_model.specs.Productions.{Gram}
 use Rattle.fb_model.specs.StructuredText.{Expression, Statement, Statements}
 use Rattle.fb_model.specs.StructuredTextGrammar.{IsLink, a_link, IsChain, a_chain, IsLevel, levels, IsOperand, a_literal, a_variable, an_element, a_call, in_parentheses, a_negative, a_minus, a_not, IsNested, IsExpression, IsInteger, unsigned, signed, IsLabel, one, from_to, IsStep, no_step, a_step, IsList, end, lone, next, IsBranch, a_condition, IsArm, a_labelled, IsElse, absent, present, IsStatement, an_assignment, to_element, an_if, a_case, a_for, IsBody, IsAlgorithm}
-use Rattle.fb_spelled.proofs.Wordy.{AreWordy, Takes, Any, takes_many, takes_separated}
+use Rattle.fb_spelled.proofs.Capitals.{AreCapitalTokens, Takes, Any, takes_many, takes_separated}
 
 -- ---- expressions
 
@@ -52,7 +52,7 @@ step_takes : Takes Any IsStep
 step_takes ts x rest no_step h = (tt, h)
 step_takes ts x rest (a_step {ts = on} {c = c} g) h = (tt, (integer_takes on c rest g h.1).1)
 
-list_takes : (G : Gram Statement) → Takes Any G → {ts rest : List Token} {xs : Statements} → IsList G ts xs rest → AreWordy ts → AreWordy rest
+list_takes : (G : Gram Statement) → Takes Any G → {ts rest : List Token} {xs : Statements} → IsList G ts xs rest → AreCapitalTokens ts → AreCapitalTokens rest
 list_takes G t end h = h
 list_takes G t (lone g) h = list_takes G t g h.1
 list_takes G t (next {ts = ts} {mid = mid} {x = x} g gs) h = list_takes G t gs (t ts x _ g h).1.1
