@@ -1,0 +1,1 @@
+-- All demands are of nodes of the system, and ask for such.

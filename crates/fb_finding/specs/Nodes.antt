@@ -1,0 +1,48 @@
+-- Nodes by numbers: states in the order of their rows, and behind them event inputs and arrivals in the order of theirs.
+-- This project's profile.
+use Rattle.std.specs.Prelude.{ℕ, ◌≡◌, ◌+◌, min, List, [], ◌∷◌, ◌++◌, length, map}
+use Rattle.std.specs.List.{join_with_byte, position_or_len, list_any, IsDistinct}
+use Rattle.std.specs.Str.{bytes_eq}
+use Rattle.fb_model.specs.Names.{Name, Place, place_eq}
+use Rattle.fb_model.specs.Wires.{Leaf}
+use Rattle.fb_model.specs.Certificates.{each_leaf, places_in, state_names, events_of}
+use Rattle.fb_model.specs.CertificateText.{place_of}
+use Rattle.fb_demands.specs.Demands.{Node, state, event, Demand}
+
+-- a place as it is written: the names of its path and its own, joined by dots
+abbrev pub written : Place → Name
+written p = join_with_byte 46 (p.path ++ p.event ∷ [])
+
+-- where a text stands in a list; behind its end where it does not
+abbrev pub index_in : List Name → Name → ℕ
+index_in texts text = position_or_len (bytes_eq text) texts
+
+-- the number of a node, where states and events have these rows
+abbrev pub number : List Name → List Name → Node → ℕ
+number states events (state p) = index_in states (written p)
+number states events (event p) = length states + index_in events (written p)
+
+-- the nodes that have numbers, in their order
+abbrev pub nodes_of : List Name → List Name → List Node
+nodes_of states events = map (λ t. state (place_of t)) states ++ map (λ t. event (place_of t)) events
+
+-- these rows are those of all states and events of leaves, and no two are the same
+pub record AreRowsOf (all : List Leaf) (states events : List Name) : Type 0 where
+  pub states_are : (p : Place) → list_any (place_eq p) (map place_of states) ≡ list_any (place_eq p) (each_leaf (λ leaf. places_in leaf.path (state_names leaf.kind)) all)
+  pub events_are : (p : Place) → list_any (place_eq p) (map place_of events) ≡ list_any (place_eq p) (each_leaf (λ leaf. places_in leaf.path (events_of leaf.kind)) all)
+  pub states_apart : IsDistinct bytes_eq states
+  pub events_apart : IsDistinct bytes_eq events
+
+-- ---- demands by numbers
+
+-- the first number that stands for all greater ones: more than the steps of any row
+abbrev pub capped : ℕ → ℕ
+capped n = min n 1000000000001
+
+pub record Numbered : Type 0 where
+  pub node : ℕ
+  pub constant : ℕ
+  pub terms : List ℕ
+
+abbrev pub by_number : (Node → ℕ) → Demand → Numbered
+by_number f d = record { node = f d.node; constant = capped d.constant; terms = map f d.terms }
