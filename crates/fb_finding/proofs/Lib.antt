@@ -1,3 +1,5 @@
 pub mod Lists
 pub mod Nodes
 pub mod Members
+pub mod Same
+pub mod Laws

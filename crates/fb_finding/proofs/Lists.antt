@@ -5,6 +5,8 @@ use Rattle.std.specs.List.{list_any, flat_map, position_or_len, IsDistinct, AllB
 use Rattle.std.specs.Str.{bytes_eq}
 use Rattle.std.proofs.lemmas.List.Sums.{position_or_len_is}
 use Rattle.fb_model.specs.Names.{Name, is_in}
+use Rattle.fb_model.specs.System.{State}
+use Rattle.fb_model.specs.Certificates.{names}
 use Rattle.fb_model.proofs.Names.{eq_turned}
 use Rattle.fb_model.proofs.Placed.{name_same}
 use Rattle.fb_finding.specs.Nodes.{index_in}
@@ -47,18 +49,23 @@ pub each_map : {X Y : Type 0} (P : Y → Type 0) (Q : X → Type 0) (f : X → Y
 each_map P Q f [] h a = tt
 each_map P Q f (x ∷ xs) h a = (h x a.0, each_map P Q f xs h a.1)
 
-or_more : (a b : Bool) → b ≡ true → (a || b) ≡ true
+pub or_more : (a b : Bool) → b ≡ true → (a || b) ≡ true
 or_more true b h = refl
 or_more false b h = h
 
-or_here : (a b : Bool) → a ≡ true → (a || b) ≡ true
+pub or_here : (a b : Bool) → a ≡ true → (a || b) ≡ true
 or_here true b h = refl
 or_here false b h = absurd cc
 
--- each name is in its list
-pub all_in : {X : Type 0} (name : X → Name) (xs : List X) → AllByRecursion (λ x. is_in (name x) (map name xs) ≡ true) xs
-all_in name [] = tt
-all_in name (x ∷ xs) = (or_here (bytes_eq (name x) (name x)) (is_in (name x) (map name xs)) (name_same (name x)), more xs (all_in name xs)) where
-  more : (ys : List _) → AllByRecursion (λ y. is_in (name y) (map name xs) ≡ true) ys → AllByRecursion (λ y. is_in (name y) (name x ∷ map name xs) ≡ true) ys
+-- ---- names in their own list
+
+pub all_self : (ns : List Name) → AllByRecursion (λ n. is_in n ns ≡ true) ns
+all_self [] = tt
+all_self (x ∷ xs) = (or_here (bytes_eq x x) (is_in x xs) (name_same x), more xs (all_self xs)) where
+  more : (ys : List Name) → AllByRecursion (λ y. is_in y xs ≡ true) ys → AllByRecursion (λ y. is_in y (x ∷ xs) ≡ true) ys
   more [] h = tt
-  more (y ∷ ys) h = (or_more (bytes_eq (name y) (name x)) (is_in (name y) (map name xs)) h.0, more ys h.1)
+  more (y ∷ ys) h = (or_more (bytes_eq y x) (is_in y xs) h.0, more ys h.1)
+
+pub on_names : (P : Name → Type 0) (xs : List State) → AllByRecursion P (names xs) → AllByRecursion (λ (s : State). P s.name) xs
+on_names P [] h = tt
+on_names P (x ∷ xs) h = (h.0, on_names P xs h.1)

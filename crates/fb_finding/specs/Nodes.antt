@@ -1,13 +1,14 @@
 -- Nodes by numbers: states in the order of their rows, and behind them event inputs and arrivals in the order of theirs.
 -- This project's profile.
-use Rattle.std.specs.Prelude.{ℕ, ◌≡◌, ◌+◌, min, List, [], ◌∷◌, ◌++◌, length, map}
-use Rattle.std.specs.List.{join_with_byte, position_or_len, list_any, IsDistinct}
+use Rattle.std.specs.Prelude.{ℕ, ◌≡◌, ◌+◌, ◌<◌, ◌≤◌, ◌==◌, min, List, [], ◌∷◌, ◌++◌, length, map, if◌then◌else◌}
+use Rattle.std.specs.List.{join_with_byte, position_or_len, list_any, flat_map, IsDistinct}
 use Rattle.std.specs.Str.{bytes_eq}
 use Rattle.fb_model.specs.Names.{Name, Place, place_eq}
 use Rattle.fb_model.specs.Wires.{Leaf}
 use Rattle.fb_model.specs.Certificates.{each_leaf, places_in, state_names, events_of}
 use Rattle.fb_model.specs.CertificateText.{place_of}
 use Rattle.fb_demands.specs.Demands.{Node, state, event, Demand}
+use Rattle.fb_least.specs.Systems.{Inequality, System, inequalities}
 
 -- a place as it is written: the names of its path and its own, joined by dots
 abbrev pub written : Place → Name
@@ -46,3 +47,19 @@ pub record Numbered : Type 0 where
 
 abbrev pub by_number : (Node → ℕ) → Demand → Numbered
 by_number f d = record { node = f d.node; constant = capped d.constant; terms = map f d.terms }
+
+-- those of one place, as inequalities of it
+abbrev pub asked_of : ℕ → Numbered → List Inequality
+asked_of p r = if r.node == p then record { constant = r.constant; terms = r.terms } ∷ [] else []
+
+abbrev pub asked_at : ℕ → List Numbered → List Inequality
+asked_at p rs = flat_map (asked_of p) rs
+
+-- each place has its own
+pub record AreGrouped (count : ℕ) (rs : List Numbered) (system : System) : Type 0 where
+  pub own : (p : ℕ) → p < count → inequalities system p ≡ asked_at p rs
+  pub none : (p : ℕ) → count ≤ p → inequalities system p ≡ []
+
+-- demands with constants as far as they are told apart
+abbrev pub capped_demand : Demand → Demand
+capped_demand d = record { node = d.node; constant = capped d.constant; terms = d.terms }

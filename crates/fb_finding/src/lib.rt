@@ -1,13 +1,45 @@
 //! Laws about certificates that are found.
 #![tactic(auto)]
 
-ghost use Rattle.std.specs.Prelude.{List};
+ghost use Rattle.std.specs.Prelude.{ℕ, ◌≤◌, ◌<◌, List, length, map};
+ghost use Rattle.std.specs.List.{AllByRecursion, Contains};
+ghost use Rattle.fb_model.specs.Declarations.{BlockTree, SourceTree};
+ghost use Rattle.fb_model.specs.NetworkTyping.{ElaboratesWith};
+ghost use Rattle.fb_model.specs.System as book;
 ghost use Rattle.fb_model.specs.Wires.{Leaf};
 ghost use Rattle.fb_model.specs.Names.{Name};
-ghost use Rattle.fb_numbered.specs.Numbered.{AreNumbers};
-ghost use Rattle.fb_finding.specs.Nodes.{number, nodes_of, AreRowsOf};
+ghost use Rattle.fb_model.specs.Ranges.{Range};
+ghost use Rattle.fb_model.specs.Certificates.{all_leaves};
+ghost use Rattle.fb_demands.specs.Demands.{bare_demands, Demand, IsMet, Node};
+ghost use Rattle.fb_demands.specs.Columns.{demands};
+ghost use Rattle.fb_least.specs.Systems.{IsLeast, System};
+ghost use Rattle.fb_numbered.specs.Numbered.{AreLeast, AreNumbers, AreOf, SaysSame};
+ghost use Rattle.fb_finding.specs.Nodes.{by_number, capped_demand, number, nodes_of, AreGrouped, AreRowsOf};
 
 /// The nodes of rows have the numbers of their places in the list.
 pub fn rows_are_numbers()
     ensures { (all : List Leaf) (states events : List Name) → AreRowsOf all states events → AreNumbers (nodes_of states events) (number states events) }
+{}
+
+/// All demands of a system are of nodes that have rows, and ask for such.
+pub fn demands_are_of_nodes()
+    ensures { (library : List BlockTree) (source : SourceTree) (system : book.System) (states events : List Name) → ElaboratesWith library source system → AreRowsOf (all_leaves system.devices) states events
+        → AreOf (nodes_of states events) (bare_demands (all_leaves system.devices)) × ((unit : ℕ) (ranges : List Range) → AreOf (nodes_of states events) (demands unit ranges (all_leaves system.devices))) }
+{}
+
+/// Demands by numbers, put together place by place, say what the demands say, but for constants above all rows.
+pub fn groups_say_same()
+    ensures { (nodes : List Node) (ds : List Demand) (number : Node → ℕ) (system : System) → AreNumbers nodes number → AreOf nodes ds → AreGrouped (length nodes) (map (by_number number) ds) system → SaysSame (map capped_demand ds) number system }
+{}
+
+/// Least numbers of places are least numbers of nodes, where none is above all rows.
+pub fn small_numbers_are_least()
+    ensures { (nodes : List Node) (ds : List Demand) (number : Node → ℕ) (system : System) (y : ℕ → ℕ) → AreNumbers nodes number → AreOf nodes ds → AreGrouped (length nodes) (map (by_number number) ds) system → IsLeast system y
+        → ((p : ℕ) → p < length nodes → y p ≤ 1000000000000) → AreLeast nodes ds (λ v. y (number v)) }
+{}
+
+/// And where one is above a limit, it is so in all numbers that meet the demands.
+pub fn great_numbers_are_needed()
+    ensures { (nodes : List Node) (ds : List Demand) (number : Node → ℕ) (system : System) (y : ℕ → ℕ) (v : Node) (limit : ℕ) → AreNumbers nodes number → AreOf nodes ds → AreGrouped (length nodes) (map (by_number number) ds) system → IsLeast system y
+        → Contains nodes v → limit < y (number v) → (x : Node → ℕ) → AllByRecursion (IsMet x) ds → limit < x v }
 {}

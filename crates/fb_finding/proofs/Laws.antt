@@ -1,0 +1,41 @@
+-- The laws put together.
+use Rattle.std.proofs.Common.{ℕ, ◌<◌, ◌≤◌, List, [], length, map, refl, Contains}
+use Rattle.std.specs.List.{AllByRecursion}
+use Rattle.fb_model.specs.Declarations.{BlockTree, SourceTree}
+use Rattle.fb_model.specs.NetworkTyping.{ElaboratesWith}
+use Rattle.fb_model.specs.System as book
+use Rattle.fb_model.specs.Names.{Name}
+use Rattle.fb_model.specs.Ranges.{Range}
+use Rattle.fb_model.specs.Certificates.{all_leaves}
+use Rattle.fb_leaves.proofs.Wired.{all_wired}
+use Rattle.fb_leaves.proofs.Closed.{all_charts_closed}
+use Rattle.fb_demands.specs.Demands.{bare, bare_demands, Demand, IsMet, Node}
+use Rattle.fb_demands.specs.Columns.{ground_of, demands}
+use Rattle.fb_least.specs.Systems.{IsLeast, System}
+use Rattle.fb_numbered.specs.Numbered.{AreLeast, AreNumbers, AreOf}
+use Rattle.fb_numbered.proofs.Numbering.{least_nodes}
+use Rattle.fb_finding.specs.Nodes.{by_number, capped_demand, nodes_of, AreGrouped, AreRowsOf}
+use Rattle.fb_finding.proofs.Members.{all_of}
+use Rattle.fb_finding.proofs.Same.{says_same, capped_of, least_whole, above_all}
+
+pub of_nodes : (library : List BlockTree) (source : SourceTree) (system : book.System) (states events : List Name) → ElaboratesWith library source system → AreRowsOf (all_leaves system.devices) states events
+    → AreOf (nodes_of states events) (bare_demands (all_leaves system.devices)) × ((unit : ℕ) (ranges : List Range) → AreOf (nodes_of states events) (demands unit ranges (all_leaves system.devices)))
+of_nodes library source system states events e r =
+    let w = all_wired library source system e in
+    let c = all_charts_closed library source system e in
+    (
+      all_of (all_leaves system.devices) states events r bare (λ leaf. (λ s. refl, λ o. refl)) system.devices refl w c,
+      λ unit ranges. all_of (all_leaves system.devices) states events r (ground_of unit ranges) (λ leaf. (λ s. refl, λ o. refl)) system.devices refl w c,
+    )
+
+pub capped_least : (nodes : List Node) (ds : List Demand) (number : Node → ℕ) (system : System) (y : ℕ → ℕ) → AreNumbers nodes number → AreOf nodes ds → AreGrouped (length nodes) (map (by_number number) ds) system → IsLeast system y
+    → AreLeast nodes (map capped_demand ds) (λ v. y (number v))
+capped_least nodes ds number system y n o g l = least_nodes nodes (map capped_demand ds) number system y n (capped_of nodes ds o) (says_same nodes ds number system n o g) l
+
+pub small_least : (nodes : List Node) (ds : List Demand) (number : Node → ℕ) (system : System) (y : ℕ → ℕ) → AreNumbers nodes number → AreOf nodes ds → AreGrouped (length nodes) (map (by_number number) ds) system → IsLeast system y
+    → ((p : ℕ) → p < length nodes → y p ≤ 1000000000000) → AreLeast nodes ds (λ v. y (number v))
+small_least nodes ds number system y n o g l s = least_whole nodes ds (λ v. y (number v)) o (capped_least nodes ds number system y n o g l) (λ v c. s (number v) (n.at v c).0)
+
+pub great_needed : (nodes : List Node) (ds : List Demand) (number : Node → ℕ) (system : System) (y : ℕ → ℕ) (v : Node) (limit : ℕ) → AreNumbers nodes number → AreOf nodes ds → AreGrouped (length nodes) (map (by_number number) ds) system → IsLeast system y
+    → Contains nodes v → limit < y (number v) → (x : Node → ℕ) → AllByRecursion (IsMet x) ds → limit < x v
+great_needed nodes ds number system y v limit n o g l c a x m = above_all nodes ds (λ v. y (number v)) x v limit (capped_least nodes ds number system y n o g l) c a m
