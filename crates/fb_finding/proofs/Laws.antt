@@ -1,12 +1,18 @@
 -- The laws put together.
-use Rattle.std.proofs.Common.{ℕ, ◌<◌, ◌≤◌, List, [], length, map, refl, Contains}
+use Rattle.std.specs.Prelude.{◌&&◌}
+use Rattle.std.specs.Str.{bytes_eq}
+use Rattle.std.proofs.Common.{ℕ, ◌≡◌, ◌<◌, ◌≤◌, List, [], length, map, refl, ap, ◌∙◌, Contains}
 use Rattle.std.specs.List.{AllByRecursion}
 use Rattle.fb_model.specs.Declarations.{BlockTree, SourceTree}
 use Rattle.fb_model.specs.NetworkTyping.{ElaboratesWith}
 use Rattle.fb_model.specs.System as book
-use Rattle.fb_model.specs.Names.{Name}
+use Rattle.fb_model.specs.Names.{Name, Place, path_eq, place_eq}
+use Rattle.fb_model.proofs.Names.{eq_turned}
+use Rattle.fb_rounds.proofs.Looking.{path_turned}
+use Rattle.fb_finding.specs.Finding.{IsFound, IsMade}
+use Rattle.fb_finding.proofs.Fitting.{made_found}
 use Rattle.fb_model.specs.Ranges.{Range}
-use Rattle.fb_model.specs.Certificates.{all_leaves}
+use Rattle.fb_model.specs.Certificates.{all_leaves, Certificate}
 use Rattle.fb_leaves.proofs.Wired.{all_wired}
 use Rattle.fb_leaves.proofs.Closed.{all_charts_closed}
 use Rattle.fb_demands.specs.Demands.{bare, bare_demands, Demand, IsMet, Node}
@@ -39,3 +45,9 @@ small_least nodes ds number system y n o g l s = least_whole nodes ds (λ v. y (
 pub great_needed : (nodes : List Node) (ds : List Demand) (number : Node → ℕ) (system : System) (y : ℕ → ℕ) (v : Node) (limit : ℕ) → AreNumbers nodes number → AreOf nodes ds → AreGrouped (length nodes) (map (by_number number) ds) system → IsLeast system y
     → Contains nodes v → limit < y (number v) → (x : Node → ℕ) → AllByRecursion (IsMet x) ds → limit < x v
 great_needed nodes ds number system y v limit n o g l c a x m = above_all nodes ds (λ v. y (number v)) x v limit (capped_least nodes ds number system y n o g l) c a m
+
+place_turned : (p q : Place) → place_eq q p ≡ place_eq p q
+place_turned p q = ap (λ b. b && bytes_eq q.event p.event) (path_turned q.path p.path) ∙ ap (λ b. path_eq p.path q.path && b) (eq_turned q.event p.event)
+
+pub made_is : (system : book.System) (states events : List Name) (cert : Certificate) → AreRowsOf (all_leaves system.devices) states events → IsMade system (nodes_of states events) cert → IsFound system cert
+made_is system states events cert are made = made_found system states events cert place_turned are made

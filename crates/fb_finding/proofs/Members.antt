@@ -112,7 +112,7 @@ same_place p q h = by (path_eq p.path q.path) (bytes_eq p.event q.event) refl re
   by false b e f h = absurd cc
 
 -- a place among those of rows has its node
-in_rows : (f : Place → Node) (ts : List Name) (p : Place) → list_any (place_eq p) (map place_of ts) ≡ true → Contains (map (λ t. f (place_of t)) ts) (f p)
+pub in_rows : (f : Place → Node) (ts : List Name) (p : Place) → list_any (place_eq p) (map place_of ts) ≡ true → Contains (map (λ t. f (place_of t)) ts) (f p)
 in_rows f [] p h = absurd cc
 in_rows f (t ∷ ts) p h = by (place_eq p (place_of t)) refl h (in_rows f ts p) where
   by : (b : Bool) → place_eq p (place_of t) ≡ b → (b || list_any (place_eq p) (map place_of ts)) ≡ true → (list_any (place_eq p) (map place_of ts) ≡ true → Contains (map (λ t. f (place_of t)) ts) (f p)) → Contains (map (λ t. f (place_of t)) (t ∷ ts)) (f p)

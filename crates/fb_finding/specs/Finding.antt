@@ -1,14 +1,15 @@
 -- What is said of a certificate that is found: it fits, its ranges are those of the last rounds, and every other number is the least that fits them.
 -- This project's profile.
 use Rattle.std.specs.Prelude.{ℕ, ◌≡◌, ◌≤◌, max, List}
-use Rattle.std.specs.List.{AllByRecursion}
-use Rattle.fb_model.specs.Names.{Name}
+use Rattle.std.specs.List.{AllByRecursion, Contains}
+use Rattle.fb_model.specs.Names.{Name, Place, at_place}
 use Rattle.fb_model.specs.System.{Device, System}
-use Rattle.fb_model.specs.Wires.{Leaf}
-use Rattle.fb_model.specs.Ranges.{Range, rows}
-use Rattle.fb_model.specs.Certificates.{Certificate, steps_of, places_of, depth_of, all_leaves, Fits}
+use Rattle.fb_model.specs.Wires.{Leaf, leaves}
+use Rattle.fb_model.specs.Ranges.{Range, rows, LeafClears}
+use Rattle.fb_model.specs.Certificates.{Certificate, steps_of, places_of, depth_of, kind_arrivals, begin_places, ArrivalsFit, all_leaves, AllRows, FollowsFew, Fits}
 use Rattle.fb_demands.specs.Demands.{Node}
-use Rattle.fb_demands.specs.Columns.{number_of}
+use Rattle.fb_demands.specs.Columns.{number_of, demands}
+use Rattle.fb_numbered.specs.Numbered.{AreLeast}
 use Rattle.fb_rounds.specs.FinderRanges.{AreFound}
 
 -- the variables of leaves have the same ranges in both
@@ -25,3 +26,27 @@ pub record IsFound (system : System) (cert : Certificate) : Type 0 where
   pub ranges : AreFound system.devices cert.ranges
   pub fits : Fits system cert
   pub least : (other : Certificate) → Fits system other → HaveSameRanges other.ranges cert.ranges (all_leaves system.devices) → IsAtMost system.devices cert other
+
+-- ---- how it is found
+
+-- a depth is 1, the places of an arrival of the resource, or those of all its BEGIN together
+pub data IsNeeded (cert : Certificate) (all : List Leaf) (q depth : ℕ) : Type 0 where
+  is_one : depth ≤ 1 → IsNeeded cert all q depth
+  for_arrival : (leaf : Leaf) (e : Name) → Contains all leaf → leaf.home ≡ q → Contains (kind_arrivals leaf.kind) e → depth ≤ (places_of cert).weight (at_place leaf.path e) → IsNeeded cert all q depth
+  for_begins : depth ≤ begin_places cert all q → IsNeeded cert all q depth
+
+-- each depth of a device is enough, and no more than that
+pub record HasNeededDepths (cert : Certificate) (d : Device) : Type 0 where
+  pub arrivals : AllByRecursion (ArrivalsFit cert d) (leaves d)
+  pub begins : (q : ℕ) → begin_places cert (leaves d) q ≤ depth_of cert d q
+  pub needed : (q : ℕ) → IsNeeded cert (leaves d) q (depth_of cert d q)
+
+-- the rows are those of the system; the ranges are found, and all is clear under them; the numbers of nodes are least, and so are the depths
+pub record IsMade (system : System) (nodes : List Node) (cert : Certificate) : Type 0 where
+  pub followed : AllByRecursion FollowsFew system.devices
+  pub rows : AllRows system cert
+  pub ranges : AreFound system.devices cert.ranges
+  pub clear : AllByRecursion (λ (d : Device). AllByRecursion (LeafClears cert.ranges (leaves d)) (leaves d)) system.devices
+  pub steps : AreLeast nodes (demands 1 cert.ranges (all_leaves system.devices)) (number_of (steps_of cert))
+  pub places : AreLeast nodes (demands 0 cert.ranges (all_leaves system.devices)) (number_of (places_of cert))
+  pub depths : AllByRecursion (HasNeededDepths cert) system.devices

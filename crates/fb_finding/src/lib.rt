@@ -9,11 +9,12 @@ ghost use Rattle.fb_model.specs.System as book;
 ghost use Rattle.fb_model.specs.Wires.{Leaf};
 ghost use Rattle.fb_model.specs.Names.{Name};
 ghost use Rattle.fb_model.specs.Ranges.{Range};
-ghost use Rattle.fb_model.specs.Certificates.{all_leaves};
+ghost use Rattle.fb_model.specs.Certificates.{all_leaves, Certificate};
 ghost use Rattle.fb_demands.specs.Demands.{bare_demands, Demand, IsMet, Node};
 ghost use Rattle.fb_demands.specs.Columns.{demands};
 ghost use Rattle.fb_least.specs.Systems.{IsLeast, System};
 ghost use Rattle.fb_numbered.specs.Numbered.{AreLeast, AreNumbers, AreOf, SaysSame};
+ghost use Rattle.fb_finding.specs.Finding.{IsFound, IsMade};
 ghost use Rattle.fb_finding.specs.Nodes.{by_number, capped_demand, number, nodes_of, AreGrouped, AreRowsOf};
 
 /// The nodes of rows have the numbers of their places in the list.
@@ -42,4 +43,9 @@ pub fn small_numbers_are_least()
 pub fn great_numbers_are_needed()
     ensures { (nodes : List Node) (ds : List Demand) (number : Node → ℕ) (system : System) (y : ℕ → ℕ) (v : Node) (limit : ℕ) → AreNumbers nodes number → AreOf nodes ds → AreGrouped (length nodes) (map (by_number number) ds) system → IsLeast system y
         → Contains nodes v → limit < y (number v) → (x : Node → ℕ) → AllByRecursion (IsMet x) ds → limit < x v }
+{}
+
+/// What is made of least numbers and depths, under ranges that are found, is a certificate as the finder owes it: it fits, and is the least.
+pub fn made_certificates_are_found()
+    ensures { (system : book.System) (states events : List Name) (cert : Certificate) → AreRowsOf (all_leaves system.devices) states events → IsMade system (nodes_of states events) cert → IsFound system cert }
 {}
