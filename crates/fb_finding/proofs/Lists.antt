@@ -69,3 +69,7 @@ all_self (x ∷ xs) = (or_here (bytes_eq x x) (is_in x xs) (name_same x), more x
 pub on_names : (P : Name → Type 0) (xs : List State) → AllByRecursion P (names xs) → AllByRecursion (λ (s : State). P s.name) xs
 on_names P [] h = tt
 on_names P (x ∷ xs) h = (h.0, on_names P xs h.1)
+
+pub units : {X : Type 0} (xs : List X) → AllByRecursion (λ (x : X). Unit {0}) xs
+units [] = tt
+units (x ∷ xs) = (tt, units xs)

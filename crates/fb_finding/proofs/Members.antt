@@ -104,7 +104,7 @@ own_place path (n ∷ ns) s h = by (bytes_eq s n) h (own_place path ns s) where
   by true h k = rw (path_same path) refl
   by false h k = or_more (path_eq path path && false) (list_any (place_eq (at_place path s)) (places_in path ns)) (k h)
 
-same_place : (p q : Place) → place_eq p q ≡ true → p ≡ q
+pub same_place : (p q : Place) → place_eq p q ≡ true → p ≡ q
 same_place p q h = by (path_eq p.path q.path) (bytes_eq p.event q.event) refl refl h where
   by : (a b : Bool) → path_eq p.path q.path ≡ a → bytes_eq p.event q.event ≡ b → (a && b) ≡ true → p ≡ q
   by true true e f h = let s : p.path ≡ q.path = same_path p.path q.path e in let t : p.event ≡ q.event = same_name p.event q.event f in ap (λ x. at_place x p.event) s ∙ ap (λ x. at_place q.path x) t

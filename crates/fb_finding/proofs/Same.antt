@@ -25,7 +25,7 @@ piece_in f [] x y h k = absurd (omega (arith, h.1))
 piece_in f (z ∷ xs) x y (zero, l, e) k = Contains-append_left (f z) (flat_map f xs) y (subst (λ w. Contains (f w) y) (sym e) k)
 piece_in f (z ∷ xs) x y (suc n, l, e) k = Contains-append_right (f z) (flat_map f xs) y (piece_in f xs x y (n, omega (arith, l), e) k)
 
-in_image : {X Y : Type 0} (f : X → Y) (xs : List X) (y : Y) → Contains (map f xs) y → (x : X) × Contains xs x × (f x ≡ y)
+pub in_image : {X Y : Type 0} (f : X → Y) (xs : List X) (y : Y) → Contains (map f xs) y → (x : X) × Contains xs x × (f x ≡ y)
 in_image f [] y h = absurd (omega (arith, h.1))
 in_image f (x ∷ xs) y (zero, l, e) = (x, (0, omega arith, refl), e)
 in_image f (x ∷ xs) y (suc n, l, e) = let k = in_image f xs y (n, omega (arith, l), e) in (k.0, Contains-append_right (x ∷ []) xs k.0 k.1, k.2)

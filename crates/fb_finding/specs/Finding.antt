@@ -1,13 +1,14 @@
 -- What is said of a certificate that is found: it fits, its ranges are those of the last rounds, and every other number is the least that fits them.
 -- This project's profile.
-use Rattle.std.specs.Prelude.{ℕ, ◌≡◌, ◌≤◌, max, List}
+use Rattle.std.specs.Prelude.{ℕ, ◌≡◌, ◌≤◌, max, List, ◌++◌, map}
 use Rattle.std.specs.List.{AllByRecursion, Contains}
 use Rattle.fb_model.specs.Names.{Name, Place, at_place}
 use Rattle.fb_model.specs.System.{Device, System}
 use Rattle.fb_model.specs.Wires.{Leaf, leaves}
 use Rattle.fb_model.specs.Ranges.{Range, rows, LeafClears}
-use Rattle.fb_model.specs.Certificates.{Certificate, steps_of, places_of, depth_of, kind_arrivals, begin_places, ArrivalsFit, all_leaves, AllRows, FollowsFew, Fits}
-use Rattle.fb_demands.specs.Demands.{Node}
+use Rattle.fb_model.specs.Certificates.{Row, amount, row_places, Certificate, steps_of, places_of, depth_of, kind_arrivals, begin_places, ArrivalsFit, all_leaves, AllRows, FollowsFew, Fits}
+use Rattle.fb_model.specs.CertificateText.{place_of}
+use Rattle.fb_demands.specs.Demands.{Node, state, event}
 use Rattle.fb_demands.specs.Columns.{number_of, demands}
 use Rattle.fb_numbered.specs.Numbered.{AreLeast}
 use Rattle.fb_rounds.specs.FinderRanges.{AreFound}
@@ -50,3 +51,14 @@ pub record IsMade (system : System) (nodes : List Node) (cert : Certificate) : T
   pub steps : AreLeast nodes (demands 1 cert.ranges (all_leaves system.devices)) (number_of (steps_of cert))
   pub places : AreLeast nodes (demands 0 cert.ranges (all_leaves system.devices)) (number_of (places_of cert))
   pub depths : AllByRecursion (HasNeededDepths cert) system.devices
+
+-- the number that rows give a node, by one of their numbers
+abbrev pub row_number : (Row → ℕ) → Certificate → Node → ℕ
+row_number f cert (state p) = amount f cert.charges p
+row_number f cert (event p) = amount f cert.weights p
+
+-- the rows CHARGE and WEIGHT are of these texts, and these are their numbers in order
+pub record HasNumbers (f : Row → ℕ) (states events : List Name) (cert : Certificate) (ys : List ℕ) : Type 0 where
+  pub charges_are : row_places cert.charges ≡ map place_of states
+  pub weights_are : row_places cert.weights ≡ map place_of events
+  pub numbers : map f cert.charges ++ map f cert.weights ≡ ys
