@@ -8,7 +8,8 @@ ghost use Rattle.fb_model.specs.NetworkTyping.{ElaboratesWith};
 ghost use Rattle.fb_model.specs.Ranges.{Range};
 ghost use Rattle.fb_model.specs.System.{Device, System};
 ghost use Rattle.fb_model.specs.Wires.{Leaf, leaves};
-ghost use Rattle.fb_rounds.specs.FinderRanges.{IsLast, Settles};
+ghost use Rattle.fb_rounds.specs.FinderRanges.{AreFound, IsLast, Settles};
+ghost use Rattle.fb_rounds.specs.Devices.{FindsItsLast};
 ghost use Rattle.fb_rounds.specs.Holding.{LeafIsFed, LeafIsGood};
 
 /// From one round on, rows come to one end.
@@ -25,4 +26,9 @@ pub fn last_rows_hold()
 /// The rounds of a device end.
 pub fn rounds_end()
     ensures { (library : List BlockTree) (source : SourceTree) (system : System) → ElaboratesWith library source system → AllByRecursion (λ (d : Device). (zs : List Range) × IsLast (leaves d) zs) system.devices }
+{}
+
+/// Among the rows of all devices, the leaves of each device find those that it has after its last round.
+pub fn found_rows_are_last()
+    ensures { (library : List BlockTree) (source : SourceTree) (system : System) (ranges : List Range) → ElaboratesWith library source system → AreFound system.devices ranges → AllByRecursion (FindsItsLast ranges) system.devices }
 {}
