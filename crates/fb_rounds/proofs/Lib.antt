@@ -6,3 +6,4 @@ pub mod Feeding
 pub mod Finishing
 pub mod Places
 pub mod Devices
+pub mod Among

@@ -32,3 +32,8 @@ pub fn rounds_end()
 pub fn found_rows_are_last()
     ensures { (library : List BlockTree) (source : SourceTree) (system : System) (ranges : List Range) → ElaboratesWith library source system → AreFound system.devices ranges → AllByRecursion (FindsItsLast ranges) system.devices }
 {}
+
+/// The rows of all devices lie in the types of their variables, hold what these have at first, and hold the rows of the outputs that inputs take.
+pub fn found_rows_hold()
+    ensures { (library : List BlockTree) (source : SourceTree) (system : System) (ranges : List Range) → ElaboratesWith library source system → AreFound system.devices ranges → AllByRecursion (λ (d : Device). AllByRecursion (λ (leaf : Leaf). LeafIsGood ranges leaf × LeafIsFed ranges (leaves d) leaf) (leaves d)) system.devices }
+{}
