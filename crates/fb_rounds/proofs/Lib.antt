@@ -7,3 +7,4 @@ pub mod Finishing
 pub mod Places
 pub mod Devices
 pub mod Among
+pub mod Beginning
