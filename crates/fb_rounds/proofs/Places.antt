@@ -59,15 +59,15 @@ leaf_places (leaf ∷ rest) f =
     places_join (kind_rows (f leaf) leaf.path leaf.kind) (leaf_rows f rest) ∙ ap₂ (λ (ps : List Place) (qs : List Place). ps ++ qs) (kind_places (f leaf) leaf.path leaf.kind) (leaf_places rest f)
 
 -- the rows of all devices stand in the order of their variables
-pub found_places : (ds : List Device) (xs : List Range) → AreFound ds xs → range_places xs ≡ ranged (all_leaves ds)
-found_places ds xs no_device = refl
-found_places ds xs (a_device {d = d} {ds = es} {xs = ys} {ys = zs} last found) =
+pub found_rows_are_all : (ds : List Device) (xs : List Range) → AreFound ds xs → range_places xs ≡ ranged (all_leaves ds)
+found_rows_are_all ds xs no_device = refl
+found_rows_are_all ds xs (a_device {d = d} {ds = es} {xs = ys} {ys = zs} last found) =
     places_join ys zs
-    ∙ (ap₂ (λ (ps : List Place) (qs : List Place). ps ++ qs) (last_rows (λ rs. range_places rs ≡ ranged (leaves d)) (leaves d) (leaf_places (leaves d)) ys last) (found_places es zs found)
+    ∙ (ap₂ (λ (ps : List Place) (qs : List Place). ps ++ qs) (last_rows (λ rs. range_places rs ≡ ranged (leaves d)) (leaves d) (leaf_places (leaves d)) ys last) (found_rows_are_all es zs found)
     ∙ sym (leaves_join (leaves d) (all_leaves es)))
 
 -- and are determined by the system
-pub found_once : (ds : List Device) (xs ys : List Range) → AreFound ds xs → AreFound ds ys → xs ≡ ys
-found_once ds xs ys no_device no_device = refl
-found_once ds xs ys (a_device {d = d} {ds = es} {xs = as'} {ys = bs} last found) (a_device {xs = cs} {ys = fs} again more) =
-    ap₂ (λ (us : List Range) (vs : List Range). us ++ vs) (one_end (leaves d) 1 (start_rows (leaves d)) as' cs last again) (found_once es bs fs found more)
+pub found_rows_are_one : (ds : List Device) (xs ys : List Range) → AreFound ds xs → AreFound ds ys → xs ≡ ys
+found_rows_are_one ds xs ys no_device no_device = refl
+found_rows_are_one ds xs ys (a_device {d = d} {ds = es} {xs = as'} {ys = bs} last found) (a_device {xs = cs} {ys = fs} again more) =
+    ap₂ (λ (us : List Range) (vs : List Range). us ++ vs) (one_end (leaves d) 1 (start_rows (leaves d)) as' cs last again) (found_rows_are_one es bs fs found more)
