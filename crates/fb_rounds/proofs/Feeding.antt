@@ -5,23 +5,26 @@ use Rattle.std.specs.List.{AllByRecursion}
 use Rattle.std.proofs.lemmas.Int.{ints, clamps}
 use Rattle.fb_model.specs.Names.{Name, Path, path_eq}
 use Rattle.fb_model.specs.Values.{One}
-use Rattle.fb_model.specs.System.{Variable}
-use Rattle.fb_model.specs.NetworkTyping.{variable_named}
-use Rattle.fb_model.specs.Wires.{Source, Output_of, Constant, Kind, Charted, Serviced, Leaf, leaf_at}
+use Rattle.fb_model.specs.Declarations.{BlockTree, SourceTree}
+use Rattle.fb_model.specs.System.{Variable, Device, System}
+use Rattle.fb_model.specs.NetworkTyping.{variable_named, ElaboratesWith}
+use Rattle.fb_model.specs.Wires.{Source, Output_of, Constant, Kind, Charted, Serviced, Leaf, leaf_at, leaves}
 use Rattle.fb_model.specs.Store.{inputs, outputs, internals}
 use Rattle.fb_model.specs.Spans.{Span, whole, joined}
 use Rattle.fb_model.specs.Ranges.{Range, variables, row_of, rows, SourceFits}
 use Rattle.fb_model.specs.Certificates.{is_boolean}
 use Rattle.fb_model.proofs.Lists.{same_name, same_path, all_both}
 use Rattle.fb_leaves.specs.Leaves.{AreApart, IsGivenBy, Yields, Feeds, IsFed}
-use Rattle.fb_rounds.specs.FinderRanges.{fed, worked, asked, widened, start_rows, Settles}
+use Rattle.fb_leaves.proofs.Paths.{all_apart}
+use Rattle.fb_leaves.proofs.Values.{all_fed}
+use Rattle.fb_rounds.specs.FinderRanges.{fed, worked, asked, widened, start_rows, Settles, IsLast}
 use Rattle.fb_rounds.specs.Holding.{IsGoodRow, LeafIsGood, LeafIsFed}
 use Rattle.fb_rounds.proofs.Spans.{Inside, inside_is, inside_within, stays_holds}
 use Rattle.fb_rounds.proofs.Looking.{settled, RowsStand, rows_stand}
 use Rattle.fb_rounds.proofs.Holding.{named_more, all_first, all_own, last_good}
 
 -- what is so of all leaves is so of the one at a path
-at_leaf : (P : Leaf → Type 0) (all : List Leaf) (p : Path) (leaf : Leaf) → AllByRecursion P all → leaf_at all p ≡ Some leaf → P leaf × (leaf.path ≡ p)
+pub at_leaf : (P : Leaf → Type 0) (all : List Leaf) (p : Path) (leaf : Leaf) → AllByRecursion P all → leaf_at all p ≡ Some leaf → P leaf × (leaf.path ≡ p)
 at_leaf P [] p leaf a e = absurd cc
 at_leaf P (l ∷ ls) p leaf a e = by (path_eq l.path p) refl e (at_leaf P ls p leaf a.1) where
   by : (b : Bool) → path_eq l.path p ≡ b → (if b then Some l else leaf_at ls p) ≡ Some leaf → (leaf_at ls p ≡ Some leaf → P leaf × (leaf.path ≡ p)) → P leaf × (leaf.path ≡ p)
@@ -103,3 +106,11 @@ last_rows_hold all zs apart feds s =
     let stand : AllByRecursion (RowsStand f zs) all = subst (λ (xs : List Range). AllByRecursion (RowsStand f xs) all) k.stays (rows_stand f all apart (all_own all all feds)) in
     all_both (LeafIsGood zs) (λ (leaf : Leaf). LeafIsFed zs all leaf) (λ (leaf : Leaf). LeafIsGood zs leaf × LeafIsFed zs all leaf) all (λ leaf g h. (g, h)) k.good
     (all_both (IsFed all) (RowsStand f zs) (λ (leaf : Leaf). LeafIsFed zs all leaf) all (λ leaf h t. leaf_fits all zs k.n leaf feds k.good h t) feds stand)
+
+-- what holds of the rows of each device after its last round
+pub all_last_rows_hold : (library : List BlockTree) (source : SourceTree) (system : System) → ElaboratesWith library source system
+    → AllByRecursion (λ (d : Device). (zs : List Range) → IsLast (leaves d) zs → AllByRecursion (λ (leaf : Leaf). LeafIsGood zs leaf × LeafIsFed zs (leaves d) leaf) (leaves d)) system.devices
+all_last_rows_hold library source system e =
+    all_both (λ (d : Device). AreApart (leaves d)) (λ (d : Device). AllByRecursion (IsFed (leaves d)) (leaves d))
+    (λ (d : Device). (zs : List Range) → IsLast (leaves d) zs → AllByRecursion (λ (leaf : Leaf). LeafIsGood zs leaf × LeafIsFed zs (leaves d) leaf) (leaves d)) system.devices
+    (λ d apart fed zs s. last_rows_hold (leaves d) zs apart fed s) (all_apart library source system e) (all_fed library source system e)

@@ -4,3 +4,7 @@ pub mod Looking
 pub mod Holding
 pub mod Feeding
 pub mod Finishing
+pub mod Places
+pub mod Devices
+pub mod Among
+pub mod Beginning

@@ -1,2 +1,3 @@
 pub mod FinderRanges
+pub mod Devices
 pub mod Holding

@@ -1,19 +1,5 @@
-use Rattle.std.proofs.Common.{List}
-use Rattle.std.specs.List.{AllByRecursion}
-use Rattle.fb_model.specs.System.{Device}
-use Rattle.fb_model.specs.Ranges.{Range}
-use Rattle.fb_model.specs.Wires.{Leaf, leaves}
-use Rattle.fb_model.proofs.Lists.{all_both}
-use Rattle.fb_leaves.specs.Leaves.{AreApart, IsFed}
-use Rattle.fb_leaves.proofs.Paths.{all_apart}
-use Rattle.fb_leaves.proofs.Values.{all_fed}
-use Rattle.fb_rounds.specs.FinderRanges.{IsLast}
-use Rattle.fb_rounds.specs.Holding.{LeafIsGood, LeafIsFed}
-use Rattle.fb_rounds.proofs.Feeding.{last_rows_hold}
+use Rattle.fb_rounds.proofs.Feeding.{all_last_rows_hold}
 use Rattle.fb_rounds.proofs.last_rows_hold.Goals as goal
 
 pub returns : goal.returns
-returns c = λ library source system e.
-    all_both (λ (d : Device). AreApart (leaves d)) (λ (d : Device). AllByRecursion (IsFed (leaves d)) (leaves d))
-    (λ (d : Device). (zs : List Range) → IsLast (leaves d) zs → AllByRecursion (λ (leaf : Leaf). LeafIsGood zs leaf × LeafIsFed zs (leaves d) leaf) (leaves d)) system.devices
-    (λ d apart fed zs s. last_rows_hold (leaves d) zs apart fed s) (all_apart library source system e) (all_fed library source system e)
+returns c = all_last_rows_hold
