@@ -3,6 +3,7 @@ pub mod Nodes
 pub mod Members
 pub mod Same
 pub mod Bare
+pub mod Orders
 pub mod Rows
 pub mod Fitting
 pub mod Laws
