@@ -39,11 +39,11 @@ kind_small leaf (Charted block) =
     let zs = flat_map (of_input g block) (event_names block.event_inputs) in
     all_append IsSmall xs (ys ++ zs) (each_map IsSmall (λ (s : State). Unit {0}) (of_state g) block.states (λ s u. omega (arith, nothing_worked leaf s.actions)) (units block.states))
     (
-      all_append IsSmall ys zs (each_flat IsSmall (λ (t : Transition). Unit {0}) (of_free g block) block.transitions (λ t u. free_small leaf (actions_of block.states t.source) t.source t.target t.event) (units block.transitions))
-      (
-        each_flat IsSmall (λ (e : Name). Unit {0}) (of_input g block) (event_names block.event_inputs)
-        (λ e u. (omega arith, each_flat IsSmall (λ (t : Transition). Unit {0}) (of_crossing g e) block.transitions (λ t v. crossing_small leaf e t.target (is_open t.event (Some e))) (units block.transitions))) (units (event_names block.event_inputs))
-      )
+    all_append IsSmall ys zs (each_flat IsSmall (λ (t : Transition). Unit {0}) (of_free g block) block.transitions (λ t u. free_small leaf (actions_of block.states t.source) t.source t.target t.event) (units block.transitions))
+    (
+    each_flat IsSmall (λ (e : Name). Unit {0}) (of_input g block) (event_names block.event_inputs)
+    (λ e u. (omega arith, each_flat IsSmall (λ (t : Transition). Unit {0}) (of_crossing g e) block.transitions (λ t v. crossing_small leaf e t.target (is_open t.event (Some e))) (units block.transitions))) (units (event_names block.event_inputs))
+    )
     )
 kind_small leaf (Serviced service) = each_flat IsSmall (λ (e : Name). Unit {0}) (of_dispatch (bare leaf) service) (service_events service) (λ e u. (omega arith, (omega arith, tt))) (units (service_events service))
 

@@ -28,8 +28,7 @@ pub of_nodes : (library : List BlockTree) (source : SourceTree) (system : book.S
     → AreOf (nodes_of states events) (bare_demands (all_leaves system.devices)) × ((unit : ℕ) (ranges : List Range) → AreOf (nodes_of states events) (demands unit ranges (all_leaves system.devices)))
 of_nodes library source system states events e r =
     let w = all_wired library source system e in
-    let c = all_charts_closed library source system e in
-    (
+    let c = all_charts_closed library source system e in (
       all_of (all_leaves system.devices) states events r bare (λ leaf. (λ s. refl, λ o. refl)) system.devices refl w c,
       λ unit ranges. all_of (all_leaves system.devices) states events r (ground_of unit ranges) (λ leaf. (λ s. refl, λ o. refl)) system.devices refl w c,
     )

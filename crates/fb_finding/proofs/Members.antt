@@ -94,7 +94,7 @@ each_has f [] = tt
 each_has f (leaf ∷ rest) = (
   λ p h. any_append (place_eq p) (f leaf) (each_leaf f rest) ∙ or_here (list_any (place_eq p) (f leaf)) (list_any (place_eq p) (each_leaf f rest)) h,
   all_weaker (λ (x : Leaf). (p : Place) → list_any (place_eq p) (f x) ≡ true → list_any (place_eq p) (each_leaf f rest) ≡ true) (λ (x : Leaf). (p : Place) → list_any (place_eq p) (f x) ≡ true → list_any (place_eq p) (each_leaf f (leaf ∷ rest)) ≡ true) rest
-  (λ x k p h. any_append (place_eq p) (f leaf) (each_leaf f rest) ∙ or_more (list_any (place_eq p) (f leaf)) (list_any (place_eq p) (each_leaf f rest)) (k p h)) (each_has f rest),
+      (λ x k p h. any_append (place_eq p) (f leaf) (each_leaf f rest) ∙ or_more (list_any (place_eq p) (f leaf)) (list_any (place_eq p) (each_leaf f rest)) (k p h)) (each_has f rest),
 )
 
 own_place : (path : Path) (ns : List Name) (s : Name) → is_in s ns ≡ true → list_any (place_eq (at_place path s)) (places_in path ns) ≡ true

@@ -20,9 +20,13 @@ parts : (ns : Path) → 0 < length ns → all_but_last ns ++ last_name ns ∷ []
 parts [] h = absurd (omega (arith, h))
 parts (n ∷ ns) h = ends n ns
 
+-- the names of a place, its own the last
+pub place_names : (t : Name) → (place_of t).path ++ (place_of t).event ∷ [] ≡ names_in t
+place_names t = parts (names_in t) (omega (arith, length-slice_split (λ c. c == 46) t))
+
 -- a text is the place that it writes
 pub written_place : (t : Name) → written (place_of t) ≡ t
-written_place t = ap (join_with_byte 46) (parts (names_in t) (omega (arith, length-slice_split (λ c. c == 46) t))) ∙ join_with_byte-slice_split 46 t
+written_place t = ap (join_with_byte 46) (place_names t) ∙ join_with_byte-slice_split 46 t
 
 module _ (states events : List Name) (apart : IsDistinct bytes_eq states) (others : IsDistinct bytes_eq events) where
   abbrev front : List Node
@@ -51,6 +55,7 @@ module _ (states events : List Name) (apart : IsDistinct bytes_eq states) (other
   back p h = by (split p (length states)) where
     split : (m n : ℕ) → (m < n) ⊎ (n ≤ m)
     split m n = grind arith
+
     by : (p < length states) ⊎ (length states ≤ p) → number states events (node_in (nodes_of states events) p) ≡ p
     by (inl l) = state_back p l
     by (inr l) =

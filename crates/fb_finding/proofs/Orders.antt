@@ -53,12 +53,12 @@ module _ (g : Ground) (unit : ℕ) (price : Option Name → ℕ) where
       like_append (λ m n. Unit {0}) (map (of_state g) block.states) (map (of_state h) block.states) (flat_map (of_free g block) block.transitions ++ flat_map (of_input g block) (event_names block.event_inputs)) (flat_map (of_free h block) block.transitions ++ flat_map (of_input h block) (event_names block.event_inputs))
       (like_map (of_state g) (of_state h) (λ x. (refl, refl)) block.states)
       (
-        like_append (λ m n. Unit {0}) (flat_map (of_free g block) block.transitions) (flat_map (of_free h block) block.transitions) (flat_map (of_input g block) (event_names block.event_inputs)) (flat_map (of_input h block) (event_names block.event_inputs))
-        (like_flat (of_free g block) (of_free h block) (λ t. free_alike (actions_of block.states t.source) t.source t.target t.event) block.transitions)
-        (
-          like_flat (of_input g block) (of_input h block)
-          (λ e. (refl, refl, tt, like_flat (of_crossing g e) (of_crossing h e) (λ t. crossing_alike e t.target (is_open t.event (Some e))) block.transitions)) (event_names block.event_inputs)
-        )
+      like_append (λ m n. Unit {0}) (flat_map (of_free g block) block.transitions) (flat_map (of_free h block) block.transitions) (flat_map (of_input g block) (event_names block.event_inputs)) (flat_map (of_input h block) (event_names block.event_inputs))
+      (like_flat (of_free g block) (of_free h block) (λ t. free_alike (actions_of block.states t.source) t.source t.target t.event) block.transitions)
+      (
+      like_flat (of_input g block) (of_input h block)
+      (λ e. (refl, refl, tt, like_flat (of_crossing g e) (of_crossing h e) (λ t. crossing_alike e t.target (is_open t.event (Some e))) block.transitions)) (event_names block.event_inputs)
+      )
       )
   kind_alike (Serviced service) = like_flat (of_dispatch g service) (of_dispatch h service) (λ e. (refl, refl, tt, (refl, refl, tt, tt))) (service_events service)
 

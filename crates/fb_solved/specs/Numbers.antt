@@ -1,20 +1,19 @@
 -- Rows with the numbers of both columns.
-use Rattle.std.specs.Prelude.{ℕ, ◌≡◌, ◌≤◌, true, List, [], ◌∷◌, length}
-use Rattle.std.specs.List.{All, IsDistinct}
-use Rattle.std.specs.Str.{bytes_eq}
+use Rattle.std.specs.Prelude.{ℕ, ◌≡◌, ◌+◌, ◌≤◌, true, List, [], ◌∷◌, slice_index}
+use Rattle.std.specs.List.{All}
 use Rattle.fb_model.specs.Names.{Name}
 use Rattle.fb_model.specs.CertificateText.{most_steps, most_places}
 use Rattle.fb_cert.specs.declared.certificate.Amount.{Amount}
 use Rattle.fb_cert.specs.Views.{Table, Rows, amount}
 use Rattle.fb_cert.specs.Adding.{is_upper_path}
 
--- the numbers of texts, one after another; 0 where there are no more
+-- the rows of texts, from number k on; 0 where there is no number
+abbrev pub amounts_from : ℕ → List Name → List ℕ → List ℕ → Table Amount
+amounts_from k [] steps places = []
+amounts_from k (t ∷ ts) steps places = (t, amount (slice_index steps k) (slice_index places k)) ∷ amounts_from (k + 1) ts steps places
+
 abbrev pub amounts : List Name → List ℕ → List ℕ → Table Amount
-amounts [] steps places = []
-amounts (t ∷ ts) [] [] = (t, amount 0 0) ∷ amounts ts [] []
-amounts (t ∷ ts) [] (k ∷ places) = (t, amount 0 k) ∷ amounts ts [] places
-amounts (t ∷ ts) (s ∷ steps) [] = (t, amount s 0) ∷ amounts ts steps []
-amounts (t ∷ ts) (s ∷ steps) (k ∷ places) = (t, amount s k) ∷ amounts ts steps places
+amounts texts steps places = amounts_from 0 texts steps places
 
 -- the texts are paths in upper case, and the numbers are within the bounds of rows
 pub record CanBeSaid (texts : List Name) (steps places : List ℕ) : Type 0 where

@@ -27,11 +27,6 @@ pub fn sorted(
     let graph = rows_needed(alloc, system)?;
     match sort_places(alloc, graph.as_slice())? {
         Sorted::Order(order) => Ok(order),
-        Sorted::Walk(walk) => Err(NoBound::Cycle(places(
-            alloc,
-            states,
-            events,
-            walk.as_slice(),
-        )?)),
+        Sorted::Walk(walk) => Err(NoBound::Cycle(places(alloc, states, events, walk.as_slice())?)),
     }
 }

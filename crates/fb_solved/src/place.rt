@@ -19,11 +19,7 @@ pub enum Place {
 }
 
 // The event input or arrival of a number.
-fn event_at(
-    alloc: Global,
-    events: &IndexSet<String>,
-    number: usize,
-) -> Result<Place, AllocError>
+fn event_at(alloc: Global, events: &IndexSet<String>, number: usize) -> Result<Place, AllocError>
     ensures { number < length (texts_of events.now) → (x : Node) → node_in (map (λ t. event (place_of t)) (texts_of events.now)) number ≡ x → IfOk result (λ p. node_of p ≡ x) }
 {
     match events.get_index(number) {

@@ -1,0 +1,5 @@
+mod Keys
+mod Adding
+mod Names
+mod Walks
+mod Limits
