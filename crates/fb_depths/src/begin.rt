@@ -21,8 +21,8 @@ fn begins(service: &Service) -> bool
     }
 }
 
-// The places of a leaf's BEGIN, 0 where it has none.
-fn begin_places(alloc: Global, certificate: &Certificate, leaf: &Leaf) -> Result<u64, Shallow>
+/// The places of a leaf's BEGIN, 0 where it has none.
+pub fn begin_places(alloc: Global, certificate: &Certificate, leaf: &Leaf) -> Result<u64, Shallow>
     ensures value { IfOk result (IsBegin certificate.now leaf.now) }
     ensures refused { IfErr result IsMemory }
 {

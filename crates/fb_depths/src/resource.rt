@@ -42,8 +42,8 @@ pub fn service_places(
     }
 }
 
-// The places of a leaf's arrival, 0 where it has none.
-fn arrival_places(alloc: Global, certificate: &Certificate, leaf: &Leaf) -> Result<u64, Shallow>
+/// The places of a leaf's arrival, 0 where it has none.
+pub fn arrival_places(alloc: Global, certificate: &Certificate, leaf: &Leaf) -> Result<u64, Shallow>
     ensures value { IfOk result (IsMost certificate.now leaf.now) }
     ensures refused { IfErr result IsMemory }
 {
