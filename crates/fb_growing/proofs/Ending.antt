@@ -1,8 +1,8 @@
 -- Lines stay the same in a round exactly where the book's rows do; and so the last lines are the rows of the last round.
-use Rattle.std.proofs.Common.{◌≡◌, ◌≢◌, ℕ, ◌+◌, nat_lt, int_eq, Bool, true, false, ◌&&◌, List, [], ◌∷◌, ◌++◌, map, Some, refl, sym, ap, ap₂, subst, ◌∙◌, if◌then◌else◌}
+use Rattle.std.proofs.Common.{◌≡◌, ◌≢◌, ℕ, ◌+◌, nat_lt, nat_le, min, arith, int_eq, Bool, true, false, ◌&&◌, List, [], ◌∷◌, ◌++◌, map, Some, refl, sym, ap, ap₂, subst, ◌∙◌, if◌then◌else◌}
 use Rattle.std.specs.List.{AllByRecursion, AllZip}
 use Rattle.std.proofs.lemmas.Bool.{and_parts}
-use Rattle.std.proofs.lemmas.Bool.Decides.{Decides-int_eq}
+use Rattle.std.proofs.lemmas.Bool.Decides.{Decides-int_eq, nat_tests}
 use Rattle.fb_model.specs.Names.{Name, Path}
 use Rattle.fb_model.specs.Values.{numbers_of}
 use Rattle.fb_model.specs.System.{Variable, Block}
@@ -17,7 +17,7 @@ use Rattle.fb_leaves.specs.Leaves.{AreApart, IsFed}
 use Rattle.fb_rounds.specs.FinderRanges.{held, first_value, range_row, rows_by, kind_rows, leaf_rows, round, Settles, ends, goes_on, IsLast, start_rows}
 use Rattle.fb_rounds.proofs.Holding.{all_own}
 use Rattle.fb_rounds.proofs.Looking.{settled, AreSame, AreOwn, RowsStand, rows_stand}
-use Rattle.fb_growing.specs.Lines.{line_by, lines_by, Lined, spans_by, next_round}
+use Rattle.fb_growing.specs.Lines.{line_by, lines_by, Lined, spans_by, next_round, next_number}
 use Rattle.fb_growing.specs.Sameness.{same_span, same_lines, same_all}
 use Rattle.fb_growing.specs.Found.{spelled, IsTable, AreLastTables}
 use Rattle.fb_growing.proofs.Tabling.{shown_range, put_own, table_is}
@@ -103,10 +103,24 @@ then_same f g (s ∷ ss) (u ∷ us) (b ∷ bs) h k e =
 pub record Stands (bs : List Leaf) (round : ℕ) (ss : List Lined) : Type 0 where
   pub number : ℕ
   pub by : Leaf → Variable → Span
-  pub late : nat_lt 64 round ≡ nat_lt 64 number
+  pub counts : round ≡ min number 65
   pub typed : AreTyped by bs
   pub lined : AreLined by ss bs
   pub goes : (zs : List Range) → Settles bs number (leaf_rows by bs) zs → IsLast bs zs
+
+late_alike : (n k : ℕ) → n ≡ min k 65 → nat_lt 64 n ≡ nat_lt 64 k
+late_alike n k e = by (nat_lt 64 n) (nat_lt 64 k) refl refl where
+  by : (a b : Bool) → nat_lt 64 n ≡ a → nat_lt 64 k ≡ b → a ≡ b
+  by true true s u = refl
+  by false false s u = refl
+  by true false s u = grind (arith, nat_tests)
+  by false true s u = grind (arith, nat_tests)
+
+next_counts : (n k : ℕ) → n ≡ min k 65 → next_number n ≡ min (k + 1) 65
+next_counts n k e = by (nat_le n 64) refl where
+  by : (b : Bool) → nat_le n 64 ≡ b → ◌≡◌ {A = ℕ} (if b then n + 1 else n) (min (k + 1) 65)
+  by true s = grind (arith, nat_tests)
+  by false s = grind (arith, nat_tests)
 
 abbrev pub first_by : Leaf → Variable → Span
 first_by leaf v = held (numbers_of (first_value leaf v))
@@ -118,17 +132,17 @@ start_typed all bs feds = all_weaker (IsFed all) (λ (b : Leaf). IsTyped first_b
   by b (Serviced service) h = tt
 
 pub stands_first : (bs : List Leaf) (ss : List Lined) → AllByRecursion (IsFed bs) bs → AreLined first_by ss bs → Stands bs 1 ss
-stands_first bs ss feds h = record { number = 1; by = first_by; late = refl; typed = start_typed bs bs feds; lined = h; goes = λ zs s. s }
+stands_first bs ss feds h = record { number = 1; by = first_by; counts = refl; typed = start_typed bs bs feds; lined = h; goes = λ zs s. s }
 
-pub stands_next : (bs : List Leaf) (n m : ℕ) (ss us : List Lined) → AreApart bs → AllByRecursion (IsFed bs) bs → Stands bs n ss → us ≡ next_round n ss → same_all ss us ≡ false → ((k : ℕ) → nat_lt 64 n ≡ nat_lt 64 k → nat_lt 64 m ≡ nat_lt 64 (k + 1)) → Stands bs m us
+pub stands_next : (bs : List Leaf) (n m : ℕ) (ss us : List Lined) → AreApart bs → AllByRecursion (IsFed bs) bs → Stands bs n ss → us ≡ next_round n ss → same_all ss us ≡ false → m ≡ next_number n → Stands bs m us
 stands_next bs n m ss us apart feds h is new later =
     let f = after h.number bs (leaf_rows h.by bs) in
-    let kept : AreLined f us bs = subst (λ xs. AreLined f xs bs) (sym is) (round_kept n h.number h.by ss bs h.late apart feds h.typed h.lined) in
+    let kept : AreLined f us bs = subst (λ xs. AreLined f xs bs) (sym is) (round_kept n h.number h.by ss bs (late_alike n h.number h.counts) apart feds h.typed h.lined) in
     let other : round h.number bs (leaf_rows h.by bs) ≢ leaf_rows h.by bs = (λ e. let t : same_all ss us ≡ true = then_same h.by f ss us bs h.lined kept e in let z : ⊥ = cc in z) in
     record {
       number = h.number + 1;
       by = f;
-      late = later h.number h.late;
+      counts = later ∙ next_counts n h.number h.counts;
       typed = round_typed h.number h.by bs apart feds h.typed;
       lined = kept;
       goes = λ zs s. h.goes zs (goes_on other s);
@@ -179,7 +193,7 @@ all_tables f ranges (s ∷ ss) (b ∷ bs) h own stand = (
 pub are_last : (bs : List Leaf) (n : ℕ) (ss us : List Lined) → AreApart bs → AllByRecursion (IsFed bs) bs → Stands bs n ss → us ≡ next_round n ss → same_all ss us ≡ true → AreLastTables bs (all_spans ss)
 are_last bs n ss us apart feds h is same =
     let f = after h.number bs (leaf_rows h.by bs) in
-    let kept : AreLined f us bs = subst (λ xs. AreLined f xs bs) (sym is) (round_kept n h.number h.by ss bs h.late apart feds h.typed h.lined) in
+    let kept : AreLined f us bs = subst (λ xs. AreLined f xs bs) (sym is) (round_kept n h.number h.by ss bs (late_alike n h.number h.counts) apart feds h.typed h.lined) in
     let stays : round h.number bs (leaf_rows h.by bs) ≡ leaf_rows h.by bs = same_then h.by f ss us bs h.lined kept same in
     let own = all_own bs bs feds in
     let spelt : spelled (all_spans ss) bs ≡ leaf_rows h.by bs = spelled_is h.by ss bs h.lined own in

@@ -1,14 +1,14 @@
 -- A round leaves less to do: from round 65 on, each that enlarges something takes an end to its type's end.
-use Rattle.std.proofs.Common.{ℕ, ◌≡◌, ◌≢◌, ◌+◌, ◌<◌, ◌≤◌, ◌⊎◌, inl, inr, ℤ, int_eq, int_lt, nat_lt, Bool, true, false, ◌&&◌, List, [], ◌∷◌, map, refl, sym, ap, subst, ◌∙◌, arith, if◌then◌else◌}
+use Rattle.std.proofs.Common.{ℕ, ◌≡◌, ◌≢◌, ◌+◌, ◌-◌, nat_le, ◌<◌, ◌≤◌, ◌⊎◌, inl, inr, ℤ, int_eq, int_lt, nat_lt, Bool, true, false, ◌&&◌, List, [], ◌∷◌, map, refl, sym, ap, subst, ◌∙◌, arith, if◌then◌else◌}
 use Rattle.std.specs.Int.{int_min, int_max}
-use Rattle.std.proofs.lemmas.Bool.Decides.{Decides-int_eq}
+use Rattle.std.proofs.lemmas.Bool.Decides.{Decides-int_eq, nat_tests}
 use Rattle.std.proofs.lemmas.Int.{ints, clamps}
 use Rattle.fb_words.specs.declared.elem_type.ElemType.{ElemType}
 use Rattle.fb_model.specs.Values.{lowest, highest}
 use Rattle.fb_model.specs.Spans.{Span, joined}
 use Rattle.fb_model.specs.Certificates.{is_boolean}
 use Rattle.fb_rounds.specs.FinderRanges.{widened}
-use Rattle.fb_growing.specs.Lines.{Line, Lined, Tabled, tabled, asked_in, stepped, next_line, next_lined, next_round}
+use Rattle.fb_growing.specs.Lines.{Line, Lined, Tabled, tabled, asked_in, stepped, next_line, next_lined, next_round, next_number}
 use Rattle.fb_growing.specs.Sameness.{same_span, same_lines, same_all}
 
 -- ---- one end
@@ -123,3 +123,13 @@ all_fall n ts (x ∷ xs) =
 
 pub round_falls : (n : ℕ) (xs : List Lined) → Falls (nat_lt 64 n) (same_all xs (next_round n xs)) (open_in (next_round n xs)) (open_in xs)
 round_falls n xs = all_fall n (map tabled xs) xs
+
+-- so the rounds of the code come to an end
+pub ends_by : (n m : ℕ) (xs us : List Lined) → us ≡ next_round n xs → same_all xs us ≡ false → m ≡ next_number n → 65 - m + open_in us < 65 - n + open_in xs
+ends_by n m xs us is other number = by (nat_le n 64) refl number where
+  fall : Falls (nat_lt 64 n) (same_all xs us) (open_in us) (open_in xs)
+  fall = subst (λ ys. Falls (nat_lt 64 n) (same_all xs ys) (open_in ys) (open_in xs)) (sym is) (round_falls n xs)
+
+  by : (b : Bool) → nat_le n 64 ≡ b → m ≡ (if b then n + 1 else n) → 65 - m + open_in us < 65 - n + open_in xs
+  by true e s = let l : n ≤ 64 = grind (arith, nat_tests) in omega (arith, l, s, fall.less)
+  by false e s = let l : nat_lt 64 n ≡ true = grind (arith, nat_tests) in omega (arith, s, fall.moves l other)

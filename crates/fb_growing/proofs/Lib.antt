@@ -7,3 +7,7 @@ pub mod Tabling
 pub mod Asking
 pub mod Keeping
 pub mod Ending
+pub mod Ranging
+pub mod Starting
+pub mod Entries
+pub mod Putting

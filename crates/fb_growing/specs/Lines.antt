@@ -1,5 +1,5 @@
 -- The finder's ranges of a device's leaves while its rounds go on: in order, and by the names of variables. What a round makes of them.
-use Rattle.std.specs.Prelude.{ℕ, ◌+◌, List, [], ◌∷◌, map, Option, None, Some, if◌then◌else◌}
+use Rattle.std.specs.Prelude.{ℕ, ◌+◌, nat_le, List, [], ◌∷◌, map, Option, None, Some, if◌then◌else◌}
 use Rattle.std.specs.Option.{option_map}
 use Rattle.fb_words.specs.declared.elem_type.ElemType.{ElemType}
 use Rattle.fb_words.specs.declared.elem_type.ElemType.TheVariants as t
@@ -117,3 +117,7 @@ next_lined n ts t = record { leaf = t.leaf; lines = map (next_line n ts t) t.lin
 
 abbrev pub next_round : ℕ → List Lined → List Lined
 next_round n xs = let ts = map tabled xs in map (next_lined n ts) ts
+
+-- the number of the round after this one; all late rounds are alike, and have one number
+abbrev pub next_number : ℕ → ℕ
+next_number n = if nat_le n 64 then n + 1 else n

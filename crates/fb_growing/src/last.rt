@@ -7,6 +7,7 @@ ghost use Rattle.fb_leaves.specs.Leaves.{AreApart, IsFed};
 ghost use Rattle.fb_growing.specs.fb_flat.Tables.{AreLeaves};
 ghost use Rattle.fb_growing.specs.fb_ranges.Views.{spans_of};
 ghost use Rattle.fb_growing.specs.Found.{AreLastTables};
+ghost use Rattle.fb_growing.specs.Lines.{next_number};
 
 use crate::first::first_rows;
 use crate::round::next;
@@ -19,6 +20,7 @@ use std::alloc::{AllocError, Global};
 
 // The number of the next round. All late rounds are alike, and have one number.
 fn later(round: u8) -> u8
+    ensures { result ≡ next_number round }
 {
     if round <= LAST_EARLY_ROUND {
         round + 1

@@ -23,7 +23,7 @@ fn next_row<'a>(
     all: &[Ranges],
     row: Row<'a>,
 ) -> Row<'a>
-    ensures { (ts : List Tabled) → AreNear ts near.now → map spans_of all.now ≡ grown_by (spans_of table.now.ranges) (kind_of table.now.leaf.now.body) → line_of result ≡ next_line round ts (tabled_of table.now) (line_of row) }
+    ensures { (ts : List Tabled) → AreNear ts near.now → map spans_of all.now ≡ grown_by (spans_of table.now.ranges) (kind_of table.now.leaf.now.body) → line_of result ≡ next_line round ts (tabled_of table.now) (line_of row.entry) }
 {
     let name = row.name;
     let worked = joined_with(all, name, table.ranges.find(name));

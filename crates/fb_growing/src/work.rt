@@ -1,7 +1,9 @@
 //! What algorithms ask.
 
 ghost use Rattle.std.specs.Prelude.{◌≡◌, map, IfOk};
+ghost use Rattle.fb_asking.specs.Asking as book;
 ghost use Rattle.fb_intervals.specs.Views.{span_of};
+ghost use Rattle.fb_growing.specs.st_types.CommandViews.{commands_of};
 ghost use Rattle.fb_growing.specs.fb_blocks.Views.{procedures_of};
 ghost use Rattle.fb_growing.specs.fb_flat.Leaves.{kind_of};
 ghost use Rattle.fb_growing.specs.fb_ranges.Views.{spans_of};
@@ -16,7 +18,7 @@ use std::alloc::{AllocError, Global};
 
 // What one algorithm asks.
 fn grown(alloc: Global, algo: &Algo, ranges: &Ranges) -> Result<Ranges, AllocError>
-    ensures { IfOk result (λ r. spans_of r ≡ Rattle.fb_asking.specs.Asking.grown (spans_of ranges.now) (Rattle.fb_growing.specs.st_types.CommandViews.commands_of algo.now.statements.items)) }
+    ensures { IfOk result (λ r. spans_of r ≡ book.grown (spans_of ranges.now) (commands_of algo.now.statements.items)) }
 {
     match grow(alloc, algo, ranges) {
         Ok(grown) => Ok(grown),
