@@ -1,8 +1,8 @@
 -- The lines of the tables' leaves at first are those of the book's leaves.
 use denote.Ref.{Bor}
-use Rattle.std.proofs.Common.{◌≡◌, pos, Bool, true, false, ◌||◌, List, [], ◌∷◌, map, Option, None, Some, refl, sym, ap, ap₂, subst, ◌∙◌, string_bytes}
+use Rattle.std.proofs.Common.{◌≡◌, pos, Bool, true, false, ◌||◌, List, [], ◌∷◌, map, Option, None, Some, refl, sym, ap, ap₂, subst, ◌∙◌, string_bytes, Result, Ok, Err, Vec, Global}
 use Rattle.std.proofs.Math.Path.{fun_ext}
-use Rattle.std.specs.Prelude.{if◌then◌else◌}
+use Rattle.std.specs.Prelude.{if◌then◌else◌, IfOk}
 use Rattle.std.specs.Str.{bytes_eq}
 use Rattle.std.specs.List.{AllByRecursion}
 use Rattle.fb_model.specs.Names.{Name, is_in}
@@ -16,7 +16,10 @@ use Rattle.fb_leaves.specs.Leaves.{IsFed, Feeds}
 use Rattle.fb_rows.specs.fb_flat.declared.flat.Leaf.{Leaf}
 use Rattle.fb_rows.specs.fb_flat.declared.flat.Input.{Input}
 use Rattle.fb_rows.specs.fb_flat.Tables.{source_at, input_names, IsLeaf, AreLeaves}
-use Rattle.fb_growing.specs.Lines.{lines_by, first_from, first_lined}
+use Rattle.fb_rows.specs.fb_ranges.declared.rows.Ranges.{Ranges}
+use Rattle.fb_rows.specs.fb_ranges.Views.{spans_of}
+use Rattle.fb_growing.specs.Found.{AreLastTables}
+use Rattle.fb_growing.specs.Lines.{lines_by, first_from, first_lined, Lined, spans_by}
 use Rattle.fb_growing.specs.Views.{shown}
 use Rattle.fb_growing.proofs.Keeping.{SameSources, IsShown, AreLined}
 use Rattle.fb_growing.proofs.Ending.{first_by}
@@ -68,3 +71,8 @@ all_first_lined all (l ∷ ls) (b ∷ bs) h feds =
       },
       all_first_lined all ls bs h.1 feds.1,
     )
+
+-- what is told where memory did not run out
+pub told : {E : Type 0} (bs : List wires.Leaf) (r : Result (Vec Ranges Global) E) (ss : List Lined) → IfOk r (λ v. map spans_of v.items ≡ map (λ (s : Lined). spans_by s.lines) ss) → AreLastTables bs (map (λ (s : Lined). spans_by s.lines) ss) → IfOk r (λ v. AreLastTables bs (map spans_of v.items))
+told bs (Ok v) ss is last = subst (AreLastTables bs) (sym is) last
+told bs (Err e) ss is last = tt
