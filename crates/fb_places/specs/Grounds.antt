@@ -4,6 +4,7 @@ use Rattle.std.specs.Prelude.{ℕ, List, [], ◌∷◌, Option, None, Some, map,
 use Rattle.std.specs.Str.{bytes_eq}
 use Rattle.std.specs.declared.string.String.{String}
 use Rattle.std.specs.declared.vec.Vec.{Vec}
+use Rattle.std.specs.Borrow.{Bor}
 use Rattle.std.specs.declared.alloc.Global.{Global}
 use Rattle.indexmap.specs.IndexMap.{IndexMap}
 use Rattle.fb_model.specs.Names.{Name, at_place}
@@ -40,7 +41,7 @@ abbrev pub ground : ℕ → List Name → List ℕ → Name → List Output → 
 ground unit names prices path outputs = record { unit = unit; price = priced names prices; own = at_place (names_in path); targets = targets_of outputs }
 
 -- the names of the algorithms of a block, if it is one
-abbrev pub names_among : Option (Bor (IndexMap (String Global) Algo RandomState)) → List Name
+abbrev pub names_among : {S : Type 0} → Option (Bor (IndexMap (String Global) Algo S)) → List Name
 names_among None = []
 names_among (Some m) = table_names m.now
 

@@ -9,6 +9,8 @@ mod right;
 mod scene;
 mod service;
 
+pub use fb_rows;
+pub use fb_rows::fb_flat;
 pub use grouping::group;
 pub use leaf::add_leaf;
 pub use numbering::Numbering;

@@ -1,6 +1,6 @@
 //! Numbers of nodes.
 
-ghost use Rattle.std.specs.Prelude.{◌≡◌, IfOk};
+ghost use Rattle.std.specs.Prelude.{◌≡◌, ◌<◌, ◌^◌, IfOk};
 ghost use Rattle.fb_model.specs.Names.{at_place};
 ghost use Rattle.fb_model.specs.CertificateText.{names_in};
 ghost use Rattle.fb_demands.specs.Demands.{event, state};
@@ -22,7 +22,8 @@ pub struct Numbering {
 
 // Where a text stands in a set; behind its end where it does not.
 fn index(texts: &IndexSet<String>, text: &str) -> usize
-    ensures { result ≡ index_in (names_of texts.now) text.now }
+    ensures place { result ≡ index_in (names_of texts.now) text.now }
+    ensures small { result < 2 ^ 63 }
 {
     match texts.get_index_of(text) {
         Some(index) => index,
