@@ -2,4 +2,5 @@ mod Keys
 mod Adding
 mod Names
 mod Walks
+pub mod Telling
 mod Limits
