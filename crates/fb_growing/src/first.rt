@@ -18,12 +18,7 @@ use fb_words::ElemType;
 use std::alloc::{AllocError, Global};
 
 // The range of what a variable has at first, by the inputs of its block and their sources.
-fn range_first(
-    sources: &[Input],
-    inputs: &Variables,
-    name: &str,
-    variable: &Variable,
-) -> Interval
+fn range_first(sources: &[Input], inputs: &Variables, name: &str, variable: &Variable) -> Interval
     ensures { span_of result ≡ first_from (variables_of inputs.now) (source_at sources.now) (variable_of (declared_of name.now variable.now)) }
 {
     if inputs.contains_key(name) {

@@ -16,13 +16,7 @@ use fb_rows::source_named;
 use std::alloc::{AllocError, Global};
 
 // A row after a round, by what each algorithm of its leaf asks.
-fn next_row<'a>(
-    round: u8,
-    near: &Near,
-    table: &Table,
-    all: &[Ranges],
-    row: Row<'a>,
-) -> Row<'a>
+fn next_row<'a>(round: u8, near: &Near, table: &Table, all: &[Ranges], row: Row<'a>) -> Row<'a>
     ensures { (ts : List Tabled) → AreNear ts near.now → map spans_of all.now ≡ grown_by (spans_of table.now.ranges) (kind_of table.now.leaf.now.body) → line_of result ≡ next_line round ts (tabled_of table.now) (line_of row.entry) }
 {
     let name = row.name;

@@ -45,11 +45,7 @@ fn all_asked(
 }
 
 /// What each algorithm of a leaf asks; those of services ask nothing.
-pub(crate) fn asked(
-    alloc: Global,
-    leaf: &Leaf,
-    ranges: &Ranges,
-) -> Result<Vec<Ranges>, AllocError>
+pub(crate) fn asked(alloc: Global, leaf: &Leaf, ranges: &Ranges) -> Result<Vec<Ranges>, AllocError>
     ensures { IfOk result (λ v. map spans_of v.items ≡ grown_by (spans_of ranges.now) (kind_of leaf.now.body)) }
 {
     match &leaf.body {
