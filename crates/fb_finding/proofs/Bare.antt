@@ -1,15 +1,15 @@
 -- Demands without what algorithms cost have small constants, so that they are told apart whole.
-use Rattle.std.proofs.Common.{ℕ, ◌≡◌, ◌+◌, ◌≤◌, Bool, true, false, List, [], ◌∷◌, ◌++◌, length, map, Option, Some, None, refl, sym, ◌∙◌, ap, subst, arith, if◌then◌else◌}
+use Rattle.std.proofs.Common.{ℕ, ◌≡◌, ◌≤◌, Bool, true, false, List, [], ◌∷◌, ◌++◌, length, map, Option, Some, None, refl, ◌∙◌, ap, subst, arith, if◌then◌else◌}
 use Rattle.std.specs.List.{flat_map, AllByRecursion}
 use Rattle.std.proofs.lemmas.List.Sums.{sum_by-cons}
 use Rattle.fb_model.specs.Names.{Name}
-use Rattle.fb_model.specs.System.{Action, State, Transition, Block}
+use Rattle.fb_model.specs.System.{Action, State, Transition}
 use Rattle.fb_model.specs.Services.{service_events}
 use Rattle.fb_model.specs.Wires.{Kind, Charted, Serviced, Leaf}
 use Rattle.fb_model.specs.Charts.{actions_of, is_open}
 use Rattle.fb_model.specs.Certificates.{event_names}
 use Rattle.fb_model.proofs.Lists.{all_append}
-use Rattle.fb_demands.specs.Demands.{Node, Demand, Ground, work, of_state, free_demand, of_free, crossing_demand, of_crossing, of_input, of_dispatch, of_kind, bare, bare_demands}
+use Rattle.fb_demands.specs.Demands.{Node, Demand, work, of_state, free_demand, of_free, crossing_demand, of_crossing, of_input, of_dispatch, of_kind, bare, bare_demands}
 use Rattle.fb_least.specs.Systems.{System}
 use Rattle.fb_numbered.specs.Numbered.{AreNumbers, SaysSame, AreOf}
 use Rattle.fb_finding.specs.Nodes.{by_number, capped, capped_demand, AreGrouped}

@@ -1,6 +1,6 @@
 -- What is made so fits, and is least.
 use Rattle.std.specs.Prelude.{max, ◌&&◌, ◌||◌}
-use Rattle.std.proofs.Common.{ℕ, zero, suc, ◌≡◌, ◌+◌, ◌<◌, ◌≤◌, ◌⊎◌, inl, inr, ◌==◌, Bool, true, false, List, [], ◌∷◌, ◌++◌, length, map, refl, sym, ◌∙◌, ap, subst, arith, Contains, append_assoc, if◌then◌else◌}
+use Rattle.std.proofs.Common.{ℕ, ◌≡◌, ◌+◌, ◌≤◌, ◌⊎◌, inl, inr, ◌==◌, Bool, true, false, List, [], ◌∷◌, ◌++◌, map, refl, sym, ◌∙◌, ap, subst, arith, Contains, append_assoc, if◌then◌else◌}
 use Rattle.std.specs.List.{list_any, flat_map, AllByRecursion}
 use Rattle.std.proofs.Math.Path.{fun_ext}
 use Rattle.std.proofs.lemmas.List.Elements.{All-contains, All-from_recursion, Contains-append_left, Contains-append_right}
@@ -10,17 +10,14 @@ use Rattle.fb_model.specs.Services.{begin}
 use Rattle.fb_model.specs.Wires.{Leaf, leaves}
 use Rattle.fb_model.specs.Ranges.{Range, rows}
 use Rattle.fb_model.specs.Clear.{Spans}
-use Rattle.fb_model.specs.Certificates.{Certificate, Row, amount, row_places, Column, steps_of, places_of, ColumnFits, depth_of, kind_arrivals, is_restart, begin_places, ArrivalsFit, DeviceFits, each_leaf, places_in, state_names, events_of, all_leaves, AllRows, Fits}
+use Rattle.fb_model.specs.Certificates.{Certificate, Row, amount, row_places, Column, steps_of, places_of, ColumnFits, depth_of, kind_arrivals, is_restart, begin_places, ArrivalsFit, DeviceFits, all_leaves, AllRows}
 use Rattle.fb_model.specs.CertificateText.{place_of}
-use Rattle.fb_model.proofs.Lists.{all_both}
-use Rattle.fb_model.proofs.Placed.{all_left, all_right}
 use Rattle.fb_demands.specs.Demands.{Node, state, event, Demand, IsMet, of_kind}
 use Rattle.fb_demands.specs.Columns.{number_of, ground_of, demands, price_of, MeetAll}
 use Rattle.fb_demands.proofs.Lists.{all_append}
 use Rattle.fb_demands.proofs.Meeting.{column_meets}
-use Rattle.fb_numbered.specs.Numbered.{AreLeast}
 use Rattle.fb_finding.specs.Nodes.{nodes_of, AreRowsOf}
-use Rattle.fb_finding.specs.Finding.{HaveSameRanges, IsAtMost, IsFound, IsNeeded, is_one, for_arrival, for_begins, HasNeededDepths, IsMade}
+use Rattle.fb_finding.specs.Finding.{HaveSameRanges, IsFound, IsNeeded, is_one, for_arrival, for_begins, HasNeededDepths, IsMade}
 use Rattle.fb_finding.proofs.Members.{in_rows}
 
 -- ---- devices one after another

@@ -1,26 +1,21 @@
 -- All demands are of nodes of the system, and ask for such.
 use Rattle.std.specs.Prelude.{◌&&◌, ◌||◌}
-use Rattle.std.proofs.Common.{ℕ, zero, suc, ◌≡◌, ◌+◌, ◌<◌, Bool, true, false, List, [], ◌∷◌, ◌++◌, length, map, Option, Some, None, refl, sym, ◌∙◌, ap, subst, arith, Contains, if◌then◌else◌}
+use Rattle.std.proofs.Common.{◌≡◌, Bool, true, false, List, [], ◌∷◌, ◌++◌, map, Option, Some, None, refl, sym, ◌∙◌, ap, subst, arith, Contains, if◌then◌else◌}
 use Rattle.std.specs.List.{list_any, flat_map, AllByRecursion}
 use Rattle.std.specs.Str.{bytes_eq}
-use Rattle.std.proofs.lemmas.List.{length-map}
 use Rattle.std.proofs.lemmas.List.Elements.{All-contains, All-from_recursion, Contains-append_left, Contains-append_right}
 use Rattle.fb_model.specs.Names.{Name, Path, Place, at_place, path_eq, place_eq, is_in}
-use Rattle.fb_model.specs.Declarations.{BlockTree, SourceTree}
-use Rattle.fb_model.specs.NetworkTyping.{ElaboratesWith}
-use Rattle.fb_model.specs.System.{Action, State, Transition, Block, Service, Device, System}
+use Rattle.fb_model.specs.System.{Action, State, Transition, Block, Device}
 use Rattle.fb_model.specs.Services.{service_events, can_emit}
 use Rattle.fb_model.specs.Wires.{Kind, Charted, Serviced, Leaf, leaf_at, leaves}
 use Rattle.fb_model.specs.Charts.{actions_of, is_open, emission}
 use Rattle.fb_model.specs.Certificates.{reached, event_names, names, state_names, events_of, has_event, is_input, each_leaf, places_in, all_leaves, IsWired}
 use Rattle.fb_model.specs.CertificateText.{place_of}
-use Rattle.fb_model.proofs.Lists.{all_append, all_weaker, all_both, same_name, same_path, at_listed}
-use Rattle.fb_model.proofs.Placed.{name_same, path_same, all_left, all_right}
+use Rattle.fb_model.proofs.Lists.{all_append, all_weaker, all_both, same_name, same_path}
+use Rattle.fb_model.proofs.Placed.{path_same, all_left, all_right}
 use Rattle.fb_leaves.specs.Leaves.{IsClosedBlock, IsClosed}
-use Rattle.fb_demands.specs.Demands.{Node, state, event, Demand, Ground, emitted, of_state, free_demand, of_free, of_least, crossing_demand, of_crossing, of_input, of_chart, sending_demand, of_dispatch, of_kind, bare, bare_demands}
-use Rattle.fb_demands.specs.Columns.{ground_of, demands}
+use Rattle.fb_demands.specs.Demands.{Node, state, event, Demand, Ground, emitted, of_state, free_demand, of_free, crossing_demand, of_crossing, of_input, of_chart, of_dispatch, of_kind}
 use Rattle.fb_numbered.specs.Numbered.{AreOf}
-use Rattle.fb_model.specs.Ranges.{Range}
 use Rattle.fb_finding.specs.Nodes.{nodes_of, AreRowsOf}
 use Rattle.fb_finding.proofs.Lists.{each_flat, each_map, all_self, on_names, or_more, or_here}
 

@@ -1,10 +1,10 @@
 -- Nodes have the numbers of their places in the list.
-use Rattle.std.proofs.Common.{ℕ, ◌≡◌, ◌+◌, ◌-◌, ◌<◌, ◌≤◌, ◌⊎◌, inl, inr, List, [], ◌∷◌, ◌++◌, length, map, slice_index_or, refl, sym, ◌∙◌, ap, subst, arith, Contains, ◌==◌}
+use Rattle.std.proofs.Common.{ℕ, ◌≡◌, ◌+◌, ◌-◌, ◌<◌, ◌≤◌, ◌⊎◌, inl, inr, List, [], ◌∷◌, ◌++◌, length, map, slice_index_or, refl, sym, ◌∙◌, ap, subst, arith, ◌==◌}
 use Rattle.std.specs.List.{join_with_byte, IsDistinct}
 use Rattle.std.specs.Str.{bytes_eq}
 use Rattle.std.proofs.lemmas.List.{length-map, length-append, get_or-map, get_or_append_left, get_or-append-add}
 use Rattle.std.proofs.lemmas.List.Splits.{join_with_byte-slice_split, length-slice_split}
-use Rattle.fb_model.specs.Names.{Name, Path, Place, at_place}
+use Rattle.fb_model.specs.Names.{Name, Path, at_place}
 use Rattle.fb_model.specs.CertificateText.{names_in, place_of, all_but_last, last_name}
 use Rattle.fb_demands.specs.Demands.{Node, state, event, node_in}
 use Rattle.fb_numbered.specs.Numbered.{AreNumbers}

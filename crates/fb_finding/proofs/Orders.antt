@@ -1,24 +1,24 @@
 -- One order serves all columns: their demands differ in constants alone.
-use Rattle.std.proofs.Common.{ℕ, zero, suc, ◌≡◌, ◌+◌, ◌*◌, ◌<◌, ◌≤◌, ◌⊎◌, inl, inr, ◌==◌, Bool, true, false, List, [], ◌∷◌, ◌++◌, length, map, Option, Some, None, slice_index_or, refl, sym, ◌∙◌, ap, subst, arith, Contains, if◌then◌else◌}
+use Rattle.std.proofs.Common.{ℕ, ◌≡◌, ◌<◌, ◌≤◌, ◌⊎◌, inl, inr, ◌==◌, Bool, true, false, List, [], ◌∷◌, ◌++◌, length, map, Option, Some, None, slice_index_or, refl, sym, ◌∙◌, ap, subst, arith, Contains, if◌then◌else◌}
 use Rattle.std.specs.List.{flat_map}
-use Rattle.fb_model.specs.Names.{Name, at_place}
-use Rattle.fb_model.specs.System.{Action, State, Transition, Block, Service}
-use Rattle.fb_model.specs.Services.{service_events, can_emit}
+use Rattle.fb_model.specs.Names.{Name}
+use Rattle.fb_model.specs.System.{Action}
+use Rattle.fb_model.specs.Services.{service_events}
 use Rattle.fb_model.specs.Wires.{Kind, Charted, Serviced, Leaf}
 use Rattle.fb_model.specs.Charts.{actions_of, is_open}
 use Rattle.fb_model.specs.Ranges.{Range}
 use Rattle.fb_model.specs.Certificates.{event_names}
-use Rattle.fb_demands.specs.Demands.{Node, Demand, Ground, of_state, free_demand, of_free, crossing_demand, of_crossing, of_input, of_chart, of_dispatch, of_kind, bare, bare_demands}
+use Rattle.fb_demands.specs.Demands.{Node, Demand, Ground, of_state, free_demand, of_free, crossing_demand, of_crossing, of_input, of_dispatch, of_kind, bare, bare_demands}
 use Rattle.fb_demands.specs.Columns.{ground_of, demands}
 use Rattle.fb_demands.specs.Likeness.{AreLike}
 use Rattle.fb_demands.proofs.Likening.{like_append}
-use Rattle.fb_least.specs.Graphs.{row, HasEdge, IsOrder}
+use Rattle.fb_least.specs.Graphs.{row, IsOrder}
 use Rattle.fb_least.specs.Systems.{Inequality, System, inequalities, needed, needs, IsSystem}
 use Rattle.fb_least.proofs.Solving.{row-needs}
 use Rattle.std.proofs.lemmas.List.{length-map}
 use Rattle.fb_numbered.specs.Numbered.{AreNumbers, AreOf}
 use Rattle.fb_numbered.proofs.Numbering.{term_of}
-use Rattle.fb_finding.specs.Nodes.{Numbered, by_number, asked_of, asked_at, AreGrouped, capped_demand}
+use Rattle.fb_finding.specs.Nodes.{by_number, asked_of, asked_at, AreGrouped}
 use Rattle.fb_finding.proofs.Same.{says_same, capped_of}
 
 abbrev AreAlike : List Demand → List Demand → Type 0

@@ -1,11 +1,9 @@
 -- Demands by numbers, put together place by place, say what the demands say.
-use Rattle.std.proofs.Common.{ℕ, zero, suc, ◌≡◌, ◌+◌, ◌<◌, ◌≤◌, ◌⊎◌, inl, inr, ◌==◌, Bool, true, false, List, [], ◌∷◌, ◌++◌, length, map, refl, sym, ◌∙◌, ap, subst, arith, Contains, if◌then◌else◌}
-use Rattle.std.specs.List.{sum_by, flat_map, AllByRecursion}
-use Rattle.std.specs.Prelude.{min}
+use Rattle.std.proofs.Common.{ℕ, zero, suc, ◌≡◌, ◌<◌, ◌≤◌, ◌⊎◌, inl, inr, ◌==◌, Bool, true, false, List, [], ◌∷◌, length, map, refl, sym, ◌∙◌, ap, subst, arith, Contains, if◌then◌else◌}
+use Rattle.std.specs.List.{flat_map, AllByRecursion}
 use Rattle.std.proofs.lemmas.Bool.{eqb-true}
 use Rattle.std.proofs.lemmas.List.Elements.{Contains-append_left, Contains-append_right, Contains-append_cases}
-use Rattle.fb_model.proofs.Lists.{all_weaker}
-use Rattle.fb_demands.specs.Demands.{Node, Demand, IsMet, node_in}
+use Rattle.fb_demands.specs.Demands.{Node, Demand, IsMet}
 use Rattle.fb_least.specs.Systems.{Inequality, System, inequalities}
 use Rattle.fb_numbered.specs.Numbered.{AreNumbers, inequality, SaysSame, AreOf, AreLeast}
 use Rattle.fb_finding.specs.Nodes.{Numbered, by_number, capped, asked_of, asked_at, AreGrouped, capped_demand}

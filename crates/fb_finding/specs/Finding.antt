@@ -2,7 +2,7 @@
 -- This project's profile.
 use Rattle.std.specs.Prelude.{ℕ, ◌≡◌, ◌≤◌, max, List, ◌++◌, map}
 use Rattle.std.specs.List.{AllByRecursion, Contains}
-use Rattle.fb_model.specs.Names.{Name, Place, at_place}
+use Rattle.fb_model.specs.Names.{Name, at_place}
 use Rattle.fb_model.specs.System.{Device, System}
 use Rattle.fb_model.specs.Wires.{Leaf, leaves}
 use Rattle.fb_model.specs.Ranges.{Range, rows, LeafClears}

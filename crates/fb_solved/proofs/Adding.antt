@@ -1,10 +1,8 @@
 -- Rows are added one after another.
-use Rattle.std.specs.Prelude.{◌&&◌, ◌||◌, nat_le}
-use Rattle.std.proofs.Common.{ℕ, zero, suc, ◌≡◌, ◌+◌, ◌<◌, ◌≤◌, Bool, true, false, not, List, [], ◌∷◌, ◌++◌, length, map, slice_index, slice_index_or, take, refl, sym, ◌∙◌, ap, subst, arith, if◌then◌else◌}
-use Rattle.std.specs.List.{All, IsDistinct, AllByRecursion}
+use Rattle.std.specs.Prelude.{◌&&◌, ◌||◌}
+use Rattle.std.proofs.Common.{ℕ, zero, suc, ◌≡◌, ◌+◌, ◌<◌, ◌≤◌, Bool, true, false, not, List, [], ◌∷◌, ◌++◌, length, slice_index, slice_index_or, take, refl, sym, ◌∙◌, ap, arith, if◌then◌else◌}
+use Rattle.std.specs.List.{All, IsDistinct}
 use Rattle.std.specs.Str.{bytes_eq}
-use Rattle.std.proofs.lemmas.List.{length-take, map_more, take_more}
-use Rattle.std.proofs.lemmas.List.Elements.{recursion_from_All}
 use Rattle.fb_model.specs.Names.{Name, is_in}
 use Rattle.fb_model.specs.CertificateText.{charge, weight, most_steps, most_places}
 use Rattle.fb_model.proofs.Names.{eq_turned}

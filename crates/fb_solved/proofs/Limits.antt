@@ -1,8 +1,6 @@
 -- A number above a limit is that of a place.
-use Rattle.std.proofs.Common.{ℕ, zero, suc, ◌≡◌, ◌+◌, ◌<◌, ◌≤◌, ◌⊎◌, inl, inr, ◌==◌, Bool, true, false, List, [], ◌∷◌, ◌++◌, length, take, slice_index_or, Result, Ok, Err, IfOk, refl, sym, ◌∙◌, ap, subst, arith, Contains, string_bytes, if◌then◌else◌}
+use Rattle.std.proofs.Common.{ℕ, zero, suc, ◌≡◌, ◌<◌, ◌≤◌, ◌⊎◌, inl, inr, ◌==◌, Bool, true, false, List, [], ◌∷◌, length, take, refl, sym, ◌∙◌, ap, subst, arith, Contains, if◌then◌else◌}
 use Rattle.std.proofs.lemmas.Bool.{eqb-true}
-use Rattle.std.specs.declared.string.String.{String}
-use Rattle.std.specs.declared.alloc.Global.{Global}
 use Rattle.fb_model.specs.Names.{Name}
 use Rattle.fb_model.specs.CertificateText.{names_in, place_of}
 use Rattle.fb_demands.specs.Demands.{Node, state, event}

@@ -1,5 +1,5 @@
 -- The numbers of rows are those that they were made of.
-use Rattle.std.proofs.Common.{ℕ, zero, suc, ◌≡◌, ◌+◌, ◌-◌, ◌<◌, ◌≤◌, List, [], ◌∷◌, ◌++◌, length, map, take, drop, slice_index, slice_index_or, refl, sym, ◌∙◌, ap, subst, arith}
+use Rattle.std.proofs.Common.{ℕ, zero, suc, ◌≡◌, ◌+◌, ◌≤◌, List, [], ◌∷◌, ◌++◌, length, map, take, drop, slice_index, refl, ◌∙◌, ap, arith}
 use Rattle.fb_model.specs.Names.{Name}
 use Rattle.fb_model.specs.Certificates as book
 use Rattle.fb_model.specs.CertificateText.{place_of}

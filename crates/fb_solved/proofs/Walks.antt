@@ -1,5 +1,5 @@
 -- The nodes of a closed walk of places.
-use Rattle.std.proofs.Common.{ℕ, zero, suc, ◌≡◌, ◌+◌, ◌-◌, ◌<◌, ◌≤◌, ◌⊎◌, inl, inr, List, [], ◌∷◌, ◌++◌, length, map, slice_index, slice_index_or, refl, sym, ◌∙◌, ap, subst, arith, Contains}
+use Rattle.std.proofs.Common.{ℕ, zero, suc, ◌≡◌, ◌+◌, ◌-◌, ◌<◌, ◌≤◌, ◌⊎◌, inl, inr, List, [], ◌∷◌, length, slice_index, slice_index_or, refl, subst, arith, Contains}
 use Rattle.std.specs.List.{All}
 use Rattle.fb_finding.proofs.Lists.{default_free}
 use Rattle.fb_least.specs.Graphs.{row, HasEdge, IsClosed}

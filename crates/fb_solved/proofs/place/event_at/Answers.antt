@@ -1,4 +1,4 @@
-use Rattle.std.proofs.Common.{sym, ap, ◌∙◌}
+use Rattle.std.proofs.Common.{ap, ◌∙◌}
 use Rattle.fb_demands.specs.Demands.{event}
 use Rattle.fb_model.specs.CertificateText.{place_of}
 use Rattle.fb_solved.proofs.Keys.{event_key}

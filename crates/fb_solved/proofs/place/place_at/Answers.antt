@@ -1,4 +1,4 @@
-use Rattle.std.proofs.Common.{sym, ap, ◌∙◌}
+use Rattle.std.proofs.Common.{ap, ◌∙◌}
 use Rattle.fb_demands.specs.Demands.{state}
 use Rattle.fb_model.specs.CertificateText.{place_of}
 use Rattle.fb_solved.proofs.Keys.{state_key}

@@ -1,4 +1,4 @@
-use Rattle.std.proofs.Common.{ap, ◌∙◌, sym, subst, take, string_bytes, ◌≡◌}
+use Rattle.std.proofs.Common.{ap, ◌∙◌}
 use Rattle.fb_model.specs.CertificateText.{names_in}
 use Rattle.fb_solved.proofs.Names.{none_from, some_from, one, two, more, if_ok}
 use Rattle.fb_solved.proofs.resource.resource_in.Goals as goal

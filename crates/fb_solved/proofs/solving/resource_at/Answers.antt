@@ -1,4 +1,4 @@
-use Rattle.std.proofs.Common.{ap, ◌∙◌, sym, take, ◌≡◌, string_bytes}
+use Rattle.std.proofs.Common.{ap, ◌∙◌, sym, take, string_bytes}
 use Rattle.fb_demands.specs.Demands.{node_in}
 use Rattle.fb_finding.specs.Nodes.{nodes_of}
 use Rattle.fb_model.specs.CertificateText.{names_in}

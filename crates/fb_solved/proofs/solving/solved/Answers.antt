@@ -1,5 +1,4 @@
-use Rattle.std.proofs.Common.{ap, ◌∙◌, sym, subst, ◌<◌, length}
-use Rattle.fb_least.specs.Systems.{IsLeast}
+use Rattle.std.proofs.Common.{subst, ◌<◌, length}
 use Rattle.fb_least.specs.Views.{system_of, IsSolved}
 use Rattle.fb_solved.proofs.Limits.{of_place}
 use Rattle.fb_solved.proofs.solving.solved.Goals as goal
