@@ -1,0 +1,61 @@
+-- Columns of numbers, and why there is none.
+use Rattle.std.specs.Prelude.{ℕ, ◌≡◌, ◌≤◌, ◌<◌, List, length, map, slice_index, string_bytes}
+use Rattle.std.specs.List.{All, Contains}
+use Rattle.fb_model.specs.System as book
+use Rattle.fb_model.specs.Certificates.{all_leaves}
+use Rattle.fb_demands.specs.Demands.{Node, Demand, bare_demands, IsClosedWalk}
+use Rattle.fb_demands.specs.Columns.{MeetAll}
+use Rattle.fb_demands.specs.Likeness.{AreLike}
+use Rattle.fb_least.specs.Graphs.{IsOrder}
+use Rattle.fb_least.specs.Systems.{System, needs}
+use Rattle.fb_numbered.specs.Numbered.{AreLeast, AreNumbers, AreOf}
+use Rattle.fb_finding.specs.Nodes.{Numbered, AreGrouped}
+use Rattle.fb_solved.specs.declared.fault.NoBound.{NoBound}
+use Rattle.fb_solved.specs.declared.fault.NoBound.TheVariants.{OutOfMemory, Cycle, NoRange, Limit}
+use Rattle.fb_solved.specs.Places.{node_of}
+use Rattle.fb_solved.specs.Faults.{IsResourceOf}
+use Rattle.fb_places.specs.declared.numbering.Numbering.{Numbering}
+use Rattle.fb_places.specs.Rights.{numbers_of, numbered}
+use Rattle.fb_found.specs.Given.{nodes_in}
+
+-- an order serves the demands: in it each place stands after all that they ask of it
+abbrev pub Serves : Numbering → List Demand → List ℕ → Type 0
+Serves n ds order = (system : System) → AreGrouped (length (nodes_in n)) (numbered n ds) system → length system ≡ length (nodes_in n) → IsOrder (needs system) order
+
+-- it serves those of every column of a system
+abbrev pub ServesAll : Numbering → book.System → List ℕ → Type 0
+ServesAll n s order = (ds : List Demand) → AreLike (λ j k. Unit {0}) (bare_demands (all_leaves s.devices)) ds → Serves n ds order
+
+-- these inequalities are the demands by numbers, all of nodes that have numbers, and the order serves them
+pub record IsColumn (n : Numbering) (order : List ℕ) (rights : List Numbered) (ds : List Demand) : Type 0 where
+  pub are : rights ≡ numbered n ds
+  pub nodes_have : AreNumbers (nodes_in n) (numbers_of n)
+  pub of_nodes : AreOf (nodes_in n) ds
+  pub serves : Serves n ds order
+
+-- the least numbers that meet the demands, each within a limit
+pub record AreSmallest (n : Numbering) (ds : List Demand) (limit : ℕ) (numbers : List ℕ) : Type 0 where
+  pub sized : length numbers ≡ length (nodes_in n)
+  pub small : All (λ k. k ≤ limit) numbers
+  pub least : AreLeast (nodes_in n) ds (λ x. slice_index numbers (numbers_of n x))
+
+-- the number of a node of this resource is above the limit in all numbers that meet the demands
+pub record IsPast (n : Numbering) (ds : List Demand) (limit : ℕ) (resource : List ℕ) : Type 0 where
+  pub node : Node
+  pub known : Contains (nodes_in n) node
+  pub resource_is : IsResourceOf node resource
+  pub above : (y : Node → ℕ) → MeetAll y ds → limit < y node
+
+-- want of memory, or such a resource
+abbrev pub IsPastFault : Numbering → List Demand → ℕ → NoBound → Type 0
+IsPastFault n ds limit OutOfMemory = Unit {0}
+IsPastFault n ds limit (Cycle places) = ⊥
+IsPastFault n ds limit (NoRange path) = ⊥
+IsPastFault n ds limit (Limit resource) = IsPast n ds limit (string_bytes resource)
+
+-- want of memory, or a closed walk of demands
+abbrev pub IsCycle : book.System → NoBound → Type 0
+IsCycle s OutOfMemory = Unit {0}
+IsCycle s (Cycle places) = IsClosedWalk (bare_demands (all_leaves s.devices)) (map node_of places.items)
+IsCycle s (NoRange path) = ⊥
+IsCycle s (Limit resource) = ⊥

@@ -1,0 +1,33 @@
+-- What is known of tables when a certificate is looked for: they are those of a system that stands in texts.
+use Rattle.std.specs.Prelude.{List}
+use Rattle.std.specs.List.{AllByRecursion}
+use Rattle.fb_model.specs.Declarations.{BlockTree, SourceTree}
+use Rattle.fb_model.specs.NetworkTyping.{ElaboratesWith}
+use Rattle.fb_model.specs.System.{System}
+use Rattle.fb_model.specs.Certificates.{all_leaves, FollowsFew}
+use Rattle.fb_spelled.specs.Words.{IsWordyDevice, IsCapitalDevice}
+use Rattle.fb_demands.specs.Demands.{Node}
+use Rattle.fb_finding.specs.Nodes.{nodes_of, AreRowsOf}
+use Rattle.fb_places.specs.fb_blocks.Views.{names_of}
+use Rattle.fb_places.specs.fb_flat.declared.flat.FlatDevice.{FlatDevice}
+use Rattle.fb_places.specs.fb_flat.Tables.{AreDevices}
+use Rattle.fb_places.specs.declared.numbering.Numbering.{Numbering}
+
+-- the tables of a system that is well typed, whose names are words in capitals, and that follows few connections
+pub record IsGiven (devices : List FlatDevice) (s : System) : Type 0 where
+  pub library : List BlockTree
+  pub source : SourceTree
+  pub typed : ElaboratesWith library source s
+  pub tables : AreDevices devices s.devices
+  pub words : AllByRecursion IsWordyDevice s.devices
+  pub capitals : AllByRecursion IsCapitalDevice s.devices
+  pub followed : AllByRecursion FollowsFew s.devices
+
+-- the nodes that have numbers, in their order
+abbrev pub nodes_in : Numbering → List Node
+nodes_in n = nodes_of (names_of n.states) (names_of n.events)
+
+-- and all its nodes have numbers
+pub record IsNumbered (devices : List FlatDevice) (n : Numbering) (s : System) : Type 0 where
+  pub given : IsGiven devices s
+  pub rows : AreRowsOf (all_leaves s.devices) (names_of n.states) (names_of n.events)

@@ -1,0 +1,14 @@
+use Rattle.std.proofs.Common.{◌≡◌, ◌++◌, sym, ap, subst, ◌∙◌, OnOk, string_bytes}
+use Rattle.fb_demands.specs.Demands.{of_kind}
+use Rattle.fb_rows.specs.fb_flat.declared.flat.Body.{Body}
+use Rattle.fb_rows.specs.fb_flat.declared.flat.Body.TheVariants.{Basic}
+use Rattle.fb_rows.specs.fb_flat.Leaves.{kind_of}
+use Rattle.fb_places.specs.Grounds.{ground, algorithms_of}
+use Rattle.fb_places.specs.Rights.{numbered, rights_of}
+use Rattle.fb_places.proofs.leaf.add_leaf.Goals as goal
+
+pub returns-in-Basic : goal.returns-in-Basic
+returns-in-Basic c =
+    let l = c.args.leaf.now in
+    subst (λ (b : Body). OnOk c.add_block.result (rights_of c.add_block.new.rights.items ≡ rights_of c.args.rights.now.items ++ numbered c.args.numbering.now (of_kind (ground c.args.unit (algorithms_of b) c.args.prices.now (string_bytes l.path) l.outputs.items) (kind_of b))))
+    (sym {A = Body} c.in-Basic.is) (rw c.deref.ensures at c.add_block.ensures)

@@ -1,0 +1,20 @@
+-- What the code's numbers say.
+use Rattle.std.specs.Prelude.{ℕ, List, map}
+use Rattle.fb_rows.specs.fb_blocks.Views.{names_of}
+use Rattle.fb_demands.specs.Demands.{Node, Demand}
+use Rattle.fb_finding.specs.Nodes.{number, Numbered, by_number}
+use Rattle.fb_places.specs.declared.numbering.Numbering.{Numbering}
+use Rattle.fb_places.specs.declared.right.Right.{Right}
+
+-- the numbers of nodes
+abbrev pub numbers_of : Numbering → Node → ℕ
+numbers_of n = number (names_of n.states) (names_of n.events)
+
+abbrev pub right_of : Right → Numbered
+right_of r = record { node = r.node; constant = r.constant; terms = r.terms.items }
+
+abbrev pub rights_of : List Right → List Numbered
+rights_of rs = map right_of rs
+
+abbrev pub numbered : Numbering → List Demand → List Numbered
+numbered n ds = map (by_number (numbers_of n)) ds

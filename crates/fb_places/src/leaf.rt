@@ -1,0 +1,86 @@
+//! The demands of a leaf.
+
+ghost use Rattle.std.specs.Prelude.{◌≡◌, ◌++◌, [], OnOk, string_bytes};
+ghost use Rattle.std.specs.List.{flat_map};
+ghost use Rattle.fb_model.specs.Services.{service_events};
+ghost use Rattle.fb_demands.specs.Demands.{of_chart, of_dispatch, of_kind};
+ghost use Rattle.fb_rows.specs.fb_blocks.Views.{block_of};
+ghost use Rattle.fb_rows.specs.fb_services.Views.{service_of};
+ghost use Rattle.fb_rows.specs.fb_flat.Leaves.{kind_of};
+ghost use Rattle.fb_places.specs.Grounds.{ground, leaf_ground, table_names};
+ghost use Rattle.fb_places.specs.Rights.{numbered, rights_of};
+
+use crate::chart::add_chart;
+use crate::numbering::Numbering;
+use crate::right::Right;
+use crate::scene::Scene;
+use crate::service::add_service;
+use fb_rows::fb_flat::fb_types::fb_networks::fb_services::Service;
+use fb_rows::fb_flat::fb_types::fb_networks::fb_services::fb_blocks::Block;
+use fb_rows::fb_flat::{Body, Leaf};
+use std::alloc::{AllocError, Global};
+
+// Adds the demands of a block.
+fn add_block<'a>(
+    alloc: Global,
+    numbering: &'a Numbering,
+    unit: u64,
+    prices: &'a [u64],
+    leaf: &'a Leaf,
+    block: &'a Block,
+    rights: &mut Vec<Right>,
+) -> Result<(), AllocError>
+    ensures { OnOk result (rights_of rights.new.items ≡ rights_of rights.old.items ++ numbered numbering.now (of_chart (ground unit (table_names block.now.procedures) prices.now (string_bytes leaf.now.path) leaf.now.outputs.items) (block_of block.now))) }
+{
+    let scene = Scene {
+        alloc,
+        numbering,
+        unit,
+        procedures: Some(&block.procedures),
+        prices,
+        path: leaf.path.as_str(),
+        outputs: leaf.outputs.as_slice(),
+    };
+    add_chart(&scene, block, rights)
+}
+
+// Adds the demands of a service.
+fn add_served<'a>(
+    alloc: Global,
+    numbering: &'a Numbering,
+    unit: u64,
+    prices: &'a [u64],
+    leaf: &'a Leaf,
+    service: &Service,
+    rights: &mut Vec<Right>,
+) -> Result<(), AllocError>
+    ensures { OnOk result (rights_of rights.new.items ≡ rights_of rights.old.items ++ numbered numbering.now (flat_map (of_dispatch (ground unit [] prices.now (string_bytes leaf.now.path) leaf.now.outputs.items) (service_of service.now)) (service_events (service_of service.now)))) }
+{
+    let scene = Scene {
+        alloc,
+        numbering,
+        unit,
+        procedures: None,
+        prices,
+        path: leaf.path.as_str(),
+        outputs: leaf.outputs.as_slice(),
+    };
+    add_service(&scene, service, rights)
+}
+
+/// Adds the demands of a leaf, where a dispatch or a crossing counts `unit`, and its algorithms cost `prices`, in their order; an algorithm without a price costs nothing.
+pub fn add_leaf(
+    alloc: Global,
+    numbering: &Numbering,
+    unit: u64,
+    prices: &[u64],
+    leaf: &Leaf,
+    rights: &mut Vec<Right>,
+) -> Result<(), AllocError>
+    ensures { OnOk result (rights_of rights.new.items ≡ rights_of rights.old.items ++ numbered numbering.now (of_kind (leaf_ground unit prices.now leaf.now) (kind_of leaf.now.body))) }
+{
+    match &leaf.body {
+        Body::Basic(block) => add_block(alloc, numbering, unit, prices, leaf, block, rights),
+        Body::Served(service) => add_served(alloc, numbering, unit, prices, leaf, service, rights),
+    }
+}

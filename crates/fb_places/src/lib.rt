@@ -1,0 +1,17 @@
+//! The demands of a system by numbers: states, event inputs and arrivals have numbers, and each inequality between the numbers of a certificate is one over these.
+#![tactic(auto)]
+
+mod chart;
+mod grouping;
+mod leaf;
+mod numbering;
+mod right;
+mod scene;
+mod service;
+
+pub use fb_rows;
+pub use fb_rows::fb_flat;
+pub use grouping::group;
+pub use leaf::add_leaf;
+pub use numbering::Numbering;
+pub use right::Right;

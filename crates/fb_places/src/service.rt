@@ -1,0 +1,72 @@
+//! The demands of a service.
+
+ghost use Rattle.std.specs.Prelude.{◌≡◌, ◌++◌, map, IfOk, OnOk};
+ghost use Rattle.std.specs.List.{flat_map};
+ghost use Rattle.fb_model.specs.Services.{can_emit, service_events};
+ghost use Rattle.fb_demands.specs.Demands.{of_dispatch, sending_demand};
+ghost use Rattle.fb_rows.specs.fb_services.Views.{service_of};
+ghost use Rattle.fb_finding.specs.Nodes.{by_number};
+ghost use Rattle.fb_places.specs.Grounds.{ground_in};
+ghost use Rattle.fb_places.specs.Rights.{numbered, numbers_of, right_of, rights_of};
+
+use crate::chart::least_right;
+use crate::right::Right;
+use crate::scene::{Scene, added, reached};
+use fb_rows::fb_flat::fb_types::fb_networks::fb_services::Service;
+use std::alloc::AllocError;
+
+// The weight of an event pays for its dispatch and for all that it can emit.
+fn sending_right(scene: &Scene, service: &Service, event: &str) -> Result<Right, AllocError>
+    ensures { IfOk result (λ r. right_of r ≡ by_number (numbers_of scene.now.numbering.now) (sending_demand (ground_in scene.now) event.now (can_emit (service_of service.now) event.now))) }
+{
+    let emitted = service.emitted(event);
+    Ok(Right {
+        node: scene.numbering.event(scene.alloc, scene.path, event)?,
+        constant: added(scene.unit, 0),
+        terms: reached(scene.alloc, scene.numbering, scene.outputs, emitted)?,
+    })
+}
+
+// The demands of an event input or arrival.
+fn add_dispatch(
+    scene: &Scene,
+    service: &Service,
+    event: &str,
+    rights: &mut Vec<Right>,
+) -> Result<(), AllocError>
+    ensures { OnOk result (rights_of rights.new.items ≡ rights_of rights.old.items ++ numbered scene.now.numbering.now (of_dispatch (ground_in scene.now) (service_of service.now) event.now)) }
+{
+    rights.push(least_right(scene, event)?)?;
+    rights.push(sending_right(scene, service, event)?)?;
+    Ok(())
+}
+
+// The same of each of these events.
+fn add_dispatches(
+    scene: &Scene,
+    service: &Service,
+    events: &[&str],
+    rights: &mut Vec<Right>,
+) -> Result<(), AllocError>
+    ensures { OnOk result (rights_of rights.new.items ≡ rights_of rights.old.items ++ numbered scene.now.numbering.now (flat_map (of_dispatch (ground_in scene.now) (service_of service.now)) (map (λ e. e.now) events.now))) }
+{
+    for event in events {
+        add_dispatch(scene, service, *event, rights)?;
+    }
+    Ok(())
+}
+
+/// Adds the demands of a service: of its event inputs, and of its arrival.
+pub(crate) fn add_service(
+    scene: &Scene,
+    service: &Service,
+    rights: &mut Vec<Right>,
+) -> Result<(), AllocError>
+    ensures { OnOk result (rights_of rights.new.items ≡ rights_of rights.old.items ++ numbered scene.now.numbering.now (flat_map (of_dispatch (ground_in scene.now) (service_of service.now)) (service_events (service_of service.now)))) }
+{
+    add_dispatches(scene, service, service.event_inputs(), rights)?;
+    match service.arrival() {
+        Some(event) => add_dispatch(scene, service, event, rights),
+        None => Ok(()),
+    }
+}

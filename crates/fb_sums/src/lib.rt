@@ -1,0 +1,16 @@
+//! The inequalities of a whole system by numbers: which nodes have which numbers, and what each asks of the others, whatever algorithms cost and where they cost
+//! their most steps.
+#![tactic(auto)]
+
+mod leaves;
+mod nodes;
+mod plain;
+mod priced;
+mod prices;
+mod systems;
+
+pub use fb_places;
+pub use nodes::numbering;
+pub use plain::plain_rights;
+pub use priced::priced_rights;
+pub use systems::system;

@@ -1,0 +1,47 @@
+//! The demands of a system whatever its algorithms cost.
+
+ghost use Rattle.std.specs.Prelude.{◌≡◌, ◌++◌, [], List, map, IfOk, OnOk};
+ghost use Rattle.std.specs.List.{flat_map};
+ghost use Rattle.fb_model.specs.System.{System};
+ghost use Rattle.fb_model.specs.Ranges.{Range};
+ghost use Rattle.fb_model.specs.Certificates.{all_leaves};
+ghost use Rattle.fb_demands.specs.Demands.{bare_demands};
+ghost use Rattle.fb_demands.specs.Columns.{demands};
+ghost use Rattle.fb_places.specs.fb_flat.Tables.{AreDevices};
+ghost use Rattle.fb_places.specs.Rights.{numbered, rights_of};
+ghost use Rattle.fb_sums.specs.Leaves.{AreClosed, leaf_rights};
+
+use crate::leaves::every_leaf;
+use fb_places::fb_flat::{Flat, Leaf};
+use fb_places::{Numbering, Right, add_leaf};
+use std::alloc::{AllocError, Global};
+
+// The demands of leaves, where a dispatch or a crossing counts `unit`, and algorithms cost nothing.
+fn plain_leaves(
+    alloc: Global,
+    numbering: &Numbering,
+    unit: u64,
+    leaves: &[&Leaf],
+) -> Result<Vec<Right>, AllocError>
+    ensures { IfOk result (λ v. rights_of v.items ≡ flat_map (leaf_rights numbering.now unit []) (map (λ l. l.now) leaves.now)) }
+{
+    let mut rights = Vec::new(alloc);
+    for leaf in leaves {
+        add_leaf(alloc, numbering, unit, &[], *leaf, &mut rights)?;
+    }
+    Ok(rights)
+}
+
+/// The demands of a system where a dispatch or a crossing counts `unit`, and algorithms cost nothing: with 1 those that hold whatever algorithms cost, with 0 those of places.
+pub fn plain_rights(
+    alloc: Global,
+    numbering: &Numbering,
+    unit: u64,
+    flat: &Flat,
+) -> Result<Vec<Right>, AllocError>
+    ensures bare { (s : System) → AreDevices flat.now.devices.items s.devices → AreClosed s.devices → unit ≡ 1 → IfOk result (λ v. rights_of v.items ≡ numbered numbering.now (bare_demands (all_leaves s.devices))) }
+    ensures places { (s : System) → AreDevices flat.now.devices.items s.devices → AreClosed s.devices → unit ≡ 0 → (ranges : List Range) → IfOk result (λ v. rights_of v.items ≡ numbered numbering.now (demands 0 ranges (all_leaves s.devices))) }
+{
+    let leaves = every_leaf(alloc, flat.devices.as_slice())?;
+    plain_leaves(alloc, numbering, unit, leaves.as_slice())
+}
