@@ -13,18 +13,18 @@ abbrev pub IsLeft : Certificate → List Leaf → ℕ → ℕ → ℕ → Type 0
 IsLeft cert ls k left most = (all : List wires.Leaf) → AreLeaves ls all → (begins_of (certificate_of cert) (drop k all) ≤ left) ↔ (begins_of (certificate_of cert) all ≤ most)
 
 -- the leaf of the book at an index
-record Found (l : Leaf) (k : ℕ) (all : List wires.Leaf) : Type 0 where
-  leaf : wires.Leaf
-  here : drop k all ≡ leaf ∷ drop (suc k) all
-  is : IsLeaf l leaf
+pub record Found (l : Leaf) (k : ℕ) (all : List wires.Leaf) : Type 0 where
+  pub leaf : wires.Leaf
+  pub here : drop k all ≡ leaf ∷ drop (suc k) all
+  pub is : IsLeaf l leaf
 
-found : (ls : List Leaf) (all : List wires.Leaf) (k : ℕ) (l : Leaf) → AreLeaves ls all → k < length ls → l ≡ get_or ls k l → Found l k all
+pub found : (ls : List Leaf) (all : List wires.Leaf) (k : ℕ) (l : Leaf) → AreLeaves ls all → k < length ls → l ≡ get_or ls k l → Found l k all
 found [] all k l a lt e = absurd (omega arith)
 found (x ∷ ls) [] k l a lt e = absurd a
 found (x ∷ ls) (leaf ∷ all) zero l a lt e = record { leaf = leaf; here = refl; is = subst (λ y. IsLeaf y leaf) (sym e) a.0 }
 found (x ∷ ls) (leaf ∷ all) (suc k) l a lt e = let f = found ls all k l a.1 (omega arith) e in record { leaf = f.leaf; here = f.here; is = f.is }
 
-none_left : (ls : List Leaf) (all : List wires.Leaf) (k : ℕ) → AreLeaves ls all → length ls ≤ k → drop k all ≡ []
+pub none_left : (ls : List Leaf) (all : List wires.Leaf) (k : ℕ) → AreLeaves ls all → length ls ≤ k → drop k all ≡ []
 none_left [] [] zero a le = refl
 none_left [] [] (suc k) a le = refl
 none_left [] (leaf ∷ all) k a le = absurd a

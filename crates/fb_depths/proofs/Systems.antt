@@ -103,13 +103,13 @@ homes_after n path (r ∷ rs) =
     (all_weaker (λ (l : wires.Leaf). n + 1 ≤ l.home) (λ (l : wires.Leaf). n ≤ l.home) (leaves_from (n + 1) path rs) (λ l h. omega (arith, h)) (homes_after (n + 1) path rs))
 
 -- a resource of this number has none behind it
-begin_behind : (cert : book.Certificate) (q n : ℕ) (path : Path) (rs : List system.Resource) → q < n → begin_places cert (leaves_from n path rs) q ≡ 0
+pub begin_behind : (cert : book.Certificate) (q n : ℕ) (path : Path) (rs : List system.Resource) → q < n → begin_places cert (leaves_from n path rs) q ≡ 0
 begin_behind cert q n path rs lt =
     begin_other cert q (leaves_from n path rs)
     (all_weaker (λ (l : wires.Leaf). n ≤ l.home) (λ (l : wires.Leaf). (l.home == q) ≡ false) (leaves_from n path rs) (λ l h. ne_eqb l.home q (λ e. omega (arith, e, h, lt))) (homes_after n path rs))
 
 -- the BEGIN of the first resource
-begin_first : (cert : book.Certificate) (n : ℕ) (path : Path) (r : system.Resource) (rs : List system.Resource) → begin_places cert (leaves_from n path (r ∷ rs)) n ≡ begins_of cert (resource_leaves n path r)
+pub begin_first : (cert : book.Certificate) (n : ℕ) (path : Path) (r : system.Resource) (rs : List system.Resource) → begin_places cert (leaves_from n path (r ∷ rs)) n ≡ begins_of cert (resource_leaves n path r)
 begin_first cert n path r rs =
     begin_append cert (resource_leaves n path r) (leaves_from (n + 1) path rs) n
     ∙ ap (λ m. begin_places cert (resource_leaves n path r) n + m) (begin_behind cert n (n + 1) path rs (omega arith))
@@ -120,7 +120,7 @@ begin_first cert n path r rs =
     nothing_more m = omega arith
 
 -- and of another
-begin_next : (cert : book.Certificate) (n q : ℕ) (path : Path) (r : system.Resource) (rs : List system.Resource) → (n == q) ≡ false → begin_places cert (leaves_from n path (r ∷ rs)) q ≡ begin_places cert (leaves_from (n + 1) path rs) q
+pub begin_next : (cert : book.Certificate) (n q : ℕ) (path : Path) (r : system.Resource) (rs : List system.Resource) → (n == q) ≡ false → begin_places cert (leaves_from n path (r ∷ rs)) q ≡ begin_places cert (leaves_from (n + 1) path rs) q
 begin_next cert n q path r rs e =
     begin_append cert (resource_leaves n path r) (leaves_from (n + 1) path rs) q
     ∙ ap (λ m. m + begin_places cert (leaves_from (n + 1) path rs) q)
@@ -148,13 +148,13 @@ one_arrives : (cert : Certificate) (device : system.Device) (n : ℕ) (f : FlatR
 one_arrives cert device n f r path name b home a = subst (λ m. Arrives cert m b) (depth_same cert device n f r path name b home) a
 
 -- the names of the resources from a number on
-abbrev IsFrom : system.Device → ℕ → List system.Resource → Type 0
+abbrev pub IsFrom : system.Device → ℕ → List system.Resource → Type 0
 IsFrom device n rs = (k : ℕ) → name_at device.resources (n + k) ≡ name_at rs k
 
-name_here : (device : system.Device) (n : ℕ) (r : system.Resource) (rs : List system.Resource) → IsFrom device n (r ∷ rs) → name_at device.resources n ≡ r.name
+pub name_here : (device : system.Device) (n : ℕ) (r : system.Resource) (rs : List system.Resource) → IsFrom device n (r ∷ rs) → name_at device.resources n ≡ r.name
 name_here device n r rs at = subst (λ m. name_at device.resources m ≡ r.name) (let e : n + 0 ≡ n = omega arith in e) (at 0)
 
-names_next : (device : system.Device) (n : ℕ) (r : system.Resource) (rs : List system.Resource) → IsFrom device n (r ∷ rs) → IsFrom device (n + 1) rs
+pub names_next : (device : system.Device) (n : ℕ) (r : system.Resource) (rs : List system.Resource) → IsFrom device n (r ∷ rs) → IsFrom device (n + 1) rs
 names_next device n r rs at k = subst (λ m. name_at device.resources m ≡ name_at rs k) (let e : n + suc k ≡ (n + 1) + k = omega arith in e) (at (suc k))
 
 resources_arrive : (cert : Certificate) (device : system.Device) (n : ℕ) (fs : List FlatResource) (rs : List system.Resource) → IsFrom device n rs
@@ -186,7 +186,7 @@ resources_begin cert device n (f ∷ fs) (r ∷ rs) at p a q = by (n == q) refl 
   by true e next = subst (λ m. begin_places c (leaves_from n (device.name ∷ []) (r ∷ rs)) m ≤ book.depth_of c device m) (eqb-true n q e) at_first
   by false e next = subst (λ m. m ≤ book.depth_of c device q) (sym (begin_next c n q (device.name ∷ []) r rs e)) next
 
-from_first : (device : system.Device) → IsFrom device 0 device.resources
+pub from_first : (device : system.Device) → IsFrom device 0 device.resources
 from_first device k = let e : 0 + k ≡ k = omega arith in ap (name_at device.resources) e
 
 pub devices_deep : (cert : Certificate) (fs : List FlatDevice) (ds : List system.Device) → AllByRecursion (DeviceFits cert) fs → AreDevices fs ds → AllByRecursion (IsDeep (certificate_of cert)) ds

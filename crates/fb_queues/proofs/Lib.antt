@@ -1,0 +1,2 @@
+mod Needing
+mod Rows
