@@ -1,2 +1,4 @@
 mod Needing
 mod Rows
+mod Found
+pub mod Deep
