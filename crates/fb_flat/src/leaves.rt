@@ -291,8 +291,14 @@ fn leaves(network: &Network, trail: &Trail, alloc: Global) -> Result<Vec<Leaf>, 
     Ok(table.leaves)
 }
 
-// A resource and its leaves, on the path of its device.
-fn resource(alloc: Global, device: &str, source: &Resource) -> Result<FlatResource, TypeFault>
+/// The leaves of a resource and their wires, in text order, on the path of its device.
+///
+/// More than [`FOLLOWED`] followings of connections are refused with `Limit` at its name.
+pub fn flatten_resource(
+    alloc: Global,
+    device: &str,
+    source: &Resource,
+) -> Result<FlatResource, TypeFault>
     ensures written { IfOk result (λ f. flat_resource f ≡ written_resource device.now (resource_of source.now)) }
     ensures few { OnOk result (resource_count (resource_of source.now) ≤ most_followed) }
     ensures refused { IfErr result (IsLimitAt (IsFull source.now)) }
@@ -316,7 +322,8 @@ fn device(alloc: Global, source: &Device) -> Result<FlatDevice, TypeFault>
 {
     let mut resources = Vec::new(alloc);
     for resource_source in &source.resources {
-        resources.push(resource(alloc, source.name.as_str(), resource_source)?)?;
+        let resource = flatten_resource(alloc, source.name.as_str(), resource_source)?;
+        resources.push(resource)?;
     }
     let name = source.name.clone()?;
     Ok(FlatDevice { name, resources })
