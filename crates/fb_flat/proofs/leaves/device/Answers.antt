@@ -4,7 +4,7 @@ use Rattle.fb_flat.specs.Leaves.{IsFull}
 use Rattle.fb_flat.proofs.Systems.{any_here, limit_weaker}
 use Rattle.fb_flat.proofs.leaves.device.Goals as goal
 
-pub returns-in_err-resource-clause-refused : goal.returns-in_err-flatten_resource-clause-refused
+pub returns-in_err-resource-clause-refused : goal.returns-in_err-resource-clause-refused
 returns-in_err-resource-clause-refused c =
     let rs = c.args.source.now.resources.items in
     let k = c.loop-resource_source.resource_source-index in
