@@ -28,7 +28,7 @@ fn add_priced(
     table: Option<&Ranges>,
     rights: &mut Vec<Right>,
 ) -> Result<(), AllocError>
-    ensures { OnOk result (rights_of rights.new.items ≡ rights_of rights.old.items ++ priced_leaf numbering.now leaf.now (option_map (λ t. spans_of t.now) table)) }
+    ensures { OnOk result (rights_of rights.new.items ≡ rights_of rights.old.items ++ priced_leaf numbering.now leaf.now (option_map (λ t. spans_of t.now) table.entry)) }
 {
     let prices = leaf_prices(alloc, leaf, table)?;
     add_leaf(alloc, numbering, 1, prices.as_slice(), leaf, rights)

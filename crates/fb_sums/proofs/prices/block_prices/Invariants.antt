@@ -1,0 +1,11 @@
+use Rattle.std.proofs.Common.{◌≡◌, ◌++◌, map, drop}
+use Rattle.std.specs.Option.{option_map}
+use Rattle.fb_blocks.specs.Views.{procedures_of}
+use Rattle.fb_ranges.specs.Views.{spans_of}
+use Rattle.fb_sums.specs.Prices.{prices}
+use Rattle.fb_sums.proofs.prices.block_prices.Given as goal
+
+abbrev pub invariant-loop-index : goal.invariant-loop-index
+invariant-loop-index l =
+    l.prices.items ++ drop l.index (prices (option_map (λ t. spans_of t.now) l.table) (procedures_of l.procedures))
+    ≡ prices (option_map (λ t. spans_of t.now) l.table) (procedures_of l.procedures)
