@@ -1,15 +1,15 @@
-use Rattle.std.proofs.Common.{rules, ◌≡◌, ◌++◌, [], List, map, IfOk, OnOk, ℕ, ◌+◌, ◌-◌, ◌*◌, ◌<◌, ◌≤◌, length, ◌/◌, ◌%◌, Bool, true, false, nat_eq, nat_lt, ◌∷◌, slice_index_or, slice_set, bit_and, bit_or, Fits, w8, w32, w64, Bor, MutBor}
+use Rattle.std.proofs.Common.{List, [], map, Bor, refl}
 use Rattle.std.specs.List.{flat_map}
-use Rattle.fb_model.specs.System.{System}
-use Rattle.fb_model.specs.Ranges.{Range}
-use Rattle.fb_model.specs.Certificates.{all_leaves}
-use Rattle.fb_demands.specs.Demands.{bare_demands}
-use Rattle.fb_demands.specs.Columns.{demands}
-use Rattle.fb_flat.specs.Tables.{AreDevices}
-use Rattle.fb_places.specs.Rights.{numbered, rights_of}
-use Rattle.fb_sums.specs.Leaves.{AreClosed, leaf_rights}
+use Rattle.fb_flat.specs.declared.flat.Leaf.{Leaf}
+use Rattle.fb_places.specs.Rights.{rights_of}
+use Rattle.fb_places.proofs.Loops.{rest_of, turn}
+use Rattle.fb_sums.specs.Leaves.{leaf_rights}
 use Rattle.fb_sums.proofs.plain.plain_leaves.Goals as goal
 
--- src/plain.rt:29:5
 pub loop-leaf-preserved : goal.loop-leaf-preserved
-loop-leaf-preserved c = ?
+loop-leaf-preserved c =
+    let f = leaf_rights c.args.numbering.now c.args.unit [] in
+    let xs = c.args.leaves.now in
+    let i = c.loop-leaf.leaf-index in
+    let x : Bor Leaf = c.leaf-item.result in
+    turn (λ (ls : List (Bor Leaf)). flat_map f (map (λ l. l.now) ls)) xs i x (f x.now) (rights_of c.loop-leaf.rights.items) (rights_of c.add_leaf.new.rights.items) _ (rest_of xs i x c.loop-leaf-test.true c.leaf-item.is) refl c.in_ok-add_leaf.ensures c.loop-leaf.invariant
