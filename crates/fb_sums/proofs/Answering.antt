@@ -29,9 +29,9 @@ past_get (t ∷ ts) zero l = absurd (omega (arith, l))
 past_get (t ∷ ts) (suc i) l = past_get ts i (omega (arith, l))
 
 -- what is got is what stands at the place
-pub got : {P : Bor Ranges → Type 0} (r : Option (Bor Ranges)) (ts : List Ranges) (i : ℕ) → MatchOption r (length ts ≤ i) (λ x. (i < length ts) × P x) → IfSome r (λ x. x.now ≡ get_or ts i x.now) → option_map (λ t. t.now) r ≡ slice_get ts i
-got None ts i m h = past_get ts i m
-got (Some x) ts i m h = sym (slice_get_read ts (length ts) i x.now refl m.0 h)
+pub got : (P : Bor Ranges → Type 0) (r : Option (Bor Ranges)) (ts : List Ranges) (i : ℕ) → MatchOption r (length ts ≤ i) (λ x. (i < length ts) × P x) → IfSome r (λ x. x.now ≡ get_or ts i x.now) → option_map (λ t. t.now) r ≡ slice_get ts i
+got P None ts i m h = past_get ts i m
+got P (Some x) ts i m h = sym (slice_get_read ts (length ts) i x.now refl m.0 h)
 
 -- ---- leaves with their tables
 
