@@ -1,6 +1,6 @@
 -- What leaves of the tables ask is what the leaves of the book ask, as far as numbers tell.
-use Rattle.std.proofs.Common.{◌≡◌, ℕ, ◌+◌, Bool, true, false, ◌||◌, List, [], ◌∷◌, ◌++◌, map, Option, Some, None, refl, sym, ap, subst, ◌∙◌, arith, if◌then◌else◌, string_bytes}
-use Rattle.std.specs.List.{sum_by, flat_map, AllByRecursion}
+use Rattle.std.proofs.Common.{◌≡◌, ℕ, ◌+◌, Bool, true, false, List, [], ◌∷◌, ◌++◌, map, Option, Some, None, refl, sym, ap, ◌∙◌, arith, if◌then◌else◌}
+use Rattle.std.specs.List.{AllByRecursion}
 use Rattle.std.specs.Str.{bytes_eq}
 use Rattle.std.proofs.lemmas.List.Sums.{sum_by-cons}
 use Rattle.fb_model.specs.Names.{Name, Place, at_place, is_in}
@@ -16,10 +16,10 @@ use Rattle.fb_leaves.specs.Leaves.{IsListed, IsClosed}
 use Rattle.fb_demands.specs.Demands.{Node, Demand, Ground, work, of_kind}
 use Rattle.fb_demands.specs.Likeness.{AreLike, LeadAlike, KindLeadsAlike, AreGroundsAlike}
 use Rattle.fb_demands.proofs.Likening.{kind_alike}
-use Rattle.fb_finding.specs.Nodes.{Numbered, capped, by_number}
-use Rattle.fb_flat.specs.declared.flat.Leaf.{Leaf}
-use Rattle.fb_flat.specs.Leaves.{kind_of, outputs_of}
-use Rattle.fb_flat.specs.Tables.{IsLeaf, targets_of}
+use Rattle.fb_finding.specs.Nodes.{capped, by_number}
+use Rattle.fb_places.specs.fb_flat.declared.flat.Leaf.{Leaf}
+use Rattle.fb_places.specs.fb_flat.Leaves.{outputs_of}
+use Rattle.fb_places.specs.fb_flat.Tables.{IsLeaf}
 use Rattle.fb_places.specs.declared.numbering.Numbering.{Numbering}
 use Rattle.fb_places.specs.Grounds.{algorithms_of, leaf_ground, priced}
 use Rattle.fb_places.specs.Rights.{numbered, numbers_of}
@@ -41,9 +41,9 @@ by_numbers f [] (e ∷ es) h = absurd h
 by_numbers f (d ∷ ds) [] h = absurd h
 by_numbers f (d ∷ ds) (e ∷ es) h =
     let one : by_number f d ≡ by_number f e =
-        ap (λ x. record { node = f x; constant = capped d.constant; terms = map f d.terms }) h.0
-        ∙ ap (λ xs. record { node = f e.node; constant = capped d.constant; terms = map f xs }) h.1
-        ∙ ap (λ n. record { node = f e.node; constant = n; terms = map f e.terms }) h.2 in
+    ap (λ x. record { node = f x; constant = capped d.constant; terms = map f d.terms }) h.0
+    ∙ ap (λ xs. record { node = f e.node; constant = capped d.constant; terms = map f xs }) h.1
+    ∙ ap (λ n. record { node = f e.node; constant = n; terms = map f e.terms }) h.2 in
     ap (λ r. r ∷ map (by_number f) ds) one ∙ ap (λ rs. by_number f e ∷ rs) (by_numbers f ds es h.3)
 
 works_same : (g h : Ground) → ((a : Option Name) → Same (g.price a) (h.price a)) → (actions : List Action) → Same (work g actions) (work h actions)

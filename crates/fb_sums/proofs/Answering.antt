@@ -2,11 +2,10 @@
 use Rattle.std.proofs.Common.{◌≡◌, ℕ, zero, suc, ◌+◌, ◌<◌, ◌≤◌, List, [], ◌∷◌, ◌++◌, map, drop, length, get_or, slice_get, Option, Some, None, option_map, Result, Ok, Err, IfOk, OnOk, refl, sym, ap, ◌∙◌, append_assoc, add-one, arith, Bor}
 use Rattle.std.specs.Option.{IfSome, MatchOption}
 use Rattle.std.proofs.lemmas.Option.{slice_get_read}
-use Rattle.fb_model.specs.Clear.{Spans}
 use Rattle.fb_finding.specs.Nodes.{Numbered}
-use Rattle.fb_ranges.specs.declared.rows.Ranges.{Ranges}
-use Rattle.fb_ranges.specs.Views.{spans_of}
-use Rattle.fb_flat.specs.declared.flat.Leaf.{Leaf}
+use Rattle.fb_places.specs.fb_ranges.declared.rows.Ranges.{Ranges}
+use Rattle.fb_places.specs.fb_ranges.Views.{spans_of}
+use Rattle.fb_places.specs.fb_flat.declared.flat.Leaf.{Leaf}
 use Rattle.fb_places.specs.declared.numbering.Numbering.{Numbering}
 use Rattle.fb_sums.specs.Prices.{priced_leaf, priced}
 
@@ -55,7 +54,7 @@ turn_priced n ls ts i x r old new whole e k h inv =
     let here = priced_leaf n x.now (option_map (λ t. spans_of t.now) r) in
     let rest = priced n (map (λ l. l.now) (drop (i + 1) ls)) (map spans_of (drop (i + 1) ts)) in
     let more : here ++ rest ≡ priced n (x.now ∷ map (λ l. l.now) (drop (i + 1) ls)) (map spans_of (drop i ts)) =
-        ap (λ o. priced_leaf n x.now o ++ rest) (spans_at r (slice_get ts i) k)
-        ∙ ap (λ j. priced_leaf n x.now (option_map spans_of (slice_get ts i)) ++ priced n (map (λ l. l.now) (drop (i + 1) ls)) (map spans_of (drop j ts))) (add-one i)
-        ∙ sym (one_priced n x.now (map (λ l. l.now) (drop (i + 1) ls)) ts i) in
+    ap (λ o. priced_leaf n x.now o ++ rest) (spans_at r (slice_get ts i) k)
+    ∙ ap (λ j. priced_leaf n x.now (option_map spans_of (slice_get ts i)) ++ priced n (map (λ l. l.now) (drop (i + 1) ls)) (map spans_of (drop j ts))) (add-one i)
+    ∙ sym (one_priced n x.now (map (λ l. l.now) (drop (i + 1) ls)) ts i) in
     ap (λ ys. ys ++ rest) h ∙ append_assoc old here rest ∙ ap (λ ys. old ++ ys) more ∙ ap (λ zs. old ++ priced n (map (λ l. l.now) zs) (map spans_of (drop i ts))) (sym e) ∙ inv

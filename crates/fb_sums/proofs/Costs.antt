@@ -1,16 +1,15 @@
 -- The prices of algorithms under the tables of leaves are what they cost in the book, as far as numbers tell.
-use Rattle.std.proofs.Common.{◌≡◌, ℕ, zero, suc, ◌+◌, ◌*◌, ◌<◌, ◌≤◌, nat_le, min, Bool, true, false, List, [], ◌∷◌, ◌++◌, map, drop, slice_get, Option, Some, None, refl, sym, ap, subst, ◌∙◌, arith, string_bytes, if◌then◌else◌}
+use Rattle.std.proofs.Common.{◌≡◌, ℕ, ◌+◌, ◌*◌, nat_le, Bool, true, false, List, [], ◌∷◌, ◌++◌, map, Option, Some, None, refl, sym, ap, subst, ◌∙◌, arith, string_bytes, if◌then◌else◌}
 use Rattle.std.specs.Option.{unwrap_or}
-use Rattle.std.specs.List.{AllByRecursion, AllZip, flat_map}
+use Rattle.std.specs.List.{AllByRecursion}
 use Rattle.std.specs.Str.{bytes_eq}
 use Rattle.std.specs.declared.string.String.{String}
 use Rattle.std.specs.declared.alloc.Global.{Global}
 use Rattle.std.proofs.lemmas.List.{map-append}
 use Rattle.fb_model.specs.Names.{Name}
 use Rattle.fb_model.specs.System.{Procedure, Device}
-use Rattle.fb_model.specs.Language.{Algorithm}
 use Rattle.fb_model.specs.Wires as wires
-use Rattle.fb_model.specs.Wires.{Kind, Charted, Serviced}
+use Rattle.fb_model.specs.Wires.{Kind}
 use Rattle.fb_model.specs.Charts.{named}
 use Rattle.fb_model.specs.Clear.{Spans, Found, Clear, found_cost, examined}
 use Rattle.fb_model.specs.Ranges.{Range, rows, cost_of, IsClearAlgorithm}
@@ -21,21 +20,21 @@ use Rattle.fb_demands.specs.Columns.{price_of, ground_of, demands}
 use Rattle.fb_finding.specs.Nodes.{by_number, capped}
 use Rattle.fb_growing.specs.Found.{IsTable}
 use Rattle.fb_ledger.proofs.Names.{bytes_turned}
-use Rattle.st_types.specs.CommandViews.{commands_of}
-use Rattle.st_types.specs.declared.whole.Algo.{Algo}
-use Rattle.fb_ranges.specs.Answers.{most_steps}
-use Rattle.fb_flat.specs.declared.flat.Body.{Body}
-use Rattle.fb_flat.specs.declared.flat.Body.TheVariants.{Basic, Served}
-use Rattle.fb_flat.specs.declared.flat.Leaf.{Leaf}
-use Rattle.fb_flat.specs.declared.flat.FlatDevice.{FlatDevice}
-use Rattle.fb_flat.specs.Leaves.{kind_of}
-use Rattle.fb_flat.specs.Tables.{IsLeaf, AreLeaves, AreDevices}
+use Rattle.fb_places.specs.st_types.CommandViews.{commands_of}
+use Rattle.fb_places.specs.st_types.declared.whole.Algo.{Algo}
+use Rattle.fb_places.specs.fb_ranges.Answers.{most_steps}
+use Rattle.fb_places.specs.fb_flat.declared.flat.Body.{Body}
+use Rattle.fb_places.specs.fb_flat.declared.flat.Body.TheVariants.{Basic, Served}
+use Rattle.fb_places.specs.fb_flat.declared.flat.Leaf.{Leaf}
+use Rattle.fb_places.specs.fb_flat.declared.flat.FlatDevice.{FlatDevice}
+use Rattle.fb_places.specs.fb_flat.Leaves.{kind_of}
+use Rattle.fb_places.specs.fb_flat.Tables.{IsLeaf, AreLeaves, AreDevices}
 use Rattle.fb_places.specs.declared.numbering.Numbering.{Numbering}
 use Rattle.fb_places.specs.Grounds.{value_at, priced as price_in, algorithms_of}
 use Rattle.fb_places.specs.Rights.{numbered, numbers_of}
 use Rattle.fb_sums.specs.Leaves.{leaves_under, AreClosed}
 use Rattle.fb_sums.specs.Prices.{most, prices, kind_prices, priced_leaf, priced, HasClear, AreTables, AreClear}
-use Rattle.fb_sums.proofs.Alike.{Same, book_ground, leaf_same}
+use Rattle.fb_sums.proofs.Alike.{Same, leaf_same}
 use Rattle.fb_sums.proofs.Systems.{AllClosed, all_are, all_closed}
 
 -- ---- one algorithm

@@ -9,8 +9,8 @@ use Rattle.fb_model.specs.System as book
 use Rattle.fb_model.specs.Certificates.{all_leaves}
 use Rattle.fb_spelled.specs.Words.{IsWordyDevice}
 use Rattle.fb_finding.specs.Nodes.{AreRowsOf}
-use Rattle.fb_flat.specs.declared.flat.FlatDevice.{FlatDevice}
-use Rattle.fb_flat.specs.Tables.{AreDevices}
+use Rattle.fb_places.specs.fb_flat.declared.flat.FlatDevice.{FlatDevice}
+use Rattle.fb_places.specs.fb_flat.Tables.{AreDevices}
 use Rattle.fb_ledger.specs.declared.kind.RowKind.TheVariants.{Charge, Weight}
 use Rattle.fb_ledger.specs.Members.{HasSame}
 use Rattle.fb_ledger.specs.Texts.{texts_of}

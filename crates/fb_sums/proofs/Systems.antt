@@ -1,8 +1,7 @@
 -- What is so of the tables' leaves is so of the book's, one by one.
-use Rattle.std.proofs.Common.{◌≡◌, ℕ, zero, ◌+◌, ◌*◌, List, [], ◌∷◌, ◌++◌, Option, Some, None, min, refl, sym, ap, subst, ◌∙◌, arith}
+use Rattle.std.proofs.Common.{◌≡◌, ℕ, ◌+◌, List, [], ◌∷◌, ◌++◌, Option, Some, None, min, refl, sym, ap, ◌∙◌, arith}
 use Rattle.std.specs.List.{flat_map, AllByRecursion}
 use Rattle.std.proofs.lemmas.List.{map-append}
-use Rattle.std.proofs.lemmas.Grind.{flat_map-append}
 use Rattle.fb_model.specs.Names.{Name, Path}
 use Rattle.fb_model.specs.System as book
 use Rattle.fb_model.specs.Wires as wires
@@ -12,19 +11,19 @@ use Rattle.fb_model.specs.Ranges.{Range, rows}
 use Rattle.fb_model.specs.Certificates.{all_leaves}
 use Rattle.fb_model.proofs.Lists.{all_append}
 use Rattle.fb_leaves.specs.Leaves.{IsClosed}
-use Rattle.fb_demands.specs.Demands.{Ground, of_kind, bare_demands}
+use Rattle.fb_demands.specs.Demands.{of_kind, bare_demands}
 use Rattle.fb_demands.specs.Columns.{price_of, demands}
 use Rattle.fb_finding.specs.Nodes.{by_number}
-use Rattle.fb_flat.specs.declared.flat.Leaf.{Leaf}
-use Rattle.fb_flat.specs.declared.flat.FlatResource.{FlatResource}
-use Rattle.fb_flat.specs.declared.flat.FlatDevice.{FlatDevice}
-use Rattle.fb_flat.specs.Tables.{AreLeaves, AreResources, AreDevices}
-use Rattle.fb_rows.specs.Places.{leaves_in}
+use Rattle.fb_places.specs.fb_flat.declared.flat.Leaf.{Leaf}
+use Rattle.fb_places.specs.fb_flat.declared.flat.FlatResource.{FlatResource}
+use Rattle.fb_places.specs.fb_flat.declared.flat.FlatDevice.{FlatDevice}
+use Rattle.fb_places.specs.fb_flat.Tables.{AreLeaves, AreResources, AreDevices}
+use Rattle.fb_places.specs.fb_rows.Places.{leaves_in}
 use Rattle.fb_places.specs.declared.numbering.Numbering.{Numbering}
 use Rattle.fb_places.specs.Grounds.{priced, algorithms_of, value_at}
 use Rattle.fb_places.specs.Rights.{numbered, numbers_of}
 use Rattle.fb_sums.specs.Leaves.{leaves_under, leaf_rights, AreClosed}
-use Rattle.fb_sums.proofs.Alike.{Same, book_ground, leaf_same}
+use Rattle.fb_sums.proofs.Alike.{book_ground, leaf_same}
 
 -- ---- all leaves
 

@@ -1,6 +1,6 @@
 -- What algorithms cost under tables of ranges, and what the leaves of the tables ask by numbers with these prices.
 -- This project's profile.
-use Rattle.std.specs.Prelude.{ℕ, ◌≡◌, List, [], ◌∷◌, ◌++◌, map, Option, None, Some}
+use Rattle.std.specs.Prelude.{ℕ, List, [], ◌∷◌, ◌++◌, map, Option, None, Some}
 use Rattle.std.specs.Option.{unwrap_or}
 use Rattle.std.specs.List.{AllByRecursion, AllZip}
 use Rattle.fb_model.specs.System.{Procedure}

@@ -1,7 +1,6 @@
 //! The demands of a system where its algorithms cost their most steps.
 
 ghost use Rattle.std.specs.Prelude.{◌≡◌, ◌++◌, List, map, IfOk, OnOk};
-ghost use Rattle.std.specs.List.{AllByRecursion, AllZip};
 ghost use Rattle.std.specs.Option.{option_map};
 ghost use Rattle.fb_model.specs.System.{System};
 ghost use Rattle.fb_model.specs.Ranges.{Range};
@@ -45,7 +44,13 @@ fn priced_leaves(
 {
     let mut rights = Vec::new(alloc);
     for index in 0..leaves.len() {
-        add_priced(alloc, numbering, leaves[index], tables.get(index), &mut rights)?;
+        add_priced(
+            alloc,
+            numbering,
+            leaves[index],
+            tables.get(index),
+            &mut rights,
+        )?;
     }
     Ok(rights)
 }

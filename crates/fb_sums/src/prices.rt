@@ -1,6 +1,6 @@
 //! What algorithms cost at most.
 
-ghost use Rattle.std.specs.Prelude.{◌≡◌, map, IfOk};
+ghost use Rattle.std.specs.Prelude.{◌≡◌, IfOk};
 ghost use Rattle.std.specs.Option.{option_map};
 ghost use Rattle.fb_places.specs.st_types.CommandViews.{commands_of};
 ghost use Rattle.fb_places.specs.fb_blocks.Views.{procedures_of};

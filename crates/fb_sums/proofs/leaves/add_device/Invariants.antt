@@ -1,5 +1,5 @@
 use Rattle.std.proofs.Common.{◌≡◌, ◌++◌, map, drop}
-use Rattle.fb_rows.specs.Places.{leaves_in}
+use Rattle.fb_places.specs.fb_rows.Places.{leaves_in}
 use Rattle.fb_sums.proofs.leaves.add_device.Given as goal
 
 abbrev pub invariant-loop-leaf : goal.invariant-loop-leaf

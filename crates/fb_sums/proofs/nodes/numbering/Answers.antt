@@ -1,4 +1,4 @@
-use Rattle.fb_blocks.specs.Views.{names_of}
+use Rattle.fb_places.specs.fb_blocks.Views.{names_of}
 use Rattle.fb_sums.proofs.Rows.{apart_texts, rows_are}
 use Rattle.fb_sums.proofs.nodes.numbering.Goals as goal
 

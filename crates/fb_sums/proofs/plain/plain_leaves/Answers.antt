@@ -1,6 +1,6 @@
 use Rattle.std.proofs.Common.{List, [], map, Bor, refl}
 use Rattle.std.specs.List.{flat_map}
-use Rattle.fb_flat.specs.declared.flat.Leaf.{Leaf}
+use Rattle.fb_places.specs.fb_flat.declared.flat.Leaf.{Leaf}
 use Rattle.fb_places.specs.Rights.{rights_of}
 use Rattle.fb_places.proofs.Loops.{rest_of, turn}
 use Rattle.fb_sums.specs.Leaves.{leaf_rights}

@@ -1,7 +1,7 @@
 use Rattle.std.proofs.Common.{◌≡◌, ap, ◌∙◌, map, [], Vec, Bor}
 use Rattle.std.specs.List.{flat_map}
 use Rattle.std.specs.declared.alloc.Global.{Global}
-use Rattle.fb_flat.specs.declared.flat.Leaf.{Leaf}
+use Rattle.fb_places.specs.fb_flat.declared.flat.Leaf.{Leaf}
 use Rattle.fb_model.specs.Certificates.{all_leaves}
 use Rattle.fb_demands.specs.Demands.{bare_demands}
 use Rattle.fb_demands.specs.Columns.{demands}

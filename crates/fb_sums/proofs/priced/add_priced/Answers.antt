@@ -1,6 +1,6 @@
-use Rattle.std.proofs.Common.{◌≡◌, ◌++◌, ap, ◌∙◌, option_map}
-use Rattle.fb_ranges.specs.Views.{spans_of}
-use Rattle.fb_flat.specs.Leaves.{kind_of}
+use Rattle.std.proofs.Common.{◌++◌, ap, ◌∙◌, option_map}
+use Rattle.fb_places.specs.fb_ranges.Views.{spans_of}
+use Rattle.fb_places.specs.fb_flat.Leaves.{kind_of}
 use Rattle.fb_places.specs.Rights.{rights_of}
 use Rattle.fb_sums.specs.Leaves.{leaf_rights}
 use Rattle.fb_sums.specs.Prices.{kind_prices}

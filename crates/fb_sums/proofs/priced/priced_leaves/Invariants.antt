@@ -1,5 +1,5 @@
 use Rattle.std.proofs.Common.{◌≡◌, ◌++◌, map, drop}
-use Rattle.fb_ranges.specs.Views.{spans_of}
+use Rattle.fb_places.specs.fb_ranges.Views.{spans_of}
 use Rattle.fb_places.specs.Rights.{rights_of}
 use Rattle.fb_sums.specs.Prices.{priced}
 use Rattle.fb_sums.proofs.priced.priced_leaves.Given as goal

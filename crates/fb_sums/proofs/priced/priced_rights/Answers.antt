@@ -1,9 +1,9 @@
 use Rattle.std.proofs.Common.{◌≡◌, ap, ◌∙◌, map, Vec, Bor}
 use Rattle.std.specs.declared.alloc.Global.{Global}
-use Rattle.fb_flat.specs.declared.flat.Leaf.{Leaf}
+use Rattle.fb_places.specs.fb_flat.declared.flat.Leaf.{Leaf}
 use Rattle.fb_model.specs.Certificates.{all_leaves}
 use Rattle.fb_demands.specs.Columns.{demands}
-use Rattle.fb_ranges.specs.Views.{spans_of}
+use Rattle.fb_places.specs.fb_ranges.Views.{spans_of}
 use Rattle.fb_places.specs.declared.right.Right.{Right}
 use Rattle.fb_places.specs.Rights.{numbered, rights_of}
 use Rattle.fb_sums.specs.Leaves.{leaves_under}

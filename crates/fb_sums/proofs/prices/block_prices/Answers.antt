@@ -1,8 +1,8 @@
 use Rattle.std.proofs.Common.{List, [], ◌∷◌, map, option_map, refl}
 use Rattle.std.specs.declared.string.String.{String}
 use Rattle.std.specs.declared.alloc.Global.{Global}
-use Rattle.st_types.specs.declared.whole.Algo.{Algo}
-use Rattle.fb_ranges.specs.Views.{spans_of}
+use Rattle.fb_places.specs.st_types.declared.whole.Algo.{Algo}
+use Rattle.fb_places.specs.fb_ranges.Views.{spans_of}
 use Rattle.fb_places.proofs.Loops.{rest_at, turn}
 use Rattle.fb_sums.specs.Prices.{most, prices}
 use Rattle.fb_sums.proofs.Answering.{pushed}

@@ -1,7 +1,7 @@
 use Rattle.std.proofs.Common.{◌≡◌, ◌++◌, map, drop}
 use Rattle.std.specs.Option.{option_map}
-use Rattle.fb_blocks.specs.Views.{procedures_of}
-use Rattle.fb_ranges.specs.Views.{spans_of}
+use Rattle.fb_places.specs.fb_blocks.Views.{procedures_of}
+use Rattle.fb_places.specs.fb_ranges.Views.{spans_of}
 use Rattle.fb_sums.specs.Prices.{prices}
 use Rattle.fb_sums.proofs.Costs.{procedure}
 use Rattle.fb_sums.proofs.prices.block_prices.Given as goal
