@@ -1,0 +1,5 @@
+pub mod Alike
+pub mod Systems
+pub mod Rows
+pub mod Costs
+pub mod Answering

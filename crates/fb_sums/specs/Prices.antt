@@ -1,6 +1,6 @@
 -- What algorithms cost under tables of ranges, and what the leaves of the tables ask by numbers with these prices.
 -- This project's profile.
-use Rattle.std.specs.Prelude.{ℕ, ◌≡◌, List, [], ◌∷◌, ◌++◌, map, Option, None, Some}
+use Rattle.std.specs.Prelude.{ℕ, List, [], ◌∷◌, ◌++◌, map, Option, None, Some}
 use Rattle.std.specs.Option.{unwrap_or}
 use Rattle.std.specs.List.{AllByRecursion, AllZip}
 use Rattle.fb_model.specs.System.{Procedure}
@@ -10,6 +10,7 @@ use Rattle.fb_model.specs.Wires.{Kind, Charted, Serviced}
 use Rattle.fb_model.specs.Clear.{Spans, examined}
 use Rattle.fb_model.specs.Ranges.{Range, rows, IsClearAlgorithm}
 use Rattle.fb_finding.specs.Nodes.{Numbered}
+use Rattle.fb_growing.specs.Found.{IsTable}
 use Rattle.fb_places.specs.fb_ranges.Answers.{most_steps}
 use Rattle.fb_places.specs.fb_flat.declared.flat.Leaf.{Leaf}
 use Rattle.fb_places.specs.fb_flat.Leaves.{kind_of}
@@ -42,11 +43,6 @@ priced n (l ∷ ls) [] = priced_leaf n l None ++ priced n ls []
 priced n (l ∷ ls) (t ∷ ts) = priced_leaf n l (Some t) ++ priced n ls ts
 
 -- ---- the book
-
--- the ranges of a table are the rows of the variables of a block
-abbrev pub IsTable : List Range → Spans → wires.Leaf → Kind → Type 0
-IsTable ranges spans leaf (Charted block) = spans ≡ rows ranges leaf.path leaf.kind
-IsTable ranges spans leaf (Serviced service) = Unit {0}
 
 -- the same of all, one by one
 abbrev pub AreTables : List Range → List Spans → List wires.Leaf → Type 0

@@ -7,10 +7,8 @@ mod nodes;
 mod plain;
 mod priced;
 mod prices;
-mod systems;
 
 pub use fb_places;
 pub use nodes::numbering;
 pub use plain::plain_rights;
 pub use priced::priced_rights;
-pub use systems::system;

@@ -1,6 +1,6 @@
 //! The demands of a system whatever its algorithms cost.
 
-ghost use Rattle.std.specs.Prelude.{◌≡◌, ◌++◌, [], List, map, IfOk, OnOk};
+ghost use Rattle.std.specs.Prelude.{◌≡◌, [], List, map, IfOk};
 ghost use Rattle.std.specs.List.{flat_map};
 ghost use Rattle.fb_model.specs.System.{System};
 ghost use Rattle.fb_model.specs.Ranges.{Range};

@@ -1,7 +1,6 @@
 //! The demands of a system where its algorithms cost their most steps.
 
 ghost use Rattle.std.specs.Prelude.{◌≡◌, ◌++◌, List, map, IfOk, OnOk};
-ghost use Rattle.std.specs.List.{AllByRecursion, AllZip};
 ghost use Rattle.std.specs.Option.{option_map};
 ghost use Rattle.fb_model.specs.System.{System};
 ghost use Rattle.fb_model.specs.Ranges.{Range};
@@ -28,7 +27,7 @@ fn add_priced(
     table: Option<&Ranges>,
     rights: &mut Vec<Right>,
 ) -> Result<(), AllocError>
-    ensures { OnOk result (rights_of rights.new.items ≡ rights_of rights.old.items ++ priced_leaf numbering.now leaf.now (option_map (λ t. spans_of t.now) table)) }
+    ensures { OnOk result (rights_of rights.new.items ≡ rights_of rights.old.items ++ priced_leaf numbering.now leaf.now (option_map (λ t. spans_of t.now) table.entry)) }
 {
     let prices = leaf_prices(alloc, leaf, table)?;
     add_leaf(alloc, numbering, 1, prices.as_slice(), leaf, rights)
@@ -45,7 +44,13 @@ fn priced_leaves(
 {
     let mut rights = Vec::new(alloc);
     for index in 0..leaves.len() {
-        add_priced(alloc, numbering, leaves[index], tables.get(index), &mut rights)?;
+        add_priced(
+            alloc,
+            numbering,
+            leaves[index],
+            tables.get(index),
+            &mut rights,
+        )?;
     }
     Ok(rights)
 }

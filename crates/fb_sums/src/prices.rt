@@ -1,6 +1,6 @@
 //! What algorithms cost at most.
 
-ghost use Rattle.std.specs.Prelude.{◌≡◌, map, IfOk};
+ghost use Rattle.std.specs.Prelude.{◌≡◌, IfOk};
 ghost use Rattle.std.specs.Option.{option_map};
 ghost use Rattle.fb_places.specs.st_types.CommandViews.{commands_of};
 ghost use Rattle.fb_places.specs.fb_blocks.Views.{procedures_of};
@@ -19,7 +19,7 @@ const MANY: u64 = 1_000_000_000_001;
 
 // The most steps of an algorithm under a table of ranges. What is told of none, or without a table, stands for all greater numbers.
 fn price(alloc: Global, algorithm: &Algo, table: Option<&Ranges>) -> Result<u64, AllocError>
-    ensures { IfOk result (λ n. n ≡ most (option_map (λ t. spans_of t.now) table) (commands_of algorithm.now.statements.items)) }
+    ensures { IfOk result (λ n. n ≡ most (option_map (λ t. spans_of t.now) table.entry) (commands_of algorithm.now.statements.items)) }
 {
     let Some(ranges) = table else {
         return Ok(MANY);
@@ -37,7 +37,7 @@ fn block_prices(
     procedures: &IndexMap<String, Algo>,
     table: Option<&Ranges>,
 ) -> Result<Vec<u64>, AllocError>
-    ensures { IfOk result (λ v. v.items ≡ prices (option_map (λ t. spans_of t.now) table) (procedures_of procedures.now)) }
+    ensures { IfOk result (λ v. v.items ≡ prices (option_map (λ t. spans_of t.now) table.entry) (procedures_of procedures.now)) }
 {
     let mut prices = Vec::new(alloc);
     for index in 0..procedures.len() {
@@ -55,7 +55,7 @@ pub(crate) fn leaf_prices(
     leaf: &Leaf,
     table: Option<&Ranges>,
 ) -> Result<Vec<u64>, AllocError>
-    ensures { IfOk result (λ v. v.items ≡ kind_prices (option_map (λ t. spans_of t.now) table) (kind_of leaf.now.body)) }
+    ensures { IfOk result (λ v. v.items ≡ kind_prices (option_map (λ t. spans_of t.now) table.entry) (kind_of leaf.now.body)) }
 {
     match &leaf.body {
         Body::Basic(block) => block_prices(alloc, &block.procedures, table),
