@@ -10,4 +10,4 @@ returns-in_err-resource-clause-refused c =
     let k = c.loop-resource_source.resource_source-index in
     let r = c.resource_source-item.result in
     let p = err_from_is_err_and c.from_residual.result c.from_residual.ensures.1 in
-    rw (p.1, p.2) (limit_weaker (IsFull r) _ c.in_err-resource.field-0.0 (λ at h. any_here (λ q. IsFull q at) rs k r (omega arith) (cc) h) c.in_err-flatten_resource.ensures.refused)
+    rw (p.1, p.2) (limit_weaker (IsFull r) _ c.in_err-resource.field-0.0 (λ at h. any_here (λ q. IsFull q at) rs k r (omega arith) (cc) h) c.in_err-resource.ensures.refused)
