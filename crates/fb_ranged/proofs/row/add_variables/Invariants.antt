@@ -4,7 +4,7 @@ use Rattle.fb_flat.specs.fb_blocks.Views.{declared_of, variables_of}
 use Rattle.fb_ranges.specs.Views.{spans_of}
 use Rattle.fb_cert.specs.Views.{rows_of}
 use Rattle.fb_ranged.specs.AddedRows.{adding, variable_rows}
-use Rattle.fb_ranged.proofs.Added.{listed}
+use Rattle.fb_ledger.proofs.Tables.{listed}
 use Rattle.fb_ranged.proofs.row.add_variables.Given as goal
 
 -- with the rows of the variables that are left, all are there
