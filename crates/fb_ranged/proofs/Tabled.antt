@@ -43,13 +43,13 @@ IsSound d = AreApart (leaves d) × AllByRecursion (IsFed (leaves d)) (leaves d)
 last_of : (f : FlatDevice) (d : Device) (own : List Spans) → GivesLast f own → AreDevices (f ∷ []) (d ∷ []) → IsSound d → AreLastTables (leaves d) own
 last_of f d own g h s = g (leaves d) (device_leaves 0 (d.name ∷ []) f.resources.items d.resources h.0.resources) s.0 s.1
 
-spelled_join : {R : Spans → Leaf → Type 0} (xs : List Spans) (bs : List Leaf) (ys : List Spans) (cs : List Leaf) → AllZip R xs bs → spelled (xs ++ ys) (bs ++ cs) ≡ spelled xs bs ++ spelled ys cs
-spelled_join [] [] ys cs h = refl
-spelled_join [] (b ∷ bs) ys cs h = absurd h
-spelled_join (x ∷ xs) [] ys cs h = absurd h
-spelled_join (x ∷ xs) (b ∷ bs) ys cs h =
+spelled_join : (R : Spans → Leaf → Type 0) (xs : List Spans) (bs : List Leaf) (ys : List Spans) (cs : List Leaf) → AllZip R xs bs → spelled (xs ++ ys) (bs ++ cs) ≡ spelled xs bs ++ spelled ys cs
+spelled_join R [] [] ys cs h = refl
+spelled_join R [] (b ∷ bs) ys cs h = absurd h
+spelled_join R (x ∷ xs) [] ys cs h = absurd h
+spelled_join R (x ∷ xs) (b ∷ bs) ys cs h =
     let here = kind_rows (λ v. x v.name) b.path b.kind in
-    ap (λ (rs : List Range). here ++ rs) (spelled_join xs bs ys cs h.1) ∙ sym (append_assoc here (spelled xs bs) (spelled ys cs))
+    ap (λ (rs : List Range). here ++ rs) (spelled_join R xs bs ys cs h.1) ∙ sym (append_assoc here (spelled xs bs) (spelled ys cs))
 
 all_found : (fs : List FlatDevice) (ds : List Device) (ss : List Spans) → AreGiven fs ss → AreDevices fs ds → AllByRecursion IsSound ds → AreFound ds (spelled ss (all_leaves ds))
 all_found fs [] ss none_given h s = no_device
@@ -57,27 +57,26 @@ all_found fs (d ∷ ds) ss none_given h s = absurd h
 all_found fs [] ss (one_given {f = f} {fs = gs} {xs = xs} {ys = ys} g more) h s = absurd h
 all_found fs (d ∷ ds) ss (one_given {f = f} {fs = gs} {xs = xs} {ys = ys} g more) h s =
     let own = last_of f d xs g (h.0, tt) s.0 in
-    subst (AreFound (d ∷ ds)) (sym (spelled_join xs (leaves d) ys (all_leaves ds) own.each)) (a_device own.last (all_found gs ds ys more h.1 s.1))
+    subst (AreFound (d ∷ ds)) (sym (spelled_join (λ spans (leaf : Leaf). IsTable (spelled xs (leaves d)) spans leaf leaf.kind) xs (leaves d) ys (all_leaves ds) own.each)) (a_device own.last (all_found gs ds ys more h.1 s.1))
 
 -- ---- tables of all devices
 
-zip_join : {R : Spans → Leaf → Type 0} (xs : List Spans) (bs : List Leaf) (ys : List Spans) (cs : List Leaf) → AllZip R xs bs → AllZip R ys cs → AllZip R (xs ++ ys) (bs ++ cs)
-zip_join [] [] ys cs h k = k
-zip_join [] (b ∷ bs) ys cs h k = absurd h
-zip_join (x ∷ xs) [] ys cs h k = absurd h
-zip_join (x ∷ xs) (b ∷ bs) ys cs h k = (h.0, zip_join xs bs ys cs h.1 k)
+zip_join : (R : Spans → Leaf → Type 0) (xs : List Spans) (bs : List Leaf) (ys : List Spans) (cs : List Leaf) → AllZip R xs bs → AllZip R ys cs → AllZip R (xs ++ ys) (bs ++ cs)
+zip_join R [] [] ys cs h k = k
+zip_join R [] (b ∷ bs) ys cs h k = absurd h
+zip_join R (x ∷ xs) [] ys cs h k = absurd h
+zip_join R (x ∷ xs) (b ∷ bs) ys cs h k = (h.0, zip_join R xs bs ys cs h.1 k)
 
 -- a table of a device's own rows is one of all rows
-one_table : (ranges own : List Range) (spans : Spans) (leaf : Leaf) (kind : Kind) → leaf.kind ≡ kind → FindsAlike ranges own leaf → IsTable own spans leaf kind → IsTable ranges spans leaf kind
-one_table ranges own spans leaf (Charted block) e a h =
-    h ∙ fun_ext (λ (x : Name). sym (subst (λ (k : Kind). rows ranges leaf.path k x ≡ rows own leaf.path k x) e (a.of_names x)))
-one_table ranges own spans leaf (Serviced service) e a h = tt
+one_table : (ranges own : List Range) (spans : Spans) (leaf : Leaf) (kind : Kind) → FindsAlike ranges own leaf → IsTable own spans leaf kind → IsTable ranges spans leaf kind
+one_table ranges own spans leaf (Charted block) a h = h ∙ fun_ext (λ (x : Name). sym (a.of_names x))
+one_table ranges own spans leaf (Serviced service) a h = tt
 
 own_tables : (ranges own : List Range) (xs : List Spans) (bs : List Leaf) → AllByRecursion (FindsAlike ranges own) bs → AllZip (λ spans (leaf : Leaf). IsTable own spans leaf leaf.kind) xs bs → AllZip (λ spans (leaf : Leaf). IsTable ranges spans leaf leaf.kind) xs bs
 own_tables ranges own [] [] a h = tt
 own_tables ranges own [] (b ∷ bs) a h = absurd h
 own_tables ranges own (x ∷ xs) [] a h = absurd h
-own_tables ranges own (x ∷ xs) (b ∷ bs) a h = (one_table ranges own x b b.kind refl a.0 h.0, own_tables ranges own xs bs a.1 h.1)
+own_tables ranges own (x ∷ xs) (b ∷ bs) a h = (one_table ranges own x b b.kind a.0 h.0, own_tables ranges own xs bs a.1 h.1)
 
 all_tables : (ranges : List Range) (fs : List FlatDevice) (ds : List Device) (ss : List Spans) → AreGiven fs ss → AreDevices fs ds → AllByRecursion IsSound ds → AllByRecursion (FindsItsLast ranges) ds
     → AllZip (λ spans (leaf : Leaf). IsTable ranges spans leaf leaf.kind) ss (all_leaves ds)
@@ -87,7 +86,7 @@ all_tables ranges fs [] ss (one_given {f = f} {fs = gs} {xs = xs} {ys = ys} g mo
 all_tables ranges fs (d ∷ ds) ss (one_given {f = f} {fs = gs} {xs = xs} {ys = ys} g more) h s l =
     let own = last_of f d xs g (h.0, tt) s.0 in
     let same : l.0.own ≡ spelled xs (leaves d) = one_end (leaves d) 1 (start_rows (leaves d)) l.0.own (spelled xs (leaves d)) l.0.last own.last in
-    zip_join xs (leaves d) ys (all_leaves ds) (own_tables ranges (spelled xs (leaves d)) xs (leaves d) (subst (λ (rs : List Range). AllByRecursion (FindsAlike ranges rs) (leaves d)) same l.0.alike) own.each) (all_tables ranges gs ds ys more h.1 s.1 l.1)
+    zip_join (λ spans (leaf : Leaf). IsTable ranges spans leaf leaf.kind) xs (leaves d) ys (all_leaves ds) (own_tables ranges (spelled xs (leaves d)) xs (leaves d) (subst (λ (rs : List Range). AllByRecursion (FindsAlike ranges rs) (leaves d)) same l.0.alike) own.each) (all_tables ranges gs ds ys more h.1 s.1 l.1)
 
 pub tables_found : (fs : List FlatDevice) (ss : List Spans) → AreGiven fs ss → (library : List BlockTree) (source : SourceTree) (s : System) → ElaboratesWith library source s → AreDevices fs s.devices → AreFoundTables s.devices ss
 tables_found fs ss given library source s e are =
