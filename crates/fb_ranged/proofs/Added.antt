@@ -1,6 +1,6 @@
 -- Rows RANGE are added one after another.
 use Rattle.std.specs.Prelude.{◌&&◌, ◌||◌}
-use Rattle.std.proofs.Common.{ℕ, zero, suc, ◌≡◌, ◌+◌, ◌<◌, ◌≤◌, Bool, true, false, not, List, [], ◌∷◌, ◌++◌, drop, length, map, get_or, slice_get, Option, None, Some, refl, sym, ap, ap₂, subst, ◌∙◌, append_assoc, arith, string_bytes, if◌then◌else◌}
+use Rattle.std.proofs.Common.{ℕ, suc, ◌≡◌, ◌+◌, ◌≤◌, Bool, true, false, not, List, [], ◌∷◌, ◌++◌, drop, length, map, refl, sym, ap, ap₂, subst, ◌∙◌, append_assoc, arith, string_bytes, if◌then◌else◌}
 use Rattle.std.specs.List.{All, AllByRecursion, IsDistinct, flat_map}
 use Rattle.std.specs.Str.{bytes_eq}
 use Rattle.std.specs.declared.string.String.{String}
@@ -18,15 +18,13 @@ use Rattle.fb_model.specs.Spans.{Span}
 use Rattle.fb_model.specs.Clear.{Spans}
 use Rattle.fb_model.specs.Ranges.{Range, variables}
 use Rattle.fb_model.specs.Certificates.{all_leaves, is_boolean}
-use Rattle.fb_model.specs.CertificateText.{names_in, place_of, range_row}
-use Rattle.fb_model.specs.BlockTyping.{variable_of}
+use Rattle.fb_model.specs.CertificateText.{names_in, range_row}
 use Rattle.fb_model.proofs.Names.{eq_turned}
 use Rattle.fb_rounds.specs.FinderRanges as finder
 use Rattle.fb_spelled.specs.Words.{IsWordyLeaf, IsWordyDevice, declared_names}
 use Rattle.fb_cert.specs.Adding.{is_upper_path}
 use Rattle.fb_cert.specs.Views.{Table, Rows, has_path, range_rows}
 use Rattle.fb_flat.specs.fb_blocks.declared.typed.Variable.{Variable}
-use Rattle.fb_flat.specs.fb_blocks.Views.{declared_of}
 use Rattle.fb_flat.specs.declared.flat.Leaf.{Leaf}
 use Rattle.fb_flat.specs.declared.flat.FlatResource.{FlatResource}
 use Rattle.fb_flat.specs.declared.flat.FlatDevice.{FlatDevice}
@@ -38,7 +36,7 @@ use Rattle.fb_rows.specs.Places.{leaves_in}
 use Rattle.fb_rows.proofs.Placing.{both_leaves, device_leaves}
 use Rattle.fb_growing.specs.Found.{spelled}
 use Rattle.fb_ledger.specs.declared.kind.RowKind.TheVariants as kinds
-use Rattle.fb_ledger.specs.Texts.{paths, ranged_names, range_names, leaf_texts, texts_in, resource_texts, device_texts, texts_of}
+use Rattle.fb_ledger.specs.Texts.{paths, ranged_names, range_names, leaf_texts, texts_in, resource_texts, texts_of}
 use Rattle.fb_ledger.proofs.Systems.{wordy_leaves}
 use Rattle.fb_ledger.proofs.Tables.{listed}
 use Rattle.fb_ranged.specs.AddedRows.{variable_rows, kind_rows, leaf_rows, all_rows, flat_leaves, added, adding, AddsRanges}
@@ -225,8 +223,8 @@ ranges_added fs s ss old new are plain up apart none many e =
     let is = all_leaves_are fs s.devices are in
     let texts : paths rs ≡ texts_of kinds.Range fs = leaf_paths ss (flat_leaves fs) (many ∙ sym (as_many (flat_leaves fs) (all_leaves s.devices) is)) ∙ device_paths fs in
     let made : new ≡ with_ranges rs old =
-        e ∙ all_added rs old (subst (IsDistinct bytes_eq) (sym texts) apart) (upper_rows rs (subst (All (λ t. is_upper_path t ≡ true)) (sym texts) up)) (subst (λ (o : Table Span). AreNew o rs) (sym none) (none_stands rs))
-        ∙ ap (λ (o : Table Span). with_ranges (o ++ rs) old) none in
+    e ∙ all_added rs old (subst (IsDistinct bytes_eq) (sym texts) apart) (upper_rows rs (subst (All (λ t. is_upper_path t ≡ true)) (sym texts) up)) (subst (λ (o : Table Span). AreNew o rs) (sym none) (none_stands rs))
+    ∙ ap (λ (o : Table Span). with_ranges (o ++ rs) old) none in
     record {
       ranges_are = ap (λ (r : Rows). range_rows r.ranges) made ∙ shown_all ss (flat_leaves fs) (all_leaves s.devices) is (wordy_leaves s.devices plain);
       charges_same = ap (λ (r : Rows). r.charges) made;

@@ -1,5 +1,5 @@
 -- The rows of leaf tables stand under paths in capitals.
-use Rattle.std.proofs.Common.{◌≡◌, ℕ, zero, suc, ◌+◌, arith, Bool, true, false, ◌&&◌, cond, List, [], ◌∷◌, ◌++◌, map, refl, sym, ap, ap₂, subst, ◌∙◌, string_bytes, if◌then◌else◌}
+use Rattle.std.proofs.Common.{◌≡◌, ℕ, zero, suc, ◌+◌, arith, Bool, true, false, ◌&&◌, cond, List, [], ◌∷◌, ◌++◌, refl, sym, ap, ap₂, subst, ◌∙◌, string_bytes, if◌then◌else◌}
 use Rattle.std.specs.Prelude.{◌==◌}
 use Rattle.std.specs.List.{All, AllByRecursion, flat_map, onto_first}
 use Rattle.std.specs.Char.{to_ascii_uppercase}
@@ -11,14 +11,12 @@ use Rattle.fb_model.specs.Wires as wires
 use Rattle.fb_model.specs.Wires.{Kind, Charted, Serviced, resource_leaves, leaves_from, leaves}
 use Rattle.fb_model.specs.Spelling.{IsWord, upper}
 use Rattle.fb_model.specs.Store.{variable_names}
-use Rattle.fb_model.specs.Ranges.{variables}
 use Rattle.fb_model.specs.Certificates.{is_boolean}
-use Rattle.fb_model.specs.CertificateText.{names_in, IsDotted}
+use Rattle.fb_model.specs.CertificateText.{names_in}
 use Rattle.fb_model.proofs.Lists.{all_append, all_weaker}
 use Rattle.fb_model.proofs.Placed.{name_same, all_left, all_right}
 use Rattle.fb_spelled.specs.Words.{IsCapital, AreCapitals, IsCapitalLeaf, IsCapitalDevice, declared_names}
-use Rattle.fb_cert.specs.Adding.{is_upper, is_upper_path}
-use Rattle.fb_cert.specs.Reading.{is_path}
+use Rattle.fb_cert.specs.Adding.{is_upper_path}
 use Rattle.fb_cert.proofs.Paths.{dotted_read}
 use Rattle.fb_flat.specs.declared.flat.Leaf.{Leaf}
 use Rattle.fb_flat.specs.declared.flat.FlatResource.{FlatResource}

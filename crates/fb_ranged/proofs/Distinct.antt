@@ -1,6 +1,6 @@
 -- No two rows of a well typed system stand under one path.
-use Rattle.std.proofs.Common.{◌≡◌, ℕ, ◌+◌, Bool, true, false, ◌&&◌, ◌||◌, List, [], ◌∷◌, ◌++◌, map, refl, sym, ap, ap₂, subst, ◌∙◌, append_assoc, if◌then◌else◌}
-use Rattle.std.specs.List.{AllByRecursion, IsDistinct, list_any}
+use Rattle.std.proofs.Common.{◌≡◌, ◌+◌, Bool, true, false, ◌&&◌, List, [], ◌∷◌, ◌++◌, map, refl, sym, ap, ap₂, subst, ◌∙◌, append_assoc, if◌then◌else◌}
+use Rattle.std.specs.List.{AllByRecursion, IsDistinct}
 use Rattle.std.specs.Str.{bytes_eq}
 use Rattle.fb_model.specs.Names.{Name, Path, Place, at_place, path_eq, place_eq}
 use Rattle.fb_model.specs.Declarations.{BlockTree, SourceTree}
@@ -11,17 +11,16 @@ use Rattle.fb_model.specs.Store.{variable_names}
 use Rattle.fb_model.specs.Ranges.{variables}
 use Rattle.fb_model.specs.Certificates.{all_leaves, is_boolean, ranged_variables, of_kind, ranged, resource_paths, depth_paths}
 use Rattle.fb_model.specs.CertificateText.{names_in, place_of}
-use Rattle.fb_model.proofs.Lists.{all_append, all_weaker, all_both}
+use Rattle.fb_model.proofs.Lists.{all_append, all_weaker}
 use Rattle.fb_model.proofs.Placed.{Apart}
-use Rattle.fb_model.proofs.Names.{eq_turned}
 use Rattle.fb_leaves.specs.Leaves.{AreApart, OnChart}
 use Rattle.fb_leaves.proofs.Charts.{on_charts}
 use Rattle.fb_leaves.proofs.Made.{IsWellDevice}
-use Rattle.fb_leaves.proofs.Paths.{all_apart}
+use Rattle.fb_leaves.proofs.Paths.{apart_append, all_apart}
 use Rattle.fb_leaves.proofs.Typed.{devices_made}
 use Rattle.fb_rounds.proofs.Beginning.{basic_names}
 use Rattle.fb_rounds.proofs.Places.{variables_join}
-use Rattle.fb_rounds.proofs.Devices.{LeafIsOf, of_device, paths_differ, names_apart}
+use Rattle.fb_rounds.proofs.Devices.{IsOf, LeafIsOf, of_device, paths_differ, names_apart}
 use Rattle.fb_spelled.specs.Words.{IsWordyDevice}
 use Rattle.fb_flat.specs.declared.flat.FlatDevice.{FlatDevice}
 use Rattle.fb_flat.specs.Tables.{AreDevices}
@@ -78,8 +77,8 @@ leaf_differs : (path : Path) (kind : Kind) → OnChart AreNamed kind → Differ 
 leaf_differs path (Charted block) h =
     let ins = ranged_variables path block.inputs in
     let joins : ranged_variables path (variables (Charted block)) ≡ of_kind path (Charted block) =
-        variables_join path block.inputs (block.outputs ++ block.internals)
-        ∙ (ap (λ (ps : List Place). ins ++ ps) (variables_join path block.outputs block.internals) ∙ sym (append_assoc ins (ranged_variables path block.outputs) (ranged_variables path block.internals))) in
+    variables_join path block.inputs (block.outputs ++ block.internals)
+    ∙ (ap (λ (ps : List Place). ins ++ ps) (variables_join path block.outputs block.internals) ∙ sym (append_assoc ins (ranged_variables path block.outputs) (ranged_variables path block.internals))) in
     subst (Differ place_eq) joins (variables_differ path (variables (Charted block)) h)
 leaf_differs path (Serviced service) h = tt
 
@@ -121,10 +120,6 @@ leaves_differ (leaf ∷ all) h k =
 
 -- ---- devices
 
-apart_leaves : (xs ys : List Leaf) → AreApart xs → AreApart ys → AllByRecursion (λ (x : Leaf). AllByRecursion (λ (y : Leaf). path_eq x.path y.path ≡ false) ys) xs → AreApart (xs ++ ys)
-apart_leaves [] ys f g h = g
-apart_leaves (x ∷ xs) ys f g h = (all_append (λ (y : Leaf). path_eq x.path y.path ≡ false) xs ys f.0 h.0, apart_leaves xs ys f.1 g h.1)
-
 -- a path of one device is that of no leaf of others
 of_others : (n : Name) (x : Leaf) (ds : List Device) → LeafIsOf n x → AllByRecursion (λ m. bytes_eq n m ≡ false) (map (λ (d : Device). d.name) ds) → AllByRecursion (λ (y : Leaf). path_eq x.path y.path ≡ false) (all_leaves ds)
 of_others n x [] h k = tt
@@ -136,7 +131,7 @@ of_others n x (d ∷ ds) h k =
 pub all_leaves_apart : (ds : List Device) → AllByRecursion (λ (d : Device). AreApart (leaves d)) ds → Apart (map (λ (d : Device). d.name) ds) → AreApart (all_leaves ds)
 all_leaves_apart [] h k = tt
 all_leaves_apart (d ∷ ds) h k =
-    apart_leaves (leaves d) (all_leaves ds) h.0 (all_leaves_apart ds h.1 k.1)
+    apart_append (leaves d) (all_leaves ds) h.0 (all_leaves_apart ds h.1 k.1)
     (all_weaker (LeafIsOf d.name) (λ (x : Leaf). AllByRecursion (λ (y : Leaf). path_eq x.path y.path ≡ false) (all_leaves ds)) (leaves d) (λ x m. of_others d.name x ds m k.0) (of_device d))
 
 -- what holds of the leaves of each device holds of all
@@ -154,11 +149,7 @@ ranges_are_apart library source devices s e are plain = unmapped place_eq place_
 
 -- ---- resources
 
-abbrev IsUnder : Name → Path → Type 0
-IsUnder n [] = ⊥
-IsUnder n (m ∷ path) = m ≡ n
-
-resources_under : (device : Name) (rs : List Resource) → AllByRecursion (IsUnder device) (resource_paths device rs)
+resources_under : (device : Name) (rs : List Resource) → AllByRecursion (IsOf device) (resource_paths device rs)
 resources_under device [] = tt
 resources_under device (r ∷ rs) = (refl, resources_under device rs)
 
@@ -170,22 +161,17 @@ resources_differ : (device : Name) (rs : List Resource) → Apart (map (λ (r : 
 resources_differ device [] h = tt
 resources_differ device (r ∷ rs) h = (other_resources device r.name rs h.0, resources_differ device rs h.1)
 
-under_others : (n m : Name) (p q : Path) → bytes_eq n m ≡ false → IsUnder n p → IsUnder m q → path_eq p q ≡ false
-under_others n m [] q d h k = absurd h
-under_others n m (a ∷ p) [] d h k = absurd k
-under_others n m (a ∷ p) (b ∷ q) d h k = rw (h, k, d) refl
-
-under_none : (n : Name) (p : Path) (ds : List Device) → IsUnder n p → AllByRecursion (λ m. bytes_eq n m ≡ false) (map (λ (d : Device). d.name) ds) → AllByRecursion (λ q. path_eq p q ≡ false) (depth_paths ds)
+under_none : (n : Name) (p : Path) (ds : List Device) → IsOf n p → AllByRecursion (λ m. bytes_eq n m ≡ false) (map (λ (d : Device). d.name) ds) → AllByRecursion (λ q. path_eq p q ≡ false) (depth_paths ds)
 under_none n p [] h k = tt
 under_none n p (d ∷ ds) h k =
     all_append (λ q. path_eq p q ≡ false) (resource_paths d.name d.resources) (depth_paths ds)
-    (all_weaker (IsUnder d.name) (λ q. path_eq p q ≡ false) (resource_paths d.name d.resources) (λ q m. under_others n d.name p q k.0 h m) (resources_under d.name d.resources)) (under_none n p ds h k.1)
+    (all_weaker (IsOf d.name) (λ q. path_eq p q ≡ false) (resource_paths d.name d.resources) (λ q m. paths_differ n d.name p q k.0 h m) (resources_under d.name d.resources)) (under_none n p ds h k.1)
 
 paths_apart : (ds : List Device) → AllByRecursion IsWellDevice ds → Apart (map (λ (d : Device). d.name) ds) → Differ path_eq (depth_paths ds)
 paths_apart [] h k = tt
 paths_apart (d ∷ ds) h k =
     joined path_eq (resource_paths d.name d.resources) (depth_paths ds) (resources_differ d.name d.resources h.0.apart) (paths_apart ds h.1 k.1)
-    (all_weaker (IsUnder d.name) (λ p. AllByRecursion (λ q. path_eq p q ≡ false) (depth_paths ds)) (resource_paths d.name d.resources) (λ p m. under_none d.name p ds m k.0) (resources_under d.name d.resources))
+    (all_weaker (IsOf d.name) (λ p. AllByRecursion (λ q. path_eq p q ≡ false) (depth_paths ds)) (resource_paths d.name d.resources) (λ p m. under_none d.name p ds m k.0) (resources_under d.name d.resources))
 
 pub resources_are_apart : (library : List BlockTree) (source : SourceTree) (devices : List FlatDevice) (s : System) → ElaboratesWith library source s → AreDevices devices s.devices → IsDistinct bytes_eq (texts_of Depth devices)
 resources_are_apart library source devices s e are =

@@ -1,5 +1,5 @@
 -- The tables of all devices spell the rows that are found.
-use Rattle.std.proofs.Common.{◌≡◌, ℕ, ◌+◌, ◌<◌, ◌≤◌, List, [], ◌∷◌, ◌++◌, drop, length, map, refl, sym, ap, ap₂, subst, ◌∙◌, append_assoc, arith}
+use Rattle.std.proofs.Common.{◌≡◌, ℕ, ◌+◌, ◌≤◌, List, [], ◌∷◌, ◌++◌, drop, length, refl, sym, ap, subst, ◌∙◌, append_assoc}
 use Rattle.std.specs.List.{AllByRecursion, AllZip}
 use Rattle.std.proofs.Math.Path.{fun_ext}
 use Rattle.std.proofs.lemmas.List.{append-nil, drop_all}
@@ -15,11 +15,12 @@ use Rattle.fb_leaves.specs.Leaves.{AreApart, IsFed}
 use Rattle.fb_leaves.proofs.Paths.{all_apart}
 use Rattle.fb_leaves.proofs.Values.{all_fed}
 use Rattle.fb_rounds.specs.Devices.{FindsAlike, FindsItsLast}
-use Rattle.fb_rounds.specs.FinderRanges.{kind_rows, start_rows, IsLast, AreFound, no_device, a_device}
+use Rattle.fb_rounds.specs.FinderRanges.{kind_rows, start_rows, AreFound, no_device, a_device}
 use Rattle.fb_rounds.proofs.Devices.{found_rows_are_last}
 use Rattle.fb_rounds.proofs.Rounding.{one_end}
 use Rattle.fb_flat.specs.declared.flat.FlatDevice.{FlatDevice}
 use Rattle.fb_flat.specs.Tables.{AreDevices}
+use Rattle.fb_rows.proofs.Lists.{all_both}
 use Rattle.fb_rows.proofs.Placing.{device_leaves}
 use Rattle.fb_growing.specs.Found.{spelled, IsTable, AreLastTables}
 use Rattle.fb_ranged.specs.FoundTables.{AreFoundTables, GivesLast, IsLonger, AreGiven, none_given, one_given}
@@ -90,10 +91,6 @@ all_tables ranges fs (d ∷ ds) ss (one_given {f = f} {fs = gs} {xs = xs} {ys = 
 
 pub tables_found : (fs : List FlatDevice) (ss : List Spans) → AreGiven fs ss → (library : List BlockTree) (source : SourceTree) (s : System) → ElaboratesWith library source s → AreDevices fs s.devices → AreFoundTables s.devices ss
 tables_found fs ss given library source s e are =
-    let sound = both s.devices (all_apart library source s e) (all_fed library source s e) in
+    let sound = all_both (λ (d : Device). AreApart (leaves d)) (λ (d : Device). AllByRecursion (IsFed (leaves d)) (leaves d)) s.devices (all_apart library source s e) (all_fed library source s e) in
     let found = all_found fs s.devices ss given are sound in
     record { found = found; each = all_tables (spelled ss (all_leaves s.devices)) fs s.devices ss given are sound (found_rows_are_last library source s (spelled ss (all_leaves s.devices)) e found) }
-  where
-    both : (ds : List Device) → AllByRecursion (λ (d : Device). AreApart (leaves d)) ds → AllByRecursion (λ (d : Device). AllByRecursion (IsFed (leaves d)) (leaves d)) ds → AllByRecursion IsSound ds
-    both [] h k = tt
-    both (d ∷ ds) h k = ((h.0, k.0), both ds h.1 k.1)

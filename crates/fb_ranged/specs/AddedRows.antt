@@ -1,5 +1,5 @@
 -- The rows RANGE of leaf tables, and certificates with them.
-use Rattle.std.specs.Prelude.{◌≡◌, not, ◌&&◌, List, [], ◌∷◌, ◌++◌, map, string_bytes, if◌then◌else◌}
+use Rattle.std.specs.Prelude.{◌≡◌, not, ◌&&◌, List, [], ◌∷◌, ◌++◌, string_bytes, if◌then◌else◌}
 use Rattle.std.specs.List.{flat_map}
 use Rattle.fb_model.specs.Names.{Name}
 use Rattle.fb_model.specs.System.{Variable}

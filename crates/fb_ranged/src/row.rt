@@ -1,6 +1,6 @@
 //! The rows RANGE of a certificate.
 
-ghost use Rattle.std.specs.Prelude.{◌≡◌, true, [], ◌∷◌, map, length, List, IfOk, OnOk};
+ghost use Rattle.std.specs.Prelude.{◌≡◌, true, [], ◌∷◌, map, length, IfOk, OnOk};
 ghost use Rattle.std.specs.List.{All, AllByRecursion, IsDistinct};
 ghost use Rattle.std.specs.Str.{bytes_eq};
 ghost use Rattle.fb_model.specs.Certificates.{all_leaves, is_boolean as is_true};
@@ -160,11 +160,9 @@ pub fn add_ranges(
     tables: &[Ranges],
     certificate: &mut Certificate,
 ) -> Result<(), AllocError>
-    ensures {
-        (s : System) → AreDevices flat.now.devices.items s.devices → AllByRecursion IsWordyDevice s.devices → All (λ t. is_upper_path t ≡ true) (texts_of Range flat.now.devices.items) → IsDistinct bytes_eq (texts_of Range flat.now.devices.items)
-            → (rows_of certificate.old).ranges ≡ [] → length (map spans_of tables.now) ≡ length (all_leaves s.devices)
-            → OnOk result (AddsRanges (spelled (map spans_of tables.now) (all_leaves s.devices)) (rows_of certificate.old) (rows_of certificate.new))
-    }
+    ensures { (s : System) → AreDevices flat.now.devices.items s.devices → AllByRecursion IsWordyDevice s.devices → All (λ t. is_upper_path t ≡ true) (texts_of Range flat.now.devices.items) → IsDistinct bytes_eq (texts_of Range flat.now.devices.items)
+        → (rows_of certificate.old).ranges ≡ [] → length (map spans_of tables.now) ≡ length (all_leaves s.devices)
+        → OnOk result (AddsRanges (spelled (map spans_of tables.now) (all_leaves s.devices)) (rows_of certificate.old) (rows_of certificate.new)) }
 {
     let leaves = leaves_in(alloc, flat.devices.as_slice())?;
     add_leaves(alloc, leaves.as_slice(), tables, certificate)

@@ -15,11 +15,7 @@ use fb_rows::leaves_of;
 use std::alloc::{AllocError, Global};
 
 // Adds the tables of the leaves of a device.
-fn add_tables(
-    alloc: Global,
-    device: &FlatDevice,
-    all: &mut Vec<Ranges>,
-) -> Result<(), AllocError>
+fn add_tables(alloc: Global, device: &FlatDevice, all: &mut Vec<Ranges>) -> Result<(), AllocError>
     ensures { OnOk result (IsLonger (GivesLast device.now) (map spans_of all.old.items) (map spans_of all.new.items)) }
 {
     let leaves = leaves_of(alloc, device.resources.as_slice())?;

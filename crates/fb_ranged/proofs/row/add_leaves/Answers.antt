@@ -1,5 +1,5 @@
 use denote.Ref.{Bor}
-use Rattle.std.proofs.Common.{◌≡◌, map, drop, arith}
+use Rattle.std.proofs.Common.{map, drop, arith}
 use Rattle.fb_flat.specs.declared.flat.Leaf.{Leaf}
 use Rattle.fb_ranges.specs.Views.{spans_of}
 use Rattle.fb_cert.specs.Views.{rows_of}

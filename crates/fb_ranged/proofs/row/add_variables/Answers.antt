@@ -1,9 +1,8 @@
-use Rattle.std.proofs.Common.{◌∷◌, [], sym, subst, ◌≡◌}
+use Rattle.std.proofs.Common.{sym}
 use Rattle.std.specs.declared.string.String.{String}
 use Rattle.std.specs.declared.alloc.Global.{Global}
-use Rattle.fb_model.specs.BlockTyping.{variable_of}
 use Rattle.fb_flat.specs.fb_blocks.declared.typed.Variable.{Variable}
-use Rattle.fb_flat.specs.fb_blocks.Views.{declared_of, variables_of}
+use Rattle.fb_flat.specs.fb_blocks.Views.{variables_of}
 use Rattle.fb_ranges.specs.Views.{spans_of}
 use Rattle.fb_cert.specs.Views.{rows_of}
 use Rattle.fb_ledger.proofs.Members.{rest_at}

@@ -1,6 +1,5 @@
-use Rattle.std.proofs.Common.{◌≡◌, map, drop}
-use Rattle.fb_model.specs.BlockTyping.{variable_of}
-use Rattle.fb_flat.specs.fb_blocks.Views.{declared_of, variables_of}
+use Rattle.std.proofs.Common.{◌≡◌, drop}
+use Rattle.fb_flat.specs.fb_blocks.Views.{variables_of}
 use Rattle.fb_ranges.specs.Views.{spans_of}
 use Rattle.fb_cert.specs.Views.{rows_of}
 use Rattle.fb_ranged.specs.AddedRows.{adding, variable_rows}

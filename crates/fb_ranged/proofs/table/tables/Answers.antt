@@ -1,4 +1,4 @@
-use Rattle.std.proofs.Common.{◌≡◌, map, arith}
+use Rattle.std.proofs.Common.{map, arith}
 use Rattle.fb_ranges.specs.Views.{spans_of}
 use Rattle.fb_ledger.proofs.Members.{rest_of}
 use Rattle.fb_ranged.proofs.Tabled.{next_device, last_device, tables_found}
