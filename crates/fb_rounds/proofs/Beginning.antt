@@ -58,13 +58,17 @@ declared_names b ins outs inner h =
 join_names : (ns : List Name) (vs ws : List Variable) (ms : List Name) → variable_names vs ≡ ns → variable_names ws ≡ ms → variable_names (vs ++ ws) ≡ ns ++ ms
 join_names ns vs ws ms h k = names_join vs ws ∙ ap₂ (λ (x : List Name) (y : List Name). x ++ y) h k
 
-basic_others : (b : BlockTree) (c : ChartTree) (k : Block) → IsBasic b c k → AreOthers k
-basic_others b c k h =
+-- the names of a block's variables differ
+pub basic_names : (b : BlockTree) (c : ChartTree) (k : Block) → IsBasic b c k → Apart (variable_names (variables (Charted k)))
+basic_names b c k h =
     let ins : variable_names k.inputs ≡ names_in h.ins = ap (λ f. variable_names f.inputs) h.face.face ∙ names_declared h.ins in
     let outs : variable_names k.outputs ≡ names_in h.outs = ap (λ f. variable_names f.outputs) h.face.face ∙ names_declared h.outs in
     let inner : variable_names k.internals ≡ names_in h.inner = ap variable_names h.internals_are ∙ names_declared h.inner in
     let names = join_names (names_in h.ins) k.inputs (k.outputs ++ k.internals) (names_in h.outs ++ names_in h.inner) ins (join_names (names_in h.outs) k.outputs k.internals (names_in h.inner) outs inner) in
-    others_behind k.inputs (k.outputs ++ k.internals) (subst Apart (sym names) (declared_names b h.ins h.outs h.inner (apart _ h.names)))
+    subst Apart (sym names) (declared_names b h.ins h.outs h.inner (apart _ h.names))
+
+basic_others : (b : BlockTree) (c : ChartTree) (k : Block) → IsBasic b c k → AreOthers k
+basic_others b c k h = others_behind k.inputs (k.outputs ++ k.internals) (basic_names b c k h)
 
 -- the names of variables are among them
 names_listed : (vs : List Variable) → AllByRecursion (λ (v : Variable). is_in v.name (variable_names vs) ≡ true) vs

@@ -26,12 +26,12 @@ devices_named : (bs : List BlockTree) (ts : List DeviceTree) (ds : List Device) 
 devices_named bs ts ds no_tree = refl
 devices_named bs ts ds (a_tree {d = t} {ds = us} {e = d} {es = es} h more) = ap₂ (λ (n : Name) (ns : List Name). n ∷ ns) h.name (devices_named bs us es more)
 
-names_apart : (library : List BlockTree) (source : SourceTree) (system : System) → ElaboratesWith library source system → Apart (map (λ (d : Device). d.name) system.devices)
+pub names_apart : (library : List BlockTree) (source : SourceTree) (system : System) → ElaboratesWith library source system → Apart (map (λ (d : Device). d.name) system.devices)
 names_apart library source system e = subst Apart (sym (devices_named (source.blocks ++ library) source.system.devices system.devices e.devices)) (apart _ e.device_names)
 
 -- ---- paths begin with the names of devices
 
-abbrev IsOf : Name → Path → Type 0
+abbrev pub IsOf : Name → Path → Type 0
 IsOf n [] = ⊥
 IsOf n (m ∷ p) = m ≡ n
 
@@ -39,12 +39,12 @@ further : (n : Name) (p q : Path) → IsOf n p → IsOf n (p ++ q)
 further n [] q h = absurd h
 further n (m ∷ p) q h = h
 
-paths_differ : (n m : Name) (p q : Path) → bytes_eq n m ≡ false → IsOf n p → IsOf m q → path_eq p q ≡ false
+pub paths_differ : (n m : Name) (p q : Path) → bytes_eq n m ≡ false → IsOf n p → IsOf m q → path_eq p q ≡ false
 paths_differ n m [] q d h k = absurd h
 paths_differ n m (a ∷ p) [] d h k = absurd k
 paths_differ n m (a ∷ p) (b ∷ q) d h k = rw (h, k, d) refl
 
-abbrev LeafIsOf : Name → Leaf → Type 0
+abbrev pub LeafIsOf : Name → Leaf → Type 0
 LeafIsOf n leaf = IsOf n leaf.path
 
 mutual
@@ -66,7 +66,7 @@ of_resources home path [] n h = tt
 of_resources home path (r ∷ rs) n h =
     all_append (LeafIsOf n) _ _ (of_body (resource_body r) home (path ++ r.name ∷ []) (λ o. []) (λ i. Constant (One (pos 0))) n (further n path (r.name ∷ []) h)) (of_resources (home + 1) path rs n h)
 
-of_device : (d : Device) → AllByRecursion (LeafIsOf d.name) (leaves d)
+pub of_device : (d : Device) → AllByRecursion (LeafIsOf d.name) (leaves d)
 of_device d = of_resources 0 (d.name ∷ []) d.resources d.name refl
 
 -- ---- and so do those of their rows

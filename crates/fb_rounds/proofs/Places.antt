@@ -24,7 +24,7 @@ places_join : (xs ys : List Range) → range_places (xs ++ ys) ≡ range_places 
 places_join [] ys = refl
 places_join (x ∷ xs) ys = ap (λ ps. at_place x.path x.variable ∷ ps) (places_join xs ys)
 
-variables_join : (path : Path) (vs ws : List Variable) → ranged_variables path (vs ++ ws) ≡ ranged_variables path vs ++ ranged_variables path ws
+pub variables_join : (path : Path) (vs ws : List Variable) → ranged_variables path (vs ++ ws) ≡ ranged_variables path vs ++ ranged_variables path ws
 variables_join path [] ws = refl
 variables_join path (v ∷ vs) ws = by (is_boolean v.type) (variables_join path vs ws) where
   by : (b : Bool) → ranged_variables path (vs ++ ws) ≡ ranged_variables path vs ++ ranged_variables path ws

@@ -1,0 +1,4 @@
+pub mod Capitals
+pub mod Distinct
+pub mod Added
+pub mod Tabled

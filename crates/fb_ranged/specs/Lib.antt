@@ -1,0 +1,2 @@
+pub mod FoundTables
+pub mod AddedRows
