@@ -76,6 +76,11 @@ pub struct Flat {
     pub devices: Vec<FlatDevice>,
 }
 
+impl FlatResource {
+    /// Lets its leaves go, as [`Flat::let_go`] does.
+    pub fn let_go(self) {}
+}
+
 impl Flat {
     /// Lets the leaves go. (A crate that lets them go by itself proves the end of each of their parts anew; this call is proved once.)
     pub fn let_go(self) {}

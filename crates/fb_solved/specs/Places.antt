@@ -16,3 +16,7 @@ texts_of s = map string_bytes s.keys
 abbrev pub node_of : Place → Node
 node_of (State path) = state (place_of (string_bytes path))
 node_of (Event path) = event (place_of (string_bytes path))
+
+abbrev pub path_in : Place → Name
+path_in (State path) = string_bytes path
+path_in (Event path) = string_bytes path

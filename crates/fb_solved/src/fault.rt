@@ -5,6 +5,7 @@ ghost use Rattle.fb_solved.specs.declared.fault.NoBound.TheVariants.{OutOfMemory
 
 use crate::place::Place;
 use std::alloc::{AllocError, AllocFailed};
+use std::fmt;
 
 /// Why no certificate is found for a system. A path is in upper case, its names joined by dots.
 #[derive(Drop)]
@@ -33,6 +34,44 @@ impl NoBound {
             NoBound::NoRange(_) => 44,
             NoBound::Limit(_) => 19,
         }
+    }
+}
+
+/// The code, and the place or places, where there are some.
+impl fmt::Display for NoBound {
+    ghost use Rattle.std.specs.Prelude.{Some};
+    ghost use Rattle.fb_solved.specs.Codes.{line_of};
+
+    ghost output = { λ f. Some (line_of f) };
+
+    fn fmt<W: fmt::Write>(&self, f: &mut fmt::Formatter<W>) -> fmt::Result {
+        match self {
+            NoBound::OutOfMemory => write!(f, "9"),
+            NoBound::Cycle(places) => {
+                let walk = Walk(places.as_slice());
+                write!(f, "43{walk}")
+            }
+            NoBound::NoRange(path) => write!(f, "44 {path}"),
+            NoBound::Limit(resource) => write!(f, "19 {resource}"),
+        }
+    }
+}
+
+// Places, each behind a space.
+#[derive(Clone, Copy)]
+struct Walk<'a>(&'a [Place]);
+
+impl fmt::Display for Walk<'_> {
+    ghost use Rattle.std.specs.Prelude.{Some};
+    ghost use Rattle.fb_solved.specs.Codes.{walk_text};
+
+    ghost output = { λ w. Some (walk_text w.0.now) };
+
+    fn fmt<W: fmt::Write>(&self, f: &mut fmt::Formatter<W>) -> fmt::Result {
+        for place in self.0 {
+            write!(f, " {place}")?;
+        }
+        Ok(())
     }
 }
 

@@ -9,6 +9,7 @@ ghost use Rattle.fb_solved.specs.Places.{node_of, texts_of};
 
 use indexmap::IndexSet;
 use std::alloc::{AllocError, Global};
+use std::fmt;
 
 /// A state of a chart, or an event input or arrival, by its path: names joined by dots, the last its own. A state and an event of one block may share
 /// a name.
@@ -16,6 +17,21 @@ use std::alloc::{AllocError, Global};
 pub enum Place {
     State(String),
     Event(String),
+}
+
+/// Its path.
+impl fmt::Display for Place {
+    ghost use Rattle.std.specs.Prelude.{Some};
+    ghost use Rattle.fb_solved.specs.Places.{path_in};
+
+    ghost output = { λ p. Some (path_in p) };
+
+    fn fmt<W: fmt::Write>(&self, f: &mut fmt::Formatter<W>) -> fmt::Result {
+        match self {
+            Place::State(path) => write!(f, "{path}"),
+            Place::Event(path) => write!(f, "{path}"),
+        }
+    }
 }
 
 // The event input or arrival of a number.

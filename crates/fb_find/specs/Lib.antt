@@ -1,0 +1,3 @@
+pub use Rattle.fb_check.specs as fb_check
+pub mod Bounds
+pub mod Parts

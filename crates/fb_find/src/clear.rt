@@ -1,0 +1,53 @@
+//! The rows RANGE of a certificate, under which all is clear.
+
+ghost use Rattle.std.specs.Prelude.{◌≡◌, map, IfErr, IfOk};
+ghost use Rattle.fb_model.specs.System.{System};
+ghost use Rattle.fb_model.specs.Certificates.{all_leaves};
+ghost use Rattle.fb_cert.specs.Views.{rows_of};
+ghost use Rattle.fb_ranges.specs.Views.{spans_of};
+ghost use Rattle.fb_growing.specs.Found.{spelled};
+ghost use Rattle.fb_ranged.specs.FoundTables.{AreFoundTables};
+ghost use Rattle.fb_found.specs.Given.{IsGiven};
+ghost use Rattle.fb_find.specs.Bounds.{IsNoBound};
+ghost use Rattle.fb_find.specs.Parts.{HasFoundRanges, told_of};
+
+use fb_cert::Certificate;
+use fb_flat::Flat;
+use fb_ranged::add_ranges;
+use fb_ranges::Ranges;
+use fb_rows::{Unclear, rows_clear};
+use fb_solved::NoBound;
+use std::alloc::Global;
+
+// What is unclear under the ranges that are found has no range.
+fn no_range(fault: Unclear) -> NoBound
+    ensures { result ≡ told_of fault }
+{
+    match fault {
+        Unclear::OutOfMemory => NoBound::OutOfMemory,
+        Unclear::Start(path) => NoBound::NoRange(path),
+        Unclear::Link(path) => NoBound::NoRange(path),
+        Unclear::Kept(path) => NoBound::NoRange(path),
+        Unclear::IndexOrDivisor(path) => NoBound::NoRange(path),
+    }
+}
+
+/// A certificate with the rows RANGE that these tables spell, leaf by leaf, under which all is clear.
+pub(crate) fn with_ranges(
+    alloc: Global,
+    flat: &Flat,
+    tables: &[Ranges],
+) -> Result<Certificate, NoBound>
+    ensures found { (s : System) → IsGiven flat.now.devices.items s → AreFoundTables s.devices (map spans_of tables.now) → IfOk result (λ c. HasFoundRanges s (spelled (map spans_of tables.now) (all_leaves s.devices)) (rows_of c)) }
+    ensures refused { (s : System) → IsGiven flat.now.devices.items s → AreFoundTables s.devices (map spans_of tables.now) → IfErr result (IsNoBound s) }
+{
+    let mut certificate = Certificate::new(alloc);
+    add_ranges(alloc, flat, tables, &mut certificate)?;
+    match rows_clear(alloc, flat, &certificate) {
+        Ok(()) => Ok(certificate),
+        Err(fault) => {
+            certificate.let_go();
+            Err(no_range(fault))
+        }
+    }
+}
