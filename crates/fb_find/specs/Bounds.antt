@@ -38,3 +38,10 @@ IsNoBound s OutOfMemory = Unit {0}
 IsNoBound s (Cycle places) = IsClosedWalk (bare_demands (all_leaves s.devices)) (map node_of places.items)
 IsNoBound s (NoRange path) = (ranges : List Range) × AreFound s.devices ranges × (IsUnclear ranges s (unclear.Kept path) ⊎ IsUnclear ranges s (unclear.IndexOrDivisor path))
 IsNoBound s (Limit resource) = IsAbove s (string_bytes resource)
+
+-- it shows a walk
+abbrev pub IsWalk : NoBound → Type 0
+IsWalk OutOfMemory = ⊥
+IsWalk (Cycle places) = Unit {0}
+IsWalk (NoRange path) = ⊥
+IsWalk (Limit resource) = ⊥

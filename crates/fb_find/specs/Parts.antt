@@ -1,5 +1,6 @@
 -- What is known on the way to a certificate.
-use Rattle.std.specs.Prelude.{ℕ, ◌≡◌, List, []}
+use Rattle.std.specs.Prelude.{ℕ, ◌≡◌, List, [], drop, length}
+use Rattle.fb_model.specs.Names.{Name}
 use Rattle.fb_model.specs.Clear.{Spans}
 use Rattle.fb_model.specs.Ranges.{Range}
 use Rattle.fb_model.specs.System.{System}
@@ -13,6 +14,8 @@ use Rattle.fb_rows.specs.Fitting.{AllClear}
 use Rattle.fb_solved.specs.declared.fault.NoBound.{NoBound}
 use Rattle.fb_solved.specs.declared.fault.NoBound.TheVariants.{OutOfMemory, NoRange}
 use Rattle.fb_places.specs.declared.numbering.Numbering.{Numbering}
+use Rattle.fb_check.specs.fb_blocks.Views.{names_of}
+use Rattle.fb_solved.specs.Numbers.{amounts, CanBeSaid, with_charges, with_weights}
 use Rattle.fb_sums.specs.Prices.{AreClear, AreTables}
 use Rattle.fb_found.specs.Columns.{ServesAll}
 use Rattle.fb_found.specs.Given.{IsNumbered}
@@ -26,12 +29,35 @@ pub record HasFoundRanges (s : System) (ranges : List Range) (rows : Rows) : Typ
   pub no_weight : rows.weights ≡ []
   pub no_depth : rows.depths ≡ []
 
--- all is there to find the numbers of a column: the nodes have numbers, an order serves all columns, and these tables have the ranges
-pub record IsReady (devices : List FlatDevice) (n : Numbering) (order : List ℕ) (tables : List Spans) (s : System) (ranges : List Range) : Type 0 where
+-- the nodes have numbers, and an order serves all columns
+pub record IsReady (devices : List FlatDevice) (n : Numbering) (order : List ℕ) (s : System) : Type 0 where
   pub numbered : IsNumbered devices n s
   pub serves : ServesAll n s order
+
+-- these tables, leaf by leaf, have the ranges, and algorithms are clear under them
+pub record HasTables (s : System) (ranges : List Range) (tables : List Spans) : Type 0 where
   pub tables_are : AreTables ranges tables (all_leaves s.devices)
   pub clear : AreClear ranges (all_leaves s.devices)
+
+-- ---- rows of nodes
+
+abbrev pub states_in : Numbering → List Name
+states_in n = names_of n.states
+
+abbrev pub events_in : Numbering → List Name
+events_in n = names_of n.events
+
+-- the rows of nodes with these numbers of the two columns
+abbrev pub with_columns : Numbering → List ℕ → List ℕ → Rows → Rows
+with_columns n steps places rows =
+    with_weights (amounts (events_in n) (drop (length (states_in n)) steps) (drop (length (states_in n)) places)) (with_charges (amounts (states_in n) steps places) rows)
+
+-- they can be said, and there are none yet
+pub record CanBeAdded (n : Numbering) (steps places : List ℕ) (rows : Rows) : Type 0 where
+  pub states_can : CanBeSaid (states_in n) steps places
+  pub events_can : CanBeSaid (events_in n) (drop (length (states_in n)) steps) (drop (length (states_in n)) places)
+  pub no_charge : rows.charges ≡ []
+  pub no_weight : rows.weights ≡ []
 
 -- how what is unclear is told
 abbrev pub told_of : Unclear → NoBound
