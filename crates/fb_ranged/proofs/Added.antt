@@ -1,12 +1,13 @@
 -- Rows RANGE are added one after another.
 use Rattle.std.specs.Prelude.{◌&&◌, ◌||◌}
 use Rattle.std.proofs.Common.{ℕ, suc, ◌≡◌, ◌+◌, ◌≤◌, Bool, true, false, not, List, [], ◌∷◌, ◌++◌, drop, length, map, refl, sym, ap, ap₂, subst, ◌∙◌, append_assoc, arith, string_bytes, if◌then◌else◌}
-use Rattle.std.specs.List.{All, AllByRecursion, IsDistinct, flat_map}
+use Rattle.std.specs.List.{All, AllByRecursion, AllZip, IsDistinct, flat_map}
 use Rattle.std.specs.Str.{bytes_eq}
 use Rattle.std.specs.declared.string.String.{String}
 use Rattle.std.specs.declared.alloc.Global.{Global}
 use Rattle.std.proofs.lemmas.List.{append-nil, map-append, drop_all}
 use Rattle.std.proofs.lemmas.Grind.{flat_map-append}
+use Rattle.std.proofs.lemmas.Slice.Zip.{AllZip-long}
 use Rattle.fb_model.specs.Names.{Name, Path, Place}
 use Rattle.fb_model.specs.System as book
 use Rattle.fb_model.specs.System.{System}
@@ -19,6 +20,7 @@ use Rattle.fb_model.specs.Clear.{Spans}
 use Rattle.fb_model.specs.Ranges.{Range, variables}
 use Rattle.fb_model.specs.Certificates.{all_leaves, is_boolean}
 use Rattle.fb_model.specs.CertificateText.{names_in, range_row}
+use Rattle.fb_model.proofs.Lists.{all_weaker}
 use Rattle.fb_model.proofs.Names.{eq_turned}
 use Rattle.fb_rounds.specs.FinderRanges as finder
 use Rattle.fb_spelled.specs.Words.{IsWordyLeaf, IsWordyDevice, declared_names}
@@ -33,12 +35,13 @@ use Rattle.fb_flat.specs.Sites.{dotted}
 use Rattle.fb_flat.specs.Tables.{IsLeaf, AreLeaves, AreDevices}
 use Rattle.fb_flat.proofs.Dotted.{placed_at}
 use Rattle.fb_rows.specs.Places.{leaves_in}
-use Rattle.fb_rows.proofs.Placing.{both_leaves, device_leaves}
+use Rattle.fb_rows.proofs.Placing.{device_leaves}
 use Rattle.fb_growing.specs.Found.{spelled}
 use Rattle.fb_ledger.specs.declared.kind.RowKind.TheVariants as kinds
 use Rattle.fb_ledger.specs.Texts.{paths, ranged_names, range_names, leaf_texts, texts_in, resource_texts, texts_of}
-use Rattle.fb_ledger.proofs.Systems.{wordy_leaves}
 use Rattle.fb_ledger.proofs.Tables.{listed}
+use Rattle.fb_ranged.proofs.Distinct.{on_all_leaves}
+use Rattle.fb_ranged.proofs.Tabled.{zip_join}
 use Rattle.fb_ranged.specs.AddedRows.{variable_rows, kind_rows, leaf_rows, all_rows, flat_leaves, added, adding, AddsRanges}
 
 -- ---- one after another
@@ -189,7 +192,7 @@ shown_kind s p path (Serviced service) e w = refl
 shown_leaf : (s : Spans) (l : Leaf) (leaf : wires.Leaf) → IsLeaf l leaf → IsWordyLeaf leaf → range_rows (leaf_rows s l) ≡ finder.kind_rows (λ v. s v.name) leaf.path leaf.kind
 shown_leaf s l leaf h w = ap (λ (k : Kind). range_rows (kind_rows s (string_bytes l.path) k)) h.kind ∙ shown_kind s (string_bytes l.path) leaf.path leaf.kind h.path w.variables
 
-shown_all : (ss : List Spans) (ls : List Leaf) (bs : List wires.Leaf) → AreLeaves ls bs → AllByRecursion IsWordyLeaf bs → range_rows (all_rows ss ls) ≡ spelled ss bs
+shown_all : (ss : List Spans) (ls : List Leaf) (bs : List wires.Leaf) → AllZip IsLeaf ls bs → AllByRecursion IsWordyLeaf bs → range_rows (all_rows ss ls) ≡ spelled ss bs
 shown_all [] ls bs h w = refl
 shown_all (s ∷ ss) [] [] h w = refl
 shown_all (s ∷ ss) [] (b ∷ bs) h w = absurd h
@@ -199,17 +202,22 @@ shown_all (s ∷ ss) (l ∷ ls) (b ∷ bs) h w =
 
 -- ---- all devices
 
-pub all_leaves_are : (fs : List FlatDevice) (ds : List book.Device) → AreDevices fs ds → AreLeaves (flat_leaves fs) (all_leaves ds)
+one_by_one : (ls : List Leaf) (bs : List wires.Leaf) → AreLeaves ls bs → AllZip IsLeaf ls bs
+one_by_one [] [] h = tt
+one_by_one [] (b ∷ bs) h = absurd h
+one_by_one (l ∷ ls) [] h = absurd h
+one_by_one (l ∷ ls) (b ∷ bs) h = (h.0, one_by_one ls bs h.1)
+
+-- the leaves of the tables of all devices are those of the system
+all_leaves_are : (fs : List FlatDevice) (ds : List book.Device) → AreDevices fs ds → AllZip IsLeaf (flat_leaves fs) (all_leaves ds)
 all_leaves_are [] [] h = tt
 all_leaves_are [] (d ∷ ds) h = absurd h
 all_leaves_are (f ∷ fs) [] h = absurd h
-all_leaves_are (f ∷ fs) (d ∷ ds) h = both_leaves (leaves_in f.resources.items) (flat_leaves fs) (leaves d) (all_leaves ds) (device_leaves 0 (d.name ∷ []) f.resources.items d.resources h.0.resources) (all_leaves_are fs ds h.1)
+all_leaves_are (f ∷ fs) (d ∷ ds) h =
+    zip_join IsLeaf (leaves_in f.resources.items) (leaves d) (flat_leaves fs) (all_leaves ds) (one_by_one (leaves_in f.resources.items) (leaves d) (device_leaves 0 (d.name ∷ []) f.resources.items d.resources h.0.resources)) (all_leaves_are fs ds h.1)
 
-as_many : (ls : List Leaf) (bs : List wires.Leaf) → AreLeaves ls bs → length ls ≡ length bs
-as_many [] [] h = refl
-as_many [] (b ∷ bs) h = absurd h
-as_many (l ∷ ls) [] h = absurd h
-as_many (l ∷ ls) (b ∷ bs) h = ap suc (as_many ls bs h.1)
+wordy : (ds : List book.Device) → AllByRecursion IsWordyDevice ds → AllByRecursion IsWordyLeaf (all_leaves ds)
+wordy ds plain = on_all_leaves IsWordyLeaf ds (all_weaker IsWordyDevice (λ (d : book.Device). AllByRecursion IsWordyLeaf (leaves d)) ds (λ d w. w.leaves) plain)
 
 upper_rows : (rs : Table Span) → All (λ t. is_upper_path t ≡ true) (paths rs) → AllByRecursion (λ (r : Name × Span). is_upper_path r.0 ≡ true) rs
 upper_rows [] h = tt
@@ -221,12 +229,12 @@ pub ranges_added : (fs : List FlatDevice) (s : System) (ss : List Spans) (old ne
 ranges_added fs s ss old new are plain up apart none many e =
     let rs = all_rows ss (flat_leaves fs) in
     let is = all_leaves_are fs s.devices are in
-    let texts : paths rs ≡ texts_of kinds.Range fs = leaf_paths ss (flat_leaves fs) (many ∙ sym (as_many (flat_leaves fs) (all_leaves s.devices) is)) ∙ device_paths fs in
+    let texts : paths rs ≡ texts_of kinds.Range fs = leaf_paths ss (flat_leaves fs) (many ∙ AllZip-long IsLeaf (flat_leaves fs) (all_leaves s.devices) is) ∙ device_paths fs in
     let made : new ≡ with_ranges rs old =
     e ∙ all_added rs old (subst (IsDistinct bytes_eq) (sym texts) apart) (upper_rows rs (subst (All (λ t. is_upper_path t ≡ true)) (sym texts) up)) (subst (λ (o : Table Span). AreNew o rs) (sym none) (none_stands rs))
     ∙ ap (λ (o : Table Span). with_ranges (o ++ rs) old) none in
     record {
-      ranges_are = ap (λ (r : Rows). range_rows r.ranges) made ∙ shown_all ss (flat_leaves fs) (all_leaves s.devices) is (wordy_leaves s.devices plain);
+      ranges_are = ap (λ (r : Rows). range_rows r.ranges) made ∙ shown_all ss (flat_leaves fs) (all_leaves s.devices) is (wordy s.devices plain);
       charges_same = ap (λ (r : Rows). r.charges) made;
       weights_same = ap (λ (r : Rows). r.weights) made;
       depths_same = ap (λ (r : Rows). r.depths) made;

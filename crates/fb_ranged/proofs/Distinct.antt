@@ -16,7 +16,7 @@ use Rattle.fb_model.proofs.Placed.{Apart}
 use Rattle.fb_leaves.specs.Leaves.{AreApart, OnChart}
 use Rattle.fb_leaves.proofs.Charts.{on_charts}
 use Rattle.fb_leaves.proofs.Made.{IsWellDevice}
-use Rattle.fb_leaves.proofs.Paths.{apart_append, all_apart}
+use Rattle.fb_leaves.proofs.Paths.{all_apart}
 use Rattle.fb_leaves.proofs.Typed.{devices_made}
 use Rattle.fb_rounds.proofs.Beginning.{basic_names}
 use Rattle.fb_rounds.proofs.Places.{variables_join}
@@ -105,6 +105,14 @@ and_left : (a b : Bool) → a ≡ false → (a && b) ≡ false
 and_left true b h = absurd cc
 and_left false b h = refl
 
+-- leaves on paths that differ
+abbrev AreElsewhere : List Leaf → Type 0
+AreElsewhere all = Differ (λ (x y : Leaf). path_eq x.path y.path) all
+
+own_paths : (all : List Leaf) → AreApart all → AreElsewhere all
+own_paths [] h = tt
+own_paths (leaf ∷ all) h = (h.0, own_paths all h.1)
+
 elsewhere : (p : Place) (path : Path) (all : List Leaf) → p.path ≡ path → AllByRecursion (λ (other : Leaf). path_eq path other.path ≡ false) all → AllByRecursion (λ q. place_eq p q ≡ false) (ranged all)
 elsewhere p path [] e h = tt
 elsewhere p path (leaf ∷ all) e h =
@@ -112,7 +120,7 @@ elsewhere p path (leaf ∷ all) e h =
     (all_weaker (λ (q : Place). q.path ≡ leaf.path) (λ (q : Place). place_eq p q ≡ false) (of_kind leaf.path leaf.kind) (λ q k. and_left (path_eq p.path q.path) (bytes_eq p.event q.event) (ap₂ path_eq e k ∙ h.0)) (kind_on leaf.path leaf.kind))
     (elsewhere p path all e h.1)
 
-leaves_differ : (all : List Leaf) → AreApart all → AllByRecursion (λ (leaf : Leaf). OnChart AreNamed leaf.kind) all → Differ place_eq (ranged all)
+leaves_differ : (all : List Leaf) → AreElsewhere all → AllByRecursion (λ (leaf : Leaf). OnChart AreNamed leaf.kind) all → Differ place_eq (ranged all)
 leaves_differ [] h k = tt
 leaves_differ (leaf ∷ all) h k =
     joined place_eq (of_kind leaf.path leaf.kind) (ranged all) (leaf_differs leaf.path leaf.kind k.0) (leaves_differ all h.1 k.1)
@@ -128,10 +136,10 @@ of_others n x (d ∷ ds) h k =
     (all_weaker (LeafIsOf d.name) (λ (y : Leaf). path_eq x.path y.path ≡ false) (leaves d) (λ y m. paths_differ n d.name x.path y.path k.0 h m) (of_device d)) (of_others n x ds h k.1)
 
 -- the leaves of all devices have paths that differ
-pub all_leaves_apart : (ds : List Device) → AllByRecursion (λ (d : Device). AreApart (leaves d)) ds → Apart (map (λ (d : Device). d.name) ds) → AreApart (all_leaves ds)
-all_leaves_apart [] h k = tt
-all_leaves_apart (d ∷ ds) h k =
-    apart_append (leaves d) (all_leaves ds) h.0 (all_leaves_apart ds h.1 k.1)
+all_elsewhere : (ds : List Device) → AllByRecursion (λ (d : Device). AreApart (leaves d)) ds → Apart (map (λ (d : Device). d.name) ds) → AreElsewhere (all_leaves ds)
+all_elsewhere [] h k = tt
+all_elsewhere (d ∷ ds) h k =
+    joined (λ (x y : Leaf). path_eq x.path y.path) (leaves d) (all_leaves ds) (own_paths (leaves d) h.0) (all_elsewhere ds h.1 k.1)
     (all_weaker (LeafIsOf d.name) (λ (x : Leaf). AllByRecursion (λ (y : Leaf). path_eq x.path y.path ≡ false) (all_leaves ds)) (leaves d) (λ x m. of_others d.name x ds m k.0) (of_device d))
 
 -- what holds of the leaves of each device holds of all
@@ -141,7 +149,7 @@ on_all_leaves P (d ∷ ds) h = all_append P (leaves d) (all_leaves ds) h.0 (on_a
 
 places_differ : (library : List BlockTree) (source : SourceTree) (s : System) → ElaboratesWith library source s → Differ place_eq (ranged (all_leaves s.devices))
 places_differ library source s e =
-    leaves_differ (all_leaves s.devices) (all_leaves_apart s.devices (all_apart library source s e) (names_apart library source s e))
+    leaves_differ (all_leaves s.devices) (all_elsewhere s.devices (all_apart library source s e) (names_apart library source s e))
     (on_all_leaves (λ (leaf : Leaf). OnChart AreNamed leaf.kind) s.devices (on_charts AreNamed basic_names library source s e))
 
 pub ranges_are_apart : (library : List BlockTree) (source : SourceTree) (devices : List FlatDevice) (s : System) → ElaboratesWith library source s → AreDevices devices s.devices → AllByRecursion IsWordyDevice s.devices → IsDistinct bytes_eq (texts_of Range devices)

@@ -62,7 +62,7 @@ all_found fs (d ∷ ds) ss (one_given {f = f} {fs = gs} {xs = xs} {ys = ys} g mo
 
 -- ---- tables of all devices
 
-zip_join : (R : Spans → Leaf → Type 0) (xs : List Spans) (bs : List Leaf) (ys : List Spans) (cs : List Leaf) → AllZip R xs bs → AllZip R ys cs → AllZip R (xs ++ ys) (bs ++ cs)
+pub zip_join : {A B : Type 0} (R : A → B → Type 0) (xs : List A) (bs : List B) (ys : List A) (cs : List B) → AllZip R xs bs → AllZip R ys cs → AllZip R (xs ++ ys) (bs ++ cs)
 zip_join R [] [] ys cs h k = k
 zip_join R [] (b ∷ bs) ys cs h k = absurd h
 zip_join R (x ∷ xs) [] ys cs h k = absurd h
