@@ -70,7 +70,7 @@ crosses path name x y b e =
     ap₂ path_eq (b.is ∙ append_assoc path (name ∷ []) b.rest) (e.begins.is ∙ append_assoc path (e.other ∷ []) e.begins.rest)
     ∙ (path_front path (name ∷ b.rest) (e.other ∷ e.begins.rest) ∙ and_false (bytes_eq name e.other) (path_eq b.rest e.begins.rest) e.differs)
 
-pub apart_append : (xs ys : List Leaf) → AreApart xs → AreApart ys → AllByRecursion (λ (x : Leaf). AllByRecursion (λ (y : Leaf). path_eq x.path y.path ≡ false) ys) xs → AreApart (xs ++ ys)
+apart_append : (xs ys : List Leaf) → AreApart xs → AreApart ys → AllByRecursion (λ (x : Leaf). AllByRecursion (λ (y : Leaf). path_eq x.path y.path ≡ false) ys) xs → AreApart (xs ++ ys)
 apart_append [] ys f g h = g
 apart_append (x ∷ xs) ys f g h = (all_append _ xs ys f.0 h.0, apart_append xs ys f.1 g h.1)
 

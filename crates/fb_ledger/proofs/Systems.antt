@@ -51,7 +51,7 @@ row_words Weight leaf h = h.events
 row_words Range leaf h = range_words leaf.kind h.variables
 row_words Depth leaf h = tt
 
-pub wordy_leaves : (ds : List book.Device) → AllByRecursion IsWordyDevice ds → AllByRecursion IsWordyLeaf (all_leaves ds)
+wordy_leaves : (ds : List book.Device) → AllByRecursion IsWordyDevice ds → AllByRecursion IsWordyLeaf (all_leaves ds)
 wordy_leaves [] h = tt
 wordy_leaves (d ∷ ds) h = all_joined IsWordyLeaf (leaves d) (all_leaves ds) h.0.leaves (wordy_leaves ds h.1) where
   all_joined : {X : Type 0} (P : X → Type 0) (xs ys : List X) → AllByRecursion P xs → AllByRecursion P ys → AllByRecursion P (xs ++ ys)

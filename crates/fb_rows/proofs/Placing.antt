@@ -76,7 +76,7 @@ met_back (x ∷ ls) (y ∷ bs) from b a k h = by (path_eq (names_in (string_byte
 
 -- ---- leaves of devices
 
-pub both_leaves : (xs ys : List Leaf) (bs cs : List wires.Leaf) → AreLeaves xs bs → AreLeaves ys cs → AreLeaves (xs ++ ys) (bs ++ cs)
+both_leaves : (xs ys : List Leaf) (bs cs : List wires.Leaf) → AreLeaves xs bs → AreLeaves ys cs → AreLeaves (xs ++ ys) (bs ++ cs)
 both_leaves [] ys [] cs h k = k
 both_leaves [] ys (b ∷ bs) cs h k = absurd h
 both_leaves (x ∷ xs) ys [] cs h k = absurd h
