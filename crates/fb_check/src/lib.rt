@@ -10,5 +10,6 @@ mod verified;
 pub use fb_columns;
 pub use law::devices_hold;
 pub use refusal::Refusal;
+pub use texts::read_system;
 pub use verdict::{check, check_text};
 pub use verified::Verified;
