@@ -1,1 +1,7 @@
-
+mod Lists
+mod Clearing
+mod Crowding
+mod Columns
+mod Adding
+mod Making
+mod Given

@@ -15,6 +15,9 @@ use Rattle.fb_solved.specs.declared.fault.NoBound.{NoBound}
 use Rattle.fb_solved.specs.declared.fault.NoBound.TheVariants.{OutOfMemory, NoRange}
 use Rattle.fb_places.specs.declared.numbering.Numbering.{Numbering}
 use Rattle.fb_check.specs.fb_blocks.Views.{names_of}
+use Rattle.fb_ledger.specs.Members.{HasSame}
+use Rattle.fb_ledger.specs.Texts.{texts_of}
+use Rattle.fb_ledger.specs.declared.kind.RowKind.TheVariants.{Charge, Weight}
 use Rattle.fb_solved.specs.Numbers.{amounts, CanBeSaid, with_charges, with_weights}
 use Rattle.fb_sums.specs.Prices.{AreClear, AreTables}
 use Rattle.fb_found.specs.Columns.{ServesAll}
@@ -29,9 +32,15 @@ pub record HasFoundRanges (s : System) (ranges : List Range) (rows : Rows) : Typ
   pub no_weight : rows.weights ≡ []
   pub no_depth : rows.depths ≡ []
 
--- the nodes have numbers, and an order serves all columns
-pub record IsReady (devices : List FlatDevice) (n : Numbering) (order : List ℕ) (s : System) : Type 0 where
+-- the nodes have numbers by the texts of their rows
+pub record HasNumbering (devices : List FlatDevice) (n : Numbering) (s : System) : Type 0 where
   pub numbered : IsNumbered devices n s
+  pub states : HasSame (names_of n.states) (texts_of Charge devices)
+  pub events : HasSame (names_of n.events) (texts_of Weight devices)
+
+-- and an order serves all columns
+pub record IsReady (devices : List FlatDevice) (n : Numbering) (order : List ℕ) (s : System) : Type 0 where
+  pub numbering : HasNumbering devices n s
   pub serves : ServesAll n s order
 
 -- these tables, leaf by leaf, have the ranges, and algorithms are clear under them

@@ -7,7 +7,8 @@ ghost use Rattle.fb_model.specs.Certificates.{Fits};
 ghost use Rattle.fb_cert.specs.Views.{certificate_of};
 ghost use Rattle.fb_check.specs.fb_types.Views.{system_of};
 ghost use Rattle.fb_finding.specs.Finding.{IsFound};
-ghost use Rattle.fb_found.specs.Given.{IsGiven, IsNumbered};
+ghost use Rattle.fb_found.specs.Given.{IsGiven};
+ghost use Rattle.fb_find.specs.Parts.{HasNumbering};
 ghost use Rattle.fb_find.specs.Bounds.{IsNoBound, IsWalk};
 
 use crate::clear::with_ranges;
@@ -25,12 +26,12 @@ use std::alloc::{AllocError, Global};
 
 // The numbers of a system's nodes.
 fn numbered(alloc: Global, flat: &Flat) -> Result<Numbering, AllocError>
-    ensures { (s : System) → IsGiven flat.now.devices.items s → IfOk result (λ n. IsNumbered flat.now.devices.items n s) }
+    ensures { (s : System) → IsGiven flat.now.devices.items s → IfOk result (λ n. HasNumbering flat.now.devices.items n s) }
 {
-    match numbering(alloc, flat) {
-        Ok(numbering) => Ok(numbering),
-        Err(_) => Err(AllocError),
-    }
+    let Ok(numbering) = numbering(alloc, flat) else {
+        return Err(AllocError);
+    };
+    Ok(numbering)
 }
 
 // The certificate of a system's leaves.

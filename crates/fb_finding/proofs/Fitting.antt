@@ -53,7 +53,7 @@ same_demands unit xs ys (leaf ∷ rest) h =
 
 -- ---- what has no row has no number
 
-no_amount : (f : Row → ℕ) (rs : List Row) (p : Place) → ((q : Place) → place_eq q p ≡ place_eq p q) → list_any (place_eq p) (row_places rs) ≡ false → amount f rs p ≡ 0
+pub no_amount : (f : Row → ℕ) (rs : List Row) (p : Place) → ((q : Place) → place_eq q p ≡ place_eq p q) → list_any (place_eq p) (row_places rs) ≡ false → amount f rs p ≡ 0
 no_amount f [] p turned h = refl
 no_amount f (r ∷ rs) p turned h = by (place_eq p r.place) refl h (no_amount f rs p turned) where
   by : (b : Bool) → place_eq p r.place ≡ b → (b || list_any (place_eq p) (row_places rs)) ≡ false → (list_any (place_eq p) (row_places rs) ≡ false → amount f rs p ≡ 0) → (if place_eq r.place p then f r else amount f rs p) ≡ 0

@@ -45,7 +45,7 @@ pub great_needed : (nodes : List Node) (ds : List Demand) (number : Node → ℕ
     → Contains nodes v → limit < y (number v) → (x : Node → ℕ) → AllByRecursion (IsMet x) ds → limit < x v
 great_needed nodes ds number system y v limit n o g l c a x m = above_all nodes ds (λ v. y (number v)) x v limit (capped_least nodes ds number system y n o g l) c a m
 
-place_turned : (p q : Place) → place_eq q p ≡ place_eq p q
+pub place_turned : (p q : Place) → place_eq q p ≡ place_eq p q
 place_turned p q = ap (λ b. b && bytes_eq q.event p.event) (path_turned q.path p.path) ∙ ap (λ b. path_eq p.path q.path && b) (eq_turned q.event p.event)
 
 pub made_is : (system : book.System) (states events : List Name) (cert : Certificate) → AreRowsOf (all_leaves system.devices) states events → IsMade system (nodes_of states events) cert → IsFound system cert

@@ -202,7 +202,7 @@ devices_deep cert (f ∷ fs) [] a h none = absurd a
 devices_deep cert (f ∷ fs) (d ∷ ds) a h none =
     (device_deep cert f d a.0 (none d) (all_first (IsFoundRow cert) (device_rows cert f d) (all_rows cert fs ds) h), devices_deep cert fs ds a.1 (all_last (IsFoundRow cert) (device_rows cert f d) (all_rows cert fs ds) h) none)
 
-paths_all : (cert : certs.Certificate) (fs : List FlatDevice) (ds : List book.Device) → AreDevices fs ds → paths (all_rows cert fs ds) ≡ flat_map resource_texts fs
+pub paths_all : (cert : certs.Certificate) (fs : List FlatDevice) (ds : List book.Device) → AreDevices fs ds → paths (all_rows cert fs ds) ≡ flat_map resource_texts fs
 paths_all cert [] ds a = refl
 paths_all cert (f ∷ fs) [] a = absurd a
 paths_all cert (f ∷ fs) (d ∷ ds) a =

@@ -7,6 +7,9 @@ ghost use Rattle.fb_model.specs.Certificates.{all_leaves};
 ghost use Rattle.fb_spelled.specs.Words.{IsWordyDevice};
 ghost use Rattle.fb_finding.specs.Nodes.{AreRowsOf};
 ghost use Rattle.fb_ledger.specs.Faults.{IsMemory};
+ghost use Rattle.fb_ledger.specs.Members.{HasSame};
+ghost use Rattle.fb_ledger.specs.Texts.{texts_of};
+ghost use Rattle.fb_ledger.specs.declared.kind.RowKind.TheVariants.{Charge, Weight};
 ghost use Rattle.fb_places.specs.fb_blocks.Views.{names_of};
 ghost use Rattle.fb_places.specs.fb_flat.Tables.{AreDevices};
 
@@ -18,6 +21,7 @@ use std::alloc::Global;
 /// The numbers of a system's states, event inputs and arrivals.
 pub fn numbering(alloc: Global, flat: &Flat) -> Result<Numbering, RowFault>
     ensures rows { (s : System) → AreDevices flat.now.devices.items s.devices → AllByRecursion IsWordyDevice s.devices → IfOk result (λ n. AreRowsOf (all_leaves s.devices) (names_of n.states) (names_of n.events)) }
+    ensures texts { IfOk result (λ n. HasSame (names_of n.states) (texts_of Charge flat.now.devices.items) × HasSame (names_of n.events) (texts_of Weight flat.now.devices.items)) }
     ensures memory { IfErr result IsMemory }
 {
     let states = required(alloc, RowKind::Charge, flat)?;

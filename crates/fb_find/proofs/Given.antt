@@ -1,0 +1,78 @@
+-- What is given of a system that stands in texts, and what is ready for the columns.
+use Rattle.std.proofs.Common.{◌≡◌, List, map}
+use Rattle.std.specs.List.{AllByRecursion}
+use Rattle.fb_model.specs.Clear.{Spans}
+use Rattle.fb_model.specs.System.{Device, System}
+use Rattle.fb_model.specs.Wires.{Kind, Charted, Serviced, Leaf, leaves}
+use Rattle.fb_model.specs.Ranges.{KindClears, LeafClears, Range, rows}
+use Rattle.fb_model.specs.Certificates as certs
+use Rattle.fb_model.specs.Certificates.{all_leaves, FollowsFew, Fits}
+use Rattle.fb_model.specs.StructuredTextGrammar.{most_nested, most_nested_statements}
+use Rattle.fb_model.proofs.Lists.{all_weaker}
+use Rattle.fb_events.specs.declared.library.TheConstants.{EVENT_BLOCKS}
+use Rattle.fb_events.proofs.EventTrees.{event_trees, event_source}
+use Rattle.fb_events.proofs.Spelled.{event_source_spelled}
+use Rattle.fb_spelled.specs.Words.{IsCapitalDevice}
+use Rattle.fb_spelled.proofs.Systems.{capital}
+use Rattle.fb_demands.proofs.Walks.{walks_exclude}
+use Rattle.fb_solved.specs.Places.{node_of}
+use Rattle.fb_check.specs.Verdicts.{IsWritten}
+use Rattle.fb_check.specs.fb_flat.declared.flat.FlatDevice.{FlatDevice}
+use Rattle.fb_check.specs.fb_flat.Leaves.{flat_device, written_device}
+use Rattle.fb_check.proofs.Reading.{with_event_trees, words}
+use Rattle.fb_check.proofs.Composed.{tables_are}
+use Rattle.fb_cert.specs.Views.{Rows}
+use Rattle.fb_rows.specs.Fitting.{AllClear}
+use Rattle.fb_ranged.specs.FoundTables.{AreFoundTables}
+use Rattle.fb_ranged.proofs.Distinct.{on_all_leaves}
+use Rattle.fb_growing.specs.Found.{spelled}
+use Rattle.fb_solved.specs.declared.fault.NoBound.{NoBound}
+use Rattle.fb_solved.specs.declared.fault.NoBound.TheVariants.{OutOfMemory, Cycle, NoRange, Limit}
+use Rattle.fb_sums.specs.Prices.{AreClear, HasClear}
+use Rattle.fb_found.specs.Given.{IsGiven}
+use Rattle.fb_found.specs.Columns.{IsCycle}
+use Rattle.fb_find.specs.Bounds.{IsNoBound, IsWalk}
+use Rattle.fb_find.specs.Parts.{HasFoundRanges, HasTables}
+
+-- the names of what stands in texts are words in capitals
+capitals : (s : System) → IsWritten s → AllByRecursion IsCapitalDevice s.devices
+capitals s (text, is) =
+    let l = event_source_spelled in
+    let x = is.source_is in
+    capital EVENT_BLOCKS.now text l.0 x.0 most_nested most_nested_statements most_nested most_nested_statements event_source is.source s l.1 l.2 x.1 x.2 (with_event_trees is.source s is.typed)
+
+pub given : (s : System) (devices : List FlatDevice) → IsWritten s → map flat_device devices ≡ map written_device s.devices → AllByRecursion FollowsFew s.devices → IsGiven devices s
+given s devices w e few = record {
+  library = event_trees;
+  source = w.1.source;
+  typed = with_event_trees w.1.source s w.1.typed;
+  tables = tables_are s devices w e;
+  words = words s w;
+  capitals = capitals s w;
+  followed = few;
+}
+
+kind_clear : (ranges : List Range) (all : List Leaf) (leaf : Leaf) (kind : Kind) → KindClears ranges all leaf.path leaf.source kind → HasClear (rows ranges leaf.path kind) kind
+kind_clear ranges all leaf (Charted block) h = h.algorithms
+kind_clear ranges all leaf (Serviced service) h = tt
+
+clear_of : (ranges : List Range) (s : System) → AllClear ranges s → AreClear ranges (all_leaves s.devices)
+clear_of ranges s h =
+    on_all_leaves (λ (leaf : Leaf). HasClear (rows ranges leaf.path leaf.kind) leaf.kind) s.devices
+    (all_weaker (λ (d : Device). AllByRecursion (LeafClears ranges (leaves d)) (leaves d)) (λ (d : Device). AllByRecursion (λ (leaf : Leaf). HasClear (rows ranges leaf.path leaf.kind) leaf.kind) (leaves d)) s.devices
+    (λ d k. all_weaker (LeafClears ranges (leaves d)) (λ (leaf : Leaf). HasClear (rows ranges leaf.path leaf.kind) leaf.kind) (leaves d) (λ leaf c. kind_clear ranges (leaves d) leaf leaf.kind c) k) h)
+
+pub has_tables : (s : System) (tables : List Spans) (start : Rows) → AreFoundTables s.devices tables → HasFoundRanges s (spelled tables (all_leaves s.devices)) start → HasTables s (spelled tables (all_leaves s.devices)) tables
+has_tables s tables start found has = record { tables_are = found.each; clear = clear_of (spelled tables (all_leaves s.devices)) s has.clear }
+
+pub cycle_told : (s : System) (fault : NoBound) → IsCycle s fault → IsNoBound s fault
+cycle_told s OutOfMemory h = tt
+cycle_told s (Cycle places) h = h
+cycle_told s (NoRange path) h = absurd h
+cycle_told s (Limit resource) h = absurd h
+
+pub walk_denies : (s : System) (fault : NoBound) → IsNoBound s fault → IsWalk fault → (cert : certs.Certificate) → Fits s cert → ⊥
+walk_denies s OutOfMemory h w cert fits = absurd w
+walk_denies s (Cycle places) h w cert fits = walks_exclude s cert (map node_of places.items) h fits
+walk_denies s (NoRange path) h w cert fits = absurd w
+walk_denies s (Limit resource) h w cert fits = absurd w

@@ -1,0 +1,26 @@
+-- Lists.
+use Rattle.std.proofs.Common.{◌≡◌, ◌<◌, ◌+◌, ℕ, zero, suc, refl, ap, subst, arith, List, [], ◌∷◌, length, map, slice_index_or, Contains}
+use Rattle.std.specs.List.{AllByRecursion, AllZip, Any}
+use Rattle.std.proofs.lemmas.List.Elements.{Contains-append_right}
+
+-- what holds of all holds at each place
+pub all_at : {X : Type 0} (P : X → Type 0) (xs : List X) (k : ℕ) (x : X) → AllByRecursion P xs → k < length xs → slice_index_or xs k x ≡ x → P x
+all_at P [] k x a l e = absurd (omega (arith, l))
+all_at P (y ∷ ys) zero x a l e = subst P e a.0
+all_at P (y ∷ ys) (suc k) x a l e = all_at P ys k x a.1 (omega (arith, l)) e
+
+-- so none lacks it
+pub none_lacks : {X : Type 0} (P Q : X → Type 0) (xs : List X) → ((x : X) → P x → Q x → ⊥) → AllByRecursion P xs → Any Q xs → ⊥
+none_lacks P Q xs f a h = f h.1 (all_at P xs h.0 h.1 a h.2 h.3) h.4
+
+pub zip_length : {A B : Type 0} (R : A → B → Type 0) (xs : List A) (ys : List B) → AllZip R xs ys → length xs ≡ length ys
+zip_length R [] [] h = refl
+zip_length R [] (y ∷ ys) h = absurd h
+zip_length R (x ∷ xs) [] h = absurd h
+zip_length R (x ∷ xs) (y ∷ ys) h = let e = zip_length R xs ys h.1 in omega (arith, e)
+
+-- an item of a list is one of what is made of it
+pub in_image : {X Y : Type 0} (f : X → Y) (xs : List X) (k : ℕ) (x : X) → k < length xs → slice_index_or xs k x ≡ x → Contains (map f xs) (f x)
+in_image f [] k x l e = absurd (omega (arith, l))
+in_image f (y ∷ ys) zero x l e = (0, omega arith, ap f e)
+in_image f (y ∷ ys) (suc k) x l e = Contains-append_right (f y ∷ []) (map f ys) (f x) (in_image f ys k x (omega (arith, l)) e)

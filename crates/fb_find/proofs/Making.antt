@@ -1,0 +1,265 @@
+-- Least numbers, needed depths and clear ranges make a certificate.
+use Rattle.std.proofs.Common.{ℕ, ◌≡◌, ◌≤◌, ◌<◌, ◌+◌, zero, suc, Bool, true, false, inl, inr, refl, sym, ap, subst, ◌∙◌, arith, List, [], ◌∷◌, ◌++◌, drop, length, map, slice_index, slice_index_or, string_bytes, Contains}
+use Rattle.std.specs.Prelude.{◌⊎◌, ◌||◌, cond, max}
+use Rattle.std.specs.Str.{bytes_eq}
+use Rattle.std.specs.List.{AllByRecursion, flat_map, IsDistinct, list_any}
+use Rattle.std.proofs.lemmas.List.{length-append, length-map}
+use Rattle.std.proofs.Math.Nat.{le-max_left, le-max_right, max-le}
+use Rattle.fb_rounds.specs.FinderRanges.{AreFound}
+use Rattle.fb_model.specs.Services.{begin}
+use Rattle.fb_model.specs.Names.{Name, Path, Place, at_place, is_in, path_eq, place_eq}
+use Rattle.fb_model.specs.System.{Device, Resource, System}
+use Rattle.fb_model.specs.Wires.{Leaf, leaves, resource_leaves}
+use Rattle.fb_model.specs.Ranges.{Range}
+use Rattle.fb_model.specs.Certificates as certs
+use Rattle.fb_model.specs.Certificates.{all_leaves, AllRows, Certificate, depth_paths, places_of, range_places, ranged, Row, row_places, steps_of}
+use Rattle.fb_model.specs.CertificateText.{IsTold, most_places, most_steps, names_in, place_of}
+use Rattle.fb_model.proofs.Lists.{all_both}
+use Rattle.fb_demands.specs.Demands.{Node, state, event}
+use Rattle.fb_demands.specs.Columns.{demands, MeetAll, number_of}
+use Rattle.fb_rounds.proofs.Places.{found_rows_are_all}
+use Rattle.fb_numbered.specs.Numbered.{AreLeast}
+use Rattle.fb_finding.specs.Nodes.{nodes_of, number}
+use Rattle.fb_finding.specs.Finding.{HasNumbers, IsMade, row_number}
+use Rattle.fb_finding.proofs.Fitting.{no_amount}
+use Rattle.fb_finding.proofs.Members.{in_rows}
+use Rattle.fb_finding.proofs.Rows.{least_same, numbers_are}
+use Rattle.fb_finding.proofs.Laws.{place_turned}
+use Rattle.std.proofs.lemmas.List.Elements.{Contains-append_right}
+use Rattle.fb_cert.specs.Adding.{is_upper_path}
+use Rattle.fb_cert.specs.Views.{book_of, depth_rows, range_rows, Rows, Table}
+use Rattle.fb_check.specs.fb_blocks.Views.{names_of}
+use Rattle.fb_check.specs.fb_flat.declared.flat.FlatDevice.{FlatDevice}
+use Rattle.fb_check.specs.fb_flat.declared.flat.FlatResource.{FlatResource}
+use Rattle.fb_rows.specs.Fitting.{AllClear}
+use Rattle.fb_ledger.specs.Faults.{HasNoRowTwice}
+use Rattle.fb_ledger.specs.Texts.{device_texts, resource_texts as row_texts, texts_of}
+use Rattle.fb_ledger.specs.declared.kind.RowKind.TheVariants.{Depth}
+use Rattle.fb_ledger.proofs.Names.{bytes_turned}
+use Rattle.fb_ledger.proofs.Spelled.{spelled}
+use Rattle.fb_ledger.proofs.Systems.{devices_named}
+use Rattle.fb_ranged.proofs.Capitals.{rows_have_capitals}
+use Rattle.fb_ranged.proofs.Distinct.{resources_are_apart}
+use Rattle.fb_depths.specs.Depths.{begin_of, begins_of}
+use Rattle.fb_solved.specs.declared.fault.NoBound.{NoBound}
+use Rattle.fb_solved.specs.declared.fault.NoBound.TheVariants.{OutOfMemory, Cycle, NoRange, Limit}
+use Rattle.fb_solved.proofs.Telling.{places_told, steps_told}
+use Rattle.fb_queues.specs.Needs as queues
+use Rattle.fb_queues.specs.Needs.{all_rows, AreFresh, arrival_of, IsPastAmong, IsPastIn, most_arrival, most_at, needed_depth, resource_texts, with_more}
+use Rattle.fb_queues.proofs.Deep.{needed_depths, paths_all}
+use Rattle.fb_places.specs.declared.numbering.Numbering.{Numbering}
+use Rattle.fb_places.specs.Rights.{numbers_of}
+use Rattle.fb_found.specs.Given.{nodes_in}
+use Rattle.fb_found.specs.Columns as columns
+use Rattle.fb_found.specs.Columns.{AreSmallest}
+use Rattle.fb_find.specs.Bounds.{IsAbove, needs_depth, needs_places, needs_steps, IsNoBound}
+use Rattle.fb_find.specs.Parts.{events_in, HasFoundRanges, IsReady, states_in, with_columns}
+use Rattle.fb_find.proofs.Adding.{all_listed}
+use Rattle.fb_find.proofs.Columns.{nodes_have, of_column}
+
+-- ---- the paths of resources
+
+depth_texts : (fs : List FlatDevice) → texts_of Depth fs ≡ flat_map resource_texts fs
+depth_texts [] = refl
+depth_texts (f ∷ fs) = ap (λ (ts : List Name). ts ++ texts_of Depth fs) (own f.resources.items) ∙ ap (λ (ts : List Name). resource_texts f ++ ts) (depth_texts fs) where
+  own : (rs : List FlatResource) → flat_map (row_texts Depth) rs ≡ map (λ (r : FlatResource). string_bytes r.path) rs
+  own [] = refl
+  own (r ∷ rs) = ap (λ (ts : List Name). string_bytes r.path ∷ ts) (own rs)
+
+in_more : (y t : Name) (before : List Name) → is_in y before ≡ false → bytes_eq y t ≡ false → is_in y (before ++ t ∷ []) ≡ false
+in_more y t [] h k = rw k refl
+in_more y t (x ∷ before) h k = by (bytes_eq y x) h (λ r. in_more y t before r k) where
+  by : (b : Bool) → (b || is_in y before) ≡ false → (is_in y before ≡ false → is_in y (before ++ t ∷ []) ≡ false) → (b || is_in y (before ++ t ∷ [])) ≡ false
+  by true h f = absurd cc
+  by false h f = f h
+
+fresh_from : (before ts : List Name) → AllByRecursion (λ t. is_in t before ≡ false) ts → IsDistinct bytes_eq ts → AllByRecursion (λ t. is_upper_path t ≡ true) ts → AreFresh before ts
+unfolding IsDistinct
+fresh_from before [] b d u = tt
+fresh_from before (t ∷ ts) b d u = (
+  u.0, b.0,
+  fresh_from (before ++ t ∷ []) ts
+      (all_both (λ y. is_in y before ≡ false) (λ y. bytes_eq t y ≡ false) (λ y. is_in y (before ++ t ∷ []) ≡ false) ts (λ y h k. in_more y t before h (bytes_turned t y false k)) b.1 d.0) d.1 u.1,
+)
+
+none_before : (ts : List Name) → AllByRecursion (λ t. is_in t [] ≡ false) ts
+none_before [] = tt
+none_before (t ∷ ts) = (refl, none_before ts)
+
+-- ---- more places need no less depth
+
+at_more : (cert other : Certificate) (path : Path) (es : List Name) → ((p : Place) → (places_of cert).weight p ≤ (places_of other).weight p) → most_at cert path es ≤ most_at other path es
+at_more cert other path [] h = omega arith
+at_more cert other path (e ∷ es) h =
+    let w = h (at_place path e) in
+    let r = at_more cert other path es h in
+    let a = le-max_left ((places_of other).weight (at_place path e)) (most_at other path es) in
+    let b = le-max_right ((places_of other).weight (at_place path e)) (most_at other path es) in
+    max-le (omega (arith, w, a)) (omega (arith, r, b))
+
+arrivals_more : (cert other : Certificate) (all : List Leaf) → ((p : Place) → (places_of cert).weight p ≤ (places_of other).weight p) → most_arrival cert all ≤ most_arrival other all
+arrivals_more cert other [] h = omega arith
+arrivals_more cert other (leaf ∷ rest) h =
+    let w = at_more cert other leaf.path (certs.kind_arrivals leaf.kind) h in
+    let r = arrivals_more cert other rest h in
+    let a = le-max_left (arrival_of other leaf) (most_arrival other rest) in
+    let b = le-max_right (arrival_of other leaf) (most_arrival other rest) in
+    max-le (omega (arith, w, a)) (omega (arith, r, b))
+
+begins_more : (cert other : Certificate) (all : List Leaf) → ((p : Place) → (places_of cert).weight p ≤ (places_of other).weight p) → begins_of cert all ≤ begins_of other all
+begins_more cert other [] h = omega arith
+begins_more cert other (leaf ∷ rest) h =
+    let w = begin_more (certs.is_restart leaf.kind) (h (at_place leaf.path begin)) in
+    let r = begins_more cert other rest h in
+    omega (arith, w, r)
+  where
+    begin_more : (b : Bool) → (places_of cert).weight (at_place leaf.path begin) ≤ (places_of other).weight (at_place leaf.path begin)
+        → cond b ((places_of cert).weight (at_place leaf.path begin)) 0 ≤ cond b ((places_of other).weight (at_place leaf.path begin)) 0
+    begin_more true k = k
+    begin_more false k = omega arith
+
+need_more : (cert other : Certificate) (all : List Leaf) → ((p : Place) → (places_of cert).weight p ≤ (places_of other).weight p) → needed_depth cert all ≤ needed_depth other all
+need_more cert other all h =
+    let a = arrivals_more cert other all h in
+    let b = begins_more cert other all h in
+    let l1 = le-max_left 1 (most_arrival other all) in
+    let l2 = le-max_right 1 (most_arrival other all) in
+    let l3 = le-max_left (max 1 (most_arrival other all)) (begins_of other all) in
+    let l4 = le-max_right (max 1 (most_arrival other all)) (begins_of other all) in
+    max-le (max-le (omega (arith, l1, l3)) (omega (arith, a, l2, l3))) (omega (arith, b, l4))
+
+past_in_more : (cert other : Certificate) (t : Name) (n : ℕ) (path : Path) (rs : List Resource) → ((p : Place) → (places_of cert).weight p ≤ (places_of other).weight p) → IsPastIn cert t n path rs → IsPastIn other t n path rs
+past_in_more cert other t n path [] h p = p
+past_in_more cert other t n path (r ∷ rs) h (inl p) = inl (p.0, let m = need_more cert other (resource_leaves n path r) h in let k = p.1 in omega (arith, m, k))
+past_in_more cert other t n path (r ∷ rs) h (inr p) = inr (past_in_more cert other t (n + 1) path rs h p)
+
+past_more : (cert other : Certificate) (t : Name) (ds : List Device) → ((p : Place) → (places_of cert).weight p ≤ (places_of other).weight p) → IsPastAmong cert t ds → IsPastAmong other t ds
+past_more cert other t [] h p = p
+past_more cert other t (d ∷ ds) h (inl p) = inl (past_in_more cert other t 0 (d.name ∷ []) d.resources h p)
+past_more cert other t (d ∷ ds) h (inr p) = inr (past_more cert other t ds h p)
+
+-- ---- a certificate
+
+count_is : (ts us : List Name) → length (nodes_of ts us) ≡ length ts + length us
+count_is ts us =
+    omega (arith, length-append (map (λ t. state (place_of t)) ts) (map (λ t. event (place_of t)) us), length-map ts (λ t. state (place_of t)), length-map us (λ t. event (place_of t)))
+
+paths_are : (rows : Table ℕ) → certs.depth_rows (depth_rows rows) ≡ map names_in (queues.paths rows)
+paths_are [] = refl
+paths_are (r ∷ rows) = ap (λ (ps : List Path). names_in r.0 ∷ ps) (paths_are rows)
+
+steps_number : (cert : Certificate) (v : Node) → row_number (λ (r : Row). r.steps) cert v ≡ number_of (steps_of cert) v
+steps_number cert (state p) = refl
+steps_number cert (event p) = refl
+
+places_number : (cert : Certificate) (v : Node) → row_number (λ (r : Row). r.places) cert v ≡ number_of (places_of cert) v
+places_number cert (state p) = refl
+places_number cert (event p) = refl
+
+module _ (devices : List FlatDevice) (n : Numbering) (order : List ℕ) (s : System) (ready : IsReady devices n order s) (ranges : List Range) (steps places : List ℕ) (start : Rows) (a : AreSmallest n (demands 1 ranges (all_leaves s.devices)) most_steps steps)
+    (b : AreSmallest n (demands 0 ranges (all_leaves s.devices)) most_places places) (has : HasFoundRanges s ranges start) where
+  abbrev mid : Rows
+  mid = with_columns n steps places start
+
+  abbrev final : Rows
+  final = with_more (all_rows (book_of mid) devices s.devices) mid
+
+  pub fresh : AreFresh [] (flat_map resource_texts devices)
+  fresh =
+      let given = ready.numbering.numbered.given in
+      subst (AreFresh []) (depth_texts devices)
+      (fresh_from [] (texts_of Depth devices) (none_before (texts_of Depth devices)) (resources_are_apart given.library given.source devices s given.typed given.tables)
+      (all_listed (λ t. is_upper_path t ≡ true) (texts_of Depth devices) (rows_have_capitals Depth devices s given.tables given.capitals)))
+
+  steps_in : HasNumbers (λ r. r.steps) (states_in n) (events_in n) (book_of final) steps
+  steps_in = steps_told (states_in n) (events_in n) steps places final refl refl (a.sized ∙ count_is (states_in n) (events_in n))
+
+  places_in : HasNumbers (λ r. r.places) (states_in n) (events_in n) (book_of final) places
+  places_in = places_told (states_in n) (events_in n) steps places final refl refl (b.sized ∙ count_is (states_in n) (events_in n))
+
+  places_mid : HasNumbers (λ r. r.places) (states_in n) (events_in n) (book_of mid) places
+  places_mid = places_told (states_in n) (events_in n) steps places mid refl refl (b.sized ∙ count_is (states_in n) (events_in n))
+
+  depths_are : (book_of final).depths ≡ depth_rows (all_rows (book_of final) devices s.devices)
+  depths_are = ap (λ (t : Table ℕ). depth_rows (t ++ all_rows (book_of mid) devices s.devices)) has.no_depth
+
+  all_there : HasNoRowTwice (book_of final) → AllRows s (book_of final)
+  all_there once =
+      let given = ready.numbering.numbered.given in
+      let rows = ready.numbering.numbered.rows in
+      record {
+        charges = record { same = λ p. ap (list_any (place_eq p)) steps_in.charges_are ∙ rows.states_are p; once = once.charges };
+        weights = record { same = λ p. ap (list_any (place_eq p)) steps_in.weights_are ∙ rows.events_are p; once = once.weights };
+        ranges = record { same = λ p. ap (list_any (place_eq p)) (ap range_places has.are ∙ found_rows_are_all s.devices ranges has.found); once = once.ranges };
+        depths =
+            λ path.
+            ap (list_any (path_eq path))
+            (ap certs.depth_rows depths_are ∙ paths_are (all_rows (book_of final) devices s.devices) ∙ ap (map names_in) (paths_all (book_of final) devices s.devices given.tables ∙ sym (depth_texts devices)) ∙ devices_named devices s.devices given.tables);
+      }
+
+  made_here : IsTold (book_of final) → IsMade s (nodes_in n) (book_of final)
+  made_here told =
+      let given = ready.numbering.numbered.given in
+      let once = spelled told.0 (book_of final) told.1 in
+      record {
+        followed = given.followed;
+        rows = all_there once;
+        ranges = subst (λ rs. AreFound s.devices rs) (sym has.are) has.found;
+        clear = subst (λ rs. AllClear rs s) (sym has.are) has.clear;
+        steps =
+            subst (λ rs. AreLeast (nodes_in n) (demands 1 rs (all_leaves s.devices)) (number_of (steps_of (book_of final)))) (sym has.are)
+            (least_same (λ x. slice_index steps (numbers_of n x)) (number_of (steps_of (book_of final))) (nodes_in n) (demands 1 ranges (all_leaves s.devices))
+            (λ v c. sym (numbers_are (λ r. r.steps) (states_in n) (events_in n) (book_of final) steps steps_in (nodes_have devices n order s ready) v c) ∙ steps_number (book_of final) v)
+            (of_column devices n order s ready 1 ranges) a.least);
+        places =
+            subst (λ rs. AreLeast (nodes_in n) (demands 0 rs (all_leaves s.devices)) (number_of (places_of (book_of final)))) (sym has.are)
+            (least_same (λ x. slice_index places (numbers_of n x)) (number_of (places_of (book_of final))) (nodes_in n) (demands 0 ranges (all_leaves s.devices))
+            (λ v c. sym (numbers_are (λ r. r.places) (states_in n) (events_in n) (book_of final) places places_in (nodes_have devices n order s ready) v c) ∙ places_number (book_of final) v)
+            (of_column devices n order s ready 0 ranges) b.least);
+        depths = needed_depths (book_of final) devices s.devices given.tables given.words fresh depths_are;
+      }
+
+  -- the places of rows are no more than those of any numbers that meet the demands
+  no_more : (other : Certificate) → MeetAll (number_of (places_of other)) (demands 0 ranges (all_leaves s.devices)) → (p : Place) → (places_of (book_of mid)).weight p ≤ (places_of other).weight p
+  no_more other meets p = by (list_any (place_eq p) (map place_of (events_in n))) refl where
+    by : (t : Bool) → list_any (place_eq p) (map place_of (events_in n)) ≡ t → (places_of (book_of mid)).weight p ≤ (places_of other).weight p
+    by true e =
+        let c = Contains-append_right (map (λ t. state (place_of t)) (states_in n)) (map (λ t. event (place_of t)) (events_in n)) (event p) (in_rows event (events_in n) p e) in
+        let same = numbers_are (λ r. r.places) (states_in n) (events_in n) (book_of mid) places places_mid (nodes_have devices n order s ready) (event p) c in
+        let l = b.least.least (number_of (places_of other)) meets (event p) c in
+        omega (arith, same, l)
+    by false e = let z = no_amount (λ r. r.places) (book_of mid).weights p (place_turned p) (ap (list_any (place_eq p)) places_mid.weights_are ∙ e) in omega (arith, z)
+
+  past_here : (fault : NoBound) → queues.IsPastFault (λ t. IsPastAmong (book_of mid) t s.devices) fault → IsNoBound s fault
+  past_here OutOfMemory h = tt
+  past_here (Cycle places) h = absurd h
+  past_here (NoRange path) h = absurd h
+  past_here (Limit resource) h = needs_depth ranges has.found (λ other meets. past_more (book_of mid) other (string_bytes resource) s.devices (no_more other meets) h)
+
+  -- ---- the same of what the code has
+
+  pub made : (now then : Rows) → now ≡ mid → then ≡ with_more (all_rows (book_of now) devices s.devices) now → IsTold (book_of then) → IsMade s (nodes_in n) (book_of then)
+  made now then e f told =
+      let g : then ≡ final = f ∙ ap (λ rows. with_more (all_rows (book_of rows) devices s.devices) rows) e in
+      subst (λ rows. IsMade s (nodes_in n) (book_of rows)) (sym g) (made_here (subst (λ rows. IsTold (book_of rows)) g told))
+
+  pub fresh_now : (now : Rows) → now ≡ mid → AreFresh (queues.paths now.depths) (flat_map resource_texts devices)
+  fresh_now now e = subst (λ ts. AreFresh ts (flat_map resource_texts devices)) (sym (ap (λ (rows : Rows). queues.paths rows.depths) e ∙ ap queues.paths has.no_depth)) fresh
+
+  pub past : (now : Rows) (fault : NoBound) → now ≡ mid → queues.IsPastFault (λ t. IsPastAmong (book_of now) t s.devices) fault → IsNoBound s fault
+  past now fault e h = past_here fault (subst (λ rows. queues.IsPastFault (λ t. IsPastAmong (book_of rows) t s.devices) fault) e h)
+
+-- ---- numbers above their limit
+
+module _ (n : Numbering) (s : System) (ranges : List Range) (start : Rows) (has : HasFoundRanges s ranges start) where
+  pub steps_past : (fault : NoBound) → columns.IsPastFault n (demands 1 ranges (all_leaves s.devices)) most_steps fault → IsNoBound s fault
+  steps_past OutOfMemory h = tt
+  steps_past (Cycle places) h = absurd h
+  steps_past (NoRange path) h = absurd h
+  steps_past (Limit resource) h = needs_steps ranges has.found (record { node = h.node; resource_is = h.resource_is; great = h.above })
+
+  pub places_past : (fault : NoBound) → columns.IsPastFault n (demands 0 ranges (all_leaves s.devices)) most_places fault → IsNoBound s fault
+  places_past OutOfMemory h = tt
+  places_past (Cycle places) h = absurd h
+  places_past (NoRange path) h = absurd h
+  places_past (Limit resource) h = needs_places ranges has.found (record { node = h.node; resource_is = h.resource_is; great = h.above })

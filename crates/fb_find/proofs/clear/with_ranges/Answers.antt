@@ -1,0 +1,24 @@
+use Rattle.std.proofs.Common.{ap, ◌∙◌, map, sym, subst}
+use Rattle.fb_cert.specs.Views.{range_rows, Rows, rows_of}
+use Rattle.fb_ranges.specs.Views.{spans_of}
+use Rattle.fb_find.specs.Bounds.{IsNoBound}
+use Rattle.fb_find.proofs.Clearing.{apart_texts, as_many, has_found, known, told, upper_texts}
+use Rattle.fb_find.proofs.clear.with_ranges.Goals as goal
+
+pub returns-in-Ok-clause-found : goal.returns-in-Ok-clause-found
+returns-in-Ok-clause-found c = λ s given found.
+    let fs = c.args.flat.now.devices.items in
+    let tables = map spans_of c.args.tables.now in
+    let adds =
+        c.in_ok-add_ranges.ensures s given.tables given.words (upper_texts fs s given) (apart_texts fs s given) (ap (λ (r : Rows). r.ranges) c.new-certificate.ensures) (as_many fs s given tables found)
+    in
+    has_found fs s given tables found (rows_of c.new-certificate.result) (rows_of c.add_ranges.new.certificate) c.new-certificate.ensures adds (c.in-Ok.ensures.clears s given.tables (known fs s given))
+
+pub returns-in-Err-clause-refused : goal.returns-in-Err-clause-refused
+returns-in-Err-clause-refused c = λ s given found.
+    let fs = c.args.flat.now.devices.items in
+    let tables = map spans_of c.args.tables.now in
+    let adds =
+        c.in_ok-add_ranges.ensures s given.tables given.words (upper_texts fs s given) (apart_texts fs s given) (ap (λ (r : Rows). r.ranges) c.new-certificate.ensures) (as_many fs s given tables found)
+    in
+    subst (IsNoBound s) (sym c.no_range.ensures) (told fs s given tables found (rows_of c.add_ranges.new.certificate) c.in-Err.fault adds.ranges_are (c.in-Err.ensures.refused s given.tables (known fs s given)))

@@ -1,0 +1,25 @@
+use Rattle.std.proofs.Common.{List, [], refl}
+use Rattle.fb_model.specs.Ranges.{Range}
+use Rattle.fb_model.specs.Certificates.{all_leaves}
+use Rattle.fb_demands.specs.Columns.{demands}
+use Rattle.fb_places.specs.Rights.{rights_of}
+use Rattle.fb_find.proofs.Columns.{closed, column_of}
+use Rattle.fb_find.proofs.least.places.Goals as goal
+
+pub column-requires-clause-demands : goal.column-requires-clause-demands
+column-requires-clause-demands c =
+    let s = c.requires.0 in
+    let ready = c.requires.1 in
+    let fs = c.args.flat.now.devices.items in
+    let none : List Range = [] in
+    (demands 0 none (all_leaves s.devices), column_of fs c.args.numbering.now c.args.order.now s ready 0 none (rights_of c.in_ok-rights.rights.items) (c.in_ok-rights.ensures.places s ready.numbering.numbered.given.tables (closed fs c.args.numbering.now c.args.order.now s ready) refl none))
+
+pub returns-clause-least : goal.returns-clause-least
+returns-clause-least c = λ s ranges ready.
+    let fs = c.args.flat.now.devices.items in
+    c.column.ensures.least (demands 0 ranges (all_leaves s.devices)) (column_of fs c.args.numbering.now c.args.order.now s ready 0 ranges (rights_of c.in_ok-rights.rights.items) (c.in_ok-rights.ensures.places s ready.numbering.numbered.given.tables (closed fs c.args.numbering.now c.args.order.now s ready) refl ranges))
+
+pub returns-clause-refused : goal.returns-clause-refused
+returns-clause-refused c = λ s ranges ready.
+    let fs = c.args.flat.now.devices.items in
+    c.column.ensures.refused (demands 0 ranges (all_leaves s.devices)) (column_of fs c.args.numbering.now c.args.order.now s ready 0 ranges (rights_of c.in_ok-rights.rights.items) (c.in_ok-rights.ensures.places s ready.numbering.numbered.given.tables (closed fs c.args.numbering.now c.args.order.now s ready) refl ranges))
