@@ -1,5 +1,5 @@
 -- What is given of a system that stands in texts, and what is ready for the columns.
-use Rattle.std.proofs.Common.{◌≡◌, List, map}
+use Rattle.std.proofs.Common.{ℕ, ◌≡◌, ◌∙◌, List, map, subst, sym}
 use Rattle.std.specs.List.{AllByRecursion}
 use Rattle.fb_model.specs.Clear.{Spans}
 use Rattle.fb_model.specs.System.{Device, System}
@@ -30,9 +30,12 @@ use Rattle.fb_solved.specs.declared.fault.NoBound.{NoBound}
 use Rattle.fb_solved.specs.declared.fault.NoBound.TheVariants.{OutOfMemory, Cycle, NoRange, Limit}
 use Rattle.fb_sums.specs.Prices.{AreClear, HasClear}
 use Rattle.fb_found.specs.Given.{IsGiven}
-use Rattle.fb_found.specs.Columns.{IsCycle}
+use Rattle.fb_found.specs.Columns.{IsCycle, ServesAll}
 use Rattle.fb_find.specs.Bounds.{IsNoBound, IsWalk}
-use Rattle.fb_find.specs.Parts.{HasFoundRanges, HasTables}
+use Rattle.fb_find.specs.Parts.{HasFoundRanges, HasNumbering, HasTables, IsReady}
+use Rattle.fb_places.specs.declared.numbering.Numbering.{Numbering}
+use Rattle.fb_ranges.specs.Views.{spans_of}
+use Rattle.fb_ranges.specs.declared.rows.Ranges.{Ranges}
 
 -- the names of what stands in texts are words in capitals
 capitals : (s : System) → IsWritten s → AllByRecursion IsCapitalDevice s.devices
@@ -76,3 +79,15 @@ walk_denies s OutOfMemory h w cert fits = absurd w
 walk_denies s (Cycle places) h w cert fits = walks_exclude s cert (map node_of places.items) h fits
 walk_denies s (NoRange path) h w cert fits = absurd w
 walk_denies s (Limit resource) h w cert fits = absurd w
+
+-- ---- read by other names
+
+pub ready_is : (devices : List FlatDevice) (n : Numbering) (s : System) (order slice : List ℕ) → HasNumbering devices n s → slice ≡ order → ServesAll n s order → IsReady devices n slice s
+ready_is devices n s order slice h e serves = record { numbering = h; serves = subst (λ o. ServesAll n s o) (sym e) serves }
+
+pub found_read : (s : System) (tables slice : List Ranges) → slice ≡ tables → AreFoundTables s.devices (map spans_of tables) → AreFoundTables s.devices (map spans_of slice)
+found_read s tables slice e found = subst (λ ts. AreFoundTables s.devices (map spans_of ts)) (sym e) found
+
+pub tables_read : (s : System) (tables slice other : List Ranges) (start : Rows) → slice ≡ tables → other ≡ tables → AreFoundTables s.devices (map spans_of slice) → HasFoundRanges s (spelled (map spans_of slice) (all_leaves s.devices)) start
+    → HasTables s (spelled (map spans_of slice) (all_leaves s.devices)) (map spans_of other)
+tables_read s tables slice other start e f found has = subst (λ ts. HasTables s (spelled (map spans_of slice) (all_leaves s.devices)) (map spans_of ts)) (e ∙ sym f) (has_tables s (map spans_of slice) start found has)
