@@ -105,6 +105,11 @@ none_or k texts t e =
 
 -- ---- nodes of rows
 
+-- how many there are
+pub count_is : (states events : List Name) → length (nodes_of states events) ≡ length states + length events
+count_is states events =
+    omega (arith, length-append (map (λ t. state (place_of t)) states) (map (λ t. event (place_of t)) events), length-map states (λ t. state (place_of t)), length-map events (λ t. event (place_of t)))
+
 module _ (states events : List Name) (apart : IsDistinct bytes_eq states) (others : IsDistinct bytes_eq events) where
   abbrev front : List Node
   front = map (λ t. state (place_of t)) states
@@ -115,8 +120,8 @@ module _ (states events : List Name) (apart : IsDistinct bytes_eq states) (other
   stand : AreNumbers (nodes_of states events) (number states events)
   stand = are_numbers states events apart others
 
-  pub sized : length (nodes_of states events) ≡ length states + length events
-  sized = omega (arith, length-append front behind, length-map states (λ t. state (place_of t)), length-map events (λ t. event (place_of t)))
+  sized : length (nodes_of states events) ≡ length states + length events
+  sized = count_is states events
 
   state_known : (t : Name) → index_in states t < length states → Contains (nodes_of states events) (state (place_of t))
   state_known t l = Contains-append_left front behind (state (place_of t)) (contains_map (λ s. state (place_of s)) states t (found states t l))
@@ -139,7 +144,7 @@ module _ (states events : List Name) (apart : IsDistinct bytes_eq states) (other
         let own : slice_index_or behind j (state (at_place [] [])) ≡ event (place_of (slice_index_or events j [])) = get_or-map (λ t. event (place_of t)) events j [] (state (at_place [] [])) (omega (arith, h, l, sized)) in
         absurd (differ (place_of (slice_index_or events j [])) p (sym own ∙ (sym at ∙ e)))
 
-  state_from : (t : Name) → number_or_end states events (state (place_of t)) < length (nodes_of states events) → node_in (nodes_of states events) (number_or_end states events (state (place_of t))) ≡ state (place_of t)
+  pub state_from : (t : Name) → number_or_end states events (state (place_of t)) < length (nodes_of states events) → node_in (nodes_of states events) (number_or_end states events (state (place_of t))) ≡ state (place_of t)
   state_from t l =
       let w = written (place_of t) in
       let i = index_in states w in
@@ -147,11 +152,11 @@ module _ (states events : List Name) (apart : IsDistinct bytes_eq states) (other
       let e : number_or_end states events (state (place_of t)) ≡ i = or_within (length states + length events) (length states) i (nat_lt i (length states)) refl h in
       ap (node_in (nodes_of states events)) e ∙ (stand.at (state (place_of t)) (state_known t (omega (arith, h, index_at states t)))).1
 
-  state_to : (t : Name) → Contains (nodes_of states events) (state (place_of t)) → number_or_end states events (state (place_of t)) ≡ number states events (state (place_of t))
+  pub state_to : (t : Name) → Contains (nodes_of states events) (state (place_of t)) → number_or_end states events (state (place_of t)) ≡ number states events (state (place_of t))
   state_to t c =
       let own = stand.at (state (place_of t)) c in
       let i = index_in states (written (place_of t)) in
       or_within (length states + length events) (length states) i (nat_lt i (length states)) refl (state_early i (place_of t) own.0 own.1)
 
-  event_from : (t : Name) → number_or_end states events (event (place_of t)) < length (nodes_of states events) → node_in (nodes_of states events) (number_or_end states events (event (place_of t))) ≡ event (place_of t)
+  pub event_from : (t : Name) → number_or_end states events (event (place_of t)) < length (nodes_of states events) → node_in (nodes_of states events) (number_or_end states events (event (place_of t))) ≡ event (place_of t)
   event_from t l = (stand.at (event (place_of t)) (event_known t (omega (arith, l, sized, index_at events t)))).1
