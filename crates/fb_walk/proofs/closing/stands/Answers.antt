@@ -10,4 +10,6 @@ walks-requires c =
     (s, record { given = a; rows = c.in-Ok.ensures.rows s (tables_are fs s a) (words s a.written) })
 
 pub returns-in-Ok-clause-walk : goal.returns-in-Ok-clause-walk
-returns-in-Ok-clause-walk c = ?
+returns-in-Ok-clause-walk c = λ s a.
+    let fs = c.args.flat.now.devices.items in
+    c.in_ok-walks-in-Ok.ensures s (record { given = a; rows = c.in-Ok.ensures.rows s (tables_are fs s a) (words s a.written) })
