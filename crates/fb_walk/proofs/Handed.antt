@@ -7,7 +7,7 @@ use Rattle.fb_model.specs.Spelling.{upper}
 use Rattle.fb_model.specs.System as book
 use Rattle.fb_model.specs.Certificates.{Certificate, Fits, all_leaves}
 use Rattle.fb_leaves.proofs.Closed.{all_charts_closed}
-use Rattle.fb_demands.specs.Demands.{Node, bare_demands, node_in, IsClosedWalk}
+use Rattle.fb_demands.specs.Demands.{bare_demands, node_in, IsClosedWalk}
 use Rattle.fb_demands.proofs.Walks.{walks_exclude}
 use Rattle.fb_least.specs.declared.system.Alternative.{Alternative}
 use Rattle.fb_least.specs.Views.{inequality_of, system_of}

@@ -1,6 +1,6 @@
 -- From places that are shown to numbers, and back.
-use Rattle.std.proofs.Common.{ℕ, zero, suc, ◌≡◌, ◌+◌, ◌-◌, ◌<◌, ◌≤◌, ◌⊎◌, inl, inr, ◌↔◌, Bool, true, false, not, cond, List, [], ◌∷◌, ◌++◌, length, map, slice_index, slice_index_or, nat_lt, refl, sym, ◌∙◌, ap, subst, arith, Contains, string_bytes, Result, Ok, Err, IfOk}
-use Rattle.std.specs.List.{IsDistinct, prefix_len}
+use Rattle.std.proofs.Common.{ℕ, zero, suc, ◌≡◌, ◌+◌, ◌-◌, ◌<◌, ◌≤◌, ◌⊎◌, inl, inr, ◌↔◌, Bool, true, false, not, cond, List, [], ◌∷◌, length, map, slice_index, slice_index_or, nat_lt, refl, sym, ◌∙◌, ap, subst, arith, Contains}
+use Rattle.std.specs.List.{IsDistinct}
 use Rattle.std.specs.Str.{bytes_eq}
 use Rattle.std.proofs.lemmas.Bool.Decides.{nat_tests}
 use Rattle.std.proofs.lemmas.List.{length-map, length-append, get_or-map, get_or-append-add}
@@ -14,7 +14,6 @@ use Rattle.fb_least.specs.Systems as numbered
 use Rattle.fb_numbered.specs.Numbered.{AreNumbers, AreOf, SaysSame}
 use Rattle.fb_numbered.proofs.Numbering.{walk_nodes, walk_numbers}
 use Rattle.fb_finding.specs.Nodes.{written, index_in, nodes_of, number}
-use Rattle.fb_finding.proofs.Lists.{default_free}
 use Rattle.fb_finding.proofs.Nodes.{written_place, are_numbers}
 use Rattle.fb_walk.specs.Shown.{index_or, number_or_end}
 

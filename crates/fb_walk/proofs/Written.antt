@@ -1,12 +1,9 @@
 -- What is known of a system that stands in a text, and of its tables.
-use Rattle.std.proofs.Common.{◌≡◌, ℕ, List, map}
+use Rattle.std.proofs.Common.{List}
 use Rattle.std.specs.List.{AllByRecursion}
 use Rattle.fb_model.specs.StructuredTextGrammar.{most_nested, most_nested_statements}
-use Rattle.fb_model.specs.Declarations.{SourceTree}
 use Rattle.fb_model.specs.System.{System}
 use Rattle.fb_model.specs.NetworkTyping.{ElaboratesWith}
-use Rattle.fb_leaves.specs.Leaves.{IsClosed}
-use Rattle.fb_leaves.proofs.Closed.{all_charts_closed}
 use Rattle.fb_events.specs.declared.library.TheConstants.{EVENT_BLOCKS}
 use Rattle.fb_events.proofs.EventTrees.{event_trees, event_source}
 use Rattle.fb_events.proofs.Declared.{trees_declare}

@@ -7,8 +7,7 @@ ghost use Rattle.fb_model.specs.Certificates.{Certificate, Fits, all_leaves};
 ghost use Rattle.fb_demands.specs.Demands.{bare_demands, IsClosedWalk};
 ghost use Rattle.fb_places.specs.fb_blocks.declared.fault.TypeFault.TheVariants.{OutOfMemory};
 ghost use Rattle.fb_places.specs.fb_types.Views.{system_of};
-ghost use Rattle.fb_places.specs.fb_types.Written.{IsWritten};
-ghost use Rattle.fb_places.specs.fb_flat.Leaves.{flat_device, written_device, IsFull, IsLimitAt};
+ghost use Rattle.fb_places.specs.fb_flat.Leaves.{IsFull, IsLimitAt};
 ghost use Rattle.fb_walk.specs.Shown.{shown_node, AreTables, IsNumbered};
 
 use crate::numbers::numbers_of;

@@ -1,6 +1,6 @@
 //! The numbers of places that are shown.
 
-ghost use Rattle.std.specs.Prelude.{◌≡◌, ◌<◌, ◌^◌, map, IfOk};
+ghost use Rattle.std.specs.Prelude.{◌≡◌, map, IfOk};
 ghost use Rattle.fb_model.specs.CertificateText.{place_of};
 ghost use Rattle.fb_demands.specs.Demands.{event, state};
 ghost use Rattle.fb_walk.specs.Shown.{shown_node, sought};

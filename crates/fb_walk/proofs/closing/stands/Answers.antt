@@ -1,4 +1,3 @@
-use Rattle.std.proofs.Common.{◌≡◌}
 use Rattle.fb_walk.proofs.Written.{tables_are, words}
 use Rattle.fb_walk.proofs.closing.stands.Goals as goal
 

@@ -1,4 +1,4 @@
-use Rattle.std.proofs.Common.{◌≡◌, ◌+◌, length, map, refl, ◌∙◌}
+use Rattle.std.proofs.Common.{refl, ◌∙◌}
 use Rattle.fb_least.specs.Views.{system_of}
 use Rattle.fb_places.specs.Rights.{rights_of}
 use Rattle.fb_walk.proofs.Written.{tables_are}

@@ -1,4 +1,4 @@
-use Rattle.std.proofs.Common.{◌≡◌, ◌+◌, ◌<◌, length, map, string_bytes, ◌∙◌, arith}
+use Rattle.std.proofs.Common.{◌≡◌, length, string_bytes, arith}
 use Rattle.std.proofs.lemmas.List.{length-map}
 use Rattle.fb_places.specs.fb_blocks.Views.{names_of}
 use Rattle.fb_places.proofs.Numbers.{index_some, index_none}
