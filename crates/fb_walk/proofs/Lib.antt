@@ -1,0 +1,3 @@
+pub mod Written
+pub mod Walks
+pub mod Handed

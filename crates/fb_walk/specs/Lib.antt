@@ -1,0 +1,2 @@
+pub use Rattle.fb_places.specs as fb_places
+pub mod Shown
