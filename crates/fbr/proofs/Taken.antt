@@ -9,7 +9,7 @@ use Rattle.clap.specs.declared.error.kind.ErrorKind.TheVariants.{OutOfMemory, Di
 use Rattle.clap.proofs.OnLiterals.{clap_on_literals}
 use Rattle.fbr.specs.declared.fault.Fault.TheVariants.{Memory}
 use Rattle.fbr.specs.Outcomes.{Tells, TellsFiles, refusal}
-use Rattle.fbr.specs.Program.{program, IsCheck, IsSim, IsMisuse}
+use Rattle.fbr.specs.Program.{program, IsBound, IsCheck, IsSim, IsMisuse}
 use Rattle.fbr.proofs.Told.{tells_files}
 use Rattle.fbr.proofs.Verdicts.{files_memory}
 
@@ -54,6 +54,11 @@ memory_told one two held_one held_two old new r h = tells_files one two held_one
 pub or_three : {E : Type 0} (r : Result ℕ E) (n : ℕ) (P : ℕ → Type 0) → n ≡ result_unwrap_or r 3 → IfOk r P → P n ⊎ (n ≡ 3)
 or_three (Ok status) n P e h = inl (subst P (sym e) h)
 or_three (Err x) n P e h = inr e
+
+-- such words ask for a certificate of this file
+is_bound : IsBound (codes "fbr" ∷ codes "bound" ∷ codes "cell.fb" ∷ []) (codes "cell.fb")
+unfolding clap_on_literals
+is_bound = record { taken = refl; file_is = refl }
 
 -- such words are a check of these files
 is_taken : IsCheck (codes "fbr" ∷ codes "check" ∷ codes "cell.fb" ∷ codes "cell.cert" ∷ []) (codes "cell.fb") (codes "cell.cert")

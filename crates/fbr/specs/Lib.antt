@@ -3,4 +3,5 @@ pub mod Halves
 pub mod Outcomes
 pub mod Program
 pub mod Simulation
+pub mod Bounding
 pub mod Codes

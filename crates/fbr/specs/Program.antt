@@ -8,9 +8,17 @@ use Rattle.clap.specs.declared.error.kind.ErrorKind.TheVariants.{DisplayHelp, Di
 abbrev pub file : Text → Rule
 file id = record (new_rule id) { required = true }
 
+-- a subcommand of this name and its file
+abbrev pub over_file : Text → App
+over_file name = with_rule (new_app name) (file (codes "APP"))
+
 -- a subcommand of this name and its two files
 abbrev pub over_files : Text → App
-over_files name = with_rule (with_rule (new_app name) (file (codes "APP"))) (file (codes "CERT"))
+over_files name = with_rule (over_file name) (file (codes "CERT"))
+
+-- `bound` and its file
+abbrev pub bound : App
+bound = over_file (codes "bound")
 
 -- `check` and its two files
 abbrev pub check : App
@@ -25,12 +33,20 @@ abbrev pub top : App
 top = record { top = record (new_app (codes "fbr")).top { has_version = true; subcommand_required = true }; subs = [] }
 
 abbrev pub program : App
-program = with_subcommand (with_subcommand top check.top) sim.top
+program = with_subcommand (with_subcommand (with_subcommand top bound.top) check.top) sim.top
 
 -- two arguments, where both were given
 abbrev pub both : Option Text → Option Text → Option (Text × Text)
 both (Some one) (Some two) = Some (one, two)
 both one two = None
+
+-- the file of a subcommand, where it has this name
+abbrev pub file_in : Text → Text × List Row → Option Text
+file_in name entered = if bytes_eq entered.0 name then first_of (codes "APP") entered.1 else None
+
+-- the file that the words name to a subcommand of this name
+abbrev pub file_of : Text → List Text → Option Text
+file_of name words = option_and_then (file_in name) (subcommand_of program words)
 
 -- the files of a subcommand, where it has this name
 abbrev pub files_in : Text → Text × List Row → Option (Text × Text)
@@ -40,6 +56,11 @@ files_in name entered =
 -- the files that the words name to a subcommand of this name
 abbrev pub files_of : Text → List Text → Option (Text × Text)
 files_of name words = option_and_then (files_in name) (subcommand_of program words)
+
+-- the words ask for a certificate of this file
+pub record IsBound (words : List Text) (app : Text) : Type 0 where
+  pub taken : fault_of program words ≡ []
+  pub file_is : file_of (codes "bound") words ≡ Some app
 
 -- the words are a check of these two files
 pub record IsCheck (words : List Text) (app cert : Text) : Type 0 where

@@ -1,9 +1,10 @@
 //! The faults of the program, and how each is told.
 
 ghost use Rattle.std.specs.Prelude.{◌≡◌, ◌≤◌};
-ghost use Rattle.fbr.specs.Statuses.{status_of_code};
+ghost use Rattle.fbr.specs.Statuses.{status_of_code, status_of_no_bound};
 
 use fb_script::fb_device::fb_tables::fb_check::Refusal;
+use fb_solved::NoBound;
 use std::alloc::AllocError;
 use std::fmt;
 
@@ -24,6 +25,8 @@ pub enum Fault<'a> {
     Refused(Refusal),
     /// The device of the system was not loaded. Status 2, or 4 where memory ran out.
     Unloaded(fb_script::fb_device::Refusal),
+    /// The finder has no certificate of the system. Status 1, or 4 where memory ran out.
+    Unbound(NoBound),
 }
 
 impl Fault<'_> {
@@ -40,6 +43,7 @@ impl Fault<'_> {
             Fault::Usage => 63,
             Fault::Refused(refusal) => refusal.code(),
             Fault::Unloaded(refusal) => refusal.code(),
+            Fault::Unbound(fault) => fault.code(),
         }
     }
 
@@ -55,6 +59,7 @@ impl Fault<'_> {
             Fault::Usage => 2,
             Fault::Refused(refusal) => status_of_code(refusal.code()),
             Fault::Unloaded(refusal) => status_of_code(refusal.code()),
+            Fault::Unbound(fault) => status_of_no_bound(fault.code()),
         }
     }
 }
@@ -71,6 +76,14 @@ fn status_of_code(code: u8) -> u8
     } else {
         2
     }
+}
+
+// Want of memory is 4, and a system without a certificate is 1.
+fn status_of_no_bound(code: u8) -> u8
+    ensures said { result ≡ status_of_no_bound code }
+    ensures most { result ≤ 4 }
+{
+    if code == 9 { 4 } else { 1 }
 }
 
 /// The line that tells the fault: `refused`, its code, and its place where there is one.
@@ -92,6 +105,7 @@ impl fmt::Display for Fault<'_> {
             Fault::Usage => write!(f, "refused 63"),
             Fault::Refused(refusal) => write!(f, "refused {refusal}"),
             Fault::Unloaded(refusal) => write!(f, "refused {refusal}"),
+            Fault::Unbound(fault) => write!(f, "refused {fault}"),
         }
     }
 }

@@ -1,6 +1,7 @@
 //! The commands of `fbr`, over the runtime, the words, a source of files, a reader and a writer.
 #![tactic(auto)]
 
+mod bound;
 mod check;
 mod fault;
 mod sim;

@@ -5,9 +5,11 @@ ghost use Rattle.clap.specs.Words.{Text, app_of, rule_of, subcommand_rows_of, ro
 ghost use Rattle.clap.specs.Values.{kind_of};
 ghost use Rattle.fbr.specs.Outcomes.{Tells, TellsInput, TellsFiles, TellsUsage, refusal};
 ghost use Rattle.fbr.specs.Simulation.{TellsSim};
-ghost use Rattle.fbr.specs.Program.{IsCheck, IsSim, IsMisuse};
+ghost use Rattle.fbr.specs.Bounding.{TellsBound};
+ghost use Rattle.fbr.specs.Program.{IsBound, IsCheck, IsSim, IsMisuse};
 ghost use Rattle.fbr.specs.Program as program;
 
+use crate::bound::bound_file;
 use crate::check::{check_files, check_input, print_outcome};
 use crate::fault::Fault;
 use crate::sim::sim_files;
@@ -29,20 +31,28 @@ fn file<'a>(alloc: Global, id: &'a str, help: &'a str) -> Arg<'a>
     Arg::new(alloc, id).required(true).help(help)
 }
 
+// A subcommand that wants a file.
+fn over_file<'a>(alloc: Global, name: &'a str, about: &'a str) -> Result<Command<'a>, AllocError>
+    ensures { IfOk result (λ c. app_of c ≡ program.over_file name.now) }
+{
+    Command::new(alloc, name)
+        .about(about)
+        .arg(file(alloc, "APP", "The application's text"))
+}
+
 // A subcommand that wants two files.
 fn over_files<'a>(alloc: Global, name: &'a str, about: &'a str) -> Result<Command<'a>, AllocError>
     ensures { IfOk result (λ c. app_of c ≡ program.over_files name.now) }
 {
-    Command::new(alloc, name)
-        .about(about)
-        .arg(file(alloc, "APP", "The application's text"))?
-        .arg(file(alloc, "CERT", "The certificate's text"))
+    over_file(alloc, name, about)?.arg(file(alloc, "CERT", "The certificate's text"))
 }
 
 // The words that the program knows.
 fn commands<'a>(alloc: Global) -> Result<Command<'a>, AllocError>
     ensures { IfOk result (λ c. app_of c ≡ program.program) }
 {
+    let about_bound = "Finds a certificate whose numbers are the least, and prints it";
+    let bound = over_file(alloc, "bound", about_bound)?;
     let about_check = "Checks that a certificate fits an application";
     let check = over_files(alloc, "check", about_check)?;
     let about_sim = "Checks two texts, and runs the script on standard input";
@@ -51,6 +61,7 @@ fn commands<'a>(alloc: Global) -> Result<Command<'a>, AllocError>
         .about("Proves bounds of function block applications before they run")
         .version(VERSION)
         .subcommand_required(true)
+        .subcommand(bound)?
         .subcommand(check)?
         .subcommand(sim)
 }
@@ -87,6 +98,22 @@ fn files_in<'a>(words: &ArgMatches<'a>) -> Option<(&'a str, &'a str)>
     ensures { option_map (λ files. (files.0.now, files.1.now)) result ≡ program.both (first_of (codes "APP") (rows_of (found_of words.now))) (first_of (codes "CERT") (rows_of (found_of words.now))) }
 {
     both(given(words, "APP"), given(words, "CERT"))
+}
+
+// The file of a subcommand, where it has this name.
+fn file_named<'a>(matches: &ArgMatches<'a>, wanted: &str) -> Option<&'a str>
+    ensures { option_map (λ file. file.now) result ≡ option_and_then (program.file_in wanted.now) (subcommand_rows_of matches.now) }
+{
+    match entered(matches) {
+        Some((name, words)) => {
+            if name == wanted {
+                given(words, "APP")
+            } else {
+                None
+            }
+        }
+        None => None,
+    }
 }
 
 // The two files of a subcommand, where it has this name.
@@ -129,6 +156,8 @@ fn run_words<S: Sources, I: Read, W: Write>(
     input: &mut I,
     output: &mut W,
 ) -> io::Result<u8>
+    ensures bounds { (app : Text) → IsBound (map (λ word. word.now) words.now) app
+        → IfOk result (λ status. TellsBound app (S.contents files.now app) (W.contents output.old) (W.contents output.new) status) }
     ensures checks { (app cert : Text) → IsCheck (map (λ word. word.now) words.now) app cert
         → IfOk result (λ status. TellsFiles app cert (S.contents files.now app) (S.contents files.now cert) (W.contents output.old) (W.contents output.new) status) }
     ensures sims { (app cert : Text) → IsSim (map (λ word. word.now) words.now) app cert
@@ -145,6 +174,9 @@ fn run_words<S: Sources, I: Read, W: Write>(
         Ok(matches) => matches,
         Err(error) => return refused(&error, output),
     };
+    if let Some(app) = file_named(&matches, "bound") {
+        return bound_file(alloc, files, app, output);
+    }
     match files_named(&matches, "check") {
         Some((app, cert)) => check_files(alloc, files, app, cert, output),
         None => match files_named(&matches, "sim") {
@@ -155,10 +187,10 @@ fn run_words<S: Sources, I: Read, W: Write>(
 }
 
 /// Runs the command that the words name, of which the first is the program's own, and gives the status that the program ends with:
-/// 0 done, 1 the certificate does not fit, 2 a text or the words are at fault, 3 a file or the output failed, 4 memory ran out.
+/// 0 done, 1 the certificate does not fit or there is none, 2 a text or the words are at fault, 3 a file or the output failed, 4 memory ran out.
 ///
 /// Without words, `input` holds an application up to the first line that is exactly `====`, and then its certificate.
-/// With `sim` it holds a script, whose answers are written one line each.
+/// With `bound` the certificate that is found is written. With `sim` `input` holds a script, whose answers are written one line each.
 /// Each fault is told by one line on `output`: `refused`, its code, and its place where there is one.
 pub fn command<R: AllocGlobal, S: Sources, I: Read, W: Write>(
     rt: &R,
@@ -170,6 +202,9 @@ pub fn command<R: AllocGlobal, S: Sources, I: Read, W: Write>(
     ensures status { result ≤ 4 }
     // Unless the writer fails, one outcome is told and nothing else: without words that of the input,
     ensures input { length words.now < 2 → TellsInput (I.remaining input.old) (W.contents output.old) (W.contents output.new) result ⊎ (result ≡ 3) }
+    // with those that ask for a certificate the text of one that is found, or why there is none,
+    ensures bounds { (app : Text) → 2 ≤ length words.now → IsBound (map (λ word. word.now) words.now) app
+        → TellsBound app (S.contents files.now app) (W.contents output.old) (W.contents output.new) result ⊎ (result ≡ 3) }
     // with the words of a check that of the two files that they name,
     ensures checks { (app cert : Text) → 2 ≤ length words.now → IsCheck (map (λ word. word.now) words.now) app cert
         → TellsFiles app cert (S.contents files.now app) (S.contents files.now cert) (W.contents output.old) (W.contents output.new) result ⊎ (result ≡ 3) }

@@ -1,5 +1,6 @@
 use Rattle.fbr.specs.Outcomes.{TellsFiles}
 use Rattle.fbr.specs.Simulation.{TellsSim}
+use Rattle.fbr.specs.Bounding.{TellsBound}
 use Rattle.fbr.proofs.Taken.{or_three}
 use Rattle.fbr.proofs.words.command.Goals as goal
 
@@ -14,3 +15,9 @@ returns-clause-sims g c = λ app cert two is.
     or_three c.run_words.result c.unwrap_or-2.result
     (λ status. TellsSim app cert (g.S.Sources.contents c.args.files.now app) (g.S.Sources.contents c.args.files.now cert) (g.I.Read.remaining c.args.input.now) (g.W.Write.contents c.args.output.now) (g.W.Write.contents c.run_words.new.output) status)
     c.unwrap_or-2.ensures (c.run_words.ensures.sims app cert is)
+
+pub returns-clause-bounds : goal.returns-clause-bounds
+returns-clause-bounds g c = λ app two is.
+    or_three c.run_words.result c.unwrap_or-2.result
+    (λ status. TellsBound app (g.S.Sources.contents c.args.files.now app) (g.W.Write.contents c.args.output.now) (g.W.Write.contents c.run_words.new.output) status)
+    c.unwrap_or-2.ensures (c.run_words.ensures.bounds app is)

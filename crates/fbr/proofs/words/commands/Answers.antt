@@ -1,15 +1,17 @@
 use Rattle.std.proofs.Common.{◌≡◌, ◌∙◌, ap, ap₂, rules}
 use Rattle.std.proofs.lemmas.Result.{IfOk-weaker}
 use Rattle.clap.specs.Words.{App, app_of, with_subcommand}
-use Rattle.fbr.specs.Program.{check, sim, top}
+use Rattle.fbr.specs.Program.{bound, check, sim, top}
 use Rattle.fbr.proofs.Taken.{third}
 use Rattle.fbr.proofs.words.commands.Goals as goal
 
 pub returns : goal.returns
 returns c =
+    let bound_is : app_of c.in_ok-bound.bound ≡ bound = c.in_ok-bound.ensures in
     let check_is : app_of c.in_ok-check.check ≡ check = c.in_ok-check.ensures in
     let sim_is : app_of c.in_ok-sim.sim ≡ sim = c.in_ok-sim.ensures in
     let top_is : app_of c.subcommand_required.result ≡ top = search rules in
-    IfOk-weaker c.subcommand-2.result _ _
-    (λ r h. h.shape (third _ _ _ _ (ap (λ (a : App). a.top.is_plain) sim_is))
-    ∙ ap₂ with_subcommand (c.in_ok-subcommand.ensures.shape (third _ _ _ _ (ap (λ (a : App). a.top.is_plain) check_is)) ∙ ap₂ with_subcommand top_is (ap (λ (a : App). a.top) check_is)) (ap (λ (a : App). a.top) sim_is)) c.subcommand-2.ensures
+    let first_is = c.in_ok-subcommand.ensures.shape (third _ _ _ _ (ap (λ (a : App). a.top.is_plain) bound_is)) ∙ ap₂ with_subcommand top_is (ap (λ (a : App). a.top) bound_is) in
+    let second_is = c.in_ok-subcommand-2.ensures.shape (third _ _ _ _ (ap (λ (a : App). a.top.is_plain) check_is)) ∙ ap₂ with_subcommand first_is (ap (λ (a : App). a.top) check_is) in
+    IfOk-weaker c.subcommand-3.result _ _
+    (λ r h. h.shape (third _ _ _ _ (ap (λ (a : App). a.top.is_plain) sim_is)) ∙ ap₂ with_subcommand second_is (ap (λ (a : App). a.top) sim_is)) c.subcommand-3.ensures

@@ -1,0 +1,48 @@
+-- What the finder's command tells: this project's profile.
+use Rattle.std.specs.Prelude.{◌≡◌, ℕ, List, Option}
+use Rattle.std.specs.Io.KnownBytes.{Appends}
+use Rattle.fb_model.specs.System.{System}
+use Rattle.fb_find.specs.Bounds.{IsNoBound}
+use Rattle.fb_find.specs.fb_check.Verdicts.{IsTypedOf, IsTextFault}
+use Rattle.fb_find.specs.fb_check.fb_types.declared.typed.Configuration.{Configuration}
+use Rattle.fb_find.specs.fb_check.fb_types.Views.{system_of}
+use Rattle.fb_finding.specs.Finding.{IsFound}
+use Rattle.fb_cert.specs.Views.{Rows, book_of}
+use Rattle.fb_cert.specs.Printed.{printed}
+use Rattle.fbr.specs.declared.fault.Fault.{Fault}
+use Rattle.fbr.specs.declared.fault.Fault.TheVariants.{Memory, Refused, Unbound}
+use Rattle.fbr.specs.Outcomes.{Tells, refusal, IsContents, IsReadFault}
+
+-- the text is that of a certificate of the system, which has the least numbers
+pub record IsTextFor (system : System) (text : List ℕ) : Type 0 where
+  pub rows : Rows
+  pub found : IsFound system (book_of rows)
+  pub spelled : text ≡ printed rows
+
+-- want of memory, or why there is no certificate of the system
+abbrev pub IsUnbound : System → Fault → Type 0
+IsUnbound system Memory = Unit {0}
+IsUnbound system (Unbound fault) = IsNoBound system fault
+IsUnbound system other = ⊥
+
+-- the text is that of a certificate of the application's system
+pub record IsBoundText (app text : List ℕ) : Type 0 where
+  pub typed : Configuration
+  pub typed_is : IsTypedOf app typed
+  pub certificate : IsTextFor (system_of typed) text
+
+-- want of memory, a fault of the application's text, or why there is no certificate of its system
+abbrev pub IsBoundFault : List ℕ → Fault → Type 0
+IsBoundFault app Memory = Unit {0}
+IsBoundFault app (Refused refusal) = IsTextFault app refusal
+IsBoundFault app (Unbound fault) = (typed : Configuration) × IsTypedOf app typed × IsNoBound (system_of typed) fault
+IsBoundFault app other = ⊥
+
+-- what is told over a file of this name, and nothing else
+pub data TellsBound (name : List ℕ) (held old new : Option (List ℕ)) (status : ℕ) : Type 0 where
+  -- the certificate's text
+  a_text : (app text : List ℕ) → IsContents held app → IsBoundText app text → status ≡ 0 → Appends old new text → TellsBound name held old new status
+  -- why there is none
+  no_text : (app : List ℕ) (f : Fault) → IsContents held app → IsBoundFault app f → Tells (refusal f) old new status → TellsBound name held old new status
+  -- the file was not read
+  unread : (f : Fault) → IsReadFault name f → Tells (refusal f) old new status → TellsBound name held old new status

@@ -1,0 +1,111 @@
+//! Finds a certificate of an application, and prints it.
+
+ghost use Rattle.std.specs.Prelude.{◌≡◌, ◌≤◌, IfOk, MatchResult, string_bytes};
+ghost use Rattle.std.specs.Io.KnownBytes.{Appends};
+ghost use Rattle.fb_find.specs.fb_check.Verdicts.{IsTypedOf, IsTextFault};
+ghost use Rattle.fb_find.specs.fb_check.fb_types.Views.{system_of};
+ghost use Rattle.fb_finding.specs.Finding.{IsFound};
+ghost use Rattle.fb_cert.specs.Views.{rows_of, certificate_of};
+ghost use Rattle.fb_cert.specs.Printed.{printed};
+ghost use Rattle.fbr.specs.Bounding.{IsTextFor, IsUnbound, IsBoundText, IsBoundFault, TellsBound};
+ghost use Rattle.fbr.specs.declared.fault.Fault.TheVariants.{Memory};
+
+use crate::check::{print_outcome, read_text};
+use crate::fault::Fault;
+use crate::sources::Sources;
+use fb_cert::{Certificate, print_cert};
+use fb_find::fb_check::fb_columns::fb_flat::fb_types::Typed;
+use fb_find::fb_check::{Refusal, read_system};
+use fb_find::find;
+use fb_solved::NoBound;
+use std::alloc::Global;
+use std::io;
+use std::io::Write;
+
+// The typed system of an application's text.
+fn typed_in<'a>(alloc: Global, app: &str) -> Result<Typed, Fault<'a>>
+    ensures { MatchResult result (IsTypedOf app.now) (IsBoundFault app.now) }
+{
+    match read_system(alloc, app) {
+        Ok(typed) => Ok(typed),
+        Err(Refusal::OutOfMemory) => Err(Fault::Memory),
+        Err(refusal) => Err(Fault::Refused(refusal)),
+    }
+}
+
+// The certificate that is found of a system.
+fn found_for<'a>(alloc: Global, typed: &Typed) -> Result<Certificate, Fault<'a>>
+    ensures { MatchResult result (λ c. IsFound (system_of typed.now) (certificate_of c)) (IsUnbound (system_of typed.now)) }
+{
+    match find(alloc, typed, None) {
+        Ok(certificate) => Ok(certificate),
+        Err(NoBound::OutOfMemory) => Err(Fault::Memory),
+        Err(fault) => Err(Fault::Unbound(fault)),
+    }
+}
+
+// The text of a certificate.
+fn text_of<'a>(alloc: Global, certificate: &Certificate) -> Result<String, Fault<'a>>
+    ensures { MatchResult result (λ text. string_bytes text ≡ printed (rows_of certificate.now)) (λ f. f ≡ Memory) }
+{
+    match print_cert(alloc, certificate) {
+        Ok(text) => Ok(text),
+        Err(_) => Err(Fault::Memory),
+    }
+}
+
+// The text of the certificate that is found of a system.
+fn text_for<'a>(alloc: Global, typed: &Typed) -> Result<String, Fault<'a>>
+    ensures { MatchResult result (λ text. IsTextFor (system_of typed.now) (string_bytes text)) (IsUnbound (system_of typed.now)) }
+{
+    match found_for(alloc, typed) {
+        Ok(certificate) => {
+            let text = text_of(alloc, &certificate);
+            certificate.let_go();
+            text
+        }
+        Err(fault) => Err(fault),
+    }
+}
+
+/// The text of the certificate that is found of an application.
+pub fn bound_text<'a>(alloc: Global, app: &str) -> Result<String, Fault<'a>>
+    ensures { MatchResult result (λ text. IsBoundText app.now (string_bytes text)) (IsBoundFault app.now) }
+{
+    match typed_in(alloc, app) {
+        Ok(typed) => {
+            let text = text_for(alloc, &typed);
+            typed.let_go();
+            text
+        }
+        Err(fault) => Err(fault),
+    }
+}
+
+// Prints a text as it is.
+fn print_text<W: Write>(text: &str, output: &mut W) -> io::Result<u8>
+    ensures told { IfOk result (λ status. (status ≡ 0) × Appends (W.contents output.old) (W.contents output.new) text.now) }
+    ensures status { IfOk result (λ status. status ≤ 4) }
+{
+    write!(output, "{text}")?;
+    Ok(0)
+}
+
+/// Finds a certificate of the application in a file, and writes its text, or why there is none, and nothing else.
+pub fn bound_file<'a, S: Sources, W: Write>(
+    alloc: Global,
+    files: &S,
+    app: &'a str,
+    output: &mut W,
+) -> io::Result<u8>
+    ensures told { IfOk result (λ status. TellsBound app.now (S.contents files.now app.now) (W.contents output.old) (W.contents output.new) status) }
+    ensures status { IfOk result (λ status. status ≤ 4) }
+{
+    match read_text(alloc, files, app) {
+        Ok(text) => match bound_text(alloc, text.as_str()) {
+            Ok(found) => print_text(found.as_str(), output),
+            Err(fault) => print_outcome(Err(fault), output),
+        },
+        Err(fault) => print_outcome(Err(fault), output),
+    }
+}
