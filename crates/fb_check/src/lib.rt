@@ -8,6 +8,7 @@ mod verdict;
 mod verified;
 
 pub use fb_columns;
+pub use fb_walk::{Place, check_walk};
 pub use law::devices_hold;
 pub use refusal::Refusal;
 pub use texts::read_system;
