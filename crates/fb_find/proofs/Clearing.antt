@@ -50,17 +50,17 @@ chart_starts ranges all path source block x b h =
     let rest = all_parts (λ (v : Variable). within (row_at ranges path v) (whole v.type) ≡ true) block.outputs block.internals fits.1 in
     let held = all_parts (λ (v : Variable). HoldsIn (row_at ranges path v) (start_of v)) block.outputs block.internals b.others_begin in
     elim h [
-      inl i ↦
-        none_lacks (λ (v : Variable). Begins (row_at ranges path v) v.type (first_input (source v.name) (start_of v))) (λ (v : Variable). (v.name ≡ x) × (Begins (row_at ranges path v) v.type (first_input (source v.name) (start_of v)) → ⊥)) block.inputs
-        (λ v p q. q.1 p)
-        (all_both (λ (v : Variable). within (row_at ranges path v) (whole v.type) ≡ true) (λ (v : Variable). HoldsIn (row_at ranges path v) (first_input (source v.name) (start_of v))) (λ (v : Variable). Begins (row_at ranges path v) v.type (first_input (source v.name) (start_of v))) block.inputs (λ v p q. (p, q)) fits.0 b.inputs_begin)
-        i
-    | inr (inl o) ↦
-        none_lacks (λ (v : Variable). Begins (row_at ranges path v) v.type (start_of v)) (λ (v : Variable). (v.name ≡ x) × (Begins (row_at ranges path v) v.type (start_of v) → ⊥)) block.outputs (λ v p q. q.1 p)
-        (all_both (λ (v : Variable). within (row_at ranges path v) (whole v.type) ≡ true) (λ (v : Variable). HoldsIn (row_at ranges path v) (start_of v)) (λ (v : Variable). Begins (row_at ranges path v) v.type (start_of v)) block.outputs (λ v p q. (p, q)) rest.0 held.0) o
-    | inr (inr o) ↦
-        none_lacks (λ (v : Variable). Begins (row_at ranges path v) v.type (start_of v)) (λ (v : Variable). (v.name ≡ x) × (Begins (row_at ranges path v) v.type (start_of v) → ⊥)) block.internals (λ v p q. q.1 p)
-        (all_both (λ (v : Variable). within (row_at ranges path v) (whole v.type) ≡ true) (λ (v : Variable). HoldsIn (row_at ranges path v) (start_of v)) (λ (v : Variable). Begins (row_at ranges path v) v.type (start_of v)) block.internals (λ v p q. (p, q)) rest.1 held.1) o
+      | inl i ↦
+          none_lacks (λ (v : Variable). Begins (row_at ranges path v) v.type (first_input (source v.name) (start_of v))) (λ (v : Variable). (v.name ≡ x) × (Begins (row_at ranges path v) v.type (first_input (source v.name) (start_of v)) → ⊥)) block.inputs
+          (λ v p q. q.1 p)
+          (all_both (λ (v : Variable). within (row_at ranges path v) (whole v.type) ≡ true) (λ (v : Variable). HoldsIn (row_at ranges path v) (first_input (source v.name) (start_of v))) (λ (v : Variable). Begins (row_at ranges path v) v.type (first_input (source v.name) (start_of v))) block.inputs (λ v p q. (p, q)) fits.0 b.inputs_begin)
+          i
+      | inr (inl o) ↦
+          none_lacks (λ (v : Variable). Begins (row_at ranges path v) v.type (start_of v)) (λ (v : Variable). (v.name ≡ x) × (Begins (row_at ranges path v) v.type (start_of v) → ⊥)) block.outputs (λ v p q. q.1 p)
+          (all_both (λ (v : Variable). within (row_at ranges path v) (whole v.type) ≡ true) (λ (v : Variable). HoldsIn (row_at ranges path v) (start_of v)) (λ (v : Variable). Begins (row_at ranges path v) v.type (start_of v)) block.outputs (λ v p q. (p, q)) rest.0 held.0) o
+      | inr (inr o) ↦
+          none_lacks (λ (v : Variable). Begins (row_at ranges path v) v.type (start_of v)) (λ (v : Variable). (v.name ≡ x) × (Begins (row_at ranges path v) v.type (start_of v) → ⊥)) block.internals (λ v p q. q.1 p)
+          (all_both (λ (v : Variable). within (row_at ranges path v) (whole v.type) ≡ true) (λ (v : Variable). HoldsIn (row_at ranges path v) (start_of v)) (λ (v : Variable). Begins (row_at ranges path v) v.type (start_of v)) block.internals (λ v p q. (p, q)) rest.1 held.1) o
     ]
 
 chart_links : (ranges : List Range) (all : List Leaf) (path : Path) (source : Name → Source) (block : Block) (x : Name) → ChartBegins ranges all path source block → ChartFails ranges all path source block Links x → ⊥

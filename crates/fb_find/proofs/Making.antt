@@ -77,7 +77,8 @@ fresh_from : (before ts : List Name) → AllByRecursion (λ t. is_in t before �
 unfolding IsDistinct
 fresh_from before [] b d u = tt
 fresh_from before (t ∷ ts) b d u = (
-  u.0, b.0,
+  u.0,
+  b.0,
   fresh_from (before ++ t ∷ []) ts
       (all_both (λ y. is_in y before ≡ false) (λ y. bytes_eq t y ≡ false) (λ y. is_in y (before ++ t ∷ []) ≡ false) ts (λ y h k. in_more y t before h (bytes_turned t y false k)) b.1 d.0) d.1 u.1,
 )

@@ -1,8 +1,8 @@
 //! The certificate of a system's tables: found, or the reason why there is none.
 #![tactic(auto)]
 
-mod solving;
 mod ordering;
+mod solving;
 
-pub use solving::column;
 pub use ordering::order;
+pub use solving::column;

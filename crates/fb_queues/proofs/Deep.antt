@@ -51,8 +51,8 @@ takes : (cert : certs.Certificate) (m : ℕ) (path : Path) (es : List Name) → 
 takes cert m path [] s h = absurd (omega (arith, s, h))
 takes cert m path (e ∷ es) s h =
     elim (le_max m ((certs.places_of cert).weight (at_place path e)) (most_at cert path es) h) [
-      inl l ↦ record { e = e; is = (0, omega arith, refl); most = l }
-    | inr l ↦ (let t = takes cert m path es s l in record { e = t.e; is = Contains-append_right (e ∷ []) es t.e t.is; most = t.most })
+      | inl l ↦ record { e = e; is = (0, omega arith, refl); most = l }
+      | inr l ↦ (let t = takes cert m path es s l in record { e = t.e; is = Contains-append_right (e ∷ []) es t.e t.is; most = t.most })
     ]
 
 record LeafTakes (cert : certs.Certificate) (m : ℕ) (all : List Leaf) : Type 0 where
@@ -64,8 +64,8 @@ leaf_takes : (cert : certs.Certificate) (m : ℕ) (all : List Leaf) → 1 ≤ m 
 leaf_takes cert m [] s h = absurd (omega (arith, s, h))
 leaf_takes cert m (leaf ∷ rest) s h =
     elim (le_max m (arrival_of cert leaf) (most_arrival cert rest) h) [
-      inl l ↦ record { leaf = leaf; is = (0, omega arith, refl); takes = takes cert m leaf.path (kind_arrivals leaf.kind) s l }
-    | inr l ↦ (let t = leaf_takes cert m rest s l in record { leaf = t.leaf; is = Contains-append_right (leaf ∷ []) rest t.leaf t.is; takes = t.takes })
+      | inl l ↦ record { leaf = leaf; is = (0, omega arith, refl); takes = takes cert m leaf.path (kind_arrivals leaf.kind) s l }
+      | inr l ↦ (let t = leaf_takes cert m rest s l in record { leaf = t.leaf; is = Contains-append_right (leaf ∷ []) rest t.leaf t.is; takes = t.takes })
     ]
 
 -- what all have, one has

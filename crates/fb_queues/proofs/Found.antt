@@ -43,10 +43,10 @@ found_all before (x ∷ ts) h =
     let here : path_eq (names_in x.0) (names_in x.0) ≡ true = same_names x.0 x.0 ∙ bytes_same x.0 in (
       ap (λ b. if b then x.1 else depth_at (depth_rows ts) (names_in x.0)) here,
       all_both (λ (r : Name × ℕ). is_in r.0 (before ++ x.0 ∷ []) ≡ false) (λ (r : Name × ℕ). depth_at (depth_rows ts) (names_in r.0) ≡ r.1) (λ (r : Name × ℕ). depth_at (depth_rows (x ∷ ts)) (names_in r.0) ≡ r.1) ts
-      (λ r k e.
-        let other : path_eq (names_in x.0) (names_in r.0) ≡ false = same_names x.0 r.0 ∙ bytes_turned r.0 x.0 false (in_last r.0 x.0 before k) in
-        ap (λ b. if b then x.1 else depth_at (depth_rows ts) (names_in r.0)) other ∙ e)
-      (fresh_all (before ++ x.0 ∷ []) ts h.2) (found_all (before ++ x.0 ∷ []) ts h.2),
+          (λ r k e.
+          let other : path_eq (names_in x.0) (names_in r.0) ≡ false = same_names x.0 r.0 ∙ bytes_turned r.0 x.0 false (in_last r.0 x.0 before k) in
+          ap (λ b. if b then x.1 else depth_at (depth_rows ts) (names_in r.0)) other ∙ e)
+          (fresh_all (before ++ x.0 ∷ []) ts h.2) (found_all (before ++ x.0 ∷ []) ts h.2),
     )
 
 -- and nothing is found where no row has the path

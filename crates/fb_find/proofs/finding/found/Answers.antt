@@ -31,8 +31,7 @@ with_numbers-requires c =
     let given = c.requires.1 in
     let slice = c.as_slice.result.now in
     let found = found_read s c.in_ok-tables.tables.items slice c.as_slice.ensures.value (c.in_ok-tables.ensures given.library given.source s given.typed given.tables) in
-    let h = c.in_ok-numbering.ensures s given in
-    (
+    let h = c.in_ok-numbering.ensures s given in (
       s,
       spelled (map spans_of slice) (all_leaves s.devices),
       ready_is c.args.flat.now.devices.items c.in_ok-numbering.numbering s c.in_ok-order.order.items c.as_slice-2.result.now h c.as_slice-2.ensures.value (c.in_ok-order.ensures.ordered s h.numbered),

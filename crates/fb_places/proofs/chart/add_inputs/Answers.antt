@@ -24,8 +24,8 @@ loop-index-preserved c =
     let xs = c.args.inputs.now.entries in
     let i = c.loop-index.index in
     let x : String Global × Vec (String Global) Global = (c.in-Some.event.now, c.in-Some.field-0-1.now) in
-    let one : rights_of c.add_input.new.rights.items ≡ rights_of c.loop-index.rights.items ++ numbered n (f (string_bytes x.0)) = 
-        subst (λ (e : Name). rights_of c.add_input.new.rights.items ≡ rights_of c.loop-index.rights.items ++ numbered n (f e)) c.as_str.ensures.value
-        (subst (λ (ts : List Transition). rights_of c.add_input.new.rights.items ≡ rights_of c.loop-index.rights.items ++ numbered n (of_least g c.as_str.result.now ∷ flat_map (of_crossing g c.as_str.result.now) (map transition_of ts))) c.as_slice.ensures.value c.in_ok-add_input.ensures) in
+    let one : rights_of c.add_input.new.rights.items ≡ rights_of c.loop-index.rights.items ++ numbered n (f (string_bytes x.0)) =
+    subst (λ (e : Name). rights_of c.add_input.new.rights.items ≡ rights_of c.loop-index.rights.items ++ numbered n (f e)) c.as_str.ensures.value
+    (subst (λ (ts : List Transition). rights_of c.add_input.new.rights.items ≡ rights_of c.loop-index.rights.items ++ numbered n (of_least g c.as_str.result.now ∷ flat_map (of_crossing g c.as_str.result.now) (map transition_of ts))) c.as_slice.ensures.value c.in_ok-add_input.ensures) in
     turn (λ (es : List (String Global × Vec (String Global) Global)). numbered n (flat_map f (event_names (map event_in es)))) xs i x (numbered n (f (string_bytes x.0))) (rights_of c.loop-index.rights.items) (rights_of c.add_input.new.rights.items) _
     (rest_at xs i x c.in-Some.ensures.entry) (map-append (by_number (numbers_of n)) (f (string_bytes x.0)) (flat_map f (event_names (map event_in (drop (i + 1) xs))))) one c.loop-index.invariant
