@@ -69,4 +69,5 @@ def main():
             print("%s, %d bytes: %.1f ms, %.0f ns a byte" % (make.__name__, len(text), took * 1e3, took * 1e9 / len(text)))
 
 
-main()
+if __name__ == "__main__":
+    main()

@@ -70,4 +70,5 @@ def main():
         print("%4d instances, %4d connections, %3d states, %4d transitions, %6d bytes: %.1f ms" % (instances, connections, states, 4 * states, len(source), took * 1000))
 
 
-main()
+if __name__ == "__main__":
+    main()
