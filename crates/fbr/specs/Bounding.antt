@@ -3,9 +3,9 @@ use Rattle.std.specs.Prelude.{◌≡◌, ℕ, List, Option}
 use Rattle.std.specs.Io.KnownBytes.{Appends}
 use Rattle.fb_model.specs.System.{System}
 use Rattle.fb_find.specs.Bounds.{IsNoBound}
-use Rattle.fb_find.specs.fb_check.Verdicts.{IsTypedOf, IsTextFault}
-use Rattle.fb_find.specs.fb_check.fb_types.declared.typed.Configuration.{Configuration}
-use Rattle.fb_find.specs.fb_check.fb_types.Views.{system_of}
+use Rattle.fb_script.specs.fb_check.Verdicts.{IsTypedOf, IsTextFault}
+use Rattle.fb_script.specs.fb_types.declared.typed.Configuration.{Configuration}
+use Rattle.fb_script.specs.fb_types.Views.{system_of}
 use Rattle.fb_finding.specs.Finding.{IsFound}
 use Rattle.fb_cert.specs.Views.{Rows, book_of}
 use Rattle.fb_cert.specs.Printed.{printed}

@@ -2,8 +2,8 @@
 
 ghost use Rattle.std.specs.Prelude.{◌≡◌, ◌≤◌, IfOk, MatchResult, string_bytes};
 ghost use Rattle.std.specs.Io.KnownBytes.{Appends};
-ghost use Rattle.fb_find.specs.fb_check.Verdicts.{IsTypedOf, IsTextFault};
-ghost use Rattle.fb_find.specs.fb_check.fb_types.Views.{system_of};
+ghost use Rattle.fb_script.specs.fb_check.Verdicts.{IsTypedOf};
+ghost use Rattle.fb_script.specs.fb_types.Views.{system_of};
 ghost use Rattle.fb_finding.specs.Finding.{IsFound};
 ghost use Rattle.fb_cert.specs.Views.{rows_of, certificate_of};
 ghost use Rattle.fb_cert.specs.Printed.{printed};
