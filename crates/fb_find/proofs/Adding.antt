@@ -1,5 +1,5 @@
 -- Rows CHARGE and WEIGHT of nodes.
-use Rattle.std.proofs.Common.{ℕ, ◌≡◌, ◌<◌, ◌≤◌, ◌+◌, zero, suc, true, false, Bool, refl, sym, ap, ap₂, subst, ◌∙◌, arith, List, [], ◌∷◌, drop, length, map, string_bytes, slice_index_or, Result, Ok, Err, OnOk}
+use Rattle.std.proofs.Common.{ℕ, ◌≡◌, ◌≤◌, suc, true, false, Bool, refl, sym, ap, ap₂, subst, ◌∙◌, arith, List, [], ◌∷◌, drop, length, string_bytes, Result, Ok, Err, OnOk}
 use Rattle.std.specs.Prelude.{◌||◌}
 use Rattle.std.specs.Str.{bytes_eq}
 use Rattle.std.specs.List.{All, AllByRecursion}
@@ -14,7 +14,6 @@ use Rattle.fb_model.proofs.Lists.{at_listed}
 use Rattle.fb_demands.specs.Columns.{demands}
 use Rattle.fb_cert.specs.Adding.{is_upper_path}
 use Rattle.fb_cert.specs.Views.{Rows}
-use Rattle.fb_check.specs.fb_blocks.Views.{names_of}
 use Rattle.fb_check.specs.fb_flat.declared.flat.FlatDevice.{FlatDevice}
 use Rattle.fb_ledger.specs.Members.{HasSame}
 use Rattle.fb_ledger.specs.Texts.{texts_of}

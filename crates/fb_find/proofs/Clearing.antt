@@ -1,6 +1,5 @@
 -- Under the ranges that are found, rows hold what variables have at first and what they take: only algorithms and guards may be unclear.
-use Rattle.std.proofs.Common.{◌≡◌, true, inl, inr, refl, sym, ap, subst, ◌∙◌, List, [], ◌∷◌, ◌++◌, length, map, string_bytes}
-use Rattle.std.specs.Prelude.{◌⊎◌}
+use Rattle.std.proofs.Common.{◌≡◌, true, inl, inr, refl, ap, subst, ◌∙◌, List, [], ◌∷◌, ◌++◌, length, string_bytes}
 use Rattle.std.specs.Str.{bytes_eq}
 use Rattle.std.specs.List.{All, AllByRecursion, Any, IsDistinct}
 use Rattle.fb_model.specs.Clear.{Spans}
@@ -36,7 +35,7 @@ use Rattle.fb_ranged.proofs.Distinct.{ranges_are_apart}
 use Rattle.fb_found.specs.Given.{IsGiven}
 use Rattle.fb_find.specs.Bounds.{IsNoBound}
 use Rattle.fb_find.specs.Parts.{HasFoundRanges, told_of}
-use Rattle.fb_find.proofs.Lists.{all_at, none_lacks, zip_length}
+use Rattle.fb_find.proofs.Lists.{none_lacks, zip_length}
 
 -- ---- a chart
 

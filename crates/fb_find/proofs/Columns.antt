@@ -1,5 +1,5 @@
 -- Columns of a system whose nodes have numbers.
-use Rattle.std.proofs.Common.{ℕ, ◌≡◌, List, [], ap}
+use Rattle.std.proofs.Common.{ℕ, ◌≡◌, List}
 use Rattle.fb_model.specs.System.{System}
 use Rattle.fb_model.specs.Ranges.{Range}
 use Rattle.fb_model.specs.Certificates.{all_leaves}

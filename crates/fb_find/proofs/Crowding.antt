@@ -1,16 +1,14 @@
 -- A resource that follows too many connections is told of by its path.
-use Rattle.std.proofs.Common.{◌≡◌, ◌<◌, ◌≤◌, ℕ, refl, sym, ap, subst, ◌∙◌, List, [], ◌∷◌, length, get_or, map, string_bytes, Contains}
+use Rattle.std.proofs.Common.{◌≡◌, ◌<◌, ℕ, ap, subst, ◌∙◌, List, [], ◌∷◌, length, get_or, string_bytes, Contains}
 use Rattle.std.specs.List.{AllByRecursion, Any}
 use Rattle.fb_model.specs.Names.{Name}
 use Rattle.fb_model.specs.Spelling.{IsWord}
 use Rattle.fb_model.specs.System as book
-use Rattle.fb_model.specs.Wires.{most_followed, resource_count}
 use Rattle.fb_model.specs.CertificateText.{names_in}
 use Rattle.fb_spelled.specs.Words.{IsWordyDevice}
 use Rattle.fb_check.specs.Verdicts.{IsWritten}
 use Rattle.fb_check.proofs.Reading.{words}
 use Rattle.fb_check.proofs.of_fb_flat.Dotted.{names_back}
-use Rattle.fb_check.specs.fb_flat.Sites.{dotted}
 use Rattle.fb_check.specs.fb_types.declared.typed.Configuration.{Configuration}
 use Rattle.fb_check.specs.fb_types.declared.typed.Device.{Device}
 use Rattle.fb_check.specs.fb_types.declared.typed.Resource.{Resource}
@@ -19,7 +17,7 @@ use Rattle.fb_depths.proofs.Loops.{any_in}
 use Rattle.fb_solved.specs.declared.fault.NoBound.{NoBound}
 use Rattle.fb_solved.specs.declared.fault.NoBound.TheVariants.{OutOfMemory, Cycle, NoRange, Limit}
 use Rattle.fb_queues.specs.Needs.{IsPastFault}
-use Rattle.fb_find.specs.Bounds.{IsAbove, follows_many, IsNoBound}
+use Rattle.fb_find.specs.Bounds.{follows_many, IsNoBound}
 use Rattle.fb_find.specs.Crowds.{IsCrowded}
 use Rattle.fb_find.proofs.Lists.{all_at, in_image}
 

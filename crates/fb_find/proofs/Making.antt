@@ -1,6 +1,6 @@
 -- Least numbers, needed depths and clear ranges make a certificate.
-use Rattle.std.proofs.Common.{ℕ, ◌≡◌, ◌≤◌, ◌<◌, ◌+◌, zero, suc, Bool, true, false, inl, inr, refl, sym, ap, subst, ◌∙◌, arith, List, [], ◌∷◌, ◌++◌, drop, length, map, slice_index, slice_index_or, string_bytes, Contains}
-use Rattle.std.specs.Prelude.{◌⊎◌, ◌||◌, cond, max}
+use Rattle.std.proofs.Common.{ℕ, ◌≡◌, ◌≤◌, ◌+◌, Bool, true, false, inl, inr, refl, sym, ap, subst, ◌∙◌, arith, List, [], ◌∷◌, ◌++◌, length, map, slice_index, string_bytes}
+use Rattle.std.specs.Prelude.{◌||◌, cond, max}
 use Rattle.std.specs.Str.{bytes_eq}
 use Rattle.std.specs.List.{AllByRecursion, flat_map, IsDistinct, list_any}
 use Rattle.std.proofs.lemmas.List.{length-append, length-map}
@@ -9,17 +9,17 @@ use Rattle.fb_rounds.specs.FinderRanges.{AreFound}
 use Rattle.fb_model.specs.Services.{begin}
 use Rattle.fb_model.specs.Names.{Name, Path, Place, at_place, is_in, path_eq, place_eq}
 use Rattle.fb_model.specs.System.{Device, Resource, System}
-use Rattle.fb_model.specs.Wires.{Leaf, leaves, resource_leaves}
+use Rattle.fb_model.specs.Wires.{Leaf, resource_leaves}
 use Rattle.fb_model.specs.Ranges.{Range}
 use Rattle.fb_model.specs.Certificates as certs
-use Rattle.fb_model.specs.Certificates.{all_leaves, AllRows, Certificate, depth_paths, places_of, range_places, ranged, Row, row_places, steps_of}
+use Rattle.fb_model.specs.Certificates.{all_leaves, AllRows, Certificate, places_of, range_places, Row, steps_of}
 use Rattle.fb_model.specs.CertificateText.{IsTold, most_places, most_steps, names_in, place_of}
 use Rattle.fb_model.proofs.Lists.{all_both}
 use Rattle.fb_demands.specs.Demands.{Node, state, event}
 use Rattle.fb_demands.specs.Columns.{demands, MeetAll, number_of}
 use Rattle.fb_rounds.proofs.Places.{found_rows_are_all}
 use Rattle.fb_numbered.specs.Numbered.{AreLeast}
-use Rattle.fb_finding.specs.Nodes.{nodes_of, number}
+use Rattle.fb_finding.specs.Nodes.{nodes_of}
 use Rattle.fb_finding.specs.Finding.{HasNumbers, IsMade, row_number}
 use Rattle.fb_finding.proofs.Fitting.{no_amount}
 use Rattle.fb_finding.proofs.Members.{in_rows}
@@ -27,20 +27,19 @@ use Rattle.fb_finding.proofs.Rows.{least_same, numbers_are}
 use Rattle.fb_finding.proofs.Laws.{place_turned}
 use Rattle.std.proofs.lemmas.List.Elements.{Contains-append_right}
 use Rattle.fb_cert.specs.Adding.{is_upper_path}
-use Rattle.fb_cert.specs.Views.{book_of, depth_rows, range_rows, Rows, Table}
-use Rattle.fb_check.specs.fb_blocks.Views.{names_of}
+use Rattle.fb_cert.specs.Views.{book_of, depth_rows, Rows, Table}
 use Rattle.fb_check.specs.fb_flat.declared.flat.FlatDevice.{FlatDevice}
 use Rattle.fb_check.specs.fb_flat.declared.flat.FlatResource.{FlatResource}
 use Rattle.fb_rows.specs.Fitting.{AllClear}
 use Rattle.fb_ledger.specs.Faults.{HasNoRowTwice}
-use Rattle.fb_ledger.specs.Texts.{device_texts, resource_texts as row_texts, texts_of}
+use Rattle.fb_ledger.specs.Texts.{resource_texts as row_texts, texts_of}
 use Rattle.fb_ledger.specs.declared.kind.RowKind.TheVariants.{Depth}
 use Rattle.fb_ledger.proofs.Names.{bytes_turned}
 use Rattle.fb_ledger.proofs.Spelled.{spelled}
 use Rattle.fb_ledger.proofs.Systems.{devices_named}
 use Rattle.fb_ranged.proofs.Capitals.{rows_have_capitals}
 use Rattle.fb_ranged.proofs.Distinct.{resources_are_apart}
-use Rattle.fb_depths.specs.Depths.{begin_of, begins_of}
+use Rattle.fb_depths.specs.Depths.{begins_of}
 use Rattle.fb_solved.specs.declared.fault.NoBound.{NoBound}
 use Rattle.fb_solved.specs.declared.fault.NoBound.TheVariants.{OutOfMemory, Cycle, NoRange, Limit}
 use Rattle.fb_solved.proofs.Telling.{places_told, steps_told}
@@ -52,7 +51,7 @@ use Rattle.fb_places.specs.Rights.{numbers_of}
 use Rattle.fb_found.specs.Given.{nodes_in}
 use Rattle.fb_found.specs.Columns as columns
 use Rattle.fb_found.specs.Columns.{AreSmallest}
-use Rattle.fb_find.specs.Bounds.{IsAbove, needs_depth, needs_places, needs_steps, IsNoBound}
+use Rattle.fb_find.specs.Bounds.{needs_depth, needs_places, needs_steps, IsNoBound}
 use Rattle.fb_find.specs.Parts.{events_in, HasFoundRanges, IsReady, states_in, with_columns}
 use Rattle.fb_find.proofs.Adding.{all_listed}
 use Rattle.fb_find.proofs.Columns.{nodes_have, of_column}

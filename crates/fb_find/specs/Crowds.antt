@@ -1,5 +1,5 @@
 -- Resources that follow too many connections.
-use Rattle.std.specs.Prelude.{ℕ, ◌≡◌, ◌<◌, string_bytes}
+use Rattle.std.specs.Prelude.{◌≡◌, ◌<◌, string_bytes}
 use Rattle.fb_model.specs.Names.{Name}
 use Rattle.fb_model.specs.Wires.{most_followed, resource_count}
 use Rattle.fb_check.specs.fb_flat.Sites.{dotted}

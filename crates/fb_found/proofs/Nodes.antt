@@ -1,5 +1,5 @@
 -- From places to nodes, for a column and for the order.
-use Rattle.std.proofs.Common.{ℕ, ◌≡◌, ◌+◌, ◌<◌, ◌≤◌, List, [], ◌∷◌, ◌++◌, length, map, slice_index, slice_index_or, Result, Ok, Err, IfOk, IfErr, refl, sym, ◌∙◌, ap, subst, arith, Contains, string_bytes, Vec}
+use Rattle.std.proofs.Common.{ℕ, ◌≡◌, ◌+◌, ◌<◌, ◌≤◌, List, [], length, map, slice_index, Result, Ok, Err, IfOk, IfErr, sym, ◌∙◌, ap, subst, arith, Contains, string_bytes, Vec}
 use Rattle.std.specs.declared.alloc.Global.{Global}
 use Rattle.fb_least.specs.declared.system.Alternative.{Alternative}
 use Rattle.fb_least.specs.Views.{inequality_of, system_of}
@@ -11,29 +11,26 @@ use Rattle.fb_model.specs.System as book
 use Rattle.fb_model.specs.Certificates.{all_leaves}
 use Rattle.fb_model.specs.CertificateText.{place_of}
 use Rattle.fb_demands.specs.Demands.{Node, state, event, Demand, bare_demands, IsClosedWalk, node_in}
-use Rattle.fb_demands.specs.Likeness.{AreLike}
-use Rattle.fb_least.specs.Graphs.{IsOrder, IsClosed}
+use Rattle.fb_least.specs.Graphs.{IsOrder}
 use Rattle.fb_least.specs.Systems.{System, IsSystem, IsLeast, needs}
 use Rattle.fb_least.proofs.Solving.{walk_of}
 use Rattle.fb_numbered.specs.Numbered.{AreNumbers, AreOf}
 use Rattle.fb_numbered.proofs.Numbering.{walk_nodes}
 use Rattle.fb_numbered.proofs.Paying.{numbered_pays}
-use Rattle.fb_finding.specs.Nodes.{Numbered, by_number, nodes_of, number, AreGrouped}
+use Rattle.fb_finding.specs.Nodes.{Numbered, by_number, nodes_of, AreGrouped}
 use Rattle.fb_finding.proofs.Nodes.{are_numbers}
 use Rattle.fb_finding.proofs.Laws.{of_nodes, small_least, great_needed}
 use Rattle.fb_finding.proofs.Bare.{bare_same}
 use Rattle.fb_finding.proofs.Orders.{order_serves, known_terms}
-use Rattle.fb_finding.proofs.Lists.{default_free}
 use Rattle.fb_solved.specs.declared.fault.NoBound.{NoBound}
 use Rattle.fb_solved.specs.declared.fault.NoBound.TheVariants.{OutOfMemory, Cycle, NoRange, Limit}
-use Rattle.fb_solved.specs.Places.{node_of}
 use Rattle.fb_solved.specs.Faults.{IsWalk, IsPastLimit}
 use Rattle.fb_places.specs.fb_blocks.Views.{names_of}
 use Rattle.fb_places.specs.fb_flat.declared.flat.FlatDevice.{FlatDevice}
 use Rattle.fb_places.specs.declared.numbering.Numbering.{Numbering}
 use Rattle.fb_places.specs.Rights.{numbers_of, numbered}
-use Rattle.fb_found.specs.Given.{nodes_in, IsGiven, IsNumbered}
-use Rattle.fb_found.specs.Columns.{Serves, ServesAll, IsColumn, AreSmallest, IsPast, IsPastFault, IsCycle}
+use Rattle.fb_found.specs.Given.{nodes_in, IsNumbered}
+use Rattle.fb_found.specs.Columns.{ServesAll, IsColumn, AreSmallest, IsPastFault, IsCycle}
 
 -- how many nodes there are
 pub count_is : (ts us : List Name) → length (nodes_of ts us) ≡ length ts + length us

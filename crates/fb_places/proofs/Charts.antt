@@ -1,6 +1,5 @@
 -- States and transitions of tables in the book.
 use Rattle.std.proofs.Common.{◌≡◌, ℕ, Bool, true, false, cond, List, [], ◌∷◌, ◌++◌, map, Option, Some, None, refl, sym, ap, ◌∙◌, string_bytes}
-use Rattle.std.specs.List.{flat_map}
 use Rattle.std.specs.Map.{lookup}
 use Rattle.std.specs.Str.{bytes_eq}
 use Rattle.std.specs.declared.string.String.{String}
@@ -10,7 +9,7 @@ use Rattle.std.proofs.lemmas.List.{append-nil, map-append}
 use Rattle.fb_model.specs.Names.{Name}
 use Rattle.fb_model.specs.System as book
 use Rattle.fb_model.specs.Charts.{actions_of, emission}
-use Rattle.fb_model.specs.Certificates.{reached, event_names}
+use Rattle.fb_model.specs.Certificates.{reached}
 use Rattle.fb_model.proofs.Names.{eq_turned}
 use Rattle.fb_demands.specs.Demands.{Node, event, Demand, Ground, emitted, free_demand, of_free}
 use Rattle.fb_finding.specs.Nodes.{capped, by_number}
@@ -20,7 +19,7 @@ use Rattle.fb_places.specs.declared.numbering.Numbering.{Numbering}
 use Rattle.fb_places.specs.declared.right.Right.{Right}
 use Rattle.fb_places.specs.Grounds.{actions_in}
 use Rattle.fb_places.specs.Rights.{numbered, numbers_of, right_of, rights_of}
-use Rattle.fb_places.proofs.Entries.{state_of, event_in}
+use Rattle.fb_places.proofs.Entries.{state_of}
 
 -- ---- the actions of a state
 

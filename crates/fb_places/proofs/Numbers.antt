@@ -1,5 +1,5 @@
 -- Texts in sets by their numbers.
-use Rattle.std.proofs.Common.{◌≡◌, ℕ, ◌+◌, ◌<◌, ◌≤◌, Bool, true, false, not, cond, List, [], ◌∷◌, ◌++◌, map, length, position, Option, Some, None, refl, sym, ap, ◌∙◌, arith, append_assoc, string_bytes}
+use Rattle.std.proofs.Common.{◌≡◌, ℕ, ◌+◌, ◌<◌, ◌≤◌, Bool, true, false, not, cond, List, [], ◌∷◌, ◌++◌, map, length, position, Some, None, refl, sym, ap, ◌∙◌, arith, append_assoc, string_bytes}
 use Rattle.std.specs.Prelude.{nat_lt, ◌==◌}
 use Rattle.std.specs.List.{position_or_len, prefix_len, join_with_byte}
 use Rattle.std.specs.Str.{bytes_eq}

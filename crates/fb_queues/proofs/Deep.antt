@@ -1,6 +1,6 @@
 -- With these rows every queue of a system is as deep as it has to be, and no deeper.
-use Rattle.std.proofs.Common.{◌≡◌, ◌≤◌, ◌<◌, ◌+◌, ℕ, zero, suc, Bool, true, false, refl, sym, ap, subst, ◌∙◌, arith, inl, inr, List, [], ◌∷◌, ◌++◌, length, map, Contains, string_bytes}
-use Rattle.std.specs.Prelude.{◌⊎◌, ◌==◌, ◌&&◌, max, if◌then◌else◌}
+use Rattle.std.proofs.Common.{◌≡◌, ◌≤◌, ◌+◌, ℕ, zero, suc, Bool, true, false, refl, sym, ap, subst, ◌∙◌, arith, inl, inr, List, [], ◌∷◌, ◌++◌, length, Contains, string_bytes}
+use Rattle.std.specs.Prelude.{◌⊎◌, ◌==◌, ◌&&◌, max}
 use Rattle.std.specs.List.{AllByRecursion, flat_map}
 use Rattle.std.specs.Str.{bytes_eq}
 use Rattle.std.proofs.lemmas.Bool.{cases_lt, eqb-true, eq-eqb}
@@ -14,13 +14,13 @@ use Rattle.fb_model.specs.Wires.{Leaf, leaves, leaves_from, resource_leaves}
 use Rattle.fb_model.specs.Certificates as certs
 use Rattle.fb_model.specs.Certificates.{ArrivalsFit, begin_places, depth_at, depth_of, kind_arrivals, name_at}
 use Rattle.fb_model.specs.CertificateText.{names_in}
-use Rattle.fb_model.proofs.Lists.{all_append, all_both, all_weaker}
+use Rattle.fb_model.proofs.Lists.{all_append, all_both}
 use Rattle.fb_model.proofs.Homes.{resource_homes}
 use Rattle.fb_spelled.specs.Words.{IsWordyDevice}
-use Rattle.fb_cert.specs.Views.{Table, depth_rows}
+use Rattle.fb_cert.specs.Views.{depth_rows}
 use Rattle.fb_flat.specs.declared.flat.FlatResource.{FlatResource}
 use Rattle.fb_flat.specs.declared.flat.FlatDevice.{FlatDevice}
-use Rattle.fb_flat.specs.Tables.{IsResource, AreResources, IsDevice, AreDevices}
+use Rattle.fb_flat.specs.Tables.{AreResources, IsDevice, AreDevices}
 use Rattle.fb_depths.specs.Depths.{begins_of}
 use Rattle.fb_depths.proofs.Systems.{IsFrom, begin_first, begin_next, from_first, name_here, names_next}
 use Rattle.fb_finding.specs.Finding.{HasNeededDepths, IsNeeded, is_one, for_arrival, for_begins}

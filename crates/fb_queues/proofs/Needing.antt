@@ -11,7 +11,7 @@ use Rattle.fb_cert.specs.declared.certificate.Certificate.{Certificate}
 use Rattle.fb_cert.specs.Views.{certificate_of}
 use Rattle.fb_flat.specs.declared.flat.Leaf.{Leaf}
 use Rattle.fb_flat.specs.Tables.{IsLeaf, AreLeaves}
-use Rattle.fb_depths.specs.Depths.{Arrives, begin_of, begins_of, IsBegin, IsMost}
+use Rattle.fb_depths.specs.Depths.{begins_of, IsBegin, IsMost}
 use Rattle.fb_depths.proofs.Beginning.{found, none_left}
 use Rattle.fb_queues.specs.Needs.{arrival_of, most_arrival, most_at, needed_depth}
 

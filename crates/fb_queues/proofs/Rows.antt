@@ -1,7 +1,7 @@
 -- Rows DEPTH, one after another.
-use Rattle.std.proofs.Common.{◌≡◌, ◌≤◌, ◌<◌, ◌+◌, ℕ, zero, suc, Bool, true, false, not, refl, sym, ap, subst, ◌∙◌, arith, min, inl, inr, List, [], ◌∷◌, ◌++◌, drop, length, get_or, map, append_assoc, string_bytes, Result, Ok, Err, add-one}
-use Rattle.std.specs.Prelude.{◌&&◌, ◌||◌, ◌⊎◌, if◌then◌else◌, OnOk, IfErr, nat_le}
-use Rattle.std.specs.List.{flat_map, list_any}
+use Rattle.std.proofs.Common.{◌≡◌, ◌≤◌, ◌<◌, ◌+◌, ℕ, zero, suc, Bool, true, false, not, refl, sym, ap, subst, ◌∙◌, arith, min, inl, inr, List, [], ◌∷◌, ◌++◌, drop, length, get_or, map, append_assoc, string_bytes, add-one}
+use Rattle.std.specs.Prelude.{◌&&◌, ◌||◌, if◌then◌else◌, nat_le}
+use Rattle.std.specs.List.{flat_map}
 use Rattle.std.specs.Str.{bytes_eq}
 use Rattle.std.proofs.lemmas.List.{append-nil, map-append}
 use Rattle.std.proofs.Math.Nat.{le-max_left}
@@ -12,7 +12,7 @@ use Rattle.fb_model.specs.Wires.{Leaf, resource_leaves}
 use Rattle.fb_model.specs.Certificates as certs
 use Rattle.fb_model.specs.CertificateText.{depth}
 use Rattle.fb_cert.specs.Views.{Rows, Table, book_of, has_path, has_row, with_row}
-use Rattle.fb_cert.specs.Adding.{is_depth, is_sayable, is_upper_path}
+use Rattle.fb_cert.specs.Adding.{is_sayable, is_upper_path}
 use Rattle.fb_flat.specs.declared.flat.FlatResource.{FlatResource}
 use Rattle.fb_flat.specs.declared.flat.FlatDevice.{FlatDevice}
 use Rattle.fb_flat.specs.Tables.{IsResource, AreResources, IsDevice, AreDevices}

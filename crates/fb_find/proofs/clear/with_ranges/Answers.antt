@@ -1,5 +1,5 @@
-use Rattle.std.proofs.Common.{ap, ◌∙◌, map, sym, subst}
-use Rattle.fb_cert.specs.Views.{range_rows, Rows, rows_of}
+use Rattle.std.proofs.Common.{ap, map, sym, subst}
+use Rattle.fb_cert.specs.Views.{Rows, rows_of}
 use Rattle.fb_ranges.specs.Views.{spans_of}
 use Rattle.fb_find.specs.Bounds.{IsNoBound}
 use Rattle.fb_find.proofs.Clearing.{apart_texts, as_many, has_found, known, told, upper_texts}

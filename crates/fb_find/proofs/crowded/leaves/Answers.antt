@@ -1,4 +1,4 @@
-use Rattle.std.proofs.Common.{ap, subst, string_bytes}
+use Rattle.std.proofs.Common.{subst, string_bytes}
 use Rattle.std.specs.List.{Any}
 use Rattle.fb_check.specs.fb_types.declared.typed.Configuration.{Configuration}
 use Rattle.fb_check.specs.fb_types.declared.typed.Device.{Device}

@@ -1,4 +1,3 @@
-use Rattle.std.proofs.Common.{string_bytes}
 use Rattle.fb_cert.specs.Views.{rows_of}
 use Rattle.fb_find.proofs.Adding.{both_added}
 use Rattle.fb_find.proofs.least.add_numbers.Goals as goal

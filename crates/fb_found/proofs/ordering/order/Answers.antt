@@ -1,13 +1,8 @@
-use Rattle.std.proofs.Common.{◌≡◌, ◌+◌, length, sym, subst, refl}
-use Rattle.fb_model.specs.System.{System}
-use Rattle.fb_model.specs.Certificates.{all_leaves}
+use Rattle.std.proofs.Common.{refl}
 use Rattle.fb_leaves.proofs.Closed.{all_charts_closed}
 use Rattle.fb_least.specs.Views.{system_of}
-use Rattle.fb_demands.specs.Demands.{bare_demands}
-use Rattle.fb_finding.specs.Nodes.{AreGrouped}
-use Rattle.fb_places.specs.Rights.{rights_of, numbered}
-use Rattle.fb_found.specs.Given.{nodes_in, IsNumbered}
-use Rattle.fb_found.proofs.Nodes.{count_of, bare_system, serves_all, cycle, if_ok, if_err, sized_slice, grouped_slice}
+use Rattle.fb_places.specs.Rights.{rights_of}
+use Rattle.fb_found.proofs.Nodes.{bare_system, serves_all, cycle, if_ok, if_err, sized_slice, grouped_slice}
 use Rattle.fb_found.proofs.ordering.order.Goals as goal
 
 pub sorted-requires : goal.sorted-requires

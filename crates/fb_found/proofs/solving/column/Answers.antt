@@ -1,11 +1,6 @@
-use Rattle.std.proofs.Common.{◌≡◌, ◌+◌, length, sym, subst, ◌∙◌, ap, arith, string_bytes}
-use Rattle.std.proofs.lemmas.List.{length-map}
 use Rattle.fb_least.specs.Views.{system_of}
-use Rattle.fb_finding.specs.Nodes.{AreGrouped}
-use Rattle.fb_places.specs.fb_blocks.Views.{names_of}
 use Rattle.fb_places.specs.Rights.{rights_of}
-use Rattle.fb_found.specs.Given.{nodes_in}
-use Rattle.fb_found.proofs.Nodes.{count_of, is_system, is_order, smallest, past, ok_three, if_err, sized_slice, grouped_slice}
+use Rattle.fb_found.proofs.Nodes.{is_system, is_order, smallest, past, ok_three, if_err, sized_slice, grouped_slice}
 use Rattle.fb_found.proofs.solving.column.Goals as goal
 
 pub solved-requires-clause-system : goal.solved-requires-clause-system

@@ -1,4 +1,4 @@
-use Rattle.std.proofs.Common.{◌≡◌, map, ap, ◌∙◌}
+use Rattle.std.proofs.Common.{map, ap, ◌∙◌}
 use Rattle.fb_rows.specs.fb_blocks.Views.{action_of}
 use Rattle.fb_places.proofs.Charts.{actions_some, actions_none}
 use Rattle.fb_places.proofs.chart.actions_in.Goals as goal

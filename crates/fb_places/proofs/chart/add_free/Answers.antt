@@ -1,6 +1,5 @@
 use Rattle.std.proofs.Common.{◌≡◌, [], ◌∷◌, ◌++◌, ap, ◌∙◌, None}
-use Rattle.fb_model.specs.System as book
-use Rattle.fb_demands.specs.Demands.{Demand, free_demand, of_free}
+use Rattle.fb_demands.specs.Demands.{free_demand}
 use Rattle.fb_finding.specs.Nodes.{by_number}
 use Rattle.fb_rows.specs.fb_blocks.Views.{block_of, transition_of, name_of}
 use Rattle.fb_places.specs.Grounds.{ground_in, actions_in}

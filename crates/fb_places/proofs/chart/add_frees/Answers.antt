@@ -1,4 +1,4 @@
-use Rattle.std.proofs.Common.{◌≡◌, ◌+◌, List, map, drop}
+use Rattle.std.proofs.Common.{◌+◌, List, map, drop}
 use Rattle.std.specs.List.{flat_map}
 use Rattle.std.proofs.lemmas.List.{map-append}
 use Rattle.fb_demands.specs.Demands.{of_free}

@@ -1,4 +1,4 @@
-use Rattle.std.proofs.Common.{◌≡◌, ◌+◌, List, ◌++◌, map, drop, length, refl, sym, subst, ◌∷◌, string_bytes}
+use Rattle.std.proofs.Common.{◌≡◌, ◌+◌, List, ◌++◌, map, drop, subst, ◌∷◌, string_bytes}
 use Rattle.std.specs.List.{flat_map}
 use Rattle.std.proofs.lemmas.List.{map-append}
 use Rattle.std.specs.declared.string.String.{String}

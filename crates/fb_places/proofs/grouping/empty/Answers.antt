@@ -1,7 +1,6 @@
-use Rattle.std.proofs.Common.{◌≡◌, ◌++◌, ◌∷◌, [], map, subst, sym, ap, ◌∙◌, arith, length}
-use Rattle.std.proofs.lemmas.List.{map-append, length-append}
-use Rattle.fb_least.specs.Views.{inequality_of, system_of}
-use Rattle.fb_places.proofs.Grouped.{HasNone, none_yet, none_more, none_grouped}
+use Rattle.std.proofs.Common.{subst, sym, ap, arith, length}
+use Rattle.fb_least.specs.Views.{system_of}
+use Rattle.fb_places.proofs.Grouped.{HasNone, none_yet, none_grouped}
 use Rattle.fb_places.proofs.grouping.empty.Goals as goal
 
 pub loop-init : goal.loop-init

@@ -1,7 +1,6 @@
-use Rattle.std.proofs.Common.{◌≡◌, ◌++◌, sym, ap, subst, ◌∙◌, OnOk, string_bytes}
+use Rattle.std.proofs.Common.{◌≡◌, ◌++◌, sym, subst, OnOk, string_bytes}
 use Rattle.fb_demands.specs.Demands.{of_kind}
 use Rattle.fb_rows.specs.fb_flat.declared.flat.Body.{Body}
-use Rattle.fb_rows.specs.fb_flat.declared.flat.Body.TheVariants.{Basic}
 use Rattle.fb_rows.specs.fb_flat.Leaves.{kind_of}
 use Rattle.fb_places.specs.Grounds.{ground, algorithms_of}
 use Rattle.fb_places.specs.Rights.{numbered, rights_of}

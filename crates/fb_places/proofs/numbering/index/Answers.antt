@@ -1,4 +1,4 @@
-use Rattle.std.proofs.Common.{◌≡◌, ◌<◌, sym, ◌∙◌, arith}
+use Rattle.std.proofs.Common.{◌∙◌, arith}
 use Rattle.fb_places.proofs.Numbers.{index_some, index_none}
 use Rattle.fb_places.proofs.numbering.index.Goals as goal
 

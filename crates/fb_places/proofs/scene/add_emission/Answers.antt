@@ -1,4 +1,4 @@
-use Rattle.std.proofs.Common.{◌≡◌, ℕ, List, [], ◌∷◌, ◌++◌, map, Some, sym, ap, ◌∙◌, subst, OnOk, string_bytes}
+use Rattle.std.proofs.Common.{◌≡◌, [], ◌∷◌, ◌++◌, map, Some, sym, ap, ◌∙◌, subst, OnOk, string_bytes}
 use Rattle.fb_demands.specs.Demands.{emitted}
 use Rattle.fb_rows.specs.fb_blocks.Views.{action_of, name_of}
 use Rattle.fb_places.specs.Grounds.{ground_in}

@@ -1,4 +1,4 @@
-use Rattle.std.proofs.Common.{◌≡◌, ℕ, List, [], ◌∷◌, ◌++◌, map, drop, length, refl, sym, ap, ◌∙◌, subst, OnOk, true, string_bytes}
+use Rattle.std.proofs.Common.{◌≡◌, ℕ, [], ◌++◌, map, sym, ap, ◌∙◌, subst, OnOk, true, string_bytes}
 use Rattle.std.specs.Str.{bytes_eq}
 use Rattle.std.proofs.lemmas.List.{append-nil}
 use Rattle.fb_model.specs.Names.{Place}

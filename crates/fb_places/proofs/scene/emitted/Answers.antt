@@ -1,4 +1,4 @@
-use Rattle.std.proofs.Common.{◌≡◌, ◌+◌, List, [], ◌∷◌, map, drop}
+use Rattle.std.proofs.Common.{◌+◌, List, [], ◌∷◌, map, drop}
 use Rattle.fb_demands.specs.Demands.{emitted}
 use Rattle.fb_rows.specs.fb_blocks.declared.typed.Action.{Action}
 use Rattle.fb_rows.specs.fb_blocks.Views.{action_of}

@@ -1,4 +1,4 @@
-use Rattle.std.proofs.Common.{◌≡◌, sym, ◌∙◌}
+use Rattle.std.proofs.Common.{sym, ◌∙◌}
 use Rattle.fb_places.specs.Grounds.{table_names}
 use Rattle.fb_places.proofs.Values.{placed, value_some, value_none, value_past}
 use Rattle.fb_places.proofs.scene.price.Goals as goal

@@ -1,4 +1,4 @@
-use Rattle.std.proofs.Common.{◌≡◌, ℕ, ◌+◌, List, [], ◌∷◌, map, drop, Bor}
+use Rattle.std.proofs.Common.{ℕ, ◌+◌, List, map, drop, Bor}
 use Rattle.std.proofs.lemmas.List.{map-append}
 use Rattle.fb_model.specs.Names.{Name, Place}
 use Rattle.fb_model.specs.Certificates.{reached}

@@ -3,7 +3,6 @@ use Rattle.fb_model.specs.Wires.{resource_leaves}
 use Rattle.fb_cert.specs.Views.{certificate_of}
 use Rattle.fb_queues.specs.Needs.{needed_depth}
 use Rattle.fb_queues.proofs.Rows.{row_read, some_needed}
-use Rattle.fb_queues.proofs.Deep.{needed_depths}
 use Rattle.fb_queues.proofs.adding.add_resource.Goals as goal
 
 pub returns-clause-rows : goal.returns-clause-rows

@@ -1,4 +1,3 @@
-use Rattle.std.proofs.Common.{rules}
 use Rattle.fb_queues.proofs.Needing.{arrival_is}
 use Rattle.fb_queues.proofs.need.arrival.Goals as goal
 

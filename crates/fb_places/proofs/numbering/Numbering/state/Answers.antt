@@ -1,4 +1,4 @@
-use Rattle.std.proofs.Common.{◌≡◌, sym, ap, ◌∙◌}
+use Rattle.std.proofs.Common.{sym, ap, ◌∙◌}
 use Rattle.fb_rows.specs.fb_blocks.Views.{names_of}
 use Rattle.fb_finding.specs.Nodes.{index_in}
 use Rattle.fb_places.proofs.Numbers.{written_dotted}
