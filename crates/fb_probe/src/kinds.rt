@@ -1,7 +1,7 @@
 //! The kinds of cases.
 
 use crate::case::Case;
-use crate::{devices, made, programs, systems, texts, verdicts};
+use crate::{devices, made, programs, systems, texts, verdicts, walks};
 use std::alloc::AllocError;
 
 /// What the product answers for a case of a kind.
@@ -27,6 +27,7 @@ pub fn answer<R: AllocGlobal>(rt: &R, kind: &str, case: &Case<'_>) -> Result<Str
         "networks" => systems::networks(alloc, case),
         "leaves" => systems::leaves(alloc, case),
         "services" => systems::services(alloc, case),
+        "walks" => walks::walks(alloc, case),
         _ => String::from_str(alloc, "no such kind"),
     }
 }

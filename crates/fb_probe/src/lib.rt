@@ -12,6 +12,7 @@ mod terms;
 mod texts;
 mod trees;
 mod verdicts;
+mod walks;
 
 pub use case::{Case, Section};
 pub use kinds::answer;

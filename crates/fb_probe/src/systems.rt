@@ -25,8 +25,8 @@ pub fn systems(alloc: Global, case: &Case<'_>) -> Result<String, AllocError> {
     }
 }
 
-// The typed system of a case, or the refusal.
-fn typed(alloc: Global, case: &Case<'_>) -> Result<Result<Typed, String>, AllocError> {
+/// The typed system of a case, or the refusal.
+pub fn typed(alloc: Global, case: &Case<'_>) -> Result<Result<Typed, String>, AllocError> {
     let text = text_of(alloc, case)?;
     match parse(alloc, text.as_str()) {
         Ok(source) => {

@@ -1,0 +1,41 @@
+//! Walks that are shown.
+
+use crate::case::Case;
+use crate::systems::typed;
+use crate::texts::refused;
+use fb_check::{Place, check_walk};
+use std::alloc::{AllocError, Global};
+
+// The place of a line: `state PATH`, or `event PATH`.
+fn place(alloc: Global, line: &str) -> Result<Place, AllocError> {
+    if let Some(path) = line.strip_prefix("state ") {
+        return Ok(Place::State(String::from_str(alloc, path)?));
+    }
+    let path = line.strip_prefix("event ").unwrap_or("");
+    Ok(Place::Event(String::from_str(alloc, path)?))
+}
+
+// The places of lines.
+fn places(alloc: Global, text: &str) -> Result<Vec<Place>, AllocError> {
+    let mut places = Vec::new(alloc);
+    for line in text.lines() {
+        places.push(place(alloc, line)?)?;
+    }
+    Ok(places)
+}
+
+/// Whether the places that the section `places` names are a closed walk of demands, or the refusal.
+pub fn walks(alloc: Global, case: &Case<'_>) -> Result<String, AllocError> {
+    let places = places(alloc, case.text("places"))?;
+    match typed(alloc, case)? {
+        Ok(typed) => {
+            let walk = check_walk(alloc, &typed, None, places.as_slice());
+            typed.let_go();
+            match walk {
+                Ok(walk) => format!(in alloc; "{walk}"),
+                Err(fault) => refused(alloc, &fault),
+            }
+        }
+        Err(refusal) => Ok(refusal),
+    }
+}
