@@ -1,26 +1,21 @@
 -- Rows CHARGE and WEIGHT of nodes.
-use Rattle.std.proofs.Common.{ℕ, ◌≡◌, ◌≤◌, suc, true, false, Bool, refl, sym, ap, ap₂, subst, ◌∙◌, arith, List, [], ◌∷◌, drop, length, string_bytes, Result, Ok, Err, OnOk}
-use Rattle.std.specs.Prelude.{◌||◌}
-use Rattle.std.specs.Str.{bytes_eq}
+use Rattle.std.proofs.Common.{ℕ, ◌≡◌, ◌≤◌, suc, true, sym, ap, ap₂, subst, ◌∙◌, arith, List, [], ◌∷◌, drop, length, string_bytes, Result, Ok, Err, OnOk}
 use Rattle.std.specs.List.{All, AllByRecursion}
 use Rattle.std.proofs.lemmas.List.{length-map}
 use Rattle.std.proofs.lemmas.List.Elements.{All-drop}
-use Rattle.fb_model.specs.Names.{Name, is_in}
+use Rattle.fb_model.specs.Names.{Name}
 use Rattle.fb_model.specs.System.{System}
 use Rattle.fb_model.specs.Ranges.{Range}
 use Rattle.fb_model.specs.Certificates.{all_leaves}
 use Rattle.fb_model.specs.CertificateText.{most_places, most_steps}
-use Rattle.fb_model.proofs.Lists.{at_listed}
 use Rattle.fb_demands.specs.Columns.{demands}
 use Rattle.fb_cert.specs.Adding.{is_upper_path}
 use Rattle.fb_cert.specs.Views.{Rows}
 use Rattle.fb_check.specs.fb_flat.declared.flat.FlatDevice.{FlatDevice}
-use Rattle.fb_ledger.specs.Members.{HasSame}
 use Rattle.fb_ledger.specs.Texts.{texts_of}
 use Rattle.fb_ledger.specs.declared.kind.RowKind.{RowKind}
 use Rattle.fb_ledger.specs.declared.kind.RowKind.TheVariants.{Charge, Weight}
-use Rattle.fb_ledger.proofs.Names.{bytes_same}
-use Rattle.fb_ranged.proofs.Capitals.{listed, rows_have_capitals}
+use Rattle.fb_ranged.proofs.Capitals.{rows_have_capitals}
 use Rattle.fb_solved.specs.Numbers.{amounts, CanBeSaid, with_charges, with_weights}
 use Rattle.fb_places.specs.declared.numbering.Numbering.{Numbering}
 use Rattle.fb_found.specs.Columns.{AreSmallest}
@@ -55,18 +50,8 @@ pub all_listed : {X : Type 0} (P : X → Type 0) (xs : List X) → All P xs → 
 all_listed P [] a = tt
 all_listed P (x ∷ xs) a = (a 0 x (omega arith), all_listed P xs (λ k d l. a (suc k) d (omega (arith, l))))
 
-or_true : (b : Bool) → (b || true) ≡ true
-or_true true = refl
-or_true false = refl
-
-all_in : (P : Name → Type 0) (xs : List Name) → ((x : Name) → is_in x xs ≡ true → P x) → AllByRecursion P xs
-all_in P [] f = tt
-all_in P (x ∷ xs) f = (f x (ap (λ b. b || is_in x xs) (bytes_same x)), all_in P xs (λ y h. f y (ap (λ b. bytes_eq y x || b) h ∙ or_true (bytes_eq y x))))
-
-upper_names : (kind : RowKind) (devices : List FlatDevice) (names : List Name) → All (λ t. is_upper_path t ≡ true) (texts_of kind devices) → HasSame names (texts_of kind devices) → All (λ t. is_upper_path t ≡ true) names
-upper_names kind devices names a same =
-    listed (λ t. is_upper_path t ≡ true) names
-    (all_in (λ t. is_upper_path t ≡ true) names (λ x h. at_listed (λ t. is_upper_path t ≡ true) (texts_of kind devices) x (all_listed (λ t. is_upper_path t ≡ true) (texts_of kind devices) a) (sym (same.same x) ∙ h)))
+upper_names : (kind : RowKind) (devices : List FlatDevice) (names : List Name) → All (λ t. is_upper_path t ≡ true) (texts_of kind devices) → names ≡ texts_of kind devices → All (λ t. is_upper_path t ≡ true) names
+upper_names kind devices names a same = subst (λ (ts : List Name). All (λ t. is_upper_path t ≡ true) ts) (sym same) a
 
 module _ (devices : List FlatDevice) (n : Numbering) (order : List ℕ) (s : System) (ready : IsReady devices n order s) (ranges : List Range) where
   pub can_add : (steps places : List ℕ) (rows : Rows) → AreSmallest n (demands 1 ranges (all_leaves s.devices)) most_steps steps → AreSmallest n (demands 0 ranges (all_leaves s.devices)) most_places places → HasFoundRanges s ranges rows → CanBeAdded n steps places rows

@@ -1,5 +1,5 @@
 -- What is given of a system that stands in texts, and what is ready for the columns.
-use Rattle.std.proofs.Common.{ℕ, ◌≡◌, ◌∙◌, List, map, subst, sym}
+use Rattle.std.proofs.Common.{ℕ, ◌≡◌, ◌∙◌, List, [], map, ap, subst, sym}
 use Rattle.std.specs.List.{AllByRecursion}
 use Rattle.fb_model.specs.Clear.{Spans}
 use Rattle.fb_model.specs.System.{Device, System}
@@ -24,7 +24,15 @@ use Rattle.fb_check.proofs.Composed.{tables_are}
 use Rattle.fb_cert.specs.Views.{Rows}
 use Rattle.fb_rows.specs.Fitting.{AllClear}
 use Rattle.fb_ranged.specs.FoundTables.{AreFoundTables}
-use Rattle.fb_ranged.proofs.Distinct.{on_all_leaves}
+use Rattle.fb_ranged.proofs.Distinct.{on_all_leaves, charges_are_apart, weights_are_apart}
+use Rattle.fb_model.specs.CertificateText.{place_of}
+use Rattle.fb_finding.specs.Nodes.{AreRowsOf}
+use Rattle.fb_check.specs.fb_blocks.Views.{names_of}
+use Rattle.fb_ledger.specs.Members.{gathered}
+use Rattle.fb_ledger.specs.Texts.{texts_of}
+use Rattle.fb_ledger.specs.declared.kind.RowKind.TheVariants.{Charge, Weight}
+use Rattle.fb_ledger.proofs.Members.{each_gathered}
+use Rattle.fb_ledger.proofs.Systems.{devices_placed}
 use Rattle.fb_growing.specs.Found.{spelled}
 use Rattle.fb_solved.specs.declared.fault.NoBound.{NoBound}
 use Rattle.fb_solved.specs.declared.fault.NoBound.TheVariants.{OutOfMemory, Cycle, NoRange, Limit}
@@ -55,6 +63,27 @@ given s devices w e few = record {
   followed = few;
 }
 
+-- numbers by the texts of rows are in the order of the rows
+pub has_numbering : (devices : List FlatDevice) (n : Numbering) (s : System) → IsGiven devices s → AreRowsOf (all_leaves s.devices) (names_of n.states) (names_of n.events) → names_of n.states ≡ gathered [] (texts_of Charge devices) → names_of n.events ≡ gathered [] (texts_of Weight devices)
+    → HasNumbering devices n s
+has_numbering devices n s given rows states events =
+    let cs = states ∙ each_gathered (texts_of Charge devices) (charges_are_apart given.library given.source devices s given.typed given.tables given.words) in
+    let ws = events ∙ each_gathered (texts_of Weight devices) (weights_are_apart given.library given.source devices s given.typed given.tables given.words) in
+    record {
+      numbered =
+          record {
+            given = given;
+            rows = rows;
+            ordered =
+                record {
+                  states_are = ap (map place_of) cs ∙ devices_placed Charge devices s.devices given.tables given.words;
+                  events_are = ap (map place_of) ws ∙ devices_placed Weight devices s.devices given.tables given.words;
+                };
+          };
+      states = cs;
+      events = ws;
+    }
+
 kind_clear : (ranges : List Range) (all : List Leaf) (leaf : Leaf) (kind : Kind) → KindClears ranges all leaf.path leaf.source kind → HasClear (rows ranges leaf.path kind) kind
 kind_clear ranges all leaf (Charted block) h = h.algorithms
 kind_clear ranges all leaf (Serviced service) h = tt
@@ -76,7 +105,7 @@ cycle_told s (Limit resource) h = absurd h
 
 pub walk_denies : (s : System) (fault : NoBound) → IsNoBound s fault → IsWalk fault → (cert : certs.Certificate) → Fits s cert → ⊥
 walk_denies s OutOfMemory h w cert fits = absurd w
-walk_denies s (Cycle places) h w cert fits = walks_exclude s cert (map node_of places.items) h fits
+walk_denies s (Cycle places) h w cert fits = walks_exclude s cert (map node_of places.items) h.closed fits
 walk_denies s (NoRange path) h w cert fits = absurd w
 walk_denies s (Limit resource) h w cert fits = absurd w
 

@@ -20,7 +20,7 @@ use Rattle.fb_demands.specs.Columns.{demands, MeetAll, number_of}
 use Rattle.fb_rounds.proofs.Places.{found_rows_are_all}
 use Rattle.fb_numbered.specs.Numbered.{AreLeast}
 use Rattle.fb_finding.specs.Nodes.{nodes_of}
-use Rattle.fb_finding.specs.Finding.{HasNumbers, IsMade, row_number}
+use Rattle.fb_finding.specs.Finding.{HasNumbers, IsInOrder, IsMade, row_number}
 use Rattle.fb_finding.proofs.Fitting.{no_amount}
 use Rattle.fb_finding.proofs.Members.{in_rows}
 use Rattle.fb_finding.proofs.Rows.{least_same, numbers_are}
@@ -183,18 +183,25 @@ module _ (devices : List FlatDevice) (n : Numbering) (order : List ℕ) (s : Sys
   depths_are : (book_of final).depths ≡ depth_rows (all_rows (book_of final) devices s.devices)
   depths_are = ap (λ (t : Table ℕ). depth_rows (t ++ all_rows (book_of mid) devices s.devices)) has.no_depth
 
+  in_order : IsInOrder s (book_of final)
+  in_order =
+      let given = ready.numbering.numbered.given in
+      let ordered = ready.numbering.numbered.ordered in
+      record {
+        ranges_are = ap range_places has.are ∙ found_rows_are_all s.devices ranges has.found;
+        charges_are = steps_in.charges_are ∙ ordered.states_are;
+        weights_are = steps_in.weights_are ∙ ordered.events_are;
+        depths_are =
+            ap certs.depth_rows depths_are ∙ paths_are (all_rows (book_of final) devices s.devices) ∙ ap (map names_in) (paths_all (book_of final) devices s.devices given.tables ∙ sym (depth_texts devices)) ∙ devices_named devices s.devices given.tables;
+      }
+
   all_there : HasNoRowTwice (book_of final) → AllRows s (book_of final)
   all_there once =
-      let given = ready.numbering.numbered.given in
-      let rows = ready.numbering.numbered.rows in
       record {
-        charges = record { same = λ p. ap (list_any (place_eq p)) steps_in.charges_are ∙ rows.states_are p; once = once.charges };
-        weights = record { same = λ p. ap (list_any (place_eq p)) steps_in.weights_are ∙ rows.events_are p; once = once.weights };
-        ranges = record { same = λ p. ap (list_any (place_eq p)) (ap range_places has.are ∙ found_rows_are_all s.devices ranges has.found); once = once.ranges };
-        depths =
-            λ path.
-            ap (list_any (path_eq path))
-            (ap certs.depth_rows depths_are ∙ paths_are (all_rows (book_of final) devices s.devices) ∙ ap (map names_in) (paths_all (book_of final) devices s.devices given.tables ∙ sym (depth_texts devices)) ∙ devices_named devices s.devices given.tables);
+        charges = record { same = λ p. ap (list_any (place_eq p)) in_order.charges_are; once = once.charges };
+        weights = record { same = λ p. ap (list_any (place_eq p)) in_order.weights_are; once = once.weights };
+        ranges = record { same = λ p. ap (list_any (place_eq p)) in_order.ranges_are; once = once.ranges };
+        depths = λ path. ap (list_any (path_eq path)) in_order.depths_are;
       }
 
   made_here : IsTold (book_of final) → IsMade s (nodes_in n) (book_of final)
@@ -202,6 +209,7 @@ module _ (devices : List FlatDevice) (n : Numbering) (order : List ℕ) (s : Sys
       let given = ready.numbering.numbered.given in
       let once = spelled told.0 (book_of final) told.1 in
       record {
+        ordered = in_order;
         followed = given.followed;
         rows = all_there once;
         ranges = subst (λ rs. AreFound s.devices rs) (sym has.are) has.found;

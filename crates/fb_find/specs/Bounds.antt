@@ -7,8 +7,9 @@ use Rattle.fb_model.specs.Wires.{most_followed, resource_count}
 use Rattle.fb_model.specs.Ranges.{Range}
 use Rattle.fb_model.specs.Certificates.{Certificate, all_leaves, places_of}
 use Rattle.fb_model.specs.CertificateText.{names_in, most_places, most_steps}
-use Rattle.fb_demands.specs.Demands.{Node, bare_demands, IsClosedWalk}
+use Rattle.fb_demands.specs.Demands.{Node}
 use Rattle.fb_demands.specs.Columns.{demands, MeetAll, number_of}
+use Rattle.fb_finding.specs.Nodes.{IsFirstWalk}
 use Rattle.fb_rounds.specs.FinderRanges.{AreFound}
 use Rattle.fb_rows.specs.declared.fault.Unclear.TheVariants as unclear
 use Rattle.fb_rows.specs.Fitting.{IsUnclear}
@@ -32,10 +33,10 @@ pub data IsAbove (s : System) (resource : Name) : Type 0 where
   needs_places : (ranges : List Range) → AreFound s.devices ranges → IsGreat 0 most_places ranges s resource → IsAbove s resource
   needs_depth : (ranges : List Range) → AreFound s.devices ranges → ((cert : Certificate) → MeetAll (number_of (places_of cert)) (demands 0 ranges (all_leaves s.devices)) → IsPastAmong cert resource s.devices) → IsAbove s resource
 
--- want of memory; a closed walk of demands; what is unclear; or what is above a limit
+-- want of memory; a closed walk of demands from the first of its nodes on; what is unclear; or what is above a limit
 abbrev pub IsNoBound : System → NoBound → Type 0
 IsNoBound s OutOfMemory = Unit {0}
-IsNoBound s (Cycle places) = IsClosedWalk (bare_demands (all_leaves s.devices)) (map node_of places.items)
+IsNoBound s (Cycle places) = IsFirstWalk (all_leaves s.devices) (map node_of places.items)
 IsNoBound s (NoRange path) = (ranges : List Range) × AreFound s.devices ranges × (IsUnclear ranges s (unclear.Kept path) ⊎ IsUnclear ranges s (unclear.IndexOrDivisor path))
 IsNoBound s (Limit resource) = IsAbove s (string_bytes resource)
 

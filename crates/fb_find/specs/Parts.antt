@@ -15,7 +15,6 @@ use Rattle.fb_solved.specs.declared.fault.NoBound.{NoBound}
 use Rattle.fb_solved.specs.declared.fault.NoBound.TheVariants.{OutOfMemory, NoRange}
 use Rattle.fb_places.specs.declared.numbering.Numbering.{Numbering}
 use Rattle.fb_check.specs.fb_blocks.Views.{names_of}
-use Rattle.fb_ledger.specs.Members.{HasSame}
 use Rattle.fb_ledger.specs.Texts.{texts_of}
 use Rattle.fb_ledger.specs.declared.kind.RowKind.TheVariants.{Charge, Weight}
 use Rattle.fb_solved.specs.Numbers.{amounts, CanBeSaid, with_charges, with_weights}
@@ -32,11 +31,11 @@ pub record HasFoundRanges (s : System) (ranges : List Range) (rows : Rows) : Typ
   pub no_weight : rows.weights ≡ []
   pub no_depth : rows.depths ≡ []
 
--- the nodes have numbers by the texts of their rows
+-- the nodes have numbers by the texts of their rows, in their order
 pub record HasNumbering (devices : List FlatDevice) (n : Numbering) (s : System) : Type 0 where
   pub numbered : IsNumbered devices n s
-  pub states : HasSame (names_of n.states) (texts_of Charge devices)
-  pub events : HasSame (names_of n.events) (texts_of Weight devices)
+  pub states : names_of n.states ≡ texts_of Charge devices
+  pub events : names_of n.events ≡ texts_of Weight devices
 
 -- and an order serves all columns
 pub record IsReady (devices : List FlatDevice) (n : Numbering) (order : List ℕ) (s : System) : Type 0 where

@@ -55,9 +55,9 @@ fn found(alloc: Global, flat: &Flat) -> Result<Certificate, NoBound>
 }
 
 /// The certificate of a system. Its ranges are those of the finder's rounds, and every other number is the least of all certificates with these
-/// ranges that fit; a depth is at least 1.
+/// ranges that fit; a depth is at least 1. Its rows stand kind by kind, each kind in text order: leaf by leaf, or resource by resource.
 ///
-/// Refused with `Cycle` only where the places are a closed walk of demands, so that no certificate fits; with `NoRange` only where that algorithm
+/// Refused with `Cycle` only where the places are a closed walk of demands, from that of them on whose row comes first, so that no certificate fits; with `NoRange` only where that algorithm
 /// or guard is not clear under these ranges; with `Limit` only where a least number of the resource, or the connections that it follows, are above
 /// their limit.
 pub fn find(alloc: Global, typed: &Typed, repeats: Option<u8>) -> Result<Certificate, NoBound>

@@ -130,6 +130,7 @@ at_most x y nodes l z v = elim (z v) [ inl c ↦ l v c | inr e ↦ omega (arith,
 
 pub made_found : (system : System) (states events : List Name) (cert : Certificate) → ((p q : Place) → place_eq q p ≡ place_eq p q) → AreRowsOf (all_leaves system.devices) states events → IsMade system (nodes_of states events) cert → IsFound system cert
 made_found system states events cert turned are made = record {
+  ordered = made.ordered;
   ranges = made.ranges;
   fits = record {
     followed = made.followed;

@@ -7,3 +7,4 @@ pub mod Orders
 pub mod Rows
 pub mod Fitting
 pub mod Laws
+pub mod Firsts

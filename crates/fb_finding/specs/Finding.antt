@@ -1,4 +1,4 @@
--- What is said of a certificate that is found: it fits, its ranges are those of the last rounds, and every other number is the least that fits them.
+-- What is said of a certificate that is found: it fits, its rows stand in order, its ranges are those of the last rounds, and every other number is the least that fits them.
 -- This project's profile.
 use Rattle.std.specs.Prelude.{ℕ, ◌≡◌, ◌≤◌, max, List, ◌++◌, map}
 use Rattle.std.specs.List.{AllByRecursion, Contains}
@@ -6,11 +6,12 @@ use Rattle.fb_model.specs.Names.{Name, at_place}
 use Rattle.fb_model.specs.System.{Device, System}
 use Rattle.fb_model.specs.Wires.{Leaf, leaves}
 use Rattle.fb_model.specs.Ranges.{Range, rows, LeafClears}
-use Rattle.fb_model.specs.Certificates.{Row, amount, row_places, Certificate, steps_of, places_of, depth_of, kind_arrivals, begin_places, ArrivalsFit, all_leaves, AllRows, FollowsFew, Fits}
+use Rattle.fb_model.specs.Certificates.{Row, amount, row_places, range_places, depth_rows, depth_paths, ranged, Certificate, steps_of, places_of, depth_of, kind_arrivals, begin_places, ArrivalsFit, all_leaves, AllRows, FollowsFew, Fits}
 use Rattle.fb_model.specs.CertificateText.{place_of}
 use Rattle.fb_demands.specs.Demands.{Node, state, event}
 use Rattle.fb_demands.specs.Columns.{number_of, demands}
 use Rattle.fb_numbered.specs.Numbered.{AreLeast}
+use Rattle.fb_finding.specs.Nodes.{state_places, event_places}
 use Rattle.fb_rounds.specs.FinderRanges.{AreFound}
 
 -- the variables of leaves have the same ranges in both
@@ -23,7 +24,16 @@ pub record IsAtMost (devices : List Device) (cert other : Certificate) : Type 0 
   pub places : (x : Node) → number_of (places_of cert) x ≤ number_of (places_of other) x
   pub depths : AllByRecursion (λ (d : Device). (q : ℕ) → depth_of cert d q ≤ max 1 (depth_of other d q)) devices
 
+-- its rows stand in the finder's order: those of a kind leaf by leaf or resource by resource, each leaf's in text order (variables: inputs, outputs, internals;
+-- events: event inputs, and then the arrival)
+pub record IsInOrder (system : System) (cert : Certificate) : Type 0 where
+  pub ranges_are : range_places cert.ranges ≡ ranged (all_leaves system.devices)
+  pub charges_are : row_places cert.charges ≡ state_places (all_leaves system.devices)
+  pub weights_are : row_places cert.weights ≡ event_places (all_leaves system.devices)
+  pub depths_are : depth_rows cert.depths ≡ depth_paths system.devices
+
 pub record IsFound (system : System) (cert : Certificate) : Type 0 where
+  pub ordered : IsInOrder system cert
   pub ranges : AreFound system.devices cert.ranges
   pub fits : Fits system cert
   pub least : (other : Certificate) → Fits system other → HaveSameRanges other.ranges cert.ranges (all_leaves system.devices) → IsAtMost system.devices cert other
@@ -42,8 +52,9 @@ pub record HasNeededDepths (cert : Certificate) (d : Device) : Type 0 where
   pub begins : (q : ℕ) → begin_places cert (leaves d) q ≤ depth_of cert d q
   pub needed : (q : ℕ) → IsNeeded cert (leaves d) q (depth_of cert d q)
 
--- the rows are those of the system; the ranges are found, and all is clear under them; the numbers of nodes are least, and so are the depths
+-- the rows are those of the system, in order; the ranges are found, and all is clear under them; the numbers of nodes are least, and so are the depths
 pub record IsMade (system : System) (nodes : List Node) (cert : Certificate) : Type 0 where
+  pub ordered : IsInOrder system cert
   pub followed : AllByRecursion FollowsFew system.devices
   pub rows : AllRows system cert
   pub ranges : AreFound system.devices cert.ranges

@@ -1,13 +1,13 @@
 -- Nodes by numbers: states in the order of their rows, and behind them event inputs and arrivals in the order of theirs.
 -- This project's profile.
 use Rattle.std.specs.Prelude.{ℕ, ◌≡◌, ◌+◌, ◌<◌, ◌≤◌, ◌==◌, min, List, [], ◌∷◌, ◌++◌, length, map, if◌then◌else◌}
-use Rattle.std.specs.List.{join_with_byte, position_or_len, list_any, flat_map, IsDistinct}
+use Rattle.std.specs.List.{join_with_byte, position_or_len, list_any, flat_map, Contains, IsDistinct}
 use Rattle.std.specs.Str.{bytes_eq}
 use Rattle.fb_model.specs.Names.{Name, Place, place_eq}
 use Rattle.fb_model.specs.Wires.{Leaf}
 use Rattle.fb_model.specs.Certificates.{each_leaf, places_in, state_names, events_of}
 use Rattle.fb_model.specs.CertificateText.{place_of}
-use Rattle.fb_demands.specs.Demands.{Node, state, event, Demand}
+use Rattle.fb_demands.specs.Demands.{Node, state, event, Demand, node_in, bare_demands, IsClosedWalk}
 use Rattle.fb_least.specs.Systems.{Inequality, System, inequalities}
 
 -- a place as it is written: the names of its path and its own, joined by dots
@@ -26,6 +26,34 @@ number states events (event p) = length states + index_in events (written p)
 -- the nodes that have numbers, in their order
 abbrev pub nodes_of : List Name → List Name → List Node
 nodes_of states events = map (λ t. state (place_of t)) states ++ map (λ t. event (place_of t)) events
+
+-- the states of leaves, and their event inputs and arrivals, each leaf's in text order
+abbrev pub state_places : List Leaf → List Place
+state_places all = each_leaf (λ leaf. places_in leaf.path (state_names leaf.kind)) all
+
+abbrev pub event_places : List Leaf → List Place
+event_places all = each_leaf (λ leaf. places_in leaf.path (events_of leaf.kind)) all
+
+-- these rows are those of all states and events of leaves, in their order
+pub record AreInOrder (all : List Leaf) (states events : List Name) : Type 0 where
+  pub states_are : map place_of states ≡ state_places all
+  pub events_are : map place_of events ≡ event_places all
+
+-- the nodes of leaves in the order of their rows: states, and behind them event inputs and arrivals
+abbrev pub nodes_in_order : List Leaf → List Node
+nodes_in_order all = map state (state_places all) ++ map event (event_places all)
+
+-- a walk begins at that of its nodes which comes first in this order
+pub record BeginsFirst (order walk : List Node) : Type 0 where
+  pub before : List Node
+  pub after : List Node
+  pub order_is : order ≡ before ++ node_in walk 0 ∷ after
+  pub none_before : (k : ℕ) → k < length walk → Contains before (node_in walk k) → ⊥
+
+-- a closed walk of demands, whatever algorithms cost, from the first of its nodes on
+pub record IsFirstWalk (all : List Leaf) (walk : List Node) : Type 0 where
+  pub closed : IsClosedWalk (bare_demands all) walk
+  pub first : BeginsFirst (nodes_in_order all) walk
 
 -- these rows are those of all states and events of leaves, and no two are the same
 pub record AreRowsOf (all : List Leaf) (states events : List Name) : Type 0 where

@@ -10,14 +10,15 @@ use Rattle.fb_model.specs.Names.{Name, at_place}
 use Rattle.fb_model.specs.System as book
 use Rattle.fb_model.specs.Certificates.{all_leaves}
 use Rattle.fb_model.specs.CertificateText.{place_of}
-use Rattle.fb_demands.specs.Demands.{Node, state, event, Demand, bare_demands, IsClosedWalk, node_in}
+use Rattle.fb_demands.specs.Demands.{Node, state, event, Demand, bare_demands, node_in}
 use Rattle.fb_least.specs.Graphs.{IsOrder}
-use Rattle.fb_least.specs.Systems.{System, IsSystem, IsLeast, needs}
+use Rattle.fb_least.specs.Systems.{System, IsSystem, IsLeast, needed, needs}
 use Rattle.fb_least.proofs.Solving.{walk_of}
 use Rattle.fb_numbered.specs.Numbered.{AreNumbers, AreOf}
 use Rattle.fb_numbered.proofs.Numbering.{walk_nodes}
 use Rattle.fb_numbered.proofs.Paying.{numbered_pays}
-use Rattle.fb_finding.specs.Nodes.{Numbered, by_number, nodes_of, AreGrouped}
+use Rattle.fb_finding.specs.Nodes.{Numbered, by_number, nodes_of, AreGrouped, BeginsFirst, IsFirstWalk}
+use Rattle.fb_finding.proofs.Firsts.{begins_first, nodes_are}
 use Rattle.fb_finding.proofs.Nodes.{are_numbers}
 use Rattle.fb_finding.proofs.Laws.{of_nodes, small_least, great_needed}
 use Rattle.fb_finding.proofs.Bare.{bare_same}
@@ -25,6 +26,7 @@ use Rattle.fb_finding.proofs.Orders.{order_serves, known_terms}
 use Rattle.fb_solved.specs.declared.fault.NoBound.{NoBound}
 use Rattle.fb_solved.specs.declared.fault.NoBound.TheVariants.{OutOfMemory, Cycle, NoRange, Limit}
 use Rattle.fb_solved.specs.Faults.{IsWalk, IsPastLimit}
+use Rattle.fb_solved.proofs.Walks.{all_known}
 use Rattle.fb_places.specs.fb_blocks.Views.{names_of}
 use Rattle.fb_places.specs.fb_flat.declared.flat.FlatDevice.{FlatDevice}
 use Rattle.fb_places.specs.declared.numbering.Numbering.{Numbering}
@@ -105,7 +107,11 @@ module _ (devices : List FlatDevice) (n : Numbering) (s : book.System) (are : Is
         let pays = numbered_pays (nodes_in n) (all_leaves s.devices) (numbers_of n) system numbers_stand bare_of same in
         let walk = walk_of system h.0 pays h.1 in
         let nodes = walk_nodes (nodes_in n) (bare_demands (all_leaves s.devices)) (numbers_of n) system h.0 numbers_stand bare_of same walk in
-        subst (λ (ns : List Node). IsClosedWalk (bare_demands (all_leaves s.devices)) ns) (sym (h.2 (omega (arith, sized, count_is (names_of n.states) (names_of n.events))))) nodes
+        let known = all_known (needs system) h.0 (length (nodes_in n)) h.1 (length-map system needed ∙ sized) in
+        let first = begins_first (nodes_in n) (numbers_of n) h.0 numbers_stand (omega (arith, h.1.long)) (λ k l. known k 0 l) h.2 in
+        let here : IsFirstWalk (all_leaves s.devices) (map (node_in (nodes_in n)) h.0) =
+        record { closed = nodes; first = subst (λ (order : List Node). BeginsFirst order (map (node_in (nodes_in n)) h.0)) (nodes_are (all_leaves s.devices) (names_of n.states) (names_of n.events) are.ordered) first } in
+        subst (λ (ns : List Node). IsFirstWalk (all_leaves s.devices) ns) (sym (h.3 (omega (arith, sized, count_is (names_of n.states) (names_of n.events))))) here
 
 -- ---- answers
 

@@ -3,13 +3,13 @@ use Rattle.std.specs.Prelude.{ℕ, ◌≡◌, ◌≤◌, ◌<◌, List, length, 
 use Rattle.std.specs.List.{All, Contains}
 use Rattle.fb_model.specs.System as book
 use Rattle.fb_model.specs.Certificates.{all_leaves}
-use Rattle.fb_demands.specs.Demands.{Node, Demand, bare_demands, IsClosedWalk}
+use Rattle.fb_demands.specs.Demands.{Node, Demand, bare_demands}
 use Rattle.fb_demands.specs.Columns.{MeetAll}
 use Rattle.fb_demands.specs.Likeness.{AreLike}
 use Rattle.fb_least.specs.Graphs.{IsOrder}
 use Rattle.fb_least.specs.Systems.{System, needs}
 use Rattle.fb_numbered.specs.Numbered.{AreLeast, AreNumbers, AreOf}
-use Rattle.fb_finding.specs.Nodes.{Numbered, AreGrouped}
+use Rattle.fb_finding.specs.Nodes.{Numbered, AreGrouped, IsFirstWalk}
 use Rattle.fb_solved.specs.declared.fault.NoBound.{NoBound}
 use Rattle.fb_solved.specs.declared.fault.NoBound.TheVariants.{OutOfMemory, Cycle, NoRange, Limit}
 use Rattle.fb_solved.specs.Places.{node_of}
@@ -53,9 +53,9 @@ IsPastFault n ds limit (Cycle places) = ⊥
 IsPastFault n ds limit (NoRange path) = ⊥
 IsPastFault n ds limit (Limit resource) = IsPast n ds limit (string_bytes resource)
 
--- want of memory, or a closed walk of demands
+-- want of memory, or a closed walk of demands from the first of its nodes on
 abbrev pub IsCycle : book.System → NoBound → Type 0
 IsCycle s OutOfMemory = Unit {0}
-IsCycle s (Cycle places) = IsClosedWalk (bare_demands (all_leaves s.devices)) (map node_of places.items)
+IsCycle s (Cycle places) = IsFirstWalk (all_leaves s.devices) (map node_of places.items)
 IsCycle s (NoRange path) = ⊥
 IsCycle s (Limit resource) = ⊥

@@ -7,7 +7,7 @@ use Rattle.fb_model.specs.System.{System}
 use Rattle.fb_model.specs.Certificates.{all_leaves, FollowsFew}
 use Rattle.fb_spelled.specs.Words.{IsWordyDevice, IsCapitalDevice}
 use Rattle.fb_demands.specs.Demands.{Node}
-use Rattle.fb_finding.specs.Nodes.{nodes_of, AreRowsOf}
+use Rattle.fb_finding.specs.Nodes.{nodes_of, AreInOrder, AreRowsOf}
 use Rattle.fb_places.specs.fb_blocks.Views.{names_of}
 use Rattle.fb_places.specs.fb_flat.declared.flat.FlatDevice.{FlatDevice}
 use Rattle.fb_places.specs.fb_flat.Tables.{AreDevices}
@@ -27,7 +27,8 @@ pub record IsGiven (devices : List FlatDevice) (s : System) : Type 0 where
 abbrev pub nodes_in : Numbering → List Node
 nodes_in n = nodes_of (names_of n.states) (names_of n.events)
 
--- and all its nodes have numbers
+-- and all its nodes have numbers, in the order of their rows
 pub record IsNumbered (devices : List FlatDevice) (n : Numbering) (s : System) : Type 0 where
   pub given : IsGiven devices s
   pub rows : AreRowsOf (all_leaves s.devices) (names_of n.states) (names_of n.events)
+  pub ordered : AreInOrder (all_leaves s.devices) (names_of n.states) (names_of n.events)

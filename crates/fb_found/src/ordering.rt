@@ -11,7 +11,7 @@ use fb_solved::{NoBound, sorted};
 use fb_sums::plain_rights;
 use std::alloc::Global;
 
-/// Each node's number after all that it demands, whatever algorithms cost; or a closed walk of demands.
+/// Each node's number after all that it demands, whatever algorithms cost; or a closed walk of demands, from that of its places on whose row comes first.
 pub fn order(alloc: Global, flat: &Flat, numbering: &Numbering) -> Result<Vec<usize>, NoBound>
     requires { (s : System) × IsNumbered flat.now.devices.items numbering.now s }
     ensures ordered { (s : System) → IsNumbered flat.now.devices.items numbering.now s → IfOk result (λ order. ServesAll numbering.now s order.items) }

@@ -19,10 +19,9 @@ use Rattle.fb_cert.specs.declared.bounds.Bounds.{Bounds}
 use Rattle.fb_cert.specs.Views.{Table, first_at, Rows, span_of}
 use Rattle.fb_ledger.specs.declared.kind.RowKind.TheVariants.{Charge, Weight, Range, Depth}
 use Rattle.fb_flat.specs.declared.flat.FlatDevice.{FlatDevice}
-use Rattle.fb_ledger.specs.Members.{HasSame}
+use Rattle.fb_ledger.specs.Members.{HasSame, gathered, with_name}
 use Rattle.fb_ledger.specs.Texts.{paths, paths_of, texts_in, ranged_names, texts_of, HaveSameRows}
 use Rattle.fb_flat.specs.Sites.{dotted}
-use Rattle.fb_ledger.proofs.Members.{same_step}
 
 -- a table has a path just where it has a first row of it
 pub has_first : {V : Type 0} (path : Name) (rows : Table V) → is_some (first_at path rows) ≡ is_in path (paths rows)
@@ -76,16 +75,16 @@ are_same devices rows c w r d Depth = d
 -- ---- variables, one after another
 
 -- a variable that is not BOOL has a row
-pub ranged_on : (p : Name) (xs : List (String Global × Variable)) (k : ℕ) (x : String Global × Variable) (old new goal : List Name) → drop k xs ≡ x ∷ drop (k + 1) xs → is_boolean x.1.of_type ≡ false → HasSame new (dotted p (string_bytes x.0) ∷ old)
-    → HasSame (texts_in p (ranged_names (listed (drop k xs))) ++ old) goal → HasSame (texts_in p (ranged_names (listed (drop (k + 1) xs))) ++ new) goal
+pub ranged_on : (p : Name) (xs : List (String Global × Variable)) (k : ℕ) (x : String Global × Variable) (old new goal : List Name) → drop k xs ≡ x ∷ drop (k + 1) xs → is_boolean x.1.of_type ≡ false → new ≡ with_name old (dotted p (string_bytes x.0))
+    → gathered old (texts_in p (ranged_names (listed (drop k xs)))) ≡ goal → gathered new (texts_in p (ranged_names (listed (drop (k + 1) xs)))) ≡ goal
 ranged_on p xs k x old new goal e b h so =
-    same_step (dotted p (string_bytes x.0) ∷ []) (texts_in p (ranged_names (listed (drop (k + 1) xs)))) old new goal h
-    (subst (λ t. HasSame (texts_in p (cond t (ranged_names (listed (drop (k + 1) xs))) (string_bytes x.0 ∷ ranged_names (listed (drop (k + 1) xs)))) ++ old) goal) b
-    (subst (λ ys. HasSame (texts_in p (ranged_names (listed ys)) ++ old) goal) e so))
+    ap (λ ns. gathered ns (texts_in p (ranged_names (listed (drop (k + 1) xs))))) h
+    ∙ subst (λ t. gathered old (texts_in p (cond t (ranged_names (listed (drop (k + 1) xs))) (string_bytes x.0 ∷ ranged_names (listed (drop (k + 1) xs))))) ≡ goal) b
+    (subst (λ ys. gathered old (texts_in p (ranged_names (listed ys))) ≡ goal) e so)
 
 -- one that is BOOL has none
 pub ranged_over : (p : Name) (xs : List (String Global × Variable)) (k : ℕ) (x : String Global × Variable) (old goal : List Name) → drop k xs ≡ x ∷ drop (k + 1) xs → is_boolean x.1.of_type ≡ true
-    → HasSame (texts_in p (ranged_names (listed (drop k xs))) ++ old) goal → HasSame (texts_in p (ranged_names (listed (drop (k + 1) xs))) ++ old) goal
+    → gathered old (texts_in p (ranged_names (listed (drop k xs)))) ≡ goal → gathered old (texts_in p (ranged_names (listed (drop (k + 1) xs)))) ≡ goal
 ranged_over p xs k x old goal e b so =
-    subst (λ t. HasSame (texts_in p (cond t (ranged_names (listed (drop (k + 1) xs))) (string_bytes x.0 ∷ ranged_names (listed (drop (k + 1) xs)))) ++ old) goal) b
-    (subst (λ ys. HasSame (texts_in p (ranged_names (listed ys)) ++ old) goal) e so)
+    subst (λ t. gathered old (texts_in p (cond t (ranged_names (listed (drop (k + 1) xs))) (string_bytes x.0 ∷ ranged_names (listed (drop (k + 1) xs))))) ≡ goal) b
+    (subst (λ ys. gathered old (texts_in p (ranged_names (listed ys))) ≡ goal) e so)

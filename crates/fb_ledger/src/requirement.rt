@@ -1,6 +1,6 @@
 //! The rows that a system must have, kind by kind.
 
-ghost use Rattle.std.specs.Prelude.{◌≡◌, ◌++◌, ◌∷◌, map, string_bytes, IfOk, IfErr, OnOk};
+ghost use Rattle.std.specs.Prelude.{◌≡◌, [], map, string_bytes, IfOk, IfErr, OnOk};
 ghost use Rattle.std.specs.List.{flat_map};
 ghost use Rattle.fb_model.specs.Wires.{Charted, Serviced};
 ghost use Rattle.fb_model.specs.Certificates.{is_boolean as is_true};
@@ -8,7 +8,7 @@ ghost use Rattle.fb_flat.specs.fb_blocks.Views.{names_of, variables_of, block_of
 ghost use Rattle.fb_flat.specs.fb_services.Views.{service_of};
 ghost use Rattle.fb_flat.specs.Sites.{dotted};
 ghost use Rattle.fb_ledger.specs.declared.kind.RowKind.TheVariants.{Weight, Range};
-ghost use Rattle.fb_ledger.specs.Members.{HasSame};
+ghost use Rattle.fb_ledger.specs.Members.{gathered, with_name};
 ghost use Rattle.fb_ledger.specs.Texts.{texts_in, ranged_names, row_names, leaf_texts, resource_texts, device_texts, texts_of};
 ghost use Rattle.fb_ledger.specs.Faults.{IsMemory};
 
@@ -23,7 +23,7 @@ use std::alloc::Global;
 
 // A row is required.
 fn require(rows: &mut IndexSet<String>, row: String) -> Result<(), RowFault>
-    ensures rows { OnOk result (HasSame (names_of rows.new) (string_bytes row ∷ names_of rows.old)) }
+    ensures rows { OnOk result (names_of rows.new ≡ with_name (names_of rows.old) (string_bytes row)) }
     ensures memory { IfErr result IsMemory }
 {
     let _ = rows.insert(row)?;
@@ -37,7 +37,7 @@ fn require_name(
     path: &str,
     name: &str,
 ) -> Result<(), RowFault>
-    ensures rows { OnOk result (HasSame (names_of rows.new) (dotted path.now name.now ∷ names_of rows.old)) }
+    ensures rows { OnOk result (names_of rows.new ≡ with_name (names_of rows.old) (dotted path.now name.now)) }
     ensures memory { IfErr result IsMemory }
 {
     require(rows, joined(alloc, path, name)?)
@@ -50,7 +50,7 @@ fn require_names(
     path: &str,
     names: &[&str],
 ) -> Result<(), RowFault>
-    ensures rows { OnOk result (HasSame (names_of rows.new) (texts_in path.now (map (λ n. n.now) names.now) ++ names_of rows.old)) }
+    ensures rows { OnOk result (names_of rows.new ≡ gathered (names_of rows.old) (texts_in path.now (map (λ n. n.now) names.now))) }
     ensures memory { IfErr result IsMemory }
 {
     for name in names {
@@ -66,7 +66,7 @@ fn require_table<V>(
     path: &str,
     table: &IndexMap<String, V>,
 ) -> Result<(), RowFault>
-    ensures rows { OnOk result (HasSame (names_of rows.new) (texts_in path.now (map (λ p. string_bytes p.0) table.now.entries) ++ names_of rows.old)) }
+    ensures rows { OnOk result (names_of rows.new ≡ gathered (names_of rows.old) (texts_in path.now (map (λ p. string_bytes p.0) table.now.entries))) }
     ensures memory { IfErr result IsMemory }
 {
     for index in 0..table.len() {
@@ -95,7 +95,7 @@ fn require_variables(
     path: &str,
     variables: &Variables,
 ) -> Result<(), RowFault>
-    ensures rows { OnOk result (HasSame (names_of rows.new) (texts_in path.now (ranged_names (variables_of variables.now)) ++ names_of rows.old)) }
+    ensures rows { OnOk result (names_of rows.new ≡ gathered (names_of rows.old) (texts_in path.now (ranged_names (variables_of variables.now)))) }
     ensures memory { IfErr result IsMemory }
 {
     for index in 0..variables.len() {
@@ -116,7 +116,7 @@ fn require_ranges(
     path: &str,
     block: &Block,
 ) -> Result<(), RowFault>
-    ensures rows { OnOk result (HasSame (names_of rows.new) (texts_in path.now (row_names Range (Charted (block_of block.now))) ++ names_of rows.old)) }
+    ensures rows { OnOk result (names_of rows.new ≡ gathered (names_of rows.old) (texts_in path.now (row_names Range (Charted (block_of block.now))))) }
     ensures memory { IfErr result IsMemory }
 {
     require_variables(alloc, rows, path, &block.face.inputs)?;
@@ -132,7 +132,7 @@ fn require_block(
     path: &str,
     block: &Block,
 ) -> Result<(), RowFault>
-    ensures rows { OnOk result (HasSame (names_of rows.new) (texts_in path.now (row_names kind (Charted (block_of block.now))) ++ names_of rows.old)) }
+    ensures rows { OnOk result (names_of rows.new ≡ gathered (names_of rows.old) (texts_in path.now (row_names kind (Charted (block_of block.now))))) }
     ensures memory { IfErr result IsMemory }
 {
     match kind {
@@ -150,7 +150,7 @@ fn require_events(
     path: &str,
     service: &Service,
 ) -> Result<(), RowFault>
-    ensures rows { OnOk result (HasSame (names_of rows.new) (texts_in path.now (row_names Weight (Serviced (service_of service.now))) ++ names_of rows.old)) }
+    ensures rows { OnOk result (names_of rows.new ≡ gathered (names_of rows.old) (texts_in path.now (row_names Weight (Serviced (service_of service.now))))) }
     ensures memory { IfErr result IsMemory }
 {
     require_names(alloc, rows, path, service.event_inputs())?;
@@ -168,7 +168,7 @@ fn require_service(
     path: &str,
     service: &Service,
 ) -> Result<(), RowFault>
-    ensures rows { OnOk result (HasSame (names_of rows.new) (texts_in path.now (row_names kind (Serviced (service_of service.now))) ++ names_of rows.old)) }
+    ensures rows { OnOk result (names_of rows.new ≡ gathered (names_of rows.old) (texts_in path.now (row_names kind (Serviced (service_of service.now))))) }
     ensures memory { IfErr result IsMemory }
 {
     match kind {
@@ -184,7 +184,7 @@ fn require_leaf(
     rows: &mut IndexSet<String>,
     leaf: &Leaf,
 ) -> Result<(), RowFault>
-    ensures rows { OnOk result (HasSame (names_of rows.new) (leaf_texts kind leaf.now ++ names_of rows.old)) }
+    ensures rows { OnOk result (names_of rows.new ≡ gathered (names_of rows.old) (leaf_texts kind leaf.now)) }
     ensures memory { IfErr result IsMemory }
 {
     match &leaf.body {
@@ -200,7 +200,7 @@ fn require_leaves(
     rows: &mut IndexSet<String>,
     leaves: &[Leaf],
 ) -> Result<(), RowFault>
-    ensures rows { OnOk result (HasSame (names_of rows.new) (flat_map (leaf_texts kind) leaves.now ++ names_of rows.old)) }
+    ensures rows { OnOk result (names_of rows.new ≡ gathered (names_of rows.old) (flat_map (leaf_texts kind) leaves.now)) }
     ensures memory { IfErr result IsMemory }
 {
     for leaf in leaves {
@@ -216,7 +216,7 @@ fn require_resource(
     rows: &mut IndexSet<String>,
     resource: &FlatResource,
 ) -> Result<(), RowFault>
-    ensures rows { OnOk result (HasSame (names_of rows.new) (resource_texts kind resource.now ++ names_of rows.old)) }
+    ensures rows { OnOk result (names_of rows.new ≡ gathered (names_of rows.old) (resource_texts kind resource.now)) }
     ensures memory { IfErr result IsMemory }
 {
     match kind {
@@ -234,7 +234,7 @@ fn require_device(
     rows: &mut IndexSet<String>,
     device: &FlatDevice,
 ) -> Result<(), RowFault>
-    ensures rows { OnOk result (HasSame (names_of rows.new) (device_texts kind device.now ++ names_of rows.old)) }
+    ensures rows { OnOk result (names_of rows.new ≡ gathered (names_of rows.old) (device_texts kind device.now)) }
     ensures memory { IfErr result IsMemory }
 {
     for resource in &device.resources {
@@ -245,7 +245,7 @@ fn require_device(
 
 /// The rows of a kind that a system must have, in text order.
 pub fn required(alloc: Global, kind: RowKind, flat: &Flat) -> Result<IndexSet<String>, RowFault>
-    ensures rows { IfOk result (λ rows. HasSame (names_of rows) (texts_of kind flat.now.devices.items)) }
+    ensures rows { IfOk result (λ rows. names_of rows ≡ gathered [] (texts_of kind flat.now.devices.items)) }
     ensures memory { IfErr result IsMemory }
 {
     let mut rows = IndexSet::new(alloc);

@@ -5,16 +5,18 @@ use Rattle.std.specs.Str.{bytes_eq}
 use Rattle.fb_model.specs.Names.{Name, Path, Place, at_place, path_eq, place_eq}
 use Rattle.fb_model.specs.Declarations.{BlockTree, SourceTree}
 use Rattle.fb_model.specs.NetworkTyping.{ElaboratesWith}
-use Rattle.fb_model.specs.System.{Variable, Block, Resource, Device, System}
+use Rattle.fb_model.specs.System.{Variable, Block, Service, Input, Output, Publish, Subscribe, Delay, Cycle, Restart, Resource, Device, System}
+use Rattle.fb_model.specs.Services.{service_events}
 use Rattle.fb_model.specs.Wires.{Kind, Charted, Serviced, Leaf, leaves}
 use Rattle.fb_model.specs.Store.{variable_names}
 use Rattle.fb_model.specs.Ranges.{variables}
-use Rattle.fb_model.specs.Certificates.{all_leaves, is_boolean, ranged_variables, of_kind, ranged, resource_paths, depth_paths}
+use Rattle.fb_model.specs.Certificates.{all_leaves, each_leaf, event_names, events_of, is_boolean, names, places_in, ranged_variables, of_kind, ranged, resource_paths, depth_paths, state_names}
 use Rattle.fb_model.specs.CertificateText.{names_in, place_of}
 use Rattle.fb_model.proofs.Lists.{all_append, all_weaker}
-use Rattle.fb_model.proofs.Placed.{Apart}
-use Rattle.fb_leaves.specs.Leaves.{AreApart, OnChart}
+use Rattle.fb_model.proofs.Placed.{Apart, apart}
+use Rattle.fb_leaves.specs.Leaves.{AreApart, IsClosed, OnChart}
 use Rattle.fb_leaves.proofs.Charts.{on_charts}
+use Rattle.fb_leaves.proofs.Closed.{all_charts_closed}
 use Rattle.fb_leaves.proofs.Made.{IsWellDevice}
 use Rattle.fb_leaves.proofs.Paths.{all_apart}
 use Rattle.fb_leaves.proofs.Typed.{devices_made}
@@ -24,10 +26,10 @@ use Rattle.fb_rounds.proofs.Devices.{IsOf, LeafIsOf, of_device, paths_differ, na
 use Rattle.fb_spelled.specs.Words.{IsWordyDevice}
 use Rattle.fb_flat.specs.declared.flat.FlatDevice.{FlatDevice}
 use Rattle.fb_flat.specs.Tables.{AreDevices}
-use Rattle.fb_ledger.specs.declared.kind.RowKind.TheVariants.{Range, Depth}
+use Rattle.fb_ledger.specs.declared.kind.RowKind.TheVariants.{Charge, Weight, Range, Depth}
 use Rattle.fb_ledger.specs.Texts.{texts_of}
 use Rattle.fb_ledger.proofs.Places.{same_place, same_names}
-use Rattle.fb_ledger.proofs.Systems.{devices_ranged, devices_named}
+use Rattle.fb_ledger.proofs.Systems.{devices_placed, devices_ranged, devices_named}
 
 -- ---- lists apart, by a test
 
@@ -113,18 +115,21 @@ own_paths : (all : List Leaf) → AreApart all → AreElsewhere all
 own_paths [] h = tt
 own_paths (leaf ∷ all) h = (h.0, own_paths all h.1)
 
-elsewhere : (p : Place) (path : Path) (all : List Leaf) → p.path ≡ path → AllByRecursion (λ (other : Leaf). path_eq path other.path ≡ false) all → AllByRecursion (λ q. place_eq p q ≡ false) (ranged all)
-elsewhere p path [] e h = tt
-elsewhere p path (leaf ∷ all) e h =
-    all_append (λ q. place_eq p q ≡ false) (of_kind leaf.path leaf.kind) (ranged all)
-    (all_weaker (λ (q : Place). q.path ≡ leaf.path) (λ (q : Place). place_eq p q ≡ false) (of_kind leaf.path leaf.kind) (λ q k. and_left (path_eq p.path q.path) (bytes_eq p.event q.event) (ap₂ path_eq e k ∙ h.0)) (kind_on leaf.path leaf.kind))
-    (elsewhere p path all e h.1)
+-- places that each leaf has on its own path
+abbrev AreOwn : (Leaf → List Place) → Type 0
+AreOwn g = (leaf : Leaf) → AreOn leaf.path (g leaf)
 
-leaves_differ : (all : List Leaf) → AreElsewhere all → AllByRecursion (λ (leaf : Leaf). OnChart AreNamed leaf.kind) all → Differ place_eq (ranged all)
-leaves_differ [] h k = tt
-leaves_differ (leaf ∷ all) h k =
-    joined place_eq (of_kind leaf.path leaf.kind) (ranged all) (leaf_differs leaf.path leaf.kind k.0) (leaves_differ all h.1 k.1)
-    (all_weaker (λ (p : Place). p.path ≡ leaf.path) (λ (p : Place). AllByRecursion (λ q. place_eq p q ≡ false) (ranged all)) (of_kind leaf.path leaf.kind) (λ p e. elsewhere p leaf.path all e h.0) (kind_on leaf.path leaf.kind))
+elsewhere : (g : Leaf → List Place) → AreOwn g → (p : Place) (path : Path) (all : List Leaf) → p.path ≡ path → AllByRecursion (λ (other : Leaf). path_eq path other.path ≡ false) all → AllByRecursion (λ q. place_eq p q ≡ false) (each_leaf g all)
+elsewhere g own p path [] e h = tt
+elsewhere g own p path (leaf ∷ all) e h =
+    all_append (λ q. place_eq p q ≡ false) (g leaf) (each_leaf g all)
+    (all_weaker (λ (q : Place). q.path ≡ leaf.path) (λ (q : Place). place_eq p q ≡ false) (g leaf) (λ q k. and_left (path_eq p.path q.path) (bytes_eq p.event q.event) (ap₂ path_eq e k ∙ h.0)) (own leaf)) (elsewhere g own p path all e h.1)
+
+leaves_differ : (g : Leaf → List Place) → AreOwn g → (all : List Leaf) → AreElsewhere all → AllByRecursion (λ (leaf : Leaf). Differ place_eq (g leaf)) all → Differ place_eq (each_leaf g all)
+leaves_differ g own [] h k = tt
+leaves_differ g own (leaf ∷ all) h k =
+    joined place_eq (g leaf) (each_leaf g all) k.0 (leaves_differ g own all h.1 k.1)
+    (all_weaker (λ (p : Place). p.path ≡ leaf.path) (λ (p : Place). AllByRecursion (λ q. place_eq p q ≡ false) (each_leaf g all)) (g leaf) (λ p e. elsewhere g own p leaf.path all e h.0) (own leaf))
 
 -- ---- devices
 
@@ -147,13 +152,76 @@ pub on_all_leaves : (P : Leaf → Type 0) (ds : List Device) → AllByRecursion 
 on_all_leaves P [] h = tt
 on_all_leaves P (d ∷ ds) h = all_append P (leaves d) (all_leaves ds) h.0 (on_all_leaves P ds h.1)
 
-places_differ : (library : List BlockTree) (source : SourceTree) (s : System) → ElaboratesWith library source s → Differ place_eq (ranged (all_leaves s.devices))
-places_differ library source s e =
-    leaves_differ (all_leaves s.devices) (all_elsewhere s.devices (all_apart library source s e) (names_apart library source s e))
-    (on_all_leaves (λ (leaf : Leaf). OnChart AreNamed leaf.kind) s.devices (on_charts AreNamed basic_names library source s e))
+-- the places of all leaves differ where those of each do
+places_differ : (g : Leaf → List Place) → AreOwn g → (library : List BlockTree) (source : SourceTree) (s : System) → ElaboratesWith library source s → AllByRecursion (λ (leaf : Leaf). Differ place_eq (g leaf)) (all_leaves s.devices) → Differ place_eq (each_leaf g (all_leaves s.devices))
+places_differ g own library source s e h = leaves_differ g own (all_leaves s.devices) (all_elsewhere s.devices (all_apart library source s e) (names_apart library source s e)) h
+
+-- ---- variables
+
+ranged_each : (all : List Leaf) → ranged all ≡ each_leaf (λ leaf. of_kind leaf.path leaf.kind) all
+ranged_each [] = refl
+ranged_each (leaf ∷ all) = ap (λ ps. of_kind leaf.path leaf.kind ++ ps) (ranged_each all)
+
+variables_apart : (library : List BlockTree) (source : SourceTree) (s : System) → ElaboratesWith library source s → Differ place_eq (ranged (all_leaves s.devices))
+variables_apart library source s e =
+    subst (Differ place_eq) (sym (ranged_each (all_leaves s.devices)))
+    (places_differ (λ leaf. of_kind leaf.path leaf.kind) (λ leaf. kind_on leaf.path leaf.kind) library source s e
+    (all_weaker (λ (leaf : Leaf). OnChart AreNamed leaf.kind) (λ (leaf : Leaf). Differ place_eq (of_kind leaf.path leaf.kind)) (all_leaves s.devices) (λ leaf o. leaf_differs leaf.path leaf.kind o)
+    (on_all_leaves (λ (leaf : Leaf). OnChart AreNamed leaf.kind) s.devices (on_charts AreNamed basic_names library source s e))))
 
 pub ranges_are_apart : (library : List BlockTree) (source : SourceTree) (devices : List FlatDevice) (s : System) → ElaboratesWith library source s → AreDevices devices s.devices → AllByRecursion IsWordyDevice s.devices → IsDistinct bytes_eq (texts_of Range devices)
-ranges_are_apart library source devices s e are plain = unmapped place_eq place_of same_place (texts_of Range devices) (subst (Differ place_eq) (sym (devices_ranged devices s.devices are plain)) (places_differ library source s e))
+ranges_are_apart library source devices s e are plain = unmapped place_eq place_of same_place (texts_of Range devices) (subst (Differ place_eq) (sym (devices_ranged devices s.devices are plain)) (variables_apart library source s e))
+
+-- ---- states and events
+
+named_on : (path : Path) (ns : List Name) → AreOn path (places_in path ns)
+named_on path [] = tt
+named_on path (n ∷ ns) = (refl, named_on path ns)
+
+named_differ : (path : Path) (ns : List Name) → Apart ns → Differ place_eq (places_in path ns)
+named_differ path [] h = tt
+named_differ path (n ∷ ns) h = (others ns h.0, named_differ path ns h.1) where
+  others : (ms : List Name) → AllByRecursion (λ m. bytes_eq n m ≡ false) ms → AllByRecursion (λ p. place_eq (at_place path n) p ≡ false) (places_in path ms)
+  others [] k = tt
+  others (m ∷ ms) k = (and_right (path_eq path path) (bytes_eq n m) k.0, others ms k.1)
+
+-- the first of two lists that are apart
+first_apart : (xs ys : List Name) → Apart (xs ++ ys) → Apart xs
+first_apart [] ys h = tt
+first_apart (x ∷ xs) ys h = (first xs h.0, first_apart xs ys h.1) where
+  first : (zs : List Name) → AllByRecursion (λ m. bytes_eq x m ≡ false) (zs ++ ys) → AllByRecursion (λ m. bytes_eq x m ≡ false) zs
+  first [] k = tt
+  first (z ∷ zs) k = (k.0, first zs k.1)
+
+states_apart : (kind : Kind) → IsClosed kind → Apart (state_names kind)
+states_apart (Charted block) h = apart (names block.states) h.states_apart
+states_apart (Serviced service) h = tt
+
+served_apart : (service : Service) → Apart (service_events service)
+served_apart (Input number types) = (tt, tt)
+served_apart (Output number types) = (tt, tt)
+served_apart (Publish channel types) = ((refl, tt), (tt, tt))
+served_apart (Subscribe channel types) = ((refl, (refl, tt)), ((refl, tt), (tt, tt)))
+served_apart Delay = ((refl, (refl, tt)), ((refl, tt), (tt, tt)))
+served_apart Cycle = ((refl, (refl, tt)), ((refl, tt), (tt, tt)))
+served_apart Restart = (tt, tt)
+
+events_apart : (kind : Kind) → IsClosed kind → Apart (events_of kind)
+events_apart (Charted block) h = first_apart (event_names block.event_inputs) (event_names block.event_outputs) (apart (event_names block.event_inputs ++ event_names block.event_outputs) h.events_apart)
+events_apart (Serviced service) h = served_apart service
+
+named_apart : (f : Kind → List Name) → ((kind : Kind) → IsClosed kind → Apart (f kind)) → (library : List BlockTree) (source : SourceTree) (s : System) → ElaboratesWith library source s
+    → Differ place_eq (each_leaf (λ leaf. places_in leaf.path (f leaf.kind)) (all_leaves s.devices))
+named_apart f h library source s e =
+    places_differ (λ leaf. places_in leaf.path (f leaf.kind)) (λ leaf. named_on leaf.path (f leaf.kind)) library source s e
+    (all_weaker (λ (leaf : Leaf). IsClosed leaf.kind) (λ (leaf : Leaf). Differ place_eq (places_in leaf.path (f leaf.kind))) (all_leaves s.devices) (λ leaf c. named_differ leaf.path (f leaf.kind) (h leaf.kind c))
+    (on_all_leaves (λ (leaf : Leaf). IsClosed leaf.kind) s.devices (all_charts_closed library source s e)))
+
+pub charges_are_apart : (library : List BlockTree) (source : SourceTree) (devices : List FlatDevice) (s : System) → ElaboratesWith library source s → AreDevices devices s.devices → AllByRecursion IsWordyDevice s.devices → IsDistinct bytes_eq (texts_of Charge devices)
+charges_are_apart library source devices s e are plain = unmapped place_eq place_of same_place (texts_of Charge devices) (subst (Differ place_eq) (sym (devices_placed Charge devices s.devices are plain)) (named_apart state_names states_apart library source s e))
+
+pub weights_are_apart : (library : List BlockTree) (source : SourceTree) (devices : List FlatDevice) (s : System) → ElaboratesWith library source s → AreDevices devices s.devices → AllByRecursion IsWordyDevice s.devices → IsDistinct bytes_eq (texts_of Weight devices)
+weights_are_apart library source devices s e are plain = unmapped place_eq place_of same_place (texts_of Weight devices) (subst (Differ place_eq) (sym (devices_placed Weight devices s.devices are plain)) (named_apart events_of events_apart library source s e))
 
 -- ---- resources
 

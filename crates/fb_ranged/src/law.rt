@@ -11,7 +11,7 @@ ghost use Rattle.fb_flat.specs.declared.flat.FlatDevice.{FlatDevice};
 ghost use Rattle.fb_flat.specs.Tables.{AreDevices};
 ghost use Rattle.fb_cert.specs.Adding.{is_upper_path};
 ghost use Rattle.fb_ledger.specs.declared.kind.RowKind.{RowKind};
-ghost use Rattle.fb_ledger.specs.declared.kind.RowKind.TheVariants.{Range, Depth};
+ghost use Rattle.fb_ledger.specs.declared.kind.RowKind.TheVariants.{Charge, Weight, Range, Depth};
 ghost use Rattle.fb_ledger.specs.Texts.{texts_of};
 
 /// The rows of a system whose names are capitals stand under paths in capitals.
@@ -22,6 +22,12 @@ pub fn rows_have_capitals()
 /// No two rows RANGE of a well typed system stand under one path.
 pub fn ranges_are_apart()
     ensures { (library : List BlockTree) (source : SourceTree) (devices : List FlatDevice) (s : System) → ElaboratesWith library source s → AreDevices devices s.devices → AllByRecursion IsWordyDevice s.devices → IsDistinct bytes_eq (texts_of Range devices) }
+{}
+
+/// Nor do two rows CHARGE, or two rows WEIGHT.
+pub fn nodes_are_apart()
+    ensures charges { (library : List BlockTree) (source : SourceTree) (devices : List FlatDevice) (s : System) → ElaboratesWith library source s → AreDevices devices s.devices → AllByRecursion IsWordyDevice s.devices → IsDistinct bytes_eq (texts_of Charge devices) }
+    ensures weights { (library : List BlockTree) (source : SourceTree) (devices : List FlatDevice) (s : System) → ElaboratesWith library source s → AreDevices devices s.devices → AllByRecursion IsWordyDevice s.devices → IsDistinct bytes_eq (texts_of Weight devices) }
 {}
 
 /// Nor do two rows DEPTH.

@@ -5,6 +5,6 @@ mod law;
 mod row;
 mod table;
 
-pub use law::{ranges_are_apart, resources_are_apart, rows_have_capitals};
+pub use law::{nodes_are_apart, ranges_are_apart, resources_are_apart, rows_have_capitals};
 pub use row::add_ranges;
 pub use table::tables;

@@ -1,6 +1,6 @@
 mod Keys
 mod Adding
 mod Names
-mod Walks
+pub mod Walks
 pub mod Telling
 mod Limits

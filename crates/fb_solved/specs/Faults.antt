@@ -4,16 +4,17 @@ use Rattle.fb_model.specs.Names.{Name, Place}
 use Rattle.fb_model.specs.CertificateText.{names_in}
 use Rattle.fb_demands.specs.Demands.{Node, state, event, node_in}
 use Rattle.fb_least.specs.Graphs.{IsClosed}
+use Rattle.fb_least.specs.Searches.{IsFromLeast}
 use Rattle.fb_least.specs.Systems.{System, needs, IsLeast}
 use Rattle.fb_finding.specs.Nodes.{nodes_of}
 use Rattle.fb_solved.specs.declared.fault.NoBound.{NoBound}
 use Rattle.fb_solved.specs.declared.fault.NoBound.TheVariants.{OutOfMemory, Cycle, NoRange, Limit}
 use Rattle.fb_solved.specs.Places.{node_of}
 
--- want of memory, or a closed walk of places
+-- want of memory, or a closed walk of places from the first of them on
 abbrev pub IsWalk : System → List Name → List Name → NoBound → Type 0
 IsWalk system states events OutOfMemory = Unit {0}
-IsWalk system states events (Cycle places) = (walk : List ℕ) × IsClosed (needs system) walk × (length system ≡ length states + length events → map node_of places.items ≡ map (node_in (nodes_of states events)) walk)
+IsWalk system states events (Cycle places) = (walk : List ℕ) × IsClosed (needs system) walk × IsFromLeast walk × (length system ≡ length states + length events → map node_of places.items ≡ map (node_in (nodes_of states events)) walk)
 IsWalk system states events (NoRange path) = ⊥
 IsWalk system states events (Limit resource) = ⊥
 

@@ -1,10 +1,10 @@
-use Rattle.std.proofs.Common.{◌++◌, drop}
+use Rattle.std.proofs.Common.{◌≡◌, drop}
 use Rattle.std.specs.List.{flat_map}
 use Rattle.fb_flat.specs.fb_blocks.Views.{names_of}
-use Rattle.fb_ledger.specs.Members.{HasSame}
+use Rattle.fb_ledger.specs.Members.{gathered}
 use Rattle.fb_ledger.specs.Texts.{resource_texts, device_texts}
 use Rattle.fb_ledger.proofs.requirement.require_device.Given as goal
 
 -- with the rows of the resources that are left, all are there
 abbrev pub invariant-loop-resource : goal.invariant-loop-resource
-invariant-loop-resource l = HasSame (flat_map (resource_texts l.kind) (drop l.resource-index l.device.resources.items) ++ names_of l.rows) (device_texts l.kind l.device ++ names_of l.initial.rows)
+invariant-loop-resource l = gathered (names_of l.rows) (flat_map (resource_texts l.kind) (drop l.resource-index l.device.resources.items)) ≡ gathered (names_of l.initial.rows) (device_texts l.kind l.device)

@@ -5,9 +5,9 @@ use Rattle.fb_flat.specs.fb_blocks.Views.{names_of}
 use Rattle.fb_flat.proofs.of_fb_blocks.Lists.{on_ok}
 use Rattle.fb_flat.specs.fb_services.Views.{service_of, listed}
 use Rattle.fb_flat.specs.Sites.{dotted}
-use Rattle.fb_ledger.specs.Members.{HasSame}
+use Rattle.fb_ledger.specs.Members.{gathered}
 use Rattle.fb_ledger.specs.Texts.{texts_in}
-use Rattle.fb_ledger.proofs.Members.{same_behind}
+use Rattle.fb_ledger.proofs.Members.{gathered_one}
 use Rattle.fb_ledger.proofs.Tables.{events_are}
 use Rattle.fb_ledger.proofs.requirement.require_events.Goals as goal
 
@@ -19,7 +19,7 @@ returns-in-Some-clause-rows c =
     let all : texts_in p (service_event_inputs s) ++ dotted p c.in-Some.event.now ∷ [] ≡ texts_in p (service_events s) =
     sym (map-append (λ n. dotted p n) (service_event_inputs s) (c.in-Some.event.now ∷ [])) ∙ ap (λ es. texts_in p (service_event_inputs s ++ es)) one ∙ ap (texts_in p) (sym (events_are s)) in
     on_ok
-    (λ h. subst (λ ts. HasSame (names_of c.require_name.new.rows) (ts ++ names_of c.args.rows.now)) all
-    (same_behind (dotted p c.in-Some.event.now) (texts_in p (service_event_inputs s)) (names_of c.args.rows.now) (names_of c.require_names.new.rows) (names_of c.require_name.new.rows)
-    (subst (λ ns. HasSame (names_of c.require_names.new.rows) (texts_in p ns ++ names_of c.args.rows.now)) c.event_inputs.ensures c.in_ok-require_names.ensures.rows) h))
+    (λ h. subst (λ ts. names_of c.require_name.new.rows ≡ gathered (names_of c.args.rows.now) ts) all
+    (gathered_one (names_of c.args.rows.now) (names_of c.require_names.new.rows) (names_of c.require_name.new.rows) (texts_in p (service_event_inputs s)) (dotted p c.in-Some.event.now)
+    (subst (λ ns. names_of c.require_names.new.rows ≡ gathered (names_of c.args.rows.now) (texts_in p ns)) c.event_inputs.ensures c.in_ok-require_names.ensures.rows) h))
     c.require_name.result c.require_name.ensures.rows

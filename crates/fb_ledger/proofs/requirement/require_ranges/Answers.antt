@@ -3,9 +3,9 @@ use Rattle.std.proofs.lemmas.List.{map-append}
 use Rattle.fb_flat.specs.fb_blocks.Views.{names_of, variables_of}
 use Rattle.fb_flat.proofs.of_fb_blocks.Lists.{on_ok}
 use Rattle.fb_flat.specs.Sites.{dotted}
-use Rattle.fb_ledger.specs.Members.{HasSame}
+use Rattle.fb_ledger.specs.Members.{gathered}
 use Rattle.fb_ledger.specs.Texts.{texts_in, ranged_names}
-use Rattle.fb_ledger.proofs.Members.{same_both}
+use Rattle.fb_ledger.proofs.Members.{gathered_both}
 use Rattle.fb_ledger.proofs.requirement.require_ranges.Goals as goal
 
 pub returns-clause-rows : goal.returns-clause-rows
@@ -19,7 +19,7 @@ returns-clause-rows c =
     let all : (texts_in p ins ++ texts_in p outs) ++ texts_in p inner ≡ texts_in p ((ins ++ outs) ++ inner) =
     ap (λ ts. ts ++ texts_in p inner) (sym (map-append (λ n. dotted p n) ins outs)) ∙ sym (map-append (λ n. dotted p n) (ins ++ outs) inner) in
     on_ok
-    (λ h. subst (λ ts. HasSame (names_of c.require_variables-3.new.rows) (ts ++ old)) all
-    (same_both (texts_in p ins ++ texts_in p outs) (texts_in p inner) old (names_of c.require_variables-2.new.rows) (names_of c.require_variables-3.new.rows)
-    (same_both (texts_in p ins) (texts_in p outs) old (names_of c.require_variables.new.rows) (names_of c.require_variables-2.new.rows) c.in_ok-require_variables.ensures.rows c.in_ok-require_variables-2.ensures.rows) h))
+    (λ h. subst (λ ts. names_of c.require_variables-3.new.rows ≡ gathered old ts) all
+    (gathered_both old (names_of c.require_variables-2.new.rows) (names_of c.require_variables-3.new.rows) (texts_in p ins ++ texts_in p outs) (texts_in p inner)
+    (gathered_both old (names_of c.require_variables.new.rows) (names_of c.require_variables-2.new.rows) (texts_in p ins) (texts_in p outs) c.in_ok-require_variables.ensures.rows c.in_ok-require_variables-2.ensures.rows) h))
     c.require_variables-3.result c.require_variables-3.ensures.rows

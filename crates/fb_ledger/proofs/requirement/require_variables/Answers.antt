@@ -1,10 +1,10 @@
-use Rattle.std.proofs.Common.{◌∷◌, ◌++◌, ◌+◌, drop, sym, subst, ◌∙◌}
+use Rattle.std.proofs.Common.{◌≡◌, ◌+◌, drop, sym, subst, ◌∙◌}
 use Rattle.std.specs.declared.string.String.{String}
 use Rattle.std.specs.declared.alloc.Global.{Global}
 use Rattle.fb_flat.specs.fb_blocks.declared.typed.Variable.{Variable}
 use Rattle.fb_flat.specs.fb_blocks.Views.{names_of}
 use Rattle.fb_flat.specs.Sites.{dotted}
-use Rattle.fb_ledger.specs.Members.{HasSame}
+use Rattle.fb_ledger.specs.Members.{gathered, with_name}
 use Rattle.fb_ledger.specs.Texts.{texts_in, ranged_names}
 use Rattle.fb_ledger.proofs.Members.{rest_at}
 use Rattle.fb_ledger.proofs.Tables.{listed, ranged_on, ranged_over}
@@ -20,10 +20,10 @@ loop-index-preserved c =
     let here = rest_at xs k x (sym c.in-Some.ensures.entry) in
     elim c.if-not-is_boolean.branch [
       | then-not-is_boolean+in_ok-require_name w ↦
-          subst (λ r. HasSame (texts_in p (ranged_names (listed (drop (k + 1) xs))) ++ names_of r) (texts_in p (ranged_names (listed xs)) ++ names_of c.args.rows.now)) (sym w.rows-is)
-          (ranged_on p xs k x (names_of c.loop-index.rows) (names_of w.require_name.new.rows) (texts_in p (ranged_names (listed xs)) ++ names_of c.args.rows.now) here (sym c.is_boolean.ensures ∙ w.if-not-is_boolean.true)
-          (subst (λ n. HasSame (names_of w.require_name.new.rows) (dotted p n ∷ names_of c.loop-index.rows)) w.as_str.ensures.value w.in_ok-require_name.ensures.rows) c.loop-index.invariant)
+          subst (λ r. gathered (names_of r) (texts_in p (ranged_names (listed (drop (k + 1) xs)))) ≡ gathered (names_of c.args.rows.now) (texts_in p (ranged_names (listed xs)))) (sym w.rows-is)
+          (ranged_on p xs k x (names_of c.loop-index.rows) (names_of w.require_name.new.rows) (gathered (names_of c.args.rows.now) (texts_in p (ranged_names (listed xs)))) here (sym c.is_boolean.ensures ∙ w.if-not-is_boolean.true)
+          (subst (λ n. names_of w.require_name.new.rows ≡ with_name (names_of c.loop-index.rows) (dotted p n)) w.as_str.ensures.value w.in_ok-require_name.ensures.rows) c.loop-index.invariant)
       | else-not-is_boolean w ↦
-          subst (λ r. HasSame (texts_in p (ranged_names (listed (drop (k + 1) xs))) ++ names_of r) (texts_in p (ranged_names (listed xs)) ++ names_of c.args.rows.now)) (sym w.rows-is)
-          (ranged_over p xs k x (names_of c.loop-index.rows) (texts_in p (ranged_names (listed xs)) ++ names_of c.args.rows.now) here (sym c.is_boolean.ensures ∙ w.if-not-is_boolean.false) c.loop-index.invariant)
+          subst (λ r. gathered (names_of r) (texts_in p (ranged_names (listed (drop (k + 1) xs)))) ≡ gathered (names_of c.args.rows.now) (texts_in p (ranged_names (listed xs)))) (sym w.rows-is)
+          (ranged_over p xs k x (names_of c.loop-index.rows) (gathered (names_of c.args.rows.now) (texts_in p (ranged_names (listed xs)))) here (sym c.is_boolean.ensures ∙ w.if-not-is_boolean.false) c.loop-index.invariant)
     ]

@@ -1,10 +1,10 @@
-use Rattle.std.proofs.Common.{◌++◌, drop}
+use Rattle.std.proofs.Common.{◌≡◌, drop}
 use Rattle.fb_flat.specs.fb_blocks.Views.{names_of, variables_of}
-use Rattle.fb_ledger.specs.Members.{HasSame}
+use Rattle.fb_ledger.specs.Members.{gathered}
 use Rattle.fb_ledger.specs.Texts.{texts_in, ranged_names}
 use Rattle.fb_ledger.proofs.Tables.{listed}
 use Rattle.fb_ledger.proofs.requirement.require_variables.Given as goal
 
 -- with the rows of the variables that are left, all are there
 abbrev pub invariant-loop-index : goal.invariant-loop-index
-invariant-loop-index l = HasSame (texts_in l.path (ranged_names (listed (drop l.index l.variables.entries))) ++ names_of l.rows) (texts_in l.path (ranged_names (variables_of l.variables)) ++ names_of l.initial.rows)
+invariant-loop-index l = gathered (names_of l.rows) (texts_in l.path (ranged_names (listed (drop l.index l.variables.entries)))) ≡ gathered (names_of l.initial.rows) (texts_in l.path (ranged_names (variables_of l.variables)))

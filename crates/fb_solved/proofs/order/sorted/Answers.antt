@@ -25,5 +25,6 @@ returns-clause-walk c =
     let closed = subst (λ rows. IsClosed rows c.in-Walk.walk.items) e found.0 in (
       c.in-Walk.walk.items,
       closed,
+      found.1,
       λ sized. subst (λ ns. map node_of c.in_ok-places-in-Walk.field-0.items ≡ map (node_in (nodes_of (texts_of c.args.states.now) (texts_of c.args.events.now))) ns) c.as_slice-in-Walk.ensures.value (c.in_ok-places-in-Walk.ensures (subst (λ ns. All (λ n. n < length (texts_of c.args.states.now) + length (texts_of c.args.events.now)) ns) (sym c.as_slice-in-Walk.ensures.value) (all_known (needs system) c.in-Walk.walk.items (length (texts_of c.args.states.now) + length (texts_of c.args.events.now)) closed (length-map system needed ∙ sized)))),
     )

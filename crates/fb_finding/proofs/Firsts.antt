@@ -1,0 +1,63 @@
+-- Where a walk begins in an order of nodes.
+use Rattle.std.proofs.Common.{ℕ, zero, suc, ◌≡◌, ◌<◌, List, [], ◌∷◌, ◌++◌, length, map, slice_index, refl, sym, ◌∙◌, ap, ap₂, arith, Contains}
+use Rattle.std.proofs.lemmas.List.{length-map, get_or-map}
+use Rattle.fb_model.specs.Names.{Name, Place, at_place}
+use Rattle.fb_model.specs.CertificateText.{place_of}
+use Rattle.fb_model.specs.Wires.{Leaf}
+use Rattle.fb_demands.specs.Demands.{Node, state, event, node_in}
+use Rattle.fb_least.specs.Searches.{IsFromLeast}
+use Rattle.fb_numbered.specs.Numbered.{AreNumbers}
+use Rattle.fb_finding.specs.Nodes.{nodes_of, nodes_in_order, AreInOrder, BeginsFirst}
+
+-- ---- before and after a place
+
+abbrev before_at : List Node → ℕ → List Node
+before_at [] w = []
+before_at (x ∷ xs) zero = []
+before_at (x ∷ xs) (suc w) = x ∷ before_at xs w
+
+abbrev after_at : List Node → ℕ → List Node
+after_at [] w = []
+after_at (x ∷ xs) zero = xs
+after_at (x ∷ xs) (suc w) = after_at xs w
+
+parted : (xs : List Node) (w : ℕ) → w < length xs → xs ≡ before_at xs w ++ node_in xs w ∷ after_at xs w
+parted [] w h = absurd (omega (arith, h))
+parted (x ∷ xs) zero h = refl
+parted (x ∷ xs) (suc w) h = ap (λ ys. x ∷ ys) (parted xs w (omega (arith, h)))
+
+-- what stands before a place has a smaller number
+stands_before : (xs : List Node) (w : ℕ) (x : Node) → Contains (before_at xs w) x → (j : ℕ) × (j < w) × (j < length xs) × (node_in xs j ≡ x)
+stands_before [] w x h = absurd (omega (arith, h.1))
+stands_before (y ∷ ys) zero x h = absurd (omega (arith, h.1))
+stands_before (y ∷ ys) (suc w) x (zero, l, e) = (0, omega arith, omega arith, e)
+stands_before (y ∷ ys) (suc w) x (suc k, l, e) = let r = stands_before ys w x (k, omega (arith, l), e) in (suc r.0, omega (arith, r.1), omega (arith, r.2), r.3)
+
+-- ---- walks
+
+-- a walk through numbers from its least one on is one through nodes from the first one on
+pub begins_first : (nodes : List Node) (number : Node → ℕ) (walk : List ℕ) → AreNumbers nodes number → 0 < length walk → ((k : ℕ) → k < length walk → slice_index walk k < length nodes) → IsFromLeast walk → BeginsFirst nodes (map (node_in nodes) walk)
+begins_first nodes number walk n long known least =
+    let w = slice_index walk 0 in
+    let at : (k : ℕ) → k < length walk → node_in (map (node_in nodes) walk) k ≡ node_in nodes (slice_index walk k) = λ k h. get_or-map (node_in nodes) walk k 0 (state (at_place [] [])) h in
+    record {
+      before = before_at nodes w;
+      after = after_at nodes w;
+      order_is = parted nodes w (known 0 long) ∙ ap (λ x. before_at nodes w ++ x ∷ after_at nodes w) (sym (at 0 long));
+      none_before = λ k h c.
+          let hk : k < length walk = omega (arith, length-map walk (node_in nodes), h) in
+          let r = stands_before nodes w (node_in (map (node_in nodes) walk) k) c in
+          let same : node_in nodes r.0 ≡ node_in nodes (slice_index walk k) = r.3 ∙ at k hk in
+          let e : r.0 ≡ slice_index walk k = sym (n.back r.0 r.2) ∙ (ap number same ∙ n.back (slice_index walk k) (known k hk)) in
+          let l = least k hk in
+          absurd (omega (arith, e, l, r.1));
+    }
+
+-- ---- the nodes of rows
+
+both_maps : (f : Place → Node) (ts : List Name) → map (λ t. f (place_of t)) ts ≡ map f (map place_of ts)
+both_maps f [] = refl
+both_maps f (t ∷ ts) = ap (λ xs. f (place_of t) ∷ xs) (both_maps f ts)
+
+pub nodes_are : (all : List Leaf) (states events : List Name) → AreInOrder all states events → nodes_of states events ≡ nodes_in_order all
+nodes_are all states events are = ap₂ (λ xs ys. xs ++ ys) (both_maps state states ∙ ap (map state) are.states_are) (both_maps event events ∙ ap (map event) are.events_are)
