@@ -68,11 +68,14 @@ id = codes "ID"
 abbrev pub format : Name
 format = codes "FORMAT"
 
+abbrev pub format_number : Format → ℕ
+format_number First = 1
+format_number Second = 2
+
 -- the wire format, which may be given once, as 1 or 2; it is 1 where nothing is said
 pub data IsFormat : List ParameterTree → Format → Type 0 where
   unsaid : IsFormat [] First
-  first_format : {p : ParameterTree} → IsWhole p.value.value (pos 1) → IsFormat (p ∷ []) First
-  second_format : {p : ParameterTree} → IsWhole p.value.value (pos 2) → IsFormat (p ∷ []) Second
+  said : {p : ParameterTree} {f : Format} → IsWhole p.value.value (pos (format_number f)) → IsFormat (p ∷ []) f
 
 -- the parameters that are no data inputs
 abbrev pub reserved : Service → List Name
@@ -266,19 +269,15 @@ abbrev pub all_services : List Device → List Service
 all_services [] = []
 all_services (e ∷ es) = device_services e.resources ++ all_services es
 
--- what all ends of a channel have
-abbrev pub Shape : Type 0
-Shape = Format × List ElemType
-
 -- an end of a channel has the shape of the channel
-abbrev pub HasShape : (ℕ → Shape) → Service → Type 0
+abbrev pub HasShape : (ℕ → Format × List ElemType) → Service → Type 0
 HasShape shape (Publish channel types) = (channel.format, types) ≡ shape channel.number
 HasShape shape (Subscribe channel types) = (channel.format, types) ≡ shape channel.number
 HasShape shape other = Unit {0}
 
 -- all ends of each channel have the same format and types
 pub record AreAlike (services : List Service) : Type 0 where
-  pub shape : ℕ → Shape
+  pub shape : ℕ → Format × List ElemType
   pub each : AllByRecursion (HasShape shape) services
 
 -- the number of a channel of format 2, which no other PUBLISH may have
