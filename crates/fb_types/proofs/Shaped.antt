@@ -2,13 +2,10 @@
 use Rattle.std.proofs.Common.{◌≡◌, ◌⊎◌, inl, inr, ℕ, nat_eq, true, false, cond, Bool, List, [], ◌∷◌, ◌++◌, map, Option, None, Some, option_map, Result, Ok, Err, IfErr, refl, sym, ap, subst, ◌∙◌, append_assoc}
 use Rattle.std.specs.List.{AllByRecursion}
 use Rattle.std.specs.Map.{lookup}
-use Rattle.std.specs.declared.vec.Vec.{Vec}
-use Rattle.std.specs.declared.alloc.Global.{Global}
 use Rattle.std.proofs.lemmas.List.{map_push}
 use Rattle.std.proofs.lemmas.Map.Made.{lookup-map_values}
 use Rattle.indexmap.specs.IndexMap.{IndexMap, get, insert_entry}
 use Rattle.indexmap.proofs.CallerLemmas.{insert_entry-new}
-use denote.Ref.{Bor}
 use denote.Enum.Bare.{sameb, same_true, true_same}
 use Rattle.std.specs.Bool.{Decides}
 use Rattle.std.specs.Cmp.Lexicographic.{pointwise}
@@ -17,6 +14,9 @@ use Rattle.fb_words.specs.contracts.elem_type.ElemType.{the_type}
 use Rattle.std.specs.Option.{unwrap_or}
 use Rattle.std.proofs.lemmas.Bool.Decides.{Decides-eqb}
 use Rattle.fb_words.specs.declared.elem_type.ElemType.{ElemType}
+use Rattle.fb_words.specs.contracts.format.Format.{the_type as the_format}
+use Rattle.fb_words.specs.declared.format.Format.{Format}
+use Rattle.fb_words.specs.declared.format.Format.TheVariants.{First}
 use Rattle.fb_model.specs.System.{Service}
 use Rattle.fb_model.specs.System as book
 use Rattle.fb_model.specs.NetworkTyping.{HasShape, AreAlike}
@@ -113,10 +113,10 @@ shapes_more old new done u so h = by (end_of (u.1)) refl h where
 -- ---- what the ends say
 
 has_shape : (shapes : List Shaped) (s : Service) → Fits shapes (end_of s) → HasShape (λ n. unwrap_or (shape_in shapes n) (First, [])) s
-has_shape shapes (book.Input n ends) h = tt
-has_shape shapes (book.Output n ends) h = tt
-has_shape shapes (book.Publish n ends) h = sym (ap (λ o. unwrap_or o (First, [])) h)
-has_shape shapes (book.Subscribe n ends) h = sym (ap (λ o. unwrap_or o (First, [])) h)
+has_shape shapes (book.Input n types) h = tt
+has_shape shapes (book.Output n types) h = tt
+has_shape shapes (book.Publish c types) h = sym (ap (λ o. unwrap_or o (First, [])) h)
+has_shape shapes (book.Subscribe c types) h = sym (ap (λ o. unwrap_or o (First, [])) h)
 has_shape shapes book.Delay h = tt
 has_shape shapes book.Cycle h = tt
 has_shape shapes book.Restart h = tt
@@ -130,7 +130,7 @@ shapes_done shapes us so = record { shape = λ n. unwrap_or (shape_in shapes n) 
 
 pub shapes_wrong : (shapes : List Shaped) (all done after : List Used) (u : Used) (f : TypeFault) → ShapesSo shapes done → all ≡ done ++ u ∷ after → IsOtherwise shapes u f → IsUnlike all f
 shapes_wrong shapes all done after u f so parts (no_memory_for_shape e) = no_memory_for_channels e
-shapes_wrong shapes all done after u f so parts (other_shape {n = n} {ends = ends} {first = first} is was differ e) = unlike_ends done after u parts (so.known n first was) is differ e
+shapes_wrong shapes all done after u f so parts (other_shape {n = n} {shape = ends} {first = first} is was differ e) = unlike_ends done after u parts (so.known n first was) is differ e
 
 -- ---- ends that are alike have no fault
 
@@ -138,10 +138,10 @@ some_same : {X : Type 0} (x y : X) → Some x ≡ Some y → x ≡ y
 some_same x y e = cc
 
 shape_says : (shape : ℕ → Shape) (s : Service) (n : ℕ) (ends : Shape) → HasShape shape s → end_of s ≡ Some (n, ends) → ends ≡ shape n
-shape_says shape (book.Input m ts) n ends h e = absurd cc
-shape_says shape (book.Output m ts) n ends h e = absurd cc
-shape_says shape (book.Publish m ts) n ends h e = let p = some_same (m, ts) (n, ends) e in sym (ap (λ k. k.1) p) ∙ h ∙ ap (λ k. shape (k.0)) p
-shape_says shape (book.Subscribe m ts) n ends h e = let p = some_same (m, ts) (n, ends) e in sym (ap (λ k. k.1) p) ∙ h ∙ ap (λ k. shape (k.0)) p
+shape_says shape (book.Input m types) n ends h e = absurd cc
+shape_says shape (book.Output m types) n ends h e = absurd cc
+shape_says shape (book.Publish c types) n ends h e = let p = some_same (c.number, (c.format, types)) (n, ends) e in sym (ap (λ k. k.1) p) ∙ h ∙ ap (λ k. shape (k.0)) p
+shape_says shape (book.Subscribe c types) n ends h e = let p = some_same (c.number, (c.format, types)) (n, ends) e in sym (ap (λ k. k.1) p) ∙ h ∙ ap (λ k. shape (k.0)) p
 shape_says shape book.Delay n ends h e = absurd cc
 shape_says shape book.Cycle n ends h e = absurd cc
 shape_says shape book.Restart n ends h e = absurd cc
@@ -152,7 +152,7 @@ at_parts P (x ∷ before) after u h = let k = at_parts P before after u (h.1) in
 
 pub no_unlike : (us : List Used) (f : TypeFault) → AreAlike (services_at us) → IsUnlike us f → f ≡ OutOfMemory
 no_unlike us f a (no_memory_for_channels e) = e
-no_unlike us f a (unlike_ends before after u {n = n} {ends = ends} {first = first} parts end is differ e) =
+no_unlike us f a (unlike_ends before after u {n = n} {shape = ends} {first = first} parts end is differ e) =
     let here = at_parts (HasShape a.shape) before after u (subst (λ l. AllByRecursion (HasShape a.shape) (services_at l)) parts a.each) in
     let was = at_parts (HasShape a.shape) end.front end.back end.one (subst (λ l. AllByRecursion (HasShape a.shape) (services_at l)) end.parts (here.1)) in
     absurd (differ (shape_says a.shape (end.one.1) n first (was.0) end.end ∙ sym (shape_says a.shape (u.1) n ends (here.0) is)))
@@ -163,18 +163,18 @@ only_memory us (Err f) a h = no_unlike us f a h
 
 -- ---- what the table said
 
-pub first_is : (n : ℕ) (es : List (ℕ × Bor (Vec ElemType Global))) (o : Option (Bor (Vec ElemType Global))) → o ≡ lookup (nat_eq n) es → option_map (λ v. v.now.items) o ≡ shape_in (map (λ e. (e.0, e.1.now.items)) es) n
-first_is n es o e = ap (option_map (λ v. v.now.items)) e ∙ sym (lookup-map_values (λ v. v.now.items) (nat_eq n) es)
+pub first_is : (n : ℕ) (es : List (ℕ × Seen)) (o : Option Seen) → o ≡ lookup (nat_eq n) es → option_map shape_of o ≡ shape_in (map (λ e. (e.0, shape_of e.1)) es) n
+first_is n es o e = ap (option_map shape_of) e ∙ sym (lookup-map_values shape_of (nat_eq n) es)
 
-found_first : (o : Option (Bor (Vec ElemType Global))) → option_map (λ v. v.now.items) o ≡ None → o ≡ None
+found_first : (o : Option Seen) → option_map shape_of o ≡ None → o ≡ None
 found_first None e = refl
 found_first (Some x) e = absurd (none_some e refl)
 
-pub put_is : {S : Type 0} (m : IndexMap ℕ (Bor (Vec ElemType Global)) S) (n : ℕ) (types : Bor (Vec ElemType Global)) (new : List (ℕ × Bor (Vec ElemType Global)))
-    → shape_in (shapes_of m) n ≡ None → new ≡ insert_entry nat_eq m.entries n types → map (λ e. (e.0, e.1.now.items)) new ≡ shapes_of m ++ (n, types.now.items) ∷ []
-put_is m n types new none e =
+pub put_is : {S : Type 0} (m : IndexMap ℕ Seen S) (n : ℕ) (shape : Seen) (new : List (ℕ × Seen))
+    → shape_in (shapes_of m) n ≡ None → new ≡ insert_entry nat_eq m.entries n shape → map (λ e. (e.0, shape_of e.1)) new ≡ shapes_of m ++ (n, shape_of shape) ∷ []
+put_is m n shape new none e =
     let gone : get nat_eq m n ≡ None = found_first (get nat_eq m n) (first_is n m.entries (get nat_eq m n) refl ∙ none) in
-    ap (map (λ e. (e.0, e.1.now.items))) (e ∙ insert_entry-new nat_eq m n types gone) ∙ map_push (λ e. (e.0, e.1.now.items)) m.entries (n, types)
+    ap (map (λ e. (e.0, shape_of e.1))) (e ∙ insert_entry-new nat_eq m n shape gone) ∙ map_push (λ e. (e.0, shape_of e.1)) m.entries (n, shape)
 
 -- ---- types compared
 
@@ -186,3 +186,11 @@ types_decide xs ys r e = slice_eq-Decides type_decides xs ys r e
 
 pub types_differ : (xs ys : List ElemType) (r : Bool) → r ≡ pointwise (sameb the_type) xs ys → r ≡ false → xs ≡ ys → ⊥
 types_differ xs ys r e f same = let h : true ≡ false = sym ((types_decide xs ys r e).1 same) ∙ f in cc
+
+-- ---- formats and types compared
+
+pub shapes_agree : (f g : Format) (xs ys : List ElemType) → sameb the_format f g ≡ true → xs ≡ ys → (f, xs) ≡ (g, ys)
+shapes_agree f g xs ys e h = ap (λ k. (k, xs)) (same_true the_format tt f g e) ∙ ap (λ l. (g, l)) h
+
+pub formats_differ : (f g : Format) (xs ys : List ElemType) → sameb the_format f g ≡ false → (f, xs) ≡ (g, ys) → ⊥
+formats_differ f g xs ys e h = let k : true ≡ false = sym (true_same the_format f g (ap (λ p. p.0) h)) ∙ e in cc
