@@ -36,8 +36,8 @@ expire_word = word refl (part refl (part refl (part refl (part refl (part refl n
 pub events_words : (s : Service) → AllByRecursion IsWord (service_events s)
 events_words (book.Input n types) = (arrive_word, tt)
 events_words (book.Output n types) = (word refl (part refl (part refl no_part)), tt)
-events_words (book.Publish n types) = (init_word, (word refl (part refl (part refl no_part)), tt))
-events_words (book.Subscribe n types) = (init_word, (word refl (part refl (part refl no_part)), (arrive_word, tt)))
+events_words (book.Publish channel types) = (init_word, (word refl (part refl (part refl no_part)), tt))
+events_words (book.Subscribe channel types) = (init_word, (word refl (part refl (part refl no_part)), (arrive_word, tt)))
 events_words book.Delay = (start_word, (stop_word, (expire_word, tt)))
 events_words book.Cycle = (start_word, (stop_word, (expire_word, tt)))
 events_words book.Restart = (word refl (part refl (part refl (part refl (part refl no_part)))), tt)
@@ -55,8 +55,8 @@ one_of P false xs ys p q = q
 pub emits_outputs : (s : Service) (e : Name) → AreOutputs s (can_emit s e)
 emits_outputs (book.Input n types) e = (refl, tt)
 emits_outputs (book.Output n types) e = tt
-emits_outputs (book.Publish n types) e = one_of (AreOutputs (book.Publish n types)) (bytes_eq e init) _ _ (refl, tt) (refl, tt)
-emits_outputs (book.Subscribe n types) e = one_of (AreOutputs (book.Subscribe n types)) (bytes_eq e init) _ _ (refl, tt) (one_of (AreOutputs (book.Subscribe n types)) (bytes_eq e rsp) _ _ tt (refl, tt))
+emits_outputs (book.Publish channel types) e = one_of (AreOutputs (book.Publish channel types)) (bytes_eq e init) _ _ (refl, tt) (refl, tt)
+emits_outputs (book.Subscribe channel types) e = one_of (AreOutputs (book.Subscribe channel types)) (bytes_eq e init) _ _ (refl, tt) (one_of (AreOutputs (book.Subscribe channel types)) (bytes_eq e rsp) _ _ tt (refl, tt))
 emits_outputs book.Delay e = one_of (AreOutputs book.Delay) (bytes_eq e expire) _ _ (refl, tt) tt
 emits_outputs book.Cycle e = one_of (AreOutputs book.Cycle) (bytes_eq e expire) _ _ (refl, tt) tt
 emits_outputs book.Restart e = (refl, tt)
@@ -77,9 +77,9 @@ never n false = refl
 pub sends_nothing : (c : Column) (rows : Certificate) (s : Service) (e : Name) → sending_of (column_of c (certificate_of rows)) s e ≡ 0
 sends_nothing c rows (book.Input n types) e = refl
 sends_nothing c rows (book.Output n types) e = refl
-sends_nothing Steps rows (book.Publish n types) e = never 0 (bytes_eq e init)
-sends_nothing Places rows (book.Publish n types) e = never 0 (bytes_eq e init)
-sends_nothing c rows (book.Subscribe n types) e = refl
+sends_nothing Steps rows (book.Publish channel types) e = never 0 (bytes_eq e init)
+sends_nothing Places rows (book.Publish channel types) e = never 0 (bytes_eq e init)
+sends_nothing c rows (book.Subscribe channel types) e = refl
 sends_nothing c rows book.Delay e = refl
 sends_nothing c rows book.Cycle e = refl
 sends_nothing c rows book.Restart e = refl

@@ -87,7 +87,7 @@ nothing_sent true n e = refl
 nothing_sent false n e = e
 
 sending_nothing : (col : Column) (service : Service) (e : Name) → ((c : ℕ) → col.sending c ≡ 0) → sending_of col service e ≡ 0
-sending_nothing col (system.Publish channel types) e z = nothing_sent (bytes_eq e init) (col.sending channel) (z channel)
+sending_nothing col (system.Publish channel types) e z = nothing_sent (bytes_eq e init) (col.sending channel.number) (z channel.number)
 sending_nothing col (system.Input number types) e z = refl
 sending_nothing col (system.Output number types) e z = refl
 sending_nothing col (system.Subscribe channel types) e z = refl

@@ -4,13 +4,15 @@ use Rattle.std.specs.Prelude.{ℕ, suc, ◌+◌, ◌≡◌, ◌≤◌, ℤ, pos,
 use Rattle.std.specs.List.{filter, list_any, AllByRecursion}
 use Rattle.std.specs.Str.{bytes_eq}
 use Rattle.fb_words.specs.declared.elem_type.ElemType.{ElemType}
+use Rattle.fb_words.specs.declared.format.Format.{Format}
+use Rattle.fb_words.specs.declared.format.Format.TheVariants.{First, Second}
 use Rattle.fb_model.specs.Names.{Name, is_in}
 use Rattle.fb_model.specs.Values.{One}
 use Rattle.fb_model.specs.Productions.{Word}
 use Rattle.fb_model.specs.Trees.{ParameterTree, PortTree, ConnectionTree}
 use Rattle.fb_model.specs.Declarations.{ChartTree, InstanceTree, NetworkTree, Chart, Network, BlockTree, ResourceTree, DeviceTree, SourceTree}
 use Rattle.fb_model.specs.TextTyping.{widens}
-use Rattle.fb_model.specs.System.{Variable, Service, Input, Output, Publish, Subscribe, Delay, Cycle, Restart, End, Connection, Parameter, Face, Body, Basic, Served, Composite, Instances, nothing, instance, Resource, Device, System}
+use Rattle.fb_model.specs.System.{Variable, Channel, Service, Input, Output, Publish, Subscribe, Delay, Cycle, Restart, End, Connection, Parameter, Face, Body, Basic, Served, Composite, Instances, nothing, instance, Resource, Device, System}
 use Rattle.fb_model.specs.Services.{service_inputs, service_outputs}
 use Rattle.fb_model.specs.Typing.{AreDistinct, AreNewNumbers, service_names, IsWhole, IsId, names_of, event_inputs_of, event_outputs_of, body_named, most_instances}
 use Rattle.fb_model.specs.BlockTyping.{Declared, IsGiven, IsFace, face_names, IsBasic}
@@ -66,10 +68,14 @@ id = codes "ID"
 abbrev pub format : Name
 format = codes "FORMAT"
 
--- the wire format, which may be given once: format 1, the only one until there is another
-pub data IsFormat : List ParameterTree → Type 0 where
-  unsaid : IsFormat []
-  first_format : {p : ParameterTree} → IsWhole p.value.value (pos 1) → IsFormat (p ∷ [])
+abbrev pub format_number : Format → ℕ
+format_number First = 1
+format_number Second = 2
+
+-- the wire format, which may be given once, as 1 or 2; it is 1 where nothing is said
+pub data IsFormat : List ParameterTree → Format → Type 0 where
+  unsaid : IsFormat [] First
+  said : {p : ParameterTree} {f : Format} → IsWhole p.value.value (pos (format_number f)) → IsFormat (p ∷ []) f
 
 -- the parameters that are no data inputs
 abbrev pub reserved : Service → List Name
@@ -81,12 +87,12 @@ reserved Delay = []
 reserved Cycle = []
 reserved Restart = []
 
--- the service of an instance, by the name of its type, its value types and its number
+-- the service of an instance, by the name of its type, its value types, and its number, or its channel with the format
 pub data IsService (i : InstanceTree) : Service → Type 0 where
   an_input : {n : ℕ} → i.type.text ≡ codes "INPUT" → length (value_types i.types) ≤ most_types → IsId (having id i.parameters) n → IsService i (Input n (value_types i.types))
   an_output : {n : ℕ} → i.type.text ≡ codes "OUTPUT" → length (value_types i.types) ≤ most_types → IsId (having id i.parameters) n → IsService i (Output n (value_types i.types))
-  a_publisher : {n : ℕ} → i.type.text ≡ codes "PUBLISH" → length (value_types i.types) ≤ most_types → IsId (having id i.parameters) n → IsFormat (having format i.parameters) → IsService i (Publish n (value_types i.types))
-  a_subscriber : {n : ℕ} → i.type.text ≡ codes "SUBSCRIBE" → length (value_types i.types) ≤ most_types → IsId (having id i.parameters) n → IsFormat (having format i.parameters) → IsService i (Subscribe n (value_types i.types))
+  a_publisher : {c : Channel} → i.type.text ≡ codes "PUBLISH" → length (value_types i.types) ≤ most_types → IsId (having id i.parameters) c.number → IsFormat (having format i.parameters) c.format → IsService i (Publish c (value_types i.types))
+  a_subscriber : {c : Channel} → i.type.text ≡ codes "SUBSCRIBE" → length (value_types i.types) ≤ most_types → IsId (having id i.parameters) c.number → IsFormat (having format i.parameters) c.format → IsService i (Subscribe c (value_types i.types))
   a_delay : i.type.text ≡ codes "E_DELAY" → i.types ≡ None → IsService i Delay
   a_cycle : i.type.text ≡ codes "E_CYCLE" → i.types ≡ None → IsService i Cycle
   a_restart : i.type.text ≡ codes "E_RESTART" → i.types ≡ None → IsService i Restart
@@ -241,7 +247,7 @@ outputs (other ∷ rest) = outputs rest
 
 abbrev pub subscribed : List Service → List ℕ
 subscribed [] = []
-subscribed (Subscribe channel types ∷ rest) = channel ∷ subscribed rest
+subscribed (Subscribe channel types ∷ rest) = channel.number ∷ subscribed rest
 subscribed (other ∷ rest) = subscribed rest
 
 pub record IsDevice (bs : List BlockTree) (d : DeviceTree) (e : Device) : Type 0 where
@@ -264,15 +270,25 @@ all_services [] = []
 all_services (e ∷ es) = device_services e.resources ++ all_services es
 
 -- an end of a channel has the shape of the channel
-abbrev pub HasShape : (ℕ → List ElemType) → Service → Type 0
-HasShape shape (Publish channel types) = types ≡ shape channel
-HasShape shape (Subscribe channel types) = types ≡ shape channel
+abbrev pub HasShape : (ℕ → Format × List ElemType) → Service → Type 0
+HasShape shape (Publish channel types) = (channel.format, types) ≡ shape channel.number
+HasShape shape (Subscribe channel types) = (channel.format, types) ≡ shape channel.number
 HasShape shape other = Unit {0}
 
--- all ends of each channel have the same types
+-- all ends of each channel have the same format and types
 pub record AreAlike (services : List Service) : Type 0 where
-  pub shape : ℕ → List ElemType
+  pub shape : ℕ → Format × List ElemType
   pub each : AllByRecursion (HasShape shape) services
+
+-- the number of a channel of format 2, which no other PUBLISH may have
+abbrev pub alone : Channel → List ℕ
+alone channel = elim channel.format [ First ↦ [] | Second ↦ channel.number ∷ [] ]
+
+-- the channels of format 2 of PUBLISHs
+abbrev pub senders : List Service → List ℕ
+senders [] = []
+senders (Publish channel types ∷ rest) = alone channel ++ senders rest
+senders (other ∷ rest) = senders rest
 
 -- a declared type is one, whether it is used or not
 pub record IsProper (bs : List BlockTree) (b : BlockTree) : Type 0 where
@@ -288,3 +304,4 @@ pub record ElaboratesWith (library : List BlockTree) (source : SourceTree) (syst
   pub few : length source.system.devices ≤ most_devices
   pub devices : AreDevices (source.blocks ++ library) source.system.devices system.devices
   pub channels : AreAlike (all_services system.devices)
+  pub senders_differ : AreNewNumbers [] (senders (all_services system.devices))

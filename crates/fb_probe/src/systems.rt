@@ -6,10 +6,10 @@ use crate::texts::{ended, refused, text_of};
 use fb_blocks::{TypeFault, basic};
 use fb_flat::{Body as Kind, Flat, Leaf, Source as Origin, flatten};
 use fb_networks::{Body, Network};
-use fb_services::Service;
+use fb_services::{Channel, Service};
 use fb_text::{BlockTree, BodyTree, parse};
 use fb_types::{Configuration, Typed, resolve};
-use fb_words::ElemType;
+use fb_words::{ElemType, Format};
 use std::alloc::{AllocError, Global};
 use std::convert::AsStr;
 use std::fmt::Write;
@@ -189,10 +189,30 @@ fn listed<T: AsStr>(out: &mut String, word: &str, names: &[T]) -> Result<(), All
 // The word of a service, and its values.
 fn headed(out: &mut String, word: &str, number: u16, types: &[ElemType]) -> Result<(), AllocError> {
     write!(out, "{word} {number}")?;
+    valued(out, types)
+}
+
+// The types of values behind the word of their service.
+fn valued(out: &mut String, types: &[ElemType]) -> Result<(), AllocError> {
     for of in types {
         write!(out, " {}", of.name())?;
     }
     out.push('\n')
+}
+
+// The word of a service that has a channel, with its format where that is not the first, and its values.
+fn channelled(
+    out: &mut String,
+    word: &str,
+    channel: Channel,
+    types: &[ElemType],
+) -> Result<(), AllocError> {
+    write!(out, "{word} {}", channel.number)?;
+    match channel.format {
+        Format::First => {}
+        Format::Second => out.push_str(" FORMAT 2")?,
+    }
+    valued(out, types)
 }
 
 // What a service is.
@@ -200,8 +220,8 @@ fn head(out: &mut String, service: &Service) -> Result<(), AllocError> {
     match service {
         Service::Input(number, types) => headed(out, "INPUT", *number, types),
         Service::Output(number, types) => headed(out, "OUTPUT", *number, types),
-        Service::Publish(number, types) => headed(out, "PUBLISH", *number, types),
-        Service::Subscribe(number, types) => headed(out, "SUBSCRIBE", *number, types),
+        Service::Publish(channel, types) => channelled(out, "PUBLISH", *channel, types),
+        Service::Subscribe(channel, types) => channelled(out, "SUBSCRIBE", *channel, types),
         Service::Delay => out.push_str("E_DELAY\n"),
         Service::Cycle => out.push_str("E_CYCLE\n"),
         Service::Restart => out.push_str("E_RESTART\n"),

@@ -37,6 +37,6 @@ FindsService (Err other) k = ⊥
 abbrev pub IsNumbered : InstanceTree → ℕ → List ElemType → Type 0
 IsNumbered i n types = IsId (having id i.parameters) n × (types ≡ value_types i.types) × (length types ≤ most_types)
 
--- and its format is the first
-abbrev pub IsChannelled : InstanceTree → ℕ → List ElemType → Type 0
-IsChannelled i n types = IsFormat (having format i.parameters) × IsNumbered i n types
+-- the channel and the value types of an instance
+abbrev pub IsChannelled : InstanceTree → book.Channel → List ElemType → Type 0
+IsChannelled i c types = IsFormat (having format i.parameters) c.format × IsNumbered i c.number types

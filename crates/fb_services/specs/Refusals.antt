@@ -3,6 +3,7 @@ use Rattle.std.specs.Prelude.{◌≡◌, ◌<◌, ℕ, Bool, true, ◌||◌, Lis
 use Rattle.std.specs.Str.{bytes_eq}
 use Rattle.fb_model.specs.Names.{Name}
 use Rattle.fb_words.specs.declared.elem_type.ElemType.{ElemType}
+use Rattle.fb_words.specs.declared.format.Format.{Format}
 use Rattle.fb_model.specs.Declarations.{InstanceTree}
 use Rattle.fb_model.specs.Typing.{IsId}
 use Rattle.fb_model.specs.NetworkTyping.{IsFormat, having, id, format, value_types, most_types}
@@ -13,9 +14,9 @@ use Rattle.fb_blocks.specs.declared.fault.TypeFault.TheVariants.{OutOfMemory, Ba
 abbrev pub IsNumberFault : InstanceTree → TypeFault → Type 0
 IsNumberFault i f = (f ≡ BadService i.name.at) × ((n : ℕ) → IsId (having id i.parameters) n → ⊥)
 
--- FORMAT is given, and not once as 1
+-- FORMAT is given, and not once as 1 or 2
 abbrev pub IsFormatFault : InstanceTree → TypeFault → Type 0
-IsFormatFault i f = (f ≡ BadService i.name.at) × (IsFormat (having format i.parameters) → ⊥)
+IsFormatFault i f = (f ≡ BadService i.name.at) × ((k : Format) → IsFormat (having format i.parameters) k → ⊥)
 
 -- there are too many value types
 pub data IsTypesFault (i : InstanceTree) (f : TypeFault) : Type 0 where

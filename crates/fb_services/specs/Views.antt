@@ -5,14 +5,18 @@ use Rattle.std.specs.Option.{option_map}
 use Rattle.fb_words.specs.declared.elem_type.ElemType.{ElemType}
 use Rattle.fb_model.specs.Names.{Name}
 use Rattle.fb_model.specs.System as book
+use Rattle.fb_services.specs.declared.service.Channel.{Channel}
 use Rattle.fb_services.specs.declared.service.Service.{Service}
 use Rattle.fb_services.specs.declared.service.Service.TheVariants as s
+
+abbrev pub channel_of : Channel → book.Channel
+channel_of c = record { number = c.number; format = c.format }
 
 abbrev pub service_of : Service → book.Service
 service_of (s.Input n types) = book.Input n types.items
 service_of (s.Output n types) = book.Output n types.items
-service_of (s.Publish n types) = book.Publish n types.items
-service_of (s.Subscribe n types) = book.Subscribe n types.items
+service_of (s.Publish channel types) = book.Publish (channel_of channel) types.items
+service_of (s.Subscribe channel types) = book.Subscribe (channel_of channel) types.items
 service_of s.Delay = book.Delay
 service_of s.Cycle = book.Cycle
 service_of s.Restart = book.Restart
@@ -30,8 +34,8 @@ listed (Some x) = x.now ∷ []
 abbrev pub values_of : book.Service → List ElemType
 values_of (book.Input n types) = types
 values_of (book.Output n types) = types
-values_of (book.Publish n types) = types
-values_of (book.Subscribe n types) = types
+values_of (book.Publish channel types) = types
+values_of (book.Subscribe channel types) = types
 values_of book.Delay = []
 values_of book.Cycle = []
 values_of book.Restart = []

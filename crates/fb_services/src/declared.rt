@@ -1,20 +1,23 @@
 //! Services by their declarations.
 
-ghost use Rattle.std.specs.Prelude.{◌≡◌, ◌<◌, ◌≤◌, ◌↔◌, ℕ, [], ◌∷◌, None, true, false, length, codes, IsTrue, IfOk, IfErr, IfSome, IfNone, OnOk};
+ghost use Rattle.std.specs.Prelude.{◌≡◌, ◌<◌, ◌≤◌, ◌↔◌, ℕ, pos, [], ◌∷◌, None, true, false, length, codes, IsTrue, IfOk, IfErr, IfSome, IfNone, OnOk};
 ghost use Rattle.fb_model.specs.Names.{is_in};
-ghost use Rattle.fb_model.specs.Typing.{IsId, service_names};
-ghost use Rattle.fb_model.specs.NetworkTyping.{IsFormat, IsService, having, id, format, value_types, most_types};
+ghost use Rattle.fb_model.specs.Typing.{IsId, IsWhole, service_names};
+ghost use Rattle.fb_words.specs.declared.format.Format as formats;
+ghost use Rattle.fb_model.specs.NetworkTyping.{IsFormat, IsService, having, id, format, format_number, value_types, most_types};
 ghost use Rattle.fb_model.specs.System as book;
+ghost use Rattle.st_tree.specs.Views.{literal_of};
 ghost use Rattle.fb_blocks.specs.fb_text.Views.{parameter_of, instance_of};
 ghost use Rattle.fb_services.specs.Answers.{IsNamed, FindsService, IsNumbered, IsChannelled};
 ghost use Rattle.fb_services.specs.Refusals.{IsNumberFault, IsFormatFault, IsTypesFault, IsBareFault, IsNumberedFault, IsChannelledFault, IsServiceFault, has_values, is_timer};
-ghost use Rattle.fb_services.specs.Views.{service_of};
+ghost use Rattle.fb_services.specs.Views.{channel_of, service_of};
 
 use crate::number::whole;
-use crate::service::Service;
+use crate::service::{Channel, Service};
 use fb_blocks::TypeFault;
 use fb_blocks::fb_text::{InstanceTree, ParameterTree};
-use fb_words::ElemType;
+use fb_words::{ElemType, Format};
+use st_tree::Literal;
 use std::alloc::Global;
 
 /// The most value types of a service.
@@ -66,21 +69,35 @@ fn number(source: &InstanceTree) -> Result<u16, TypeFault>
     }
 }
 
-// Refuses a parameter FORMAT that is not 1, and one that is given again.
-fn format(source: &InstanceTree) -> Result<(), TypeFault>
-    ensures is { OnOk result (IsFormat (having format (instance_of source.now).parameters)) }
+// The format of a number.
+fn format_numbered(number: u64) -> Option<Format>
+    ensures is { IfSome result (λ f. format_number f ≡ number) }
+    ensures none { IfNone result ((f : formats.Format) → format_number f ≡ number → ⊥) }
+{
+    match number {
+        1 => Some(Format::First),
+        2 => Some(Format::Second),
+        _ => None,
+    }
+}
+
+// The format that a parameter gives.
+fn said(value: Literal) -> Option<Format>
+    ensures is { IfSome result (λ f. IsWhole (literal_of value) (pos (format_number f))) }
+    ensures none { IfNone result ((f : formats.Format) → IsWhole (literal_of value) (pos (format_number f)) → ⊥) }
+{
+    format_numbered(whole(value)?)
+}
+
+// The wire format of a channel: its parameter FORMAT, which may be given once. The first where it is not given.
+fn format(source: &InstanceTree) -> Result<Format, TypeFault>
+    ensures is { IfOk result (IsFormat (having format (instance_of source.now).parameters)) }
     ensures refused { IfErr result (IsFormatFault (instance_of source.now)) }
 {
     match parameters(&source.parameters, "FORMAT") {
-        Named::Absent => Ok(()),
-        Named::Once(parameter) => match whole(parameter.value.value) {
-            Some(number) => {
-                if number == 1 {
-                    Ok(())
-                } else {
-                    Err(TypeFault::BadService(source.name.at))
-                }
-            }
+        Named::Absent => Ok(Format::First),
+        Named::Once(parameter) => match said(parameter.value.value) {
+            Some(format) => Ok(format),
             None => Err(TypeFault::BadService(source.name.at)),
         },
         Named::Often => Err(TypeFault::BadService(source.name.at)),
@@ -117,7 +134,7 @@ pub fn bare(source: &InstanceTree) -> Result<(), TypeFault>
     }
 }
 
-// The number or channel of a service, and its value types.
+// The number of a service or of its channel, and its value types.
 fn numbered(alloc: Global, source: &InstanceTree) -> Result<(u16, Vec<ElemType>), TypeFault>
     ensures is { IfOk result (λ x. IsNumbered (instance_of source.now) x.0 x.1.items) }
     ensures refused { IfErr result (IsNumberedFault (instance_of source.now)) }
@@ -127,13 +144,14 @@ fn numbered(alloc: Global, source: &InstanceTree) -> Result<(u16, Vec<ElemType>)
     Ok((number, types))
 }
 
-// The same of a service that has a channel.
-fn channelled(alloc: Global, source: &InstanceTree) -> Result<(u16, Vec<ElemType>), TypeFault>
-    ensures is { IfOk result (λ x. IsChannelled (instance_of source.now) x.0 x.1.items) }
+// The channel of a service, and its value types.
+fn channelled(alloc: Global, source: &InstanceTree) -> Result<(Channel, Vec<ElemType>), TypeFault>
+    ensures is { IfOk result (λ x. IsChannelled (instance_of source.now) (channel_of x.0) x.1.items) }
     ensures refused { IfErr result (IsChannelledFault (instance_of source.now)) }
 {
-    format(source)?;
-    numbered(alloc, source)
+    let format = format(source)?;
+    let (number, types) = numbered(alloc, source)?;
+    Ok((Channel { number, format }, types))
 }
 
 // A service with a number or channel, by its name.
@@ -193,7 +211,7 @@ fn declared(alloc: Global, source: &InstanceTree) -> Result<Option<Service>, Typ
 /// The service of an instance, none where its type's name is no service's.
 ///
 /// Refused at the instance's name: `BadService` where ID is not given exactly once as a whole number from 0 to 65535, where FORMAT of
-/// PUBLISH or SUBSCRIBE is given and is not 1 or is given twice, and where a service without values has square brackets; `Limit` where
+/// PUBLISH or SUBSCRIBE is given and is neither 1 nor 2 or is given twice, and where a service without values has square brackets; `Limit` where
 /// there are more than 16 value types.
 pub fn served(alloc: Global, source: &InstanceTree) -> Result<Option<Service>, TypeFault>
     ensures is { IfOk result (λ o. IfSome o (λ s. IsService (instance_of source.now) (service_of s))) }

@@ -9,4 +9,4 @@ mod service;
 
 pub use declared::{bare, served};
 pub use fb_blocks;
-pub use service::Service;
+pub use service::{Channel, Service};

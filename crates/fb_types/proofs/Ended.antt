@@ -1,9 +1,11 @@
 -- The services of devices and of systems together.
-use Rattle.std.proofs.Common.{◌≡◌, List, [], ◌∷◌, ◌++◌, map, Result, Ok, Err, IfErr, refl, ap, ◌∙◌}
+use Rattle.std.proofs.Common.{◌≡◌, List, [], ◌∷◌, ◌++◌, map, None, Some, Result, Ok, Err, IfErr, refl, ap, ◌∙◌}
+use Rattle.fb_words.specs.declared.format.Format.{Format}
+use Rattle.fb_words.specs.declared.format.Format.TheVariants.{First, Second}
 use Rattle.fb_model.specs.System.{Service}
 use Rattle.fb_model.specs.System as book
 use Rattle.fb_model.specs.Typing.{AreNewNumbers}
-use Rattle.fb_model.specs.NetworkTyping.{services_in, inputs, outputs, subscribed, device_services}
+use Rattle.fb_model.specs.NetworkTyping.{services_in, inputs, outputs, subscribed, alone, senders, device_services, AreAlike}
 use Rattle.fb_networks.specs.Views.{placed_in, instances_of}
 use Rattle.fb_networks.specs.declared.typed.Network.{out-Network}
 use Rattle.fb_networks.proofs.Instances.{view_network}
@@ -13,10 +15,11 @@ use Rattle.fb_types.specs.declared.numbers.Kind.TheVariants as k
 use Rattle.fb_types.specs.declared.uses.Use.{Use}
 use Rattle.fb_types.specs.declared.typed.Resource.{Resource}
 use Rattle.fb_types.specs.Uses.{Used, use_of, service_in, services_at}
-use Rattle.fb_types.specs.Numbers.{numbers_in}
+use Rattle.fb_types.specs.Numbers.{given, second_number, numbers_in}
 use Rattle.fb_types.specs.Views.{resource_of}
-use Rattle.fb_types.specs.Ends.{IsNumberFault, no_memory_for_numbers, repeated_input, repeated_output, repeated_channel}
+use Rattle.fb_types.specs.Ends.{IsNumberFault, no_memory_for_numbers, repeated_input, repeated_output, repeated_channel, IsChannelFault, unlike, repeated_sender}
 use Rattle.fb_types.proofs.Numbered.{no_repeated}
+use Rattle.fb_types.proofs.Shaped.{no_unlike}
 
 -- the services of the next resource
 pub resource_services : (r : Resource) (rs : List Resource) → device_services (map resource_of (r ∷ rs)) ≡ services_in (instances_of (out-Network r.network).instances.items) ++ device_services (map resource_of rs)
@@ -51,10 +54,26 @@ channels_are [] = refl
 channels_are ((at, book.Input n t) ∷ us) = channels_are us
 channels_are ((at, book.Output n t) ∷ us) = channels_are us
 channels_are ((at, book.Publish n t) ∷ us) = channels_are us
-channels_are ((at, book.Subscribe n t) ∷ us) = ap (λ l. n ∷ l) (channels_are us)
+channels_are ((at, book.Subscribe c t) ∷ us) = ap (λ l. c.number ∷ l) (channels_are us)
 channels_are ((at, book.Delay) ∷ us) = channels_are us
 channels_are ((at, book.Cycle) ∷ us) = channels_are us
 channels_are ((at, book.Restart) ∷ us) = channels_are us
+
+alone_is : (c : book.Channel) → given (second_number c) ≡ alone c
+alone_is c = by c.format where
+  by : (f : Format) → given (elim f [ First ↦ None | Second ↦ Some c.number ]) ≡ elim f [ First ↦ [] | Second ↦ c.number ∷ [] ]
+  by First = refl
+  by Second = refl
+
+pub senders_are : (us : List Used) → numbers_in k.Sender us ≡ senders (services_at us)
+senders_are [] = refl
+senders_are ((at, book.Input n t) ∷ us) = senders_are us
+senders_are ((at, book.Output n t) ∷ us) = senders_are us
+senders_are ((at, book.Publish c t) ∷ us) = ap (λ l. l ++ numbers_in k.Sender us) (alone_is c) ∙ ap (λ l. alone c ++ l) (senders_are us)
+senders_are ((at, book.Subscribe n t) ∷ us) = senders_are us
+senders_are ((at, book.Delay) ∷ us) = senders_are us
+senders_are ((at, book.Cycle) ∷ us) = senders_are us
+senders_are ((at, book.Restart) ∷ us) = senders_are us
 
 -- numbers of services, by the services alone
 module _ (us : List Use) (ss : List Service) (are : map service_in us ≡ ss) where
@@ -70,6 +89,9 @@ module _ (us : List Use) (ss : List Service) (are : map service_in us ≡ ss) wh
   pub channels_same : numbers_in k.Subscriber (map use_of us) ≡ subscribed ss
   channels_same = channels_are (map use_of us) ∙ ap subscribed services_same
 
+  pub senders_same : numbers_in k.Sender (map use_of us) ≡ senders ss
+  senders_same = senders_are (map use_of us) ∙ ap senders services_same
+
 -- numbers that differ have no fault
 pub no_number_fault : (us : List Used) (f : TypeFault) → AreNewNumbers [] (numbers_in k.Input us) → AreNewNumbers [] (numbers_in k.Output us) → AreNewNumbers [] (numbers_in k.Subscriber us) → IsNumberFault us f → f ≡ OutOfMemory
 no_number_fault us f a b c (no_memory_for_numbers e) = e
@@ -80,3 +102,12 @@ no_number_fault us f a b c (repeated_channel x) = no_repeated k.Subscriber [] us
 pub only_number_memory : {T : Type 0} (us : List Used) (r : Result T TypeFault) → IfErr r (IsNumberFault us) → AreNewNumbers [] (numbers_in k.Input us) → AreNewNumbers [] (numbers_in k.Output us) → AreNewNumbers [] (numbers_in k.Subscriber us) → IfErr r (λ f. f ≡ OutOfMemory)
 only_number_memory us (Ok x) h a b c = h
 only_number_memory us (Err f) h a b c = no_number_fault us f a b c h
+
+-- channels whose ends are alike, with one sender of each that may have no other, have no fault
+pub no_channel_fault : (us : List Used) (f : TypeFault) → AreAlike (services_at us) → AreNewNumbers [] (numbers_in k.Sender us) → IsChannelFault us f → f ≡ OutOfMemory
+no_channel_fault us f a n (unlike x) = no_unlike us f a x
+no_channel_fault us f a n (repeated_sender x) = no_repeated k.Sender [] us f n x
+
+pub only_channel_memory : {T : Type 0} (us : List Used) (r : Result T TypeFault) → IfErr r (IsChannelFault us) → AreAlike (services_at us) → AreNewNumbers [] (numbers_in k.Sender us) → IfErr r (λ f. f ≡ OutOfMemory)
+only_channel_memory us (Ok x) h a n = h
+only_channel_memory us (Err f) h a n = no_channel_fault us f a n h

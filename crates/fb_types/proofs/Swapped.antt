@@ -102,4 +102,5 @@ swapped library others ks source s p q h =
       few = h.few;
       devices = devices_alike source.blocks library others ks p q source.system.devices s.devices h.devices;
       channels = h.channels;
+      senders_differ = h.senders_differ;
     }

@@ -8,7 +8,7 @@ use Rattle.fb_model.specs.Names.{Name, is_in}
 use Rattle.fb_model.specs.Declarations.{ChartTree, InstanceTree, NetworkTree, Chart, Network, BlockTree, ResourceTree, DeviceTree, SourceTree}
 use Rattle.fb_model.specs.System as book
 use Rattle.fb_model.specs.Typing.{most_instances, service_names, AreNew, AreDistinct, AreNewNumbers}
-use Rattle.fb_model.specs.NetworkTyping.{type_named, most_deep, most_resources, most_devices, IsMade, a_basic, a_composite, IsInstance, of_type, of_service, AreInstances, no_instance, an_instance, IsServed, a_service, IsService, instance_count, inner_count, services_of, services_in, no_face, IsResource, AreResources, no_resource, a_resource, device_services, inputs, outputs, subscribed, IsDevice, AreDevices, no_device, a_device, all_services, AreAlike, IsProper, ElaboratesWith, given_in, AreEventConnections, AreValueConnections}
+use Rattle.fb_model.specs.NetworkTyping.{type_named, most_deep, most_resources, most_devices, IsMade, a_basic, a_composite, IsInstance, of_type, of_service, AreInstances, no_instance, an_instance, IsServed, a_service, IsService, instance_count, inner_count, services_of, services_in, no_face, IsResource, AreResources, no_resource, a_resource, device_services, inputs, outputs, subscribed, senders, IsDevice, AreDevices, no_device, a_device, all_services, AreAlike, IsProper, ElaboratesWith, given_in, AreEventConnections, AreValueConnections}
 use Rattle.fb_networks.specs.fb_blocks.declared.fault.TypeFault.{TypeFault}
 use Rattle.fb_networks.specs.fb_blocks.declared.fault.TypeFault.TheVariants as faults
 use Rattle.fb_networks.specs.fb_blocks.Answers.{Finds}
@@ -28,8 +28,7 @@ use Rattle.fb_types.specs.Made.{IsNamed}
 use Rattle.fb_types.proofs.Nested.{among_cons, among_nil, one_type, one_instance, all_one, type_true, all_true}
 use Rattle.fb_types.proofs.Making.{all_member}
 use Rattle.fb_types.proofs.Tabled.{or_else, named_append}
-use Rattle.fb_types.proofs.Ended.{inputs_are, outputs_are, channels_are, no_number_fault}
-use Rattle.fb_types.proofs.Shaped.{no_unlike}
+use Rattle.fb_types.proofs.Ended.{inputs_are, outputs_are, channels_are, no_number_fault, senders_are, no_channel_fault}
 
 -- ---- types of different names
 
@@ -199,8 +198,9 @@ whole_true library source s f h (fault.faulty_declaration {b = b} a w) = block_t
 whole_true library source s f h (fault.repeated_device w) = no_repetition [] (map (λ d. d.name) source.system.devices) f w (subst AreDistinct (sym (map_map (λ x. x.text) (λ d. d.name) source.system.devices)) h.device_names)
 whole_true library source s f h (fault.excess_device w) = no_excess most_devices (map (λ d. d.name) source.system.devices) f w (subst (λ n. n ≤ most_devices) (sym (length-map source.system.devices (λ d. d.name))) h.few)
 whole_true library source s f h (fault.faulty_device {d = d} a w) = devices_true (source.blocks ++ library) source.system.devices s.devices d f h.devices a w
-whole_true library source s f h (fault.unlike_channels {us = us} p w) =
-    no_unlike us f (subst AreAlike (sym (devices_provide (source.blocks ++ library) source.system.devices s.devices us h.devices p)) h.channels) w
+whole_true library source s f h (fault.faulty_channels {us = us} p w) =
+    let same = devices_provide (source.blocks ++ library) source.system.devices s.devices us h.devices p in
+    no_channel_fault us f (subst AreAlike (sym same) h.channels) (subst (AreNewNumbers []) (sym (senders_are us ∙ ap senders same)) h.senders_differ) w
 
 pub only_whole : (library : List BlockTree) (source : SourceTree) (r : Result Configuration TypeFault) → IfOk r (λ t. ElaboratesWith library source (system_of t)) → IfErr r (fault.IsSourceFault library source) → (s : book.System) → ElaboratesWith library source s → Finds system_of r s
 only_whole library source (Ok t) typed refused s h = one_whole library source (system_of t) s typed h

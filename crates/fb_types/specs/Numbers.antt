@@ -1,6 +1,7 @@
 -- Numbers of services and what is at fault in them: this project's profile of IEC 61499-1 edition 2, 6.1.
 use Rattle.std.specs.Prelude.{ℕ, nat_eq, ◌≡◌, true, List, [], ◌∷◌, ◌++◌, Option, None, Some}
 use Rattle.std.specs.List.{list_any}
+use Rattle.fb_words.specs.declared.format.Format.TheVariants.{First, Second}
 use Rattle.fb_model.specs.System.{Service}
 use Rattle.fb_model.specs.System as book
 use Rattle.fb_networks.specs.fb_blocks.declared.fault.TypeFault.{TypeFault}
@@ -9,14 +10,20 @@ use Rattle.fb_types.specs.declared.numbers.Kind.{Kind}
 use Rattle.fb_types.specs.declared.numbers.Kind.TheVariants as k
 use Rattle.fb_types.specs.Uses.{Used}
 
+-- the number of a channel of format 2
+abbrev pub second_number : book.Channel → Option ℕ
+second_number channel = elim channel.format [ First ↦ None | Second ↦ Some channel.number ]
+
 -- the number that a service has of a kind
 abbrev pub number_of : Kind → Service → Option ℕ
 number_of k.Input (book.Input n types) = Some n
 number_of k.Input other = None
 number_of k.Output (book.Output n types) = Some n
 number_of k.Output other = None
-number_of k.Subscriber (book.Subscribe n types) = Some n
+number_of k.Subscriber (book.Subscribe channel types) = Some channel.number
 number_of k.Subscriber other = None
+number_of k.Sender (book.Publish channel types) = second_number channel
+number_of k.Sender other = None
 
 abbrev pub given : Option ℕ → List ℕ
 given None = []
@@ -32,6 +39,7 @@ abbrev pub taken_fault : Kind → ℕ → TypeFault
 taken_fault k.Input at = BadService at
 taken_fault k.Output at = BadService at
 taken_fault k.Subscriber at = ChannelShape at
+taken_fault k.Sender at = ChannelShape at
 
 -- a service has a number that is taken, at the name of its instance
 pub data IsTaken (kind : Kind) (taken : List ℕ) (u : Used) (f : TypeFault) : Type 0 where

@@ -14,8 +14,7 @@ use Rattle.fb_networks.specs.Views.{Placed, placed_in}
 use Rattle.fb_networks.specs.Refusals.{IsPlainFault, IsServedFault, IsNetworkFault}
 use Rattle.fb_types.specs.Uses.{Used}
 use Rattle.fb_types.specs.Nesting.{IsOf, Uses, Leads, Nests, ResourcesProvide, DevicesProvide}
-use Rattle.fb_types.specs.Ends.{IsNumberFault}
-use Rattle.fb_types.specs.Shapes.{IsUnlike}
+use Rattle.fb_types.specs.Ends.{IsNumberFault, IsChannelFault}
 
 -- By these types:
 module _ (bs : List BlockTree) where
@@ -86,4 +85,4 @@ pub data IsSourceFault (library : List BlockTree) (source : SourceTree) (f : Typ
   repeated_device : IsRepetition [] (map (λ d. d.name) source.system.devices) f → IsSourceFault library source f
   excess_device : IsExcess most_devices (map (λ d. d.name) source.system.devices) f → IsSourceFault library source f
   faulty_device : {d : DeviceTree} → Contains source.system.devices d → IsDeviceFault (source.blocks ++ library) d f → IsSourceFault library source f
-  unlike_channels : {us : List Used} → DevicesProvide (source.blocks ++ library) source.system.devices us → IsUnlike us f → IsSourceFault library source f
+  faulty_channels : {us : List Used} → DevicesProvide (source.blocks ++ library) source.system.devices us → IsChannelFault us f → IsSourceFault library source f

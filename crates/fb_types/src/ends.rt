@@ -2,14 +2,13 @@
 
 ghost use Rattle.std.specs.Prelude.{◌≡◌, ◌++◌, [], map, OnOk, IfErr};
 ghost use Rattle.fb_model.specs.Typing.{AreNewNumbers};
-ghost use Rattle.fb_model.specs.NetworkTyping.{inputs, outputs, subscribed, device_services, all_services, AreAlike};
+ghost use Rattle.fb_model.specs.NetworkTyping.{inputs, outputs, subscribed, senders, device_services, all_services, AreAlike};
 ghost use Rattle.fb_networks.specs.fb_blocks.declared.fault.TypeFault.TheVariants.{OutOfMemory};
-ghost use Rattle.fb_types.specs.Uses.{use_of, service_in};
-ghost use Rattle.fb_types.specs.declared.numbers.Kind.TheVariants.{Input, Output, Subscriber};
+ghost use Rattle.fb_types.specs.Uses.{use_of, service_in, services_at};
+ghost use Rattle.fb_types.specs.declared.numbers.Kind.TheVariants.{Input, Output, Subscriber, Sender};
 ghost use Rattle.fb_types.specs.Numbers.{numbers_in};
 ghost use Rattle.fb_types.specs.Views.{resource_of, device_of, device_uses, system_uses};
-ghost use Rattle.fb_types.specs.Ends.{IsNumberFault};
-ghost use Rattle.fb_types.specs.Shapes.{IsUnlike};
+ghost use Rattle.fb_types.specs.Ends.{IsNumberFault, IsChannelFault};
 
 use crate::numbers::{Kind, differ};
 use crate::shapes::alike;
@@ -68,13 +67,25 @@ pub fn numbers_differ(alloc: Global, resources: &[Resource]) -> Result<(), TypeF
     all_differ(alloc, &uses)
 }
 
-/// Refuses ends of one channel that have other types, with `ChannelShape` at the name of the later instance.
+// Refuses an end of a channel that is not as an earlier one, and a second PUBLISH of a channel of format 2.
+fn all_alike(alloc: Global, uses: &[Use]) -> Result<(), TypeFault>
+    ensures alike { OnOk result (AreAlike (services_at (map use_of uses.now))) }
+    ensures senders { OnOk result (AreNewNumbers [] (numbers_in Sender (map use_of uses.now))) }
+    ensures refused { IfErr result (IsChannelFault (map use_of uses.now)) }
+{
+    alike(alloc, uses)?;
+    differ(alloc, Kind::Sender, uses)
+}
+
+/// Refuses ends of one channel that have other types or another format, and a second PUBLISH of a channel of format 2, with
+/// `ChannelShape` at the name of the later instance.
 pub fn channels_alike(alloc: Global, devices: &[Device]) -> Result<(), TypeFault>
     ensures alike { OnOk result (AreAlike (all_services (map device_of devices.now))) }
-    ensures refused { IfErr result (IsUnlike (system_uses devices.now)) }
-    ensures only { AreAlike (all_services (map device_of devices.now)) → IfErr result (λ f. f ≡ OutOfMemory) }
+    ensures senders { OnOk result (AreNewNumbers [] (senders (all_services (map device_of devices.now)))) }
+    ensures refused { IfErr result (IsChannelFault (system_uses devices.now)) }
+    ensures only { AreAlike (all_services (map device_of devices.now)) → AreNewNumbers [] (senders (all_services (map device_of devices.now))) → IfErr result (λ f. f ≡ OutOfMemory) }
 {
     let mut uses = Vec::new(alloc);
     of_devices(&mut uses, devices)?;
-    alike(alloc, &uses)
+    all_alike(alloc, &uses)
 }

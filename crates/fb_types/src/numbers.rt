@@ -1,24 +1,37 @@
-//! Numbers of services, which differ in a device: this project's profile of IEC 61499-1 edition 2, 6.1.
+//! Numbers of services, which differ in a device, and those of channels with one PUBLISH at most, which differ in a system: this project's profile of IEC 61499-1 edition 2, 6.1.
 
 ghost use Rattle.std.specs.Prelude.{◌≡◌, ◌++◌, [], map, OnOk, IfErr};
 ghost use Rattle.fb_model.specs.Typing.{AreNewNumbers};
 ghost use Rattle.fb_networks.specs.fb_blocks.declared.fault.TypeFault.TheVariants.{OutOfMemory};
-ghost use Rattle.fb_networks.specs.fb_services.Views.{service_of};
+ghost use Rattle.fb_networks.specs.fb_services.Views.{channel_of, service_of};
 ghost use Rattle.fb_types.specs.Uses.{use_of};
-ghost use Rattle.fb_types.specs.Numbers.{given, number_of, numbers_in, taken_fault, IsTaken, IsRepeated};
+ghost use Rattle.fb_types.specs.Numbers.{given, second_number, number_of, numbers_in, taken_fault, IsTaken, IsRepeated};
 
 use crate::uses::Use;
-use fb_networks::fb_services::Service;
+use fb_networks::fb_services::{Channel, Service};
 use fb_networks::fb_services::fb_blocks::TypeFault;
+use fb_words::Format;
 use indexmap::IndexSet;
 use std::alloc::Global;
 
-/// What has a number of its own in a device: INPUTs, OUTPUTs, and the channels of SUBSCRIBEs.
+/// What has a number of its own: in a device INPUTs, OUTPUTs, and the channels of SUBSCRIBEs; in a system the channels of format 2 of
+/// PUBLISHs.
 #[derive(Clone, Copy)]
 pub enum Kind {
     Input,
     Output,
     Subscriber,
+    Sender,
+}
+
+// The number of a channel of format 2.
+fn second(channel: Channel) -> Option<u16>
+    ensures { result ≡ second_number (channel_of channel) }
+{
+    match channel.format {
+        Format::First => None,
+        Format::Second => Some(channel.number),
+    }
 }
 
 // The number that a service has of a kind.
@@ -35,7 +48,11 @@ fn number(kind: Kind, service: &Service) -> Option<u16>
             _ => None,
         },
         Kind::Subscriber => match service {
-            Service::Subscribe(number, _) => Some(*number),
+            Service::Subscribe(channel, _) => Some(channel.number),
+            _ => None,
+        },
+        Kind::Sender => match service {
+            Service::Publish(channel, _) => second(*channel),
             _ => None,
         },
     }
@@ -49,6 +66,7 @@ fn taken(kind: Kind, at: usize) -> TypeFault
         Kind::Input => TypeFault::BadService(at),
         Kind::Output => TypeFault::BadService(at),
         Kind::Subscriber => TypeFault::ChannelShape(at),
+        Kind::Sender => TypeFault::ChannelShape(at),
     }
 }
 
@@ -83,7 +101,7 @@ fn each_differs(alloc: Global, kind: Kind, uses: &[Use]) -> Result<(), TypeFault
 }
 
 /// Refuses a number that an earlier service of the kind has, at the later instance's name: of INPUTs and OUTPUTs with `BadService`,
-/// of SUBSCRIBEs with `ChannelShape`.
+/// of SUBSCRIBEs and PUBLISHs with `ChannelShape`.
 pub fn differ(alloc: Global, kind: Kind, uses: &[Use]) -> Result<(), TypeFault>
     ensures new { OnOk result (AreNewNumbers [] (numbers_in kind (map use_of uses.now))) }
     ensures refused { IfErr result (IsRepeated kind [] (map use_of uses.now)) }

@@ -1,4 +1,4 @@
-//! The types of channels: this project's profile of IEC 61499-1 edition 2, 6.1.
+//! The formats and types of channels: this project's profile of IEC 61499-1 edition 2, 6.1.
 
 ghost use Rattle.std.specs.Prelude.{◌≡◌, ◌++◌, ◌∷◌, [], true, false, None, map, OnOk, IfErr};
 ghost use Rattle.std.specs.Option.{option_map};
@@ -6,25 +6,42 @@ ghost use Rattle.fb_model.specs.NetworkTyping.{AreAlike};
 ghost use Rattle.fb_networks.specs.fb_blocks.declared.fault.TypeFault.TheVariants.{OutOfMemory};
 ghost use Rattle.fb_networks.specs.fb_services.Views.{service_of};
 ghost use Rattle.fb_types.specs.Uses.{use_of, services_at};
-ghost use Rattle.fb_types.specs.Shapes.{channel_of, types_in, shapes_of, Noted, IsOtherwise, IsUnlike};
+ghost use Rattle.fb_types.specs.Shapes.{end_of, shape_in, shape_of, shapes_of, Noted, IsOtherwise, IsUnlike};
 
 use crate::uses::Use;
-use fb_networks::fb_services::Service;
+use fb_networks::fb_services::{Channel, Service};
 use fb_networks::fb_services::fb_blocks::TypeFault;
-use fb_words::ElemType;
+use fb_words::{ElemType, Format};
 use indexmap::IndexMap;
 use std::alloc::Global;
 
-// Channels with their types.
-type Shapes<'a> = IndexMap<u16, &'a Vec<ElemType>>;
+// What the first end of a channel has.
+#[derive(Clone, Copy)]
+struct Seen<'a> {
+    format: Format,
+    types: &'a Vec<ElemType>,
+}
 
-// The channel of which a service is an end, with its types.
-fn channel(service: &Service) -> Option<(u16, &Vec<ElemType>)>
-    ensures { option_map (λ p. (p.0, p.1.now.items)) result ≡ channel_of (service_of service.now) }
+// Channels with their shapes.
+type Shapes<'a> = IndexMap<u16, Seen<'a>>;
+
+// The shape of a channel.
+fn seen(channel: Channel, types: &Vec<ElemType>) -> (u16, Seen<'_>)
+    ensures number { result.0 ≡ channel.number }
+    ensures format { result.1.format ≡ channel.format }
+    ensures types { result.1.types ≡ types }
+{
+    let format = channel.format;
+    (channel.number, Seen { format, types })
+}
+
+// The channel of which a service is an end, with its shape.
+fn channel(service: &Service) -> Option<(u16, Seen<'_>)>
+    ensures { option_map (λ p. (p.0, shape_of p.1)) result ≡ end_of (service_of service.now) }
 {
     match service {
-        Service::Publish(channel, types) => Some((*channel, types)),
-        Service::Subscribe(channel, types) => Some((*channel, types)),
+        Service::Publish(channel, types) => Some(seen(*channel, types)),
+        Service::Subscribe(channel, types) => Some(seen(*channel, types)),
         _ => None,
     }
 }
@@ -37,44 +54,56 @@ fn same(first: &[ElemType], second: &[ElemType]) -> bool
     first == second
 }
 
-// The types of a channel, where it is among these.
-fn first<'a>(shapes: &Shapes<'a>, number: u16) -> Option<&'a Vec<ElemType>>
-    ensures { option_map (λ v. v.now.items) result ≡ types_in (shapes_of shapes.now) number }
+// Whether shapes are the same.
+fn agree(first: Seen, second: Seen) -> bool
+    ensures same { result ≡ true → shape_of first ≡ shape_of second }
+    ensures differ { result ≡ false → shape_of first ≡ shape_of second → ⊥ }
+{
+    if first.format == second.format {
+        same(first.types, second.types)
+    } else {
+        false
+    }
+}
+
+// The shape of a channel, where it is among these.
+fn first<'a>(shapes: &Shapes<'a>, number: u16) -> Option<Seen<'a>>
+    ensures { option_map shape_of result ≡ shape_in (shapes_of shapes.now) number }
 {
     shapes.get(&number).copied()
 }
 
 // Adds a channel that is none of these.
-fn put<'a>(shapes: &mut Shapes<'a>, number: u16, types: &'a Vec<ElemType>) -> Result<(), TypeFault>
-    requires { types_in (shapes_of shapes.old) number ≡ None }
-    ensures added { OnOk result (shapes_of shapes.new ≡ shapes_of shapes.old ++ (number, types.now.items) ∷ []) }
+fn put<'a>(shapes: &mut Shapes<'a>, number: u16, shape: Seen<'a>) -> Result<(), TypeFault>
+    requires { shape_in (shapes_of shapes.old) number ≡ None }
+    ensures added { OnOk result (shapes_of shapes.new ≡ shapes_of shapes.old ++ (number, shape_of shape) ∷ []) }
     ensures refused { IfErr result (λ f. f ≡ OutOfMemory) }
 {
-    shapes.insert(number, types)?;
+    shapes.insert(number, shape)?;
     Ok(())
 }
 
-// Adds the channel of which a service is an end, where it is a new one. Another end of it has to have the same types.
+// Adds the channel of which a service is an end, where it is a new one. Another end of it has to have the same shape.
 fn note<'a>(shapes: &mut Shapes<'a>, used: &Use<'a>) -> Result<(), TypeFault>
-    ensures noted { OnOk result (Noted (shapes_of shapes.old) (channel_of ((use_of used.now).1)) (shapes_of shapes.new)) }
+    ensures noted { OnOk result (Noted (shapes_of shapes.old) (end_of ((use_of used.now).1)) (shapes_of shapes.new)) }
     ensures refused { IfErr result (IsOtherwise (shapes_of shapes.old) (use_of used.now)) }
 {
     match channel(used.service) {
         None => Ok(()),
-        Some((number, types)) => match first(shapes, number) {
+        Some((number, shape)) => match first(shapes, number) {
             Some(first) => {
-                if same(first, types) {
+                if agree(first, shape) {
                     Ok(())
                 } else {
                     Err(TypeFault::ChannelShape(used.at))
                 }
             }
-            None => put(shapes, number, types),
+            None => put(shapes, number, shape),
         },
     }
 }
 
-// Refuses an end of a channel that has other types than an earlier end of it.
+// Refuses an end of a channel that has other types or another format than an earlier end of it.
 fn each_alike(alloc: Global, uses: &[Use]) -> Result<(), TypeFault>
     ensures alike { OnOk result (AreAlike (services_at (map use_of uses.now))) }
     ensures refused { IfErr result (IsUnlike (map use_of uses.now)) }
@@ -86,7 +115,8 @@ fn each_alike(alloc: Global, uses: &[Use]) -> Result<(), TypeFault>
     Ok(())
 }
 
-/// Refuses an end of a channel that has other types than an earlier end of it, with `ChannelShape` at the later instance's name.
+/// Refuses an end of a channel that has other types or another format than an earlier end of it, with `ChannelShape` at the later
+/// instance's name.
 pub fn alike(alloc: Global, uses: &[Use]) -> Result<(), TypeFault>
     ensures alike { OnOk result (AreAlike (services_at (map use_of uses.now))) }
     ensures refused { IfErr result (IsUnlike (map use_of uses.now)) }

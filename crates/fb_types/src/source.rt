@@ -107,8 +107,8 @@ fn resolved(
 /// the name of a type from which more than 16 composites nest, of the 17th device and of the 17th resource of a device, and of the
 /// instance by which a resource has more than 1,024 of them; with `UnknownName` at the name of an instance's type that is none; as basic
 /// blocks, interfaces, instances and networks are; with `BadService` at the instance of a number of an INPUT or an OUTPUT that its device
-/// has already; and with `ChannelShape` at the later instance of two SUBSCRIBEs of one channel in a device, and of two ends of a channel
-/// that have other types.
+/// has already; and with `ChannelShape` at the later instance of two SUBSCRIBEs of one channel in a device, of two ends of a channel
+/// that have other types or another format, and of two PUBLISHs of a channel of format 2.
 pub fn resolve_with(
     alloc: Global,
     library: &[BlockTree],

@@ -2,13 +2,13 @@ use Rattle.std.proofs.Common.{◌≡◌, ◌≤◌, ◌++◌, [], map, length, s
 use Rattle.std.specs.List.{AllByRecursion, Contains}
 use Rattle.std.proofs.lemmas.List.{length-map}
 use Rattle.std.proofs.lemmas.Result.{err_from_is_err_and}
-use Rattle.fb_model.specs.Typing.{AreDistinct}
-use Rattle.fb_model.specs.NetworkTyping.{most_devices, IsProper, AreDevices, AreAlike, all_services}
+use Rattle.fb_model.specs.Typing.{AreDistinct, AreNewNumbers}
+use Rattle.fb_model.specs.NetworkTyping.{most_devices, IsProper, AreDevices, AreAlike, senders, all_services}
 use Rattle.fb_networks.specs.fb_text.Views as trees_of
 use Rattle.fb_networks.specs.fb_blocks.Refusals.{IsRepetition, IsExcess}
-use Rattle.fb_types.specs.Shapes.{IsUnlike}
+use Rattle.fb_types.specs.Ends.{IsChannelFault}
 use Rattle.fb_types.specs.Nesting.{DevicesProvide}
-use Rattle.fb_types.specs.Refusals.{repeated_type, faulty_declaration, repeated_device, excess_device, faulty_device, unlike_channels}
+use Rattle.fb_types.specs.Refusals.{repeated_type, faulty_declaration, repeated_device, excess_device, faulty_device, faulty_channels}
 use Rattle.fb_types.specs.Made.{IsTable, IsMemo, IsNamed}
 use Rattle.fb_types.specs.Views.{device_of, system_places, all_places, system_uses}
 use Rattle.fb_types.proofs.Systems.{block_words, block_names, device_words, device_names, nothing_made}
@@ -70,7 +70,7 @@ returns-in_err-channels_alike-clause-refused c =
     let kept = c.in_ok-all_declared.ensures.kept bs table memo named in
     let f = c.in_err-channels_alike.field-0.0 in
     let uses = subst (λ l. DevicesProvide bs (map trees_of.device_of l) (system_uses c.in_ok-devices.devices.items)) c.deref-6.ensures.value (c.in_ok-devices.ensures.uses bs table kept) in
-    rw (p.1, p.2) (unlike_channels uses (subst (λ l. IsUnlike (system_uses l) f) c.deref-7.ensures.value c.in_err-channels_alike.ensures.refused))
+    rw (p.1, p.2) (faulty_channels uses (subst (λ l. IsChannelFault (system_uses l) f) c.deref-7.ensures.value c.in_err-channels_alike.ensures.refused))
 
 pub returns-clause-places : goal.returns-clause-places
 returns-clause-places c = subst (λ l. system_places c.in_ok-devices.devices.items ≡ all_places (map trees_of.device_of l)) c.deref-6.ensures.value c.in_ok-devices.ensures.places
@@ -92,4 +92,5 @@ returns-clause-typed c =
       few = subst (λ n. n ≤ most_devices) (ap length c.deref-4.ensures.value ∙ sym (length-map ds trees_of.device_of)) c.in_ok-at_most.ensures.few;
       devices = subst (λ l. AreDevices bs (map trees_of.device_of l) (map device_of c.in_ok-devices.devices.items)) c.deref-6.ensures.value (c.in_ok-devices.ensures.typed bs table kept);
       channels = subst (λ l. AreAlike (all_services (map device_of l))) c.deref-7.ensures.value c.in_ok-channels_alike.ensures.alike;
+      senders_differ = subst (λ l. AreNewNumbers [] (senders (all_services (map device_of l)))) c.deref-7.ensures.value c.in_ok-channels_alike.ensures.senders;
     }
