@@ -14,8 +14,6 @@ use Rattle.fb_words.specs.contracts.elem_type.ElemType.{the_type}
 use Rattle.std.specs.Option.{unwrap_or}
 use Rattle.std.proofs.lemmas.Bool.Decides.{Decides-eqb}
 use Rattle.fb_words.specs.declared.elem_type.ElemType.{ElemType}
-use Rattle.fb_words.specs.contracts.format.Format.{the_type as the_format}
-use Rattle.fb_words.specs.declared.format.Format.{Format}
 use Rattle.fb_words.specs.declared.format.Format.TheVariants.{First}
 use Rattle.fb_model.specs.System.{Service}
 use Rattle.fb_model.specs.System as book
@@ -186,11 +184,3 @@ types_decide xs ys r e = slice_eq-Decides type_decides xs ys r e
 
 pub types_differ : (xs ys : List ElemType) (r : Bool) → r ≡ pointwise (sameb the_type) xs ys → r ≡ false → xs ≡ ys → ⊥
 types_differ xs ys r e f same = let h : true ≡ false = sym ((types_decide xs ys r e).1 same) ∙ f in cc
-
--- ---- formats and types compared
-
-pub shapes_agree : (f g : Format) (xs ys : List ElemType) → sameb the_format f g ≡ true → xs ≡ ys → (f, xs) ≡ (g, ys)
-shapes_agree f g xs ys e h = ap (λ k. (k, xs)) (same_true the_format tt f g e) ∙ ap (λ l. (g, l)) h
-
-pub formats_differ : (f g : Format) (xs ys : List ElemType) → sameb the_format f g ≡ false → (f, xs) ≡ (g, ys) → ⊥
-formats_differ f g xs ys e h = let k : true ≡ false = sym (true_same the_format f g (ap (λ p. p.0) h)) ∙ e in cc

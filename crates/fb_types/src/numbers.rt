@@ -8,8 +8,8 @@ ghost use Rattle.fb_types.specs.Uses.{use_of};
 ghost use Rattle.fb_types.specs.Numbers.{given, second_number, number_of, numbers_in, taken_fault, IsTaken, IsRepeated};
 
 use crate::uses::Use;
-use fb_networks::fb_services::{Channel, Service};
 use fb_networks::fb_services::fb_blocks::TypeFault;
+use fb_networks::fb_services::{Channel, Service};
 use fb_words::Format;
 use indexmap::IndexSet;
 use std::alloc::Global;

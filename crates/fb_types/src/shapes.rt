@@ -9,8 +9,8 @@ ghost use Rattle.fb_types.specs.Uses.{use_of, services_at};
 ghost use Rattle.fb_types.specs.Shapes.{end_of, shape_in, shape_of, shapes_of, Noted, IsOtherwise, IsUnlike};
 
 use crate::uses::Use;
-use fb_networks::fb_services::{Channel, Service};
 use fb_networks::fb_services::fb_blocks::TypeFault;
+use fb_networks::fb_services::Service;
 use fb_words::{ElemType, Format};
 use indexmap::IndexMap;
 use std::alloc::Global;
@@ -25,23 +25,19 @@ struct Seen<'a> {
 // Channels with their shapes.
 type Shapes<'a> = IndexMap<u16, Seen<'a>>;
 
-// The shape of a channel.
-fn seen(channel: Channel, types: &Vec<ElemType>) -> (u16, Seen<'_>)
-    ensures number { result.0 ≡ channel.number }
-    ensures format { result.1.format ≡ channel.format }
-    ensures types { result.1.types ≡ types }
-{
-    let format = channel.format;
-    (channel.number, Seen { format, types })
-}
-
 // The channel of which a service is an end, with its shape.
 fn channel(service: &Service) -> Option<(u16, Seen<'_>)>
     ensures { option_map (λ p. (p.0, shape_of p.1)) result ≡ end_of (service_of service.now) }
 {
     match service {
-        Service::Publish(channel, types) => Some(seen(*channel, types)),
-        Service::Subscribe(channel, types) => Some(seen(*channel, types)),
+        Service::Publish(channel, types) => {
+            let format = channel.format;
+            Some((channel.number, Seen { format, types }))
+        }
+        Service::Subscribe(channel, types) => {
+            let format = channel.format;
+            Some((channel.number, Seen { format, types }))
+        }
         _ => None,
     }
 }
@@ -56,8 +52,8 @@ fn same(first: &[ElemType], second: &[ElemType]) -> bool
 
 // Whether shapes are the same.
 fn agree(first: Seen, second: Seen) -> bool
-    ensures same { result ≡ true → shape_of first ≡ shape_of second }
-    ensures differ { result ≡ false → shape_of first ≡ shape_of second → ⊥ }
+    ensures same { result ≡ true → shape_of first.entry ≡ shape_of second.entry }
+    ensures differ { result ≡ false → shape_of first.entry ≡ shape_of second.entry → ⊥ }
 {
     if first.format == second.format {
         same(first.types, second.types)
@@ -76,7 +72,7 @@ fn first<'a>(shapes: &Shapes<'a>, number: u16) -> Option<Seen<'a>>
 // Adds a channel that is none of these.
 fn put<'a>(shapes: &mut Shapes<'a>, number: u16, shape: Seen<'a>) -> Result<(), TypeFault>
     requires { shape_in (shapes_of shapes.old) number ≡ None }
-    ensures added { OnOk result (shapes_of shapes.new ≡ shapes_of shapes.old ++ (number, shape_of shape) ∷ []) }
+    ensures added { OnOk result (shapes_of shapes.new ≡ shapes_of shapes.old ++ (number, shape_of shape.entry) ∷ []) }
     ensures refused { IfErr result (λ f. f ≡ OutOfMemory) }
 {
     shapes.insert(number, shape)?;
