@@ -1,0 +1,2 @@
+" Applications of fbr.
+autocmd BufNewFile,BufRead *.fb set filetype=fb
