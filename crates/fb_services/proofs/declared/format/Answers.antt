@@ -1,4 +1,4 @@
-use Rattle.std.proofs.Common.{sym, subst, refl}
+use Rattle.std.proofs.Common.{sym, subst}
 use Rattle.fb_words.specs.declared.format.Format.TheVariants.{First}
 use Rattle.fb_model.specs.NetworkTyping.{IsFormat, unsaid, said}
 use Rattle.fb_services.proofs.declared.format.Goals as goal
