@@ -9,8 +9,8 @@ ghost use Rattle.fb_types.specs.Uses.{use_of, services_at};
 ghost use Rattle.fb_types.specs.Shapes.{end_of, shape_in, shape_of, shapes_of, Noted, IsOtherwise, IsUnlike};
 
 use crate::uses::Use;
-use fb_networks::fb_services::fb_blocks::TypeFault;
 use fb_networks::fb_services::Service;
+use fb_networks::fb_services::fb_blocks::TypeFault;
 use fb_words::{ElemType, Format};
 use indexmap::IndexMap;
 use std::alloc::Global;
