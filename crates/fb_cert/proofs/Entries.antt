@@ -1,6 +1,6 @@
 -- What is read as a row is one, and each such is read.
 use Rattle.std.proofs.Common.{◌≡◌, ℕ, ℤ, ◌⊎◌, true, false, cond, List, [], ◌∷◌, ◌<◌, ◌≤◌, length, Option, Some, None, is_some, arith, refl, sym, ap, subst, ◌∙◌, inl, inr, codes}
-use Rattle.std.specs.Prelude.{◌&&◌, int_le}
+use Rattle.std.specs.Prelude.{int_le}
 use Rattle.std.specs.Option.{option_map}
 use Rattle.std.specs.Str.{bytes_eq}
 use Rattle.fb_model.specs.CertificateText.{IsNumberIn, IsWhole, IsDotted, Entry, repeats, range, charge, weight, depth, far, far_state, channel, IsHead, head, IsEntry, a_repeats, a_range, a_charge, a_weight, a_depth, a_far, a_far_state, a_channel, most_steps, most_places, most_repeats, most_channel, begins_cert}

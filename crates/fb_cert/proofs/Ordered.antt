@@ -11,7 +11,7 @@ use Rattle.fb_cert.specs.declared.kind.Kind.TheVariants as kinds
 use Rattle.fb_cert.specs.Rows.{Rows, no_rows, has_path, has_number}
 use Rattle.fb_cert.specs.Views.{has_row, with_row}
 use Rattle.fb_cert.specs.Sayable.{IsRange, IsAmount, IsWithin, IsChannel, IsSayable, AreRows, SaysAtPath, AreSayable}
-use Rattle.fb_cert.specs.Printed.{repeats_entries, entries_of, all_kinds, entries}
+use Rattle.fb_cert.specs.Printed.{repeats_entries, entries_of, entries}
 use Rattle.fb_cert.proofs.ByKind.{rows_in, has_in, with_in, AreNew}
 
 -- behind those done, entries that a text can say make the rows whole, and none repeats one before it

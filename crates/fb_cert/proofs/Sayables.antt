@@ -26,14 +26,22 @@ path_more : {V : Type 0} (Such : V → Type 0) (rs : Table V) (p : List ℕ) (v 
 path_more Such rs p v h s n = rows_more (SaysAtPath Such) (λ r before. has_path r.0 before) [] rs (p, v) h s n
 
 pub sayable_with : (e : Entry) (rs : Rows) → AreSayable rs → IsSayable e → has_row e rs ≡ false → AreSayable (with_row e rs)
-sayable_with (repeats n) rs a s f = record a { repeats_are = s }
-sayable_with (range p l h) rs a s f = record a { ranges_are = path_more IsRange rs.ranges p (span l h) a.ranges_are s f }
-sayable_with (charge p q k) rs a s f = record a { charges_are = path_more IsAmount rs.charges p (amount q k) a.charges_are s f }
-sayable_with (weight p q k) rs a s f = record a { weights_are = path_more IsAmount rs.weights p (amount q k) a.weights_are s f }
-sayable_with (depth p n) rs a s f = record a { depths_are = path_more (IsWithin 1 most_places) rs.depths p n a.depths_are s f }
-sayable_with (far p n) rs a s f = record a { fars_are = path_more (IsWithin 0 most_steps) rs.fars p n a.fars_are s f }
-sayable_with (far_state p n) rs a s f = record a { far_states_are = path_more (IsWithin 0 most_steps) rs.far_states p n a.far_states_are s f }
-sayable_with (channel c n) rs a s f = record a { channels_are = rows_more IsChannel (λ r before. has_number r.0 before) [] rs.channels (c, n) a.channels_are s f }
+sayable_with (repeats n) rs a s f =
+    record { repeats_are = s; ranges_are = a.ranges_are; charges_are = a.charges_are; weights_are = a.weights_are; depths_are = a.depths_are; fars_are = a.fars_are; far_states_are = a.far_states_are; channels_are = a.channels_are }
+sayable_with (range p l h) rs a s f =
+    record { repeats_are = a.repeats_are; ranges_are = path_more IsRange rs.ranges p (span l h) a.ranges_are s f; charges_are = a.charges_are; weights_are = a.weights_are; depths_are = a.depths_are; fars_are = a.fars_are; far_states_are = a.far_states_are; channels_are = a.channels_are }
+sayable_with (charge p q k) rs a s f =
+    record { repeats_are = a.repeats_are; ranges_are = a.ranges_are; charges_are = path_more IsAmount rs.charges p (amount q k) a.charges_are s f; weights_are = a.weights_are; depths_are = a.depths_are; fars_are = a.fars_are; far_states_are = a.far_states_are; channels_are = a.channels_are }
+sayable_with (weight p q k) rs a s f =
+    record { repeats_are = a.repeats_are; ranges_are = a.ranges_are; charges_are = a.charges_are; weights_are = path_more IsAmount rs.weights p (amount q k) a.weights_are s f; depths_are = a.depths_are; fars_are = a.fars_are; far_states_are = a.far_states_are; channels_are = a.channels_are }
+sayable_with (depth p n) rs a s f =
+    record { repeats_are = a.repeats_are; ranges_are = a.ranges_are; charges_are = a.charges_are; weights_are = a.weights_are; depths_are = path_more (IsWithin 1 most_places) rs.depths p n a.depths_are s f; fars_are = a.fars_are; far_states_are = a.far_states_are; channels_are = a.channels_are }
+sayable_with (far p n) rs a s f =
+    record { repeats_are = a.repeats_are; ranges_are = a.ranges_are; charges_are = a.charges_are; weights_are = a.weights_are; depths_are = a.depths_are; fars_are = path_more (IsWithin 0 most_steps) rs.fars p n a.fars_are s f; far_states_are = a.far_states_are; channels_are = a.channels_are }
+sayable_with (far_state p n) rs a s f =
+    record { repeats_are = a.repeats_are; ranges_are = a.ranges_are; charges_are = a.charges_are; weights_are = a.weights_are; depths_are = a.depths_are; fars_are = a.fars_are; far_states_are = path_more (IsWithin 0 most_steps) rs.far_states p n a.far_states_are s f; channels_are = a.channels_are }
+sayable_with (channel c n) rs a s f =
+    record { repeats_are = a.repeats_are; ranges_are = a.ranges_are; charges_are = a.charges_are; weights_are = a.weights_are; depths_are = a.depths_are; fars_are = a.fars_are; far_states_are = a.far_states_are; channels_are = rows_more IsChannel (λ r before. has_number r.0 before) [] rs.channels (c, n) a.channels_are s f }
 
 pub sayable_none : AreSayable no_rows
 sayable_none = record { repeats_are = tt; ranges_are = tt; charges_are = tt; weights_are = tt; depths_are = tt; fars_are = tt; far_states_are = tt; channels_are = tt }

@@ -2,12 +2,10 @@
 use Rattle.std.specs.Prelude.{ℕ, List, [], ◌∷◌, ◌++◌, map, flat_map, codes, Option, Some, None}
 use Rattle.std.specs.List.{join_with_byte}
 use Rattle.std.specs.Fmt.{decimal, signed_decimal}
-use Rattle.fb_model.specs.Spans.{Span}
 use Rattle.fb_model.specs.CertificateText.{Entry, repeats, range, charge, weight, depth, far, far_state, channel}
-use Rattle.fb_cert.specs.declared.certificate.Amount.{Amount}
 use Rattle.fb_cert.specs.declared.kind.Kind.{Kind}
 use Rattle.fb_cert.specs.declared.kind.Kind.TheVariants as kinds
-use Rattle.fb_cert.specs.Rows.{Table, Rows}
+use Rattle.fb_cert.specs.Rows.{Rows}
 
 -- ---- lines
 

@@ -41,11 +41,7 @@ fn add<V: Drop>(
 }
 
 // Adds a row at the end, unless its number stands in an earlier one; says whether it is new.
-fn add_channel(
-    rows: &mut IndexMap<u16, u64>,
-    number: u16,
-    steps: u64,
-) -> Result<bool, AllocError>
+fn add_channel(rows: &mut IndexMap<u16, u64>, number: u16, steps: u64) -> Result<bool, AllocError>
     ensures added { IfOk result (λ new. AddsNew (has_number number rows.old.entries) rows.old.entries (number, steps) rows.new.entries new) }
     ensures kept { IfErr result (λ _. rows.new.entries ≡ rows.old.entries) }
 {

@@ -178,7 +178,10 @@ fn counts(out: &mut String, certificate: &Certificate) -> Result<(), AllocError>
     let far_states = certificate.far_state_count();
     let channels = certificate.channel_count();
     if fars > 0 || far_states > 0 || channels > 0 {
-        writeln!(out, "fars {fars}, far states {far_states}, channels {channels}")?;
+        writeln!(
+            out,
+            "fars {fars}, far states {far_states}, channels {channels}"
+        )?;
     }
     Ok(())
 }

@@ -1,7 +1,6 @@
 use Rattle.std.proofs.Common.{◌≡◌, ◌++◌, drop, flat_map, string_bytes}
 use Rattle.fb_cert.specs.Views.{rows_of}
 use Rattle.fb_cert.specs.Printed.{row_line, entries_of}
-use Rattle.fb_cert.proofs.Rests.{with_left}
 use Rattle.fb_cert.proofs.printing.print_kind.Given as goal
 
 -- what is printed, and what is left
