@@ -1,18 +1,18 @@
 -- The channels of leaves, and what pays for their datagrams.
 use Rattle.std.specs.Prelude.{◌||◌, nat_lt}
-use Rattle.std.proofs.Common.{ℕ, ◌≡◌, ◌+◌, ◌*◌, ◌<◌, ◌≤◌, ◌==◌, Bool, true, false, List, [], ◌∷◌, ◌++◌, Option, Some, None, refl, sym, ◌∙◌, ap, subst, arith, if◌then◌else◌}
-use Rattle.std.specs.List.{sum_by, list_any, AllByRecursion}
-use Rattle.std.proofs.lemmas.Bool.{eqb-true, lt-ltb}
+use Rattle.std.proofs.Common.{ℕ, ◌≡◌, ◌+◌, ◌*◌, ◌<◌, ◌≤◌, ◌==◌, Bool, true, false, List, [], ◌∷◌, Option, Some, None, refl, sym, ◌∙◌, ap, subst, arith, if◌then◌else◌}
+use Rattle.std.specs.List.{list_any, AllByRecursion}
+use Rattle.std.proofs.lemmas.Bool.{eqb-true}
 use Rattle.std.proofs.lemmas.List.Sums.{sum_by-cons, sum_by-append}
 use Rattle.fb_words.specs.declared.format.Format.{Format}
 use Rattle.fb_words.specs.declared.format.Format.TheVariants.{First, Second}
 use Rattle.fb_model.specs.Names.{at_place}
 use Rattle.fb_model.specs.Services.{arrive}
-use Rattle.fb_model.specs.System.{Channel, Device, System, Service}
+use Rattle.fb_model.specs.System.{Device, System, Service}
 use Rattle.fb_model.specs.Wires.{Kind, Charted, Serviced, Leaf, leaves}
-use Rattle.fb_model.specs.Certificates.{Certificate, Column, far_of, all_leaves, admitted, admissions, channel_load, FarFits, channel_in, with_number, channels_of}
+use Rattle.fb_model.specs.Certificates.{Certificate, Column, far_of, all_leaves, admissions, channel_load, FarFits, channel_in, with_number, channels_of}
 use Rattle.fb_model.specs.Devices.{is_subscriber, first_leaf, subscriber_of}
-use Rattle.fb_model.specs.World.{far_arrival, over_devices, far_channel, IsOfFirst, PaysFar}
+use Rattle.fb_model.specs.World.{far_arrival, over_devices, IsOfFirst, PaysFar}
 use Rattle.fb_model.proofs.Placed.{all_left, all_right}
 
 -- ---- numbers that go upwards
