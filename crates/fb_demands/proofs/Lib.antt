@@ -3,3 +3,4 @@ pub mod Meeting
 pub mod Likening
 pub mod Walks
 pub mod Networks
+pub mod Examples

@@ -1,17 +1,18 @@
 -- One order serves all columns: their demands differ in constants alone.
 use Rattle.std.proofs.Common.{ℕ, zero, suc, ◌≡◌, ◌<◌, ◌≤◌, ◌⊎◌, inl, inr, ◌==◌, Bool, true, false, List, [], ◌∷◌, ◌++◌, length, map, replicate, Option, Some, None, slice_index_or, refl, sym, ◌∙◌, ap, subst, arith, Contains, if◌then◌else◌}
 use Rattle.std.specs.List.{flat_map}
+use Rattle.std.specs.Str.{bytes_eq}
 use Rattle.std.proofs.lemmas.List.Elements.{Contains-append_left, Contains-append_right, Contains-append_cases}
 use Rattle.fb_words.specs.declared.format.Format.{Format}
 use Rattle.fb_words.specs.declared.format.Format.TheVariants.{First, Second}
 use Rattle.fb_model.specs.Names.{Name, at_place}
 use Rattle.fb_model.specs.System.{Action, Service}
-use Rattle.fb_model.specs.Services.{service_events, arrive}
+use Rattle.fb_model.specs.Services.{service_events, can_emit, arrive, init}
 use Rattle.fb_model.specs.Wires.{Kind, Charted, Serviced, Leaf}
 use Rattle.fb_model.specs.Charts.{actions_of, is_open}
 use Rattle.fb_model.specs.Ranges.{Range}
-use Rattle.fb_model.specs.Certificates.{event_names, admissions, channels_of}
-use Rattle.fb_demands.specs.Demands.{Node, event, Demand, Ground, of_state, free_demand, of_free, crossing_demand, of_crossing, of_input, of_dispatch, of_kind, linked, heard, of_channel, channel_demands, bare, bare_demands, bare_network}
+use Rattle.fb_model.specs.Certificates.{event_names, reached, admissions, channels_of}
+use Rattle.fb_demands.specs.Demands.{Node, event, Demand, Ground, of_state, free_demand, of_free, crossing_demand, of_crossing, of_input, sent, sending_demand, of_dispatch, of_kind, linked, heard, of_channel, channel_demands, bare, bare_demands, bare_network}
 use Rattle.fb_demands.specs.Columns.{ground_of, demands, network_demands}
 use Rattle.fb_demands.specs.Likeness.{AreLike}
 use Rattle.fb_demands.proofs.Likening.{like_append}
@@ -214,6 +215,49 @@ network_asks r ranges all =
     (like_asks (flat_map (λ (leaf : Leaf). of_kind (linked (bare leaf)) leaf.kind) all) (flat_map (λ (leaf : Leaf). of_kind (linked (ground_of 1 ranges leaf)) leaf.kind) all)
     (like_flat (λ (leaf : Leaf). of_kind (linked (bare leaf)) leaf.kind) (λ (leaf : Leaf). of_kind (linked (ground_of 1 ranges leaf)) leaf.kind) (λ leaf. kind_alike (linked (bare leaf)) 1 (ground_of 1 ranges leaf).price leaf.kind) all))
     (channels_ask r all)
+
+flat_ask : {X : Type 0} (f h : X → List Demand) → ((x : X) → AskForAll (f x) (h x)) → (xs : List X) → AskForAll (flat_map f xs) (flat_map h xs)
+flat_ask f h a [] e x c k = absurd (omega (arith, c.1))
+flat_ask f h a (y ∷ ys) e x c k = both_ask (f y) (h y) (flat_map f ys) (flat_map h ys) (a y) (flat_ask f h a ys) e x c k
+
+none_sent : (leaf : Leaf) (service : Service) (e : Name) (x : Node) → Contains (sent (bare leaf) service e) x → ⊥
+none_sent leaf (Service.Publish k types) e x h = by (bytes_eq e init) h where
+  by : (b : Bool) → Contains {X = Node} (if b then [] else []) x → ⊥
+  by true h = omega (arith, h.1)
+  by false h = omega (arith, h.1)
+none_sent leaf (Service.Input number types) e x h = omega (arith, h.1)
+none_sent leaf (Service.Output number types) e x h = omega (arith, h.1)
+none_sent leaf (Service.Subscribe k types) e x h = omega (arith, h.1)
+none_sent leaf Service.Delay e x h = omega (arith, h.1)
+none_sent leaf Service.Cycle e x h = omega (arith, h.1)
+none_sent leaf Service.Restart e x h = omega (arith, h.1)
+
+dispatch_asks : (leaf : Leaf) (service : Service) (n : Name) → AskForAll (of_dispatch (linked (bare leaf)) service n) (of_dispatch (bare leaf) service n)
+dispatch_asks leaf service n e x (zero, l, is) k = absurd (let h : Contains [] x = subst (λ (d : Demand). Contains d.terms x) (sym is) k in omega (arith, h.1))
+dispatch_asks leaf service n e x (suc zero, l, is) k =
+    let d = sending_demand (linked (bare leaf)) n (sent (linked (bare leaf)) service n) (can_emit service n) in
+    let out = map event (reached leaf.targets (can_emit service n)) in
+    let h : Contains (sent (bare leaf) service n ++ out) x = subst (λ (d : Demand). Contains d.terms x) (sym is) k in
+    (
+      d,
+      (1, omega arith, refl),
+      ap (λ (d : Demand). d.node) is,
+      elim (Contains-append_cases (sent (bare leaf) service n) out x h) [ inl a ↦ absurd (none_sent leaf service n x a) | inr b ↦ Contains-append_right (sent (linked (bare leaf)) service n) out x b ],
+    )
+dispatch_asks leaf service n e x (suc (suc j), l, is) k = absurd (omega (arith, l))
+
+leaf_asks : (leaf : Leaf) → AskForAll (of_kind (linked (bare leaf)) leaf.kind) (of_kind (bare leaf) leaf.kind)
+leaf_asks leaf = by leaf.kind where
+  by : (kind : Kind) → AskForAll (of_kind (linked (bare leaf)) kind) (of_kind (bare leaf) kind)
+  by (Charted block) = λ e x c k. (e, c, refl, k)
+  by (Serviced service) = flat_ask (of_dispatch (linked (bare leaf)) service) (of_dispatch (bare leaf) service) (dispatch_asks leaf service) (service_events service)
+
+-- and for those of each column without datagrams: so an order of the network serves all columns
+pub network_asks_devices : (unit : ℕ) (ranges : List Range) (all : List Leaf) → AskForAll (bare_network all) (demands unit ranges all)
+network_asks_devices unit ranges all e x c k =
+    let a = like_asks (bare_demands all) (demands unit ranges all) (columns_alike unit ranges all) e x c k in
+    let b = flat_ask (λ (leaf : Leaf). of_kind (linked (bare leaf)) leaf.kind) (λ (leaf : Leaf). of_kind (bare leaf) leaf.kind) leaf_asks all a.0 x a.1 a.3 in
+    (b.0, Contains-append_left (flat_map (λ (leaf : Leaf). of_kind (linked (bare leaf)) leaf.kind) all) (channel_demands 1 all) b.0 b.1, b.2 ∙ a.2, b.3)
 
 -- the terms of numbered demands are places
 pub known_terms : (nodes : List Node) (ds : List Demand) (number : Node → ℕ) (system : System) → AreNumbers nodes number → AreOf nodes ds → AreGrouped (length nodes) (map (by_number number) ds) system → length system ≡ length nodes → IsSystem system
