@@ -1,5 +1,5 @@
 -- A PUBLISH and two SUBSCRIBE of one channel, worked out by hand: the rows and the demands of the network.
-use Rattle.std.proofs.Common.{ℕ, ◌≡◌, List, [], ◌∷◌, Some, None, refl, pos}
+use Rattle.std.proofs.Common.{◌≡◌, List, [], ◌∷◌, Some, None, refl, pos}
 use Rattle.std.specs.Prelude.{codes}
 use Rattle.fb_words.specs.declared.format.Format.{Format}
 use Rattle.fb_words.specs.declared.format.Format.TheVariants.{First, Second}
@@ -8,8 +8,8 @@ use Rattle.fb_model.specs.Values.{One}
 use Rattle.fb_model.specs.System.{Service}
 use Rattle.fb_model.specs.Services.{req, init, rsp, arrive}
 use Rattle.fb_model.specs.Wires.{Serviced, Leaf, Constant}
-use Rattle.fb_model.specs.Certificates.{channels_of, required, Far_rows, Far_state_rows}
-use Rattle.fb_demands.specs.Demands.{event, channel, channel_demands, linked, bare, bare_demands, bare_network, of_dispatch}
+use Rattle.fb_model.specs.Certificates.{channels_of, required, Far_rows}
+use Rattle.fb_demands.specs.Demands.{event, channel, channel_demands, linked, bare, of_dispatch}
 
 abbrev leaf_of : Name → Service → Leaf
 leaf_of name service = record { home = 0; path = name ∷ []; kind = Serviced service; targets = λ o. []; source = λ i. Constant (One (pos 0)) }

@@ -74,8 +74,7 @@ pub nodes_are : (repeats : Option ℕ) (all : List Leaf) (states events : List N
 nodes_are repeats all states events channels rows are =
     let front : map state (state_places all) ≡ map (λ t. state (place_of t)) states = sym (both_maps state states ∙ ap (map state) are.states_are) in
     let middle : map event (event_places all) ≡ map (λ t. event (place_of t)) events = sym (both_maps event events ∙ ap (map event) are.events_are) in
-    let r = rest repeats channels rows.channels_are in
-    (
+    let r = rest repeats channels rows.channels_are in (
       r.0,
       ap₂ (λ xs ys. xs ++ (ys ++ map channel (channels_of all))) front middle
           ∙ (ap (λ zs. map (λ t. state (place_of t)) states ++ (map (λ t. event (place_of t)) events ++ zs)) r.1

@@ -49,13 +49,13 @@ module _ (states events : List Name) (channels : List ℕ) (apart : IsDistinct b
 
   sized : length nodes ≡ length states + (length events + length channels)
   sized = omega (
-      arith,
-      length-append front behind,
-      length-append middle (map channel channels),
-      length-map states (λ t. state (place_of t)),
-      length-map events (λ t. event (place_of t)),
-      length-map channels channel,
-    )
+    arith,
+    length-append front behind,
+    length-append middle (map channel channels),
+    length-map states (λ t. state (place_of t)),
+    length-map events (λ t. event (place_of t)),
+    length-map channels channel,
+  )
 
   state_back : (p : ℕ) → p < length states → number states events channels (node_in nodes p) ≡ p
   state_back p h =

@@ -237,8 +237,7 @@ dispatch_asks leaf service n e x (zero, l, is) k = absurd (let h : Contains [] x
 dispatch_asks leaf service n e x (suc zero, l, is) k =
     let d = sending_demand (linked (bare leaf)) n (sent (linked (bare leaf)) service n) (can_emit service n) in
     let out = map event (reached leaf.targets (can_emit service n)) in
-    let h : Contains (sent (bare leaf) service n ++ out) x = subst (λ (d : Demand). Contains d.terms x) (sym is) k in
-    (
+    let h : Contains (sent (bare leaf) service n ++ out) x = subst (λ (d : Demand). Contains d.terms x) (sym is) k in (
       d,
       (1, omega arith, refl),
       ap (λ (d : Demand). d.node) is,
