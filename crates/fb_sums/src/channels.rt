@@ -1,0 +1,159 @@
+//! The channels of a system.
+
+ghost use Rattle.std.specs.Prelude.{◌≡◌, ◌==◌, ◌<◌, nat_le, map, slice_index, string_bytes, length, ◌++◌, IfOk, OnOk};
+ghost use Rattle.fb_model.specs.Wires.{Serviced};
+ghost use Rattle.fb_model.specs.Certificates.{channel_in, with_number, with_repeats};
+ghost use Rattle.fb_places.specs.fb_services.Views.{service_of};
+ghost use Rattle.fb_places.specs.fb_flat.Leaves.{kind_of};
+ghost use Rattle.fb_sums.specs.Ends.{channels_in, end_in, names_channel, with_channel};
+
+use fb_places::fb_flat::fb_types::fb_networks::fb_services::Service;
+use fb_places::fb_flat::{Body, Leaf};
+use std::alloc::{AllocError, Global};
+
+// The channel of a PUBLISH or SUBSCRIBE.
+fn served_channel(service: &Service) -> Option<u16>
+    ensures { result ≡ channel_in (Serviced (service_of service.now)) }
+{
+    match service {
+        Service::Publish(channel, _) | Service::Subscribe(channel, _) => Some(channel.number),
+        Service::Input(_, _) | Service::Output(_, _) => None,
+        Service::Delay | Service::Cycle | Service::Restart => None,
+    }
+}
+
+// The channel of a leaf, if it is a PUBLISH or SUBSCRIBE.
+fn leaf_channel(leaf: &Leaf) -> Option<u16>
+    ensures { result ≡ channel_in (kind_of leaf.now.body) }
+{
+    match &leaf.body {
+        Body::Basic(_) => None,
+        Body::Served(service) => served_channel(service),
+    }
+}
+
+// Whether a channel is this one.
+fn is_of(channel: Option<u16>, number: u16) -> bool
+    ensures { result ≡ names_channel number channel }
+{
+    match channel {
+        Some(own) => own == number,
+        None => false,
+    }
+}
+
+// ---- the channels
+
+// Whether the number at this index is not below this one.
+fn is_from(numbers: &[u16], index: usize, number: u16) -> bool
+    requires { index < length numbers.now }
+    ensures { result ≡ nat_le number (slice_index numbers.now index) }
+{
+    number <= numbers[index]
+}
+
+// Whether the number at this index is this one.
+fn is_at(numbers: &[u16], index: usize, number: u16) -> bool
+    requires { index < length numbers.now }
+    ensures { result ≡ (number == slice_index numbers.now index) }
+{
+    number == numbers[index]
+}
+
+// A number at its place among numbers that go upwards, where it is new.
+fn add_number(alloc: Global, number: u16, numbers: &[u16]) -> Result<Vec<u16>, AllocError>
+    ensures { IfOk result (λ v. v.items ≡ with_number number numbers.now) }
+{
+    let mut all = Vec::new(alloc);
+    for index in 0..numbers.len() {
+        if is_from(numbers, index, number) {
+            if !is_at(numbers, index, number) {
+                all.push(number)?;
+            }
+            add_all(&numbers[index..], &mut all)?;
+            return Ok(all);
+        }
+        all.push(numbers[index])?;
+    }
+    all.push(number)?;
+    Ok(all)
+}
+
+// Adds numbers.
+fn add_all(more: &[u16], all: &mut Vec<u16>) -> Result<(), AllocError>
+    ensures { OnOk result (all.new.items ≡ all.old.items ++ more.now) }
+{
+    for number in more {
+        all.push(*number)?;
+    }
+    Ok(())
+}
+
+// The channels with that of a leaf, if it has one.
+fn add_channel(
+    alloc: Global,
+    channel: Option<u16>,
+    numbers: Vec<u16>,
+) -> Result<Vec<u16>, AllocError>
+    ensures { IfOk result (λ v. v.items ≡ with_channel channel numbers.items) }
+{
+    match channel {
+        Some(number) => add_number(alloc, number, numbers.as_slice()),
+        None => Ok(numbers),
+    }
+}
+
+// The channels of leaves, upwards, each once.
+fn all_channels(alloc: Global, leaves: &[&Leaf]) -> Result<Vec<u16>, AllocError>
+    ensures { IfOk result (λ v. v.items ≡ channels_in (map (λ l. l.now) leaves.now)) }
+{
+    let mut numbers = Vec::new(alloc);
+    for back in 0..leaves.len() {
+        let leaf = leaves[leaves.len() - 1 - back];
+        numbers = add_channel(alloc, leaf_channel(leaf), numbers)?;
+    }
+    Ok(numbers)
+}
+
+/// The channels that leaves name, upwards, each once, where datagrams are followed, and else none.
+pub(crate) fn channels(
+    alloc: Global,
+    repeats: Option<u8>,
+    leaves: &[&Leaf],
+) -> Result<Vec<u16>, AllocError>
+    ensures { IfOk result (λ v. v.items ≡ with_repeats repeats (channels_in (map (λ l. l.now) leaves.now))) }
+{
+    match repeats {
+        Some(_) => all_channels(alloc, leaves),
+        None => Ok(Vec::new(alloc)),
+    }
+}
+
+// ---- their ends
+
+// The path of the first leaf that names the channel.
+fn end<'a>(leaves: &[&'a Leaf], number: u16) -> &'a str
+    ensures { result.now ≡ end_in (map (λ l. l.now) leaves.now) number }
+{
+    for leaf in leaves {
+        if is_of(leaf_channel(*leaf), number) {
+            return leaf.path.as_str();
+        }
+    }
+    ""
+}
+
+/// Of each channel the path of the first leaf that names it.
+pub(crate) fn ends(
+    alloc: Global,
+    leaves: &[&Leaf],
+    channels: &[u16],
+) -> Result<Vec<String>, AllocError>
+    ensures { IfOk result (λ v. map string_bytes v.items ≡ map (end_in (map (λ l. l.now) leaves.now)) channels.now) }
+{
+    let mut ends = Vec::new(alloc);
+    for channel in channels {
+        ends.push(String::from_str(alloc, end(leaves, *channel))?)?;
+    }
+    Ok(ends)
+}
