@@ -2,6 +2,7 @@
 -- This project's profile.
 use Rattle.std.specs.Prelude.{ℕ, ◌==◌, Bool, true, false, List, [], ◌∷◌, Option, None, Some, map, string_bytes, if◌then◌else◌}
 use Rattle.fb_model.specs.Names.{Name, Path}
+use Rattle.fb_model.specs.CertificateText.{names_in}
 use Rattle.fb_model.specs.Wires as wires
 use Rattle.fb_model.specs.Wires.{Kind}
 use Rattle.fb_model.specs.Certificates.{channel_in, with_number}
@@ -13,9 +14,9 @@ abbrev pub names_channel : ℕ → Option ℕ → Bool
 names_channel c None = false
 names_channel c (Some n) = n == c
 
--- the path of the first PUBLISH or SUBSCRIBE of a channel
+-- the path of the first PUBLISH or SUBSCRIBE of a channel, that of no text where there is none
 abbrev pub end_of : List wires.Leaf → ℕ → Path
-end_of [] c = []
+end_of [] c = names_in []
 end_of (leaf ∷ rest) c = if names_channel c (channel_in leaf.kind) then leaf.path else end_of rest c
 
 -- ---- in the tables

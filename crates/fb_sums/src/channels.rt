@@ -1,6 +1,6 @@
 //! The channels of a system.
 
-ghost use Rattle.std.specs.Prelude.{◌≡◌, ◌==◌, ◌<◌, nat_le, map, slice_index, string_bytes, length, ◌++◌, IfOk, OnOk};
+ghost use Rattle.std.specs.Prelude.{◌≡◌, ◌==◌, ◌<◌, ◌+◌, ◌-◌, ◌∷◌, ◌++◌, nat_le, map, drop, slice_index, string_bytes, length, IfOk, OnOk};
 ghost use Rattle.fb_model.specs.Wires.{Serviced};
 ghost use Rattle.fb_model.specs.Certificates.{channel_in, with_number, with_repeats};
 ghost use Rattle.fb_places.specs.fb_services.Views.{service_of};
@@ -103,14 +103,22 @@ fn add_channel(
     }
 }
 
+// The leaf so far from the end.
+fn from_end<'a>(leaves: &[&'a Leaf], back: usize) -> &'a Leaf
+    requires { back < length leaves.now }
+    ensures { drop (length leaves.now - (back + 1)) (map (λ l. l.now) leaves.now) ≡ result.now ∷ drop (length leaves.now - back) (map (λ l. l.now) leaves.now) }
+{
+    leaves[leaves.len() - 1 - back]
+}
+
 // The channels of leaves, upwards, each once.
 fn all_channels(alloc: Global, leaves: &[&Leaf]) -> Result<Vec<u16>, AllocError>
     ensures { IfOk result (λ v. v.items ≡ channels_in (map (λ l. l.now) leaves.now)) }
 {
     let mut numbers = Vec::new(alloc);
     for back in 0..leaves.len() {
-        let leaf = leaves[leaves.len() - 1 - back];
-        numbers = add_channel(alloc, leaf_channel(leaf), numbers)?;
+        let channel = leaf_channel(from_end(leaves, back));
+        numbers = add_channel(alloc, channel, numbers)?;
     }
     Ok(numbers)
 }
