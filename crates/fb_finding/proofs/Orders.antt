@@ -165,7 +165,8 @@ order_serves_less number count ds es system another order a g k sized o = record
 
 -- ---- the network
 
-like_asks : (ds es : List Demand) → AreAlike ds es → AskForAll ds es
+-- demands that differ in constants alone ask for the same
+pub like_asks : (ds es : List Demand) → AreAlike ds es → AskForAll ds es
 like_asks [] [] a e x c k = absurd (omega (arith, c.1))
 like_asks [] (f ∷ es) a e x c k = absurd a
 like_asks (d ∷ ds) [] a e x c k = absurd a
