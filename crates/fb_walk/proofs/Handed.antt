@@ -9,7 +9,7 @@ use Rattle.fb_model.specs.Certificates.{Certificate, Fits, all_leaves}
 use Rattle.fb_leaves.proofs.Closed.{all_charts_closed}
 use Rattle.fb_demands.specs.Demands.{Node, Demand, node_in, IsClosedWalk}
 use Rattle.fb_demands.proofs.Walks.{walks_exclude}
-use Rattle.fb_demands.proofs.Networks.{network_walks_exclude}
+use Rattle.fb_demands.proofs.Networks.{networks_exclude}
 use Rattle.fb_least.specs.declared.system.Alternative.{Alternative}
 use Rattle.fb_least.specs.Views.{inequality_of, system_of}
 use Rattle.fb_least.specs.Systems.{System, IsSystem}
@@ -100,7 +100,7 @@ module _ (n : Numbering) (count : ℕ) (rights : List Numbered) (items slice : L
 
 none_fits : (repeats : Option ℕ) (s : book.System) (walk : List Node) → IsClosedWalk (asked repeats s) walk → (cert : Certificate) (r : ℕ) → cert.repeats ≡ Some r → 1 ≤ r → Fits s cert → ⊥
 none_fits None s walk w cert r e l f = walks_exclude s cert walk w f
-none_fits (Some q) s walk w cert r e l f = network_walks_exclude s cert r walk w e l f
+none_fits (Some q) s walk w cert r e l f = networks_exclude s cert r walk w e l f
 
 pub denied : {E : Type 0} (repeats : Option ℕ) (s : book.System) (ps : List Place) (r : Result Bool E) → IfOk r (λ b. IsTrue b ↔ IsClosedWalk (asked repeats s) (map shown_node ps)) → repeats ≡ None → IfOk r (λ b. IsTrue b → (cert : Certificate) → Fits s cert → ⊥)
 denied repeats s ps (Ok b) h e = λ t cert f. walks_exclude s cert (map shown_node ps) (subst (λ (o : Option ℕ). IsClosedWalk (asked o s) (map shown_node ps)) e (h.0 t)) f

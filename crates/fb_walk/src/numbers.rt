@@ -3,31 +3,21 @@
 ghost use Rattle.std.specs.Prelude.{◌≡◌, map, IfOk};
 ghost use Rattle.fb_model.specs.CertificateText.{place_of};
 ghost use Rattle.fb_demands.specs.Demands.{event, state};
-ghost use Rattle.fb_finding.specs.Nodes.{written};
-ghost use Rattle.fb_places.specs.fb_blocks.Views.{names_of};
-ghost use Rattle.fb_walk.specs.Shown.{index_or, shown_node, sought};
+ghost use Rattle.fb_walk.specs.Shown.{shown_node, sought};
 
 use fb_places::Numbering;
 use fb_solved::Place;
-use indexmap::IndexSet;
 use std::alloc::{AllocError, Global};
-
-// Where a text stands in a set, or this number where it does not.
-fn index_or(texts: &IndexSet<String>, path: &str, other: usize) -> usize
-    ensures { result ≡ index_or other (names_of texts.now) (written (place_of path.now)) }
-{
-    match texts.get_index_of(path) {
-        Some(index) => index,
-        None => other,
-    }
-}
 
 // The number of a state by its path; where there is none, the first number that no node has.
 fn state_number(numbering: &Numbering, path: &str) -> Result<usize, AllocError>
     ensures { IfOk result (λ n. n ≡ sought numbering.now (state (place_of path.now))) }
 {
     let end = numbering.count()?;
-    Ok(index_or(&numbering.states, path, end))
+    match numbering.states.get_index_of(path) {
+        Some(index) => Ok(index),
+        None => Ok(end),
+    }
 }
 
 // The same of an event input or arrival.
@@ -36,7 +26,11 @@ fn event_number(numbering: &Numbering, path: &str) -> Result<usize, AllocError>
 {
     let end = numbering.count()?;
     let states = numbering.states.len();
-    Ok(states + index_or(&numbering.events, path, end - states))
+    let _ = numbering.events.len();
+    match numbering.events.get_index_of(path) {
+        Some(index) => Ok(states + index),
+        None => Ok(end),
+    }
 }
 
 // The number of a place, by its path in upper case.
