@@ -1,6 +1,6 @@
 //! The channels of a system.
 
-ghost use Rattle.std.specs.Prelude.{◌≡◌, ◌==◌, ◌<◌, ◌+◌, ◌-◌, ◌∷◌, ◌++◌, nat_le, map, drop, slice_index, string_bytes, length, IfOk, OnOk};
+ghost use Rattle.std.specs.Prelude.{◌≡◌, ◌==◌, ◌<◌, ◌+◌, ◌-◌, ◌∷◌, ◌++◌, nat_lt, map, drop, slice_index, string_bytes, length, IfOk, OnOk};
 ghost use Rattle.fb_model.specs.Wires.{Serviced};
 ghost use Rattle.fb_model.specs.Certificates.{channel_in, with_number, with_repeats};
 ghost use Rattle.fb_places.specs.fb_services.Views.{service_of};
@@ -44,14 +44,6 @@ fn is_of(channel: Option<u16>, number: u16) -> bool
 
 // ---- the channels
 
-// Whether the number at this index is not below this one.
-fn is_from(numbers: &[u16], index: usize, number: u16) -> bool
-    requires { index < length numbers.now }
-    ensures { result ≡ nat_le number (slice_index numbers.now index) }
-{
-    number <= numbers[index]
-}
-
 // Whether the number at this index is this one.
 fn is_at(numbers: &[u16], index: usize, number: u16) -> bool
     requires { index < length numbers.now }
@@ -60,18 +52,51 @@ fn is_at(numbers: &[u16], index: usize, number: u16) -> bool
     number == numbers[index]
 }
 
+// Whether the number is below that at this index.
+fn is_below(numbers: &[u16], index: usize, number: u16) -> bool
+    requires { index < length numbers.now }
+    ensures { result ≡ nat_lt number (slice_index numbers.now index) }
+{
+    number < numbers[index]
+}
+
+// The numbers from this index on.
+fn rest(numbers: &[u16], index: usize) -> &[u16]
+    requires { index < length numbers.now }
+    ensures { result.now ≡ drop index numbers.now }
+{
+    &numbers[index..]
+}
+
+// Numbers with more behind them.
+fn with_all(mut all: Vec<u16>, more: &[u16]) -> Result<Vec<u16>, AllocError>
+    ensures { IfOk result (λ v. v.items ≡ all.items ++ more.now) }
+{
+    for number in more {
+        all.push(*number)?;
+    }
+    Ok(all)
+}
+
+// Numbers with one and more behind them.
+fn with_one(mut all: Vec<u16>, number: u16, more: &[u16]) -> Result<Vec<u16>, AllocError>
+    ensures { IfOk result (λ v. v.items ≡ all.items ++ number ∷ more.now) }
+{
+    all.push(number)?;
+    with_all(all, more)
+}
+
 // A number at its place among numbers that go upwards, where it is new.
 fn add_number(alloc: Global, number: u16, numbers: &[u16]) -> Result<Vec<u16>, AllocError>
     ensures { IfOk result (λ v. v.items ≡ with_number number numbers.now) }
 {
     let mut all = Vec::new(alloc);
     for index in 0..numbers.len() {
-        if is_from(numbers, index, number) {
-            if !is_at(numbers, index, number) {
-                all.push(number)?;
-            }
-            add_all(&numbers[index..], &mut all)?;
-            return Ok(all);
+        if is_at(numbers, index, number) {
+            return with_all(all, rest(numbers, index));
+        }
+        if is_below(numbers, index, number) {
+            return with_one(all, number, rest(numbers, index));
         }
         all.push(numbers[index])?;
     }
@@ -79,28 +104,18 @@ fn add_number(alloc: Global, number: u16, numbers: &[u16]) -> Result<Vec<u16>, A
     Ok(all)
 }
 
-// Adds numbers.
-fn add_all(more: &[u16], all: &mut Vec<u16>) -> Result<(), AllocError>
-    ensures { OnOk result (all.new.items ≡ all.old.items ++ more.now) }
-{
-    for number in more {
-        all.push(*number)?;
-    }
-    Ok(())
-}
-
 // The channels with that of a leaf, if it has one.
 fn add_channel(
     alloc: Global,
     channel: Option<u16>,
-    numbers: Vec<u16>,
-) -> Result<Vec<u16>, AllocError>
-    ensures { IfOk result (λ v. v.items ≡ with_channel channel numbers.items) }
+    numbers: &mut Vec<u16>,
+) -> Result<(), AllocError>
+    ensures { OnOk result (numbers.new.items ≡ with_channel channel numbers.old.items) }
 {
-    match channel {
-        Some(number) => add_number(alloc, number, numbers.as_slice()),
-        None => Ok(numbers),
+    if let Some(number) = channel {
+        *numbers = add_number(alloc, number, numbers.as_slice())?;
     }
+    Ok(())
 }
 
 // The leaf so far from the end.
@@ -117,8 +132,7 @@ fn all_channels(alloc: Global, leaves: &[&Leaf]) -> Result<Vec<u16>, AllocError>
 {
     let mut numbers = Vec::new(alloc);
     for back in 0..leaves.len() {
-        let channel = leaf_channel(from_end(leaves, back));
-        numbers = add_channel(alloc, channel, numbers)?;
+        add_channel(alloc, leaf_channel(from_end(leaves, back)), &mut numbers)?;
     }
     Ok(numbers)
 }
