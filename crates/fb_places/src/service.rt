@@ -24,9 +24,10 @@ fn datagram(scene: &Scene, number: u16, event: &str) -> Result<Vec<usize>, Alloc
     if event == "INIT" {
         return Ok(terms);
     }
-    if scene.follows {
-        terms.push(scene.numbering.channel(number)?)?;
+    if !scene.follows {
+        return Ok(terms);
     }
+    terms.push(scene.numbering.channel(number)?)?;
     Ok(terms)
 }
 
