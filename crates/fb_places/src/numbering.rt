@@ -100,12 +100,7 @@ impl Numbering {
     pub fn channel(&self, number: u16) -> Result<usize, AllocError>
         ensures { IfOk result (λ n. n ≡ numbers_of self.now (channel number)) }
     {
-        channel_number(
-            &self.states,
-            &self.events,
-            self.channels.as_slice(),
-            number,
-        )
+        channel_number(&self.states, &self.events, self.channels.as_slice(), number)
     }
 
     /// The number of a state of a leaf.

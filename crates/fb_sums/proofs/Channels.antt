@@ -1,5 +1,5 @@
 -- The channels of tables, and their ends, are those of the book's leaves.
-use Rattle.std.proofs.Common.{◌≡◌, ℕ, ◌+◌, ◌<◌, ◌≤◌, ◌==◌, nat_lt, Bool, true, false, List, [], ◌∷◌, length, map, drop, slice_index, Option, None, Some, refl, sym, ap, ap₂, ◌∙◌, string_bytes, Bor, if◌then◌else◌}
+use Rattle.std.proofs.Common.{◌≡◌, ℕ, ◌+◌, ◌<◌, ◌≤◌, ◌==◌, nat_lt, Bool, true, false, List, [], ◌∷◌, ◌++◌, append_assoc, length, map, drop, slice_index, Option, None, Some, refl, sym, ap, ap₂, ◌∙◌, string_bytes, Bor, if◌then◌else◌}
 use Rattle.fb_model.specs.Names.{Name, Path}
 use Rattle.fb_model.specs.CertificateText.{names_in}
 use Rattle.fb_model.specs.Wires as wires
@@ -47,6 +47,17 @@ stands_before n xs i l t b = let e = rest_got xs i 0 l in let m = slice_index xs
 
 pub stands_behind : (n : ℕ) (xs : List ℕ) (i : ℕ) → i < length xs → (n == slice_index xs i) ≡ false → nat_lt n (slice_index xs i) ≡ false → with_number n (drop i xs) ≡ slice_index xs i ∷ with_number n (drop (i + 1) xs)
 stands_behind n xs i l t b = let e = rest_got xs i 0 l in ap (with_number n) e ∙ numbered_at n (slice_index xs i) (drop (i + 1) xs) false false t b
+
+head : (x y : ℕ) (xs ys : List ℕ) → x ∷ xs ≡ y ∷ ys → x ≡ y
+head x y xs ys e = ap (λ zs. slice_index zs 0) e
+
+-- a smaller number is passed
+pub goes_on : (n : ℕ) (xs all new : List ℕ) (i x : ℕ) → i < length xs → drop i xs ≡ x ∷ drop (i + 1) xs → (n == slice_index xs i) ≡ false → nat_lt n (slice_index xs i) ≡ false → new ≡ all ++ x ∷ []
+    → all ++ with_number n (drop i xs) ≡ with_number n xs → new ++ with_number n (drop (i + 1) xs) ≡ with_number n xs
+goes_on n xs all new i x l e t b p inv =
+    let rest = with_number n (drop (i + 1) xs) in
+    let same : x ≡ slice_index xs i = head x (slice_index xs i) (drop (i + 1) xs) (drop (i + 1) xs) (sym e ∙ rest_got xs i 0 l) in
+    ap (λ ys. ys ++ rest) p ∙ (append_assoc all (x ∷ []) rest ∙ (ap (λ ys. all ++ ys) (ap (λ y. y ∷ rest) same ∙ sym (stands_behind n xs i l t b)) ∙ inv))
 
 -- ---- the first end
 

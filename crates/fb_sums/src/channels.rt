@@ -92,11 +92,12 @@ fn add_number(alloc: Global, number: u16, numbers: &[u16]) -> Result<Vec<u16>, A
 {
     let mut all = Vec::new(alloc);
     for index in 0..numbers.len() {
+        let behind = rest(numbers, index);
         if is_at(numbers, index, number) {
-            return with_all(all, rest(numbers, index));
+            return with_all(all, behind);
         }
         if is_below(numbers, index, number) {
-            return with_one(all, number, rest(numbers, index));
+            return with_one(all, number, behind);
         }
         all.push(numbers[index])?;
     }

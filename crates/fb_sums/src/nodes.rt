@@ -24,11 +24,7 @@ use std::alloc::Global;
 
 /// The numbers of a system's states, event inputs and arrivals, in the order of their rows, and where datagrams are followed of its channels, upwards, each with
 /// the first leaf that names it as its end.
-pub fn numbering(
-    alloc: Global,
-    repeats: Option<u8>,
-    flat: &Flat,
-) -> Result<Numbering, RowFault>
+pub fn numbering(alloc: Global, repeats: Option<u8>, flat: &Flat) -> Result<Numbering, RowFault>
     ensures rows { (s : System) → AreDevices flat.now.devices.items s.devices → AllByRecursion IsWordyDevice s.devices → IfOk result (λ n. AreRowsOf repeats (all_leaves s.devices) (names_of n.states) (names_of n.events) n.channels.items) }
     ensures ends { (s : System) → AreDevices flat.now.devices.items s.devices → IfOk result (λ n. map names_in (map string_bytes n.ends.items) ≡ map (end_of (all_leaves s.devices)) n.channels.items) }
     ensures texts { IfOk result (λ n. (names_of n.states ≡ gathered [] (texts_of Charge flat.now.devices.items)) × (names_of n.events ≡ gathered [] (texts_of Weight flat.now.devices.items))) }

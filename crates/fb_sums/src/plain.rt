@@ -28,15 +28,7 @@ fn plain_leaves(
 {
     let mut rights = Vec::new(alloc);
     for leaf in leaves {
-        add_leaf(
-            alloc,
-            numbering,
-            unit,
-            follows,
-            &[],
-            *leaf,
-            &mut rights,
-        )?;
+        add_leaf(alloc, numbering, unit, follows, &[], *leaf, &mut rights)?;
     }
     Ok(rights)
 }
