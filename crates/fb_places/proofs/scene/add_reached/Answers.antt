@@ -6,7 +6,7 @@ use Rattle.fb_demands.specs.Demands.{event}
 use Rattle.fb_rows.specs.fb_flat.Tables.{targets_of}
 use Rattle.fb_places.specs.Rights.{numbers_of}
 use Rattle.fb_places.proofs.Loops.{rest_got, turn}
-use Rattle.fb_places.proofs.scene.reached.Goals as goal
+use Rattle.fb_places.proofs.scene.add_reached.Goals as goal
 
 pub loop-name-preserved : goal.loop-name-preserved
 loop-name-preserved c =
