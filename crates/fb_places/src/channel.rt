@@ -3,7 +3,7 @@
 ghost use Rattle.std.specs.Prelude.{◌≡◌, ◌==◌, ◌++◌, ◌∷◌, [], map, replicate, IfOk, OnOk, if◌then◌else◌};
 ghost use Rattle.std.specs.List.{flat_map};
 ghost use Rattle.fb_model.specs.Certificates as book;
-ghost use Rattle.fb_rows.specs.fb_services.Views.{channel_of, service_of};
+ghost use Rattle.fb_rows.specs.fb_services.Views.{service_of};
 ghost use Rattle.fb_rows.specs.fb_flat.Leaves.{kind_of};
 ghost use Rattle.fb_model.specs.Wires.{Serviced};
 ghost use Rattle.fb_finding.specs.Nodes.{by_number};
@@ -12,19 +12,19 @@ ghost use Rattle.fb_places.specs.Rights.{numbered, numbers_of, right_of, rights_
 
 use crate::numbering::Numbering;
 use crate::right::Right;
-use fb_rows::fb_flat::fb_types::fb_networks::fb_services::{Channel, Service};
+use fb_rows::fb_flat::fb_types::fb_networks::fb_services::Service;
 use fb_rows::fb_flat::{Body, Leaf};
 use fb_words::Format;
 use std::alloc::{AllocError, Global};
 
-// How often a datagram of the channel of this number may be admitted, where each is delivered at most so often to a device.
-fn admitted(repeats: u8, number: u16, channel: &Channel) -> u8
-    ensures { result ≡ (if channel.now.number == number then book.admitted repeats (channel_of channel.now) else 0) }
+// How often a datagram of a channel may be admitted where this is the own channel and its format, where each is delivered at most so often to a device.
+fn admitted(repeats: u8, number: u16, own: u16, format: Format) -> u8
+    ensures { result ≡ (if own == number then book.admitted repeats (record { number = own; format = format }) else 0) }
 {
-    if channel.number != number {
+    if own != number {
         return 0;
     }
-    match channel.format {
+    match format {
         Format::First => repeats,
         Format::Second => 1,
     }
@@ -35,7 +35,7 @@ fn served(repeats: u8, number: u16, service: &Service) -> u8
     ensures { result ≡ book.admissions repeats number (Serviced (service_of service.now)) }
 {
     match service {
-        Service::Subscribe(channel, _) => admitted(repeats, number, channel),
+        Service::Subscribe(channel, _) => admitted(repeats, number, channel.number, channel.format),
         Service::Input(_, _) | Service::Output(_, _) | Service::Publish(_, _) => 0,
         Service::Delay | Service::Cycle | Service::Restart => 0,
     }
