@@ -1,153 +1,83 @@
 -- Rows by their kinds against rows in text order.
-use Rattle.std.proofs.Common.{◌≡◌, ℕ, ℤ, false, List, [], ◌∷◌, ◌++◌, refl, sym, ap, subst, ◌∙◌, append_assoc}
+use Rattle.std.proofs.Common.{◌≡◌, false, Some, List, [], ◌∷◌, ◌++◌, refl, sym, ap, subst, ◌∙◌, append_assoc}
 use Rattle.std.specs.Prelude.{◌||◌}
 use Rattle.std.specs.List.{list_any}
-use Rattle.std.specs.Str.{bytes_eq}
 use Rattle.std.proofs.lemmas.List.{append-nil}
-use Rattle.fb_model.specs.CertificateText.{Entry, range, charge, weight, depth, is_same, NoneTwice, ranges_of, charges_of, weights_of, depths_of, certificate_in, range_row, row_of, depth_row}
-use Rattle.fb_model.specs.Spans.{Span, span}
-use Rattle.fb_cert.specs.declared.certificate.Amount.{Amount}
-use Rattle.fb_cert.specs.Views.{Table, Rows, amount, has_path, has_row, with_row, book_of, range_rows, amount_rows, depth_rows}
+use Rattle.fb_model.specs.CertificateText.{Entry, repeats, range, charge, weight, depth, far, far_state, channel, is_same, NoneTwice, with_entry, certificate_in}
+use Rattle.fb_model.specs.Spans.{span}
+use Rattle.fb_cert.specs.Views.{Rows, amount, no_rows, has_row, with_row, book_of}
+use Rattle.fb_cert.proofs.Deciding.{neither}
 
--- ---- the tables that entries fill
+-- ---- rows that entries fill
 
-abbrev pub range_table : List Entry → Table Span
-range_table [] = []
-range_table (range p l h ∷ es) = (p, span l h) ∷ range_table es
-range_table (charge p s k ∷ es) = range_table es
-range_table (weight p s k ∷ es) = range_table es
-range_table (depth p n ∷ es) = range_table es
-
-abbrev pub charge_table : List Entry → Table Amount
-charge_table [] = []
-charge_table (range p l h ∷ es) = charge_table es
-charge_table (charge p s k ∷ es) = (p, amount s k) ∷ charge_table es
-charge_table (weight p s k ∷ es) = charge_table es
-charge_table (depth p n ∷ es) = charge_table es
-
-abbrev pub weight_table : List Entry → Table Amount
-weight_table [] = []
-weight_table (range p l h ∷ es) = weight_table es
-weight_table (charge p s k ∷ es) = weight_table es
-weight_table (weight p s k ∷ es) = (p, amount s k) ∷ weight_table es
-weight_table (depth p n ∷ es) = weight_table es
-
-abbrev pub depth_table : List Entry → Table ℕ
-depth_table [] = []
-depth_table (range p l h ∷ es) = depth_table es
-depth_table (charge p s k ∷ es) = depth_table es
-depth_table (weight p s k ∷ es) = depth_table es
-depth_table (depth p n ∷ es) = (p, n) ∷ depth_table es
+-- a row before those of its kind
+abbrev pub row_before : Entry → Rows → Rows
+row_before (repeats n) rows = record rows { repeats = Some n }
+row_before (range p l h) rows = record rows { ranges = (p, span l h) ∷ rows.ranges }
+row_before (charge p s k) rows = record rows { charges = (p, amount s k) ∷ rows.charges }
+row_before (weight p s k) rows = record rows { weights = (p, amount s k) ∷ rows.weights }
+row_before (depth p n) rows = record rows { depths = (p, n) ∷ rows.depths }
+row_before (far p n) rows = record rows { fars = (p, n) ∷ rows.fars }
+row_before (far_state p n) rows = record rows { far_states = (p, n) ∷ rows.far_states }
+row_before (channel c n) rows = record rows { channels = (c, n) ∷ rows.channels }
 
 abbrev pub rows_in : List Entry → Rows
-rows_in es = record { ranges = range_table es; charges = charge_table es; weights = weight_table es; depths = depth_table es }
+rows_in [] = no_rows
+rows_in (e ∷ es) = row_before e (rows_in es)
 
 -- ---- the book's certificate
 
-ranges_same : (es : List Entry) → range_rows (range_table es) ≡ ranges_of es
-ranges_same [] = refl
-ranges_same (range p l h ∷ es) = ap (λ r. range_row p l h ∷ r) (ranges_same es)
-ranges_same (charge p s k ∷ es) = ranges_same es
-ranges_same (weight p s k ∷ es) = ranges_same es
-ranges_same (depth p n ∷ es) = ranges_same es
-
-charges_same : (es : List Entry) → amount_rows (charge_table es) ≡ charges_of es
-charges_same [] = refl
-charges_same (range p l h ∷ es) = charges_same es
-charges_same (charge p s k ∷ es) = ap (λ r. row_of p s k ∷ r) (charges_same es)
-charges_same (weight p s k ∷ es) = charges_same es
-charges_same (depth p n ∷ es) = charges_same es
-
-weights_same : (es : List Entry) → amount_rows (weight_table es) ≡ weights_of es
-weights_same [] = refl
-weights_same (range p l h ∷ es) = weights_same es
-weights_same (charge p s k ∷ es) = weights_same es
-weights_same (weight p s k ∷ es) = ap (λ r. row_of p s k ∷ r) (weights_same es)
-weights_same (depth p n ∷ es) = weights_same es
-
-depths_same : (es : List Entry) → depth_rows (depth_table es) ≡ depths_of es
-depths_same [] = refl
-depths_same (range p l h ∷ es) = depths_same es
-depths_same (charge p s k ∷ es) = depths_same es
-depths_same (weight p s k ∷ es) = depths_same es
-depths_same (depth p n ∷ es) = ap (λ r. depth_row p n ∷ r) (depths_same es)
+book_before : (e : Entry) (rows : Rows) → book_of (row_before e rows) ≡ with_entry e (book_of rows)
+book_before (repeats n) rows = refl
+book_before e rows = refl
 
 pub book_in : (es : List Entry) → book_of (rows_in es) ≡ certificate_in es
-book_in es = λ i. record (book_of (rows_in es)) { ranges = ranges_same es i; charges = charges_same es i; weights = weights_same es i; depths = depths_same es i }
+book_in [] = refl
+book_in (e ∷ es) = book_before e (rows_in es) ∙ ap (with_entry e) (book_in es)
 
 -- ---- one row more
 
-pub range_none : (p : List ℕ) (l h : ℤ) (es : List Entry) → has_path p (range_table es) ≡ list_any (is_same (range p l h)) es
-range_none p l h [] = refl
-range_none p l h (range q a b ∷ es) = ap (λ t. bytes_eq p q || t) (range_none p l h es)
-range_none p l h (charge q t k ∷ es) = range_none p l h es
-range_none p l h (weight q t k ∷ es) = range_none p l h es
-range_none p l h (depth q n ∷ es) = range_none p l h es
+has_none : (e : Entry) → has_row e no_rows ≡ false
+has_none (repeats n) = refl
+has_none e = refl
 
-pub charge_none : (p : List ℕ) (s k : ℕ) (es : List Entry) → has_path p (charge_table es) ≡ list_any (is_same (charge p s k)) es
-charge_none p s k [] = refl
-charge_none p s k (range q a b ∷ es) = charge_none p s k es
-charge_none p s k (charge q t l ∷ es) = ap (λ b. bytes_eq p q || b) (charge_none p s k es)
-charge_none p s k (weight q t l ∷ es) = charge_none p s k es
-charge_none p s k (depth q n ∷ es) = charge_none p s k es
+has_before : (e x : Entry) (rows : Rows) → has_row e (row_before x rows) ≡ (is_same e x || has_row e rows)
+has_before (repeats n) (repeats m) rows = refl
+has_before (range p l h) (range q a b) rows = refl
+has_before (charge p s k) (charge q t l) rows = refl
+has_before (weight p s k) (weight q t l) rows = refl
+has_before (depth p n) (depth q m) rows = refl
+has_before (far p n) (far q m) rows = refl
+has_before (far_state p n) (far_state q m) rows = refl
+has_before (channel c n) (channel d m) rows = refl
+has_before e x rows = refl
 
-pub weight_none : (p : List ℕ) (s k : ℕ) (es : List Entry) → has_path p (weight_table es) ≡ list_any (is_same (weight p s k)) es
-weight_none p s k [] = refl
-weight_none p s k (range q a b ∷ es) = weight_none p s k es
-weight_none p s k (charge q t l ∷ es) = weight_none p s k es
-weight_none p s k (weight q t l ∷ es) = ap (λ b. bytes_eq p q || b) (weight_none p s k es)
-weight_none p s k (depth q n ∷ es) = weight_none p s k es
-
-pub depth_none : (p : List ℕ) (n : ℕ) (es : List Entry) → has_path p (depth_table es) ≡ list_any (is_same (depth p n)) es
-depth_none p n [] = refl
-depth_none p n (range q a b ∷ es) = depth_none p n es
-depth_none p n (charge q t l ∷ es) = depth_none p n es
-depth_none p n (weight q t l ∷ es) = depth_none p n es
-depth_none p n (depth q m ∷ es) = ap (λ b. bytes_eq p q || b) (depth_none p n es)
-
--- its path stands there already just where an entry is the same
+-- its path or number stands there already just where an entry is the same
 pub has_in : (e : Entry) (es : List Entry) → has_row e (rows_in es) ≡ list_any (is_same e) es
-has_in (range p l h) es = range_none p l h es
-has_in (charge p s k) es = charge_none p s k es
-has_in (weight p s k) es = weight_none p s k es
-has_in (depth p n) es = depth_none p n es
+has_in e [] = has_none e
+has_in e (x ∷ es) = has_before e x (rows_in es) ∙ ap (λ b. is_same e x || b) (has_in e es)
 
-pub range_more : (es fs : List Entry) → range_table (es ++ fs) ≡ range_table es ++ range_table fs
-range_more [] fs = refl
-range_more (range p l h ∷ es) fs = ap (λ r. (p, span l h) ∷ r) (range_more es fs)
-range_more (charge p s k ∷ es) fs = range_more es fs
-range_more (weight p s k ∷ es) fs = range_more es fs
-range_more (depth p n ∷ es) fs = range_more es fs
+with_none : (e : Entry) → with_row e no_rows ≡ row_before e no_rows
+with_none (repeats n) = refl
+with_none e = refl
 
-pub charge_more : (es fs : List Entry) → charge_table (es ++ fs) ≡ charge_table es ++ charge_table fs
-charge_more [] fs = refl
-charge_more (range p l h ∷ es) fs = charge_more es fs
-charge_more (charge p s k ∷ es) fs = ap (λ r. (p, amount s k) ∷ r) (charge_more es fs)
-charge_more (weight p s k ∷ es) fs = charge_more es fs
-charge_more (depth p n ∷ es) fs = charge_more es fs
+with_before : (e x : Entry) (rows : Rows) → is_same e x ≡ false → with_row e (row_before x rows) ≡ row_before x (with_row e rows)
+with_before (repeats n) (repeats m) rows g = absurd (cc)
+with_before (range p l h) (range q a b) rows g = refl
+with_before (charge p s k) (charge q t l) rows g = refl
+with_before (weight p s k) (weight q t l) rows g = refl
+with_before (depth p n) (depth q m) rows g = refl
+with_before (far p n) (far q m) rows g = refl
+with_before (far_state p n) (far_state q m) rows g = refl
+with_before (channel c n) (channel d m) rows g = refl
+with_before e x rows g = refl
 
-pub weight_more : (es fs : List Entry) → weight_table (es ++ fs) ≡ weight_table es ++ weight_table fs
-weight_more [] fs = refl
-weight_more (range p l h ∷ es) fs = weight_more es fs
-weight_more (charge p s k ∷ es) fs = weight_more es fs
-weight_more (weight p s k ∷ es) fs = ap (λ r. (p, amount s k) ∷ r) (weight_more es fs)
-weight_more (depth p n ∷ es) fs = weight_more es fs
-
-pub depth_more : (es fs : List Entry) → depth_table (es ++ fs) ≡ depth_table es ++ depth_table fs
-depth_more [] fs = refl
-depth_more (range p l h ∷ es) fs = depth_more es fs
-depth_more (charge p s k ∷ es) fs = depth_more es fs
-depth_more (weight p s k ∷ es) fs = depth_more es fs
-depth_more (depth p n ∷ es) fs = ap (λ r. (p, n) ∷ r) (depth_more es fs)
-
-rows_more : (es fs : List Entry) → rows_in (es ++ fs) ≡ record { ranges = range_table es ++ range_table fs; charges = charge_table es ++ charge_table fs; weights = weight_table es ++ weight_table fs; depths = depth_table es ++ depth_table fs }
-rows_more es fs = λ i. record { ranges = range_more es fs i; charges = charge_more es fs i; weights = weight_more es fs i; depths = depth_more es fs i }
-
-pub with_in : (e : Entry) (es : List Entry) → with_row e (rows_in es) ≡ rows_in (es ++ e ∷ [])
-with_in (range p l h) es = λ i. record { ranges = sym (range_more es (range p l h ∷ [])) i; charges = (sym (append-nil (charge_table es)) ∙ sym (charge_more es (range p l h ∷ []))) i; weights = (sym (append-nil (weight_table es)) ∙ sym (weight_more es (range p l h ∷ []))) i; depths = (sym (append-nil (depth_table es)) ∙ sym (depth_more es (range p l h ∷ []))) i }
-with_in (charge p s k) es = λ i. record { ranges = (sym (append-nil (range_table es)) ∙ sym (range_more es (charge p s k ∷ []))) i; charges = sym (charge_more es (charge p s k ∷ [])) i; weights = (sym (append-nil (weight_table es)) ∙ sym (weight_more es (charge p s k ∷ []))) i; depths = (sym (append-nil (depth_table es)) ∙ sym (depth_more es (charge p s k ∷ []))) i }
-with_in (weight p s k) es = λ i. record { ranges = (sym (append-nil (range_table es)) ∙ sym (range_more es (weight p s k ∷ []))) i; charges = (sym (append-nil (charge_table es)) ∙ sym (charge_more es (weight p s k ∷ []))) i; weights = sym (weight_more es (weight p s k ∷ [])) i; depths = (sym (append-nil (depth_table es)) ∙ sym (depth_more es (weight p s k ∷ []))) i }
-with_in (depth p n) es = λ i. record { ranges = (sym (append-nil (range_table es)) ∙ sym (range_more es (depth p n ∷ []))) i; charges = (sym (append-nil (charge_table es)) ∙ sym (charge_more es (depth p n ∷ []))) i; weights = (sym (append-nil (weight_table es)) ∙ sym (weight_more es (depth p n ∷ []))) i; depths = sym (depth_more es (depth p n ∷ [])) i }
+-- a row that repeats none goes last
+pub with_in : (e : Entry) (es : List Entry) → list_any (is_same e) es ≡ false → with_row e (rows_in es) ≡ rows_in (es ++ e ∷ [])
+with_in e [] g = with_none e
+with_in e (x ∷ es) g =
+    let t = neither (is_same e x) (list_any (is_same e) es) g in
+    with_before e x (rows_in es) t.0 ∙ ap (row_before x) (with_in e es t.1)
 
 -- ---- no row twice
 

@@ -8,10 +8,10 @@ use mir.Syntax.{w64}
 use Rattle.std.specs.Str.Lines.{lines, lines_of_parts, strip_carriage_return}
 use Rattle.std.proofs.lemmas.Str.Ascii.{uppercase-uppercase}
 use Rattle.fb_model.specs.Spelling.{upper}
-use Rattle.fb_model.specs.CertificateText.{words, Written, written, rows_from, Entry, IsWhole, plain, negative, IsEntry, a_range, a_charge, a_weight, a_depth, begins_cert, most_lint, most_characters}
+use Rattle.fb_model.specs.CertificateText.{words, Written, written, rows_from, Entry, IsWhole, plain, negative, IsNumberIn, IsEntry, a_repeats, a_range, a_charge, a_weight, a_depth, a_far, a_far_state, a_channel, begins_cert, most_lint, most_characters}
 use Rattle.fb_cert.specs.declared.fault.CertFault.TheVariants.{TooLong, Row, DuplicateRow}
 use Rattle.fb_cert.specs.Views.{Rows, no_rows, has_row, with_row}
-use Rattle.fb_cert.specs.Sayable.{IsSayable, AreSayable}
+use Rattle.fb_cert.specs.Sayable.{IsWithin, IsSayable, AreSayable}
 use Rattle.fb_cert.specs.Reading.{read, entry_at, is_head, entered, row_at, lines_at, whole, text_at}
 use Rattle.fb_cert.proofs.Deciding.{chosen}
 use Rattle.fb_cert.proofs.Entries.{entry_found}
@@ -102,11 +102,18 @@ whole_fits : (cs : List ℕ) (z : ℤ) → IsWhole cs z → FitsSigned w64 z
 whole_fits cs z (plain {n} h) = let m = h.at_most in record { sfits = omega arith }
 whole_fits cs z (negative {n} h) = neg_fits n h.at_most
 
+number_within : {low high n : ℕ} {cs : List ℕ} → IsNumberIn low high cs n → IsWithin low high n
+number_within h = record { some = h.at_least; fits = h.at_most }
+
 entry_sayable : (ws : List (List ℕ)) (e : Entry) → AllByRecursion AreCapital ws → IsEntry ws e → IsSayable e
+entry_sayable ws e u (a_repeats h) = number_within h
 entry_sayable ws e u (a_range {p} {l} {h} {low} {high} d a b k) = ((d, capital_upper p u.1.0), record { low_fits = whole_fits l low a; high_fits = whole_fits h high b; ordered = k })
 entry_sayable ws e u (a_charge {p} d h g) = ((d, capital_upper p u.1.0), record { steps_fit = h.at_most; places_fit = g.at_most })
 entry_sayable ws e u (a_weight {p} d h g) = ((d, capital_upper p u.1.0), record { steps_fit = h.at_most; places_fit = g.at_most })
-entry_sayable ws e u (a_depth {p} d h) = ((d, capital_upper p u.1.0), record { some = h.at_least; fits = h.at_most })
+entry_sayable ws e u (a_depth {p} d h) = ((d, capital_upper p u.1.0), number_within h)
+entry_sayable ws e u (a_far {p} d h) = ((d, capital_upper p u.1.0), number_within h)
+entry_sayable ws e u (a_far_state {p} d h) = ((d, capital_upper p u.1.0), number_within h)
+entry_sayable ws e u (a_channel h g) = (number_within h, number_within g)
 
 entered_with : (n : ℕ) (o : Option Entry) (rs out : Rows) → entered n o rs ≡ Ok out → (e : Entry) × (o ≡ Some e) × (has_row e rs ≡ false) × (with_row e rs ≡ out)
 entered_with n None rs out h = absurd (cc)

@@ -1,6 +1,6 @@
 -- What tests tell.
 use Rattle.std.proofs.Common.{◌≡◌, ℕ, ◌⊎◌, Bool, true, false, cond, List, ◌∷◌, length, arith, refl, inl, inr}
-use Rattle.std.specs.Prelude.{◌&&◌, ◌==◌}
+use Rattle.std.specs.Prelude.{◌&&◌, ◌||◌, ◌==◌}
 use Rattle.std.specs.Str.{bytes_eq}
 use Rattle.std.proofs.lemmas.Slice.Eq.{bytes_eq-Decides}
 use borrow.Author.Tests.{ne_eqb}
@@ -16,6 +16,10 @@ both_true false b h = absurd (cc)
 pub true_both : (a b : Bool) → a ≡ true → b ≡ true → (a && b) ≡ true
 true_both true b g h = h
 true_both false b g h = absurd (cc)
+
+pub neither : (a b : Bool) → (a || b) ≡ false → (a ≡ false) × (b ≡ false)
+neither true b h = absurd (cc)
+neither false b h = (refl, h)
 
 pub text_is : (xs ys : List ℕ) → bytes_eq xs ys ≡ true → xs ≡ ys
 text_is xs ys h = (bytes_eq-Decides xs ys).0 h

@@ -73,7 +73,7 @@ pub whole_plain : (cs : List ℕ) → ((rest : List ℕ) → cs ≡ 45 ∷ rest 
 whole_plain [] h = refl
 whole_plain (c ∷ cs) h = ap (λ b. cond b (option_map (λ n. neg_ℤ (pos n)) (number_in 0 (most_lint + 1) cs)) (option_map pos (number_in 0 most_lint (c ∷ cs)))) (false_from_ne_true (c == 45) (λ e. h cs (ap (λ x. x ∷ cs) (eqb-true c 45 e))))
 
-some_of : {A B : Type 0} (f : A → B) (o : Option A) (y : B) → option_map f o ≡ Some y → (x : A) × (o ≡ Some x) × (f x ≡ y)
+pub some_of : {A B : Type 0} (f : A → B) (o : Option A) (y : B) → option_map f o ≡ Some y → (x : A) × (o ≡ Some x) × (f x ≡ y)
 some_of f None y e = absurd (cc)
 some_of f (Some x) y e = let same : f x ≡ y = cc in (x, refl, same)
 

@@ -1,113 +1,93 @@
--- The rows in the order in which they are printed are those rows, and none stands twice.
-use Rattle.std.proofs.Common.{◌≡◌, ℕ, List, [], ◌∷◌, ◌++◌, map, refl, sym, ap, subst, ◌∙◌, append_assoc}
-use Rattle.std.specs.List.{list_any}
+-- The rows in the order in which they are printed are those rows, a text can say each, and none stands twice.
+use Rattle.std.proofs.Common.{◌≡◌, ℕ, Bool, false, Option, None, Some, List, [], ◌∷◌, ◌++◌, map, refl, sym, ap, ◌∙◌, append_assoc}
+use Rattle.std.specs.Prelude.{flat_map, IfSome}
+use Rattle.std.specs.List.{list_any, AllByRecursion}
 use Rattle.std.proofs.lemmas.List.{append-nil}
 use Rattle.fb_model.specs.Spans.{Span}
-use Rattle.fb_model.specs.CertificateText.{Entry, range, charge, weight, depth, is_same}
+use Rattle.fb_model.specs.CertificateText.{Entry, repeats, range, charge, weight, depth, far, far_state, channel, is_same, most_repeats, most_places, most_steps}
 use Rattle.fb_cert.specs.declared.certificate.Amount.{Amount}
-use Rattle.fb_cert.specs.Rows.{Table, Rows, has_path}
-use Rattle.fb_cert.specs.Sayable.{IsRange, IsAmount, IsDepth, AreRows, AreSayable}
-use Rattle.fb_cert.specs.Printed.{range_entries, charge_entries, weight_entries, depth_entries, entries}
-use Rattle.fb_cert.proofs.ByKind.{range_table, charge_table, weight_table, depth_table, rows_in, range_none, charge_none, weight_none, depth_none, range_more, charge_more, weight_more, depth_more, AreNew}
+use Rattle.fb_cert.specs.declared.kind.Kind.{Kind}
+use Rattle.fb_cert.specs.declared.kind.Kind.TheVariants as kinds
+use Rattle.fb_cert.specs.Rows.{Rows, no_rows, has_path, has_number}
+use Rattle.fb_cert.specs.Views.{has_row, with_row}
+use Rattle.fb_cert.specs.Sayable.{IsRange, IsAmount, IsWithin, IsChannel, IsSayable, AreRows, SaysAtPath, AreSayable}
+use Rattle.fb_cert.specs.Printed.{repeats_entries, entries_of, entries}
+use Rattle.fb_cert.proofs.ByKind.{rows_in, has_in, with_in, AreNew}
 
--- ---- tables of entries of one kind
+-- behind those done, entries that a text can say make the rows whole, and none repeats one before it
+pub record Fills (done es : List Entry) (whole : Rows) : Type 0 where
+  pub new : AreNew done es
+  pub are : rows_in (done ++ es) ≡ whole
+  pub said : AllByRecursion IsSayable es
 
--- entries of another kind leave a table empty
-others_none : {V W : Type 0} (f : (List ℕ) × W → Entry) (table : List Entry → Table V) → table [] ≡ [] → ((r : (List ℕ) × W) (es : List Entry) → table (f r ∷ es) ≡ table es) → (rs : Table W) → table (map f rs) ≡ []
-others_none f table none skip [] = none
-others_none f table none skip (r ∷ rs) = skip r (map f rs) ∙ others_none f table none skip rs
+-- the entries of these kinds do so behind all that make the rows so far
+abbrev FillsFrom : Rows → List Kind → Rows → Type 0
+FillsFrom whole ks now = (done : List Entry) → rows_in done ≡ now → Fills done (flat_map (λ k. entries_of k whole) ks) whole
 
--- entries of its own kind fill it
-own_all : {V : Type 0} (f : (List ℕ) × V → Entry) (table : List Entry → Table V) → table [] ≡ [] → ((r : (List ℕ) × V) (es : List Entry) → table (f r ∷ es) ≡ r ∷ table es) → (rs : Table V) → table (map f rs) ≡ rs
-own_all f table none take [] = none
-own_all f table none take (r ∷ rs) = take r (map f rs) ∙ ap (λ t. r ∷ t) (own_all f table none take rs)
+-- those of one kind, where the others behind them do so
+kind_fills : {R : Type 0} (Such : R → Type 0) (stands : R → List R → Bool) (f : R → Entry) (put : List R → Rows)
+    → ((r : R) → Such r → IsSayable (f r))
+    → ((r : R) (rs : List R) → has_row (f r) (put rs) ≡ stands r rs)
+    → ((r : R) (rs : List R) → with_row (f r) (put rs) ≡ put (rs ++ r ∷ []))
+    → (whole : Rows) (ks : List Kind) (before rs : List R) → FillsFrom whole ks (put (before ++ rs)) → AreRows Such stands before rs
+    → (done : List Entry) → rows_in done ≡ put before → Fills done (map f rs ++ flat_map (λ k. entries_of k whole) ks) whole
+kind_fills Such stands f put says has more whole ks before [] next h done e = next done (e ∙ ap put (sym (append-nil before)))
+kind_fills Such stands f put says has more whole ks before (r ∷ rs) next h done e =
+    let new : list_any (is_same (f r)) done ≡ false = sym (has_in (f r) done) ∙ ap (has_row (f r)) e ∙ has r before ∙ h.1 in
+    let rest =
+    kind_fills Such stands f put says has more whole ks (before ++ r ∷ []) rs (λ d g. next d (g ∙ ap put (append_assoc before (r ∷ []) rs))) h.2 (done ++ f r ∷ [])
+    (sym (with_in (f r) done new) ∙ ap (with_row (f r)) e ∙ more r before) in
+    record { new = (new, rest.new); are = ap rows_in (sym (append_assoc done (f r ∷ []) (map f rs ++ flat_map (λ k. entries_of k whole) ks))) ∙ rest.are; said = (says r h.0, rest.said) }
 
-abbrev pub as_range : (List ℕ) × Span → Entry
+repeats_fill : (whole : Rows) (ks : List Kind) (o : Option ℕ) → FillsFrom whole ks (record no_rows { repeats = o }) → IfSome o (IsWithin 1 most_repeats) → Fills [] (repeats_entries o ++ flat_map (λ k. entries_of k whole) ks) whole
+repeats_fill whole ks None next h = next [] refl
+repeats_fill whole ks (Some n) next h = let rest = next (repeats n ∷ []) refl in record { new = (refl, rest.new); are = rest.are; said = (h, rest.said) }
+
+-- the same, where each row has a path
+path_fills : {V : Type 0} (Such : V → Type 0) (f : (List ℕ) × V → Entry) (put : List ((List ℕ) × V) → Rows)
+    → ((r : (List ℕ) × V) → SaysAtPath Such r → IsSayable (f r))
+    → ((r : (List ℕ) × V) (rs : List ((List ℕ) × V)) → has_row (f r) (put rs) ≡ has_path r.0 rs)
+    → ((r : (List ℕ) × V) (rs : List ((List ℕ) × V)) → with_row (f r) (put rs) ≡ put (rs ++ r ∷ []))
+    → (whole : Rows) (ks : List Kind) (rs : List ((List ℕ) × V)) → FillsFrom whole ks (put rs) → AreRows (SaysAtPath Such) (λ r before. has_path r.0 before) [] rs
+    → (done : List Entry) → rows_in done ≡ put [] → Fills done (map f rs ++ flat_map (λ k. entries_of k whole) ks) whole
+path_fills Such f put says has more whole ks rs next h done e = kind_fills (SaysAtPath Such) (λ r before. has_path r.0 before) f put says has more whole ks [] rs next h done e
+
+abbrev as_range : (List ℕ) × Span → Entry
 as_range r = range r.0 r.1.low r.1.high
 
-abbrev pub as_charge : (List ℕ) × Amount → Entry
+abbrev as_charge : (List ℕ) × Amount → Entry
 as_charge r = charge r.0 r.1.steps r.1.places
 
-abbrev pub as_weight : (List ℕ) × Amount → Entry
+abbrev as_weight : (List ℕ) × Amount → Entry
 as_weight r = weight r.0 r.1.steps r.1.places
 
-abbrev pub as_depth : (List ℕ) × ℕ → Entry
+abbrev as_depth : (List ℕ) × ℕ → Entry
 as_depth r = depth r.0 r.1
 
--- what fills a table in four parts
-four : {V : Type 0} (table : List Entry → Table V) → ((es fs : List Entry) → table (es ++ fs) ≡ table es ++ table fs) → (a b c d : List Entry) (x y z w : Table V) → table a ≡ x → table b ≡ y → table c ≡ z → table d ≡ w → table (a ++ (b ++ (c ++ d))) ≡ x ++ (y ++ (z ++ w))
-four table more a b c d x y z w e f g h =
-    more a (b ++ (c ++ d)) ∙ ap (λ t. table a ++ t) (more b (c ++ d)) ∙ ap (λ t. table a ++ (table b ++ t)) (more c d)
-    ∙ ap (λ t. t ++ (table b ++ (table c ++ table d))) e ∙ ap (λ t. x ++ (t ++ (table c ++ table d))) f ∙ ap (λ t. x ++ (y ++ (t ++ table d))) g ∙ ap (λ t. x ++ (y ++ (z ++ t))) h
+abbrev as_far : (List ℕ) × ℕ → Entry
+as_far r = far r.0 r.1
 
-ranges_kept : (rows : Rows) → range_table (entries rows) ≡ rows.ranges
-ranges_kept rows =
-    four range_table range_more (range_entries rows.ranges) (charge_entries rows.charges) (weight_entries rows.weights) (depth_entries rows.depths) rows.ranges [] [] []
-    (own_all as_range range_table refl (λ r es. refl) rows.ranges)
-    (others_none as_charge range_table refl (λ r es. refl) rows.charges)
-    (others_none as_weight range_table refl (λ r es. refl) rows.weights)
-    (others_none as_depth range_table refl (λ r es. refl) rows.depths)
-    ∙ append-nil rows.ranges
+abbrev as_far_state : (List ℕ) × ℕ → Entry
+as_far_state r = far_state r.0 r.1
 
-charges_kept : (rows : Rows) → charge_table (entries rows) ≡ rows.charges
-charges_kept rows =
-    four charge_table charge_more (range_entries rows.ranges) (charge_entries rows.charges) (weight_entries rows.weights) (depth_entries rows.depths) [] rows.charges [] []
-    (others_none as_range charge_table refl (λ r es. refl) rows.ranges)
-    (own_all as_charge charge_table refl (λ r es. refl) rows.charges)
-    (others_none as_weight charge_table refl (λ r es. refl) rows.weights)
-    (others_none as_depth charge_table refl (λ r es. refl) rows.depths)
-    ∙ append-nil rows.charges
+abbrev as_channel : ℕ × ℕ → Entry
+as_channel r = channel r.0 r.1
 
-weights_kept : (rows : Rows) → weight_table (entries rows) ≡ rows.weights
-weights_kept rows =
-    four weight_table weight_more (range_entries rows.ranges) (charge_entries rows.charges) (weight_entries rows.weights) (depth_entries rows.depths) [] [] rows.weights []
-    (others_none as_range weight_table refl (λ r es. refl) rows.ranges)
-    (others_none as_charge weight_table refl (λ r es. refl) rows.charges)
-    (own_all as_weight weight_table refl (λ r es. refl) rows.weights)
-    (others_none as_depth weight_table refl (λ r es. refl) rows.depths)
-    ∙ append-nil rows.weights
-
-depths_kept : (rows : Rows) → depth_table (entries rows) ≡ rows.depths
-depths_kept rows =
-    four depth_table depth_more (range_entries rows.ranges) (charge_entries rows.charges) (weight_entries rows.weights) (depth_entries rows.depths) [] [] [] rows.depths
-    (others_none as_range depth_table refl (λ r es. refl) rows.ranges)
-    (others_none as_charge depth_table refl (λ r es. refl) rows.charges)
-    (others_none as_weight depth_table refl (λ r es. refl) rows.weights)
-    (own_all as_depth depth_table refl (λ r es. refl) rows.depths)
-
-pub rows_kept : (rows : Rows) → rows_in (entries rows) ≡ rows
-rows_kept rows = λ i. record { ranges = ranges_kept rows i; charges = charges_kept rows i; weights = weights_kept rows i; depths = depths_kept rows i }
-
--- ---- none twice
-
--- the rows of one kind, behind entries whose rows of this kind are those before
-kind_new : {V : Type 0} (Such : V → Type 0) (f : (List ℕ) × V → Entry) (table : List Entry → Table V)
-    → ((r : (List ℕ) × V) (es : List Entry) → has_path r.0 (table es) ≡ list_any (is_same (f r)) es)
-    → ((r : (List ℕ) × V) (es : List Entry) → table (es ++ f r ∷ []) ≡ table es ++ r ∷ [])
-    → (done : List Entry) (before rs : Table V) (rest : List Entry) → table done ≡ before → AreRows Such before rs → AreNew (done ++ map f rs) rest → AreNew done (map f rs ++ rest)
-kind_new Such f table same more done before [] rest e h k = subst (λ d. AreNew d rest) (append-nil done) k
-kind_new Such f table same more done before (r ∷ rs) rest e h k = (
-  sym (same r done) ∙ ap (has_path r.0) e ∙ h.2,
-  kind_new Such f table same more (done ++ f r ∷ []) (before ++ r ∷ []) rs rest (more r done ∙ ap (λ t. t ++ r ∷ []) e) h.3 (subst (λ d. AreNew d rest) (sym (append_assoc done (f r ∷ []) (map f rs))) k),
-)
-
-pub entries_new : (rows : Rows) → AreSayable rows → AreNew [] (entries rows)
-entries_new rows h =
-    let a = range_entries rows.ranges in
-    let b = charge_entries rows.charges in
-    let c = weight_entries rows.weights in
-    let d = depth_entries rows.depths in
-    let no_charges : charge_table a ≡ [] = others_none as_range charge_table refl (λ r es. refl) rows.ranges in
-    let no_weights : weight_table (a ++ b) ≡ [] =
-    weight_more a b ∙ ap (λ t. t ++ weight_table b) (others_none as_range weight_table refl (λ r es. refl) rows.ranges) ∙ others_none as_charge weight_table refl (λ r es. refl) rows.charges in
-    let no_depths : depth_table ((a ++ b) ++ c) ≡ [] =
-    depth_more (a ++ b) c ∙ ap (λ t. t ++ depth_table c) (depth_more a b)
-    ∙ ap (λ t. (t ++ depth_table b) ++ depth_table c) (others_none as_range depth_table refl (λ r es. refl) rows.ranges)
-    ∙ ap (λ t. t ++ depth_table c) (others_none as_charge depth_table refl (λ r es. refl) rows.charges)
-    ∙ others_none as_weight depth_table refl (λ r es. refl) rows.weights in
-    let last : AreNew ((a ++ b) ++ c) (d ++ []) =
-    kind_new IsDepth as_depth depth_table (λ r es. depth_none r.0 r.1 es) (λ r es. depth_more es (as_depth r ∷ [])) ((a ++ b) ++ c) [] rows.depths [] no_depths h.depths_are tt in
-    kind_new IsRange as_range range_table (λ r es. range_none r.0 r.1.low r.1.high es) (λ r es. range_more es (as_range r ∷ [])) [] [] rows.ranges (b ++ (c ++ d)) refl h.ranges_are
-    (kind_new IsAmount as_charge charge_table (λ r es. charge_none r.0 r.1.steps r.1.places es) (λ r es. charge_more es (as_charge r ∷ [])) a [] rows.charges (c ++ d) no_charges h.charges_are
-    (kind_new IsAmount as_weight weight_table (λ r es. weight_none r.0 r.1.steps r.1.places es) (λ r es. weight_more es (as_weight r ∷ [])) (a ++ b) [] rows.weights d no_weights h.weights_are
-    (subst (AreNew ((a ++ b) ++ c)) (append-nil d) last)))
+pub entries_fill : (rows : Rows) → AreSayable rows → Fills [] (entries rows) rows
+entries_fill rows h =
+    let last : FillsFrom rows [] rows = λ done e. record { new = tt; are = ap rows_in (append-nil done) ∙ e; said = tt } in
+    let channels : FillsFrom rows (kinds.Channel ∷ []) (record rows { channels = [] }) =
+    kind_fills IsChannel (λ r before. has_number r.0 before) as_channel (λ t. record rows { channels = t }) (λ r s. s) (λ r t. refl) (λ r t. refl) rows [] [] rows.channels last h.channels_are in
+    let far_states : FillsFrom rows (kinds.FarState ∷ kinds.Channel ∷ []) (record rows { far_states = []; channels = [] }) =
+    path_fills (IsWithin 0 most_steps) as_far_state (λ t. record rows { far_states = t; channels = [] }) (λ r s. s) (λ r t. refl) (λ r t. refl) rows (kinds.Channel ∷ []) rows.far_states channels h.far_states_are in
+    let fars : FillsFrom rows (kinds.Far ∷ kinds.FarState ∷ kinds.Channel ∷ []) (record rows { fars = []; far_states = []; channels = [] }) =
+    path_fills (IsWithin 0 most_steps) as_far (λ t. record rows { fars = t; far_states = []; channels = [] }) (λ r s. s) (λ r t. refl) (λ r t. refl) rows (kinds.FarState ∷ kinds.Channel ∷ []) rows.fars far_states h.fars_are in
+    let depths : FillsFrom rows (kinds.Depth ∷ kinds.Far ∷ kinds.FarState ∷ kinds.Channel ∷ []) (record rows { depths = []; fars = []; far_states = []; channels = [] }) =
+    path_fills (IsWithin 1 most_places) as_depth (λ t. record rows { depths = t; fars = []; far_states = []; channels = [] }) (λ r s. s) (λ r t. refl) (λ r t. refl) rows (kinds.Far ∷ kinds.FarState ∷ kinds.Channel ∷ []) rows.depths fars h.depths_are in
+    let weights : FillsFrom rows (kinds.Weight ∷ kinds.Depth ∷ kinds.Far ∷ kinds.FarState ∷ kinds.Channel ∷ []) (record no_rows { repeats = rows.repeats; ranges = rows.ranges; charges = rows.charges }) =
+    path_fills IsAmount as_weight (λ t. record no_rows { repeats = rows.repeats; ranges = rows.ranges; charges = rows.charges; weights = t }) (λ r s. s) (λ r t. refl) (λ r t. refl) rows (kinds.Depth ∷ kinds.Far ∷ kinds.FarState ∷ kinds.Channel ∷ []) rows.weights depths h.weights_are in
+    let charges : FillsFrom rows (kinds.Charge ∷ kinds.Weight ∷ kinds.Depth ∷ kinds.Far ∷ kinds.FarState ∷ kinds.Channel ∷ []) (record no_rows { repeats = rows.repeats; ranges = rows.ranges }) =
+    path_fills IsAmount as_charge (λ t. record no_rows { repeats = rows.repeats; ranges = rows.ranges; charges = t }) (λ r s. s) (λ r t. refl) (λ r t. refl) rows (kinds.Weight ∷ kinds.Depth ∷ kinds.Far ∷ kinds.FarState ∷ kinds.Channel ∷ []) rows.charges weights h.charges_are in
+    let ranges : FillsFrom rows (kinds.Range ∷ kinds.Charge ∷ kinds.Weight ∷ kinds.Depth ∷ kinds.Far ∷ kinds.FarState ∷ kinds.Channel ∷ []) (record no_rows { repeats = rows.repeats }) =
+    path_fills IsRange as_range (λ t. record no_rows { repeats = rows.repeats; ranges = t }) (λ r s. s) (λ r t. refl) (λ r t. refl) rows (kinds.Charge ∷ kinds.Weight ∷ kinds.Depth ∷ kinds.Far ∷ kinds.FarState ∷ kinds.Channel ∷ []) rows.ranges charges h.ranges_are in
+    repeats_fill rows (kinds.Range ∷ kinds.Charge ∷ kinds.Weight ∷ kinds.Depth ∷ kinds.Far ∷ kinds.FarState ∷ kinds.Channel ∷ []) rows.repeats ranges h.repeats_are

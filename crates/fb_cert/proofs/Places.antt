@@ -1,7 +1,9 @@
 -- Paths as they are written against paths of names.
 use Rattle.std.proofs.Common.{◌≡◌, ℕ, ◌<◌, Bool, true, false, cond, List, [], ◌∷◌, map, length, Option, Some, refl, sym, ap, subst, ◌∙◌, arith, slice_get, string_bytes}
 use Rattle.std.specs.Prelude.{◌&&◌, ◌==◌}
+use Rattle.std.specs.Map.{lookup}
 use Rattle.std.specs.Str.{bytes_eq}
+use Rattle.std.proofs.lemmas.Bool.{eq-eqb, eqb-true}
 use Rattle.std.proofs.lemmas.Slice.Eq.{bytes_eq-Decides}
 use Rattle.std.proofs.lemmas.List.Splits.{join_with_byte-slice_split, length-slice_split}
 use Rattle.std.specs.List.{join_with_byte}
@@ -9,7 +11,7 @@ use Rattle.fb_model.specs.Names.{Path, Place, path_eq, place_eq}
 use Rattle.fb_model.specs.Certificates as book
 use Rattle.fb_model.specs.CertificateText.{names_in, place_of, all_but_last, last_name}
 use Rattle.fb_cert.specs.declared.certificate.Amount.{Amount}
-use Rattle.fb_cert.specs.Views.{Table, first_at, range_rows, amount_rows, depth_rows, steps_in, places_in, depth_in}
+use Rattle.fb_cert.specs.Views.{Table, first_at, range_rows, amount_rows, depth_rows, far_rows, channel_rows, steps_in, places_in, count_in}
 use Rattle.fb_cert.proofs.Deciding.{both_true, text_is}
 use Rattle.fb_cert.proofs.Tables.{entries_of}
 use Rattle.std.specs.declared.string.String.{String}
@@ -78,6 +80,9 @@ place_same a b =
     is_place : (p : Place) → place_eq p p ≡ true
     is_place p = ap (λ b. b && bytes_eq p.event p.event) (is_path p.path) ∙ is_text p.event
 
+number_same : (a b : ℕ) → (a == b) ≡ (b == a)
+number_same a b = same_test (a == b) (b == a) (λ h. eq-eqb b a (sym (eqb-true a b h))) (λ h. eq-eqb a b (sym (eqb-true b a h)))
+
 -- ---- what the book reads
 
 steps_step : (b c : Bool) (a : Amount) (n : ℕ) (r : Option Amount) → b ≡ c → n ≡ steps_in r → cond b a.steps n ≡ steps_in (cond c (Some a) r)
@@ -92,11 +97,11 @@ places_step false false a n r e h = h
 places_step true false a n r e h = absurd (cc)
 places_step false true a n r e h = absurd (cc)
 
-depth_step : (b c : Bool) (a n : ℕ) (r : Option ℕ) → b ≡ c → n ≡ depth_in r → cond b a n ≡ depth_in (cond c (Some a) r)
-depth_step true true a n r e h = refl
-depth_step false false a n r e h = h
-depth_step true false a n r e h = absurd (cc)
-depth_step false true a n r e h = absurd (cc)
+count_step : (b c : Bool) (a n : ℕ) (r : Option ℕ) → b ≡ c → n ≡ count_in r → cond b a n ≡ count_in (cond c (Some a) r)
+count_step true true a n r e h = refl
+count_step false false a n r e h = h
+count_step true false a n r e h = absurd (cc)
+count_step false true a n r e h = absurd (cc)
 
 span_step : (b c : Bool) (s t d : Span) (r : Option Span) → b ≡ c → t ≡ unwrap_or r d → cond b s t ≡ unwrap_or (cond c (Some s) r) d
 span_step true true s t d r e h = refl
@@ -119,9 +124,17 @@ pub places_same : (rows : Table Amount) (path : List ℕ) → book.amount (λ r.
 places_same [] path = refl
 places_same (r ∷ rs) path = places_step (place_eq (place_of r.0) (place_of path)) (bytes_eq path r.0) r.1 _ (first_at path rs) (place_same r.0 path) (places_same rs path)
 
-pub depths_same : (rows : Table ℕ) (path : List ℕ) → book.depth_at (depth_rows rows) (names_in path) ≡ depth_in (first_at path rows)
+pub depths_same : (rows : Table ℕ) (path : List ℕ) → book.depth_at (depth_rows rows) (names_in path) ≡ count_in (first_at path rows)
 depths_same [] path = refl
-depths_same (r ∷ rs) path = depth_step (path_eq (names_in r.0) (names_in path)) (bytes_eq path r.0) r.1 _ (first_at path rs) (path_same r.0 path) (depths_same rs path)
+depths_same (r ∷ rs) path = count_step (path_eq (names_in r.0) (names_in path)) (bytes_eq path r.0) r.1 _ (first_at path rs) (path_same r.0 path) (depths_same rs path)
+
+pub fars_same : (rows : Table ℕ) (path : List ℕ) → book.far_amount (far_rows rows) (place_of path) ≡ count_in (first_at path rows)
+fars_same [] path = refl
+fars_same (r ∷ rs) path = count_step (place_eq (place_of r.0) (place_of path)) (bytes_eq path r.0) r.1 _ (first_at path rs) (place_same r.0 path) (fars_same rs path)
+
+pub channels_same : (rows : List (ℕ × ℕ)) (number : ℕ) → book.channel_amount (channel_rows rows) number ≡ count_in (lookup (λ c. number == c) rows)
+channels_same [] number = refl
+channels_same (r ∷ rs) number = count_step (r.0 == number) (number == r.0) r.1 _ (lookup (λ c. number == c) rs) (number_same r.0 number) (channels_same rs number)
 
 -- ---- a row at an index, in another form
 

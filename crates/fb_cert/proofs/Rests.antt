@@ -1,10 +1,12 @@
 -- What is printed of rows, and what is left to print.
-use Rattle.std.proofs.Common.{◌≡◌, ℕ, zero, suc, ◌+◌, List, [], ◌∷◌, ◌++◌, map, drop, slice_get, Some, None, codes, refl, sym, ap, ◌∙◌, append_assoc, add-one}
+use Rattle.std.proofs.Common.{◌≡◌, ℕ, zero, suc, ◌+◌, List, [], ◌∷◌, ◌++◌, drop, slice_get, Some, None, codes, refl, sym, ap, ◌∙◌, append_assoc, add-one}
 use Rattle.std.specs.Prelude.{flat_map}
 use Rattle.std.proofs.lemmas.Grind.{flat_map-append}
+use Rattle.std.proofs.lemmas.List.{append-nil}
 use Rattle.fb_model.specs.CertificateText.{Entry}
 use Rattle.fb_cert.specs.Rows.{Rows}
-use Rattle.fb_cert.specs.Printed.{row_line, range_entries, charge_entries, weight_entries, depth_entries, printed}
+use Rattle.fb_cert.specs.declared.kind.Kind.{Kind}
+use Rattle.fb_cert.specs.Printed.{row_line, entries_of, entries, printed}
 
 drop_some : {A : Type 0} (xs : List A) (i : ℕ) (x : A) → Some x ≡ slice_get xs i → drop i xs ≡ x ∷ drop (suc i) xs
 drop_some [] i x h = absurd (cc)
@@ -18,32 +20,28 @@ drop_none (y ∷ xs) zero h = absurd (cc)
 drop_none (y ∷ xs) (suc i) h = drop_none xs i h
 
 -- what is printed, and then what is left from an index on
-abbrev pub with_left : {A : Type 0} → (A → Entry) → List A → ℕ → List ℕ → List ℕ
-with_left f xs i text = text ++ flat_map row_line (map f (drop i xs))
+abbrev pub with_left : List Entry → ℕ → List ℕ → List ℕ
+with_left es i text = text ++ flat_map row_line (drop i es)
 
-pub some_left : {A : Type 0} (f : A → Entry) (xs : List A) (i : ℕ) (x : A) (text all : List ℕ) → Some x ≡ slice_get xs i → with_left f xs i text ≡ all → with_left f xs (i + 1) (text ++ row_line (f x)) ≡ all
-some_left f xs i x text all h e =
-    append_assoc text (row_line (f x)) (flat_map row_line (map f (drop (i + 1) xs)))
-    ∙ ap (λ k. text ++ (row_line (f x) ++ flat_map row_line (map f (drop k xs)))) (add-one i)
-    ∙ ap (λ d. text ++ flat_map row_line (map f d)) (sym (drop_some xs i x h))
-    ∙ e
+pub some_left : (es : List Entry) (i : ℕ) (e : Entry) (text all : List ℕ) → Some e ≡ slice_get es i → with_left es i text ≡ all → with_left es (i + 1) (text ++ row_line e) ≡ all
+some_left es i e text all h g =
+    append_assoc text (row_line e) (flat_map row_line (drop (i + 1) es))
+    ∙ ap (λ k. text ++ (row_line e ++ flat_map row_line (drop k es))) (add-one i)
+    ∙ ap (λ d. text ++ flat_map row_line d) (sym (drop_some es i e h))
+    ∙ g
 
-pub none_left : {A : Type 0} (f : A → Entry) (xs : List A) (i : ℕ) (text all : List ℕ) → None ≡ slice_get xs i → with_left f xs i text ≡ all → with_left f xs (i + 1) text ≡ all
-none_left f xs i text all h e = ap (λ k. with_left f xs k text) (add-one i) ∙ ap (λ d. text ++ flat_map row_line (map f d)) (sym (drop_none xs i h)) ∙ e
+pub none_left : (es : List Entry) (i : ℕ) (text all : List ℕ) → None ≡ slice_get es i → with_left es i text ≡ all → with_left es (i + 1) text ≡ all
+none_left es i text all h g = ap (λ k. with_left es k text) (add-one i) ∙ ap (λ d. text ++ flat_map row_line d) (sym (drop_none es i h)) ∙ g
 
--- the whole text, kind after kind
-pub all_printed : (rs : Rows) (t r c w d : List ℕ) → t ≡ codes "CERT 1" ++ 10 ∷ [] → r ≡ t ++ flat_map row_line (range_entries rs.ranges) → c ≡ r ++ flat_map row_line (charge_entries rs.charges)
-    → w ≡ c ++ flat_map row_line (weight_entries rs.weights) → d ≡ w ++ flat_map row_line (depth_entries rs.depths) → d ≡ printed rs
+-- a kind is printed, and then the others
+pub kind_left : (rs : Rows) (k : Kind) (ks : List Kind) (old new : List ℕ) → new ≡ old ++ flat_map row_line (entries_of k rs)
+    → new ++ flat_map row_line (flat_map (λ j. entries_of j rs) ks) ≡ old ++ flat_map row_line (flat_map (λ j. entries_of j rs) (k ∷ ks))
+kind_left rs k ks old new h =
+    let own = entries_of k rs in
+    let rest = flat_map (λ j. entries_of j rs) ks in
+    ap (λ t. t ++ flat_map row_line rest) h ∙ append_assoc old (flat_map row_line own) (flat_map row_line rest) ∙ ap (λ t. old ++ t) (sym (flat_map-append row_line own rest))
+
+-- the whole text
+pub all_left : (rs : Rows) (first whole : List ℕ) → first ≡ codes "CERT 1" ++ 10 ∷ [] → whole ++ [] ≡ first ++ flat_map row_line (entries rs) → whole ≡ printed rs
 unfolding printed
-all_printed rs t r c w d e f g h k =
-    let a = range_entries rs.ranges in
-    let b = charge_entries rs.charges in
-    let v = weight_entries rs.weights in
-    let z = depth_entries rs.depths in
-    let whole : flat_map row_line (a ++ (b ++ (v ++ z))) ≡ flat_map row_line a ++ (flat_map row_line b ++ (flat_map row_line v ++ flat_map row_line z)) =
-    flat_map-append row_line a (b ++ (v ++ z)) ∙ ap (λ l. flat_map row_line a ++ l) (flat_map-append row_line b (v ++ z)) ∙ ap (λ l. flat_map row_line a ++ (flat_map row_line b ++ l)) (flat_map-append row_line v z) in
-    k ∙ ap (λ l. l ++ flat_map row_line z) (h ∙ ap (λ l. l ++ flat_map row_line v) (g ∙ ap (λ l. l ++ flat_map row_line b) (f ∙ ap (λ l. l ++ flat_map row_line a) e)))
-    ∙ append_assoc (((codes "CERT 1" ++ 10 ∷ []) ++ flat_map row_line a) ++ flat_map row_line b) (flat_map row_line v) (flat_map row_line z)
-    ∙ append_assoc ((codes "CERT 1" ++ 10 ∷ []) ++ flat_map row_line a) (flat_map row_line b) (flat_map row_line v ++ flat_map row_line z)
-    ∙ append_assoc (codes "CERT 1" ++ 10 ∷ []) (flat_map row_line a) (flat_map row_line b ++ (flat_map row_line v ++ flat_map row_line z))
-    ∙ ap (λ l. (codes "CERT 1" ++ 10 ∷ []) ++ l) (sym whole)
+all_left rs first whole e h = sym (append-nil whole) ∙ h ∙ ap (λ t. t ++ flat_map row_line (entries rs)) e

@@ -7,29 +7,44 @@ use Rattle.std.proofs.lemmas.Bool.{leb-true}
 use Rattle.std.proofs.lemmas.Slice.Eq.{bytes_eq-Decides}
 use Rattle.fb_model.specs.Spelling.{upper}
 use Rattle.fb_model.specs.Spans.{span}
-use Rattle.fb_model.specs.CertificateText.{Entry, range, charge, weight, depth, IsDotted, most_steps, most_places}
-use Rattle.fb_cert.specs.Rows.{Table, Rows, no_rows, has_path}
+use Rattle.fb_model.specs.CertificateText.{Entry, repeats, range, charge, weight, depth, far, far_state, channel, IsDotted, most_steps, most_places}
+use Rattle.fb_cert.specs.Rows.{Table, Rows, no_rows, has_path, has_number}
 use Rattle.fb_cert.specs.Views.{amount, has_row, with_row, AddsRow}
-use Rattle.fb_cert.specs.Sayable.{IsUpperPath, IsRange, IsAmount, IsDepth, IsSayable, AreRows, AreSayable}
+use Rattle.fb_cert.specs.Sayable.{IsUpperPath, IsRange, IsAmount, IsWithin, IsChannel, IsSayable, AreRows, SaysAtPath, ArePathRows, AreSayable}
 use Rattle.fb_cert.specs.Reading.{is_path}
-use Rattle.fb_cert.specs.Adding.{is_upper, is_upper_path, is_amount, is_depth}
+use Rattle.fb_cert.specs.Adding.{is_upper, is_upper_path, is_amount, is_within}
 use Rattle.fb_cert.proofs.Deciding.{both_true, true_both, text_is}
 use Rattle.fb_cert.proofs.Paths.{dotted_found, dotted_read}
 
 -- ---- a row more
 
-rows_more : {V : Type 0} (Such : V → Type 0) (before rs : Table V) (p : List ℕ) (v : V) → AreRows Such before rs → IsUpperPath p → Such v → has_path p (before ++ rs) ≡ false → AreRows Such before (rs ++ (p, v) ∷ [])
-rows_more Such before [] p v h u s n = (u, s, subst (λ t. has_path p t ≡ false) (append-nil before) n, tt)
-rows_more Such before (r ∷ rs) p v h u s n = (h.0, h.1, h.2, rows_more Such (before ++ r ∷ []) rs p v h.3 u s (subst (λ t. has_path p t ≡ false) (sym (append_assoc before (r ∷ []) rs)) n))
+rows_more : {R : Type 0} (Such : R → Type 0) (stands : R → List R → Bool) (before rs : List R) (r : R) → AreRows Such stands before rs → Such r → stands r (before ++ rs) ≡ false → AreRows Such stands before (rs ++ r ∷ [])
+rows_more Such stands before [] r h s n = (s, subst (λ t. stands r t ≡ false) (append-nil before) n, tt)
+rows_more Such stands before (x ∷ rs) r h s n = (h.0, h.1, rows_more Such stands (before ++ x ∷ []) rs r h.2 s (subst (λ t. stands r t ≡ false) (sym (append_assoc before (x ∷ []) rs)) n))
+
+path_more : {V : Type 0} (Such : V → Type 0) (rs : Table V) (p : List ℕ) (v : V) → ArePathRows Such rs → IsUpperPath p × Such v → has_path p rs ≡ false → ArePathRows Such (rs ++ (p, v) ∷ [])
+path_more Such rs p v h s n = rows_more (SaysAtPath Such) (λ r before. has_path r.0 before) [] rs (p, v) h s n
 
 pub sayable_with : (e : Entry) (rs : Rows) → AreSayable rs → IsSayable e → has_row e rs ≡ false → AreSayable (with_row e rs)
-sayable_with (range p l h) rs a s n = record { ranges_are = rows_more IsRange [] rs.ranges p (span l h) a.ranges_are s.0 s.1 n; charges_are = a.charges_are; weights_are = a.weights_are; depths_are = a.depths_are }
-sayable_with (charge p q k) rs a s n = record { ranges_are = a.ranges_are; charges_are = rows_more IsAmount [] rs.charges p (amount q k) a.charges_are s.0 s.1 n; weights_are = a.weights_are; depths_are = a.depths_are }
-sayable_with (weight p q k) rs a s n = record { ranges_are = a.ranges_are; charges_are = a.charges_are; weights_are = rows_more IsAmount [] rs.weights p (amount q k) a.weights_are s.0 s.1 n; depths_are = a.depths_are }
-sayable_with (depth p m) rs a s n = record { ranges_are = a.ranges_are; charges_are = a.charges_are; weights_are = a.weights_are; depths_are = rows_more IsDepth [] rs.depths p m a.depths_are s.0 s.1 n }
+sayable_with (repeats n) rs a s f =
+    record { repeats_are = s; ranges_are = a.ranges_are; charges_are = a.charges_are; weights_are = a.weights_are; depths_are = a.depths_are; fars_are = a.fars_are; far_states_are = a.far_states_are; channels_are = a.channels_are }
+sayable_with (range p l h) rs a s f =
+    record { repeats_are = a.repeats_are; ranges_are = path_more IsRange rs.ranges p (span l h) a.ranges_are s f; charges_are = a.charges_are; weights_are = a.weights_are; depths_are = a.depths_are; fars_are = a.fars_are; far_states_are = a.far_states_are; channels_are = a.channels_are }
+sayable_with (charge p q k) rs a s f =
+    record { repeats_are = a.repeats_are; ranges_are = a.ranges_are; charges_are = path_more IsAmount rs.charges p (amount q k) a.charges_are s f; weights_are = a.weights_are; depths_are = a.depths_are; fars_are = a.fars_are; far_states_are = a.far_states_are; channels_are = a.channels_are }
+sayable_with (weight p q k) rs a s f =
+    record { repeats_are = a.repeats_are; ranges_are = a.ranges_are; charges_are = a.charges_are; weights_are = path_more IsAmount rs.weights p (amount q k) a.weights_are s f; depths_are = a.depths_are; fars_are = a.fars_are; far_states_are = a.far_states_are; channels_are = a.channels_are }
+sayable_with (depth p n) rs a s f =
+    record { repeats_are = a.repeats_are; ranges_are = a.ranges_are; charges_are = a.charges_are; weights_are = a.weights_are; depths_are = path_more (IsWithin 1 most_places) rs.depths p n a.depths_are s f; fars_are = a.fars_are; far_states_are = a.far_states_are; channels_are = a.channels_are }
+sayable_with (far p n) rs a s f =
+    record { repeats_are = a.repeats_are; ranges_are = a.ranges_are; charges_are = a.charges_are; weights_are = a.weights_are; depths_are = a.depths_are; fars_are = path_more (IsWithin 0 most_steps) rs.fars p n a.fars_are s f; far_states_are = a.far_states_are; channels_are = a.channels_are }
+sayable_with (far_state p n) rs a s f =
+    record { repeats_are = a.repeats_are; ranges_are = a.ranges_are; charges_are = a.charges_are; weights_are = a.weights_are; depths_are = a.depths_are; fars_are = a.fars_are; far_states_are = path_more (IsWithin 0 most_steps) rs.far_states p n a.far_states_are s f; channels_are = a.channels_are }
+sayable_with (channel c n) rs a s f =
+    record { repeats_are = a.repeats_are; ranges_are = a.ranges_are; charges_are = a.charges_are; weights_are = a.weights_are; depths_are = a.depths_are; fars_are = a.fars_are; far_states_are = a.far_states_are; channels_are = rows_more IsChannel (λ r before. has_number r.0 before) [] rs.channels (c, n) a.channels_are s f }
 
 pub sayable_none : AreSayable no_rows
-sayable_none = record { ranges_are = tt; charges_are = tt; weights_are = tt; depths_are = tt }
+sayable_none = record { repeats_are = tt; ranges_are = tt; charges_are = tt; weights_are = tt; depths_are = tt; fars_are = tt; far_states_are = tt; channels_are = tt }
 
 -- ---- tests
 
@@ -43,8 +58,8 @@ path_sayable p d u = true_both (is_path p) (is_upper p) (dotted_read p d) ((byte
 pub amount_said : (s k : ℕ) → is_amount s k ≡ true → IsAmount (amount s k)
 amount_said s k h = let t = both_true (nat_le s most_steps) (nat_le k most_places) h in record { steps_fit = leb-true s most_steps t.0; places_fit = leb-true k most_places t.1 }
 
-pub depth_said : (n : ℕ) → is_depth n ≡ true → IsDepth n
-depth_said n h = let t = both_true (nat_le 1 n) (nat_le n most_places) h in record { some = leb-true 1 n t.0; fits = leb-true n most_places t.1 }
+pub within_said : (low high n : ℕ) → is_within low high n ≡ true → IsWithin low high n
+within_said low high n h = let t = both_true (nat_le low n) (nat_le n high) h in record { some = leb-true low n t.0; fits = leb-true n high t.1 }
 
 was_not : (b : Bool) → true ≡ not b → b ≡ false
 was_not true h = absurd (cc)

@@ -1,5 +1,6 @@
 -- Tables of rows against maps.
 use Rattle.std.proofs.Common.{◌≡◌, ℕ, Bool, true, false, not, cond, ◌||◌, List, [], ◌∷◌, ◌++◌, map, Option, Some, is_some, Result, Ok, Err, IfOk, refl, sym, ap, subst, ◌∙◌, string_bytes}
+use Rattle.std.specs.Prelude.{◌==◌, nat_eq}
 use Rattle.std.specs.Map.{lookup}
 use Rattle.std.specs.Str.{bytes_eq}
 use Rattle.std.specs.declared.string.String.{String}
@@ -9,7 +10,7 @@ use Rattle.fb_model.specs.Spans.{Span}
 use Rattle.fb_model.specs.CertificateText.{range}
 use Rattle.std.specs.Option.{option_map}
 use Rattle.fb_cert.specs.declared.bounds.Bounds.{Bounds}
-use Rattle.fb_cert.specs.Views.{Table, Rows, first_at, has_path, Adds, AddsRow, span_of, spans_of}
+use Rattle.fb_cert.specs.Views.{Table, Rows, first_at, has_path, has_number, Adds, AddsNew, AddsRow, span_of, spans_of}
 
 abbrev pub entries_of : {V : Type 0} → List (String Global × V) → Table V
 entries_of es = map (λ e. (string_bytes e.0, e.1)) es
@@ -43,6 +44,25 @@ pub adds : {V : Type 0} (es new : List (String Global × V)) (k : String Global)
 adds es new k path v e h n =
     let g : has_path (string_bytes k) (entries_of es) ≡ false = subst (λ p. has_path p (entries_of es) ≡ false) (sym e) h in
     (sym (ap not h), ap entries_of n ∙ subst (λ p. entries_of (insert_entry (λ a b. bytes_eq (string_bytes a) (string_bytes b)) es k v) ≡ entries_of es ++ (p, v) ∷ []) e (entries_with es k v g))
+
+-- ---- rows by their numbers
+
+pub has_from_number : {V : Type 0} (number : ℕ) (es : List (ℕ × V)) → is_some (lookup (λ c. number == c) es) ≡ has_number number es
+has_from_number number [] = refl
+has_from_number number (e ∷ es) = has_step (number == e.0) e.1 (lookup (λ c. number == c) es) (has_number number es) (has_from_number number es)
+
+-- a number that is new goes last
+pub numbers_with : {V : Type 0} (es : List (ℕ × V)) (number : ℕ) (v : V) → has_number number es ≡ false → insert_entry nat_eq es number v ≡ es ++ (number, v) ∷ []
+numbers_with [] number v h = refl
+numbers_with {V} (e ∷ es) number v h = by (number == e.0) h (numbers_with es number v)
+  where
+    by : (b : Bool) → b || has_number number es ≡ false → (has_number number es ≡ false → insert_entry nat_eq es number v ≡ es ++ (number, v) ∷ [])
+        → cond b ((e.0, v) ∷ es) (e ∷ insert_entry nat_eq es number v) ≡ e ∷ (es ++ (number, v) ∷ [])
+    by true g others = absurd (cc)
+    by false g others = ap (λ r. e ∷ r) (others g)
+
+pub adds_number : {V : Type 0} (es new : List (ℕ × V)) (number : ℕ) (v : V) → has_number number es ≡ false → new ≡ insert_entry nat_eq es number v → AddsNew (has_number number es) es (number, v) new true
+adds_number es new number v h n = (sym (ap not h), n ∙ numbers_with es number v h)
 
 -- ---- bounds by their spans
 

@@ -1,21 +1,20 @@
 -- What is printed of rows that a text can say spells them.
-use Rattle.std.proofs.Common.{◌≡◌, ℕ, ◌+◌, ◌^◌, ◌<◌, ◌≤◌, List, [], ◌∷◌, ◌++◌, map, codes, refl, sym, ap, ◌∙◌, arith}
+use Rattle.std.proofs.Common.{◌≡◌, ℕ, ◌+◌, ◌^◌, ◌<◌, ◌≤◌, List, [], ◌∷◌, ◌++◌, codes, refl, sym, ap, subst, ◌∙◌, arith}
 use Rattle.std.specs.Prelude.{flat_map}
 use Rattle.std.specs.List.{AllByRecursion, join_with_byte}
 use Rattle.std.specs.Str.Lines.{lines}
 use Rattle.std.specs.Fmt.{decimal, signed_decimal}
 use Rattle.fb_model.specs.Spelling.{upper}
-use Rattle.fb_model.specs.Spans.{Span}
-use Rattle.fb_model.specs.CertificateText.{Written, written, rows_from, Entry, range, charge, weight, depth, head, IsNumberIn, IsEntry, a_range, a_charge, a_weight, a_depth, AreEntries, no_entry, entry, Spells, IsTold, most_steps, most_places}
+use Rattle.fb_model.specs.CertificateText.{Written, written, rows_from, Entry, repeats, range, charge, weight, depth, far, far_state, channel, head, IsNumberIn, IsDotted, IsEntry, a_repeats, a_range, a_charge, a_weight, a_depth, a_far, a_far_state, a_channel, AreEntries, no_entry, entry, Spells, IsTold, most_steps, most_places}
 use Rattle.fb_cert.specs.declared.certificate.Amount.{Amount}
-use Rattle.fb_cert.specs.Rows.{Table, Rows, book_of}
-use Rattle.fb_cert.specs.Sayable.{IsUpperPath, IsRange, IsAmount, IsDepth, AreRows, AreSayable}
-use Rattle.fb_cert.specs.Printed.{row_words, row_line, range_entries, charge_entries, weight_entries, depth_entries, entries, printed}
+use Rattle.fb_cert.specs.Rows.{Rows, book_of}
+use Rattle.fb_cert.specs.Sayable.{IsUpperPath, IsAmount, IsWithin, IsSayable, AreSayable}
+use Rattle.fb_cert.specs.Printed.{row_words, row_line, entries, printed}
 use Rattle.fb_cert.proofs.Decimals.{decimal_is, signed_is}
 use Rattle.fb_cert.proofs.Splitting.{IsPrinted, words_joined, joined_plain, line_upper, first_line, first_row}
 use Rattle.fb_cert.proofs.Inking.{decimal_printed, signed_printed, path_printed, word_printed}
 use Rattle.fb_cert.proofs.ByKind.{book_in, none_twice}
-use Rattle.fb_cert.proofs.Ordered.{as_range, as_charge, as_weight, as_depth, rows_kept, entries_new}
+use Rattle.fb_cert.proofs.Ordered.{entries_fill}
 
 -- its words are printed words that say it
 record IsGood (e : Entry) : Type 0 where
@@ -24,56 +23,57 @@ record IsGood (e : Entry) : Type 0 where
 
 -- ---- each kind of row
 
-range_good : (r : (List ℕ) × Span) → IsUpperPath r.0 → IsRange r.1 → IsGood (as_range r)
-range_good r p s =
+small : (n most : ℕ) → n ≤ most → most ≤ 1000000000000 → n < 2 ^ 64
+small n most h k = omega arith
+
+number_printed : {low high n : ℕ} → IsWithin low high n → high ≤ most_steps → IsPrinted (decimal n)
+number_printed {low} {high} {n} h k = decimal_printed n (small n high h.fits k)
+
+number_said : {low high n : ℕ} → IsWithin low high n → high ≤ most_steps → IsNumberIn low high (decimal n) n
+number_said {low} {high} {n} h k = decimal_is low high n h.some h.fits (small n high h.fits k)
+
+-- a word, a path and one number
+path_good : (e : Entry) (word path : List ℕ) (low high n : ℕ) → row_words e ≡ word ∷ path ∷ decimal n ∷ [] → (IsDotted path → IsNumberIn low high (decimal n) n → IsEntry (word ∷ path ∷ decimal n ∷ []) e)
+    → IsPrinted word → IsUpperPath path → IsWithin low high n → high ≤ most_steps → IsGood e
+path_good e word path low high n is says w p h k =
     record {
-      are = (word_printed (codes "RANGE") refl refl, (path_printed r.0 p, (signed_printed r.1.low s.low_fits, (signed_printed r.1.high s.high_fits, tt))));
-      says = a_range p.0 (signed_is r.1.low s.low_fits) (signed_is r.1.high s.high_fits) s.ordered;
+      are = subst (AllByRecursion IsPrinted) (sym is) (w, (path_printed path p, (number_printed h k, tt)));
+      says = subst (λ ws. IsEntry ws e) (sym is) (says p.0 (number_said h k));
     }
 
-steps_small : (n : ℕ) → n ≤ most_steps → n < 2 ^ 64
-steps_small n h = omega arith
+steps_within : {a : Amount} → IsAmount a → IsWithin 0 most_steps a.steps
+steps_within h = record { some = omega arith; fits = h.steps_fit }
 
-places_small : (n : ℕ) → n ≤ most_places → n < 2 ^ 64
-places_small n h = omega arith
+places_within : {a : Amount} → IsAmount a → IsWithin 0 most_places a.places
+places_within h = record { some = omega arith; fits = h.places_fit }
 
-charge_good : (r : (List ℕ) × Amount) → IsUpperPath r.0 → IsAmount r.1 → IsGood (as_charge r)
-charge_good r p a =
-    let s = steps_small r.1.steps a.steps_fit in
-    let k = places_small r.1.places a.places_fit in
+amount_printed : {a : Amount} (word path : List ℕ) → IsPrinted word → IsUpperPath path → IsAmount a → AllByRecursion IsPrinted (word ∷ path ∷ decimal a.steps ∷ decimal a.places ∷ [])
+amount_printed word path w p h = (w, (path_printed path p, (number_printed (steps_within h) (omega arith), (number_printed (places_within h) (omega arith), tt))))
+
+entry_good : (e : Entry) → IsSayable e → IsGood e
+entry_good (repeats n) h = record { are = (word_printed (codes "REPEATS") refl refl, (number_printed h (omega arith), tt)); says = a_repeats (number_said h (omega arith)) }
+entry_good (range p low high) h =
+    let s = h.1 in
     record {
-      are = (word_printed (codes "CHARGE") refl refl, (path_printed r.0 p, (decimal_printed r.1.steps s, (decimal_printed r.1.places k, tt))));
-      says = a_charge p.0 (decimal_is 0 most_steps r.1.steps (omega arith) a.steps_fit s) (decimal_is 0 most_places r.1.places (omega arith) a.places_fit k);
+      are = (word_printed (codes "RANGE") refl refl, (path_printed p h.0, (signed_printed low s.low_fits, (signed_printed high s.high_fits, tt))));
+      says = a_range h.0.0 (signed_is low s.low_fits) (signed_is high s.high_fits) s.ordered;
+    }
+entry_good (charge p steps places) h =
+    record { are = amount_printed (codes "CHARGE") p (word_printed (codes "CHARGE") refl refl) h.0 h.1; says = a_charge h.0.0 (number_said (steps_within h.1) (omega arith)) (number_said (places_within h.1) (omega arith)) }
+entry_good (weight p steps places) h =
+    record { are = amount_printed (codes "WEIGHT") p (word_printed (codes "WEIGHT") refl refl) h.0 h.1; says = a_weight h.0.0 (number_said (steps_within h.1) (omega arith)) (number_said (places_within h.1) (omega arith)) }
+entry_good (depth p n) h = path_good (depth p n) (codes "DEPTH") p 1 most_places n refl (λ d k. a_depth d k) (word_printed (codes "DEPTH") refl refl) h.0 h.1 (omega arith)
+entry_good (far p n) h = path_good (far p n) (codes "FAR") p 0 most_steps n refl (λ d k. a_far d k) (word_printed (codes "FAR") refl refl) h.0 h.1 (omega arith)
+entry_good (far_state p n) h = path_good (far_state p n) (codes "FARSTATE") p 0 most_steps n refl (λ d k. a_far_state d k) (word_printed (codes "FARSTATE") refl refl) h.0 h.1 (omega arith)
+entry_good (channel c n) h =
+    record {
+      are = (word_printed (codes "CHANNEL") refl refl, (number_printed h.0 (omega arith), (number_printed h.1 (omega arith), tt)));
+      says = a_channel (number_said h.0 (omega arith)) (number_said h.1 (omega arith));
     }
 
-weight_good : (r : (List ℕ) × Amount) → IsUpperPath r.0 → IsAmount r.1 → IsGood (as_weight r)
-weight_good r p a =
-    let s = steps_small r.1.steps a.steps_fit in
-    let k = places_small r.1.places a.places_fit in
-    record {
-      are = (word_printed (codes "WEIGHT") refl refl, (path_printed r.0 p, (decimal_printed r.1.steps s, (decimal_printed r.1.places k, tt))));
-      says = a_weight p.0 (decimal_is 0 most_steps r.1.steps (omega arith) a.steps_fit s) (decimal_is 0 most_places r.1.places (omega arith) a.places_fit k);
-    }
-
-depth_good : (r : (List ℕ) × ℕ) → IsUpperPath r.0 → IsDepth r.1 → IsGood (as_depth r)
-depth_good r p d =
-    let k = places_small r.1 d.fits in
-    record { are = (word_printed (codes "DEPTH") refl refl, (path_printed r.0 p, (decimal_printed r.1 k, tt))); says = a_depth p.0 (decimal_is 1 most_places r.1 d.some d.fits k) }
-
-kind_good : {V : Type 0} (Such : V → Type 0) (f : (List ℕ) × V → Entry) → ((r : (List ℕ) × V) → IsUpperPath r.0 → Such r.1 → IsGood (f r)) → (before rs : Table V) → AreRows Such before rs → AllByRecursion IsGood (map f rs)
-kind_good Such f good before [] h = tt
-kind_good Such f good before (r ∷ rs) h = (good r h.0 h.1, kind_good Such f good (before ++ r ∷ []) rs h.3)
-
-good_more : (es fs : List Entry) → AllByRecursion IsGood es → AllByRecursion IsGood fs → AllByRecursion IsGood (es ++ fs)
-good_more [] fs h k = k
-good_more (e ∷ es) fs h k = (h.0, good_more es fs h.1 k)
-
-entries_good : (rs : Rows) → AreSayable rs → AllByRecursion IsGood (entries rs)
-entries_good rs h =
-    good_more (range_entries rs.ranges) (charge_entries rs.charges ++ (weight_entries rs.weights ++ depth_entries rs.depths)) (kind_good IsRange as_range range_good [] rs.ranges h.ranges_are)
-    (good_more (charge_entries rs.charges) (weight_entries rs.weights ++ depth_entries rs.depths) (kind_good IsAmount as_charge charge_good [] rs.charges h.charges_are)
-    (good_more (weight_entries rs.weights) (depth_entries rs.depths) (kind_good IsAmount as_weight weight_good [] rs.weights h.weights_are)
-    (kind_good IsDepth as_depth depth_good [] rs.depths h.depths_are)))
+all_good : (es : List Entry) → AllByRecursion IsSayable es → AllByRecursion IsGood es
+all_good [] h = tt
+all_good (e ∷ es) h = (entry_good e h.0, all_good es h.1)
 
 -- ---- the rows of the text
 
@@ -90,10 +90,14 @@ one_row n w ws rest h =
     ap (λ t. rows_from n (lines t)) (line_upper l rest p) ∙ ap (rows_from n) (first_line l (upper rest) p) ∙ first_row n l (lines (upper rest)) w ws (words_joined w ws h)
 
 entry_row : (n : ℕ) (e : Entry) (rest : List ℕ) → AllByRecursion IsPrinted (row_words e) → rows_from n (lines (upper (row_line e ++ rest))) ≡ written n (row_words e) ∷ rows_from (n + 1) (lines (upper rest))
+entry_row n (repeats m) rest k = one_row n (codes "REPEATS") (decimal m ∷ []) rest k
 entry_row n (range p l h) rest k = one_row n (codes "RANGE") (p ∷ signed_decimal l ∷ signed_decimal h ∷ []) rest k
 entry_row n (charge p s q) rest k = one_row n (codes "CHARGE") (p ∷ decimal s ∷ decimal q ∷ []) rest k
 entry_row n (weight p s q) rest k = one_row n (codes "WEIGHT") (p ∷ decimal s ∷ decimal q ∷ []) rest k
 entry_row n (depth p m) rest k = one_row n (codes "DEPTH") (p ∷ decimal m ∷ []) rest k
+entry_row n (far p m) rest k = one_row n (codes "FAR") (p ∷ decimal m ∷ []) rest k
+entry_row n (far_state p m) rest k = one_row n (codes "FARSTATE") (p ∷ decimal m ∷ []) rest k
+entry_row n (channel c m) rest k = one_row n (codes "CHANNEL") (decimal c ∷ decimal m ∷ []) rest k
 
 all_rows : (n : ℕ) (es : List Entry) → AllByRecursion IsGood es → rows_from n (lines (upper (flat_map row_line es))) ≡ rows_at n es
 unfolding rows_at
@@ -117,7 +121,8 @@ pub printed_spells : (rs : Rows) → AreSayable rs → Spells (printed rs) (book
 unfolding printed
 printed_spells rs h =
     let es = entries rs in
-    let good = entries_good rs h in
+    let fill = entries_fill rs h in
+    let good = all_good es fill.said in
     record {
       first = written 1 (codes "CERT" ∷ codes "1" ∷ []);
       others = rows_at 2 es;
@@ -125,8 +130,8 @@ printed_spells rs h =
       rows_are = first_words (flat_map row_line es) ∙ ap (λ r. written 1 (codes "CERT" ∷ codes "1" ∷ []) ∷ r) (all_rows 2 es good);
       first_is = head one_is;
       others_are = all_say 2 es good;
-      none_twice = none_twice es (entries_new rs h);
-      certificate_is = ap book_of (sym (rows_kept rs)) ∙ book_in es;
+      none_twice = none_twice es fill.new;
+      certificate_is = ap book_of (sym fill.are) ∙ book_in es;
     }
 
 -- so they stand in a text

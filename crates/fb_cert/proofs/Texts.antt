@@ -86,7 +86,8 @@ row_found n ws done rs h =
     elim (chosen (begins_cert ws) (Err (DuplicateRow n)) (entered n (entry_at ws) (rows_in done)) (Ok rs) h) [
       | inl p ↦ absurd (cc)
       | inr p ↦ (let o = entered_ok n (entry_at ws) done rs p.1 in
-          record { e = o.0; is = entry_found ws o.0 o.1; new = sym (has_in o.0 done) ∙ o.2; rows_are = sym o.3 ∙ with_in o.0 done })
+          let new : list_any (is_same o.0) done ≡ false = sym (has_in o.0 done) ∙ o.2 in
+          record { e = o.0; is = entry_found ws o.0 o.1; new = new; rows_are = sym o.3 ∙ with_in o.0 done new })
     ]
 
 pub row_read : (n : ℕ) (ws : List (List ℕ)) (done : List Entry) (e : Entry) → IsEntry ws e → list_any (is_same e) done ≡ false → row_at n ws (rows_in done) ≡ Ok (rows_in (done ++ e ∷ []))
@@ -94,7 +95,7 @@ row_read n ws done e h new =
     ap (λ b. cond b (Err (DuplicateRow n)) (entered n (entry_at ws) (rows_in done))) (entry_no_cert ws e h)
     ∙ ap (λ o. entered n o (rows_in done)) (entry_read ws e h)
     ∙ ap (λ b. cond b (Err (DuplicateRow n)) (Ok (with_row e (rows_in done)))) (has_in e done ∙ new)
-    ∙ ap Ok (with_in e done)
+    ∙ ap Ok (with_in e done new)
 
 -- ---- the rows behind the first
 

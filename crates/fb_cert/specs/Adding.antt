@@ -2,7 +2,7 @@
 use Rattle.std.specs.Prelude.{ℕ, Bool, List, ◌&&◌, nat_le}
 use Rattle.std.specs.Str.{bytes_eq}
 use Rattle.fb_model.specs.Spelling.{upper}
-use Rattle.fb_model.specs.CertificateText.{Entry, range, charge, weight, depth, most_steps, most_places}
+use Rattle.fb_model.specs.CertificateText.{Entry, repeats, range, charge, weight, depth, far, far_state, channel, most_steps, most_places, most_repeats, most_channel}
 use Rattle.fb_cert.specs.Reading.{is_path}
 
 -- the text is in upper case
@@ -17,13 +17,17 @@ is_upper_path path = is_path path && is_upper path
 abbrev pub is_amount : ℕ → ℕ → Bool
 is_amount steps places = nat_le steps most_steps && nat_le places most_places
 
--- a depth within its bounds
-abbrev pub is_depth : ℕ → Bool
-is_depth n = nat_le 1 n && nat_le n most_places
+-- a number within its bounds
+abbrev pub is_within : ℕ → ℕ → ℕ → Bool
+is_within low high n = nat_le low n && nat_le n high
 
 -- a text can say the row; the bounds of a range are two numbers of LINT in order by their type
 abbrev pub is_sayable : Entry → Bool
+is_sayable (repeats n) = is_within 1 most_repeats n
 is_sayable (range path low high) = is_upper_path path
 is_sayable (charge path steps places) = is_upper_path path && is_amount steps places
 is_sayable (weight path steps places) = is_upper_path path && is_amount steps places
-is_sayable (depth path n) = is_upper_path path && is_depth n
+is_sayable (depth path n) = is_upper_path path && is_within 1 most_places n
+is_sayable (far path n) = is_upper_path path && is_within 0 most_steps n
+is_sayable (far_state path n) = is_upper_path path && is_within 0 most_steps n
+is_sayable (channel number n) = is_within 0 most_channel number && is_within 0 most_steps n

@@ -4,7 +4,7 @@ use Rattle.std.specs.Option.{option_map}
 use Rattle.std.specs.Str.{bytes_eq}
 use Rattle.std.specs.Str.Lines.{lines}
 use Rattle.fb_model.specs.Spelling.{is_digit, is_start, upper}
-use Rattle.fb_model.specs.CertificateText.{Entry, range, charge, weight, depth, words, begins_cert, most_steps, most_places, most_lint, most_characters}
+use Rattle.fb_model.specs.CertificateText.{Entry, repeats, range, charge, weight, depth, far, far_state, channel, words, begins_cert, most_steps, most_places, most_repeats, most_channel, most_lint, most_characters}
 use Rattle.fb_model.specs.Spans.{Span, span}
 use Rattle.fb_cert.specs.declared.certificate.Amount.{Amount}
 use Rattle.fb_cert.specs.declared.fault.CertFault.{CertFault}
@@ -40,13 +40,16 @@ is_path cs = path_from true cs
 
 -- ---- rows
 
-abbrev pub both : Option ℕ → Option ℕ → Option Amount
-both None k = None
-both (Some s) None = None
-both (Some s) (Some k) = Some (amount s k)
+abbrev pub both : {A : Type 0} → (ℕ → ℕ → A) → Option ℕ → Option ℕ → Option A
+both f None k = None
+both f (Some s) None = None
+both f (Some s) (Some k) = Some (f s k)
 
 abbrev pub amount_in : List ℕ → List ℕ → Option Amount
-amount_in s k = both (number_in 0 most_steps s) (number_in 0 most_places k)
+amount_in s k = both amount (number_in 0 most_steps s) (number_in 0 most_places k)
+
+abbrev pub channel_in : List ℕ → List ℕ → Option Entry
+channel_in c n = both channel (number_in 0 most_channel c) (number_in 0 most_steps n)
 
 abbrev pub between : Option ℤ → Option ℤ → Option Span
 between None h = None
@@ -60,12 +63,17 @@ abbrev pub with_bounds : List ℕ → Option Span → Option Entry
 with_bounds p None = None
 with_bounds p (Some s) = Some (range p s.low s.high)
 
-abbrev pub with_depth : List ℕ → Option ℕ → Option Entry
-with_depth p None = None
-with_depth p (Some n) = Some (depth p n)
+abbrev pub row_of_two : List ℕ → List ℕ → Option Entry
+row_of_two w n = if bytes_eq w (codes "REPEATS") then option_map repeats (number_in 1 most_repeats n) else None
+
+-- a path, and one number
+abbrev pub row_at_path : List ℕ → List ℕ → List ℕ → Option Entry
+row_at_path w p n =
+    if bytes_eq w (codes "DEPTH") then option_map (depth p) (number_in 1 most_places n)
+    else (if bytes_eq w (codes "FAR") then option_map (far p) (number_in 0 most_steps n) else (if bytes_eq w (codes "FARSTATE") then option_map (far_state p) (number_in 0 most_steps n) else None))
 
 abbrev pub row_of_three : List ℕ → List ℕ → List ℕ → Option Entry
-row_of_three w p d = if bytes_eq w (codes "DEPTH") && is_path p then with_depth p (number_in 1 most_places d) else None
+row_of_three w p n = if bytes_eq w (codes "CHANNEL") then channel_in p n else (if is_path p then row_at_path w p n else None)
 
 abbrev pub with_amount : List ℕ → List ℕ → Option Amount → Option Entry
 with_amount w p None = None
@@ -75,7 +83,8 @@ abbrev pub row_of_four : List ℕ → List ℕ → List ℕ → List ℕ → Opt
 row_of_four w p a b = if is_path p then (if bytes_eq w (codes "RANGE") then with_bounds p (bounds_in a b) else with_amount w p (amount_in a b)) else None
 
 abbrev pub entry_at : List (List ℕ) → Option Entry
-entry_at (w ∷ p ∷ d ∷ []) = row_of_three w p d
+entry_at (w ∷ n ∷ []) = row_of_two w n
+entry_at (w ∷ p ∷ n ∷ []) = row_of_three w p n
 entry_at (w ∷ p ∷ s ∷ k ∷ []) = row_of_four w p s k
 entry_at ws = None
 

@@ -1,5 +1,5 @@
 -- The rows of a certificate, without where they lie in memory.
-use Rattle.std.specs.Prelude.{ℕ, Bool, List, [], map, string_bytes, None}
+use Rattle.std.specs.Prelude.{ℕ, ◌==◌, Bool, List, [], map, string_bytes, Option, None}
 use Rattle.std.specs.List.{list_any}
 use Rattle.std.specs.Str.{bytes_eq}
 use Rattle.std.specs.declared.string.String.{String}
@@ -8,7 +8,7 @@ use Rattle.indexmap.specs.IndexMap.{IndexMap}
 use Rattle.fb_model.specs.Certificates as book
 use Rattle.fb_model.specs.Ranges.{Range}
 use Rattle.fb_model.specs.Spans.{Span, span}
-use Rattle.fb_model.specs.CertificateText.{range_row, row_of, depth_row}
+use Rattle.fb_model.specs.CertificateText.{range_row, row_of, depth_row, far_row, channel_row}
 use Rattle.fb_cert.specs.declared.bounds.Bounds.{Bounds}
 use Rattle.fb_cert.specs.declared.certificate.Amount.{Amount}
 use Rattle.fb_cert.specs.declared.lists.Lists.{Lists}
@@ -34,18 +34,36 @@ amount steps places = record { steps = steps; places = places }
 abbrev pub has_path : {V : Type 0} → List ℕ → Table V → Bool
 has_path path rows = list_any (λ r. bytes_eq path r.0) rows
 
+-- the number stands in a row
+abbrev pub has_number : {V : Type 0} → ℕ → List (ℕ × V) → Bool
+has_number number rows = list_any (λ r. number == r.0) rows
+
 -- the rows of a text by their kinds
 pub record Rows : Type 0 where
+  pub repeats : Option ℕ
   pub ranges : Table Span
   pub charges : Table Amount
   pub weights : Table Amount
   pub depths : Table ℕ
+  pub fars : Table ℕ
+  pub far_states : Table ℕ
+  pub channels : List (ℕ × ℕ)
 
 abbrev pub no_rows : Rows
-no_rows = record { ranges = []; charges = []; weights = []; depths = [] }
+no_rows = record { repeats = None; ranges = []; charges = []; weights = []; depths = []; fars = []; far_states = []; channels = [] }
 
 abbrev pub rows_in : Lists → Rows
-rows_in c = record { ranges = spans_of (texts_of c.ranges); charges = texts_of c.charges; weights = texts_of c.weights; depths = texts_of c.depths }
+rows_in c =
+    record {
+      repeats = c.repeats;
+      ranges = spans_of (texts_of c.ranges);
+      charges = texts_of c.charges;
+      weights = texts_of c.weights;
+      depths = texts_of c.depths;
+      fars = texts_of c.fars;
+      far_states = texts_of c.far_states;
+      channels = c.channels.entries;
+    }
 
 abbrev pub range_rows : Table Span → List Range
 range_rows rows = map (λ r. range_row r.0 r.1.low r.1.high) rows
@@ -56,6 +74,22 @@ amount_rows rows = map (λ r. row_of r.0 r.1.steps r.1.places) rows
 abbrev pub depth_rows : Table ℕ → List book.DepthRow
 depth_rows rows = map (λ r. depth_row r.0 r.1) rows
 
+abbrev pub far_rows : Table ℕ → List book.FarRow
+far_rows rows = map (λ r. far_row r.0 r.1) rows
+
+abbrev pub channel_rows : List (ℕ × ℕ) → List book.ChannelRow
+channel_rows rows = map (λ r. channel_row r.0 r.1) rows
+
 -- the certificate that the checker speaks of
 abbrev pub book_of : Rows → book.Certificate
-book_of rows = record { ranges = range_rows rows.ranges; charges = amount_rows rows.charges; weights = amount_rows rows.weights; depths = depth_rows rows.depths; repeats = None; fars = []; far_states = []; channels = [] }
+book_of rows =
+    record {
+      ranges = range_rows rows.ranges;
+      charges = amount_rows rows.charges;
+      weights = amount_rows rows.weights;
+      depths = depth_rows rows.depths;
+      repeats = rows.repeats;
+      fars = far_rows rows.fars;
+      far_states = far_rows rows.far_states;
+      channels = channel_rows rows.channels;
+    }

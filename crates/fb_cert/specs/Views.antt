@@ -1,17 +1,17 @@
 -- What certificates are, without where they lie in memory.
-use Rattle.std.specs.Prelude.{◌≡◌, ℕ, Bool, not, List, [], ◌∷◌, ◌++◌, map, Option, Some, None, if◌then◌else◌}
+use Rattle.std.specs.Prelude.{◌≡◌, ℕ, Bool, not, List, [], ◌∷◌, ◌++◌, map, Option, Some, None, is_some, if◌then◌else◌}
 use Rattle.std.specs.Option.{option_map, unwrap_or}
 use Rattle.std.specs.Str.{bytes_eq}
 use Rattle.fb_cert.specs.declared.bounds.Bounds.{Bounds}
 use Rattle.fb_cert.specs.declared.certificate.Amount.{Amount}
 use Rattle.fb_cert.specs.declared.certificate.Certificate.{Certificate}
-pub use Rattle.fb_cert.specs.Rows.{Table, texts_of, span_of, spans_of, has_path, amount, Rows, no_rows, rows_in, range_rows, amount_rows, depth_rows, book_of}
+pub use Rattle.fb_cert.specs.Rows.{Table, texts_of, span_of, spans_of, has_path, has_number, amount, Rows, no_rows, rows_in, range_rows, amount_rows, depth_rows, far_rows, channel_rows, book_of}
 use denote.Ref.{Bor}
 use Rattle.fb_model.specs.Certificates as book
 use Rattle.fb_model.specs.Ranges.{Range}
 use Rattle.fb_model.specs.Spans.{Span, span, whole}
 use Rattle.fb_model.specs.System.{Variable}
-use Rattle.fb_model.specs.CertificateText.{range_row, row_of, depth_row, Entry, range, charge, weight, depth}
+use Rattle.fb_model.specs.CertificateText.{range_row, row_of, depth_row, far_row, channel_row, Entry, repeats, range, charge, weight, depth, far, far_state, channel}
 use Rattle.fb_cert.specs.declared.row.Row.{Row}
 use Rattle.fb_cert.specs.declared.row.Row.TheVariants as kinds
 
@@ -28,9 +28,13 @@ abbrev pub first_at : {V : Type 0} → List ℕ → Table V → Option V
 first_at path [] = None
 first_at path (r ∷ rs) = if bytes_eq path r.0 then Some r.1 else first_at path rs
 
+-- whether a row is new, and the rows with it at the end
+abbrev pub AddsNew : {R : Type 0} → Bool → List R → R → List R → Bool → Type 0
+AddsNew stands old row new said = (said ≡ not stands) × (new ≡ (if said then old ++ row ∷ [] else old))
+
 -- whether a path is new, and the rows with it at the end
 abbrev pub Adds : {V : Type 0} → Table V → List ℕ → V → Table V → Bool → Type 0
-Adds old path value new said = (said ≡ not (has_path path old)) × (new ≡ (if said then old ++ (path, value) ∷ [] else old))
+Adds old path value new said = AddsNew (has_path path old) old (path, value) new said
 
 abbrev pub shown : {V : Type 0} → (Bor (List ℕ)) × V → (List ℕ) × V
 shown p = (p.0.now, p.1)
@@ -39,28 +43,40 @@ abbrev pub texts : List (Bor (List ℕ)) → List (List ℕ)
 texts words = map (λ w. w.now) words
 
 abbrev pub entry_of : Row → Entry
+entry_of (kinds.Repeats n) = repeats n
 entry_of (kinds.Range path b) = range path.now b.low b.high
 entry_of (kinds.Charge path a) = charge path.now a.steps a.places
 entry_of (kinds.Weight path a) = weight path.now a.steps a.places
 entry_of (kinds.Depth path n) = depth path.now n
+entry_of (kinds.Far path n) = far path.now n
+entry_of (kinds.FarState path n) = far_state path.now n
+entry_of (kinds.Channel number n) = channel number n
 
 abbrev pub row_seen : Option Row → Option Entry
 row_seen None = None
 row_seen (Some row) = Some (entry_of row)
 
--- the row's path stands already in a row of its kind
+-- the row's path or number stands already in a row of its kind
 abbrev pub has_row : Entry → Rows → Bool
+has_row (repeats n) rows = is_some rows.repeats
 has_row (range p l h) rows = has_path p rows.ranges
 has_row (charge p s k) rows = has_path p rows.charges
 has_row (weight p s k) rows = has_path p rows.weights
 has_row (depth p n) rows = has_path p rows.depths
+has_row (far p n) rows = has_path p rows.fars
+has_row (far_state p n) rows = has_path p rows.far_states
+has_row (channel number n) rows = has_number number rows.channels
 
 -- the rows with one more at the end
 abbrev pub with_row : Entry → Rows → Rows
-with_row (range p l h) rows = record { ranges = rows.ranges ++ (p, span l h) ∷ []; charges = rows.charges; weights = rows.weights; depths = rows.depths }
-with_row (charge p s k) rows = record { ranges = rows.ranges; charges = rows.charges ++ (p, amount s k) ∷ []; weights = rows.weights; depths = rows.depths }
-with_row (weight p s k) rows = record { ranges = rows.ranges; charges = rows.charges; weights = rows.weights ++ (p, amount s k) ∷ []; depths = rows.depths }
-with_row (depth p n) rows = record { ranges = rows.ranges; charges = rows.charges; weights = rows.weights; depths = rows.depths ++ (p, n) ∷ [] }
+with_row (repeats n) rows = record rows { repeats = Some n }
+with_row (range p l h) rows = record rows { ranges = rows.ranges ++ (p, span l h) ∷ [] }
+with_row (charge p s k) rows = record rows { charges = rows.charges ++ (p, amount s k) ∷ [] }
+with_row (weight p s k) rows = record rows { weights = rows.weights ++ (p, amount s k) ∷ [] }
+with_row (depth p n) rows = record rows { depths = rows.depths ++ (p, n) ∷ [] }
+with_row (far p n) rows = record rows { fars = rows.fars ++ (p, n) ∷ [] }
+with_row (far_state p n) rows = record rows { far_states = rows.far_states ++ (p, n) ∷ [] }
+with_row (channel number n) rows = record rows { channels = rows.channels ++ (number, n) ∷ [] }
 
 abbrev pub AddsRow : Rows → Entry → Rows → Bool → Type 0
 AddsRow old e new said = (said ≡ not (has_row e old)) × (new ≡ (if said then with_row e old else old))
@@ -75,9 +91,9 @@ abbrev pub places_in : Option Amount → ℕ
 places_in None = 0
 places_in (Some a) = a.places
 
-abbrev pub depth_in : Option ℕ → ℕ
-depth_in None = 0
-depth_in (Some n) = n
+abbrev pub count_in : Option ℕ → ℕ
+count_in None = 0
+count_in (Some n) = n
 
 -- where a variable has no row, all numbers of its type
 abbrev pub span_in : Variable → Option Bounds → Span
@@ -93,6 +109,12 @@ row_shown p = row_of p.0.now p.1.steps p.1.places
 
 abbrev pub depth_shown : (Bor (List ℕ)) × ℕ → book.DepthRow
 depth_shown p = depth_row p.0.now p.1
+
+abbrev pub far_shown : (Bor (List ℕ)) × ℕ → book.FarRow
+far_shown p = far_row p.0.now p.1
+
+abbrev pub channel_shown : ℕ × ℕ → book.ChannelRow
+channel_shown p = channel_row p.0 p.1
 
 abbrev pub range_shown : (Bor (List ℕ)) × Bounds → Range
 range_shown p = range_row p.0.now p.1.low p.1.high

@@ -1,8 +1,9 @@
 //! Certificates as tables of their rows.
 
-ghost use Rattle.std.specs.Prelude.{◌≡◌, ◌&&◌, not, length, slice_get, IfOk, IfErr, if◌then◌else◌};
+ghost use Rattle.std.specs.Prelude.{◌≡◌, ◌==◌, ◌&&◌, not, length, slice_get, IfOk, IfErr, if◌then◌else◌};
+ghost use Rattle.std.specs.Map.{lookup};
 ghost use Rattle.std.specs.Option.{option_map};
-ghost use Rattle.fb_cert.specs.Views.{rows_of, no_rows, entry_of, has_row, with_row, first_at, shown, span_of, span_shown, row_shown, depth_shown, range_shown, certificate_of, steps_in, places_in, depth_in, span_in};
+ghost use Rattle.fb_cert.specs.Views.{rows_of, no_rows, entry_of, has_row, with_row, first_at, shown, span_of, span_shown, row_shown, depth_shown, far_shown, channel_shown, range_shown, certificate_of, steps_in, places_in, count_in, span_in};
 ghost use Rattle.fb_cert.specs.Adding.{is_sayable};
 ghost use Rattle.fb_model.specs.Certificates as book;
 ghost use Rattle.fb_model.specs.CertificateText.{place_of, names_in, all_but_last, last_name, IsTold};
@@ -23,7 +24,7 @@ pub struct Amount {
     pub places: u64,
 }
 
-/// The rows of a certificate in text order, by the path that each names. Paths are in upper case, their names joined by dots.
+/// The rows of a certificate in text order, by the path or the number that each names. Paths are in upper case, their names joined by dots.
 ///
 /// It stands in a text: [`parse_cert`](crate::parse_cert) reads it there, or [`print_cert`](crate::print_cert) prints one.
 #[derive(Drop)]
@@ -52,7 +53,7 @@ impl Certificate {
         }
     }
 
-    /// Adds a row at the end of its kind, if a text can say it and its path stands in no row of its kind; says whether it did.
+    /// Adds a row at the end of its kind, if a text can say it and its path or number stands in no row of its kind; says whether it did.
     pub fn add(&mut self, alloc: Global, row: Row) -> Result<bool, AllocError>
         ensures tells { IfOk result (λ new. new ≡ (is_sayable (entry_of row.entry) && not (has_row (entry_of row.entry) (rows_of self.old)))) }
         ensures added { IfOk result (λ new. rows_of self.new ≡ (if new then with_row (entry_of row.entry) (rows_of self.old) else rows_of self.old)) }
@@ -72,6 +73,14 @@ impl Certificate {
         ensures { IsTold (certificate_of self.now) }
     {
         let _ = &self.lists;
+    }
+
+    /// The row `REPEATS`.
+    pub fn repeats(&self) -> Option<u8>
+        ensures row { result ≡ (rows_of self.now).repeats }
+        ensures book { result ≡ (certificate_of self.now).repeats }
+    {
+        self.lists.repeats
     }
 
     /// The row `RANGE` of a variable.
@@ -103,9 +112,33 @@ impl Certificate {
     /// The row `DEPTH` of a resource.
     pub fn depth(&self, path: &str) -> Option<u64>
         ensures row { result ≡ first_at path.now (rows_of self.now).depths }
-        ensures depth { depth_in result ≡ book.depth_at (certificate_of self.now).depths (names_in path.now) }
+        ensures depth { count_in result ≡ book.depth_at (certificate_of self.now).depths (names_in path.now) }
     {
         self.lists.depths.get(path).copied()
+    }
+
+    /// The row `FAR` of an event input or an arrival.
+    pub fn far(&self, path: &str) -> Option<u64>
+        ensures row { result ≡ first_at path.now (rows_of self.now).fars }
+        ensures steps { count_in result ≡ book.far_amount (certificate_of self.now).fars (place_of path.now) }
+    {
+        self.lists.fars.get(path).copied()
+    }
+
+    /// The row `FARSTATE` of a state.
+    pub fn far_state(&self, path: &str) -> Option<u64>
+        ensures row { result ≡ first_at path.now (rows_of self.now).far_states }
+        ensures steps { count_in result ≡ book.far_amount (certificate_of self.now).far_states (place_of path.now) }
+    {
+        self.lists.far_states.get(path).copied()
+    }
+
+    /// The row `CHANNEL` of a channel.
+    pub fn channel(&self, number: u16) -> Option<u64>
+        ensures row { result ≡ lookup (λ c. number == c) (rows_of self.now).channels }
+        ensures steps { count_in result ≡ book.channel_amount (certificate_of self.now).channels number }
+    {
+        self.lists.channels.get(&number).copied()
     }
 
     /// How many rows `RANGE` there are.
@@ -134,6 +167,27 @@ impl Certificate {
         ensures { result ≡ length (rows_of self.now).depths }
     {
         self.lists.depths.len()
+    }
+
+    /// How many rows `FAR` there are.
+    pub fn far_count(&self) -> usize
+        ensures { result ≡ length (rows_of self.now).fars }
+    {
+        self.lists.fars.len()
+    }
+
+    /// How many rows `FARSTATE` there are.
+    pub fn far_state_count(&self) -> usize
+        ensures { result ≡ length (rows_of self.now).far_states }
+    {
+        self.lists.far_states.len()
+    }
+
+    /// How many rows `CHANNEL` there are.
+    pub fn channel_count(&self) -> usize
+        ensures { result ≡ length (rows_of self.now).channels }
+    {
+        self.lists.channels.len()
     }
 
     /// The row `RANGE` at an index in text order, with its path.
@@ -170,5 +224,32 @@ impl Certificate {
     {
         let (path, depth) = self.lists.depths.get_index(index)?;
         Some((path.as_str(), *depth))
+    }
+
+    /// The row `FAR` at an index in text order, with its path.
+    pub fn far_at(&self, index: usize) -> Option<(&str, u64)>
+        ensures row { option_map shown result ≡ slice_get (rows_of self.now).fars index }
+        ensures book { option_map far_shown result ≡ slice_get (certificate_of self.now).fars index }
+    {
+        let (path, steps) = self.lists.fars.get_index(index)?;
+        Some((path.as_str(), *steps))
+    }
+
+    /// The row `FARSTATE` at an index in text order, with its path.
+    pub fn far_state_at(&self, index: usize) -> Option<(&str, u64)>
+        ensures row { option_map shown result ≡ slice_get (rows_of self.now).far_states index }
+        ensures book { option_map far_shown result ≡ slice_get (certificate_of self.now).far_states index }
+    {
+        let (path, steps) = self.lists.far_states.get_index(index)?;
+        Some((path.as_str(), *steps))
+    }
+
+    /// The row `CHANNEL` at an index in text order, with its number.
+    pub fn channel_at(&self, index: usize) -> Option<(u16, u64)>
+        ensures row { result ≡ slice_get (rows_of self.now).channels index }
+        ensures book { option_map channel_shown result ≡ slice_get (certificate_of self.now).channels index }
+    {
+        let (number, steps) = self.lists.channels.get_index(index)?;
+        Some((*number, *steps))
     }
 }

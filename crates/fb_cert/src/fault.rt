@@ -30,7 +30,7 @@ pub enum CertFault {
     /// many words, one of them is no path or no number within bounds, or the least number of a range is above its greatest. It is
     /// line 1 if the text has no rows. Code 30.
     Row(usize),
-    /// The row in the line is a second `CERT`, or names the path of an earlier row of its kind. Code 31.
+    /// The row in the line is a second `CERT` or `REPEATS`, or names the path or the channel of an earlier row of its kind. Code 31.
     DuplicateRow(usize),
 }
 

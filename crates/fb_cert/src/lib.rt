@@ -4,6 +4,7 @@
 mod bounds;
 mod certificate;
 mod fault;
+mod kind;
 mod law;
 mod lists;
 mod printing;

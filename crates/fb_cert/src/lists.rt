@@ -1,7 +1,8 @@
 //! The rows of a certificate by their kinds.
 
 ghost use Rattle.std.specs.Prelude.{◌≡◌, IfOk, IfErr};
-ghost use Rattle.fb_cert.specs.Views.{rows_in, no_rows, texts_of, Adds, AddsRow, entry_of};
+ghost use Rattle.fb_model.specs.CertificateText.{repeats};
+ghost use Rattle.fb_cert.specs.Views.{rows_in, no_rows, texts_of, has_number, Adds, AddsNew, AddsRow, entry_of};
 
 use crate::bounds::Bounds;
 use crate::certificate::Amount;
@@ -9,13 +10,17 @@ use crate::row::Row;
 use indexmap::IndexMap;
 use std::alloc::{AllocError, Global};
 
-/// Rows in text order, by the path that each names.
+/// Rows in text order, by the path or the number that each names.
 #[derive(Drop)]
 pub(crate) struct Lists {
+    pub(crate) repeats: Option<u8>,
     pub(crate) ranges: IndexMap<String, Bounds>,
     pub(crate) charges: IndexMap<String, Amount>,
     pub(crate) weights: IndexMap<String, Amount>,
     pub(crate) depths: IndexMap<String, u64>,
+    pub(crate) fars: IndexMap<String, u64>,
+    pub(crate) far_states: IndexMap<String, u64>,
+    pub(crate) channels: IndexMap<u16, u64>,
 }
 
 // Adds a row at the end, unless its path stands in an earlier one; says whether it is new.
@@ -35,29 +40,60 @@ fn add<V: Drop>(
     Ok(true)
 }
 
+// Adds a row at the end, unless its number stands in an earlier one; says whether it is new.
+fn add_channel(rows: &mut IndexMap<u16, u64>, number: u16, steps: u64) -> Result<bool, AllocError>
+    ensures added { IfOk result (λ new. AddsNew (has_number number rows.old.entries) rows.old.entries (number, steps) rows.new.entries new) }
+    ensures kept { IfErr result (λ _. rows.new.entries ≡ rows.old.entries) }
+{
+    if rows.contains_key(&number) {
+        return Ok(false);
+    }
+    rows.insert(number, steps)?;
+    Ok(true)
+}
+
 impl Lists {
     /// No rows.
     pub(crate) fn new(alloc: Global) -> Lists
         ensures { rows_in result ≡ no_rows }
     {
         Lists {
+            repeats: None,
             ranges: IndexMap::new(alloc),
             charges: IndexMap::new(alloc),
             weights: IndexMap::new(alloc),
             depths: IndexMap::new(alloc),
+            fars: IndexMap::new(alloc),
+            far_states: IndexMap::new(alloc),
+            channels: IndexMap::new(alloc),
         }
     }
 
-    /// Adds a row at the end, unless its path stands in an earlier one of its kind; says whether it is new.
+    // Takes the number of REPEATS, unless there is one; says whether it is new.
+    fn repeat(&mut self, number: u8) -> bool
+        ensures { AddsRow (rows_in self.old) (repeats number) (rows_in self.new) result }
+    {
+        if self.repeats.is_some() {
+            return false;
+        }
+        self.repeats = Some(number);
+        true
+    }
+
+    /// Adds a row at the end, unless its path or number stands in an earlier one of its kind; says whether it is new.
     pub(crate) fn add(&mut self, alloc: Global, row: Row) -> Result<bool, AllocError>
         ensures added { IfOk result (λ new. AddsRow (rows_in self.old) (entry_of row.entry) (rows_in self.new) new) }
         ensures kept { IfErr result (λ _. rows_in self.new ≡ rows_in self.old) }
     {
         match row {
+            Row::Repeats(number) => Ok(self.repeat(number)),
             Row::Range(path, bounds) => add(alloc, &mut self.ranges, path, bounds),
             Row::Charge(path, amount) => add(alloc, &mut self.charges, path, amount),
             Row::Weight(path, amount) => add(alloc, &mut self.weights, path, amount),
             Row::Depth(path, depth) => add(alloc, &mut self.depths, path, depth),
+            Row::Far(path, steps) => add(alloc, &mut self.fars, path, steps),
+            Row::FarState(path, steps) => add(alloc, &mut self.far_states, path, steps),
+            Row::Channel(number, steps) => add_channel(&mut self.channels, number, steps),
         }
     }
 }

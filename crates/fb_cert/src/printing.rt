@@ -1,12 +1,13 @@
 //! The text of a certificate.
 
-ghost use Rattle.std.specs.Prelude.{◌≡◌, ◌++◌, flat_map, string_bytes, IfOk};
+ghost use Rattle.std.specs.Prelude.{◌≡◌, ◌++◌, flat_map, length, slice_get, string_bytes, IfOk};
 ghost use Rattle.fb_model.specs.CertificateText.{Spells};
-ghost use Rattle.fb_cert.specs.Views.{rows_of, certificate_of, entry_of};
-ghost use Rattle.fb_cert.specs.Printed.{row_line, range_entries, charge_entries, weight_entries, depth_entries, printed};
+ghost use Rattle.fb_cert.specs.Views.{rows_of, certificate_of, entry_of, row_seen};
+ghost use Rattle.fb_cert.specs.Printed.{row_line, entries_of, printed};
 
 use crate::certificate::Certificate;
 use crate::fault::OutOfMemory;
+use crate::kind::Kind;
 use crate::law::printed_spells;
 use crate::row::Row;
 use std::alloc::{AllocError, Global};
@@ -22,6 +23,7 @@ impl<'a> fmt::Display for Row<'a> {
 
     fn fmt<W: fmt::Write>(&self, f: &mut fmt::Formatter<W>) -> fmt::Result {
         match self {
+            Row::Repeats(number) => write!(f, "REPEATS {number}"),
             Row::Range(path, bounds) => {
                 let low = bounds.low;
                 let high = bounds.high;
@@ -38,6 +40,9 @@ impl<'a> fmt::Display for Row<'a> {
                 write!(f, "WEIGHT {path} {steps} {places}")
             }
             Row::Depth(path, depth) => write!(f, "DEPTH {path} {depth}"),
+            Row::Far(path, steps) => write!(f, "FAR {path} {steps}"),
+            Row::FarState(path, steps) => write!(f, "FARSTATE {path} {steps}"),
+            Row::Channel(number, steps) => write!(f, "CHANNEL {number} {steps}"),
         }
     }
 }
@@ -49,45 +54,74 @@ fn print_row(text: &mut String, row: Row) -> Result<(), AllocError>
     writeln!(text, "{row}")
 }
 
-fn print_ranges(text: &mut String, certificate: &Certificate) -> Result<(), AllocError>
-    ensures { IfOk result (λ _. string_bytes text.new ≡ string_bytes text.old ++ flat_map row_line (range_entries (rows_of certificate.now).ranges)) }
+// How many rows of a kind there are.
+fn count(certificate: &Certificate, kind: Kind) -> usize
+    ensures { result ≡ length (entries_of kind (rows_of certificate.now)) }
 {
-    for index in 0..certificate.range_count() {
-        if let Some((path, bounds)) = certificate.range_at(index) {
-            print_row(text, Row::Range(path, bounds))?;
-        }
+    match kind {
+        Kind::Repeats => match certificate.repeats() {
+            Some(_) => 1,
+            None => 0,
+        },
+        Kind::Range => certificate.range_count(),
+        Kind::Charge => certificate.charge_count(),
+        Kind::Weight => certificate.weight_count(),
+        Kind::Depth => certificate.depth_count(),
+        Kind::Far => certificate.far_count(),
+        Kind::FarState => certificate.far_state_count(),
+        Kind::Channel => certificate.channel_count(),
     }
-    Ok(())
 }
 
-fn print_charges(text: &mut String, certificate: &Certificate) -> Result<(), AllocError>
-    ensures { IfOk result (λ _. string_bytes text.new ≡ string_bytes text.old ++ flat_map row_line (charge_entries (rows_of certificate.now).charges)) }
+// The row of a kind at an index in text order.
+fn row_at<'a>(certificate: &'a Certificate, kind: Kind, index: usize) -> Option<Row<'a>>
+    ensures { row_seen result ≡ slice_get (entries_of kind (rows_of certificate.now)) index }
 {
-    for index in 0..certificate.charge_count() {
-        if let Some((path, amount)) = certificate.charge_at(index) {
-            print_row(text, Row::Charge(path, amount))?;
+    match kind {
+        Kind::Repeats => {
+            if index > 0 {
+                return None;
+            }
+            Some(Row::Repeats(certificate.repeats()?))
+        }
+        Kind::Range => {
+            let (path, bounds) = certificate.range_at(index)?;
+            Some(Row::Range(path, bounds))
+        }
+        Kind::Charge => {
+            let (path, amount) = certificate.charge_at(index)?;
+            Some(Row::Charge(path, amount))
+        }
+        Kind::Weight => {
+            let (path, amount) = certificate.weight_at(index)?;
+            Some(Row::Weight(path, amount))
+        }
+        Kind::Depth => {
+            let (path, depth) = certificate.depth_at(index)?;
+            Some(Row::Depth(path, depth))
+        }
+        Kind::Far => {
+            let (path, steps) = certificate.far_at(index)?;
+            Some(Row::Far(path, steps))
+        }
+        Kind::FarState => {
+            let (path, steps) = certificate.far_state_at(index)?;
+            Some(Row::FarState(path, steps))
+        }
+        Kind::Channel => {
+            let (number, steps) = certificate.channel_at(index)?;
+            Some(Row::Channel(number, steps))
         }
     }
-    Ok(())
 }
 
-fn print_weights(text: &mut String, certificate: &Certificate) -> Result<(), AllocError>
-    ensures { IfOk result (λ _. string_bytes text.new ≡ string_bytes text.old ++ flat_map row_line (weight_entries (rows_of certificate.now).weights)) }
+// Writes the rows of a kind.
+fn print_kind(text: &mut String, certificate: &Certificate, kind: Kind) -> Result<(), AllocError>
+    ensures { IfOk result (λ _. string_bytes text.new ≡ string_bytes text.old ++ flat_map row_line (entries_of kind (rows_of certificate.now))) }
 {
-    for index in 0..certificate.weight_count() {
-        if let Some((path, amount)) = certificate.weight_at(index) {
-            print_row(text, Row::Weight(path, amount))?;
-        }
-    }
-    Ok(())
-}
-
-fn print_depths(text: &mut String, certificate: &Certificate) -> Result<(), AllocError>
-    ensures { IfOk result (λ _. string_bytes text.new ≡ string_bytes text.old ++ flat_map row_line (depth_entries (rows_of certificate.now).depths)) }
-{
-    for index in 0..certificate.depth_count() {
-        if let Some((path, depth)) = certificate.depth_at(index) {
-            print_row(text, Row::Depth(path, depth))?;
+    for index in 0..count(certificate, kind) {
+        if let Some(row) = row_at(certificate, kind, index) {
+            print_row(text, row)?;
         }
     }
     Ok(())
@@ -97,14 +131,19 @@ fn print_rows(alloc: Global, certificate: &Certificate) -> Result<String, AllocE
     ensures { IfOk result (λ s. string_bytes s ≡ printed (rows_of certificate.now)) }
 {
     let mut text = String::from_str(alloc, "CERT 1\n")?;
-    print_ranges(&mut text, certificate)?;
-    print_charges(&mut text, certificate)?;
-    print_weights(&mut text, certificate)?;
-    print_depths(&mut text, certificate)?;
+    print_kind(&mut text, certificate, Kind::Repeats)?;
+    print_kind(&mut text, certificate, Kind::Range)?;
+    print_kind(&mut text, certificate, Kind::Charge)?;
+    print_kind(&mut text, certificate, Kind::Weight)?;
+    print_kind(&mut text, certificate, Kind::Depth)?;
+    print_kind(&mut text, certificate, Kind::Far)?;
+    print_kind(&mut text, certificate, Kind::FarState)?;
+    print_kind(&mut text, certificate, Kind::Channel)?;
     Ok(text)
 }
 
-/// The text of a certificate: `CERT 1`, and then a row a line: all `RANGE`, all `CHARGE`, all `WEIGHT` and all `DEPTH`, each in its order.
+/// The text of a certificate: `CERT 1`, and then a row a line: `REPEATS`, all `RANGE`, all `CHARGE`, all `WEIGHT`, all `DEPTH`, all `FAR`, all `FARSTATE`
+/// and all `CHANNEL`, each in its order.
 pub fn print_cert(alloc: Global, certificate: &Certificate) -> Result<String, OutOfMemory>
     ensures text { IfOk result (λ s. string_bytes s ≡ printed (rows_of certificate.now)) }
     // What is printed spells the certificate.

@@ -117,11 +117,12 @@ fn read_spelled(alloc: Global, text: &str) -> Result<Lists, CertFault>
     read_text(alloc, text)
 }
 
-/// The certificate that a text spells: `CERT 1`, and then a row a line, as `RANGE D.R.C.V -1 9`, `CHARGE D.R.C.START 0 0`,
-/// `WEIGHT D.R.C.EI 3 1` or `DEPTH D.R 1`. Letter case has no meaning.
+/// The certificate that a text spells: `CERT 1`, and then a row a line, as `REPEATS 2`, `RANGE D.R.C.V -1 9`, `CHARGE D.R.C.START 0 0`,
+/// `WEIGHT D.R.C.EI 3 1`, `DEPTH D.R 1`, `FAR D.R.C.EI 3`, `FARSTATE D.R.C.START 0` or `CHANNEL 7 5`. Letter case has no meaning.
 ///
 /// The two numbers of a range are those of LINT, the second no less than the first. Steps are at most 1,000,000,000,000 and places
-/// at most 4096; a depth is 1 to 4096. Words stand between spaces, and lines without words have no meaning but are counted.
+/// at most 4096; a depth is 1 to 4096, a number of `REPEATS` 1 to 255, that of a channel at most 65,535. Words stand between spaces,
+/// and lines without words have no meaning but are counted.
 pub fn parse_cert(alloc: Global, text: &str) -> Result<Certificate, CertFault>
     // What is answered is what the text spells, and the text is not too long.
     ensures found { IfOk result (λ c. Spells text.now (certificate_of c)) }

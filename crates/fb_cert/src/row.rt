@@ -3,9 +3,9 @@
 ghost use Rattle.std.specs.Prelude.{◌≡◌, ◌≤◌, ◌+◌, pos, neg_ℤ};
 ghost use Rattle.std.specs.Option.{option_map};
 ghost use Rattle.fb_model.specs.Spelling.{is_digit, is_start};
-ghost use Rattle.fb_model.specs.CertificateText.{most_lint, begins_cert};
+ghost use Rattle.fb_model.specs.CertificateText.{most_lint, most_repeats, most_channel, begins_cert};
 ghost use Rattle.fb_cert.specs.Views.{span_of, texts, row_seen};
-ghost use Rattle.fb_cert.specs.Reading.{number_in, whole_in, bounds_in, path_from, is_path, amount_in, row_of_three, row_of_four, entry_at, is_head};
+ghost use Rattle.fb_cert.specs.Reading.{number_in, whole_in, bounds_in, path_from, is_path, amount_in, channel_in, row_of_two, row_at_path, row_of_three, row_of_four, entry_at, is_head};
 
 use crate::bounds::Bounds;
 use crate::certificate::Amount;
@@ -16,12 +16,20 @@ pub(crate) const MOST_STEPS: u64 = 1_000_000_000_000;
 /// The most places of a row, and the most depth.
 pub(crate) const MOST_PLACES: u64 = 4096;
 
+/// The most `REPEATS`.
+pub(crate) const MOST_REPEATS: u64 = 255;
+
+/// The greatest number of a channel.
+pub(crate) const MOST_CHANNEL: u64 = 65_535;
+
 /// The greatest number of LINT.
 const MOST_LINT: u64 = 9_223_372_036_854_775_807;
 
-/// A row after the first, with its path.
+/// A row after the first, with its path or the number of its channel.
 #[derive(Clone, Copy)]
 pub enum Row<'a> {
+    /// How often a datagram comes at most.
+    Repeats(u8),
     /// The numbers of a variable.
     Range(&'a str, Bounds),
     /// What a state costs.
@@ -30,6 +38,12 @@ pub enum Row<'a> {
     Weight(&'a str, Amount),
     /// The places of a resource's queue.
     Depth(&'a str, u64),
+    /// The steps of an event input or an arrival, on all devices.
+    Far(&'a str, u64),
+    /// The steps of a state, on all devices.
+    FarState(&'a str, u64),
+    /// The steps of a datagram of a channel, on all devices.
+    Channel(u16, u64),
 }
 
 fn is_digit(byte: u8) -> bool
@@ -136,14 +150,68 @@ fn read_bounds(low: &str, high: &str) -> Option<Bounds>
     Bounds::new(low, high)
 }
 
-fn row_of_three<'a>(word: &str, path: &'a str, depth: &str) -> Option<Row<'a>>
-    ensures { row_seen result ≡ row_of_three word.now path.now depth.now }
+// The number of REPEATS that digits write.
+#[tactic(auto, using(crate::proofs::Numbers::number_most))]
+fn read_repeats(digits: &str) -> Option<u8>
+    ensures { result ≡ number_in 1 most_repeats digits.now }
 {
-    if word != "DEPTH" || !is_path(path) {
+    let number = read_number(digits, 1, MOST_REPEATS)?;
+    Some(number as u8)
+}
+
+// The number of a channel that digits write.
+#[tactic(auto, using(crate::proofs::Numbers::number_most))]
+fn read_channel(digits: &str) -> Option<u16>
+    ensures { result ≡ number_in 0 most_channel digits.now }
+{
+    let number = read_number(digits, 0, MOST_CHANNEL)?;
+    Some(number as u16)
+}
+
+fn channel_row<'a>(channel: &str, steps: &str) -> Option<Row<'a>>
+    ensures { row_seen result ≡ channel_in channel.now steps.now }
+{
+    let channel = read_channel(channel)?;
+    let steps = read_number(steps, 0, MOST_STEPS)?;
+    Some(Row::Channel(channel, steps))
+}
+
+fn row_of_two<'a>(word: &str, number: &str) -> Option<Row<'a>>
+    ensures { row_seen result ≡ row_of_two word.now number.now }
+{
+    if word != "REPEATS" {
         return None;
     }
-    let depth = read_number(depth, 1, MOST_PLACES)?;
-    Some(Row::Depth(path, depth))
+    let number = read_repeats(number)?;
+    Some(Row::Repeats(number))
+}
+
+// A path, and one number.
+fn row_at_path<'a>(word: &str, path: &'a str, number: &str) -> Option<Row<'a>>
+    ensures { row_seen result ≡ row_at_path word.now path.now number.now }
+{
+    if word == "DEPTH" {
+        return Some(Row::Depth(path, read_number(number, 1, MOST_PLACES)?));
+    }
+    if word == "FAR" {
+        return Some(Row::Far(path, read_number(number, 0, MOST_STEPS)?));
+    }
+    if word == "FARSTATE" {
+        return Some(Row::FarState(path, read_number(number, 0, MOST_STEPS)?));
+    }
+    None
+}
+
+fn row_of_three<'a>(word: &str, path: &'a str, number: &str) -> Option<Row<'a>>
+    ensures { row_seen result ≡ row_of_three word.now path.now number.now }
+{
+    if word == "CHANNEL" {
+        return channel_row(path, number);
+    }
+    if !is_path(path) {
+        return None;
+    }
+    row_at_path(word, path, number)
 }
 
 fn row_of_four<'a>(word: &str, path: &'a str, first: &str, second: &str) -> Option<Row<'a>>
@@ -170,7 +238,8 @@ pub(crate) fn read_row<'a>(words: &[&'a str]) -> Option<Row<'a>>
     ensures { row_seen result ≡ entry_at (texts words.now) }
 {
     match words {
-        [word, path, depth] => row_of_three(word, path, depth),
+        [word, number] => row_of_two(word, number),
+        [word, path, number] => row_of_three(word, path, number),
         [word, path, first, second] => row_of_four(word, path, first, second),
         _ => None,
     }

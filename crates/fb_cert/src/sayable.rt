@@ -2,11 +2,11 @@
 
 ghost use Rattle.std.specs.Prelude.{◌≡◌, true};
 ghost use Rattle.fb_cert.specs.Sayable.{IsSayable};
-ghost use Rattle.fb_cert.specs.Adding.{is_upper, is_upper_path, is_amount, is_depth, is_sayable};
+ghost use Rattle.fb_cert.specs.Adding.{is_upper, is_upper_path, is_amount, is_within, is_sayable};
 ghost use Rattle.fb_cert.specs.Views.{entry_of};
 
 use crate::certificate::Amount;
-use crate::row::{MOST_PLACES, MOST_STEPS, Row, is_path};
+use crate::row::{MOST_CHANNEL, MOST_PLACES, MOST_REPEATS, MOST_STEPS, Row, is_path};
 
 // Whether the text is in upper case.
 fn is_upper(text: &str) -> bool
@@ -34,11 +34,11 @@ fn is_amount(amount: Amount) -> bool
     amount.steps <= MOST_STEPS && amount.places <= MOST_PLACES
 }
 
-// Whether a depth is within its bounds.
-fn is_depth(depth: u64) -> bool
-    ensures { result ≡ is_depth depth }
+// Whether a number is within its bounds.
+fn is_within(low: u64, high: u64, number: u64) -> bool
+    ensures { result ≡ is_within low high number }
 {
-    1 <= depth && depth <= MOST_PLACES
+    low <= number && number <= high
 }
 
 /// Whether a text can say the row.
@@ -47,12 +47,18 @@ pub(crate) fn is_sayable(row: &Row) -> bool
     ensures said { result ≡ true → IsSayable (entry_of row.now) }
 {
     match row {
+        Row::Repeats(number) => is_within(1, MOST_REPEATS, *number as u64),
         Row::Range(path, bounds) => {
             prove!(bounds.low <= bounds.high);
             is_upper_path(path)
         }
         Row::Charge(path, amount) => is_upper_path(path) && is_amount(*amount),
         Row::Weight(path, amount) => is_upper_path(path) && is_amount(*amount),
-        Row::Depth(path, depth) => is_upper_path(path) && is_depth(*depth),
+        Row::Depth(path, depth) => is_upper_path(path) && is_within(1, MOST_PLACES, *depth),
+        Row::Far(path, steps) => is_upper_path(path) && is_within(0, MOST_STEPS, *steps),
+        Row::FarState(path, steps) => is_upper_path(path) && is_within(0, MOST_STEPS, *steps),
+        Row::Channel(number, steps) => {
+            is_within(0, MOST_CHANNEL, *number as u64) && is_within(0, MOST_STEPS, *steps)
+        }
     }
 }

@@ -3,7 +3,7 @@ use Rattle.std.proofs.Common.{◌≡◌, ◌≤◌, ℕ, List, [], ◌∷◌, sy
 use Rattle.std.specs.List.{AllByRecursion}
 use Rattle.fb_model.specs.Names.{Place}
 use Rattle.fb_model.specs.Certificates.{Row, Certificate, steps_of}
-use Rattle.fb_model.specs.CertificateText.{Entry, range, charge, weight, depth, IsEntry, a_range, a_charge, a_weight, a_depth, Written, most_steps, AreEntries, no_entry, entry, row_of, charges_of, weights_of, certificate_in, Spells}
+use Rattle.fb_model.specs.CertificateText.{Entry, charge, weight, IsEntry, a_charge, a_weight, Written, most_steps, AreEntries, no_entry, entry, row_of, certificate_in, Spells}
 use Rattle.fb_model.proofs.Lists.{all_weaker}
 use Rattle.fb_columns.specs.Fitting.{IsSmall, AreSmall}
 use Rattle.fb_columns.proofs.Amounts.{amount_small}
@@ -14,23 +14,19 @@ charge_small ws p s k (a_charge d m n) = (m.at_most, n.at_most)
 weight_small : (ws : List (List ℕ)) (p : List ℕ) (s k : ℕ) → IsEntry ws (weight p s k) → IsSmall (row_of p s k)
 weight_small ws p s k (a_weight d m n) = (m.at_most, n.at_most)
 
-charges_small : (ws : List Written) (es : List Entry) → AreEntries ws es → AllByRecursion IsSmall (charges_of es)
+charges_small : (ws : List Written) (es : List Entry) → AreEntries ws es → AllByRecursion IsSmall (certificate_in es).charges
 charges_small [] [] no_entry = tt
 charges_small [] (e ∷ es) h = elim h [ ]
 charges_small (w ∷ ws) [] h = elim h [ ]
-charges_small (w ∷ ws) (range p l k ∷ es) (entry h rest) = charges_small ws es rest
 charges_small (w ∷ ws) (charge p s k ∷ es) (entry h rest) = (charge_small w.words p s k h, charges_small ws es rest)
-charges_small (w ∷ ws) (weight p s k ∷ es) (entry h rest) = charges_small ws es rest
-charges_small (w ∷ ws) (depth p n ∷ es) (entry h rest) = charges_small ws es rest
+charges_small (w ∷ ws) (e ∷ es) (entry h rest) = charges_small ws es rest
 
-weights_small : (ws : List Written) (es : List Entry) → AreEntries ws es → AllByRecursion IsSmall (weights_of es)
+weights_small : (ws : List Written) (es : List Entry) → AreEntries ws es → AllByRecursion IsSmall (certificate_in es).weights
 weights_small [] [] no_entry = tt
 weights_small [] (e ∷ es) h = elim h [ ]
 weights_small (w ∷ ws) [] h = elim h [ ]
-weights_small (w ∷ ws) (range p l k ∷ es) (entry h rest) = weights_small ws es rest
-weights_small (w ∷ ws) (charge p s k ∷ es) (entry h rest) = weights_small ws es rest
 weights_small (w ∷ ws) (weight p s k ∷ es) (entry h rest) = (weight_small w.words p s k h, weights_small ws es rest)
-weights_small (w ∷ ws) (depth p n ∷ es) (entry h rest) = weights_small ws es rest
+weights_small (w ∷ ws) (e ∷ es) (entry h rest) = weights_small ws es rest
 
 pub small : (text : List ℕ) (cert : Certificate) → Spells text cert → AreSmall cert
 small text cert h =

@@ -4,11 +4,12 @@ use Rattle.std.specs.List.{sum_by, flat_map, AllByRecursion}
 use Rattle.std.specs.Str.{bytes_eq}
 use Rattle.fb_model.specs.Names.{Name}
 use Rattle.fb_model.specs.System.{Action, State, Block, Service}
-use Rattle.fb_model.specs.Services.{service_events, can_emit}
+use Rattle.fb_model.specs.System as system
+use Rattle.fb_model.specs.Services.{service_events, can_emit, init}
 use Rattle.fb_model.specs.Wires.{Kind, Charted, Serviced}
 use Rattle.fb_model.specs.Charts.{actions_of, is_open, emission}
 use Rattle.fb_model.specs.Certificates.{reached, event_names}
-use Rattle.fb_demands.specs.Demands.{Node, state, event, Demand, IsMet, Ground, emitted, of_state, free_demand, of_free, crossing_demand, of_crossing, of_input, of_dispatch, of_kind}
+use Rattle.fb_demands.specs.Demands.{Node, state, event, Demand, IsMet, Ground, emitted, of_state, free_demand, of_free, crossing_demand, of_crossing, of_input, sent, of_dispatch, of_kind}
 use Rattle.fb_demands.specs.Likeness.{AreLike, LeadAlike, AreGroundsAlike}
 
 pub like_append : (P : ℕ → ℕ → Type 0) (ds es fs gs : List Demand) → AreLike P ds es → AreLike P fs gs → AreLike P (ds ++ fs) (es ++ gs)
@@ -17,7 +18,7 @@ like_append P (d ∷ ds) (e ∷ es) fs gs a b = (a.0, a.1, a.2, like_append P ds
 like_append P [] (e ∷ es) fs gs a b = absurd a
 like_append P (d ∷ ds) [] fs gs a b = absurd a
 
-like_flat : {X : Type 0} (P : ℕ → ℕ → Type 0) (f k : X → List Demand) → ((x : X) → AreLike P (f x) (k x)) → (xs : List X) → AreLike P (flat_map f xs) (flat_map k xs)
+pub like_flat : {X : Type 0} (P : ℕ → ℕ → Type 0) (f k : X → List Demand) → ((x : X) → AreLike P (f x) (k x)) → (xs : List X) → AreLike P (flat_map f xs) (flat_map k xs)
 like_flat P f k h [] = tt
 like_flat P f k h (x ∷ xs) = like_append P (f x) (k x) (flat_map f xs) (flat_map k xs) (h x) (like_flat P f k h xs)
 
@@ -56,9 +57,18 @@ input_alike : (P : ℕ → ℕ → Type 0) (g h : Ground) (kind : Kind) → AreG
 input_alike P g h kind k block e =
     (ap event (k.own e), refl, k.same 1, like_flat P (of_crossing g e) (of_crossing h e) (λ t. crossing_alike P g h kind k e t.target (is_open t.event (Some e))) block.transitions)
 
+sent_alike : (g h : Ground) → ((c : ℕ) → g.datagram c ≡ h.datagram c) → (service : Service) (e : Name) → sent g service e ≡ sent h service e
+sent_alike g h same (system.Publish c types) e = ap (λ (ns : List Node). if bytes_eq e init then [] else ns) (same c.number)
+sent_alike g h same (system.Input number types) e = refl
+sent_alike g h same (system.Output number types) e = refl
+sent_alike g h same (system.Subscribe c types) e = refl
+sent_alike g h same system.Delay e = refl
+sent_alike g h same system.Cycle e = refl
+sent_alike g h same system.Restart e = refl
+
 dispatch_alike : (P : ℕ → ℕ → Type 0) (g h : Ground) (kind : Kind) → AreGroundsAlike P g h kind → (service : Service) (e : Name) → reached g.targets (can_emit service e) ≡ reached h.targets (can_emit service e) → AreLike P (of_dispatch g service e) (of_dispatch h service e)
 dispatch_alike P g h kind k service e out =
-    (ap event (k.own e), refl, k.same 1, (ap event (k.own e), ap (map event) out, subst (λ (u : ℕ). P g.unit u) k.unit (k.same g.unit), tt))
+    (ap event (k.own e), refl, k.same 1, (ap event (k.own e), ap (λ ns. ns ++ map event (reached g.targets (can_emit service e))) (sent_alike g h k.datagram service e) ∙ ap (λ ps. sent h service e ++ map event ps) out, subst (λ (u : ℕ). P g.unit u) k.unit (k.same g.unit), tt))
 
 pub kind_alike : (P : ℕ → ℕ → Type 0) (g h : Ground) (kind : Kind) → AreGroundsAlike P g h kind → AreLike P (of_kind g kind) (of_kind h kind)
 kind_alike P g h (Charted block) k =

@@ -63,11 +63,11 @@ service_leads : (g h : Ground) (service : Service) (es : List Name) → g.target
 service_leads g h service [] e = tt
 service_leads g h service (x ∷ xs) e = (ap (λ t. reached t (can_emit service x)) e, service_leads g h service xs e)
 
-kind_leads : (g h : Ground) (kind : Kind) → g.targets ≡ h.targets → KindLeadsAlike g h kind
+pub kind_leads : (g h : Ground) (kind : Kind) → g.targets ≡ h.targets → KindLeadsAlike g h kind
 kind_leads g h (Charted block) e = chart_leads g h block.states e
 kind_leads g h (Serviced service) e = service_leads g h service (service_events service) e
 
-nothing_worked : (leaf : Leaf) (actions : List Action) → work (bare leaf) actions ≡ 0
+pub nothing_worked : (leaf : Leaf) (actions : List Action) → work (bare leaf) actions ≡ 0
 nothing_worked leaf [] = refl
 nothing_worked leaf (a ∷ as') = omega (arith, sum_by-cons (λ (b : Action). (bare leaf).price b.algorithm) a as', nothing_worked leaf as')
 
@@ -75,6 +75,7 @@ bare_alike : (ranges : List Range) (leaf : Leaf) → AreGroundsAlike (λ m n. n 
 bare_alike ranges leaf = record {
   unit = refl;
   own = λ n. refl;
+  datagram = λ c. refl;
   leads = kind_leads (ground_of 1 ranges leaf) (bare leaf) leaf.kind refl;
   same = λ n. omega arith;
   works = λ actions. omega (arith, nothing_worked leaf actions);
@@ -87,7 +88,7 @@ leaves_alike ranges (leaf ∷ rest) =
     like_append (λ m n. n ≤ m) (of_kind (ground_of 1 ranges leaf) leaf.kind) (of_kind (bare leaf) leaf.kind) (demands 1 ranges rest) (bare_demands rest)
     (kind_alike (λ m n. n ≤ m) (ground_of 1 ranges leaf) (bare leaf) leaf.kind (bare_alike ranges leaf)) (leaves_alike ranges rest)
 
-flat_append : {X Y : Type 0} (f : X → List Y) (xs ys : List X) → flat_map f (xs ++ ys) ≡ flat_map f xs ++ flat_map f ys
+pub flat_append : {X Y : Type 0} (f : X → List Y) (xs ys : List X) → flat_map f (xs ++ ys) ≡ flat_map f xs ++ flat_map f ys
 flat_append f [] ys = refl
 flat_append f (x ∷ xs) ys = ap (λ zs. f x ++ zs) (flat_append f xs ys) ∙ sym (append_assoc (f x) (flat_map f xs) (flat_map f ys))
 

@@ -28,6 +28,7 @@ KindLeadsAlike g h (Serviced service) = AllByRecursion (λ (e : Name). reached g
 pub record AreGroundsAlike (P : ℕ → ℕ → Type 0) (g h : Ground) (kind : Kind) : Type 0 where
   pub unit : g.unit ≡ h.unit
   pub own : (n : Name) → g.own n ≡ h.own n
+  pub datagram : (c : ℕ) → g.datagram c ≡ h.datagram c
   pub leads : KindLeadsAlike g h kind
   pub same : (n : ℕ) → P n n
   pub works : (actions : List Action) → P (work g actions) (work h actions)

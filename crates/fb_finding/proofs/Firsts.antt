@@ -1,13 +1,14 @@
 -- Where a walk begins in an order of nodes.
-use Rattle.std.proofs.Common.{ℕ, zero, suc, ◌≡◌, ◌<◌, List, [], ◌∷◌, ◌++◌, length, map, slice_index, refl, sym, ◌∙◌, ap, ap₂, arith, Contains}
+use Rattle.std.proofs.Common.{ℕ, zero, suc, ◌≡◌, ◌<◌, List, [], ◌∷◌, ◌++◌, length, map, slice_index, Option, None, Some, refl, sym, ◌∙◌, ap, ap₂, subst, arith, Contains, append_assoc, append-nil}
 use Rattle.std.proofs.lemmas.List.{length-map, get_or-map}
 use Rattle.fb_model.specs.Names.{Name, Place, at_place}
 use Rattle.fb_model.specs.CertificateText.{place_of}
 use Rattle.fb_model.specs.Wires.{Leaf}
-use Rattle.fb_demands.specs.Demands.{Node, state, event, node_in}
+use Rattle.fb_model.specs.Certificates.{state_places, event_places, channels_of, with_repeats}
+use Rattle.fb_demands.specs.Demands.{Node, state, event, channel, node_in}
 use Rattle.fb_least.specs.Searches.{IsFromLeast}
 use Rattle.fb_numbered.specs.Numbered.{AreNumbers}
-use Rattle.fb_finding.specs.Nodes.{nodes_of, nodes_in_order, AreInOrder, BeginsFirst}
+use Rattle.fb_finding.specs.Nodes.{nodes_of, nodes_in_order, AreInOrder, AreRowsOf, BeginsFirst}
 
 -- ---- before and after a place
 
@@ -59,5 +60,33 @@ both_maps : (f : Place → Node) (ts : List Name) → map (λ t. f (place_of t))
 both_maps f [] = refl
 both_maps f (t ∷ ts) = ap (λ xs. f (place_of t) ∷ xs) (both_maps f ts)
 
-pub nodes_are : (all : List Leaf) (states events : List Name) → AreInOrder all states events → nodes_of states events ≡ nodes_in_order all
-nodes_are all states events are = ap₂ (λ xs ys. xs ++ ys) (both_maps state states ∙ ap (map state) are.states_are) (both_maps event events ∙ ap (map event) are.events_are)
+-- a walk that begins first begins first where more stand behind
+begins_more : (xs ys walk : List Node) → BeginsFirst xs walk → BeginsFirst (xs ++ ys) walk
+begins_more xs ys walk b = record {
+  before = b.before;
+  after = b.after ++ ys;
+  order_is = ap (λ zs. zs ++ ys) b.order_is ∙ append_assoc b.before (node_in walk 0 ∷ b.after) ys;
+  none_before = b.none_before;
+}
+
+-- the nodes of rows stand in the order of all, and behind them at most what has no rows
+pub nodes_are : (repeats : Option ℕ) (all : List Leaf) (states events : List Name) (channels : List ℕ) → AreRowsOf repeats all states events channels → AreInOrder all states events → (rest : List Node) × (nodes_in_order all ≡ nodes_of states events channels ++ rest)
+nodes_are repeats all states events channels rows are =
+    let front : map state (state_places all) ≡ map (λ t. state (place_of t)) states = sym (both_maps state states ∙ ap (map state) are.states_are) in
+    let middle : map event (event_places all) ≡ map (λ t. event (place_of t)) events = sym (both_maps event events ∙ ap (map event) are.events_are) in
+    let r = rest repeats channels rows.channels_are in (
+      r.0,
+      ap₂ (λ xs ys. xs ++ (ys ++ map channel (channels_of all))) front middle
+          ∙ (ap (λ zs. map (λ t. state (place_of t)) states ++ (map (λ t. event (place_of t)) events ++ zs)) r.1
+          ∙ (ap (λ zs. map (λ t. state (place_of t)) states ++ zs) (sym (append_assoc (map (λ t. event (place_of t)) events) (map channel channels) r.0)) ∙ sym (append_assoc (map (λ t. state (place_of t)) states) (map (λ t. event (place_of t)) events ++ map channel channels) r.0))),
+    )
+  where
+    rest : (o : Option ℕ) (cs : List ℕ) → cs ≡ with_repeats o (channels_of all) → (ns : List Node) × (map channel (channels_of all) ≡ map channel cs ++ ns)
+    rest None cs e = (map channel (channels_of all), ap (λ ks. map channel ks ++ map channel (channels_of all)) (sym e))
+    rest (Some r) cs e = ([], ap (map channel) (sym e) ∙ sym (append-nil (map channel cs)))
+
+-- a walk that begins first among the nodes of rows begins first among all
+pub begins_in_order : (repeats : Option ℕ) (all : List Leaf) (states events : List Name) (channels : List ℕ) (walk : List Node) → AreRowsOf repeats all states events channels → AreInOrder all states events → BeginsFirst (nodes_of states events channels) walk → BeginsFirst (nodes_in_order all) walk
+begins_in_order repeats all states events channels walk rows are b =
+    let r = nodes_are repeats all states events channels rows are in
+    subst (λ (order : List Node). BeginsFirst order walk) (sym r.1) (begins_more (nodes_of states events channels) r.0 walk b)

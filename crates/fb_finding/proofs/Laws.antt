@@ -1,7 +1,7 @@
 -- The laws put together.
 use Rattle.std.specs.Prelude.{◌&&◌}
 use Rattle.std.specs.Str.{bytes_eq}
-use Rattle.std.proofs.Common.{ℕ, ◌≡◌, ◌<◌, ◌≤◌, List, length, map, refl, ap, ◌∙◌, Contains}
+use Rattle.std.proofs.Common.{ℕ, ◌≡◌, ◌<◌, ◌≤◌, List, Option, Some, length, map, refl, ap, ◌∙◌, Contains}
 use Rattle.std.specs.List.{AllByRecursion}
 use Rattle.fb_model.specs.Declarations.{BlockTree, SourceTree}
 use Rattle.fb_model.specs.NetworkTyping.{ElaboratesWith}
@@ -15,22 +15,33 @@ use Rattle.fb_model.specs.Ranges.{Range}
 use Rattle.fb_model.specs.Certificates.{all_leaves, Certificate}
 use Rattle.fb_leaves.proofs.Wired.{all_wired}
 use Rattle.fb_leaves.proofs.Closed.{all_charts_closed}
-use Rattle.fb_demands.specs.Demands.{bare, bare_demands, Demand, IsMet, Node}
-use Rattle.fb_demands.specs.Columns.{ground_of, demands}
+use Rattle.fb_demands.specs.Demands.{bare, bare_demands, bare_network, Demand, IsMet, Node}
+use Rattle.fb_demands.specs.Columns.{ground_of, demands, network_demands}
 use Rattle.fb_least.specs.Systems.{IsLeast, System}
 use Rattle.fb_numbered.specs.Numbered.{AreLeast, AreNumbers, AreOf}
 use Rattle.fb_numbered.proofs.Numbering.{least_nodes}
 use Rattle.fb_finding.specs.Nodes.{by_number, capped_demand, nodes_of, AreGrouped, AreRowsOf}
-use Rattle.fb_finding.proofs.Members.{all_of}
+use Rattle.fb_finding.proofs.Members.{all_of, network_of}
 use Rattle.fb_finding.proofs.Same.{says_same, capped_of, least_whole, above_all}
 
-pub of_nodes : (library : List BlockTree) (source : SourceTree) (system : book.System) (states events : List Name) → ElaboratesWith library source system → AreRowsOf (all_leaves system.devices) states events
-    → AreOf (nodes_of states events) (bare_demands (all_leaves system.devices)) × ((unit : ℕ) (ranges : List Range) → AreOf (nodes_of states events) (demands unit ranges (all_leaves system.devices)))
-of_nodes library source system states events e r =
+pub of_nodes : (library : List BlockTree) (source : SourceTree) (system : book.System) (repeats : Option ℕ) (states events : List Name) (channels : List ℕ) → ElaboratesWith library source system → AreRowsOf repeats (all_leaves system.devices) states events channels
+    → AreOf (nodes_of states events channels) (bare_demands (all_leaves system.devices)) × ((unit : ℕ) (ranges : List Range) → AreOf (nodes_of states events channels) (demands unit ranges (all_leaves system.devices)))
+of_nodes library source system repeats states events channels e r =
+    let all = all_leaves system.devices in
     let w = all_wired library source system e in
     let c = all_charts_closed library source system e in (
-      all_of (all_leaves system.devices) states events r bare (λ leaf. (λ s. refl, λ o. refl)) system.devices refl w c,
-      λ unit ranges. all_of (all_leaves system.devices) states events r (ground_of unit ranges) (λ leaf. (λ s. refl, λ o. refl)) system.devices refl w c,
+      all_of repeats all states events channels r bare (λ leaf. (λ s. refl, λ o. refl)) (λ leaf k. refl) system.devices refl w c,
+      λ unit ranges. all_of repeats all states events channels r (ground_of unit ranges) (λ leaf. (λ s. refl, λ o. refl)) (λ leaf k. refl) system.devices refl w c,
+    )
+
+pub network_nodes : (library : List BlockTree) (source : SourceTree) (system : book.System) (repeats : ℕ) (states events : List Name) (channels : List ℕ) → ElaboratesWith library source system → AreRowsOf (Some repeats) (all_leaves system.devices) states events channels
+    → AreOf (nodes_of states events channels) (bare_network (all_leaves system.devices)) × ((ranges : List Range) → AreOf (nodes_of states events channels) (network_demands repeats ranges (all_leaves system.devices)))
+network_nodes library source system repeats states events channels e r =
+    let all = all_leaves system.devices in
+    let w = all_wired library source system e in
+    let c = all_charts_closed library source system e in (
+      network_of (Some repeats) all states events channels r bare (λ leaf. (λ s. refl, λ o. refl)) 1 repeats refl system.devices refl w c,
+      λ ranges. network_of (Some repeats) all states events channels r (ground_of 1 ranges) (λ leaf. (λ s. refl, λ o. refl)) repeats repeats refl system.devices refl w c,
     )
 
 pub capped_least : (nodes : List Node) (ds : List Demand) (number : Node → ℕ) (system : System) (y : ℕ → ℕ) → AreNumbers nodes number → AreOf nodes ds → AreGrouped (length nodes) (map (by_number number) ds) system → IsLeast system y
@@ -48,5 +59,5 @@ great_needed nodes ds number system y v limit n o g l c a x m = above_all nodes 
 pub place_turned : (p q : Place) → place_eq q p ≡ place_eq p q
 place_turned p q = ap (λ b. b && bytes_eq q.event p.event) (path_turned q.path p.path) ∙ ap (λ b. path_eq p.path q.path && b) (eq_turned q.event p.event)
 
-pub made_is : (system : book.System) (states events : List Name) (cert : Certificate) → AreRowsOf (all_leaves system.devices) states events → IsMade system (nodes_of states events) cert → IsFound system cert
-made_is system states events cert are made = made_found system states events cert place_turned are made
+pub made_is : (repeats : Option ℕ) (system : book.System) (states events : List Name) (channels : List ℕ) (cert : Certificate) → AreRowsOf repeats (all_leaves system.devices) states events channels → IsMade repeats system states events channels cert → IsFound repeats system cert
+made_is repeats system states events channels cert are made = made_found repeats system states events channels cert place_turned are made

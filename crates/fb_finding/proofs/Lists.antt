@@ -1,6 +1,6 @@
 -- Lists of names that are apart, and their places.
 use Rattle.std.specs.Prelude.{◌||◌}
-use Rattle.std.proofs.Common.{ℕ, zero, suc, ◌≡◌, ◌<◌, Bool, true, false, List, [], ◌∷◌, ◌++◌, length, map, slice_index_or, refl, ◌∙◌, arith}
+use Rattle.std.proofs.Common.{ℕ, zero, suc, ◌≡◌, ◌<◌, ◌==◌, Bool, true, false, List, [], ◌∷◌, ◌++◌, length, map, slice_index_or, refl, ◌∙◌, arith}
 use Rattle.std.specs.List.{flat_map, IsDistinct, AllByRecursion}
 use Rattle.std.specs.Str.{bytes_eq}
 use Rattle.std.proofs.lemmas.List.Sums.{position_or_len_is}
@@ -9,7 +9,8 @@ use Rattle.fb_model.specs.System.{State}
 use Rattle.fb_model.specs.Certificates.{names}
 use Rattle.fb_model.proofs.Names.{eq_turned}
 use Rattle.fb_model.proofs.Placed.{name_same}
-use Rattle.fb_finding.specs.Nodes.{index_in}
+use Rattle.fb_model.proofs.Networks.{AreRising, number_same}
+use Rattle.fb_finding.specs.Nodes.{index_in, rank_in}
 
 pub default_free : {X : Type 0} (xs : List X) (k : ℕ) (d e : X) → k < length xs → slice_index_or xs k d ≡ slice_index_or xs k e
 default_free [] k d e h = absurd (omega (arith, h))
@@ -35,6 +36,23 @@ first_at xs k d h =
     position_or_len_is (bytes_eq (slice_index_or xs k [])) xs k [] (omega (arith, h))
     (λ j l. eq_turned (slice_index_or xs k []) (slice_index_or xs j []) ∙ differ xs j k d l h)
     (λ l. name_same (slice_index_or xs k []))
+
+-- numbers that go upwards differ
+rise : (xs : List ℕ) (j k : ℕ) → AreRising xs → j < k → k < length xs → slice_index_or xs j 0 < slice_index_or xs k 0
+rise [] j k d h l = absurd (omega (arith, l))
+rise (x ∷ xs) j zero d h l = absurd (omega (arith, h))
+rise (x ∷ xs) zero (suc k) d h l = all_at (λ y. x < y) xs k 0 (omega (arith, l)) d.0
+rise (x ∷ xs) (suc j) (suc k) d h l = rise xs j k d.1 (omega (arith, h)) (omega (arith, l))
+
+number_above : (m n : ℕ) → m < n → (n == m) ≡ false
+number_above m n h = grind arith
+
+-- each stands at its own place first
+pub first_rank : (xs : List ℕ) (k : ℕ) → AreRising xs → k < length xs → rank_in xs (slice_index_or xs k 0) ≡ k
+first_rank xs k d h =
+    position_or_len_is (λ m. slice_index_or xs k 0 == m) xs k 0 (omega (arith, h))
+    (λ j l. number_above (slice_index_or xs j 0) (slice_index_or xs k 0) (rise xs j k d l h))
+    (λ l. number_same (slice_index_or xs k 0))
 
 -- ---- all of many
 

@@ -1,23 +1,25 @@
 -- All demands are of nodes of the system, and ask for such.
 use Rattle.std.specs.Prelude.{◌&&◌, ◌||◌}
-use Rattle.std.proofs.Common.{◌≡◌, Bool, true, false, List, [], ◌∷◌, ◌++◌, map, Option, Some, None, refl, sym, ◌∙◌, ap, subst, arith, Contains, if◌then◌else◌}
+use Rattle.std.proofs.Common.{ℕ, zero, suc, ◌≡◌, ◌==◌, Bool, true, false, List, [], ◌∷◌, ◌++◌, map, replicate, Option, Some, None, refl, sym, ◌∙◌, ap, subst, arith, Contains, if◌then◌else◌}
 use Rattle.std.specs.List.{list_any, flat_map, AllByRecursion}
 use Rattle.std.specs.Str.{bytes_eq}
 use Rattle.std.proofs.lemmas.List.Elements.{All-contains, All-from_recursion, Contains-append_left, Contains-append_right}
 use Rattle.fb_model.specs.Names.{Name, Path, Place, at_place, path_eq, place_eq, is_in}
-use Rattle.fb_model.specs.System.{Action, State, Transition, Block, Device}
-use Rattle.fb_model.specs.Services.{service_events, can_emit}
+use Rattle.fb_model.specs.System.{Action, State, Transition, Block, Service, Device}
+use Rattle.fb_model.specs.Services.{service_events, can_emit, arrive, init}
 use Rattle.fb_model.specs.Wires.{Kind, Charted, Serviced, Leaf, leaf_at, leaves}
 use Rattle.fb_model.specs.Charts.{actions_of, is_open, emission}
-use Rattle.fb_model.specs.Certificates.{reached, event_names, names, state_names, events_of, has_event, is_input, each_leaf, places_in, all_leaves, IsWired}
+use Rattle.fb_model.specs.Certificates.{reached, event_names, names, state_names, events_of, has_event, is_input, each_leaf, places_in, state_places, event_places, admissions, channel_in, with_number, channels_of, with_repeats, all_leaves, IsWired}
 use Rattle.fb_model.specs.CertificateText.{place_of}
 use Rattle.fb_model.proofs.Lists.{all_append, all_weaker, all_both, same_name, same_path}
+use Rattle.std.proofs.lemmas.Bool.{eqb-true}
+use Rattle.fb_model.proofs.Networks.{is_one, among_with, number_same}
 use Rattle.fb_model.proofs.Placed.{path_same, all_left, all_right}
 use Rattle.fb_leaves.specs.Leaves.{IsClosedBlock, IsClosed}
-use Rattle.fb_demands.specs.Demands.{Node, state, event, Demand, Ground, emitted, of_state, free_demand, of_free, crossing_demand, of_crossing, of_input, of_chart, of_dispatch, of_kind}
+use Rattle.fb_demands.specs.Demands.{Node, state, event, channel, Demand, Ground, emitted, of_state, free_demand, of_free, crossing_demand, of_crossing, of_input, of_chart, sent, of_dispatch, of_kind, linked, heard, of_channel, channel_demands}
 use Rattle.fb_numbered.specs.Numbered.{AreOf}
 use Rattle.fb_finding.specs.Nodes.{nodes_of, AreRowsOf}
-use Rattle.fb_finding.proofs.Lists.{each_flat, each_map, all_self, on_names, or_more, or_here}
+use Rattle.fb_finding.proofs.Lists.{each_flat, each_map, all_self, on_names, or_more, or_here, units}
 
 -- ---- the demands of a leaf
 
@@ -68,11 +70,24 @@ module _ (P : Node → Type 0) (g : Ground) where
       (λ e h. ((a.event_is e h, tt), each_flat (OnNodes P) (λ (t : Transition). P (state (g.own t.target))) (of_crossing g e) block.transitions (λ t k. crossing_on e t.target (a.event_is e h) k (is_open t.event (Some e))) targets)) (all_self (event_names block.event_inputs)) in
       all_append (OnNodes P) xs (ys ++ zs) first (all_append (OnNodes P) ys zs second third)
 
-  pub kind_on : (kind : Kind) → IsClosed kind → AreNodes P g (state_names kind) (events_of kind) → AllByRecursion (OnNodes P) (of_kind g kind)
-  kind_on (Charted block) c a = chart_on block c a
-  kind_on (Serviced service) c a =
+  -- what a datagram asks for that a service can send
+  sent_on : (service : Service) → ((c : ℕ) → channel_in (Serviced service) ≡ Some c → AllByRecursion P (g.datagram c)) → (e : Name) → AllByRecursion P (sent g service e)
+  sent_on (Service.Publish k types) h e = by (bytes_eq e init) where
+    by : (b : Bool) → AllByRecursion P (if b then [] else g.datagram k.number)
+    by true = tt
+    by false = h k.number refl
+  sent_on (Service.Input number types) h e = tt
+  sent_on (Service.Output number types) h e = tt
+  sent_on (Service.Subscribe k types) h e = tt
+  sent_on Service.Delay h e = tt
+  sent_on Service.Cycle h e = tt
+  sent_on Service.Restart h e = tt
+
+  pub kind_on : (kind : Kind) → IsClosed kind → AreNodes P g (state_names kind) (events_of kind) → ((c : ℕ) → channel_in kind ≡ Some c → AllByRecursion P (g.datagram c)) → AllByRecursion (OnNodes P) (of_kind g kind)
+  kind_on (Charted block) c a h = chart_on block c a
+  kind_on (Serviced service) c a h =
       each_flat (OnNodes P) (λ e. is_in e (service_events service) ≡ true) (of_dispatch g service) (service_events service)
-      (λ e h. ((a.event_is e h, tt), ((a.event_is e h, reached_on a.lead (can_emit service e)), tt))) (all_self (service_events service))
+      (λ e i. ((a.event_is e i, tt), ((a.event_is e i, all_append P (sent g service e) (map event (reached g.targets (can_emit service e))) (sent_on service h e) (reached_on a.lead (can_emit service e))), tt))) (all_self (service_events service))
 
 -- ---- rows of leaves
 
@@ -114,31 +129,73 @@ in_rows f (t ∷ ts) p h = by (place_eq p (place_of t)) refl h (in_rows f ts p) 
   by true e h k = (0, omega arith, ap f (sym (same_place p (place_of t) e)))
   by false e h k = Contains-append_right (f (place_of t) ∷ []) (map (λ t. f (place_of t)) ts) (f p) (k h)
 
+-- a channel among channels has its node
+in_channels : (cs : List ℕ) (c : ℕ) → is_one c cs ≡ true → Contains (map channel cs) (channel c)
+in_channels [] c h = absurd cc
+in_channels (k ∷ ks) c h = by (c == k) refl h (in_channels ks c) where
+  by : (b : Bool) → (c == k) ≡ b → (b || is_one c ks) ≡ true → (is_one c ks ≡ true → Contains (map channel ks) (channel c)) → Contains (map channel (k ∷ ks)) (channel c)
+  by true e h f = (0, omega arith, ap channel (sym (eqb-true c k e)))
+  by false e h f = Contains-append_right (channel k ∷ []) (map channel ks) (channel c) (f h)
+
+-- numbers are among themselves
+all_ones : (cs : List ℕ) → AllByRecursion (λ c. is_one c cs ≡ true) cs
+all_ones [] = tt
+all_ones (k ∷ ks) = (or_here (k == k) (is_one k ks) (number_same k), all_weaker (λ c. is_one c ks ≡ true) (λ c. is_one c (k ∷ ks) ≡ true) ks (λ c h. or_more (c == k) (is_one c ks) h) (all_ones ks))
+
+-- the channel of each leaf is among those of all
+all_named : (all : List Leaf) → AllByRecursion (λ (leaf : Leaf). (c : ℕ) → channel_in leaf.kind ≡ Some c → is_one c (channels_of all) ≡ true) all
+all_named [] = tt
+all_named (leaf ∷ rest) = (
+  λ c h. here c h,
+  all_weaker (λ (x : Leaf). (c : ℕ) → channel_in x.kind ≡ Some c → is_one c (channels_of rest) ≡ true) (λ (x : Leaf). (c : ℕ) → channel_in x.kind ≡ Some c → is_one c (channels_of (leaf ∷ rest)) ≡ true) rest
+      (λ x k c h. more (channel_in leaf.kind) c (k c h)) (all_named rest),
+)
+  where
+    more : (o : Option ℕ) (c : ℕ) → is_one c (channels_of rest) ≡ true → is_one c (elim o [ None ↦ channels_of rest | Some n ↦ with_number n (channels_of rest) ]) ≡ true
+    more None c h = h
+    more (Some n) c h = among_with c n (channels_of rest) ∙ or_more (c == n) (is_one c (channels_of rest)) h
+
+    here : (c : ℕ) → channel_in leaf.kind ≡ Some c → is_one c (channels_of (leaf ∷ rest)) ≡ true
+    here c h = subst (λ (o : Option ℕ). is_one c (elim o [ None ↦ channels_of rest | Some n ↦ with_number n (channels_of rest) ]) ≡ true) (sym h) (among_with c c (channels_of rest) ∙ or_here (c == c) (is_one c (channels_of rest)) (number_same c))
+
 -- ---- the nodes of a system
 
-module _ (all : List Leaf) (states events : List Name) (are : AreRowsOf all states events) where
+module _ (repeats : Option ℕ) (all : List Leaf) (states events : List Name) (channels : List ℕ) (are : AreRowsOf repeats all states events channels) where
   abbrev IsNode : Node → Type 0
-  IsNode x = Contains (nodes_of states events) x
+  IsNode x = Contains (nodes_of states events channels) x
+
+  abbrev front : List Node
+  front = map (λ t. state (place_of t)) states
+
+  abbrev middle : List Node
+  middle = map (λ t. event (place_of t)) events
+
+  pub state_node : (p : Place) → list_any (place_eq p) (state_places all) ≡ true → IsNode (state p)
+  state_node p h = Contains-append_left front (middle ++ map channel channels) (state p) (in_rows state states p (are.states_are p ∙ h))
+
+  pub event_node : (p : Place) → list_any (place_eq p) (event_places all) ≡ true → IsNode (event p)
+  event_node p h = Contains-append_right front (middle ++ map channel channels) (event p) (Contains-append_left middle (map channel channels) (event p) (in_rows event events p (are.events_are p ∙ h)))
+
+  pub channel_node : (r c : ℕ) → repeats ≡ Some r → is_one c (channels_of all) ≡ true → IsNode (channel c)
+  channel_node r c e h =
+      let same : channels ≡ channels_of all = are.channels_are ∙ ap (λ o. with_repeats o (channels_of all)) e in
+      Contains-append_right front (middle ++ map channel channels) (channel c) (Contains-append_right middle (map channel channels) (channel c) (in_channels channels c (ap (is_one c) same ∙ h)))
 
   -- the states and events of a leaf are nodes
   pub record HasNodes (leaf : Leaf) : Type 0 where
-    pub state_is : (s : Name) → is_in s (state_names leaf.kind) ≡ true → Contains (nodes_of states events) (state (at_place leaf.path s))
-    pub event_is : (e : Name) → is_in e (events_of leaf.kind) ≡ true → Contains (nodes_of states events) (event (at_place leaf.path e))
+    pub state_is : (s : Name) → is_in s (state_names leaf.kind) ≡ true → Contains (nodes_of states events channels) (state (at_place leaf.path s))
+    pub event_is : (e : Name) → is_in e (events_of leaf.kind) ≡ true → Contains (nodes_of states events channels) (event (at_place leaf.path e))
 
   leaves_have : AllByRecursion HasNodes all
   leaves_have =
       let s = each_has (λ (leaf : Leaf). places_in leaf.path (state_names leaf.kind)) all in
       let e = each_has (λ (leaf : Leaf). places_in leaf.path (events_of leaf.kind)) all in
       all_both
-      (λ (leaf : Leaf). (p : Place) → list_any (place_eq p) (places_in leaf.path (state_names leaf.kind)) ≡ true → list_any (place_eq p) (each_leaf (λ (leaf : Leaf). places_in leaf.path (state_names leaf.kind)) all) ≡ true)
-      (λ (leaf : Leaf). (p : Place) → list_any (place_eq p) (places_in leaf.path (events_of leaf.kind)) ≡ true → list_any (place_eq p) (each_leaf (λ (leaf : Leaf). places_in leaf.path (events_of leaf.kind)) all) ≡ true) HasNodes all
+      (λ (leaf : Leaf). (p : Place) → list_any (place_eq p) (places_in leaf.path (state_names leaf.kind)) ≡ true → list_any (place_eq p) (state_places all) ≡ true)
+      (λ (leaf : Leaf). (p : Place) → list_any (place_eq p) (places_in leaf.path (events_of leaf.kind)) ≡ true → list_any (place_eq p) (event_places all) ≡ true) HasNodes all
       (λ leaf h k. record {
-        state_is = λ x i.
-            Contains-append_left (map (λ t. state (place_of t)) states) (map (λ t. event (place_of t)) events) (state (at_place leaf.path x))
-            (in_rows state states (at_place leaf.path x) (are.states_are (at_place leaf.path x) ∙ h (at_place leaf.path x) (own_place leaf.path (state_names leaf.kind) x i)));
-        event_is = λ x i.
-            Contains-append_right (map (λ t. state (place_of t)) states) (map (λ t. event (place_of t)) events) (event (at_place leaf.path x))
-            (in_rows event events (at_place leaf.path x) (are.events_are (at_place leaf.path x) ∙ k (at_place leaf.path x) (own_place leaf.path (events_of leaf.kind) x i)));
+        state_is = λ x i. state_node (at_place leaf.path x) (h (at_place leaf.path x) (own_place leaf.path (state_names leaf.kind) x i));
+        event_is = λ x i. event_node (at_place leaf.path x) (k (at_place leaf.path x) (own_place leaf.path (events_of leaf.kind) x i));
       }) s e
 
   -- an event input of one of these leaves is a node
@@ -154,16 +211,20 @@ module _ (all : List Leaf) (states events : List Name) (are : AreRowsOf all stat
   abbrev IsPlaced : (Leaf → Ground) → Type 0
   IsPlaced g = (leaf : Leaf) → ((s : Name) → (g leaf).own s ≡ at_place leaf.path s) × ((o : Name) → (g leaf).targets o ≡ leaf.targets o)
 
+  -- what datagrams of the channel of a leaf ask for are nodes
+  abbrev IsHeard : (Leaf → Ground) → Leaf → Type 0
+  IsHeard g leaf = (c : ℕ) → channel_in leaf.kind ≡ Some c → AllByRecursion IsNode ((g leaf).datagram c)
+
   abbrev IsGoodLeaf : Leaf → Type 0
   IsGoodLeaf leaf = IsClosed leaf.kind × HasNodes leaf × ((o : Name) → AllByRecursion (λ (p : Place). IsNode (event p)) (leaf.targets o))
 
-  leaf_on : (g : Leaf → Ground) → IsPlaced g → (leaf : Leaf) → IsGoodLeaf leaf → AllByRecursion (OnNodes IsNode) (of_kind (g leaf) leaf.kind)
-  leaf_on g placed leaf h =
+  leaf_on : (g : Leaf → Ground) → IsPlaced g → (leaf : Leaf) → IsGoodLeaf leaf × IsHeard g leaf → AllByRecursion (OnNodes IsNode) (of_kind (g leaf) leaf.kind)
+  leaf_on g placed leaf (h, k) =
       kind_on IsNode (g leaf) leaf.kind h.0 (record {
         state_is = λ s i. subst (λ (p : Place). IsNode (state p)) (sym ((placed leaf).0 s)) (h.1.state_is s i);
         event_is = λ e i. subst (λ (p : Place). IsNode (event p)) (sym ((placed leaf).0 e)) (h.1.event_is e i);
         lead = λ o. subst (AllByRecursion (λ (p : Place). IsNode (event p))) (sym ((placed leaf).1 o)) (h.2 o);
-      })
+      }) k
 
   device_good : (ls : List Leaf) → AllByRecursion (IsWired ls) ls → AllByRecursion (λ (leaf : Leaf). IsClosed leaf.kind) ls → AllByRecursion HasNodes ls → AllByRecursion IsGoodLeaf ls
   device_good ls w c h =
@@ -177,14 +238,58 @@ module _ (all : List Leaf) (states events : List Name) (are : AreRowsOf all stat
   devices_good (d ∷ ds) w c h =
       all_append IsGoodLeaf (leaves d) (all_leaves ds) (device_good (leaves d) w.0 c.0 (all_left HasNodes (leaves d) (all_leaves ds) h)) (devices_good ds w.1 c.1 (all_right HasNodes (leaves d) (all_leaves ds) h))
 
-  of_these : (ds : List Demand) → AllByRecursion (OnNodes IsNode) ds → AreOf (nodes_of states events) ds
+  of_these : (ds : List Demand) → AllByRecursion (OnNodes IsNode) ds → AreOf (nodes_of states events channels) ds
   of_these ds h = record {
     node = λ d c. (All-contains (OnNodes IsNode) ds d (All-from_recursion (OnNodes IsNode) ds h) c).0;
     terms = λ d x c k. All-contains IsNode d.terms x (All-from_recursion IsNode d.terms ((All-contains (OnNodes IsNode) ds d (All-from_recursion (OnNodes IsNode) ds h) c).1)) k;
   }
 
-  pub all_of : (g : Leaf → Ground) → IsPlaced g → (ds : List Device) → all ≡ all_leaves ds → AllByRecursion (λ (d : Device). AllByRecursion (IsWired (leaves d)) (leaves d)) ds → AllByRecursion (λ (d : Device). AllByRecursion (λ (leaf : Leaf). IsClosed leaf.kind) (leaves d)) ds
-      → AreOf (nodes_of states events) (flat_map (λ (leaf : Leaf). of_kind (g leaf) leaf.kind) all)
-  all_of g placed ds e w c =
+  abbrev AreWired : List Device → Type 0
+  AreWired ds = AllByRecursion (λ (d : Device). AllByRecursion (IsWired (leaves d)) (leaves d)) ds
+
+  abbrev AreClosed : List Device → Type 0
+  AreClosed ds = AllByRecursion (λ (d : Device). AllByRecursion (λ (leaf : Leaf). IsClosed leaf.kind) (leaves d)) ds
+
+  leaves_on : (g : Leaf → Ground) → IsPlaced g → AllByRecursion (IsHeard g) all → (ds : List Device) → all ≡ all_leaves ds → AreWired ds → AreClosed ds → AllByRecursion (OnNodes IsNode) (flat_map (λ (leaf : Leaf). of_kind (g leaf) leaf.kind) all)
+  leaves_on g placed heard ds e w c =
+      let good = subst (AllByRecursion IsGoodLeaf) (sym e) (devices_good ds w c (subst (AllByRecursion HasNodes) e leaves_have)) in
+      each_flat (OnNodes IsNode) (λ (leaf : Leaf). IsGoodLeaf leaf × IsHeard g leaf) (λ (leaf : Leaf). of_kind (g leaf) leaf.kind) all (leaf_on g placed)
+      (all_both IsGoodLeaf (IsHeard g) (λ (leaf : Leaf). IsGoodLeaf leaf × IsHeard g leaf) all (λ leaf x y. (x, y)) good heard)
+
+  -- of a column without datagrams
+  pub all_of : (g : Leaf → Ground) → IsPlaced g → ((leaf : Leaf) (c : ℕ) → (g leaf).datagram c ≡ []) → (ds : List Device) → all ≡ all_leaves ds → AreWired ds → AreClosed ds
+      → AreOf (nodes_of states events channels) (flat_map (λ (leaf : Leaf). of_kind (g leaf) leaf.kind) all)
+  all_of g placed none ds e w c =
       of_these (flat_map (λ (leaf : Leaf). of_kind (g leaf) leaf.kind) all)
-      (each_flat (OnNodes IsNode) IsGoodLeaf (λ (leaf : Leaf). of_kind (g leaf) leaf.kind) all (leaf_on g placed) (subst (AllByRecursion IsGoodLeaf) (sym e) (devices_good ds w c (subst (AllByRecursion HasNodes) e leaves_have))))
+      (leaves_on g placed (all_weaker (λ (leaf : Leaf). Unit {0}) (IsHeard g) all (λ leaf u k n. subst (AllByRecursion IsNode) (sym (none leaf k)) tt) (units all)) ds e w c)
+
+  -- ---- of the network
+
+  arrivals_on : (r c : ℕ) (leaf : Leaf) → HasNodes leaf → AllByRecursion IsNode (heard r c leaf)
+  arrivals_on r c leaf h = by leaf.kind h.event_is where
+    many : (n : ℕ) → IsNode (event (at_place leaf.path arrive)) → AllByRecursion IsNode (replicate n (event (at_place leaf.path arrive)))
+    many zero i = tt
+    many (suc n) i = (i, many n i)
+
+    by : (kind : Kind) → ((e : Name) → is_in e (events_of kind) ≡ true → IsNode (event (at_place leaf.path e))) → AllByRecursion IsNode (replicate (admissions r c kind) (event (at_place leaf.path arrive)))
+    by (Charted block) f = tt
+    by (Serviced (Service.Input number types)) f = tt
+    by (Serviced (Service.Output number types)) f = tt
+    by (Serviced (Service.Publish k types)) f = tt
+    by (Serviced (Service.Subscribe k types)) f = many (admissions r c (Serviced (Service.Subscribe k types))) (f arrive refl)
+    by (Serviced Service.Delay) f = tt
+    by (Serviced Service.Cycle) f = tt
+    by (Serviced Service.Restart) f = tt
+
+  channels_on : (r q : ℕ) → repeats ≡ Some q → (cs : List ℕ) → AllByRecursion (λ c. is_one c (channels_of all) ≡ true) cs → AllByRecursion (OnNodes IsNode) (map (of_channel r all) cs)
+  channels_on r q e cs h =
+      each_map (OnNodes IsNode) (λ c. is_one c (channels_of all) ≡ true) (of_channel r all) cs
+      (λ c i. (channel_node q c e i, each_flat IsNode HasNodes (heard r c) all (λ leaf k. arrivals_on r c leaf k) leaves_have)) h
+
+  pub network_of : (g : Leaf → Ground) → IsPlaced g → (r q : ℕ) → repeats ≡ Some q → (ds : List Device) → all ≡ all_leaves ds → AreWired ds → AreClosed ds
+      → AreOf (nodes_of states events channels) (flat_map (λ (leaf : Leaf). of_kind (linked (g leaf)) leaf.kind) all ++ channel_demands r all)
+  network_of g placed r q same ds e w c =
+      let named = all_weaker (λ (leaf : Leaf). (k : ℕ) → channel_in leaf.kind ≡ Some k → is_one k (channels_of all) ≡ true) (IsHeard (λ leaf. linked (g leaf))) all (λ leaf f k n. (channel_node q k same (f k n), tt)) (all_named all) in
+      of_these (flat_map (λ (leaf : Leaf). of_kind (linked (g leaf)) leaf.kind) all ++ channel_demands r all)
+      (all_append (OnNodes IsNode) (flat_map (λ (leaf : Leaf). of_kind (linked (g leaf)) leaf.kind) all) (channel_demands r all)
+      (leaves_on (λ leaf. linked (g leaf)) placed named ds e w c) (channels_on r q same (channels_of all) (all_ones (channels_of all))))

@@ -1,19 +1,21 @@
 -- The numbers that rows give nodes.
-use Rattle.std.proofs.Common.{ℕ, zero, suc, ◌≡◌, ◌+◌, ◌<◌, inl, inr, Bool, true, false, List, [], ◌∷◌, length, map, slice_index_or, refl, sym, ◌∙◌, ap, subst, arith, Contains, if◌then◌else◌}
+use Rattle.std.proofs.Common.{ℕ, zero, suc, ◌≡◌, ◌+◌, ◌<◌, ◌≤◌, ◌==◌, inl, inr, Bool, true, false, List, [], ◌∷◌, ◌++◌, length, map, slice_index_or, refl, sym, ◌∙◌, ap, subst, arith, Contains, if◌then◌else◌}
 use Rattle.std.specs.List.{sum_by, AllByRecursion}
 use Rattle.std.specs.Str.{bytes_eq}
-use Rattle.std.proofs.lemmas.List.{length-map, get_or_append_left, get_or-append-add}
+use Rattle.std.proofs.lemmas.List.{length-map, length-append, get_or_append_left, get_or-append-add}
 use Rattle.std.proofs.lemmas.List.Sums.{sum_by-cons}
 use Rattle.std.proofs.lemmas.List.Elements.{Contains-append_cases, Contains-append_right}
 use Rattle.fb_model.specs.Names.{Name, Place, place_eq}
-use Rattle.fb_model.specs.Certificates.{Row, amount, row_places, Certificate}
+use Rattle.fb_model.specs.Certificates.{Row, FarRow, ChannelRow, amount, far_amount, channel_amount, far_of, row_places, far_places, channel_rows, Certificate}
 use Rattle.fb_model.specs.CertificateText.{place_of}
 use Rattle.fb_model.proofs.Lists.{same_name}
 use Rattle.fb_model.proofs.Placed.{name_same, path_same}
-use Rattle.fb_demands.specs.Demands.{Node, state, event, Demand, IsMet}
-use Rattle.fb_numbered.specs.Numbered.{AreNumbers, AreOf, AreLeast}
-use Rattle.fb_finding.specs.Nodes.{written, index_in, number, nodes_of}
-use Rattle.fb_finding.specs.Finding.{row_number, HasNumbers}
+use Rattle.fb_demands.specs.Demands.{Node, state, event, channel, Demand, IsMet}
+use Rattle.fb_demands.specs.Columns.{number_of}
+use Rattle.fb_model.proofs.Networks.{number_turned}
+use Rattle.fb_numbered.specs.Numbered.{AreOf, AreLeast}
+use Rattle.fb_finding.specs.Nodes.{written, index_in, rank_in, number, nodes_of}
+use Rattle.fb_finding.specs.Finding.{row_number, HasNumbers, HasFarNumbers}
 use Rattle.fb_finding.proofs.Members.{same_place}
 use Rattle.fb_finding.proofs.Nodes.{written_place}
 use Rattle.fb_finding.proofs.Same.{in_image}
@@ -68,24 +70,113 @@ event_number f states events cert y t h =
 
 -- ---- nodes
 
-pub numbers_are : (f : Row → ℕ) (states events : List Name) (cert : Certificate) (y : List ℕ) → HasNumbers f states events cert y → AreNumbers (nodes_of states events) (number states events) → (x : Node) → Contains (nodes_of states events) x
-    → row_number f cert x ≡ slice_index_or y (number states events x) 0
-numbers_are f states events cert y h n x c = elim (Contains-append_cases (map (λ t. state (place_of t)) states) (map (λ t. event (place_of t)) events) x c) [
-  | inl l ↦
-      let i = in_image (λ t. state (place_of t)) states x l in
-      let at = state_at i.0 i.1 in
-      subst (λ (v : Node). row_number f cert v ≡ slice_index_or y (number states events v) 0) i.2 (state_number f states events cert y i.0 h at)
-  | inr r ↦ let i = in_image (λ t. event (place_of t)) events x r in subst (λ (v : Node). row_number f cert v ≡ slice_index_or y (number states events v) 0) i.2 (event_number f states events cert y i.0 h)
-] where
-  state_at : (t : Name) → Contains states t → index_in states t < length states
-  state_at t k = found states k where
-    found : (ts : List Name) → Contains ts t → index_in ts t < length ts
-    found [] k = absurd (omega (arith, k.1))
-    found (s ∷ ts) k = by (bytes_eq t s) refl k (found ts) where
-      by : (b : Bool) → bytes_eq t s ≡ b → Contains (s ∷ ts) t → (Contains ts t → index_in ts t < length ts) → index_in (s ∷ ts) t < length (s ∷ ts)
-      by true e k g = rw e (omega arith)
-      by false e (zero, l, is) g = let z : bytes_eq t s ≡ true = subst (λ (u : Name). bytes_eq t u ≡ true) (sym is) (name_same t) in absurd cc
-      by false e (suc m, l, is) g = let i = g (m, omega (arith, l), is) in rw e (omega (arith, i))
+past_end : {X : Type 0} (xs : List X) (k : ℕ) (d : X) → length xs ≤ k → slice_index_or xs k d ≡ d
+past_end [] k d h = refl
+past_end (x ∷ xs) zero d h = absurd (omega (arith, h))
+past_end (x ∷ xs) (suc k) d h = past_end xs k d (omega (arith, h))
+
+row_at : (t : Name) (ts : List Name) → Contains ts t → index_in ts t < length ts
+row_at t [] k = absurd (omega (arith, k.1))
+row_at t (s ∷ ts) k = by (bytes_eq t s) refl k (row_at t ts) where
+  by : (b : Bool) → bytes_eq t s ≡ b → Contains (s ∷ ts) t → (Contains ts t → index_in ts t < length ts) → index_in (s ∷ ts) t < length (s ∷ ts)
+  by true e k g = rw e (omega arith)
+  by false e (zero, l, is) g = let z : bytes_eq t s ≡ true = subst (λ (u : Name). bytes_eq t u ≡ true) (sym is) (name_same t) in absurd cc
+  by false e (suc m, l, is) g = let i = g (m, omega (arith, l), is) in rw e (omega (arith, i))
+
+-- a node is one of a state, of an event or of a channel
+pub data IsOneOf (states events : List Name) (channels : List ℕ) (x : Node) : Type 0 where
+  a_state : (t : Name) → Contains states t → state (place_of t) ≡ x → IsOneOf states events channels x
+  an_event : (t : Name) → Contains events t → event (place_of t) ≡ x → IsOneOf states events channels x
+  a_channel : (c : ℕ) → Contains channels c → channel c ≡ x → IsOneOf states events channels x
+
+node_is : (states events : List Name) (channels : List ℕ) (x : Node) → Contains (nodes_of states events channels) x → IsOneOf states events channels x
+node_is states events channels x c = elim (Contains-append_cases (map (λ t. state (place_of t)) states) (map (λ t. event (place_of t)) events ++ map channel channels) x c) [
+  | inl l ↦ let i = in_image (λ t. state (place_of t)) states x l in a_state i.0 i.1 i.2
+  | inr m ↦ elim (Contains-append_cases (map (λ t. event (place_of t)) events) (map channel channels) x m) [
+    | inl l ↦ let i = in_image (λ t. event (place_of t)) events x l in an_event i.0 i.1 i.2
+    | inr r ↦ let i = in_image channel channels x r in a_channel i.0 i.1 i.2
+  ]
+]
+
+pub numbers_are : (f : Row → ℕ) (states events : List Name) (channels : List ℕ) (cert : Certificate) (y : List ℕ) → HasNumbers f states events cert y → (x : Node) → Contains (nodes_of states events channels) x → row_number f cert x ≡ slice_index_or y (number states events channels x) 0
+numbers_are f states events channels cert y h x c = by (node_is states events channels x c) where
+  sized : length y ≡ length states + length events
+  sized =
+      let a = length-map cert.charges f ∙ (sym (length_places cert.charges) ∙ (ap length h.charges_are ∙ length-map states place_of)) in
+      let b = length-map cert.weights f ∙ (sym (length_places cert.weights) ∙ (ap length h.weights_are ∙ length-map events place_of)) in
+      omega (arith, a, b, ap length h.numbers, length-append (map f cert.charges) (map f cert.weights))
+
+  by : IsOneOf states events channels x → row_number f cert x ≡ slice_index_or y (number states events channels x) 0
+  by (a_state t k e) = subst (λ (v : Node). row_number f cert v ≡ slice_index_or y (number states events channels v) 0) e (state_number f states events cert y t h (row_at t states k))
+  by (an_event t k e) = subst (λ (v : Node). row_number f cert v ≡ slice_index_or y (number states events channels v) 0) e (event_number f states events cert y t h)
+  by (a_channel n k e) = subst (λ (v : Node). row_number f cert v ≡ slice_index_or y (number states events channels v) 0) e (sym (past_end y (length states + (length events + rank_in channels n)) 0 (omega (arith, sized))))
+
+-- ---- the network
+
+-- a row FAR or FARSTATE as one of two numbers
+abbrev row_of : FarRow → Row
+row_of r = record { place = r.place; steps = r.steps; places = 0 }
+
+far_as_row : (rows : List FarRow) (p : Place) → far_amount rows p ≡ amount (λ (r : Row). r.steps) (map row_of rows) p
+far_as_row [] p = refl
+far_as_row (r ∷ rows) p = ap (λ n. if place_eq r.place p then r.steps else n) (far_as_row rows p)
+
+far_places_as : (rows : List FarRow) → row_places (map row_of rows) ≡ far_places rows
+far_places_as [] = refl
+far_places_as (r ∷ rows) = ap (λ ps. r.place ∷ ps) (far_places_as rows)
+
+far_steps_as : (rows : List FarRow) → map (λ (r : Row). r.steps) (map row_of rows) ≡ map (λ (r : FarRow). r.steps) rows
+far_steps_as [] = refl
+far_steps_as (r ∷ rows) = ap (λ ns. r.steps ∷ ns) (far_steps_as rows)
+
+far_at : (rows : List FarRow) (ts : List Name) (t : Name) → far_places rows ≡ map place_of ts → far_amount rows (place_of t) ≡ slice_index_or (map (λ (r : FarRow). r.steps) rows) (index_in ts t) 0
+far_at rows ts t e =
+    far_as_row rows (place_of t) ∙ (amount_at (λ (r : Row). r.steps) (map row_of rows) ts t (far_places_as rows ∙ e) ∙ ap (λ ns. slice_index_or ns (index_in ts t) 0) (far_steps_as rows))
+
+channel_at : (rows : List ChannelRow) (c : ℕ) → channel_amount rows c ≡ slice_index_or (map (λ (r : ChannelRow). r.steps) rows) (rank_in (channel_rows rows) c) 0
+channel_at [] c = refl
+channel_at (r ∷ rows) c = by (r.channel == c) (number_turned c r.channel) (channel_at rows c) where
+  by : (b : Bool) → (c == r.channel) ≡ b → channel_amount rows c ≡ slice_index_or (map (λ (r : ChannelRow). r.steps) rows) (rank_in (channel_rows rows) c) 0
+      → (if b then r.steps else channel_amount rows c) ≡ slice_index_or (map (λ (r : ChannelRow). r.steps) (r ∷ rows)) (rank_in (channel_rows (r ∷ rows)) c) 0
+  by true q h = rw q refl
+  by false q h = rw q (h ∙ sym (get_or-append-add (r.steps ∷ []) (map (λ (r : ChannelRow). r.steps) rows) (rank_in (channel_rows rows) c) 0))
+
+length_fars : (rows : List FarRow) → length (far_places rows) ≡ length rows
+length_fars [] = refl
+length_fars (r ∷ rows) = ap suc (length_fars rows)
+
+abbrev steps_in : List FarRow → List ℕ
+steps_in rows = map (λ (r : FarRow). r.steps) rows
+
+abbrev sent_in : List ChannelRow → List ℕ
+sent_in rows = map (λ (r : ChannelRow). r.steps) rows
+
+pub far_numbers_are : (states events : List Name) (channels : List ℕ) (cert : Certificate) (y : List ℕ) → HasFarNumbers states events channels cert y → (x : Node) → Contains (nodes_of states events channels) x → number_of (far_of cert) x ≡ slice_index_or y (number states events channels x) 0
+far_numbers_are states events channels cert y h x c = by (node_is states events channels x c) where
+  front : length (steps_in cert.far_states) ≡ length states
+  front = length-map cert.far_states (λ (r : FarRow). r.steps) ∙ (sym (length_fars cert.far_states) ∙ (ap length h.states_are ∙ length-map states place_of))
+
+  middle : length (steps_in cert.fars) ≡ length events
+  middle = length-map cert.fars (λ (r : FarRow). r.steps) ∙ (sym (length_fars cert.fars) ∙ (ap length h.events_are ∙ length-map events place_of))
+
+  -- what stands behind the states
+  behind : (k : ℕ) → slice_index_or y (length states + k) 0 ≡ slice_index_or ((steps_in cert.fars) ++ (sent_in cert.channels)) k 0
+  behind k = ap (λ (ns : List ℕ). slice_index_or ns (length states + k) 0) (sym h.numbers) ∙ (ap (λ n. slice_index_or ((steps_in cert.far_states) ++ ((steps_in cert.fars) ++ (sent_in cert.channels))) (n + k) 0) (sym front) ∙ get_or-append-add (steps_in cert.far_states) ((steps_in cert.fars) ++ (sent_in cert.channels)) k 0)
+
+  by : IsOneOf states events channels x → number_of (far_of cert) x ≡ slice_index_or y (number states events channels x) 0
+  by (a_state t k e) =
+      subst (λ (v : Node). number_of (far_of cert) v ≡ slice_index_or y (number states events channels v) 0) e
+      (far_at cert.far_states states t h.states_are
+      ∙ (sym (get_or_append_left (steps_in cert.far_states) ((steps_in cert.fars) ++ (sent_in cert.channels)) 0 (index_in states t) (omega (arith, row_at t states k, front))) ∙ (ap (λ (ns : List ℕ). slice_index_or ns (index_in states t) 0) h.numbers ∙ ap (λ (u : Name). slice_index_or y (index_in states u) 0) (sym (written_place t)))))
+  by (an_event t k e) =
+      subst (λ (v : Node). number_of (far_of cert) v ≡ slice_index_or y (number states events channels v) 0) e
+      (far_at cert.fars events t h.events_are
+      ∙ (sym (get_or_append_left (steps_in cert.fars) (sent_in cert.channels) 0 (index_in events t) (omega (arith, row_at t events k, middle))) ∙ (sym (behind (index_in events t)) ∙ ap (λ (u : Name). slice_index_or y (length states + index_in events u) 0) (sym (written_place t)))))
+  by (a_channel n k e) =
+      subst (λ (v : Node). number_of (far_of cert) v ≡ slice_index_or y (number states events channels v) 0) e
+      (channel_at cert.channels n
+      ∙ (ap (λ cs. slice_index_or (sent_in cert.channels) (rank_in cs n) 0) h.channels_are
+      ∙ (sym (get_or-append-add (steps_in cert.fars) (sent_in cert.channels) (rank_in channels n) 0) ∙ (ap (λ i. slice_index_or ((steps_in cert.fars) ++ (sent_in cert.channels)) (i + rank_in channels n) 0) middle ∙ sym (behind (length events + rank_in channels n))))))
 
 -- ---- least numbers that rows have
 
@@ -105,3 +196,7 @@ least_same x y nodes ds e o l = record {
   meets = met_same x y nodes ds e o ds (λ d c. c) l.meets;
   least = λ z m v c. omega (arith, l.least z m v c, e v c);
 }
+
+-- least numbers of nodes are least numbers of fewer nodes
+pub least_of_fewer : (nodes some : List Node) (ds : List Demand) (x : Node → ℕ) → ((v : Node) → Contains some v → Contains nodes v) → AreLeast nodes ds x → AreLeast some ds x
+least_of_fewer nodes some ds x h l = record { meets = l.meets; least = λ y m v c. l.least y m v (h v c) }

@@ -11,7 +11,7 @@ use Rattle.fb_finding.specs.Nodes.{Numbered, by_number, capped, asked_of, asked_
 -- ---- elements
 
 -- an element of pieces is one of a piece
-in_piece : {X Y : Type 0} (f : X → List Y) (xs : List X) (y : Y) → Contains (flat_map f xs) y → (x : X) × Contains xs x × Contains (f x) y
+pub in_piece : {X Y : Type 0} (f : X → List Y) (xs : List X) (y : Y) → Contains (flat_map f xs) y → (x : X) × Contains xs x × Contains (f x) y
 in_piece f [] y h = absurd (omega (arith, h.1))
 in_piece f (x ∷ xs) y h = elim (Contains-append_cases (f x) (flat_map f xs) y h) [
   | inl l ↦ (x, (0, omega arith, refl), l)
@@ -28,7 +28,7 @@ in_image f [] y h = absurd (omega (arith, h.1))
 in_image f (x ∷ xs) y (zero, l, e) = (x, (0, omega arith, refl), e)
 in_image f (x ∷ xs) y (suc n, l, e) = let k = in_image f xs y (n, omega (arith, l), e) in (k.0, Contains-append_right (x ∷ []) xs k.0 k.1, k.2)
 
-image_in : {X Y : Type 0} (f : X → Y) (xs : List X) (x : X) → Contains xs x → Contains (map f xs) (f x)
+pub image_in : {X Y : Type 0} (f : X → Y) (xs : List X) (x : X) → Contains xs x → Contains (map f xs) (f x)
 image_in f [] x h = absurd (omega (arith, h.1))
 image_in f (z ∷ xs) x (zero, l, e) = (0, omega arith, ap f e)
 image_in f (z ∷ xs) x (suc n, l, e) = Contains-append_right (f z ∷ []) (map f xs) (f x) (image_in f xs x (n, omega (arith, l), e))
@@ -38,14 +38,14 @@ image_in f (z ∷ xs) x (suc n, l, e) = Contains-append_right (f z ∷ []) (map 
 same_number : (n : ℕ) → (n == n) ≡ true
 same_number n = grind arith
 
-asked_is : (p : ℕ) (r : Numbered) (a : Inequality) → Contains (asked_of p r) a → (r.node ≡ p) × (a ≡ record { constant = r.constant; terms = r.terms })
+pub asked_is : (p : ℕ) (r : Numbered) (a : Inequality) → Contains (asked_of p r) a → (r.node ≡ p) × (a ≡ record { constant = r.constant; terms = r.terms })
 asked_is p r a h = by (r.node == p) refl h where
   by : (b : Bool) → (r.node == p) ≡ b → Contains (if b then record { constant = r.constant; terms = r.terms } ∷ [] else []) a → (r.node ≡ p) × (a ≡ record { constant = r.constant; terms = r.terms })
   by true e (zero, l, is) = (eqb-true r.node p e, sym is)
   by true e (suc n, l, is) = absurd (omega (arith, l))
   by false e c = absurd (omega (arith, c.1))
 
-asks_own : (r : Numbered) → Contains (asked_of r.node r) (record { constant = r.constant; terms = r.terms })
+pub asks_own : (r : Numbered) → Contains (asked_of r.node r) (record { constant = r.constant; terms = r.terms })
 asks_own r = by (r.node == r.node) (same_number r.node) where
   by : (b : Bool) → b ≡ true → Contains {X = Inequality} (if b then record { constant = r.constant; terms = r.terms } ∷ [] else []) (record { constant = r.constant; terms = r.terms })
   by true e = (0, omega arith, refl)

@@ -1,7 +1,7 @@
 //! Laws about certificates that are found.
 #![tactic(auto)]
 
-ghost use Rattle.std.specs.Prelude.{ℕ, ◌≤◌, ◌<◌, List, length, map};
+ghost use Rattle.std.specs.Prelude.{ℕ, ◌≤◌, ◌<◌, List, length, map, Option, Some};
 ghost use Rattle.std.specs.List.{AllByRecursion, Contains};
 ghost use Rattle.fb_model.specs.Declarations.{BlockTree, SourceTree};
 ghost use Rattle.fb_model.specs.NetworkTyping.{ElaboratesWith};
@@ -10,8 +10,8 @@ ghost use Rattle.fb_model.specs.Wires.{Leaf};
 ghost use Rattle.fb_model.specs.Names.{Name};
 ghost use Rattle.fb_model.specs.Ranges.{Range};
 ghost use Rattle.fb_model.specs.Certificates.{all_leaves, Certificate};
-ghost use Rattle.fb_demands.specs.Demands.{bare_demands, Demand, IsMet, Node};
-ghost use Rattle.fb_demands.specs.Columns.{demands};
+ghost use Rattle.fb_demands.specs.Demands.{bare_demands, bare_network, Demand, IsMet, Node};
+ghost use Rattle.fb_demands.specs.Columns.{demands, network_demands};
 ghost use Rattle.fb_least.specs.Systems.{IsLeast, System};
 ghost use Rattle.fb_numbered.specs.Numbered.{AreLeast, AreNumbers, AreOf, SaysSame};
 ghost use Rattle.fb_finding.specs.Finding.{IsFound, IsMade};
@@ -19,13 +19,19 @@ ghost use Rattle.fb_finding.specs.Nodes.{by_number, capped_demand, number, nodes
 
 /// The nodes of rows have the numbers of their places in the list.
 pub fn rows_are_numbers()
-    ensures { (all : List Leaf) (states events : List Name) → AreRowsOf all states events → AreNumbers (nodes_of states events) (number states events) }
+    ensures { (repeats : Option ℕ) (all : List Leaf) (states events : List Name) (channels : List ℕ) → AreRowsOf repeats all states events channels → AreNumbers (nodes_of states events channels) (number states events channels) }
 {}
 
 /// All demands of a system are of nodes that have rows, and ask for such.
 pub fn demands_are_of_nodes()
-    ensures { (library : List BlockTree) (source : SourceTree) (system : book.System) (states events : List Name) → ElaboratesWith library source system → AreRowsOf (all_leaves system.devices) states events
-        → AreOf (nodes_of states events) (bare_demands (all_leaves system.devices)) × ((unit : ℕ) (ranges : List Range) → AreOf (nodes_of states events) (demands unit ranges (all_leaves system.devices))) }
+    ensures { (library : List BlockTree) (source : SourceTree) (system : book.System) (repeats : Option ℕ) (states events : List Name) (channels : List ℕ) → ElaboratesWith library source system → AreRowsOf repeats (all_leaves system.devices) states events channels
+        → AreOf (nodes_of states events channels) (bare_demands (all_leaves system.devices)) × ((unit : ℕ) (ranges : List Range) → AreOf (nodes_of states events channels) (demands unit ranges (all_leaves system.devices))) }
+{}
+
+/// With a row REPEATS those of the network are so too.
+pub fn network_demands_are_of_nodes()
+    ensures { (library : List BlockTree) (source : SourceTree) (system : book.System) (repeats : ℕ) (states events : List Name) (channels : List ℕ) → ElaboratesWith library source system → AreRowsOf (Some repeats) (all_leaves system.devices) states events channels
+        → AreOf (nodes_of states events channels) (bare_network (all_leaves system.devices)) × ((ranges : List Range) → AreOf (nodes_of states events channels) (network_demands repeats ranges (all_leaves system.devices))) }
 {}
 
 /// Demands by numbers, put together place by place, say what the demands say, but for constants above all rows.
@@ -47,5 +53,5 @@ pub fn great_numbers_are_needed()
 
 /// What is made of least numbers and depths, under ranges that are found, is a certificate as the finder owes it: it fits, and is the least.
 pub fn made_certificates_are_found()
-    ensures { (system : book.System) (states events : List Name) (cert : Certificate) → AreRowsOf (all_leaves system.devices) states events → IsMade system (nodes_of states events) cert → IsFound system cert }
+    ensures { (repeats : Option ℕ) (system : book.System) (states events : List Name) (channels : List ℕ) (cert : Certificate) → AreRowsOf repeats (all_leaves system.devices) states events channels → IsMade repeats system states events channels cert → IsFound repeats system cert }
 {}

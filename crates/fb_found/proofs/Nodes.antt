@@ -1,5 +1,5 @@
 -- From places to nodes, for a column and for the order.
-use Rattle.std.proofs.Common.{ℕ, ◌≡◌, ◌+◌, ◌<◌, ◌≤◌, List, [], length, map, slice_index, Result, Ok, Err, IfOk, IfErr, sym, ◌∙◌, ap, subst, arith, Contains, string_bytes, Vec}
+use Rattle.std.proofs.Common.{ℕ, ◌≡◌, ◌+◌, ◌<◌, ◌≤◌, List, [], ◌++◌, length, map, slice_index, Option, None, Some, Result, Ok, Err, IfOk, IfErr, sym, ◌∙◌, ap, subst, arith, Contains, string_bytes, Vec}
 use Rattle.std.specs.declared.alloc.Global.{Global}
 use Rattle.fb_least.specs.declared.system.Alternative.{Alternative}
 use Rattle.fb_least.specs.Views.{inequality_of, system_of}
@@ -10,34 +10,42 @@ use Rattle.fb_model.specs.Names.{Name, at_place}
 use Rattle.fb_model.specs.System as book
 use Rattle.fb_model.specs.Certificates.{all_leaves}
 use Rattle.fb_model.specs.CertificateText.{place_of}
-use Rattle.fb_demands.specs.Demands.{Node, state, event, Demand, bare_demands, node_in}
+use Rattle.fb_demands.specs.Demands.{Node, state, event, channel, Demand, bare_demands, bare_network, node_in, IsClosedWalk}
 use Rattle.fb_least.specs.Graphs.{IsOrder}
-use Rattle.fb_least.specs.Systems.{System, IsSystem, IsLeast, needed, needs}
+use Rattle.fb_least.specs.Systems.{System, IsSystem, IsLeast, IsPaying, needed, needs}
 use Rattle.fb_least.proofs.Solving.{walk_of}
-use Rattle.fb_numbered.specs.Numbered.{AreNumbers, AreOf}
+use Rattle.fb_numbered.specs.Numbered.{AreNumbers, AreOf, SaysSame}
 use Rattle.fb_numbered.proofs.Numbering.{walk_nodes}
-use Rattle.fb_numbered.proofs.Paying.{numbered_pays}
-use Rattle.fb_finding.specs.Nodes.{Numbered, by_number, nodes_of, AreGrouped, BeginsFirst, IsFirstWalk}
-use Rattle.fb_finding.proofs.Firsts.{begins_first, nodes_are}
-use Rattle.fb_finding.proofs.Nodes.{are_numbers}
-use Rattle.fb_finding.proofs.Laws.{of_nodes, small_least, great_needed}
-use Rattle.fb_finding.proofs.Bare.{bare_same}
-use Rattle.fb_finding.proofs.Orders.{order_serves, known_terms}
+use Rattle.fb_numbered.proofs.Paying.{numbered_pays, numbered_network_pays}
+use Rattle.fb_finding.specs.Nodes.{Numbered, by_number, nodes_of, AreGrouped, IsFirstWalk}
+use Rattle.fb_finding.proofs.Firsts.{begins_first, begins_in_order}
+use Rattle.fb_finding.proofs.Nodes.{rows_numbered}
+use Rattle.fb_finding.proofs.Laws.{of_nodes, network_nodes, small_least, great_needed}
+use Rattle.fb_finding.proofs.Bare.{bare_same, network_same}
+use Rattle.fb_finding.proofs.Orders.{order_serves_less, known_terms}
 use Rattle.fb_solved.specs.declared.fault.NoBound.{NoBound}
 use Rattle.fb_solved.specs.declared.fault.NoBound.TheVariants.{OutOfMemory, Cycle, NoRange, Limit}
-use Rattle.fb_solved.specs.Faults.{IsWalk, IsPastLimit}
+use Rattle.fb_solved.specs.Faults.{IsWalk, IsPastLimit, IsResourceIn}
+use Rattle.fb_solved.specs.Places.{text_at}
 use Rattle.fb_solved.proofs.Walks.{all_known}
 use Rattle.fb_places.specs.fb_blocks.Views.{names_of}
 use Rattle.fb_places.specs.fb_flat.declared.flat.FlatDevice.{FlatDevice}
 use Rattle.fb_places.specs.declared.numbering.Numbering.{Numbering}
 use Rattle.fb_places.specs.Rights.{numbers_of, numbered}
 use Rattle.fb_found.specs.Given.{nodes_in, IsNumbered}
-use Rattle.fb_found.specs.Columns.{ServesAll, IsColumn, AreSmallest, IsPastFault, IsCycle}
+use Rattle.fb_found.specs.Columns.{asked, ServesAll, IsColumn, AreSmallest, IsPastFault, IsCycle}
 
 -- how many nodes there are
-pub count_is : (ts us : List Name) → length (nodes_of ts us) ≡ length ts + length us
-count_is ts us =
-    omega (arith, length-append (map (λ t. state (place_of t)) ts) (map (λ t. event (place_of t)) us), length-map ts (λ t. state (place_of t)), length-map us (λ t. event (place_of t)))
+pub count_is : (ts us : List Name) (cs : List ℕ) → length (nodes_of ts us cs) ≡ length ts + (length us + length cs)
+count_is ts us cs =
+    omega (
+      arith,
+      length-append (map (λ t. state (place_of t)) ts) (map (λ t. event (place_of t)) us ++ map channel cs),
+      length-append (map (λ t. event (place_of t)) us) (map channel cs),
+      length-map ts (λ t. state (place_of t)),
+      length-map us (λ t. event (place_of t)),
+      length-map cs channel,
+    )
 
 -- ---- a column
 
@@ -61,7 +69,7 @@ module _ (n : Numbering) (order : List ℕ) (rights : List Numbered) (ds : List 
     least = small_least (nodes_in n) ds (numbers_of n) system (slice_index v) col.nodes_have col.of_nodes own least (small_at limit v a l e);
   }
 
-  pub past : (limit : ℕ) (f : NoBound) → IsPastLimit system limit (names_of n.states) (names_of n.events) f → IsPastFault n ds limit f
+  pub past : (limit : ℕ) (f : NoBound) → IsPastLimit system limit (names_of n.states) (names_of n.events) (map string_bytes n.ends.items) f → IsPastFault n ds limit f
   past limit OutOfMemory h = tt
   past limit (Cycle places) h = h
   past limit (NoRange path) h = h
@@ -75,43 +83,62 @@ module _ (n : Numbering) (order : List ℕ) (rights : List Numbered) (ds : List 
       record {
         node = x;
         known = known;
-        resource_is = h.5 (omega (arith, sized, count_is (names_of n.states) (names_of n.events)));
+        resource_is = subst (λ (q : ℕ). IsResourceIn (text_at (names_of n.states) (names_of n.events) (map string_bytes n.ends.items) q) (string_bytes resource)) (sym back) h.5;
         above = great_needed nodes ds (numbers_of n) system h.1 x limit col.nodes_have col.of_nodes own h.2 known (omega (arith, h.3, ap h.1 back));
       }
 
 -- ---- the order
 
-module _ (devices : List FlatDevice) (n : Numbering) (s : book.System) (are : IsNumbered devices n s) where
+module _ (repeats : Option ℕ) (devices : List FlatDevice) (n : Numbering) (s : book.System) (are : IsNumbered repeats devices n s) where
   pub numbers_stand : AreNumbers (nodes_in n) (numbers_of n)
-  numbers_stand = are_numbers (names_of n.states) (names_of n.events) are.rows.states_apart are.rows.events_apart
+  numbers_stand = rows_numbered repeats (all_leaves s.devices) (names_of n.states) (names_of n.events) n.channels.items are.rows
 
-  pub bare_of : AreOf (nodes_in n) (bare_demands (all_leaves s.devices))
-  bare_of = (of_nodes are.given.library are.given.source s (names_of n.states) (names_of n.events) are.given.typed are.rows).0
+pub asked_of : (repeats : Option ℕ) (devices : List FlatDevice) (n : Numbering) (s : book.System) → IsNumbered repeats devices n s → AreOf (nodes_in n) (asked repeats s)
+asked_of None devices n s are = (of_nodes are.given.library are.given.source s None (names_of n.states) (names_of n.events) n.channels.items are.given.typed are.rows).0
+asked_of (Some r) devices n s are = (network_nodes are.given.library are.given.source s r (names_of n.states) (names_of n.events) n.channels.items are.given.typed are.rows).0
 
-  module _ (rights : List Numbered) (system : System) (is : rights ≡ numbered n (bare_demands (all_leaves s.devices))) (grouped : AreGrouped (length (nodes_in n)) rights system) (sized : length system ≡ length (nodes_in n)) where
-    bare_grouped : AreGrouped (length (nodes_in n)) (map (by_number (numbers_of n)) (bare_demands (all_leaves s.devices))) system
-    bare_grouped = subst (λ (rs : List Numbered). AreGrouped (length (nodes_in n)) rs system) is grouped
+-- the numbers say what the demands say, and each walk through them pays
+asked_same : (repeats : Option ℕ) (nodes : List Node) (s : book.System) (number : Node → ℕ) (system : System) → AreNumbers nodes number → AreOf nodes (asked repeats s) → AreGrouped (length nodes) (map (by_number number) (asked repeats s)) system → SaysSame (asked repeats s) number system
+asked_same None nodes s number system = bare_same nodes (all_leaves s.devices) number system
+asked_same (Some r) nodes s number system = network_same nodes (all_leaves s.devices) number system
 
-    pub bare_system : IsSystem system
-    bare_system = known_terms (nodes_in n) (bare_demands (all_leaves s.devices)) (numbers_of n) system numbers_stand bare_of bare_grouped sized
+asked_pays : (repeats : Option ℕ) (nodes : List Node) (s : book.System) (number : Node → ℕ) (system : System) → AreNumbers nodes number → AreOf nodes (asked repeats s) → SaysSame (asked repeats s) number system → IsPaying system
+asked_pays None nodes s number system = numbered_pays nodes (all_leaves s.devices) number system
+asked_pays (Some r) nodes s number system = numbered_network_pays nodes (all_leaves s.devices) number system
 
-    pub serves_all : (order : List ℕ) → IsOrder (needs system) order → ServesAll n s order
-    serves_all order o = λ ds alike other g e. order_serves (numbers_of n) (length (nodes_in n)) (bare_demands (all_leaves s.devices)) ds system other order alike bare_grouped g (omega (arith, sized, e)) o
+module _ (repeats : Option ℕ) (devices : List FlatDevice) (n : Numbering) (s : book.System) (are : IsNumbered repeats devices n s) (rights : List Numbered) (system : System) (is : rights ≡ numbered n (asked repeats s)) (grouped : AreGrouped (length (nodes_in n)) rights system) (sized : length system ≡ length (nodes_in n)) where
+  abbrev ds : List Demand
+  ds = asked repeats s
 
-    pub cycle : (f : NoBound) → IsWalk system (names_of n.states) (names_of n.events) f → IsCycle s f
-    cycle OutOfMemory h = tt
-    cycle (NoRange path) h = h
-    cycle (Limit resource) h = h
-    cycle (Cycle places) h =
-        let same = bare_same (nodes_in n) (all_leaves s.devices) (numbers_of n) system numbers_stand bare_of bare_grouped in
-        let pays = numbered_pays (nodes_in n) (all_leaves s.devices) (numbers_of n) system numbers_stand bare_of same in
-        let walk = walk_of system h.0 pays h.1 in
-        let nodes = walk_nodes (nodes_in n) (bare_demands (all_leaves s.devices)) (numbers_of n) system h.0 numbers_stand bare_of same walk in
-        let known = all_known (needs system) h.0 (length (nodes_in n)) h.1 (length-map system needed ∙ sized) in
-        let first = begins_first (nodes_in n) (numbers_of n) h.0 numbers_stand (omega (arith, h.1.long)) (λ k l. known k 0 l) h.2 in
-        let here : IsFirstWalk (all_leaves s.devices) (map (node_in (nodes_in n)) h.0) =
-        record { closed = nodes; first = subst (λ (order : List Node). BeginsFirst order (map (node_in (nodes_in n)) h.0)) (nodes_are (all_leaves s.devices) (names_of n.states) (names_of n.events) are.ordered) first } in
-        subst (λ (ns : List Node). IsFirstWalk (all_leaves s.devices) ns) (sym (h.3 (omega (arith, sized, count_is (names_of n.states) (names_of n.events))))) here
+  stand : AreNumbers (nodes_in n) (numbers_of n)
+  stand = numbers_stand repeats devices n s are
+
+  known_of : AreOf (nodes_in n) ds
+  known_of = asked_of repeats devices n s are
+
+  asked_grouped : AreGrouped (length (nodes_in n)) (map (by_number (numbers_of n)) ds) system
+  asked_grouped = subst (λ (rs : List Numbered). AreGrouped (length (nodes_in n)) rs system) is grouped
+
+  pub asked_system : IsSystem system
+  asked_system = known_terms (nodes_in n) ds (numbers_of n) system stand known_of asked_grouped sized
+
+  pub serves_all : (order : List ℕ) → IsOrder (needs system) order → ServesAll repeats n s order
+  serves_all order o = λ es asks other g e. order_serves_less (numbers_of n) (length (nodes_in n)) ds es system other order asks asked_grouped g (omega (arith, sized, e)) o
+
+  pub cycle : (f : NoBound) → IsWalk system (names_of n.states) (names_of n.events) n.channels.items f → IsCycle repeats s f
+  cycle OutOfMemory h = tt
+  cycle (NoRange path) h = h
+  cycle (Limit resource) h = h
+  cycle (Cycle places) h =
+      let same = asked_same repeats (nodes_in n) s (numbers_of n) system stand known_of asked_grouped in
+      let pays = asked_pays repeats (nodes_in n) s (numbers_of n) system stand known_of same in
+      let walk = walk_of system h.0 pays h.1 in
+      let nodes = walk_nodes (nodes_in n) ds (numbers_of n) system h.0 stand known_of same walk in
+      let known = all_known (needs system) h.0 (length (nodes_in n)) h.1 (length-map system needed ∙ sized) in
+      let first = begins_first (nodes_in n) (numbers_of n) h.0 stand (omega (arith, h.1.long)) (λ k l. known k 0 l) h.2 in
+      let here : IsFirstWalk ds (all_leaves s.devices) (map (node_in (nodes_in n)) h.0) =
+      record { closed = nodes; first = begins_in_order repeats (all_leaves s.devices) (names_of n.states) (names_of n.events) n.channels.items (map (node_in (nodes_in n)) h.0) are.rows are.ordered first } in
+      subst (λ (ns : List Node). IsFirstWalk ds (all_leaves s.devices) ns) (sym (h.3 (omega (arith, sized, count_is (names_of n.states) (names_of n.events) n.channels.items)))) here
 
 -- ---- answers
 
@@ -125,15 +152,15 @@ if_ok f (Err e) h = tt
 
 -- ---- how many there are
 
-pub count_of : (n : Numbering) (a b : ℕ) → a ≡ length n.states.keys → b ≡ length n.events.keys → a + b ≡ length (nodes_in n)
-count_of n a b e f = omega (arith, count_is (names_of n.states) (names_of n.events), length-map n.states.keys string_bytes, length-map n.events.keys string_bytes, e, f)
+pub count_of : (n : Numbering) (count : ℕ) → count ≡ length (names_of n.states) + (length (names_of n.events) + length n.channels.items) → count ≡ length (nodes_in n)
+count_of n count e = omega (arith, count_is (names_of n.states) (names_of n.events) n.channels.items, e)
 
-pub sized_slice : (n : Numbering) (a b : ℕ) (items slice : List (Vec Alternative Global)) → a ≡ length n.states.keys → b ≡ length n.events.keys → slice ≡ items → length items ≡ a + b → length (system_of slice) ≡ length (nodes_in n)
-sized_slice n a b items slice e f s h = length-map slice (λ v. map inequality_of v.items) ∙ (ap length s ∙ (h ∙ count_of n a b e f))
+pub sized_slice : (n : Numbering) (count : ℕ) (items slice : List (Vec Alternative Global)) → count ≡ length (names_of n.states) + (length (names_of n.events) + length n.channels.items) → slice ≡ items → length items ≡ count → length (system_of slice) ≡ length (nodes_in n)
+sized_slice n count items slice e s h = length-map slice (λ v. map inequality_of v.items) ∙ (ap length s ∙ (h ∙ count_of n count e))
 
 pub ok_three : {X E : Type 0} {P Q R S : X → Type 0} → ((x : X) → P x → Q x → R x → S x) → (r : Result X E) → IfOk r P → IfOk r Q → IfOk r R → IfOk r S
 ok_three f (Ok x) p q r = f x p q r
 ok_three f (Err e) p q r = tt
 
-pub grouped_slice : (n : Numbering) (a b : ℕ) (rights : List Numbered) (items slice : List (Vec Alternative Global)) → a ≡ length n.states.keys → b ≡ length n.events.keys → slice ≡ items → AreGrouped (a + b) rights (system_of items) → AreGrouped (length (nodes_in n)) rights (system_of slice)
-grouped_slice n a b rights items slice e f s g = subst (λ k. AreGrouped k rights (system_of slice)) (count_of n a b e f) (subst (λ xs. AreGrouped (a + b) rights (system_of xs)) (sym s) g)
+pub grouped_slice : (n : Numbering) (count : ℕ) (rights : List Numbered) (items slice : List (Vec Alternative Global)) → count ≡ length (names_of n.states) + (length (names_of n.events) + length n.channels.items) → slice ≡ items → AreGrouped count rights (system_of items) → AreGrouped (length (nodes_in n)) rights (system_of slice)
+grouped_slice n count rights items slice e s g = subst (λ k. AreGrouped k rights (system_of slice)) (count_of n count e) (subst (λ xs. AreGrouped count rights (system_of xs)) (sym s) g)

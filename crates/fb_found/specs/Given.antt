@@ -1,5 +1,5 @@
 -- What is known of tables when a certificate is looked for: they are those of a system that stands in texts.
-use Rattle.std.specs.Prelude.{List}
+use Rattle.std.specs.Prelude.{ℕ, List, Option}
 use Rattle.std.specs.List.{AllByRecursion}
 use Rattle.fb_model.specs.Declarations.{BlockTree, SourceTree}
 use Rattle.fb_model.specs.NetworkTyping.{ElaboratesWith}
@@ -25,10 +25,10 @@ pub record IsGiven (devices : List FlatDevice) (s : System) : Type 0 where
 
 -- the nodes that have numbers, in their order
 abbrev pub nodes_in : Numbering → List Node
-nodes_in n = nodes_of (names_of n.states) (names_of n.events)
+nodes_in n = nodes_of (names_of n.states) (names_of n.events) n.channels.items
 
--- and all its nodes have numbers, in the order of their rows
-pub record IsNumbered (devices : List FlatDevice) (n : Numbering) (s : System) : Type 0 where
+-- and all its nodes have numbers, in the order of their rows, and the channels where datagrams are followed
+pub record IsNumbered (repeats : Option ℕ) (devices : List FlatDevice) (n : Numbering) (s : System) : Type 0 where
   pub given : IsGiven devices s
-  pub rows : AreRowsOf (all_leaves s.devices) (names_of n.states) (names_of n.events)
+  pub rows : AreRowsOf repeats (all_leaves s.devices) (names_of n.states) (names_of n.events) n.channels.items
   pub ordered : AreInOrder (all_leaves s.devices) (names_of n.states) (names_of n.events)

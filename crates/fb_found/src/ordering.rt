@@ -1,29 +1,52 @@
 //! The order in which numbers are found.
 
-ghost use Rattle.std.specs.Prelude.{IfErr, IfOk};
+ghost use Rattle.std.specs.Prelude.{◌≡◌, IfErr, IfOk};
 ghost use Rattle.fb_model.specs.System.{System};
+ghost use Rattle.fb_places.specs.Rights.{numbered, rights_of};
 ghost use Rattle.fb_found.specs.Given.{IsNumbered};
-ghost use Rattle.fb_found.specs.Columns.{IsCycle, ServesAll};
+ghost use Rattle.fb_found.specs.Columns.{asked, IsCycle, ServesAll};
 
 use fb_places::fb_flat::Flat;
-use fb_places::{Numbering, group};
+use fb_places::{Numbering, Right, group};
 use fb_solved::{NoBound, sorted};
-use fb_sums::plain_rights;
-use std::alloc::Global;
+use fb_sums::{network_rights, plain_rights};
+use std::alloc::{AllocError, Global};
 
-/// Each node's number after all that it demands, whatever algorithms cost; or a closed walk of demands, from that of its places on whose row comes first.
-pub fn order(alloc: Global, flat: &Flat, numbering: &Numbering) -> Result<Vec<usize>, NoBound>
-    requires { (s : System) × IsNumbered flat.now.devices.items numbering.now s }
-    ensures ordered { (s : System) → IsNumbered flat.now.devices.items numbering.now s → IfOk result (λ order. ServesAll numbering.now s order.items) }
-    ensures cycle { (s : System) → IsNumbered flat.now.devices.items numbering.now s → IfErr result (IsCycle s) }
+// What the system asks whatever algorithms cost.
+fn asked_rights(
+    alloc: Global,
+    flat: &Flat,
+    numbering: &Numbering,
+    repeats: Option<u8>,
+) -> Result<Vec<Right>, AllocError>
+    ensures { (s : System) → IsNumbered repeats flat.now.devices.items numbering.now s → IfOk result (λ v. rights_of v.items ≡ numbered numbering.now (asked repeats s)) }
 {
-    let rights = plain_rights(alloc, numbering, 1, flat)?;
-    let count = numbering.states.len() + numbering.events.len();
+    match repeats {
+        None => plain_rights(alloc, numbering, 1, flat),
+        Some(_) => network_rights(alloc, numbering, flat),
+    }
+}
+
+/// Each node's number after all that it demands, whatever algorithms cost, over the network where datagrams are followed; or a closed walk of demands, from that of
+/// its places on whose row comes first.
+pub fn order(
+    alloc: Global,
+    flat: &Flat,
+    numbering: &Numbering,
+    repeats: Option<u8>,
+) -> Result<Vec<usize>, NoBound>
+    requires { (s : System) × IsNumbered repeats flat.now.devices.items numbering.now s }
+    ensures ordered { (s : System) → IsNumbered repeats flat.now.devices.items numbering.now s → IfOk result (λ order. ServesAll repeats numbering.now s order.items) }
+    ensures cycle { (s : System) → IsNumbered repeats flat.now.devices.items numbering.now s → IfErr result (IsCycle repeats s) }
+{
+    let rights = asked_rights(alloc, flat, numbering, repeats)?;
+    let count = numbering.count()?;
     let system = group(alloc, count, rights)?;
     sorted(
         alloc,
         &numbering.states,
         &numbering.events,
+        numbering.channels.as_slice(),
         system.as_slice(),
     )
 }

@@ -22,12 +22,13 @@ pub fn column(
     ensures least { (ds : List Demand) → IsColumn numbering.now order.now (rights_of rights.items) ds → IfOk result (λ v. AreSmallest numbering.now ds limit v.items) }
     ensures refused { (ds : List Demand) → IsColumn numbering.now order.now (rights_of rights.items) ds → IfErr result (IsPastFault numbering.now ds limit) }
 {
-    let count = numbering.states.len() + numbering.events.len();
+    let count = numbering.count()?;
     let system = group(alloc, count, rights)?;
     solved(
         alloc,
         &numbering.states,
         &numbering.events,
+        numbering.ends.as_slice(),
         system.as_slice(),
         order,
         limit,

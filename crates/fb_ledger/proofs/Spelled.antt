@@ -4,7 +4,7 @@ use Rattle.std.specs.List.{list_any}
 use Rattle.std.specs.Str.{bytes_eq}
 use Rattle.fb_model.specs.Names.{Name, place_eq}
 use Rattle.fb_model.specs.Certificates.{Certificate, row_places, range_places, AreDifferent}
-use Rattle.fb_model.specs.CertificateText.{Entry, range, charge, weight, depth, is_same, NoneTwice, ranges_of, charges_of, weights_of, place_of, Spells}
+use Rattle.fb_model.specs.CertificateText.{Entry, range, charge, weight, is_same, NoneTwice, certificate_in, place_of, Spells}
 use Rattle.fb_ledger.proofs.Names.{bytes_turned}
 use Rattle.fb_ledger.specs.Faults.{HasNoRowTwice}
 use Rattle.fb_ledger.proofs.Places.{same_place}
@@ -37,47 +37,35 @@ twice_rest x es h before after e k = second_false (is_same e x) (list_any (is_sa
 other_place : (p q : Name) → bytes_eq q p ≡ false → place_eq (place_of p) (place_of q) ≡ false
 other_place p q h = same_place p q ∙ bytes_turned q p false h
 
-range_apart : (p : Name) (a b : ℤ) (es : List Entry) → IsApart (range p a b) es → list_any (place_eq (place_of p)) (range_places (ranges_of es)) ≡ false
+range_apart : (p : Name) (a b : ℤ) (es : List Entry) → IsApart (range p a b) es → list_any (place_eq (place_of p)) (range_places (certificate_in es).ranges) ≡ false
 range_apart p a b [] h = refl
 range_apart p a b (range q c d ∷ es) h = both_false (place_eq (place_of p) (place_of q)) _ (other_place p q (h [] es (range q c d) refl)) (range_apart p a b es (apart_rest (range p a b) (range q c d) es h))
-range_apart p a b (charge q t l ∷ es) h = range_apart p a b es (apart_rest (range p a b) (charge q t l) es h)
-range_apart p a b (weight q t l ∷ es) h = range_apart p a b es (apart_rest (range p a b) (weight q t l) es h)
-range_apart p a b (depth q n ∷ es) h = range_apart p a b es (apart_rest (range p a b) (depth q n) es h)
+range_apart p a b (e ∷ es) h = range_apart p a b es (apart_rest (range p a b) e es h)
 
-charge_apart : (p : Name) (s k : ℕ) (es : List Entry) → IsApart (charge p s k) es → list_any (place_eq (place_of p)) (row_places (charges_of es)) ≡ false
+charge_apart : (p : Name) (s k : ℕ) (es : List Entry) → IsApart (charge p s k) es → list_any (place_eq (place_of p)) (row_places (certificate_in es).charges) ≡ false
 charge_apart p s k [] h = refl
-charge_apart p s k (range q a b ∷ es) h = charge_apart p s k es (apart_rest (charge p s k) (range q a b) es h)
 charge_apart p s k (charge q t l ∷ es) h = both_false (place_eq (place_of p) (place_of q)) _ (other_place p q (h [] es (charge q t l) refl)) (charge_apart p s k es (apart_rest (charge p s k) (charge q t l) es h))
-charge_apart p s k (weight q t l ∷ es) h = charge_apart p s k es (apart_rest (charge p s k) (weight q t l) es h)
-charge_apart p s k (depth q n ∷ es) h = charge_apart p s k es (apart_rest (charge p s k) (depth q n) es h)
+charge_apart p s k (e ∷ es) h = charge_apart p s k es (apart_rest (charge p s k) e es h)
 
-weight_apart : (p : Name) (s k : ℕ) (es : List Entry) → IsApart (weight p s k) es → list_any (place_eq (place_of p)) (row_places (weights_of es)) ≡ false
+weight_apart : (p : Name) (s k : ℕ) (es : List Entry) → IsApart (weight p s k) es → list_any (place_eq (place_of p)) (row_places (certificate_in es).weights) ≡ false
 weight_apart p s k [] h = refl
-weight_apart p s k (range q a b ∷ es) h = weight_apart p s k es (apart_rest (weight p s k) (range q a b) es h)
-weight_apart p s k (charge q t l ∷ es) h = weight_apart p s k es (apart_rest (weight p s k) (charge q t l) es h)
 weight_apart p s k (weight q t l ∷ es) h = both_false (place_eq (place_of p) (place_of q)) _ (other_place p q (h [] es (weight q t l) refl)) (weight_apart p s k es (apart_rest (weight p s k) (weight q t l) es h))
-weight_apart p s k (depth q n ∷ es) h = weight_apart p s k es (apart_rest (weight p s k) (depth q n) es h)
+weight_apart p s k (e ∷ es) h = weight_apart p s k es (apart_rest (weight p s k) e es h)
 
-ranges_differ : (es : List Entry) → NoneTwice es → AreDifferent (range_places (ranges_of es))
+ranges_differ : (es : List Entry) → NoneTwice es → AreDifferent (range_places (certificate_in es).ranges)
 ranges_differ [] h = tt
 ranges_differ (range p a b ∷ es) h = (range_apart p a b es (apart (range p a b) es h), ranges_differ es (twice_rest (range p a b) es h))
-ranges_differ (charge p s k ∷ es) h = ranges_differ es (twice_rest (charge p s k) es h)
-ranges_differ (weight p s k ∷ es) h = ranges_differ es (twice_rest (weight p s k) es h)
-ranges_differ (depth p n ∷ es) h = ranges_differ es (twice_rest (depth p n) es h)
+ranges_differ (e ∷ es) h = ranges_differ es (twice_rest e es h)
 
-charges_differ : (es : List Entry) → NoneTwice es → AreDifferent (row_places (charges_of es))
+charges_differ : (es : List Entry) → NoneTwice es → AreDifferent (row_places (certificate_in es).charges)
 charges_differ [] h = tt
-charges_differ (range p a b ∷ es) h = charges_differ es (twice_rest (range p a b) es h)
 charges_differ (charge p s k ∷ es) h = (charge_apart p s k es (apart (charge p s k) es h), charges_differ es (twice_rest (charge p s k) es h))
-charges_differ (weight p s k ∷ es) h = charges_differ es (twice_rest (weight p s k) es h)
-charges_differ (depth p n ∷ es) h = charges_differ es (twice_rest (depth p n) es h)
+charges_differ (e ∷ es) h = charges_differ es (twice_rest e es h)
 
-weights_differ : (es : List Entry) → NoneTwice es → AreDifferent (row_places (weights_of es))
+weights_differ : (es : List Entry) → NoneTwice es → AreDifferent (row_places (certificate_in es).weights)
 weights_differ [] h = tt
-weights_differ (range p a b ∷ es) h = weights_differ es (twice_rest (range p a b) es h)
-weights_differ (charge p s k ∷ es) h = weights_differ es (twice_rest (charge p s k) es h)
 weights_differ (weight p s k ∷ es) h = (weight_apart p s k es (apart (weight p s k) es h), weights_differ es (twice_rest (weight p s k) es h))
-weights_differ (depth p n ∷ es) h = weights_differ es (twice_rest (depth p n) es h)
+weights_differ (e ∷ es) h = weights_differ es (twice_rest e es h)
 
 pub spelled : (text : List ℕ) (certificate : Certificate) → Spells text certificate → HasNoRowTwice certificate
 spelled text certificate s = subst HasNoRowTwice (sym s.certificate_is) (record { charges = charges_differ s.entries s.none_twice; weights = weights_differ s.entries s.none_twice; ranges = ranges_differ s.entries s.none_twice })

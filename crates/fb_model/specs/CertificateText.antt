@@ -1,12 +1,12 @@
 -- How a certificate is written: this project's profile.
-use Rattle.std.specs.Prelude.{◌≡◌, ℕ, ◌+◌, ◌-◌, ◌*◌, ◌<◌, ◌≤◌, ◌==◌, ℤ, pos, neg_ℤ, int_le, Bool, true, false, not, List, [], ◌∷◌, ◌++◌, length, filter, codes, None, if◌then◌else◌}
+use Rattle.std.specs.Prelude.{◌≡◌, ℕ, ◌+◌, ◌-◌, ◌*◌, ◌<◌, ◌≤◌, ◌==◌, ℤ, pos, neg_ℤ, int_le, Bool, true, false, not, List, [], ◌∷◌, ◌++◌, length, filter, codes, Some, None, if◌then◌else◌}
 use Rattle.std.specs.List.{slice_split, list_any, AllByRecursion}
 use Rattle.std.specs.Str.{bytes_eq}
 use Rattle.std.specs.Str.Lines.{lines}
 use Rattle.fb_model.specs.Names.{Name, Path, Place, at_place}
 use Rattle.fb_model.specs.Spelling.{is_digit, upper, IsWord}
 use Rattle.fb_model.specs.Ranges.{Range}
-use Rattle.fb_model.specs.Certificates.{Certificate, Row, DepthRow}
+use Rattle.fb_model.specs.Certificates.{Certificate, Row, DepthRow, FarRow, ChannelRow}
 
 -- ---- lines and words
 
@@ -55,6 +55,14 @@ most_steps = 1000000000000
 abbrev pub most_places : ℕ
 most_places = 4096
 
+-- the most REPEATS
+abbrev pub most_repeats : ℕ
+most_repeats = 255
+
+-- the greatest number of a channel
+abbrev pub most_channel : ℕ
+most_channel = 65535
+
 -- the greatest number of LINT
 abbrev pub most_lint : ℕ
 most_lint = 9223372036854775807
@@ -92,10 +100,14 @@ place_of cs = at_place (all_but_last (names_in cs)) (last_name (names_in cs))
 
 -- a row after the first, with its path as it is written
 pub data Entry : Type 0 where
+  repeats : ℕ → Entry
   range : List ℕ → ℤ → ℤ → Entry
   charge : List ℕ → ℕ → ℕ → Entry
   weight : List ℕ → ℕ → ℕ → Entry
   depth : List ℕ → ℕ → Entry
+  far : List ℕ → ℕ → Entry
+  far_state : List ℕ → ℕ → Entry
+  channel : ℕ → ℕ → Entry
 
 -- the first row
 pub data IsHead : List (List ℕ) → Type 0 where
@@ -103,22 +115,30 @@ pub data IsHead : List (List ℕ) → Type 0 where
 
 -- the words of a row after the first
 pub data IsEntry : List (List ℕ) → Entry → Type 0 where
+  a_repeats : {r : List ℕ} {n : ℕ} → IsNumberIn 1 most_repeats r n → IsEntry (codes "REPEATS" ∷ r ∷ []) (repeats n)
   a_range : {p l h : List ℕ} {low high : ℤ} → IsDotted p → IsWhole l low → IsWhole h high → int_le low high ≡ true → IsEntry (codes "RANGE" ∷ p ∷ l ∷ h ∷ []) (range p low high)
   a_charge : {p s k : List ℕ} {steps places : ℕ} → IsDotted p → IsNumberIn 0 most_steps s steps → IsNumberIn 0 most_places k places → IsEntry (codes "CHARGE" ∷ p ∷ s ∷ k ∷ []) (charge p steps places)
   a_weight : {p s k : List ℕ} {steps places : ℕ} → IsDotted p → IsNumberIn 0 most_steps s steps → IsNumberIn 0 most_places k places → IsEntry (codes "WEIGHT" ∷ p ∷ s ∷ k ∷ []) (weight p steps places)
   a_depth : {p d : List ℕ} {n : ℕ} → IsDotted p → IsNumberIn 1 most_places d n → IsEntry (codes "DEPTH" ∷ p ∷ d ∷ []) (depth p n)
+  a_far : {p s : List ℕ} {steps : ℕ} → IsDotted p → IsNumberIn 0 most_steps s steps → IsEntry (codes "FAR" ∷ p ∷ s ∷ []) (far p steps)
+  a_far_state : {p s : List ℕ} {steps : ℕ} → IsDotted p → IsNumberIn 0 most_steps s steps → IsEntry (codes "FARSTATE" ∷ p ∷ s ∷ []) (far_state p steps)
+  a_channel : {c s : List ℕ} {number steps : ℕ} → IsNumberIn 0 most_channel c number → IsNumberIn 0 most_steps s steps → IsEntry (codes "CHANNEL" ∷ c ∷ s ∷ []) (channel number steps)
 
 -- these rows, one after another
 pub data AreEntries : List Written → List Entry → Type 0 where
   no_entry : AreEntries [] []
   entry : {w : Written} {e : Entry} {ws : List Written} {es : List Entry} → IsEntry w.words e → AreEntries ws es → AreEntries (w ∷ ws) (e ∷ es)
 
--- two rows of one kind have one path
+-- two rows of one kind have one path, or one channel, or are both REPEATS
 abbrev pub is_same : Entry → Entry → Bool
+is_same (repeats n) (repeats m) = true
 is_same (range p a b) (range q c d) = bytes_eq p q
 is_same (charge p s k) (charge q t l) = bytes_eq p q
 is_same (weight p s k) (weight q t l) = bytes_eq p q
 is_same (depth p n) (depth q m) = bytes_eq p q
+is_same (far p n) (far q m) = bytes_eq p q
+is_same (far_state p n) (far_state q m) = bytes_eq p q
+is_same (channel c n) (channel d m) = c == d
 is_same e d = false
 
 -- no row repeats one before it
@@ -137,41 +157,31 @@ row_of path steps places = record { place = place_of path; steps = steps; places
 abbrev pub depth_row : List ℕ → ℕ → DepthRow
 depth_row path n = record { path = names_in path; depth = n }
 
--- the rows RANGE in text order
-abbrev pub ranges_of : List Entry → List Range
-ranges_of [] = []
-ranges_of (range p low high ∷ es) = range_row p low high ∷ ranges_of es
-ranges_of (charge p s k ∷ es) = ranges_of es
-ranges_of (weight p s k ∷ es) = ranges_of es
-ranges_of (depth p n ∷ es) = ranges_of es
+-- a row of the steps on all devices, by its place
+abbrev pub far_row : List ℕ → ℕ → FarRow
+far_row path steps = record { place = place_of path; steps = steps }
 
--- the rows CHARGE in text order
-abbrev pub charges_of : List Entry → List Row
-charges_of [] = []
-charges_of (range p low high ∷ es) = charges_of es
-charges_of (charge p s k ∷ es) = row_of p s k ∷ charges_of es
-charges_of (weight p s k ∷ es) = charges_of es
-charges_of (depth p n ∷ es) = charges_of es
+abbrev pub channel_row : ℕ → ℕ → ChannelRow
+channel_row number steps = record { channel = number; steps = steps }
 
--- the rows WEIGHT in text order
-abbrev pub weights_of : List Entry → List Row
-weights_of [] = []
-weights_of (range p low high ∷ es) = weights_of es
-weights_of (charge p s k ∷ es) = weights_of es
-weights_of (weight p s k ∷ es) = row_of p s k ∷ weights_of es
-weights_of (depth p n ∷ es) = weights_of es
+abbrev pub no_certificate : Certificate
+no_certificate = record { ranges = []; charges = []; weights = []; depths = []; repeats = None; fars = []; far_states = []; channels = [] }
 
--- the rows DEPTH in text order
-abbrev pub depths_of : List Entry → List DepthRow
-depths_of [] = []
-depths_of (range p low high ∷ es) = depths_of es
-depths_of (charge p s k ∷ es) = depths_of es
-depths_of (weight p s k ∷ es) = depths_of es
-depths_of (depth p n ∷ es) = depth_row p n ∷ depths_of es
+-- a row before the rows of its kind
+abbrev pub with_entry : Entry → Certificate → Certificate
+with_entry (repeats n) c = record c { repeats = Some n }
+with_entry (range p low high) c = record c { ranges = range_row p low high ∷ c.ranges }
+with_entry (charge p s k) c = record c { charges = row_of p s k ∷ c.charges }
+with_entry (weight p s k) c = record c { weights = row_of p s k ∷ c.weights }
+with_entry (depth p n) c = record c { depths = depth_row p n ∷ c.depths }
+with_entry (far p n) c = record c { fars = far_row p n ∷ c.fars }
+with_entry (far_state p n) c = record c { far_states = far_row p n ∷ c.far_states }
+with_entry (channel number n) c = record c { channels = channel_row number n ∷ c.channels }
 
 -- rows of the same kind in text order
 abbrev pub certificate_in : List Entry → Certificate
-certificate_in es = record { ranges = ranges_of es; charges = charges_of es; weights = weights_of es; depths = depths_of es; repeats = None; fars = []; far_states = []; channels = [] }
+certificate_in [] = no_certificate
+certificate_in (e ∷ es) = with_entry e (certificate_in es)
 
 -- ---- whole texts
 

@@ -3,7 +3,7 @@
 
 ghost use Rattle.std.specs.Prelude.{ℕ, List, map};
 ghost use Rattle.fb_model.specs.Wires.{Leaf};
-ghost use Rattle.fb_demands.specs.Demands.{bare_demands, Demand, IsClosedWalk, Node, node_in};
+ghost use Rattle.fb_demands.specs.Demands.{bare_demands, bare_network, Demand, IsClosedWalk, Node, node_in};
 ghost use Rattle.fb_least.specs.Systems as numbered;
 ghost use Rattle.fb_least.specs.Systems.{IsLeast, IsPaying, System};
 ghost use Rattle.fb_numbered.specs.Numbered.{AreLeast, AreNumbers, AreOf, SaysSame};
@@ -21,6 +21,11 @@ pub fn walks_are_walks()
 /// Of two demands of a system in a row one has a constant of 1 or more, whatever algorithms cost: so a closed walk through places is one of demands.
 pub fn demands_pay()
     ensures { (nodes : List Node) (all : List Leaf) (number : Node → ℕ) (system : System) → AreNumbers nodes number → AreOf nodes (bare_demands all) → SaysSame (bare_demands all) number system → IsPaying system }
+{}
+
+/// The same over the network: a channel asks with 0, but for arrivals alone, and these ask with 1.
+pub fn network_demands_pay()
+    ensures { (nodes : List Node) (all : List Leaf) (number : Node → ℕ) (system : System) → AreNumbers nodes number → AreOf nodes (bare_network all) → SaysSame (bare_network all) number system → IsPaying system }
 {}
 
 /// And a closed walk through nodes is one through their places.

@@ -8,6 +8,7 @@ pub use Rattle.fb_rows.proofs.of_st_types as of_st_types
 pub use Rattle.fb_rows.proofs as of_fb_rows
 pub mod Numbers
 pub mod Loops
+pub mod Ranks
 pub mod Entries
 pub mod Values
 pub mod Charts

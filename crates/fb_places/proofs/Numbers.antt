@@ -35,7 +35,7 @@ step_within : (b : Bool) (n m : ℕ) → n ≤ m → cond b (1 + n) 0 ≤ m + 1
 step_within true n m h = omega (arith, h)
 step_within false n m h = omega arith
 
-prefix_within : {X : Type 0} (p : X → Bool) (xs : List X) → prefix_len p xs ≤ length xs
+pub prefix_within : {X : Type 0} (p : X → Bool) (xs : List X) → prefix_len p xs ≤ length xs
 prefix_within p [] = omega arith
 prefix_within p (x ∷ xs) = let k = step_within (p x) (prefix_len p xs) (length xs) (prefix_within p xs) in omega (arith, k)
 

@@ -1,6 +1,6 @@
 -- What is reckoned with at a leaf of the tables.
 -- This project's profile.
-use Rattle.std.specs.Prelude.{ℕ, List, [], ◌∷◌, Option, None, Some, map, string_bytes, if◌then◌else◌}
+use Rattle.std.specs.Prelude.{ℕ, Bool, List, [], ◌∷◌, Option, None, Some, map, string_bytes, if◌then◌else◌}
 use Rattle.std.specs.Str.{bytes_eq}
 use Rattle.std.specs.declared.string.String.{String}
 use Rattle.std.specs.declared.vec.Vec.{Vec}
@@ -10,7 +10,7 @@ use Rattle.indexmap.specs.IndexMap.{IndexMap}
 use Rattle.fb_model.specs.Names.{Name, at_place}
 use Rattle.fb_model.specs.System as book
 use Rattle.fb_model.specs.CertificateText.{names_in}
-use Rattle.fb_demands.specs.Demands.{Ground}
+use Rattle.fb_demands.specs.Demands.{Node, channel, Ground}
 use Rattle.fb_rows.specs.fb_flat.Tables.{targets_of}
 use Rattle.fb_rows.specs.fb_flat.declared.flat.Output.{Output}
 use Rattle.fb_rows.specs.fb_flat.declared.flat.Leaf.{Leaf}
@@ -36,9 +36,13 @@ abbrev pub priced : List Name → List ℕ → Option Name → ℕ
 priced names prices None = 0
 priced names prices (Some x) = value_at names prices x
 
--- the ground of a leaf at a path with these outputs, whose algorithms have these prices
-abbrev pub ground : ℕ → List Name → List ℕ → Name → List Output → Ground
-ground unit names prices path outputs = record { unit = unit; price = priced names prices; own = at_place (names_in path); targets = targets_of outputs }
+-- what a datagram asks for, where datagrams are followed or not
+abbrev pub datagram_of : Bool → ℕ → List Node
+datagram_of follows c = if follows then channel c ∷ [] else []
+
+-- the ground of a leaf at a path with these outputs, whose algorithms have these prices, where datagrams are followed or not
+abbrev pub ground : ℕ → Bool → List Name → List ℕ → Name → List Output → Ground
+ground unit follows names prices path outputs = record { unit = unit; price = priced names prices; own = at_place (names_in path); targets = targets_of outputs; datagram = datagram_of follows }
 
 -- the names of the algorithms of a block, if it is one
 abbrev pub names_among : {S : Type 0} → Option (Bor (IndexMap (String Global) Algo S)) → List Name
@@ -46,15 +50,15 @@ names_among None = []
 names_among (Some m) = table_names m.now
 
 abbrev pub ground_in : Scene → Ground
-ground_in s = ground s.unit (names_among s.procedures) s.prices.now s.path.now s.outputs.now
+ground_in s = ground s.unit s.follows (names_among s.procedures) s.prices.now s.path.now s.outputs.now
 
 -- that of a leaf
 abbrev pub algorithms_of : Body → List Name
 algorithms_of (Basic block) = table_names block.value.procedures
 algorithms_of (Served service) = []
 
-abbrev pub leaf_ground : ℕ → List ℕ → Leaf → Ground
-leaf_ground unit prices leaf = ground unit (algorithms_of leaf.body) prices (string_bytes leaf.path) leaf.outputs.items
+abbrev pub leaf_ground : ℕ → Bool → List ℕ → Leaf → Ground
+leaf_ground unit follows prices leaf = ground unit follows (algorithms_of leaf.body) prices (string_bytes leaf.path) leaf.outputs.items
 
 -- the actions of the state of a name, none where there is no such state
 abbrev pub actions_in : List (String Global × Vec Action Global) → Name → List book.Action

@@ -9,3 +9,4 @@ pub use Rattle.fb_rows.specs.st_types as st_types
 pub use Rattle.fb_rows.specs as fb_rows
 pub mod Rights
 pub mod Grounds
+pub mod Channels

@@ -8,7 +8,7 @@ use Rattle.fb_places.specs.declared.right.Right.{Right}
 
 -- the numbers of nodes
 abbrev pub numbers_of : Numbering → Node → ℕ
-numbers_of n = number (names_of n.states) (names_of n.events)
+numbers_of n = number (names_of n.states) (names_of n.events) n.channels.items
 
 abbrev pub right_of : Right → Numbered
 right_of r = record { node = r.node; constant = r.constant; terms = r.terms.items }

@@ -25,17 +25,19 @@ fn add_block<'a>(
     alloc: Global,
     numbering: &'a Numbering,
     unit: u64,
+    follows: bool,
     prices: &'a [u64],
     leaf: &'a Leaf,
     block: &'a Block,
     rights: &mut Vec<Right>,
 ) -> Result<(), AllocError>
-    ensures { OnOk result (rights_of rights.new.items ≡ rights_of rights.old.items ++ numbered numbering.now (of_chart (ground unit (table_names block.now.procedures) prices.now (string_bytes leaf.now.path) leaf.now.outputs.items) (block_of block.now))) }
+    ensures { OnOk result (rights_of rights.new.items ≡ rights_of rights.old.items ++ numbered numbering.now (of_chart (ground unit follows (table_names block.now.procedures) prices.now (string_bytes leaf.now.path) leaf.now.outputs.items) (block_of block.now))) }
 {
     let scene = Scene {
         alloc,
         numbering,
         unit,
+        follows,
         procedures: Some(&block.procedures),
         prices,
         path: leaf.path.as_str(),
@@ -49,17 +51,19 @@ fn add_served<'a>(
     alloc: Global,
     numbering: &'a Numbering,
     unit: u64,
+    follows: bool,
     prices: &'a [u64],
     leaf: &'a Leaf,
     service: &Service,
     rights: &mut Vec<Right>,
 ) -> Result<(), AllocError>
-    ensures { OnOk result (rights_of rights.new.items ≡ rights_of rights.old.items ++ numbered numbering.now (flat_map (of_dispatch (ground unit [] prices.now (string_bytes leaf.now.path) leaf.now.outputs.items) (service_of service.now)) (service_events (service_of service.now)))) }
+    ensures { OnOk result (rights_of rights.new.items ≡ rights_of rights.old.items ++ numbered numbering.now (flat_map (of_dispatch (ground unit follows [] prices.now (string_bytes leaf.now.path) leaf.now.outputs.items) (service_of service.now)) (service_events (service_of service.now)))) }
 {
     let scene = Scene {
         alloc,
         numbering,
         unit,
+        follows,
         procedures: None,
         prices,
         path: leaf.path.as_str(),
@@ -68,19 +72,25 @@ fn add_served<'a>(
     add_service(&scene, service, rights)
 }
 
-/// Adds the demands of a leaf, where a dispatch or a crossing counts `unit`, and its algorithms cost `prices`, in their order; an algorithm without a price costs nothing.
+/// Adds the demands of a leaf, where a dispatch or a crossing counts `unit`, datagrams are followed or not, and its algorithms cost `prices`, in their order; an
+/// algorithm without a price costs nothing.
 pub fn add_leaf(
     alloc: Global,
     numbering: &Numbering,
     unit: u64,
+    follows: bool,
     prices: &[u64],
     leaf: &Leaf,
     rights: &mut Vec<Right>,
 ) -> Result<(), AllocError>
-    ensures { OnOk result (rights_of rights.new.items ≡ rights_of rights.old.items ++ numbered numbering.now (of_kind (leaf_ground unit prices.now leaf.now) (kind_of leaf.now.body))) }
+    ensures { OnOk result (rights_of rights.new.items ≡ rights_of rights.old.items ++ numbered numbering.now (of_kind (leaf_ground unit follows prices.now leaf.now) (kind_of leaf.now.body))) }
 {
     match &leaf.body {
-        Body::Basic(block) => add_block(alloc, numbering, unit, prices, leaf, block, rights),
-        Body::Served(service) => add_served(alloc, numbering, unit, prices, leaf, service, rights),
+        Body::Basic(block) => add_block(
+            alloc, numbering, unit, follows, prices, leaf, block, rights,
+        ),
+        Body::Served(service) => add_served(
+            alloc, numbering, unit, follows, prices, leaf, service, rights,
+        ),
     }
 }

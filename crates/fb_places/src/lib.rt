@@ -1,6 +1,7 @@
-//! The demands of a system by numbers: states, event inputs and arrivals have numbers, and each inequality between the numbers of a certificate is one over these.
+//! The demands of a system by numbers: states, event inputs and arrivals, and channels have numbers, and each inequality between the numbers of a certificate is one over these.
 #![tactic(auto)]
 
+mod channel;
 mod chart;
 mod grouping;
 mod leaf;
@@ -9,6 +10,7 @@ mod right;
 mod scene;
 mod service;
 
+pub use channel::add_channels;
 pub use fb_rows;
 pub use fb_rows::fb_flat;
 pub use grouping::group;

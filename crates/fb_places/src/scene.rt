@@ -19,13 +19,14 @@ use std::alloc::{AllocError, Global};
 /// The first number that stands for all greater ones.
 const MANY: u64 = 1_000_000_000_001;
 
-/// What is reckoned with at a leaf: what a dispatch or a crossing counts, the prices of its algorithms in their order, its path, and where its
-/// outputs lead.
+/// What is reckoned with at a leaf: what a dispatch or a crossing counts, whether datagrams are followed, the prices of its algorithms in their order,
+/// its path, and where its outputs lead.
 #[derive(Clone, Copy)]
 pub(crate) struct Scene<'a> {
     pub(crate) alloc: Global,
     pub(crate) numbering: &'a Numbering,
     pub(crate) unit: u64,
+    pub(crate) follows: bool,
     pub(crate) procedures: Option<&'a IndexMap<String, Algo>>,
     pub(crate) prices: &'a [u64],
     pub(crate) path: &'a str,
@@ -79,20 +80,20 @@ fn add_output(
     Ok(())
 }
 
-/// The numbers of all that outputs of these names lead to.
-pub(crate) fn reached(
+/// Adds the numbers of all that outputs of these names lead to.
+pub(crate) fn add_reached(
     alloc: Global,
     numbering: &Numbering,
     outputs: &[Output],
     names: &[&str],
-) -> Result<Vec<usize>, AllocError>
-    ensures { IfOk result (λ v. v.items ≡ map (λ p. numbers_of numbering.now (event p)) (reached (targets_of outputs.now) (map (λ n. n.now) names.now))) }
+    terms: &mut Vec<usize>,
+) -> Result<(), AllocError>
+    ensures { OnOk result (terms.new.items ≡ terms.old.items ++ map (λ p. numbers_of numbering.now (event p)) (reached (targets_of outputs.now) (map (λ n. n.now) names.now))) }
 {
-    let mut terms = Vec::new(alloc);
     for name in names {
-        add_output(alloc, numbering, outputs, *name, &mut terms)?;
+        add_output(alloc, numbering, outputs, *name, terms)?;
     }
-    Ok(terms)
+    Ok(())
 }
 
 // Adds the numbers of all that an action's output leads to, if it emits one.

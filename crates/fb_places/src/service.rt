@@ -1,29 +1,66 @@
 //! The demands of a service.
 
-ghost use Rattle.std.specs.Prelude.{◌≡◌, ◌++◌, map, IfOk, OnOk};
+ghost use Rattle.std.specs.Prelude.{◌≡◌, ◌++◌, [], map, IfOk, OnOk, if◌then◌else◌};
 ghost use Rattle.std.specs.List.{flat_map};
-ghost use Rattle.fb_model.specs.Services.{can_emit, service_events};
-ghost use Rattle.fb_demands.specs.Demands.{of_dispatch, sending_demand};
+ghost use Rattle.std.specs.Str.{bytes_eq};
+ghost use Rattle.fb_model.specs.Services.{can_emit, init, service_events};
+ghost use Rattle.fb_demands.specs.Demands.{of_dispatch, sending_demand, sent};
 ghost use Rattle.fb_rows.specs.fb_services.Views.{service_of};
 ghost use Rattle.fb_finding.specs.Nodes.{by_number};
-ghost use Rattle.fb_places.specs.Grounds.{ground_in};
+ghost use Rattle.fb_places.specs.Grounds.{datagram_of, ground_in};
 ghost use Rattle.fb_places.specs.Rights.{numbered, numbers_of, right_of, rights_of};
 
 use crate::chart::least_right;
 use crate::right::Right;
-use crate::scene::{Scene, added, reached};
+use crate::scene::{Scene, add_reached, added};
 use fb_rows::fb_flat::fb_types::fb_networks::fb_services::Service;
 use std::alloc::AllocError;
 
-// The weight of an event pays for its dispatch and for all that it can emit.
+// What a datagram of a channel asks for, which each event input but INIT sends.
+fn datagram(scene: &Scene, number: u16, event: &str) -> Result<Vec<usize>, AllocError>
+    ensures { IfOk result (λ v. v.items ≡ map (numbers_of scene.now.numbering.now) (if bytes_eq event.now init then [] else datagram_of scene.now.follows number)) }
+{
+    let mut terms = Vec::new(scene.alloc);
+    if event == "INIT" {
+        return Ok(terms);
+    }
+    if !scene.follows {
+        return Ok(terms);
+    }
+    terms.push(scene.numbering.channel(number)?)?;
+    Ok(terms)
+}
+
+// What the datagram asks for that an event can send.
+fn sent(scene: &Scene, service: &Service, event: &str) -> Result<Vec<usize>, AllocError>
+    ensures { IfOk result (λ v. v.items ≡ map (numbers_of scene.now.numbering.now) (sent (ground_in scene.now) (service_of service.now) event.now)) }
+{
+    match service {
+        Service::Publish(channel, _) => datagram(scene, channel.number, event),
+        Service::Input(_, _) | Service::Output(_, _) | Service::Subscribe(_, _) => {
+            Ok(Vec::new(scene.alloc))
+        }
+        Service::Delay | Service::Cycle | Service::Restart => Ok(Vec::new(scene.alloc)),
+    }
+}
+
+// The weight of an event pays for its dispatch, for a datagram, and for all that it can emit.
 fn sending_right(scene: &Scene, service: &Service, event: &str) -> Result<Right, AllocError>
-    ensures { IfOk result (λ r. right_of r ≡ by_number (numbers_of scene.now.numbering.now) (sending_demand (ground_in scene.now) event.now (can_emit (service_of service.now) event.now))) }
+    ensures { IfOk result (λ r. right_of r ≡ by_number (numbers_of scene.now.numbering.now) (sending_demand (ground_in scene.now) event.now (sent (ground_in scene.now) (service_of service.now) event.now) (can_emit (service_of service.now) event.now))) }
 {
     let emitted = service.emitted(event);
+    let mut terms = sent(scene, service, event)?;
+    add_reached(
+        scene.alloc,
+        scene.numbering,
+        scene.outputs,
+        emitted,
+        &mut terms,
+    )?;
     Ok(Right {
         node: scene.numbering.event(scene.alloc, scene.path, event)?,
         constant: added(scene.unit, 0),
-        terms: reached(scene.alloc, scene.numbering, scene.outputs, emitted)?,
+        terms,
     })
 }
 

@@ -2,7 +2,7 @@
 
 use crate::case::Case;
 use crate::{declared, trees};
-use fb_cert::{CertFault, Certificate, parse_cert};
+use fb_cert::{CertFault, Certificate, parse_cert, print_cert};
 use fb_lex::{TextFault, lex};
 use fb_ranges::RangeFault;
 use fb_text::{parse, parse_tokens};
@@ -164,7 +164,7 @@ pub fn cuts(alloc: Global, case: &Case<'_>) -> Result<String, AllocError> {
     Ok(ended(out))
 }
 
-// How many rows of each kind a certificate has.
+// How many rows of each kind a certificate has. Rows of the steps on all devices have a line of their own, where there are any.
 fn counts(out: &mut String, certificate: &Certificate) -> Result<(), AllocError> {
     let ranges = certificate.range_count();
     let charges = certificate.charge_count();
@@ -173,11 +173,44 @@ fn counts(out: &mut String, certificate: &Certificate) -> Result<(), AllocError>
     writeln!(
         out,
         "ranges {ranges}, charges {charges}, weights {weights}, depths {depths}"
-    )
+    )?;
+    let fars = certificate.far_count();
+    let far_states = certificate.far_state_count();
+    let channels = certificate.channel_count();
+    if fars > 0 || far_states > 0 || channels > 0 {
+        writeln!(
+            out,
+            "fars {fars}, far states {far_states}, channels {channels}"
+        )?;
+    }
+    Ok(())
+}
+
+// The rows of the steps on all devices, by their indexes.
+fn far_rows(out: &mut String, certificate: &Certificate) -> Result<(), AllocError> {
+    for index in 0..=certificate.far_count() {
+        if let Some((path, steps)) = certificate.far_at(index) {
+            writeln!(out, "FAR {path} {steps}")?;
+        }
+    }
+    for index in 0..=certificate.far_state_count() {
+        if let Some((path, steps)) = certificate.far_state_at(index) {
+            writeln!(out, "FARSTATE {path} {steps}")?;
+        }
+    }
+    for index in 0..=certificate.channel_count() {
+        if let Some((number, steps)) = certificate.channel_at(index) {
+            writeln!(out, "CHANNEL {number} {steps}")?;
+        }
+    }
+    Ok(())
 }
 
 // The rows of a certificate, by their indexes.
 fn rows(out: &mut String, certificate: &Certificate) -> Result<(), AllocError> {
+    if let Some(repeats) = certificate.repeats() {
+        writeln!(out, "REPEATS {repeats}")?;
+    }
     for index in 0..=certificate.range_count() {
         if let Some((path, bounds)) = certificate.range_at(index) {
             writeln!(out, "RANGE {path} {} {}", bounds.low, bounds.high)?;
@@ -198,10 +231,10 @@ fn rows(out: &mut String, certificate: &Certificate) -> Result<(), AllocError> {
             writeln!(out, "DEPTH {path} {depth}")?;
         }
     }
-    Ok(())
+    far_rows(out, certificate)
 }
 
-// The rows of a path, each of its kind.
+// The rows of a path, or of the number of a channel, each of its kind.
 fn found(out: &mut String, certificate: &Certificate, path: &str) -> Result<(), AllocError> {
     write!(out, "{path}:")?;
     if let Some(bounds) = certificate.range(path) {
@@ -216,26 +249,74 @@ fn found(out: &mut String, certificate: &Certificate, path: &str) -> Result<(), 
     if let Some(depth) = certificate.depth(path) {
         write!(out, " DEPTH {depth}")?;
     }
+    if let Some(steps) = certificate.far(path) {
+        write!(out, " FAR {steps}")?;
+    }
+    if let Some(steps) = certificate.far_state(path) {
+        write!(out, " FARSTATE {steps}")?;
+    }
+    if let Ok(number) = path.parse::<u16>() {
+        if let Some(steps) = certificate.channel(number) {
+            write!(out, " CHANNEL {steps}")?;
+        }
+    }
     out.push('\n')
 }
 
-// All rows, and those of these paths.
-fn told(alloc: Global, certificate: &Certificate, paths: &str) -> Result<String, AllocError> {
+// What is printed of a certificate, line by line behind a `>`.
+fn printed(alloc: Global, out: &mut String, certificate: &Certificate) -> Result<(), AllocError> {
+    match print_cert(alloc, certificate) {
+        Ok(text) => {
+            for line in text.as_str().lines() {
+                writeln!(out, "> {line}")?;
+            }
+            read_back(alloc, out, text.as_str())
+        }
+        Err(_) => out.push_str("out of memory\n"),
+    }
+}
+
+// Whether what is printed is printed so again once it is read.
+fn read_back(alloc: Global, out: &mut String, text: &str) -> Result<(), AllocError> {
+    match parse_cert(alloc, text) {
+        Ok(again) => {
+            let same = match print_cert(alloc, &again) {
+                Ok(other) => other.as_str() == text,
+                Err(_) => false,
+            };
+            again.let_go();
+            writeln!(out, "read back: {same}")
+        }
+        Err(fault) => writeln!(out, "not read back: {fault}"),
+    }
+}
+
+// All rows, those of these paths, and what is printed if it is asked for.
+fn told(
+    alloc: Global,
+    certificate: &Certificate,
+    paths: &str,
+    print: &str,
+) -> Result<String, AllocError> {
     let mut out = String::new(alloc);
     counts(&mut out, certificate)?;
     rows(&mut out, certificate)?;
     for path in paths.lines() {
         found(&mut out, certificate, path)?;
     }
+    if !print.is_empty() {
+        printed(alloc, &mut out, certificate)?;
+    }
     Ok(ended(out))
 }
 
-/// The rows of a certificate, and those of the paths in the section `paths`, one a line.
+/// The rows of a certificate, and those of the paths and the numbers of channels in the section `paths`, one a line. Where there is a section `print`, what is
+/// printed of it, and whether that is read back.
 pub fn certificates(alloc: Global, case: &Case<'_>) -> Result<String, AllocError> {
     let text = text_of(alloc, case)?;
     match parse_cert(alloc, text.as_str()) {
         Ok(certificate) => {
-            let answer = told(alloc, &certificate, case.text("paths"));
+            let answer = told(alloc, &certificate, case.text("paths"), case.text("print"));
             certificate.let_go();
             answer
         }

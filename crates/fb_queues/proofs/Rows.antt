@@ -67,7 +67,7 @@ pub record IsOn (old now : Rows) (P : Name → Type 0) (n : ℕ) (path : Path) (
   pub past : (t : Name) → IsPastIn (book_of old) t n path rs → P t
 
 more_twice : (old : Rows) (a b : Table ℕ) → with_more b (with_more a old) ≡ with_more (a ++ b) old
-more_twice old a b = ap (λ (ds : Table ℕ). record { ranges = old.ranges; charges = old.charges; weights = old.weights; depths = ds }) (append_assoc old.depths a b)
+more_twice old a b = ap (λ (ds : Table ℕ). record old { depths = ds }) (append_assoc old.depths a b)
 
 need_same : (old now : Rows) (done : Table ℕ) (all : List Leaf) → now ≡ with_more done old → needed_depth (book_of now) all ≡ needed_depth (book_of old) all
 need_same old now done all is = ap (λ (rows : Rows). needed_depth (book_of rows) all) is
@@ -95,7 +95,7 @@ resource_past old now P n path f fs r rs whole on (Limit at) h = on.past (string
 
 pub resources_first : (old : Rows) (n : ℕ) (path : Path) (fs : List FlatResource) (rs : List book.Resource) → AreResources n path fs rs → AreFresh (paths old.depths) (map text fs)
     → IsOn old old (λ t. IsPastIn (book_of old) t n path rs) n path fs rs (rows_from (book_of old) n path fs rs)
-resources_first old n path fs rs a f = record { are = a; done = []; is = ap (λ (ds : Table ℕ). record { ranges = old.ranges; charges = old.charges; weights = old.weights; depths = ds }) (sym (append-nil old.depths)); rest = refl; fresh = f; past = λ t h. h }
+resources_first old n path fs rs a f = record { are = a; done = []; is = ap (λ (ds : Table ℕ). record old { depths = ds }) (sym (append-nil old.depths)); rest = refl; fresh = f; past = λ t h. h }
 
 pub resources_last : (old now : Rows) (P : Name → Type 0) (n : ℕ) (path : Path) (rs : List book.Resource) (whole : Table ℕ) → IsOn old now P n path [] rs whole → now ≡ with_more whole old
 resources_last old now P n path rs whole on = on.is ∙ ap (λ (ds : Table ℕ). with_more ds old) (sym (append-nil on.done) ∙ on.rest)
@@ -159,7 +159,7 @@ device_past old now P f fs d ds whole on (NoRange at) h = h
 device_past old now P f fs d ds whole on (Limit at) h = on.past (string_bytes at) (inl (past_same old now on.done (string_bytes at) 0 (d.name ∷ []) d.resources on.is h))
 
 pub devices_first : (old : Rows) (fs : List FlatDevice) (ds : List book.Device) → AreDevices fs ds → AreFresh (paths old.depths) (flat_map resource_texts fs) → IsOver old old (λ t. IsPastAmong (book_of old) t ds) fs ds (all_rows (book_of old) fs ds)
-devices_first old fs ds a f = record { are = a; done = []; is = ap (λ (ds : Table ℕ). record { ranges = old.ranges; charges = old.charges; weights = old.weights; depths = ds }) (sym (append-nil old.depths)); rest = refl; fresh = f; past = λ t h. h }
+devices_first old fs ds a f = record { are = a; done = []; is = ap (λ (ds : Table ℕ). record old { depths = ds }) (sym (append-nil old.depths)); rest = refl; fresh = f; past = λ t h. h }
 
 pub devices_last : (old now : Rows) (P : Name → Type 0) (ds : List book.Device) (whole : Table ℕ) → IsOver old now P [] ds whole → now ≡ with_more whole old
 devices_last old now P ds whole on = on.is ∙ ap (λ (t : Table ℕ). with_more t old) (sym (append-nil on.done) ∙ on.rest)

@@ -47,7 +47,7 @@ AreFresh before (t ∷ ts) = (is_upper_path t ≡ true) × (is_in t before ≡ f
 
 -- rows DEPTH behind those that there are
 abbrev pub with_more : Table ℕ → Rows → Rows
-with_more more rows = record { ranges = rows.ranges; charges = rows.charges; weights = rows.weights; depths = rows.depths ++ more }
+with_more more rows = record rows { depths = rows.depths ++ more }
 
 -- those of resources, by their numbers from n on
 abbrev pub rows_from : certs.Certificate → ℕ → Path → List FlatResource → List book.Resource → Table ℕ

@@ -94,7 +94,7 @@ last_leaf g ss ls i old whole h k = sym (ap (λ rs. adding rs old) (ap (λ xs. a
 -- ---- rows on new paths
 
 abbrev with_ranges : Table Span → Rows → Rows
-with_ranges rs rows = record { ranges = rs; charges = rows.charges; weights = rows.weights; depths = rows.depths }
+with_ranges rs rows = record rows { ranges = rs }
 
 -- a row that a text can say, on a path that stands in no row, is added
 one_added : (r : Name × Span) (rows : Rows) → is_upper_path r.0 ≡ true → has_path r.0 rows.ranges ≡ false → added r rows ≡ with_ranges (rows.ranges ++ r ∷ []) rows

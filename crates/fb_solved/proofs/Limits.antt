@@ -1,15 +1,8 @@
 -- A number above a limit is that of a place.
-use Rattle.std.proofs.Common.{ℕ, zero, suc, ◌≡◌, ◌<◌, ◌≤◌, ◌⊎◌, inl, inr, ◌==◌, Bool, true, false, List, [], ◌∷◌, length, take, refl, sym, ◌∙◌, ap, subst, arith, Contains, if◌then◌else◌}
+use Rattle.std.proofs.Common.{ℕ, zero, suc, ◌≡◌, ◌<◌, ◌≤◌, ◌⊎◌, inl, inr, ◌==◌, Bool, true, false, List, [], ◌∷◌, length, refl, subst, arith, Contains, if◌then◌else◌}
 use Rattle.std.proofs.lemmas.Bool.{eqb-true}
-use Rattle.fb_model.specs.Names.{Name}
-use Rattle.fb_model.specs.CertificateText.{names_in, place_of}
-use Rattle.fb_demands.specs.Demands.{Node, state, event}
 use Rattle.fb_least.specs.Systems.{Inequality, System, inequalities, asks, Fits, IsLeast}
 use Rattle.fb_least.proofs.Solving.{asks_le}
-use Rattle.fb_finding.proofs.Nodes.{place_names}
-use Rattle.fb_solved.specs.Faults.{IsResourceOf}
-
--- ---- places without inequalities
 
 past_end : (system : System) (p : ℕ) → length system ≤ p → inequalities system p ≡ []
 past_end [] p h = refl
@@ -43,11 +36,3 @@ of_place system x p limit l a = by (split p (length system)) where
   by : (p < length system) ⊎ (length system ≤ p) → p < length system
   by (inl k) = k
   by (inr h) = absurd (let z : but x p p ≡ 0 = rw (same_number p) refl in omega (arith, l.least (but x p) (but_fits system x p h l.fits) p, z, a))
-
--- ---- resources of places
-
-pub state_resource : (t s : Name) (x : Node) → state (place_of t) ≡ x → names_in s ≡ take 2 (names_in t) → IsResourceOf x s
-state_resource t s x e h = subst (λ (y : Node). IsResourceOf y s) e (h ∙ ap (take 2) (sym (place_names t)))
-
-pub event_resource : (t s : Name) (x : Node) → event (place_of t) ≡ x → names_in s ≡ take 2 (names_in t) → IsResourceOf x s
-event_resource t s x e h = subst (λ (y : Node). IsResourceOf y s) e (h ∙ ap (take 2) (sym (place_names t)))

@@ -22,7 +22,7 @@ pub record CanBeSaid (texts : List Name) (steps places : List ℕ) : Type 0 wher
   pub few_places : All (λ n. n ≤ most_places) places
 
 abbrev pub with_charges : Table Amount → Rows → Rows
-with_charges charges rows = record { ranges = rows.ranges; charges = charges; weights = rows.weights; depths = rows.depths }
+with_charges charges rows = record rows { charges = charges }
 
 abbrev pub with_weights : Table Amount → Rows → Rows
-with_weights weights rows = record { ranges = rows.ranges; charges = rows.charges; weights = weights; depths = rows.depths }
+with_weights weights rows = record rows { weights = weights }

@@ -13,20 +13,27 @@ use fb_least::{Alternative, Sorted, rows_needed, sort_places};
 use indexmap::IndexSet;
 use std::alloc::Global;
 
-/// Each place after all that it demands, where states and behind them events have these rows; or a closed walk of places, that begins at the first one of it.
+/// Each place after all that it demands, where states and behind them events have these rows, and behind these there are channels; or a closed walk of places, that begins at the first one of it.
 pub fn sorted(
     alloc: Global,
     states: &IndexSet<String>,
     events: &IndexSet<String>,
+    channels: &[u16],
     system: &[Vec<Alternative>],
 ) -> Result<Vec<usize>, NoBound>
     requires { IsSystem (system_of system.now) }
     ensures ordered { IfOk result (λ order. IsOrder (needs (system_of system.now)) order.items) }
-    ensures walk { IfErr result (IsWalk (system_of system.now) (texts_of states.now) (texts_of events.now)) }
+    ensures walk { IfErr result (IsWalk (system_of system.now) (texts_of states.now) (texts_of events.now) channels.now) }
 {
     let graph = rows_needed(alloc, system)?;
     match sort_places(alloc, graph.as_slice())? {
         Sorted::Order(order) => Ok(order),
-        Sorted::Walk(walk) => Err(NoBound::Cycle(places(alloc, states, events, walk.as_slice())?)),
+        Sorted::Walk(walk) => Err(NoBound::Cycle(places(
+            alloc,
+            states,
+            events,
+            channels,
+            walk.as_slice(),
+        )?)),
     }
 }

@@ -21,7 +21,7 @@ use Rattle.fb_places.specs.fb_flat.declared.flat.Leaf.{Leaf}
 use Rattle.fb_places.specs.fb_flat.Leaves.{outputs_of}
 use Rattle.fb_places.specs.fb_flat.Tables.{IsLeaf}
 use Rattle.fb_places.specs.declared.numbering.Numbering.{Numbering}
-use Rattle.fb_places.specs.Grounds.{algorithms_of, leaf_ground, priced}
+use Rattle.fb_places.specs.Grounds.{algorithms_of, datagram_of, leaf_ground, priced}
 use Rattle.fb_places.specs.Rights.{numbered, numbers_of}
 use Rattle.fb_sums.specs.Leaves.{leaf_rights}
 
@@ -108,20 +108,21 @@ kind_leads g h (Serviced service) a c = dispatches_lead service g h a (service_e
 
 -- ---- leaves
 
--- a leaf's ground in the book, where a dispatch or a crossing counts so much, and its algorithms have these prices
-abbrev pub book_ground : ℕ → (Option Name → ℕ) → wires.Leaf → Ground
-book_ground unit price leaf = record { unit = unit; price = price; own = at_place leaf.path; targets = leaf.targets }
+-- a leaf's ground in the book, where a dispatch or a crossing counts so much, datagrams are followed or not, and its algorithms have these prices
+abbrev pub book_ground : ℕ → Bool → (Option Name → ℕ) → wires.Leaf → Ground
+book_ground unit follows price leaf = record { unit = unit; price = price; own = at_place leaf.path; targets = leaf.targets; datagram = datagram_of follows }
 
 -- what a leaf asks is what the book's leaf asks
-pub leaf_same : (n : Numbering) (unit : ℕ) (prices : List ℕ) (price : Option Name → ℕ) (l : Leaf) (leaf : wires.Leaf) → IsLeaf l leaf → IsClosed leaf.kind → ((a : Option Name) → Same (priced (algorithms_of l.body) prices a) (price a))
-    → leaf_rights n unit prices l ≡ numbered n (of_kind (book_ground unit price leaf) leaf.kind)
-leaf_same n unit prices price l leaf is closed p =
-    let g = leaf_ground unit prices l in
-    let h = book_ground unit price leaf in
+pub leaf_same : (n : Numbering) (unit : ℕ) (follows : Bool) (prices : List ℕ) (price : Option Name → ℕ) (l : Leaf) (leaf : wires.Leaf) → IsLeaf l leaf → IsClosed leaf.kind → ((a : Option Name) → Same (priced (algorithms_of l.body) prices a) (price a))
+    → leaf_rights n unit follows prices l ≡ numbered n (of_kind (book_ground unit follows price leaf) leaf.kind)
+leaf_same n unit follows prices price l leaf is closed p =
+    let g = leaf_ground unit follows prices l in
+    let h = book_ground unit follows price leaf in
     let works = works_same g h p in
     let alike : AreGroundsAlike Same g h leaf.kind = record {
       unit = refl;
       own = λ x. ap (λ path. at_place path x) is.path;
+      datagram = λ c. refl;
       leads = kind_leads g h leaf.kind is.targets closed;
       same = λ m. refl;
       works = works;

@@ -1,7 +1,7 @@
 -- The prices of algorithms under the tables of leaves are what they cost in the book, as far as numbers tell.
-use Rattle.std.proofs.Common.{◌≡◌, ℕ, ◌+◌, ◌*◌, nat_le, Bool, true, false, List, [], ◌∷◌, ◌++◌, map, Option, Some, None, refl, sym, ap, subst, ◌∙◌, arith, string_bytes, if◌then◌else◌}
+use Rattle.std.proofs.Common.{◌≡◌, ℕ, ◌+◌, ◌*◌, nat_le, Bool, true, false, List, [], ◌∷◌, ◌++◌, map, Option, Some, None, refl, sym, ap, ap₂, subst, ◌∙◌, arith, string_bytes, if◌then◌else◌}
 use Rattle.std.specs.Option.{unwrap_or}
-use Rattle.std.specs.List.{AllByRecursion}
+use Rattle.std.specs.List.{flat_map, AllByRecursion}
 use Rattle.std.specs.Str.{bytes_eq}
 use Rattle.std.specs.declared.string.String.{String}
 use Rattle.std.specs.declared.alloc.Global.{Global}
@@ -13,10 +13,10 @@ use Rattle.fb_model.specs.Wires.{Kind}
 use Rattle.fb_model.specs.Charts.{named}
 use Rattle.fb_model.specs.Clear.{Spans, Found, Clear, found_cost, examined}
 use Rattle.fb_model.specs.Ranges.{Range, rows, cost_of, IsClearAlgorithm}
-use Rattle.fb_model.specs.Certificates.{all_leaves}
+use Rattle.fb_model.specs.Certificates.{all_leaves, channels_of}
 use Rattle.fb_leaves.specs.Leaves.{IsClosed}
-use Rattle.fb_demands.specs.Demands.{of_kind}
-use Rattle.fb_demands.specs.Columns.{price_of, ground_of, demands}
+use Rattle.fb_demands.specs.Demands.{Demand, of_kind, channel_demands}
+use Rattle.fb_demands.specs.Columns.{price_of, demands, network_demands}
 use Rattle.fb_finding.specs.Nodes.{by_number, capped}
 use Rattle.fb_growing.specs.Found.{IsTable}
 use Rattle.fb_ledger.proofs.Names.{bytes_turned}
@@ -32,10 +32,11 @@ use Rattle.fb_places.specs.fb_flat.Tables.{IsLeaf, AreLeaves, AreDevices}
 use Rattle.fb_places.specs.declared.numbering.Numbering.{Numbering}
 use Rattle.fb_places.specs.Grounds.{value_at, priced as price_in, algorithms_of}
 use Rattle.fb_places.specs.Rights.{numbered, numbers_of}
+use Rattle.fb_places.specs.Channels.{channels_ask}
 use Rattle.fb_sums.specs.Leaves.{leaves_under, AreClosed}
 use Rattle.fb_sums.specs.Prices.{most, prices, kind_prices, priced_leaf, priced, HasClear, AreTables, AreClear}
-use Rattle.fb_sums.proofs.Alike.{Same, leaf_same}
-use Rattle.fb_sums.proofs.Systems.{AllClosed, all_are, all_closed}
+use Rattle.fb_sums.proofs.Alike.{Same, book_ground, leaf_same}
+use Rattle.fb_sums.proofs.Systems.{AllClosed, all_are, all_closed, asked_same}
 
 -- ---- one algorithm
 
@@ -84,25 +85,37 @@ table_same ranges spans leaf (Basic block) t h a =
 table_same ranges spans leaf (Served service) t h None = refl
 table_same ranges spans leaf (Served service) t h (Some x) = refl
 
-leaf_priced : (n : Numbering) (ranges : List Range) (spans : Spans) (l : Leaf) (leaf : wires.Leaf) → IsLeaf l leaf → IsClosed leaf.kind → IsTable ranges spans leaf leaf.kind → HasClear (rows ranges leaf.path leaf.kind) leaf.kind
-    → priced_leaf n l (Some spans) ≡ numbered n (of_kind (ground_of 1 ranges leaf) leaf.kind)
-leaf_priced n ranges spans l leaf is closed t h =
+leaf_priced : (n : Numbering) (follows : Bool) (ranges : List Range) (spans : Spans) (l : Leaf) (leaf : wires.Leaf) → IsLeaf l leaf → IsClosed leaf.kind → IsTable ranges spans leaf leaf.kind → HasClear (rows ranges leaf.path leaf.kind) leaf.kind
+    → priced_leaf n follows l (Some spans) ≡ numbered n (of_kind (book_ground 1 follows (price_of 1 (rows ranges leaf.path leaf.kind) leaf.kind) leaf) leaf.kind)
+leaf_priced n follows ranges spans l leaf is closed t h =
     let R = rows ranges leaf.path leaf.kind in
     let here : IsTable ranges spans leaf (kind_of l.body) = subst (IsTable ranges spans leaf) (sym is.kind) t in
     let clear : HasClear R (kind_of l.body) = subst (HasClear R) (sym is.kind) h in
-    leaf_same n 1 (kind_prices (Some spans) (kind_of l.body)) (price_of 1 R leaf.kind) l leaf is closed
+    leaf_same n 1 follows (kind_prices (Some spans) (kind_of l.body)) (price_of 1 R leaf.kind) l leaf is closed
     (λ a. table_same ranges spans leaf l.body here clear a ∙ ap (λ (k : Kind). capped (price_of 1 R k a)) is.kind)
 
-leaves_priced : (n : Numbering) (ranges : List Range) (ls : List Leaf) (bs : List wires.Leaf) (ts : List Spans) → AreLeaves ls bs → AllClosed bs → AreTables ranges ts bs → AreClear ranges bs → priced n ls ts ≡ numbered n (demands 1 ranges bs)
-leaves_priced n ranges [] [] ts a c t h = refl
-leaves_priced n ranges [] (b ∷ bs) ts a c t h = absurd a
-leaves_priced n ranges (l ∷ ls) [] ts a c t h = absurd a
-leaves_priced n ranges (l ∷ ls) (b ∷ bs) [] a c t h = absurd t
-leaves_priced n ranges (l ∷ ls) (b ∷ bs) (s ∷ ts) a c t h =
-    ap (λ rs. rs ++ priced n ls ts) (leaf_priced n ranges s l b a.0 c.0 t.0 h.0)
-    ∙ ap (λ rs. numbered n (of_kind (ground_of 1 ranges b) b.kind) ++ rs) (leaves_priced n ranges ls bs ts a.1 c.1 t.1 h.1)
-    ∙ sym (map-append (by_number (numbers_of n)) (of_kind (ground_of 1 ranges b) b.kind) (demands 1 ranges bs))
+-- the demands of the book's leaves
+abbrev followed : Bool → List Range → wires.Leaf → List Demand
+followed follows ranges leaf = of_kind (book_ground 1 follows (price_of 1 (rows ranges leaf.path leaf.kind) leaf.kind) leaf) leaf.kind
+
+leaves_priced : (n : Numbering) (follows : Bool) (ranges : List Range) (ls : List Leaf) (bs : List wires.Leaf) (ts : List Spans) → AreLeaves ls bs → AllClosed bs → AreTables ranges ts bs → AreClear ranges bs → priced n follows ls ts ≡ numbered n (flat_map (followed follows ranges) bs)
+leaves_priced n follows ranges [] [] ts a c t h = refl
+leaves_priced n follows ranges [] (b ∷ bs) ts a c t h = absurd a
+leaves_priced n follows ranges (l ∷ ls) [] ts a c t h = absurd a
+leaves_priced n follows ranges (l ∷ ls) (b ∷ bs) [] a c t h = absurd t
+leaves_priced n follows ranges (l ∷ ls) (b ∷ bs) (s ∷ ts) a c t h =
+    ap (λ rs. rs ++ priced n follows ls ts) (leaf_priced n follows ranges s l b a.0 c.0 t.0 h.0)
+    ∙ ap (λ rs. numbered n (followed follows ranges b) ++ rs) (leaves_priced n follows ranges ls bs ts a.1 c.1 t.1 h.1)
+    ∙ sym (map-append (by_number (numbers_of n)) (followed follows ranges b) (flat_map (followed follows ranges) bs))
 
 pub priced_same : (n : Numbering) (ranges : List Range) (fs : List FlatDevice) (ds : List Device) (ts : List Spans) → AreDevices fs ds → AreClosed ds → AreTables ranges ts (all_leaves ds) → AreClear ranges (all_leaves ds)
-    → priced n (leaves_under fs) ts ≡ numbered n (demands 1 ranges (all_leaves ds))
-priced_same n ranges fs ds ts a c t h = leaves_priced n ranges (leaves_under fs) (all_leaves ds) ts (all_are fs ds a) (all_closed ds c) t h
+    → priced n false (leaves_under fs) ts ≡ numbered n (demands 1 ranges (all_leaves ds))
+priced_same n ranges fs ds ts a c t h = leaves_priced n false ranges (leaves_under fs) (all_leaves ds) ts (all_are fs ds a) (all_closed ds c) t h
+
+-- those of the network: of the leaves, and then of the channels
+pub far_same : (n : Numbering) (r : ℕ) (ranges : List Range) (fs : List FlatDevice) (ds : List Device) (ts : List Spans) → AreDevices fs ds → AreClosed ds → n.channels.items ≡ channels_of (all_leaves ds) → AreTables ranges ts (all_leaves ds) → AreClear ranges (all_leaves ds)
+    → priced n true (leaves_under fs) ts ++ numbered n (channels_ask r (leaves_under fs) n.channels.items) ≡ numbered n (network_demands r ranges (all_leaves ds))
+far_same n r ranges fs ds ts a c e t h =
+    let all = all_leaves ds in
+    ap₂ (λ xs ys. xs ++ ys) (leaves_priced n true ranges (leaves_under fs) all ts (all_are fs ds a) (all_closed ds c) t h) (asked_same n r fs ds a e)
+    ∙ sym (map-append (by_number (numbers_of n)) (flat_map (followed true ranges) all) (channel_demands r all))

@@ -1,6 +1,6 @@
 -- The leaves of the tables, and what they ask by numbers.
 -- This project's profile.
-use Rattle.std.specs.Prelude.{ℕ, List, flat_map}
+use Rattle.std.specs.Prelude.{ℕ, Bool, List, flat_map}
 use Rattle.std.specs.List.{AllByRecursion}
 use Rattle.fb_model.specs.System as book
 use Rattle.fb_model.specs.Wires as wires
@@ -20,9 +20,9 @@ use Rattle.fb_places.specs.Rights.{numbered}
 abbrev pub leaves_under : List FlatDevice → List Leaf
 leaves_under ds = flat_map (λ (d : FlatDevice). leaves_in d.resources.items) ds
 
--- what a leaf asks by numbers, where a dispatch or a crossing counts so much, and its algorithms have these prices
-abbrev pub leaf_rights : Numbering → ℕ → List ℕ → Leaf → List Numbered
-leaf_rights n unit prices leaf = numbered n (of_kind (leaf_ground unit prices leaf) (kind_of leaf.body))
+-- what a leaf asks by numbers, where a dispatch or a crossing counts so much, datagrams are followed or not, and its algorithms have these prices
+abbrev pub leaf_rights : Numbering → ℕ → Bool → List ℕ → Leaf → List Numbered
+leaf_rights n unit follows prices leaf = numbered n (of_kind (leaf_ground unit follows prices leaf) (kind_of leaf.body))
 
 -- the charts of all leaves name what they have
 abbrev pub AreClosed : List book.Device → Type 0

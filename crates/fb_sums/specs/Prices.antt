@@ -1,6 +1,6 @@
 -- What algorithms cost under tables of ranges, and what the leaves of the tables ask by numbers with these prices.
 -- This project's profile.
-use Rattle.std.specs.Prelude.{ℕ, List, [], ◌∷◌, ◌++◌, map, Option, None, Some}
+use Rattle.std.specs.Prelude.{ℕ, Bool, List, [], ◌∷◌, ◌++◌, map, Option, None, Some}
 use Rattle.std.specs.Option.{unwrap_or}
 use Rattle.std.specs.List.{AllByRecursion, AllZip}
 use Rattle.fb_model.specs.System.{Procedure}
@@ -33,14 +33,14 @@ kind_prices spans (Charted block) = prices spans block.procedures
 kind_prices spans (Serviced service) = []
 
 -- what a leaf asks with the prices of its table
-abbrev pub priced_leaf : Numbering → Leaf → Option Spans → List Numbered
-priced_leaf n leaf spans = leaf_rights n 1 (kind_prices spans (kind_of leaf.body)) leaf
+abbrev pub priced_leaf : Numbering → Bool → Leaf → Option Spans → List Numbered
+priced_leaf n follows leaf spans = leaf_rights n 1 follows (kind_prices spans (kind_of leaf.body)) leaf
 
 -- the same of all, each with its table
-abbrev pub priced : Numbering → List Leaf → List Spans → List Numbered
-priced n [] ts = []
-priced n (l ∷ ls) [] = priced_leaf n l None ++ priced n ls []
-priced n (l ∷ ls) (t ∷ ts) = priced_leaf n l (Some t) ++ priced n ls ts
+abbrev pub priced : Numbering → Bool → List Leaf → List Spans → List Numbered
+priced n follows [] ts = []
+priced n follows (l ∷ ls) [] = priced_leaf n follows l None ++ priced n follows ls []
+priced n follows (l ∷ ls) (t ∷ ts) = priced_leaf n follows l (Some t) ++ priced n follows ls ts
 
 -- ---- the book
 

@@ -2,6 +2,7 @@
 //! their most steps.
 #![tactic(auto)]
 
+mod channels;
 mod leaves;
 mod nodes;
 mod plain;
@@ -10,5 +11,5 @@ mod prices;
 
 pub use fb_places;
 pub use nodes::numbering;
-pub use plain::plain_rights;
-pub use priced::priced_rights;
+pub use plain::{network_rights, plain_rights};
+pub use priced::{far_rights, priced_rights};

@@ -1,20 +1,20 @@
 -- From places that are shown to numbers, and back.
-use Rattle.std.proofs.Common.{ℕ, zero, suc, ◌≡◌, ◌+◌, ◌-◌, ◌<◌, ◌≤◌, ◌⊎◌, inl, inr, ◌↔◌, Bool, true, false, not, cond, List, [], ◌∷◌, length, map, slice_index, slice_index_or, nat_lt, refl, sym, ◌∙◌, ap, subst, arith, Contains}
-use Rattle.std.specs.List.{IsDistinct}
+use Rattle.std.proofs.Common.{ℕ, zero, suc, ◌≡◌, ◌+◌, ◌-◌, ◌<◌, ◌≤◌, ◌⊎◌, inl, inr, ◌↔◌, Bool, true, false, not, cond, List, [], ◌∷◌, length, map, slice_index, slice_index_or, nat_lt, ◌++◌, ◌==◌, refl, sym, ◌∙◌, ap, subst, arith, Contains}
 use Rattle.std.specs.Str.{bytes_eq}
+use Rattle.std.proofs.lemmas.Bool.{eqb-true}
 use Rattle.std.proofs.lemmas.Bool.Decides.{nat_tests}
-use Rattle.std.proofs.lemmas.List.{length-map, length-append, get_or-map, get_or-append-add}
+use Rattle.std.proofs.lemmas.List.{length-map, length-append, get_or-map, get_or_append_left, get_or-append-add}
 use Rattle.std.proofs.lemmas.List.Elements.{Contains-append_left, Contains-append_right}
 use Rattle.fb_model.specs.Names.{Name, Place, at_place}
 use Rattle.fb_model.specs.CertificateText.{place_of}
 use Rattle.fb_model.proofs.Lists.{same_name}
-use Rattle.fb_demands.specs.Demands.{Node, state, event, Demand, node_in, IsClosedWalk}
+use Rattle.fb_demands.specs.Demands.{Node, state, event, channel, Demand, node_in, IsClosedWalk}
 use Rattle.fb_least.specs.Systems.{System, IsSystem}
 use Rattle.fb_least.specs.Systems as numbered
 use Rattle.fb_numbered.specs.Numbered.{AreNumbers, AreOf, SaysSame}
 use Rattle.fb_numbered.proofs.Numbering.{walk_nodes, walk_numbers}
-use Rattle.fb_finding.specs.Nodes.{written, index_in, nodes_of, number}
-use Rattle.fb_finding.proofs.Nodes.{written_place, are_numbers}
+use Rattle.fb_finding.specs.Nodes.{written, index_in, rank_in, nodes_of, number}
+use Rattle.fb_finding.proofs.Nodes.{written_place}
 use Rattle.fb_walk.specs.Shown.{index_or, number_or_end}
 
 -- ---- closed walks stay within the nodes
@@ -102,60 +102,135 @@ none_or k texts t e =
     let w = written (place_of t) in
     sym (or_behind k (length texts) (index_in texts w) (nat_lt (index_in texts w) (length texts)) refl (omega (arith, e, index_at texts t)))
 
+-- ---- numbers in lists
+
+rank_found_at : (c d : ℕ) (ds : List ℕ) (b : Bool) → (c == d) ≡ b → (rank_in ds c < length ds → Contains ds c) → cond (not b) (1 + rank_in ds c) 0 < length (d ∷ ds) → Contains (d ∷ ds) c
+rank_found_at c d ds true e h l = (0, omega arith, sym (eqb-true c d e))
+rank_found_at c d ds false e h l = Contains-append_right (d ∷ []) ds c (h (omega (arith, l)))
+
+rank_found : (ds : List ℕ) (c : ℕ) → rank_in ds c < length ds → Contains ds c
+rank_found [] c l = absurd (omega (arith, l))
+rank_found (d ∷ ds) c l = rank_found_at c d ds (c == d) refl (rank_found ds c) l
+
 -- ---- nodes of rows
 
 -- how many there are
-pub count_is : (states events : List Name) → length (nodes_of states events) ≡ length states + length events
-count_is states events =
-    omega (arith, length-append (map (λ t. state (place_of t)) states) (map (λ t. event (place_of t)) events), length-map states (λ t. state (place_of t)), length-map events (λ t. event (place_of t)))
+pub count_is : (states events : List Name) (channels : List ℕ) → length (nodes_of states events channels) ≡ length states + (length events + length channels)
+count_is states events channels =
+    omega (
+      arith,
+      length-append (map (λ t. state (place_of t)) states) (map (λ t. event (place_of t)) events ++ map channel channels),
+      length-append (map (λ t. event (place_of t)) events) (map channel channels),
+      length-map states (λ t. state (place_of t)),
+      length-map events (λ t. event (place_of t)),
+      length-map channels channel,
+    )
 
-module _ (states events : List Name) (apart : IsDistinct bytes_eq states) (others : IsDistinct bytes_eq events) where
+-- what nodes are, and where they stand
+is_state : Node → Bool
+is_state (state p) = true
+is_state (event p) = false
+is_state (channel c) = false
+
+is_event : Node → Bool
+is_event (state p) = false
+is_event (event p) = true
+is_event (channel c) = false
+
+module _ (states events : List Name) (channels : List ℕ) (stand : AreNumbers (nodes_of states events channels) (number states events channels)) where
+  abbrev nodes : List Node
+  nodes = nodes_of states events channels
+
   abbrev front : List Node
   front = map (λ t. state (place_of t)) states
 
+  abbrev middle : List Node
+  middle = map (λ t. event (place_of t)) events
+
   abbrev behind : List Node
-  behind = map (λ t. event (place_of t)) events
+  behind = middle ++ map channel channels
 
-  stand : AreNumbers (nodes_of states events) (number states events)
-  stand = are_numbers states events apart others
+  sized : length nodes ≡ length states + (length events + length channels)
+  sized = count_is states events channels
 
-  sized : length (nodes_of states events) ≡ length states + length events
-  sized = count_is states events
-
-  state_known : (t : Name) → index_in states t < length states → Contains (nodes_of states events) (state (place_of t))
+  state_known : (t : Name) → index_in states t < length states → Contains nodes (state (place_of t))
   state_known t l = Contains-append_left front behind (state (place_of t)) (contains_map (λ s. state (place_of s)) states t (found states t l))
 
-  event_known : (t : Name) → index_in events t < length events → Contains (nodes_of states events) (event (place_of t))
-  event_known t l = Contains-append_right front behind (event (place_of t)) (contains_map (λ s. event (place_of s)) events t (found events t l))
+  event_known : (t : Name) → index_in events t < length events → Contains nodes (event (place_of t))
+  event_known t l = Contains-append_right front behind (event (place_of t)) (Contains-append_left middle (map channel channels) (event (place_of t)) (contains_map (λ s. event (place_of s)) events t (found events t l)))
 
-  -- behind the states there are events
-  differ : (p q : Place) → event p ≡ state q → ⊥
-  differ p q e = absurd cc
+  channel_known : (c : ℕ) → rank_in channels c < length channels → Contains nodes (channel c)
+  channel_known c l = Contains-append_right front behind (channel c) (Contains-append_right middle (map channel channels) (channel c) (contains_map channel channels c (rank_found channels c l)))
 
-  state_early : (k : ℕ) (p : Place) → k < length (nodes_of states events) → node_in (nodes_of states events) k ≡ state p → k < length states
-  state_early k p l e = by (split k (length states)) where
-    by : (k < length states) ⊎ (length states ≤ k) → k < length states
+  -- what stands behind the states
+  at_behind : (k : ℕ) → node_in nodes (length states + k) ≡ slice_index_or behind k (state (at_place [] []))
+  at_behind k = ap (λ n. node_in nodes (n + k)) (sym (length-map states (λ t. state (place_of t)))) ∙ get_or-append-add front behind k (state (at_place [] []))
+
+  event_at : (k : ℕ) → k < length events → node_in nodes (length states + k) ≡ event (place_of (slice_index_or events k []))
+  event_at k h = at_behind k ∙ (get_or_append_left middle (map channel channels) (state (at_place [] [])) k (omega (arith, h, length-map events (λ t. event (place_of t)))) ∙ get_or-map (λ t. event (place_of t)) events k [] (state (at_place [] [])) h)
+
+  channel_at : (k : ℕ) → k < length channels → node_in nodes (length states + (length events + k)) ≡ channel (slice_index_or channels k 0)
+  channel_at k h =
+      at_behind (length events + k)
+      ∙ (ap (λ n. slice_index_or behind (n + k) (state (at_place [] []))) (sym (length-map events (λ t. event (place_of t))))
+      ∙ (get_or-append-add middle (map channel channels) k (state (at_place [] [])) ∙ get_or-map channel channels k 0 (state (at_place [] [])) h))
+
+  -- states stand first
+  state_early : (k : ℕ) (p : Place) → k < length nodes → node_in nodes k ≡ state p → k < length states
+  state_early k p l e = by (split k (length states)) (split k (length states + length events)) where
+    by : (k < length states) ⊎ (length states ≤ k) → (k < length states + length events) ⊎ (length states + length events ≤ k) → k < length states
+    by (inl h) m = h
+    by (inr h) (inl m) =
+        let j = k - length states in
+        let whole : length states + j ≡ k = omega (arith, h) in
+        let at : event (place_of (slice_index_or events j [])) ≡ state p = sym (event_at j (omega (arith, h, m))) ∙ (ap (node_in nodes) whole ∙ e) in
+        absurd (let z : false ≡ true = ap is_state at in cc)
+    by (inr h) (inr m) =
+        let j = k - (length states + length events) in
+        let whole : length states + (length events + j) ≡ k = omega (arith, m) in
+        let at : channel (slice_index_or channels j 0) ≡ state p = sym (channel_at j (omega (arith, m, l, sized))) ∙ (ap (node_in nodes) whole ∙ e) in
+        absurd (let z : false ≡ true = ap is_state at in cc)
+
+  -- and events before channels
+  event_early : (k : ℕ) (p : Place) → length states + k < length nodes → node_in nodes (length states + k) ≡ event p → k < length events
+  event_early k p l e = by (split k (length events)) where
+    by : (k < length events) ⊎ (length events ≤ k) → k < length events
     by (inl h) = h
     by (inr h) =
-        let j = k - length states in
-        let whole : length front + j ≡ k = omega (arith, h, length-map states (λ t. state (place_of t))) in
-        let at : node_in (nodes_of states events) k ≡ slice_index_or behind j (state (at_place [] [])) = ap (node_in (nodes_of states events)) (sym whole) ∙ get_or-append-add front behind j (state (at_place [] [])) in
-        let own : slice_index_or behind j (state (at_place [] [])) ≡ event (place_of (slice_index_or events j [])) = get_or-map (λ t. event (place_of t)) events j [] (state (at_place [] [])) (omega (arith, h, l, sized)) in
-        absurd (differ (place_of (slice_index_or events j [])) p (sym own ∙ (sym at ∙ e)))
+        let j = k - length events in
+        let whole : length states + (length events + j) ≡ length states + k = omega (arith, h) in
+        let at : channel (slice_index_or channels j 0) ≡ event p = sym (channel_at j (omega (arith, h, l, sized))) ∙ (ap (node_in nodes) whole ∙ e) in
+        absurd (let z : false ≡ true = ap is_event at in cc)
 
-  pub state_from : (t : Name) → number_or_end states events (state (place_of t)) < length (nodes_of states events) → node_in (nodes_of states events) (number_or_end states events (state (place_of t))) ≡ state (place_of t)
+  pub state_from : (t : Name) → number_or_end states events channels (state (place_of t)) < length nodes → node_in nodes (number_or_end states events channels (state (place_of t))) ≡ state (place_of t)
   state_from t l =
       let w = written (place_of t) in
       let i = index_in states w in
-      let h : i < length states = within_or (length states + length events) (length states) i (nat_lt i (length states)) refl (omega (arith, l, sized)) in
-      let e : number_or_end states events (state (place_of t)) ≡ i = or_within (length states + length events) (length states) i (nat_lt i (length states)) refl h in
-      ap (node_in (nodes_of states events)) e ∙ (stand.at (state (place_of t)) (state_known t (omega (arith, h, index_at states t)))).1
+      let end = length states + (length events + length channels) in
+      let h : i < length states = within_or end (length states) i (nat_lt i (length states)) refl (omega (arith, l, sized)) in
+      let e : number_or_end states events channels (state (place_of t)) ≡ i = or_within end (length states) i (nat_lt i (length states)) refl h in
+      ap (node_in nodes) e ∙ (stand.at (state (place_of t)) (state_known t (omega (arith, h, index_at states t)))).1
 
-  pub state_to : (t : Name) → Contains (nodes_of states events) (state (place_of t)) → number_or_end states events (state (place_of t)) ≡ number states events (state (place_of t))
+  pub state_to : (t : Name) → Contains nodes (state (place_of t)) → number_or_end states events channels (state (place_of t)) ≡ number states events channels (state (place_of t))
   state_to t c =
       let own = stand.at (state (place_of t)) c in
       let i = index_in states (written (place_of t)) in
-      or_within (length states + length events) (length states) i (nat_lt i (length states)) refl (state_early i (place_of t) own.0 own.1)
+      or_within (length states + (length events + length channels)) (length states) i (nat_lt i (length states)) refl (state_early i (place_of t) own.0 own.1)
 
-  pub event_from : (t : Name) → number_or_end states events (event (place_of t)) < length (nodes_of states events) → node_in (nodes_of states events) (number_or_end states events (event (place_of t))) ≡ event (place_of t)
-  event_from t l = (stand.at (event (place_of t)) (event_known t (omega (arith, l, sized, index_at events t)))).1
+  pub event_from : (t : Name) → number_or_end states events channels (event (place_of t)) < length nodes → node_in nodes (number_or_end states events channels (event (place_of t))) ≡ event (place_of t)
+  event_from t l =
+      let w = written (place_of t) in
+      let i = index_in events w in
+      let end = length events + length channels in
+      let h : i < length events = within_or end (length events) i (nat_lt i (length events)) refl (omega (arith, l, sized)) in
+      let e : index_or end events w ≡ i = or_within end (length events) i (nat_lt i (length events)) refl h in
+      ap (λ k. node_in nodes (length states + k)) e ∙ (stand.at (event (place_of t)) (event_known t (omega (arith, h, index_at events t)))).1
+
+  pub event_to : (t : Name) → Contains nodes (event (place_of t)) → number_or_end states events channels (event (place_of t)) ≡ number states events channels (event (place_of t))
+  event_to t c =
+      let own = stand.at (event (place_of t)) c in
+      let i = index_in events (written (place_of t)) in
+      ap (λ k. length states + k) (or_within (length events + length channels) (length events) i (nat_lt i (length events)) refl (event_early i (place_of t) own.0 own.1))
+
+  pub channel_from : (c : ℕ) → number_or_end states events channels (channel c) < length nodes → node_in nodes (number_or_end states events channels (channel c)) ≡ channel c
+  channel_from c l = (stand.at (channel c) (channel_known c (omega (arith, l, sized)))).1

@@ -10,25 +10,26 @@ use fb_solved::Place;
 use std::alloc::{AllocError, Global};
 
 // The number of a state by its path; where there is none, the first number that no node has.
-fn state_number(numbering: &Numbering, path: &str) -> usize
-    ensures { result ≡ sought numbering.now (state (place_of path.now)) }
+fn state_number(numbering: &Numbering, path: &str) -> Result<usize, AllocError>
+    ensures { IfOk result (λ n. n ≡ sought numbering.now (state (place_of path.now))) }
 {
-    let end = numbering.states.len() + numbering.events.len();
+    let end = numbering.count()?;
     match numbering.states.get_index_of(path) {
-        Some(index) => index,
-        None => end,
+        Some(index) => Ok(index),
+        None => Ok(end),
     }
 }
 
 // The same of an event input or arrival.
-fn event_number(numbering: &Numbering, path: &str) -> usize
-    ensures { result ≡ sought numbering.now (event (place_of path.now)) }
+fn event_number(numbering: &Numbering, path: &str) -> Result<usize, AllocError>
+    ensures { IfOk result (λ n. n ≡ sought numbering.now (event (place_of path.now))) }
 {
+    let end = numbering.count()?;
     let states = numbering.states.len();
-    let events = numbering.events.len();
+    let _ = numbering.events.len();
     match numbering.events.get_index_of(path) {
-        Some(index) => states + index,
-        None => states + events,
+        Some(index) => Ok(states + index),
+        None => Ok(end),
     }
 }
 
@@ -39,12 +40,13 @@ fn number_of(alloc: Global, numbering: &Numbering, place: &Place) -> Result<usiz
     match place {
         Place::State(path) => {
             let upper = path.to_ascii_uppercase(alloc)?;
-            Ok(state_number(numbering, upper.as_str()))
+            state_number(numbering, upper.as_str())
         }
         Place::Event(path) => {
             let upper = path.to_ascii_uppercase(alloc)?;
-            Ok(event_number(numbering, upper.as_str()))
+            event_number(numbering, upper.as_str())
         }
+        Place::Channel(number) => numbering.channel(*number),
     }
 }
 

@@ -20,6 +20,9 @@ loop-line-init c =
 pub overflow_add-number : goal.overflow_add-number
 overflow_add-number c = omega (arith, c.loop-line.invariant.counted, lines_le c.args.text.now, c.requires)
 
+pub returns-in_err-words : goal.returns-in_err-words
+returns-in_err-words c = let p = err_from_is_err_and c.from_residual.result c.from_residual.ensures.1 in rw p.1 (rw p.2 tt)
+
 pub returns-in_err-take : goal.returns-in_err-take
 returns-in_err-take c =
     let e : texts c.as_slice.result.now ≡ words c.in-Some.line.now = ap texts c.as_slice.ensures.value ∙ c.in_ok-words.ensures in

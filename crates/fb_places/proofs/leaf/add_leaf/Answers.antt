@@ -9,5 +9,5 @@ use Rattle.fb_places.proofs.leaf.add_leaf.Goals as goal
 pub returns-in-Basic : goal.returns-in-Basic
 returns-in-Basic c =
     let l = c.args.leaf.now in
-    subst (λ (b : Body). OnOk c.add_block.result (rights_of c.add_block.new.rights.items ≡ rights_of c.args.rights.now.items ++ numbered c.args.numbering.now (of_kind (ground c.args.unit (algorithms_of b) c.args.prices.now (string_bytes l.path) l.outputs.items) (kind_of b))))
+    subst (λ (b : Body). OnOk c.add_block.result (rights_of c.add_block.new.rights.items ≡ rights_of c.args.rights.now.items ++ numbered c.args.numbering.now (of_kind (ground c.args.unit c.args.follows (algorithms_of b) c.args.prices.now (string_bytes l.path) l.outputs.items) (kind_of b))))
     (sym {A = Body} c.in-Basic.is) (rw c.deref.ensures at c.add_block.ensures)

@@ -1,7 +1,8 @@
-use Rattle.std.proofs.Common.{◌≡◌, ◌+◌, map, sym, ap, ◌∙◌, arith}
+use Rattle.std.proofs.Common.{◌≡◌, ◌+◌, ◌++◌, map, sym, ap, ap₂, ◌∙◌, arith}
+use Rattle.std.proofs.lemmas.List.{map-append}
 use Rattle.fb_model.specs.Services.{can_emit}
 use Rattle.fb_model.specs.Certificates.{reached}
-use Rattle.fb_demands.specs.Demands.{event, sending_demand}
+use Rattle.fb_demands.specs.Demands.{event, sent, sending_demand}
 use Rattle.fb_finding.specs.Nodes.{capped}
 use Rattle.fb_rows.specs.fb_services.Views.{service_of}
 use Rattle.fb_places.specs.Grounds.{ground_in}
@@ -13,7 +14,11 @@ pub returns : goal.returns
 returns c =
     let f = numbers_of c.args.scene.now.numbering.now in
     let g = ground_in c.args.scene.now in
-    let outputs = can_emit (service_of c.args.service.now) c.args.event.now in
-    says f (sending_demand g c.args.event.now outputs) (record { node = c.in_ok-event.field-0; constant = c.added.result; terms = c.in_ok-reached.field-0 }) c.in_ok-event.ensures
+    let service = service_of c.args.service.now in
+    let datagram = sent g service c.args.event.now in
+    let outputs = can_emit service c.args.event.now in
+    says f (sending_demand g c.args.event.now datagram outputs) (record { node = c.in_ok-event.field-0; constant = c.added.result; terms = c.add_reached.new.terms }) c.in_ok-event.ensures
     (c.added.ensures ∙ ap capped (let e : g.unit + 0 ≡ g.unit = omega arith in e))
-    (c.in_ok-reached.ensures ∙ ap (λ os. map (λ p. f (event p)) (reached g.targets os)) c.emitted-emitted.ensures ∙ sym (map_map f event (reached g.targets outputs)))
+    (c.in_ok-add_reached.ensures
+    ∙ (ap₂ (λ xs os. xs ++ map (λ p. f (event p)) (reached g.targets os)) c.in_ok-terms.ensures c.emitted-emitted.ensures
+    ∙ (ap (λ xs. map f datagram ++ xs) (sym (map_map f event (reached g.targets outputs))) ∙ sym (map-append f datagram (map event (reached g.targets outputs))))))

@@ -26,5 +26,5 @@ returns-clause-walk c =
       c.in-Walk.walk.items,
       closed,
       found.1,
-      λ sized. subst (λ ns. map node_of c.in_ok-places-in-Walk.field-0.items ≡ map (node_in (nodes_of (texts_of c.args.states.now) (texts_of c.args.events.now))) ns) c.as_slice-in-Walk.ensures.value (c.in_ok-places-in-Walk.ensures (subst (λ ns. All (λ n. n < length (texts_of c.args.states.now) + length (texts_of c.args.events.now)) ns) (sym c.as_slice-in-Walk.ensures.value) (all_known (needs system) c.in-Walk.walk.items (length (texts_of c.args.states.now) + length (texts_of c.args.events.now)) closed (length-map system needed ∙ sized)))),
+      λ sized. subst (λ ns. map node_of c.in_ok-places-in-Walk.field-0.items ≡ map (node_in (nodes_of (texts_of c.args.states.now) (texts_of c.args.events.now) c.args.channels.now)) ns) c.as_slice-in-Walk.ensures.value (c.in_ok-places-in-Walk.ensures (subst (λ ns. All (λ n. n < length (texts_of c.args.states.now) + (length (texts_of c.args.events.now) + length c.args.channels.now)) ns) (sym c.as_slice-in-Walk.ensures.value) (all_known (needs system) c.in-Walk.walk.items (length (texts_of c.args.states.now) + (length (texts_of c.args.events.now) + length c.args.channels.now)) closed (length-map system needed ∙ sized)))),
     )

@@ -5,4 +5,4 @@ use Rattle.fb_solved.proofs.Keys.{state_key}
 use Rattle.fb_solved.proofs.place.place_at.Goals as goal
 
 pub returns-in_ok-clone-in-Some : goal.returns-in_ok-clone-in-Some
-returns-in_ok-clone-in-Some c = λ l. ap (λ t. state (place_of t)) c.in_ok-clone-in-Some.ensures.cases ∙ state_key c.args.states.now.keys c.args.events.now.keys c.args.number c.in-Some.text.now c.in-Some.ensures.key
+returns-in_ok-clone-in-Some c = λ l. ap (λ t. state (place_of t)) c.in_ok-clone-in-Some.ensures.cases ∙ state_key c.args.states.now.keys c.args.events.now.keys c.args.channels.now c.args.number c.in-Some.text.now c.in-Some.ensures.key

@@ -8,5 +8,5 @@ use Rattle.fb_solved.proofs.place.places.Given as goal
 -- the first numbers have their places
 abbrev pub invariant-loop-number : goal.invariant-loop-number
 invariant-loop-number l =
-    All (λ n. n < length (texts_of l.fn.states) + length (texts_of l.fn.events)) l.numbers
-    → map node_of l.places.items ≡ map (node_in (nodes_of (texts_of l.fn.states) (texts_of l.fn.events))) (take l.number-index l.numbers)
+    All (λ n. n < length (texts_of l.fn.states) + (length (texts_of l.fn.events) + length l.fn.channels)) l.numbers
+    → map node_of l.places.items ≡ map (node_in (nodes_of (texts_of l.fn.states) (texts_of l.fn.events) l.fn.channels)) (take l.number-index l.numbers)

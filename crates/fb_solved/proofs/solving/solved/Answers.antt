@@ -7,5 +7,4 @@ pub returns-in_ok-resource_at-in-Above-clause-refused : goal.returns-in_ok-resou
 returns-in_ok-resource_at-in-Above-clause-refused c =
     let system = system_of c.args.system.now in
     let above = subst (IsSolved system c.args.limit) c.in-Above.is c.in_ok-numbers.ensures in
-    let here : c.in-Above.place < length system = of_place system above.0 c.in-Above.place c.args.limit above.1 above.2 in
-    (c.in-Above.place, above.0, above.1, above.2, here, λ sized. c.in_ok-resource_at-in-Above.ensures (subst (λ n. c.in-Above.place < n) sized here))
+    (c.in-Above.place, above.0, above.1, above.2, of_place system above.0 c.in-Above.place c.args.limit above.1 above.2, c.in_ok-resource_at-in-Above.ensures)

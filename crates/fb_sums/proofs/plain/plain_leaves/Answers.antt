@@ -8,7 +8,7 @@ use Rattle.fb_sums.proofs.plain.plain_leaves.Goals as goal
 
 pub loop-leaf-preserved : goal.loop-leaf-preserved
 loop-leaf-preserved c =
-    let f = leaf_rights c.args.numbering.now c.args.unit [] in
+    let f = leaf_rights c.args.numbering.now c.args.unit c.args.follows [] in
     let xs = c.args.leaves.now in
     let i = c.loop-leaf.leaf-index in
     let x : Bor Leaf = c.leaf-item.result in

@@ -6,5 +6,5 @@ use Rattle.fb_sums.proofs.plain.plain_leaves.Given as goal
 
 abbrev pub invariant-loop-leaf : goal.invariant-loop-leaf
 invariant-loop-leaf l =
-    rights_of l.rights.items ++ flat_map (leaf_rights l.numbering l.unit []) (map (λ x. x.now) (drop l.leaf-index l.leaves))
-    ≡ flat_map (leaf_rights l.numbering l.unit []) (map (λ x. x.now) l.leaves)
+    rights_of l.rights.items ++ flat_map (leaf_rights l.numbering l.unit l.follows []) (map (λ x. x.now) (drop l.leaf-index l.leaves))
+    ≡ flat_map (leaf_rights l.numbering l.unit l.follows []) (map (λ x. x.now) l.leaves)

@@ -1,4 +1,4 @@
-use Rattle.std.proofs.Common.{◌≡◌, ap, ◌∙◌, map, [], Vec, Bor}
+use Rattle.std.proofs.Common.{◌≡◌, ap, ◌∙◌, map, false, [], Vec, Bor}
 use Rattle.std.specs.List.{flat_map}
 use Rattle.std.specs.declared.alloc.Global.{Global}
 use Rattle.fb_places.specs.fb_flat.declared.flat.Leaf.{Leaf}
@@ -18,8 +18,8 @@ returns-clause-bare c = λ s a z u.
     let fs = c.args.flat.now.devices.items in
     let ls = map (λ (l : Bor Leaf). l.now) c.as_slice-2.result.now in
     let are : ls ≡ leaves_under fs = ap (map (λ (l : Bor Leaf). l.now)) c.as_slice-2.ensures.value ∙ c.in_ok-leaves.ensures ∙ ap leaves_under c.as_slice.ensures.value in
-    ok_is (λ (v : Vec Right Global). rights_of v.items) (flat_map (leaf_rights n c.args.unit []) ls) (numbered n (bare_demands (all_leaves s.devices)))
-    (ap (λ k. flat_map (leaf_rights n k []) ls) u ∙ ap (flat_map (leaf_rights n 1 [])) are ∙ bare_same n fs s.devices a z) c.plain_leaves.result c.plain_leaves.ensures
+    ok_is (λ (v : Vec Right Global). rights_of v.items) (flat_map (leaf_rights n c.args.unit false []) ls) (numbered n (bare_demands (all_leaves s.devices)))
+    (ap (λ k. flat_map (leaf_rights n k false []) ls) u ∙ ap (flat_map (leaf_rights n 1 false [])) are ∙ bare_same n fs s.devices a z) c.plain_leaves.result c.plain_leaves.ensures
 
 pub returns-clause-places : goal.returns-clause-places
 returns-clause-places c = λ s a z u ranges.
@@ -27,5 +27,5 @@ returns-clause-places c = λ s a z u ranges.
     let fs = c.args.flat.now.devices.items in
     let ls = map (λ (l : Bor Leaf). l.now) c.as_slice-2.result.now in
     let are : ls ≡ leaves_under fs = ap (map (λ (l : Bor Leaf). l.now)) c.as_slice-2.ensures.value ∙ c.in_ok-leaves.ensures ∙ ap leaves_under c.as_slice.ensures.value in
-    ok_is (λ (v : Vec Right Global). rights_of v.items) (flat_map (leaf_rights n c.args.unit []) ls) (numbered n (demands 0 ranges (all_leaves s.devices)))
-    (ap (λ k. flat_map (leaf_rights n k []) ls) u ∙ ap (flat_map (leaf_rights n 0 [])) are ∙ places_same n ranges fs s.devices a z) c.plain_leaves.result c.plain_leaves.ensures
+    ok_is (λ (v : Vec Right Global). rights_of v.items) (flat_map (leaf_rights n c.args.unit false []) ls) (numbered n (demands 0 ranges (all_leaves s.devices)))
+    (ap (λ k. flat_map (leaf_rights n k false []) ls) u ∙ ap (flat_map (leaf_rights n 0 false [])) are ∙ places_same n ranges fs s.devices a z) c.plain_leaves.result c.plain_leaves.ensures

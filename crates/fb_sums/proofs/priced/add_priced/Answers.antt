@@ -13,5 +13,5 @@ returns c =
     let l = c.args.leaf.now in
     let old = rights_of c.args.rights.now.items in
     let ps = kind_prices (option_map (λ t. spans_of t.now) c.args.table) (kind_of l.body) in
-    on_ok_is (rights_of c.add_leaf.new.rights.items) (old ++ leaf_rights n 1 c.as_slice.result.now l) (old ++ leaf_rights n 1 ps l) (ap (λ xs. old ++ leaf_rights n 1 xs l) (c.as_slice.ensures.value ∙ c.in_ok-prices.ensures))
+    on_ok_is (rights_of c.add_leaf.new.rights.items) (old ++ leaf_rights n 1 c.args.follows c.as_slice.result.now l) (old ++ leaf_rights n 1 c.args.follows ps l) (ap (λ xs. old ++ leaf_rights n 1 c.args.follows xs l) (c.as_slice.ensures.value ∙ c.in_ok-prices.ensures))
     c.add_leaf.result c.add_leaf.ensures

@@ -6,5 +6,5 @@ use Rattle.fb_sums.proofs.priced.priced_leaves.Given as goal
 
 abbrev pub invariant-loop-index : goal.invariant-loop-index
 invariant-loop-index l =
-    rights_of l.rights.items ++ priced l.numbering (map (λ x. x.now) (drop l.index l.leaves)) (map spans_of (drop l.index l.tables))
-    ≡ priced l.numbering (map (λ x. x.now) l.leaves) (map spans_of l.tables)
+    rights_of l.rights.items ++ priced l.numbering l.follows (map (λ x. x.now) (drop l.index l.leaves)) (map spans_of (drop l.index l.tables))
+    ≡ priced l.numbering l.follows (map (λ x. x.now) l.leaves) (map spans_of l.tables)

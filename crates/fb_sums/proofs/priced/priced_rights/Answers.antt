@@ -1,4 +1,4 @@
-use Rattle.std.proofs.Common.{◌≡◌, ap, ◌∙◌, map, Vec, Bor}
+use Rattle.std.proofs.Common.{◌≡◌, false, ap, ◌∙◌, map, Vec, Bor}
 use Rattle.std.specs.declared.alloc.Global.{Global}
 use Rattle.fb_places.specs.fb_flat.declared.flat.Leaf.{Leaf}
 use Rattle.fb_model.specs.Certificates.{all_leaves}
@@ -19,5 +19,5 @@ returns c = λ s a z ranges t h.
     let ts = map spans_of c.args.tables.now in
     let ls = map (λ (l : Bor Leaf). l.now) c.as_slice-2.result.now in
     let are : ls ≡ leaves_under fs = ap (map (λ (l : Bor Leaf). l.now)) c.as_slice-2.ensures.value ∙ c.in_ok-leaves.ensures ∙ ap leaves_under c.as_slice.ensures.value in
-    ok_is (λ (v : Vec Right Global). rights_of v.items) (priced n ls ts) (numbered n (demands 1 ranges (all_leaves s.devices)))
-    (ap (λ xs. priced n xs ts) are ∙ priced_same n ranges fs s.devices ts a z t h) c.priced_leaves.result c.priced_leaves.ensures
+    ok_is (λ (v : Vec Right Global). rights_of v.items) (priced n false ls ts) (numbered n (demands 1 ranges (all_leaves s.devices)))
+    (ap (λ xs. priced n false xs ts) are ∙ priced_same n ranges fs s.devices ts a z t h) c.priced_leaves.result c.priced_leaves.ensures

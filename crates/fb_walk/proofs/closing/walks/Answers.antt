@@ -1,8 +1,7 @@
-use Rattle.std.proofs.Common.{refl, ◌∙◌}
+use Rattle.std.proofs.Common.{◌∙◌}
 use Rattle.fb_least.specs.Views.{system_of}
 use Rattle.fb_places.specs.Rights.{rights_of}
-use Rattle.fb_walk.proofs.Written.{tables_are}
-use Rattle.fb_walk.proofs.Handed.{closed, bare_system, answered, handed_many, handed_grouped}
+use Rattle.fb_walk.proofs.Handed.{asked_system, answered, handed_many, handed_grouped}
 use Rattle.fb_walk.proofs.closing.walks.Goals as goal
 
 pub is_closed_walk-requires : goal.is_closed_walk-requires
@@ -12,16 +11,16 @@ is_closed_walk-requires c =
     let s = c.requires.0 in
     let i = c.requires.1 in
     let rights = rights_of c.in_ok-rights.rights.items in
-    bare_system fs n s i rights (system_of c.as_slice.result.now) (c.in_ok-rights.ensures.bare s (tables_are fs s i.given) (closed fs s i.given) refl)
-    (handed_grouped n c.len.result c.len-2.result rights c.in_ok-system.system.items c.as_slice.result.now c.len.ensures.len c.len-2.ensures.len c.as_slice.ensures.value c.in_ok-system.ensures.grouped)
-    (handed_many n c.len.result c.len-2.result rights c.in_ok-system.system.items c.as_slice.result.now c.len.ensures.len c.len-2.ensures.len c.as_slice.ensures.value c.in_ok-system.ensures.sized)
+    asked_system c.args.repeats fs n s i rights (system_of c.as_slice.result.now) (c.in_ok-rights.ensures s i)
+    (handed_grouped n c.in_ok-count.count rights c.in_ok-system.system.items c.as_slice.result.now c.in_ok-count.ensures c.as_slice.ensures.value c.in_ok-system.ensures.grouped)
+    (handed_many n c.in_ok-count.count rights c.in_ok-system.system.items c.as_slice.result.now c.in_ok-count.ensures c.as_slice.ensures.value c.in_ok-system.ensures.sized)
 
 pub returns : goal.returns
 returns c = λ s i.
     let n = c.args.numbering.now in
     let fs = c.args.flat.now.devices.items in
     let rights = rights_of c.in_ok-rights.rights.items in
-    answered fs n s i rights (system_of c.as_slice.result.now) (c.in_ok-rights.ensures.bare s (tables_are fs s i.given) (closed fs s i.given) refl)
-    (handed_grouped n c.len.result c.len-2.result rights c.in_ok-system.system.items c.as_slice.result.now c.len.ensures.len c.len-2.ensures.len c.as_slice.ensures.value c.in_ok-system.ensures.grouped)
-    (handed_many n c.len.result c.len-2.result rights c.in_ok-system.system.items c.as_slice.result.now c.len.ensures.len c.len-2.ensures.len c.as_slice.ensures.value c.in_ok-system.ensures.sized)
+    answered c.args.repeats fs n s i rights (system_of c.as_slice.result.now) (c.in_ok-rights.ensures s i)
+    (handed_grouped n c.in_ok-count.count rights c.in_ok-system.system.items c.as_slice.result.now c.in_ok-count.ensures c.as_slice.ensures.value c.in_ok-system.ensures.grouped)
+    (handed_many n c.in_ok-count.count rights c.in_ok-system.system.items c.as_slice.result.now c.in_ok-count.ensures c.as_slice.ensures.value c.in_ok-system.ensures.sized)
     c.args.places.now c.as_slice-2.result.now (c.as_slice-2.ensures.value ∙ c.in_ok-numbers.ensures) c.is_closed_walk.result c.is_closed_walk.ensures

@@ -1,4 +1,4 @@
-use Rattle.std.proofs.Common.{◌≡◌, ◌+◌, ◌<◌, length, string_bytes, ◌∙◌, arith}
+use Rattle.std.proofs.Common.{◌+◌, ◌<◌, length, string_bytes, ◌∙◌, arith}
 use Rattle.std.proofs.lemmas.List.{length-map}
 use Rattle.fb_places.specs.fb_blocks.Views.{names_of}
 use Rattle.fb_places.proofs.Numbers.{index_some, index_none}
@@ -9,12 +9,11 @@ pub returns-in-Some : goal.returns-in-Some
 returns-in-Some c =
     let n = c.args.numbering.now in
     let h : c.in-Some.index < length n.states.keys = c.in-Some.ensures.within in
-    found_or (length (names_of n.states) + length (names_of n.events)) (names_of n.states) c.args.path.now c.in-Some.index (index_some n.states.keys c.args.path.now c.in-Some.index c.in-Some.ensures.index) (omega (arith, h, length-map n.states.keys string_bytes))
+    found_or (length (names_of n.states) + (length (names_of n.events) + length n.channels.items)) (names_of n.states) c.args.path.now c.in-Some.index (index_some n.states.keys c.args.path.now c.in-Some.index c.in-Some.ensures.index)
+    (omega (arith, h, length-map n.states.keys string_bytes))
 
 pub returns-in-None : goal.returns-in-None
 returns-in-None c =
     let n = c.args.numbering.now in
-    let a : c.len.result ≡ length n.states.keys = c.len.ensures.len in
-    let b : c.len-2.result ≡ length n.events.keys = c.len-2.ensures.len in
-    let e : c.len.result + c.len-2.result ≡ length (names_of n.states) + length (names_of n.events) = omega (arith, a, b, length-map n.states.keys string_bytes, length-map n.events.keys string_bytes) in
-    e ∙ none_or (length (names_of n.states) + length (names_of n.events)) (names_of n.states) c.args.path.now (length-map n.states.keys string_bytes ∙ index_none n.states.keys c.args.path.now c.in-None.ensures.index)
+    c.in_ok-end.ensures
+    ∙ none_or (length (names_of n.states) + (length (names_of n.events) + length n.channels.items)) (names_of n.states) c.args.path.now (length-map n.states.keys string_bytes ∙ index_none n.states.keys c.args.path.now c.in-None.ensures.index)

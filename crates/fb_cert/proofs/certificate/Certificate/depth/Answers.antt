@@ -1,5 +1,5 @@
 use Rattle.std.proofs.Common.{◌≡◌, ◌∙◌, sym, ap}
-use Rattle.fb_cert.specs.Views.{first_at, texts_of, depth_in}
+use Rattle.fb_cert.specs.Views.{first_at, texts_of, count_in}
 use Rattle.fb_cert.proofs.Tables.{first_from_lookup}
 use Rattle.fb_cert.proofs.Places.{depths_same}
 use Rattle.fb_cert.proofs.certificate.Certificate.depth.Goals as goal
@@ -9,4 +9,4 @@ returns c =
     let table = texts_of c.self.inside.lists.depths in
     let path = c.args.path.now in
     let e : c.copied.result ≡ first_at path table = c.copied.ensures ∙ c.get.ensures.value ∙ first_from_lookup path c.self.inside.lists.depths.entries in
-    rw (← c.self.view_is) (record { row = e; depth = ap depth_in e ∙ sym (depths_same table path) })
+    rw (← c.self.view_is) (record { row = e; depth = ap count_in e ∙ sym (depths_same table path) })
