@@ -3,5 +3,6 @@ pub mod Members
 pub mod Places
 pub mod Tables
 pub mod Systems
+pub mod Channels
 pub mod Matches
 pub mod Spelled

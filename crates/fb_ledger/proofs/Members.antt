@@ -1,5 +1,5 @@
 -- Lists of names by what is in them, one name or one list of names more.
-use Rattle.std.proofs.Common.{◌≡◌, ℕ, zero, suc, ◌+◌, ◌<◌, Bool, true, false, not, cond, ◌||◌, List, [], ◌∷◌, ◌++◌, map, drop, length, get_or, slice_get, Some, refl, sym, ap, subst, ◌∙◌, add-one, append_assoc, append-nil, string_bytes}
+use Rattle.std.proofs.Common.{◌≡◌, ℕ, zero, suc, ◌+◌, ◌<◌, Bool, true, false, not, cond, ◌||◌, List, [], ◌∷◌, ◌++◌, map, drop, length, get_or, slice_get, Some, None, refl, sym, ap, subst, ◌∙◌, add-one, append_assoc, append-nil, string_bytes}
 use Rattle.std.specs.List.{AllByRecursion, IsDistinct, flat_map}
 use Rattle.std.specs.Str.{bytes_eq}
 use Rattle.std.proofs.lemmas.List.Folds.{list_any-append}
@@ -10,7 +10,7 @@ use Rattle.fb_model.proofs.Lists.{same_name}
 use Rattle.fb_flat.specs.fb_blocks.Answers.{Extends}
 use Rattle.fb_ledger.proofs.Names.{bytes_same, bytes_turned}
 use Rattle.fb_ledger.specs.declared.fault.RowFault.{RowFault}
-use Rattle.fb_ledger.specs.declared.fault.RowFault.TheVariants.{OutOfMemory, Unknown, Missing}
+use Rattle.fb_ledger.specs.declared.fault.RowFault.TheVariants.{OutOfMemory, Unknown, Missing, UnknownChannel, MissingChannel}
 use Rattle.fb_ledger.specs.Members.{HasSame, AreAmong, gathered, with_name}
 use Rattle.fb_ledger.specs.Faults.{IsDifference}
 
@@ -156,12 +156,19 @@ none_among ys = record { among = λ z h. absurd cc }
 pub both_ways : (xs ys zs : List Name) → AreAmong xs ys → AreAmong ys xs → HasSame xs zs → HasSame ys zs
 both_ways xs ys zs h k s = record { same = λ x. same_test (is_in x ys) (is_in x xs) (k.among x) (h.among x) ∙ s.same x }
 
+-- a list without a first has none
+pub no_first : (xs : List Name) → slice_get xs 0 ≡ None → HasSame xs []
+no_first [] h = record { same = λ x. refl }
+no_first (x ∷ xs) h = absurd cc
+
 -- ---- refusals
 
 pub other_names : (xs ys ps : List Name) (f : RowFault) → HasSame xs ys → IsDifference xs ps f → IsDifference ys ps f
 other_names xs ys ps OutOfMemory s h = tt
 other_names xs ys ps (Unknown path) s h = (h.0, sym (s.same (string_bytes path)) ∙ h.1)
 other_names xs ys ps (Missing path) s h = (h.0, sym (s.same (string_bytes path)) ∙ h.1)
+other_names xs ys ps (UnknownChannel c) s h = h
+other_names xs ys ps (MissingChannel c) s h = h
 
 -- the item at an index, before those behind it
 pub rest_got : {X : Type 0} (xs : List X) (i : ℕ) (d : X) → i < length xs → drop i xs ≡ get_or xs i d ∷ drop (i + 1) xs

@@ -3,8 +3,8 @@ use Rattle.std.proofs.Common.{◌≡◌, ℕ, ℤ, Bool, true, false, ◌||◌, 
 use Rattle.std.specs.List.{list_any}
 use Rattle.std.specs.Str.{bytes_eq}
 use Rattle.fb_model.specs.Names.{Name, place_eq}
-use Rattle.fb_model.specs.Certificates.{Certificate, row_places, range_places, AreDifferent}
-use Rattle.fb_model.specs.CertificateText.{Entry, range, charge, weight, is_same, NoneTwice, certificate_in, place_of, Spells}
+use Rattle.fb_model.specs.Certificates.{Certificate, PlaceRows, Range_rows, Charge_rows, Weight_rows, Far_rows, Far_state_rows, given, row_places, range_places, far_places, AreDifferent}
+use Rattle.fb_model.specs.CertificateText.{Entry, range, charge, weight, far, far_state, is_same, NoneTwice, certificate_in, place_of, Spells}
 use Rattle.fb_ledger.proofs.Names.{bytes_turned}
 use Rattle.fb_ledger.specs.Faults.{HasNoRowTwice}
 use Rattle.fb_ledger.proofs.Places.{same_place}
@@ -52,6 +52,16 @@ weight_apart p s k [] h = refl
 weight_apart p s k (weight q t l ∷ es) h = both_false (place_eq (place_of p) (place_of q)) _ (other_place p q (h [] es (weight q t l) refl)) (weight_apart p s k es (apart_rest (weight p s k) (weight q t l) es h))
 weight_apart p s k (e ∷ es) h = weight_apart p s k es (apart_rest (weight p s k) e es h)
 
+far_apart : (p : Name) (s : ℕ) (es : List Entry) → IsApart (far p s) es → list_any (place_eq (place_of p)) (far_places (certificate_in es).fars) ≡ false
+far_apart p s [] h = refl
+far_apart p s (far q t ∷ es) h = both_false (place_eq (place_of p) (place_of q)) _ (other_place p q (h [] es (far q t) refl)) (far_apart p s es (apart_rest (far p s) (far q t) es h))
+far_apart p s (e ∷ es) h = far_apart p s es (apart_rest (far p s) e es h)
+
+far_state_apart : (p : Name) (s : ℕ) (es : List Entry) → IsApart (far_state p s) es → list_any (place_eq (place_of p)) (far_places (certificate_in es).far_states) ≡ false
+far_state_apart p s [] h = refl
+far_state_apart p s (far_state q t ∷ es) h = both_false (place_eq (place_of p) (place_of q)) _ (other_place p q (h [] es (far_state q t) refl)) (far_state_apart p s es (apart_rest (far_state p s) (far_state q t) es h))
+far_state_apart p s (e ∷ es) h = far_state_apart p s es (apart_rest (far_state p s) e es h)
+
 ranges_differ : (es : List Entry) → NoneTwice es → AreDifferent (range_places (certificate_in es).ranges)
 ranges_differ [] h = tt
 ranges_differ (range p a b ∷ es) h = (range_apart p a b es (apart (range p a b) es h), ranges_differ es (twice_rest (range p a b) es h))
@@ -67,5 +77,22 @@ weights_differ [] h = tt
 weights_differ (weight p s k ∷ es) h = (weight_apart p s k es (apart (weight p s k) es h), weights_differ es (twice_rest (weight p s k) es h))
 weights_differ (e ∷ es) h = weights_differ es (twice_rest e es h)
 
+fars_differ : (es : List Entry) → NoneTwice es → AreDifferent (far_places (certificate_in es).fars)
+fars_differ [] h = tt
+fars_differ (far p s ∷ es) h = (far_apart p s es (apart (far p s) es h), fars_differ es (twice_rest (far p s) es h))
+fars_differ (e ∷ es) h = fars_differ es (twice_rest e es h)
+
+far_states_differ : (es : List Entry) → NoneTwice es → AreDifferent (far_places (certificate_in es).far_states)
+far_states_differ [] h = tt
+far_states_differ (far_state p s ∷ es) h = (far_state_apart p s es (apart (far_state p s) es h), far_states_differ es (twice_rest (far_state p s) es h))
+far_states_differ (e ∷ es) h = far_states_differ es (twice_rest e es h)
+
+each_differs : (es : List Entry) → NoneTwice es → (kind : PlaceRows) → AreDifferent (given kind (certificate_in es))
+each_differs es h Range_rows = ranges_differ es h
+each_differs es h Charge_rows = charges_differ es h
+each_differs es h Weight_rows = weights_differ es h
+each_differs es h Far_rows = fars_differ es h
+each_differs es h Far_state_rows = far_states_differ es h
+
 pub spelled : (text : List ℕ) (certificate : Certificate) → Spells text certificate → HasNoRowTwice certificate
-spelled text certificate s = subst HasNoRowTwice (sym s.certificate_is) (record { charges = charges_differ s.entries s.none_twice; weights = weights_differ s.entries s.none_twice; ranges = ranges_differ s.entries s.none_twice })
+spelled text certificate s = subst HasNoRowTwice (sym s.certificate_is) (record { once = each_differs s.entries s.none_twice })

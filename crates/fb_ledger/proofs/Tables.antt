@@ -17,10 +17,11 @@ use Rattle.fb_flat.proofs.of_fb_blocks.Lists.{any_map}
 use Rattle.std.specs.Option.{option_map}
 use Rattle.fb_cert.specs.declared.bounds.Bounds.{Bounds}
 use Rattle.fb_cert.specs.Views.{Table, first_at, Rows, span_of}
-use Rattle.fb_ledger.specs.declared.kind.RowKind.TheVariants.{Charge, Weight, Range, Depth}
+use Rattle.fb_ledger.specs.declared.kind.PathRows.{PathRows}
+use Rattle.fb_ledger.specs.declared.kind.PathRows.TheVariants.{Charges, Weights, Ranges, Depths, Fars, FarStates}
 use Rattle.fb_flat.specs.declared.flat.FlatDevice.{FlatDevice}
-use Rattle.fb_ledger.specs.Members.{HasSame, gathered, with_name}
-use Rattle.fb_ledger.specs.Texts.{paths, paths_of, texts_in, ranged_names, texts_of, HaveSameRows}
+use Rattle.fb_ledger.specs.Members.{gathered, with_name}
+use Rattle.fb_ledger.specs.Texts.{paths, texts_in, ranged_names, HasSameRows, HaveSameRows, HaveSameOwn, HaveSameFar}
 use Rattle.fb_flat.specs.Sites.{dotted}
 
 -- a table has a path just where it has a first row of it
@@ -64,13 +65,17 @@ events_are book.Restart = refl
 
 -- ---- the rows of tables and of a certificate
 
+same_kind : (devices : List FlatDevice) (rows : Rows) → HaveSameOwn devices rows → HaveSameFar devices rows → (kind : PathRows) → HasSameRows devices rows kind
+same_kind devices rows o f Charges = o.charges
+same_kind devices rows o f Weights = o.weights
+same_kind devices rows o f Ranges = o.ranges
+same_kind devices rows o f Depths = o.depths
+same_kind devices rows o f Fars = f.fars
+same_kind devices rows o f FarStates = f.far_states
+
 -- the same rows of each kind
-pub are_same : (devices : List FlatDevice) (rows : Rows) → HasSame (paths_of Charge rows) (texts_of Charge devices) → HasSame (paths_of Weight rows) (texts_of Weight devices)
-    → HasSame (paths_of Range rows) (texts_of Range devices) → HasSame (paths_of Depth rows) (texts_of Depth devices) → HaveSameRows devices rows
-are_same devices rows c w r d Charge = c
-are_same devices rows c w r d Weight = w
-are_same devices rows c w r d Range = r
-are_same devices rows c w r d Depth = d
+pub are_same : (devices : List FlatDevice) (rows : Rows) → HaveSameOwn devices rows → HaveSameFar devices rows → HaveSameRows devices rows
+are_same devices rows o f = record { paths = same_kind devices rows o f; channels = f.channels }
 
 -- ---- variables, one after another
 

@@ -1,4 +1,5 @@
 pub mod Faults
 pub mod Members
 pub mod Texts
+pub mod Channels
 pub mod Codes

@@ -1,10 +1,10 @@
 -- The rows of leaf tables and of certificates by their paths, each in one text: names joined by dots.
-use Rattle.std.specs.Prelude.{List, [], ◌∷◌, ◌++◌, map, string_bytes, if◌then◌else◌}
+use Rattle.std.specs.Prelude.{ℕ, List, [], ◌∷◌, ◌++◌, map, Option, ◌⊎◌, string_bytes, if◌then◌else◌}
 use Rattle.std.specs.List.{flat_map}
 use Rattle.fb_model.specs.Names.{Name}
 use Rattle.fb_model.specs.System as book
 use Rattle.fb_model.specs.Wires.{Kind, Charted, Serviced}
-use Rattle.fb_model.specs.Certificates.{state_names, events_of, is_boolean}
+use Rattle.fb_model.specs.Certificates.{state_names, events_of, is_boolean, with_repeats}
 use Rattle.fb_flat.specs.declared.flat.Leaf.{Leaf}
 use Rattle.fb_flat.specs.declared.flat.FlatResource.{FlatResource}
 use Rattle.fb_flat.specs.declared.flat.FlatDevice.{FlatDevice}
@@ -13,9 +13,12 @@ use Rattle.fb_flat.specs.Leaves.{kind_of}
 use Rattle.fb_cert.specs.Views.{Rows, Table}
 use Rattle.fb_ledger.specs.declared.kind.RowKind.{RowKind}
 use Rattle.fb_ledger.specs.declared.kind.RowKind.TheVariants.{Charge, Weight, Range, Depth}
+use Rattle.fb_ledger.specs.declared.kind.PathRows.{PathRows}
+use Rattle.fb_ledger.specs.declared.kind.PathRows.TheVariants.{Charges, Weights, Ranges, Depths, Fars, FarStates}
 use Rattle.fb_ledger.specs.declared.fault.RowFault.{RowFault}
 use Rattle.fb_ledger.specs.Members.{HasSame}
 use Rattle.fb_ledger.specs.Faults.{IsDifference}
+use Rattle.fb_ledger.specs.Channels.{HaveSameChannels, IsOtherChannel}
 
 -- ---- certificates
 
@@ -24,11 +27,13 @@ abbrev pub paths : {V : Type 0} → Table V → List Name
 paths rows = map (λ r. r.0) rows
 
 -- the paths of the rows of a kind
-abbrev pub paths_of : RowKind → Rows → List Name
-paths_of Charge rows = paths rows.charges
-paths_of Weight rows = paths rows.weights
-paths_of Range rows = paths rows.ranges
-paths_of Depth rows = paths rows.depths
+abbrev pub paths_of : PathRows → Rows → List Name
+paths_of Charges rows = paths rows.charges
+paths_of Weights rows = paths rows.weights
+paths_of Ranges rows = paths rows.ranges
+paths_of Depths rows = paths rows.depths
+paths_of Fars rows = paths rows.fars
+paths_of FarStates rows = paths rows.far_states
 
 -- ---- leaf tables
 
@@ -71,10 +76,37 @@ texts_of kind devices = flat_map (device_texts kind) devices
 
 -- ---- the two together
 
--- a certificate has the rows of these tables, kind by kind
-abbrev pub HaveSameRows : List FlatDevice → Rows → Type 0
-HaveSameRows devices rows = (kind : RowKind) → HasSame (paths_of kind rows) (texts_of kind devices)
+-- the rows of a kind that must be there: FAR where WEIGHT, and FARSTATE where CHARGE, both with a row REPEATS alone
+abbrev pub texts_due : Option ℕ → PathRows → List FlatDevice → List Name
+texts_due repeats Charges devices = texts_of Charge devices
+texts_due repeats Weights devices = texts_of Weight devices
+texts_due repeats Ranges devices = texts_of Range devices
+texts_due repeats Depths devices = texts_of Depth devices
+texts_due repeats Fars devices = with_repeats repeats (texts_of Weight devices)
+texts_due repeats FarStates devices = with_repeats repeats (texts_of Charge devices)
+
+-- a certificate has the rows of a kind that must be there
+abbrev pub HasSameRows : List FlatDevice → Rows → PathRows → Type 0
+HasSameRows devices rows kind = HasSame (paths_of kind rows) (texts_due rows.repeats kind devices)
+
+-- those that go by a path, kind by kind, and those of channels
+pub record HaveSameRows (devices : List FlatDevice) (rows : Rows) : Type 0 where
+  pub paths : (kind : PathRows) → HasSameRows devices rows kind
+  pub channels : HaveSameChannels devices rows
 
 -- the fault is a difference in the rows of a kind
 abbrev pub HaveOtherRows : List FlatDevice → Rows → RowFault → Type 0
-HaveOtherRows devices rows fault = (kind : RowKind) × IsDifference (texts_of kind devices) (paths_of kind rows) fault
+HaveOtherRows devices rows fault = ((kind : PathRows) × IsDifference (texts_due rows.repeats kind devices) (paths_of kind rows) fault) ⊎ IsOtherChannel devices rows fault
+
+-- the rows without the network are the same
+pub record HaveSameOwn (devices : List FlatDevice) (rows : Rows) : Type 0 where
+  pub charges : HasSameRows devices rows Charges
+  pub weights : HasSameRows devices rows Weights
+  pub ranges : HasSameRows devices rows Ranges
+  pub depths : HasSameRows devices rows Depths
+
+-- those of the network are the same
+pub record HaveSameFar (devices : List FlatDevice) (rows : Rows) : Type 0 where
+  pub fars : HasSameRows devices rows Fars
+  pub far_states : HasSameRows devices rows FarStates
+  pub channels : HaveSameChannels devices rows

@@ -16,6 +16,11 @@ pub enum RowFault {
     /// The system must have a row of this path, and the certificate has none: no `DEPTH D.R` for the resource `R` of the device `D`.
     /// Code 33.
     Missing(String),
+    /// The certificate has a row of this channel, and must not: no PUBLISH or SUBSCRIBE of the system names it, or there is no row `REPEATS`.
+    /// Code 32.
+    UnknownChannel(u16),
+    /// A PUBLISH or SUBSCRIBE of the system names this channel, and the certificate has a row `REPEATS` and none of the channel. Code 33.
+    MissingChannel(u16),
 }
 
 impl RowFault {
@@ -27,8 +32,8 @@ impl RowFault {
     {
         match self {
             RowFault::OutOfMemory => 9,
-            RowFault::Unknown(_) => 32,
-            RowFault::Missing(_) => 33,
+            RowFault::Unknown(_) | RowFault::UnknownChannel(_) => 32,
+            RowFault::Missing(_) | RowFault::MissingChannel(_) => 33,
         }
     }
 }

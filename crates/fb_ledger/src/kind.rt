@@ -8,7 +8,7 @@ ghost use Rattle.fb_ledger.specs.Texts.{paths_of};
 
 use fb_cert::Certificate;
 
-/// A kind of rows.
+/// A kind of rows that each system must have.
 #[derive(Clone, Copy)]
 pub enum RowKind {
     Charge,
@@ -17,38 +17,55 @@ pub enum RowKind {
     Depth,
 }
 
+/// The rows of a certificate that go by a path.
+#[derive(Clone, Copy)]
+pub(crate) enum PathRows {
+    Charges,
+    Weights,
+    Ranges,
+    Depths,
+    Fars,
+    FarStates,
+}
+
 /// Whether the certificate has a row of this path.
-pub fn has_row(certificate: &Certificate, kind: RowKind, path: &str) -> bool
+pub(crate) fn has_row(certificate: &Certificate, kind: PathRows, path: &str) -> bool
     ensures { result ≡ is_in path.now (paths_of kind (rows_of certificate.now)) }
 {
     match kind {
-        RowKind::Charge => certificate.charge(path).is_some(),
-        RowKind::Weight => certificate.weight(path).is_some(),
-        RowKind::Range => certificate.range(path).is_some(),
-        RowKind::Depth => certificate.depth(path).is_some(),
+        PathRows::Charges => certificate.charge(path).is_some(),
+        PathRows::Weights => certificate.weight(path).is_some(),
+        PathRows::Ranges => certificate.range(path).is_some(),
+        PathRows::Depths => certificate.depth(path).is_some(),
+        PathRows::Fars => certificate.far(path).is_some(),
+        PathRows::FarStates => certificate.far_state(path).is_some(),
     }
 }
 
 /// How many rows of the kind the certificate has.
-pub fn row_count(certificate: &Certificate, kind: RowKind) -> usize
+pub(crate) fn row_count(certificate: &Certificate, kind: PathRows) -> usize
     ensures { result ≡ length (paths_of kind (rows_of certificate.now)) }
 {
     match kind {
-        RowKind::Charge => certificate.charge_count(),
-        RowKind::Weight => certificate.weight_count(),
-        RowKind::Range => certificate.range_count(),
-        RowKind::Depth => certificate.depth_count(),
+        PathRows::Charges => certificate.charge_count(),
+        PathRows::Weights => certificate.weight_count(),
+        PathRows::Ranges => certificate.range_count(),
+        PathRows::Depths => certificate.depth_count(),
+        PathRows::Fars => certificate.far_count(),
+        PathRows::FarStates => certificate.far_state_count(),
     }
 }
 
 /// The path of the row of the kind at an index in text order.
-pub fn path_at(certificate: &Certificate, kind: RowKind, index: usize) -> Option<&str>
+pub(crate) fn path_at(certificate: &Certificate, kind: PathRows, index: usize) -> Option<&str>
     ensures { option_map (λ p. p.now) result ≡ slice_get (paths_of kind (rows_of certificate.now)) index }
 {
     match kind {
-        RowKind::Charge => Some(certificate.charge_at(index)?.0),
-        RowKind::Weight => Some(certificate.weight_at(index)?.0),
-        RowKind::Range => Some(certificate.range_at(index)?.0),
-        RowKind::Depth => Some(certificate.depth_at(index)?.0),
+        PathRows::Charges => Some(certificate.charge_at(index)?.0),
+        PathRows::Weights => Some(certificate.weight_at(index)?.0),
+        PathRows::Ranges => Some(certificate.range_at(index)?.0),
+        PathRows::Depths => Some(certificate.depth_at(index)?.0),
+        PathRows::Fars => Some(certificate.far_at(index)?.0),
+        PathRows::FarStates => Some(certificate.far_state_at(index)?.0),
     }
 }
