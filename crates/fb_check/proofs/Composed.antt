@@ -1,5 +1,5 @@
 -- The parts of a verdict make a certificate that fits.
-use Rattle.std.proofs.Common.{◌≡◌, ℕ, List, [], ◌∷◌, map}
+use Rattle.std.proofs.Common.{◌≡◌, ℕ, List, [], ◌∷◌, Some, map}
 use Rattle.std.specs.List.{AllByRecursion}
 use Rattle.fb_model.specs.System.{Device, System}
 use Rattle.fb_model.specs.StructuredTextGrammar.{most_nested, most_nested_statements}
@@ -23,8 +23,9 @@ use Rattle.fb_columns.specs.declared.column.Column.TheVariants.{Steps, Places}
 use Rattle.fb_columns.specs.fb_rows.Fitting.{AllClear, IsKnownLeaf as IsPlainLeaf, AreKnown as ArePlain}
 use Rattle.fb_columns.specs.Fitting.{AlgorithmsClear, IsKnownLeaf, AreKnown, AllPay}
 use Rattle.fb_depths.specs.Depths.{IsDeep}
-use Rattle.fb_model.specs.Certificates.{FollowsFew, Fits}
+use Rattle.fb_model.specs.Certificates.{FollowsFew, FarFits, Fits}
 use Rattle.fb_check.specs.Verdicts.{IsWritten}
+use Rattle.fb_check.specs.Fitting.{FitsAlone}
 use Rattle.fb_events.proofs.EventTrees.{event_source}
 use Rattle.fb_events.proofs.Spelled.{event_source_spelled}
 use Rattle.fb_check.proofs.Reading.{with_event_trees, words}
@@ -65,16 +66,20 @@ devices_fit : (cert : book.Certificate) (ds : List Device)
 devices_fit cert [] s p a = tt
 devices_fit cert (d ∷ ds) s p a = (record { steps = s.0; places = p.0; arrivals = a.0.arrivals; begins = a.0.begins }, devices_fit cert ds s.1 p.1 a.1)
 
--- all parts hold, so the certificate fits
-pub fits_by : (s : System) (cert : Certificate) → AllByRecursion FollowsFew s.devices → AllRows s (certificate_of cert) → AllClear (certificate_of cert).ranges s
-    → AllPay (column_of Steps (certificate_of cert)) (certificate_of cert).ranges s → AllPay (column_of Places (certificate_of cert)) (certificate_of cert).ranges s → AllByRecursion (IsDeep (certificate_of cert)) s.devices → Fits s (certificate_of cert)
-fits_by s cert few rows clear steps places deep =
+-- all parts but the network hold
+pub alone_by : (s : System) (cert : Certificate) → AllByRecursion FollowsFew s.devices → AllRows s (certificate_of cert) → AllClear (certificate_of cert).ranges s
+    → AllPay (column_of Steps (certificate_of cert)) (certificate_of cert).ranges s → AllPay (column_of Places (certificate_of cert)) (certificate_of cert).ranges s → AllByRecursion (IsDeep (certificate_of cert)) s.devices → FitsAlone s (certificate_of cert)
+alone_by s cert few rows clear steps places deep =
     record {
       followed = few;
       rows = rows;
       clear = clear;
       devices = devices_fit (certificate_of cert) s.devices steps places deep;
     }
+
+-- and the network too, so the certificate fits
+pub fits_with : (s : System) (cert : book.Certificate) → FitsAlone s cert → ((r : ℕ) → cert.repeats ≡ Some r → FarFits cert r s) → Fits s cert
+fits_with s cert a far = record { followed = a.followed; rows = a.rows; clear = a.clear; devices = a.devices; far = far }
 
 -- where a certificate fits a system that stands in texts, each device holds
 pub devices_hold : (system : System) (cert : book.Certificate) → IsWritten system → Fits system cert → AllByRecursion (DeviceHolds cert) system.devices

@@ -7,5 +7,6 @@ pub use Rattle.fb_columns.specs.fb_types as fb_types
 pub mod Refusals
 pub mod Lookups
 pub mod Faults
+pub mod Fitting
 pub mod Checked
 pub mod Verdicts

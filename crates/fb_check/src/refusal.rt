@@ -28,6 +28,10 @@ pub enum Refusal {
     UnknownRow(String),
     /// The system has this place, and the certificate has no row for it. Code 33.
     MissingRow(String),
+    /// The certificate has a row for this channel, and no PUBLISH or SUBSCRIBE of the system names it, or there is no row REPEATS. Code 32.
+    UnknownChannel(u16),
+    /// A PUBLISH or SUBSCRIBE of the system names this channel, and the certificate has a row REPEATS and none for the channel. Code 33.
+    MissingChannel(u16),
     /// The row of this variable is not within its type, or its start value, or the constant that it always holds, is not in its row. Code 34.
     RangeStart(String),
     /// What this input takes may be outside its row. Code 35.
@@ -42,6 +46,10 @@ pub enum Refusal {
     Weight(String),
     /// The depth of this resource is less than the places of one of its arrivals, or than those of all its BEGIN together. Code 40.
     Depth(String),
+    /// With a row REPEATS: the FAR of this event input or arrival, or the FARSTATE of this state, is less than what it can cause on all devices. Code 41.
+    Far(String),
+    /// With a row REPEATS: the number of this channel is less than what its datagrams can cause at all SUBSCRIBE of it. Code 42.
+    Channel(u16),
 }
 
 impl Refusal {
@@ -56,8 +64,8 @@ impl Refusal {
             Refusal::Text(fault) => fault.code(),
             Refusal::Typing(fault) => fault.code(),
             Refusal::Certificate(fault) => fault.code(),
-            Refusal::UnknownRow(_) => 32,
-            Refusal::MissingRow(_) => 33,
+            Refusal::UnknownRow(_) | Refusal::UnknownChannel(_) => 32,
+            Refusal::MissingRow(_) | Refusal::MissingChannel(_) => 33,
             Refusal::RangeStart(_) => 34,
             Refusal::RangeLink(_) => 35,
             Refusal::RangeKept(_) => 36,
@@ -65,6 +73,8 @@ impl Refusal {
             Refusal::Charge(_) => 38,
             Refusal::Weight(_) => 39,
             Refusal::Depth(_) => 40,
+            Refusal::Far(_) => 41,
+            Refusal::Channel(_) => 42,
         }
     }
 }
@@ -84,6 +94,8 @@ impl fmt::Display for Refusal {
             Refusal::Certificate(fault) => write!(f, "{fault}"),
             Refusal::UnknownRow(path) => write!(f, "32 {path}"),
             Refusal::MissingRow(path) => write!(f, "33 {path}"),
+            Refusal::UnknownChannel(number) => write!(f, "32 {number}"),
+            Refusal::MissingChannel(number) => write!(f, "33 {number}"),
             Refusal::RangeStart(path) => write!(f, "34 {path}"),
             Refusal::RangeLink(path) => write!(f, "35 {path}"),
             Refusal::RangeKept(path) => write!(f, "36 {path}"),
@@ -91,6 +103,8 @@ impl fmt::Display for Refusal {
             Refusal::Charge(path) => write!(f, "38 {path}"),
             Refusal::Weight(path) => write!(f, "39 {path}"),
             Refusal::Depth(path) => write!(f, "40 {path}"),
+            Refusal::Far(path) => write!(f, "41 {path}"),
+            Refusal::Channel(number) => write!(f, "42 {number}"),
         }
     }
 }
@@ -156,7 +170,7 @@ impl From<CertFault> for Refusal {
     }
 }
 
-/// A row that is not known, or that is missing, is told with its path.
+/// A row that is not known, or that is missing, is told with its path or its number.
 impl From<RowFault> for Refusal {
     ghost use Rattle.std.specs.Prelude.{◌≡◌};
     ghost use Rattle.fb_check.specs.Refusals.{of_row};
@@ -168,6 +182,8 @@ impl From<RowFault> for Refusal {
             RowFault::OutOfMemory => Refusal::OutOfMemory,
             RowFault::Unknown(path) => Refusal::UnknownRow(path),
             RowFault::Missing(path) => Refusal::MissingRow(path),
+            RowFault::UnknownChannel(number) => Refusal::UnknownChannel(number),
+            RowFault::MissingChannel(number) => Refusal::MissingChannel(number),
         }
     }
 }
@@ -190,7 +206,7 @@ impl From<Unclear> for Refusal {
     }
 }
 
-/// A row that does not pay is told with its path.
+/// A row that does not pay is told with its path or its number.
 impl From<Shortfall> for Refusal {
     ghost use Rattle.std.specs.Prelude.{◌≡◌};
     ghost use Rattle.fb_check.specs.Refusals.{of_shortfall};
@@ -202,6 +218,7 @@ impl From<Shortfall> for Refusal {
             Shortfall::OutOfMemory => Refusal::OutOfMemory,
             Shortfall::Charge(path) => Refusal::Charge(path),
             Shortfall::Weight(path) => Refusal::Weight(path),
+            Shortfall::Channel(number) => Refusal::Channel(number),
         }
     }
 }

@@ -1,6 +1,6 @@
 //! The verdict over a system and a certificate.
 
-ghost use Rattle.std.specs.Prelude.{◌≡◌, ◌≤◌, length, map, IfOk, IfErr, OnOk};
+ghost use Rattle.std.specs.Prelude.{◌≡◌, ◌≤◌, ℕ, Some, length, map, IfOk, IfErr, OnOk};
 ghost use Rattle.std.specs.List.{AllByRecursion};
 ghost use Rattle.fb_model.specs.System.{System};
 ghost use Rattle.fb_model.specs.Declarations.{SourceTree};
@@ -12,7 +12,13 @@ ghost use Rattle.fb_columns.specs.fb_text.Answers.{IsSource};
 ghost use Rattle.fb_columns.specs.fb_types.declared.typed.Configuration as systems;
 ghost use Rattle.fb_columns.specs.fb_types.Views.{system_of};
 ghost use Rattle.fb_columns.specs.fb_flat.Leaves.{flat_device, written_device};
-ghost use Rattle.fb_model.specs.Certificates.{FollowsFew, Fits};
+ghost use Rattle.fb_model.specs.Certificates.{FollowsFew, FarFits, Fits};
+ghost use Rattle.fb_columns.specs.declared.fault.Shortfall.{Shortfall};
+ghost use Rattle.fb_columns.specs.fb_flat.Tables.{AreDevices};
+ghost use Rattle.fb_columns.specs.fb_rows.Fitting.{AllClear};
+ghost use Rattle.fb_columns.specs.Fitting.{AllPay, AreKnown, IsUnpaid};
+ghost use Rattle.fb_check.specs.Fitting.{FitsAlone};
+ghost use Rattle.fb_check.specs.Refusals.{of_far};
 ghost use Rattle.fb_check.specs.Faults.{IsFitFault};
 ghost use Rattle.fb_check.specs.Verdicts.{system_in, certificate_in, IsWritten, IsOfTexts, IsFaultOf};
 ghost use Rattle.fb_check.specs.declared.refusal.Refusal.TheVariants.{OutOfMemory};
@@ -24,14 +30,14 @@ use fb_cert::Certificate;
 use fb_columns::fb_flat::fb_types::Typed;
 use fb_columns::fb_flat::{Flat, flatten};
 use fb_columns::fb_rows::rows_clear;
-use fb_columns::{Column, column_pays};
+use fb_columns::{Column, Shortfall, channels_pay, column_pays};
 use fb_depths::depths_fit;
 use fb_ledger::rows_match;
 use std::alloc::Global;
 
 // The rows are those that the system must have, all is clear under them, and they pay in both columns and at each queue.
-fn tables_fit(alloc: Global, flat: &Flat, certificate: &Certificate) -> Result<(), Refusal>
-    ensures fits { (s : System) → IsWritten s → map flat_device flat.now.devices.items ≡ map written_device s.devices → AllByRecursion FollowsFew s.devices → OnOk result (Fits s (certificate_of certificate.now)) }
+fn alone_fits(alloc: Global, flat: &Flat, certificate: &Certificate) -> Result<(), Refusal>
+    ensures fits { (s : System) → IsWritten s → map flat_device flat.now.devices.items ≡ map written_device s.devices → AllByRecursion FollowsFew s.devices → OnOk result (FitsAlone s (certificate_of certificate.now)) }
     ensures refused { (typed : systems.Configuration) → IsWritten (system_of typed) → map flat_device flat.now.devices.items ≡ map written_device (system_of typed).devices → IfErr result (IsFitFault typed (certificate_of certificate.now)) }
 {
     rows_match(alloc, flat, certificate)?;
@@ -40,6 +46,64 @@ fn tables_fit(alloc: Global, flat: &Flat, certificate: &Certificate) -> Result<(
     column_pays(alloc, flat, certificate, Column::Places)?;
     depths_fit(alloc, flat, certificate)?;
     Ok(())
+}
+
+// A row that does not pay for what happens on all devices.
+fn far_refusal(fault: Shortfall) -> Refusal
+    ensures { result ≡ of_far fault }
+{
+    match fault {
+        Shortfall::OutOfMemory => Refusal::OutOfMemory,
+        Shortfall::Charge(path) => Refusal::Far(path),
+        Shortfall::Weight(path) => Refusal::Far(path),
+        Shortfall::Channel(number) => Refusal::Channel(number),
+    }
+}
+
+// The rows of states and events pay for what happens on all devices.
+fn far_pays(alloc: Global, flat: &Flat, certificate: &Certificate) -> Result<(), Refusal>
+    ensures pays { (s : System) → AreDevices flat.now.devices.items s.devices → AreKnown (certificate_of certificate.now).ranges s → OnOk result (AllPay (book.far_of (certificate_of certificate.now)) (certificate_of certificate.now).ranges s) }
+    ensures refused { (s : System) → AreDevices flat.now.devices.items s.devices → AreKnown (certificate_of certificate.now).ranges s → IfErr result (λ f. (g : Shortfall) × (f ≡ of_far g) × IsUnpaid (book.far_of (certificate_of certificate.now)) (certificate_of certificate.now).ranges s g) }
+{
+    match column_pays(alloc, flat, certificate, Column::Far) {
+        Ok(()) => Ok(()),
+        Err(fault) => Err(far_refusal(fault)),
+    }
+}
+
+// And those of channels pay for what a datagram causes at all SUBSCRIBE, delivered so often.
+fn network_pays(
+    alloc: Global,
+    flat: &Flat,
+    certificate: &Certificate,
+    repeats: u8,
+) -> Result<(), Refusal>
+    ensures fits { (s : System) → IsWritten s → map flat_device flat.now.devices.items ≡ map written_device s.devices → AllClear (certificate_of certificate.now).ranges s → OnOk result (FarFits (certificate_of certificate.now) repeats s) }
+    ensures refused { (typed : systems.Configuration) → IsWritten (system_of typed) → map flat_device flat.now.devices.items ≡ map written_device (system_of typed).devices → AllClear (certificate_of certificate.now).ranges (system_of typed) → (certificate_of certificate.now).repeats ≡ Some repeats → IfErr result (IsFitFault typed (certificate_of certificate.now)) }
+{
+    far_pays(alloc, flat, certificate)?;
+    channels_pay(alloc, flat, certificate, repeats)?;
+    Ok(())
+}
+
+// With a row REPEATS both hold.
+fn far_fits(alloc: Global, flat: &Flat, certificate: &Certificate) -> Result<(), Refusal>
+    ensures fits { (s : System) → IsWritten s → map flat_device flat.now.devices.items ≡ map written_device s.devices → AllClear (certificate_of certificate.now).ranges s → OnOk result ((r : ℕ) → (certificate_of certificate.now).repeats ≡ Some r → FarFits (certificate_of certificate.now) r s) }
+    ensures refused { (typed : systems.Configuration) → IsWritten (system_of typed) → map flat_device flat.now.devices.items ≡ map written_device (system_of typed).devices → AllClear (certificate_of certificate.now).ranges (system_of typed) → IfErr result (IsFitFault typed (certificate_of certificate.now)) }
+{
+    match certificate.repeats() {
+        Some(repeats) => network_pays(alloc, flat, certificate, repeats),
+        None => Ok(()),
+    }
+}
+
+// All of this together.
+fn tables_fit(alloc: Global, flat: &Flat, certificate: &Certificate) -> Result<(), Refusal>
+    ensures fits { (s : System) → IsWritten s → map flat_device flat.now.devices.items ≡ map written_device s.devices → AllByRecursion FollowsFew s.devices → OnOk result (Fits s (certificate_of certificate.now)) }
+    ensures refused { (typed : systems.Configuration) → IsWritten (system_of typed) → map flat_device flat.now.devices.items ≡ map written_device (system_of typed).devices → AllByRecursion FollowsFew (system_of typed).devices → IfErr result (IsFitFault typed (certificate_of certificate.now)) }
+{
+    alone_fits(alloc, flat, certificate)?;
+    far_fits(alloc, flat, certificate)
 }
 
 // The leaves of a system, where a certificate fits it.
@@ -83,10 +147,11 @@ fn verified(alloc: Global, typed: Typed, certificate: Certificate) -> Result<Ver
 
 /// Whether a certificate fits a system: its rows are exactly those that the system must have, every variable keeps in its
 /// range whatever happens and nothing traps, and all inequalities hold, over whole numbers, in the steps column and in the places column, and for
-/// each depth.
+/// each depth; with a row REPEATS also those of the steps on all devices and of channels.
 ///
-/// Refused with `UnknownRow`, `MissingRow`, `RangeStart`, `RangeLink`, `RangeKept`, `IndexOrDivisor`, `Charge`, `Weight`, `Depth`, or with `Limit`
-/// where too many connections are followed: each only where it is so, and none, unless memory runs out, where the certificate fits.
+/// Refused with `UnknownRow`, `MissingRow`, `UnknownChannel`, `MissingChannel`, `RangeStart`, `RangeLink`, `RangeKept`, `IndexOrDivisor`, `Charge`, `Weight`,
+/// `Depth`, `Far`, `Channel`, or with `Limit` where too many connections are followed: each only where it is so, and none, unless memory runs out, where
+/// the certificate fits.
 pub fn check(alloc: Global, typed: Typed, certificate: Certificate) -> Result<Verified, Refusal>
     ensures same { IfOk result (λ v. (system_in v ≡ system_of typed) × (certificate_in v ≡ certificate_of certificate)) }
     ensures fits { OnOk result (Fits (system_of typed) (certificate_of certificate)) }

@@ -77,6 +77,22 @@ fn depth_of(certificate: &Certificate, path: &str) -> Option<u64>
     None
 }
 
+// The FAR row of a path.
+#[tactic(auto, using(crate::proofs::Lookups::row_here, crate::proofs::Lookups::row_past, crate::proofs::Lookups::row_none))]
+fn far_row(certificate: &Certificate, path: &str) -> Option<u64>
+    ensures { result ≡ row_at path.now (rows_of certificate.now).fars }
+{
+    for index in 0..certificate.far_count() {
+        let Some((row, steps)) = certificate.far_at(index) else {
+            return None;
+        };
+        if is_same_path(row, path) {
+            return Some(steps);
+        }
+    }
+    None
+}
+
 impl Verified {
     /// Lets it go. (A crate that lets it go by itself proves the end of each of its parts anew; this call is proved once.)
     pub fn let_go(self) {
@@ -130,6 +146,14 @@ impl Verified {
         ensures { result ≡ option_map (λ amount. amount.places) (row_at path.now (rows_of self.now.certificate).weights) }
     {
         weight_of(&self.certificate, path).map(|amount| amount.places)
+    }
+
+    /// The steps on all devices that one event at this event input or arrival can cause at most, where each datagram is delivered at most REPEATS times to a
+    /// device: those of its FAR row. `None` where it has none, as without a row REPEATS.
+    pub fn far_of(&self, path: &str) -> Option<u64>
+        ensures { result ≡ row_at path.now (rows_of self.now.certificate).fars }
+    {
+        far_row(&self.certificate, path)
     }
 
     /// The depth of this resource: that of its DEPTH row. `None` where it has none.

@@ -1,5 +1,6 @@
 mod Keys
 mod Adding
+mod Counting
 mod Names
 pub mod Walks
 pub mod Telling

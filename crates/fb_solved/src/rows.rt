@@ -9,8 +9,8 @@ use fb_cert::{Amount, Certificate, Row};
 use indexmap::IndexSet;
 use std::alloc::{AllocError, Global};
 
-// The number at a place, 0 behind the end.
-fn number_at(numbers: &[u64], place: usize) -> u64
+/// The number at a place, 0 behind the end.
+pub(crate) fn number_at(numbers: &[u64], place: usize) -> u64
     ensures { result ≡ slice_index numbers.now place }
 {
     match numbers.get(place) {
