@@ -31,7 +31,7 @@ use Rattle.fb_columns.specs.declared.fault.Shortfall.{Shortfall}
 use Rattle.fb_columns.specs.declared.fault.Shortfall.TheVariants as short
 use Rattle.fb_columns.specs.Columns.{column_of}
 use Rattle.fb_columns.specs.Fitting.{IsUnpaid, AllPay, IsLeafFault, Some as SomePaid}
-use Rattle.fb_columns.specs.Channels.{IsShortChannel}
+use Rattle.fb_columns.specs.Fitting.{IsShortChannel, ChannelsPay}
 use Rattle.fb_columns.proofs.Denied.{denied as unpaid_denies}
 use Rattle.fb_depths.specs.declared.shallow.Shallow.{Shallow}
 use Rattle.fb_depths.specs.declared.shallow.Shallow.TheVariants as shallow

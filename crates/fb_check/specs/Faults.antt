@@ -16,7 +16,7 @@ use Rattle.fb_columns.specs.declared.fault.Shortfall.{Shortfall}
 use Rattle.fb_columns.specs.declared.fault.Shortfall.TheVariants as short
 use Rattle.fb_columns.specs.Columns.{column_of}
 use Rattle.fb_columns.specs.Fitting.{IsUnpaid}
-use Rattle.fb_columns.specs.Channels.{IsShortChannel}
+use Rattle.fb_columns.specs.Fitting.{IsShortChannel, ChannelsPay}
 use Rattle.fb_depths.specs.declared.shallow.Shallow.TheVariants as shallow
 use Rattle.fb_depths.specs.Depths.{IsShallowFault}
 use Rattle.fb_check.specs.declared.refusal.Refusal.{Refusal}
