@@ -1,6 +1,7 @@
 -- What the datagrams of channels cost, in the tables and in the book.
 use Rattle.std.proofs.Common.{◌≡◌, ◌≤◌, ◌<◌, ◌+◌, ◌*◌, ◌==◌, ℕ, zero, suc, Bool, true, false, cond, List, [], ◌∷◌, ◌++◌, length, get_or, drop, Option, None, Some, Result, Ok, Err, OnOk, IfErr, inl, inr, refl, sym, ap, subst, ◌∙◌, string_bytes, arith}
 use Rattle.std.specs.Prelude.{◌⊎◌, MatchResult}
+use Rattle.std.specs.Option.{SomeIff}
 use Rattle.std.specs.List.{sum_by, flat_map, AllByRecursion}
 use Rattle.std.proofs.lemmas.Bool.{eqb-true}
 use Rattle.std.proofs.lemmas.List.{drop_all}
@@ -32,6 +33,15 @@ use Rattle.fb_columns.specs.Channels.{Cost, cost, heard_by, heard_at, heard_unde
 use Rattle.fb_columns.proofs.Amounts.{weight_is}
 use Rattle.fb_columns.proofs.Serving.{arrive_word}
 
+-- ---- numbers
+
+-- a number that is not told since it does not fit is more than any row says
+pub product : (o : Option ℕ) (n : ℕ) → SomeIff o (n < 18446744073709551616) n → IsSum o n
+product None n h = many n h where
+  many : (m : ℕ) → (m < 18446744073709551616 → ⊥) → 1000000000000 < m
+  many m k = omega (arith, k)
+product (Some m) n h = h.1
+
 -- ---- what was found
 
 -- one more at the end
@@ -48,14 +58,12 @@ costs_length (h ∷ hs) [] a = absurd a
 costs_length (h ∷ hs) (x ∷ xs) a = ap suc (costs_length hs xs a.1)
 
 -- what is found at an index is what stands there
-pub cost_there : (hs : List Heard) (xs : List Cost) (i : ℕ) (h : Heard) → AreCosts hs xs → i < length hs → h ≡ get_or hs i h → (x : Cost) × (i < length xs) × (x ≡ get_or xs i x) × (h.channel ≡ x.channel) × IsSum h.cost x.steps
-cost_there [] xs i h a l e = absurd (omega arith)
-cost_there (g ∷ hs) [] i h a l e = absurd a
-cost_there (g ∷ hs) (x ∷ xs) zero h a l e =
-    let same : g ≡ h = sym e in
-    (x, omega arith, refl, subst (λ (k : Heard). k.channel ≡ x.channel) same a.0.0, subst (λ (k : Heard). IsSum k.cost x.steps) same a.0.1)
-cost_there (g ∷ hs) (x ∷ xs) (suc i) h a l e =
-    let k = cost_there hs xs i h a.1 (omega arith) e in
+pub cost_there : (hs : List Heard) (xs : List Cost) (i : ℕ) (d : Heard) → AreCosts hs xs → i < length hs → (x : Cost) × (i < length xs) × (x ≡ get_or xs i x) × ((get_or hs i d).channel ≡ x.channel) × IsSum (get_or hs i d).cost x.steps
+cost_there [] xs i d a l = absurd (omega arith)
+cost_there (g ∷ hs) [] i d a l = absurd a
+cost_there (g ∷ hs) (x ∷ xs) zero d a l = (x, omega arith, refl, a.0.0, a.0.1)
+cost_there (g ∷ hs) (x ∷ xs) (suc i) d a l =
+    let k = cost_there hs xs i d a.1 (omega arith) in
     (k.0, omega (arith, k.1), k.2, k.3, k.4)
 
 -- ---- one channel pays, or all do
@@ -82,20 +90,23 @@ all_paid cert xs h c = by (paid_or_none (far_of (certificate_of cert)).sending x
 
 -- ---- the book
 
+nothing : (w : ℕ) → 0 ≡ 0 * w
+nothing w = omega arith
+
 module _ (cert : Certificate) (small : AreSmall (certificate_of cert)) (r c : ℕ) where
   -- what a leaf hears of a channel costs as often as it admits its datagram
   kind_load : (path : Name) (kind : Kind) → cost_in c (heard_by cert r path kind) ≡ admissions r c kind * (far_of (certificate_of cert)).weight (at_place (names_in path) arrive)
-  kind_load path (Charted block) = refl
-  kind_load path (Serviced (Service.Input number types)) = refl
-  kind_load path (Serviced (Service.Output number types)) = refl
-  kind_load path (Serviced (Service.Publish channel types)) = refl
+  kind_load path (Charted block) = nothing ((far_of (certificate_of cert)).weight (at_place (names_in path) arrive))
+  kind_load path (Serviced (Service.Input number types)) = nothing ((far_of (certificate_of cert)).weight (at_place (names_in path) arrive))
+  kind_load path (Serviced (Service.Output number types)) = nothing ((far_of (certificate_of cert)).weight (at_place (names_in path) arrive))
+  kind_load path (Serviced (Service.Publish channel types)) = nothing ((far_of (certificate_of cert)).weight (at_place (names_in path) arrive))
   kind_load path (Serviced (Service.Subscribe channel types)) = by (channel.number == c) (admitted r channel) _ _ (sym (weight_is Far cert small path arrive arrive_word)) where
     by : (b : Bool) (n m w : ℕ) → m ≡ w → 0 + cond b (n * m) 0 ≡ cond b n 0 * w
-    by true n m w e = ap (λ k. n * k) e
-    by false n m w e = refl
-  kind_load path (Serviced Service.Delay) = refl
-  kind_load path (Serviced Service.Cycle) = refl
-  kind_load path (Serviced Service.Restart) = refl
+    by true n m w e = let s : n * m ≡ n * w = ap (λ k. n * k) e in omega (arith, s)
+    by false n m w e = nothing w
+  kind_load path (Serviced Service.Delay) = nothing ((far_of (certificate_of cert)).weight (at_place (names_in path) arrive))
+  kind_load path (Serviced Service.Cycle) = nothing ((far_of (certificate_of cert)).weight (at_place (names_in path) arrive))
+  kind_load path (Serviced Service.Restart) = nothing ((far_of (certificate_of cert)).weight (at_place (names_in path) arrive))
 
   leaf_load : (l : Leaf) (b : wires.Leaf) → IsLeaf l b → cost_in c (heard_at cert r l) ≡ admissions r c b.kind * (far_of (certificate_of cert)).weight (at_place b.path arrive)
   leaf_load l b a =

@@ -1,6 +1,6 @@
 //! When the rows of channels pay for what their datagrams cost.
 
-ghost use Rattle.std.specs.Prelude.{◌≡◌, ◌++◌, ◌*◌, List, map, IfOk, IfErr, OnOk, MatchResult};
+ghost use Rattle.std.specs.Prelude.{◌≡◌, ◌≤◌, ◌++◌, ◌*◌, List, map, IfOk, IfErr, OnOk, MatchResult};
 ghost use Rattle.std.specs.List.{AllByRecursion, flat_map};
 ghost use Rattle.fb_model.specs.Services.{arrive};
 ghost use Rattle.fb_model.specs.System.{System};
