@@ -48,7 +48,7 @@ amount_small f most (r ∷ rs) p h = by (place_eq r.place p) (amount_small f mos
   by true others = h.0
   by false others = others
 
--- the same of the rows of states and events on all devices, and of those of channels
+-- the same of the rows of states and events on all devices
 pub far_small : (rows : List book.FarRow) (p : Place) → AllByRecursion IsSmallFar rows → book.far_amount rows p ≤ most_steps
 far_small [] p h = omega arith
 far_small (r ∷ rs) p h = by (place_eq r.place p) (far_small rs p h.1) where
@@ -56,6 +56,7 @@ far_small (r ∷ rs) p h = by (place_eq r.place p) (far_small rs p h.1) where
   by true others = h.0
   by false others = others
 
+-- the same of the rows of channels
 pub channel_small : (rows : List book.ChannelRow) (c : ℕ) → AllByRecursion IsSmallChannel rows → book.channel_amount rows c ≤ most_steps
 channel_small [] c h = omega arith
 channel_small (r ∷ rs) c h = by (r.channel == c) (channel_small rs c h.1) where
@@ -63,10 +64,11 @@ channel_small (r ∷ rs) c h = by (r.channel == c) (channel_small rs c h.1) wher
   by true others = h.0
   by false others = others
 
+-- the most places are fewer than the most steps
 few : (n : ℕ) → n ≤ most_places → n ≤ most_steps
 few n h = omega (arith, h)
 
--- what is small is capped to itself
+-- a number within the most steps is what is left of it when it is capped there
 capped_is : (a n : ℕ) → a ≡ n → a ≤ most_steps → a ≡ min n most_steps
 capped_is a n e h = e ∙ least n most_steps (subst (λ k. k ≤ most_steps) e h)
 
@@ -80,6 +82,7 @@ places_are rows path h =
     let small = amount_small (λ r. r.places) most_places (amount_rows rows) (place_of path) (all_weaker IsSmall (λ (r : book.Row). r.places ≤ most_places) (amount_rows rows) (λ r k. k.1) h) in
     capped_is _ _ (places_same rows path) (few _ small)
 
+-- the book reads of rows on all devices what the tables read
 fars_are : (rows : Table ℕ) (path : List ℕ) → AllByRecursion IsSmallFar (far_rows rows) → book.far_amount (far_rows rows) (place_of path) ≡ min (count_in (first_at path rows)) most_steps
 fars_are rows path h = capped_is _ _ (fars_same rows path) (far_small (far_rows rows) (place_of path) h)
 

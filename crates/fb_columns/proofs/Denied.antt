@@ -41,7 +41,7 @@ denied col ranges s (Charge path) u fits = absurd (unpaid_denied col ranges s (C
 denied col ranges s (Weight path) u fits = absurd (unpaid_denied col ranges s (Weight path) (λ e. absurd cc) u fits)
 denied col ranges s (Channel number) u fits = absurd (unpaid_denied col ranges s (Channel number) (λ e. absurd cc) u fits)
 
--- the same of the row of a channel
+-- a true refusal of a channel denies that the rows of all channels pay, unless memory ran out
 pub channel_denied : (cert : book.Certificate) (repeats : ℕ) (s : system.System) (f : Shortfall) → IsShortChannel cert repeats s f → ChannelsPay cert repeats s → f ≡ OutOfMemory
 channel_denied cert repeats s OutOfMemory h pays = refl
 channel_denied cert repeats s (Charge path) h pays = absurd h

@@ -51,6 +51,7 @@ more_costs [] (y ∷ xs) h x a e s = absurd a
 more_costs (g ∷ hs) [] h x a e s = absurd a
 more_costs (g ∷ hs) (y ∷ xs) h x a e s = (a.0, more_costs hs xs h x a.1 e s)
 
+-- as many were found as there are
 pub costs_length : (hs : List Heard) (xs : List Cost) → AreCosts hs xs → length hs ≡ length xs
 costs_length [] [] a = refl
 costs_length [] (x ∷ xs) a = absurd a
@@ -82,6 +83,7 @@ paid_or_none row all c (x ∷ xs) h = by (x.channel == c) refl (paid_or_none row
       let none : cost_of c x ≡ 0 = ap (λ b. cond b x.steps 0) e in
       inr (omega (arith, here, none, z))
 
+-- where each channel that is heard pays, so does every other
 pub all_paid : (cert : Certificate) (xs : List Cost) → AllByRecursion (λ (x : Cost). ChannelPays cert xs x.channel) xs → (c : ℕ) → ChannelPays cert xs c
 all_paid cert xs h c = by (paid_or_none (far_of (certificate_of cert)).sending xs c xs h) where
   by : ChannelPays cert xs c ⊎ (cost_in c xs ≡ 0) → ChannelPays cert xs c
@@ -90,6 +92,7 @@ all_paid cert xs h c = by (paid_or_none (far_of (certificate_of cert)).sending x
 
 -- ---- the book
 
+-- what is admitted no time costs nothing
 nothing : (w : ℕ) → 0 ≡ 0 * w
 nothing w = omega arith
 
@@ -108,11 +111,13 @@ module _ (cert : Certificate) (small : AreSmall (certificate_of cert)) (r c : �
   kind_load path (Serviced Service.Cycle) = nothing ((far_of (certificate_of cert)).weight (at_place (names_in path) arrive))
   kind_load path (Serviced Service.Restart) = nothing ((far_of (certificate_of cert)).weight (at_place (names_in path) arrive))
 
+  -- the same of a leaf of the tables and its leaf of the book
   leaf_load : (l : Leaf) (b : wires.Leaf) → IsLeaf l b → cost_in c (heard_at cert r l) ≡ admissions r c b.kind * (far_of (certificate_of cert)).weight (at_place b.path arrive)
   leaf_load l b a =
       kind_load (string_bytes l.path) (kind_of l.body) ∙ ap (λ k. admissions r c k * (far_of (certificate_of cert)).weight (at_place (names_in (string_bytes l.path)) arrive)) a.kind
       ∙ ap (λ p. admissions r c b.kind * (far_of (certificate_of cert)).weight (at_place p arrive)) a.path
 
+  -- the same of many, one by one
   leaves_load : (ls : List Leaf) (bs : List wires.Leaf) → AreLeaves ls bs → cost_in c (flat_map (heard_at cert r) ls) ≡ channel_load (far_of (certificate_of cert)) r c bs
   leaves_load [] [] a = refl
   leaves_load [] (b ∷ bs) a = absurd a
@@ -151,14 +156,8 @@ channel_short cert small r fs s (Charge row) h a = absurd h
 channel_short cert small r fs s (Weight row) h a = absurd h
 channel_short cert small r fs s (Channel c) h a = subst (λ n. (far_of (certificate_of cert)).sending c < n) (devices_load cert small r c fs s.devices a) h
 
+-- the same where one is named, if any
 pub channels_short : (cert : Certificate) (small : AreSmall (certificate_of cert)) (r : ℕ) (fs : List FlatDevice) (s : system.System) (t : Result (Unit {0}) Shortfall)
     → MatchResult t (λ u. AllByRecursion (λ (x : Cost). ChannelPays cert (heard_under cert r fs) x.channel) (heard_under cert r fs)) (IsOwingChannel cert (heard_under cert r fs)) → AreDevices fs s.devices → IfErr t (IsShortChannel (certificate_of cert) r s)
 channels_short cert small r fs s (Ok u) h a = tt
 channels_short cert small r fs s (Err e) h a = channel_short cert small r fs s e h a
-
--- want of memory is told of no channel
-pub memory_short : (cert : Certificate) (r : ℕ) (s : system.System) (e : Shortfall) → e ≡ OutOfMemory → IsShortChannel (certificate_of cert) r s e
-memory_short cert r s OutOfMemory h = tt
-memory_short cert r s (Charge row) h = absurd cc
-memory_short cert r s (Weight row) h = absurd cc
-memory_short cert r s (Channel c) h = absurd cc

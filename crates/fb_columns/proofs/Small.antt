@@ -14,12 +14,15 @@ charge_small ws p s k (a_charge d m n) = (m.at_most, n.at_most)
 weight_small : (ws : List (List ℕ)) (p : List ℕ) (s k : ℕ) → IsEntry ws (weight p s k) → IsSmall (row_of p s k)
 weight_small ws p s k (a_weight d m n) = (m.at_most, n.at_most)
 
+-- the numbers of rows that a text says on all devices and for channels lie within their bounds
 far_small : (ws : List (List ℕ)) (p : List ℕ) (n : ℕ) → IsEntry ws (far p n) → IsSmallFar (far_row p n)
 far_small ws p n (a_far d m) = m.at_most
 
+-- the same of a row of a state
 far_state_small : (ws : List (List ℕ)) (p : List ℕ) (n : ℕ) → IsEntry ws (far_state p n) → IsSmallFar (far_row p n)
 far_state_small ws p n (a_far_state d m) = m.at_most
 
+-- the same of a row of a channel
 channel_small : (ws : List (List ℕ)) (c n : ℕ) → IsEntry ws (channel c n) → IsSmallChannel (channel_row c n)
 channel_small ws c n (a_channel d m) = m.at_most
 
@@ -37,6 +40,7 @@ weights_small (w ∷ ws) [] h = elim h [ ]
 weights_small (w ∷ ws) (weight p s k ∷ es) (entry h rest) = (weight_small w.words p s k h, weights_small ws es rest)
 weights_small (w ∷ ws) (e ∷ es) (entry h rest) = weights_small ws es rest
 
+-- so those of all rows of events do
 fars_small : (ws : List Written) (es : List Entry) → AreEntries ws es → AllByRecursion IsSmallFar (certificate_in es).fars
 fars_small [] [] no_entry = tt
 fars_small [] (e ∷ es) h = elim h [ ]
@@ -44,6 +48,7 @@ fars_small (w ∷ ws) [] h = elim h [ ]
 fars_small (w ∷ ws) (far p n ∷ es) (entry h rest) = (far_small w.words p n h, fars_small ws es rest)
 fars_small (w ∷ ws) (e ∷ es) (entry h rest) = fars_small ws es rest
 
+-- the same of all rows of states
 far_states_small : (ws : List Written) (es : List Entry) → AreEntries ws es → AllByRecursion IsSmallFar (certificate_in es).far_states
 far_states_small [] [] no_entry = tt
 far_states_small [] (e ∷ es) h = elim h [ ]
@@ -51,6 +56,7 @@ far_states_small (w ∷ ws) [] h = elim h [ ]
 far_states_small (w ∷ ws) (far_state p n ∷ es) (entry h rest) = (far_state_small w.words p n h, far_states_small ws es rest)
 far_states_small (w ∷ ws) (e ∷ es) (entry h rest) = far_states_small ws es rest
 
+-- the same of all rows of channels
 channels_small : (ws : List Written) (es : List Entry) → AreEntries ws es → AllByRecursion IsSmallChannel (certificate_in es).channels
 channels_small [] [] no_entry = tt
 channels_small [] (e ∷ es) h = elim h [ ]

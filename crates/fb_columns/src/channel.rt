@@ -185,11 +185,7 @@ fn row(certificate: &Certificate, channel: u16) -> u64
 }
 
 // The row of a channel pays for what a datagram may cost at all its SUBSCRIBE.
-fn channel_pays(
-    certificate: &Certificate,
-    heard: &[Heard],
-    channel: u16,
-) -> Result<(), Shortfall>
+fn channel_pays(certificate: &Certificate, heard: &[Heard], channel: u16) -> Result<(), Shortfall>
     ensures { (xs : List Cost) → AreCosts heard.now xs → MatchResult result (λ u. ChannelPays certificate.now xs channel) (IsOwingChannel certificate.now xs) }
 {
     if is_within(total(heard, channel), row(certificate, channel)) {
