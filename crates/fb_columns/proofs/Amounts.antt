@@ -1,6 +1,6 @@
 -- The rows of the tables and the numbers of the book.
-use Rattle.std.proofs.Common.{◌≡◌, ◌≤◌, ◌+◌, ℕ, Bool, true, false, cond, arith, subst, List, [], ◌∷◌, ◌++◌, map, Option, None, Some, refl, sym, ap, ◌∙◌, string_bytes}
-use Rattle.std.specs.Prelude.{min}
+use Rattle.std.proofs.Common.{◌≡◌, ◌≤◌, ◌+◌, ℕ, Bool, true, false, cond, arith, subst, List, [], ◌∷◌, ◌++◌, map, refl, sym, ap, ◌∙◌, string_bytes}
+use Rattle.std.specs.Prelude.{◌==◌, min}
 use Rattle.std.specs.List.{sum_by, AllByRecursion}
 use Rattle.std.proofs.lemmas.List.Sums.{sum_by-cons}
 use Rattle.fb_model.specs.Names.{Name, Path, Place, at_place, place_eq}
@@ -10,17 +10,17 @@ use Rattle.fb_model.specs.Certificates as book
 use Rattle.fb_model.proofs.Lists.{all_weaker}
 use Rattle.fb_cert.specs.declared.certificate.Amount.{Amount}
 use Rattle.fb_cert.specs.declared.certificate.Certificate.{Certificate}
-use Rattle.fb_cert.specs.Views.{Table, amount_rows, first_at, rows_of, certificate_of, steps_in, places_in}
-use Rattle.fb_cert.proofs.Places.{steps_same, places_same}
+use Rattle.fb_cert.specs.Views.{Table, amount_rows, far_rows, first_at, rows_of, certificate_of, steps_in, places_in, count_in}
+use Rattle.fb_cert.proofs.Places.{steps_same, places_same, fars_same}
 use Rattle.fb_rows.specs.fb_flat.declared.flat.Target.{Target}
 use Rattle.fb_rows.specs.fb_flat.Tables.{target_place}
 use Rattle.fb_rows.specs.fb_flat.Sites.{dotted}
 use Rattle.fb_rows.proofs.of_fb_flat.Dotted.{names_dotted}
 use Rattle.fb_columns.specs.declared.column.Column.{Column}
-use Rattle.fb_columns.specs.declared.column.Column.TheVariants.{Steps, Places}
+use Rattle.fb_columns.specs.declared.column.Column.TheVariants.{Steps, Places, Far}
 use Rattle.fb_columns.specs.Columns.{unit_of, column_of}
-use Rattle.fb_columns.specs.Fitting.{IsSmall, AreSmall}
-use Rattle.fb_columns.specs.Reckoning.{number_of, weight_of, charge_of, target_weight, load_of}
+use Rattle.fb_columns.specs.Fitting.{IsSmall, IsSmallFar, IsSmallChannel, AreSmall}
+use Rattle.fb_columns.specs.Reckoning.{weight_of, charge_of, target_weight, load_of}
 
 front : (ns : Path) (n : Name) → all_but_last (ns ++ n ∷ []) ≡ ns
 front [] n = refl
@@ -48,39 +48,58 @@ amount_small f most (r ∷ rs) p h = by (place_eq r.place p) (amount_small f mos
   by true others = h.0
   by false others = others
 
-in_steps : (o : Option Amount) → steps_in o ≤ most_steps → steps_in o ≡ number_of Steps o
-in_steps None h = refl
-in_steps (Some a) h = least a.steps most_steps h
+-- the same of the rows of states and events on all devices
+pub far_small : (rows : List book.FarRow) (p : Place) → AllByRecursion IsSmallFar rows → book.far_amount rows p ≤ most_steps
+far_small [] p h = omega arith
+far_small (r ∷ rs) p h = by (place_eq r.place p) (far_small rs p h.1) where
+  by : (b : Bool) → book.far_amount rs p ≤ most_steps → cond b r.steps (book.far_amount rs p) ≤ most_steps
+  by true others = h.0
+  by false others = others
 
-in_places : (o : Option Amount) → places_in o ≤ most_places → places_in o ≡ number_of Places o
-in_places None h = refl
-in_places (Some a) h = least a.places most_steps (few a.places h) where
-  few : (n : ℕ) → n ≤ most_places → n ≤ most_steps
-  few n h = omega (arith, h)
+-- the same of the rows of channels
+pub channel_small : (rows : List book.ChannelRow) (c : ℕ) → AllByRecursion IsSmallChannel rows → book.channel_amount rows c ≤ most_steps
+channel_small [] c h = omega arith
+channel_small (r ∷ rs) c h = by (r.channel == c) (channel_small rs c h.1) where
+  by : (b : Bool) → book.channel_amount rs c ≤ most_steps → cond b r.steps (book.channel_amount rs c) ≤ most_steps
+  by true others = h.0
+  by false others = others
 
-steps_are : (rows : Table Amount) (path : List ℕ) → AllByRecursion IsSmall (amount_rows rows) → book.amount (λ r. r.steps) (amount_rows rows) (place_of path) ≡ number_of Steps (first_at path rows)
+-- the most places are fewer than the most steps
+few : (n : ℕ) → n ≤ most_places → n ≤ most_steps
+few n h = omega (arith, h)
+
+-- a number within the most steps is what is left of it when it is capped there
+capped_is : (a n : ℕ) → a ≡ n → a ≤ most_steps → a ≡ min n most_steps
+capped_is a n e h = e ∙ least n most_steps (subst (λ k. k ≤ most_steps) e h)
+
+steps_are : (rows : Table Amount) (path : List ℕ) → AllByRecursion IsSmall (amount_rows rows) → book.amount (λ r. r.steps) (amount_rows rows) (place_of path) ≡ min (steps_in (first_at path rows)) most_steps
 steps_are rows path h =
-    let same = steps_same rows path in
-    let few = amount_small (λ r. r.steps) most_steps (amount_rows rows) (place_of path) (all_weaker IsSmall (λ (r : book.Row). r.steps ≤ most_steps) (amount_rows rows) (λ r k. k.0) h) in
-    same ∙ in_steps (first_at path rows) (subst (λ n. n ≤ most_steps) same few)
+    let small = amount_small (λ r. r.steps) most_steps (amount_rows rows) (place_of path) (all_weaker IsSmall (λ (r : book.Row). r.steps ≤ most_steps) (amount_rows rows) (λ r k. k.0) h) in
+    capped_is _ _ (steps_same rows path) small
 
-places_are : (rows : Table Amount) (path : List ℕ) → AllByRecursion IsSmall (amount_rows rows) → book.amount (λ r. r.places) (amount_rows rows) (place_of path) ≡ number_of Places (first_at path rows)
+places_are : (rows : Table Amount) (path : List ℕ) → AllByRecursion IsSmall (amount_rows rows) → book.amount (λ r. r.places) (amount_rows rows) (place_of path) ≡ min (places_in (first_at path rows)) most_steps
 places_are rows path h =
-    let same = places_same rows path in
-    let few = amount_small (λ r. r.places) most_places (amount_rows rows) (place_of path) (all_weaker IsSmall (λ (r : book.Row). r.places ≤ most_places) (amount_rows rows) (λ r k. k.1) h) in
-    same ∙ in_places (first_at path rows) (subst (λ n. n ≤ most_places) same few)
+    let small = amount_small (λ r. r.places) most_places (amount_rows rows) (place_of path) (all_weaker IsSmall (λ (r : book.Row). r.places ≤ most_places) (amount_rows rows) (λ r k. k.1) h) in
+    capped_is _ _ (places_same rows path) (few _ small)
+
+-- the book reads of rows on all devices what the tables read
+fars_are : (rows : Table ℕ) (path : List ℕ) → AllByRecursion IsSmallFar (far_rows rows) → book.far_amount (far_rows rows) (place_of path) ≡ min (count_in (first_at path rows)) most_steps
+fars_are rows path h = capped_is _ _ (fars_same rows path) (far_small (far_rows rows) (place_of path) h)
 
 pub charge_is : (c : Column) (cert : Certificate) → AreSmall (certificate_of cert) → (path x : Name) → IsWord x → (column_of c (certificate_of cert)).charge (at_place (names_in path) x) ≡ charge_of c cert path x
 charge_is Steps cert small path x h = ap (column_of Steps (certificate_of cert)).charge (sym (place_dotted path x h)) ∙ steps_are (rows_of cert).charges (dotted path x) small.charges
 charge_is Places cert small path x h = ap (column_of Places (certificate_of cert)).charge (sym (place_dotted path x h)) ∙ places_are (rows_of cert).charges (dotted path x) small.charges
+charge_is Far cert small path x h = ap (column_of Far (certificate_of cert)).charge (sym (place_dotted path x h)) ∙ fars_are (rows_of cert).far_states (dotted path x) small.far_states
 
 pub weight_is : (c : Column) (cert : Certificate) → AreSmall (certificate_of cert) → (path x : Name) → IsWord x → (column_of c (certificate_of cert)).weight (at_place (names_in path) x) ≡ weight_of c cert path x
 weight_is Steps cert small path x h = ap (column_of Steps (certificate_of cert)).weight (sym (place_dotted path x h)) ∙ steps_are (rows_of cert).weights (dotted path x) small.weights
 weight_is Places cert small path x h = ap (column_of Places (certificate_of cert)).weight (sym (place_dotted path x h)) ∙ places_are (rows_of cert).weights (dotted path x) small.weights
+weight_is Far cert small path x h = ap (column_of Far (certificate_of cert)).weight (sym (place_dotted path x h)) ∙ fars_are (rows_of cert).fars (dotted path x) small.fars
 
 pub unit_is : (c : Column) (cert : Certificate) → (column_of c (certificate_of cert)).unit ≡ unit_of c
 unit_is Steps cert = refl
 unit_is Places cert = refl
+unit_is Far cert = refl
 
 -- the weights of all targets
 pub load_is : (c : Column) (cert : Certificate) (small : AreSmall (certificate_of cert)) (ts : List Target) → AllByRecursion (λ (p : Place). IsWord p.event) (map target_place ts) → load_of c cert ts ≡ sum_by (column_of c (certificate_of cert)).weight (map target_place ts)

@@ -1,5 +1,5 @@
 -- A refusal that is true of a system denies that its rows pay.
-use Rattle.std.proofs.Common.{◌≡◌, List, inl, inr, refl}
+use Rattle.std.proofs.Common.{◌≡◌, ℕ, List, inl, inr, refl, arith}
 use Rattle.std.specs.List.{AllByRecursion}
 use Rattle.fb_model.specs.System as system
 use Rattle.fb_model.specs.Wires as wires
@@ -11,12 +11,13 @@ use Rattle.fb_model.specs.Certificates.{KindWeighs, InputFits, EventFits, event_
 use Rattle.fb_model.specs.Services.{service_events}
 use Rattle.fb_model.proofs.Lists.{at_listed}
 use Rattle.fb_columns.specs.declared.fault.Shortfall.{Shortfall}
-use Rattle.fb_columns.specs.declared.fault.Shortfall.TheVariants.{OutOfMemory, Charge, Weight}
-use Rattle.fb_columns.specs.Fitting.{Some, IsLeafFault, ChargeFails, WeightFails, IsUnpaid, AllPay}
+use Rattle.fb_columns.specs.declared.fault.Shortfall.TheVariants.{OutOfMemory, Charge, Weight, Channel}
+use Rattle.fb_columns.specs.Fitting.{Some, IsLeafFault, ChargeFails, WeightFails, IsUnpaid, AllPay, IsShortChannel, ChannelsPay}
 use Rattle.fb_columns.proofs.Lists.{some_of, none_lacks}
 
 leaf_denied : (col : book.Column) (ranges : List Range) (leaf : wires.Leaf) (f : Shortfall) → (f ≡ OutOfMemory → ⊥) → IsLeafFault col ranges leaf f → KindWeighs col (rows ranges leaf.path leaf.kind) leaf.targets leaf.path leaf.kind → ⊥
 leaf_denied col ranges leaf OutOfMemory n h w = n refl
+leaf_denied col ranges leaf (Channel number) n h w = h
 leaf_denied col ranges leaf (Charge path) n h w = by (rows ranges leaf.path leaf.kind) leaf.kind h.2 w where
   by : (spans : Spans) (kind : Kind) → ChargeFails col spans leaf.targets leaf.path kind h.0 → KindWeighs col spans leaf.targets leaf.path kind → ⊥
   by spans (Charted block) (inl s) fits = none_lacks (book.StateFits col spans leaf.targets leaf.path block) (λ x. (x.name ≡ h.0) × (book.StateFits col spans leaf.targets leaf.path block x → ⊥)) block.states (λ x p q. q.1 p) fits.states (some_of _ block.states s)
@@ -38,3 +39,11 @@ pub denied : (col : book.Column) (ranges : List Range) (s : system.System) (f : 
 denied col ranges s OutOfMemory u fits = refl
 denied col ranges s (Charge path) u fits = absurd (unpaid_denied col ranges s (Charge path) (λ e. absurd cc) u fits)
 denied col ranges s (Weight path) u fits = absurd (unpaid_denied col ranges s (Weight path) (λ e. absurd cc) u fits)
+denied col ranges s (Channel number) u fits = absurd (unpaid_denied col ranges s (Channel number) (λ e. absurd cc) u fits)
+
+-- a true refusal of a channel denies that the rows of all channels pay, unless memory ran out
+pub channel_denied : (cert : book.Certificate) (repeats : ℕ) (s : system.System) (f : Shortfall) → IsShortChannel cert repeats s f → ChannelsPay cert repeats s → f ≡ OutOfMemory
+channel_denied cert repeats s OutOfMemory h pays = refl
+channel_denied cert repeats s (Charge path) h pays = absurd h
+channel_denied cert repeats s (Weight path) h pays = absurd h
+channel_denied cert repeats s (Channel c) h pays = absurd (omega (arith, h, pays c))

@@ -5,7 +5,7 @@ use Rattle.std.proofs.lemmas.List.{take_more}
 use Rattle.fb_model.specs.Names.{Name}
 use Rattle.fb_model.proofs.Lists.{all_append}
 use Rattle.fb_columns.specs.declared.fault.Shortfall.{Shortfall}
-use Rattle.fb_columns.specs.declared.fault.Shortfall.TheVariants.{OutOfMemory, Charge, Weight}
+use Rattle.fb_columns.specs.declared.fault.Shortfall.TheVariants.{OutOfMemory, Charge, Weight, Channel}
 use Rattle.fb_columns.specs.Paying.{IsCharge, IsWeight, Names}
 use Rattle.fb_columns.proofs.Lists.{image_at}
 
@@ -22,11 +22,13 @@ pub charge_weaker : (path : Name) (P Q : Name → Type 0) (e : Shortfall) → ((
 charge_weaker path P Q OutOfMemory f h = tt
 charge_weaker path P Q (Charge row) f h = (h.0, h.1, f h.0 h.2)
 charge_weaker path P Q (Weight row) f h = absurd h
+charge_weaker path P Q (Channel number) f h = absurd h
 
 pub weight_weaker : (path : Name) (P Q : Name → Type 0) (e : Shortfall) → ((y : Name) → P y → Q y) → IsWeight path P e → IsWeight path Q e
 weight_weaker path P Q OutOfMemory f h = tt
 weight_weaker path P Q (Weight row) f h = (h.0, h.1, f h.0 h.2)
 weight_weaker path P Q (Charge row) f h = absurd h
+weight_weaker path P Q (Channel number) f h = absurd h
 
 pub one_charge : {X : Type 0} (path : Name) (name : X → Name) (P : X → Type 0) (xs : List X) (i : ℕ) (x : X) (e : Shortfall) → i < length xs → x ≡ get_or xs i x
     → IsCharge path (λ y. (name x ≡ y) × (P x → ⊥)) e → IsCharge path (λ y. Any (λ z. (name z ≡ y) × (P z → ⊥)) xs) e

@@ -29,7 +29,7 @@ use Rattle.fb_rows.specs.fb_flat.Sites.{dotted}
 use Rattle.fb_rows.proofs.of_fb_flat.Dotted.{names_dotted}
 use Rattle.fb_columns.specs.declared.column.Column.{Column}
 use Rattle.fb_columns.specs.declared.fault.Shortfall.{Shortfall}
-use Rattle.fb_columns.specs.declared.fault.Shortfall.TheVariants.{OutOfMemory, Charge, Weight}
+use Rattle.fb_columns.specs.declared.fault.Shortfall.TheVariants.{OutOfMemory, Charge, Weight, Channel}
 use Rattle.fb_columns.specs.Columns.{unit_of, column_of}
 use Rattle.fb_columns.specs.Reckoning.{load_of, load_at, value_at, table_names, Costs}
 use Rattle.fb_columns.specs.Paying.{IsWeight, outputs_in, ChartPays, IsOwing, DispatchPays, OneOwes}
@@ -39,7 +39,7 @@ use Rattle.fb_columns.proofs.Amounts.{charge_is, weight_is, unit_is, load_is}
 use Rattle.fb_columns.proofs.Known.{IsTabled, tabled, typed_names_are}
 use Rattle.fb_columns.proofs.Weighing.{le_along, chart_weighs, state_named, state_fails, event_owing, event_fails}
 use Rattle.fb_columns.proofs.Costing.{named_cost}
-use Rattle.fb_columns.proofs.Serving.{events_words, emits_outputs, loads_reached, sends_nothing}
+use Rattle.fb_columns.proofs.Serving.{events_words, emits_outputs, loads_reached}
 
 abbrev IsNamed : Place → Type 0
 IsNamed p = IsWord p.event
@@ -108,6 +108,7 @@ module _ (c : Column) (rows : tables.Certificate) (small : AreSmall (certificate
 
   pub chart_fails : (e : Shortfall) → IsOwing c rows path k costs e → IsLeafFault (column_of c (certificate_of rows)) ranges b e
   chart_fails OutOfMemory h = tt
+  chart_fails (Channel number) h = absurd h
   chart_fails (Charge row) h =
       let col = column_of c (certificate_of rows) in
       let w : IsWord h.0 = state_named c rows path col spans b.targets k costs (unit_is c rows) (charge_is c rows small path) (weight_is c rows small path) loads_same algorithms_same tables_of h.0 h.2 in (
@@ -129,8 +130,8 @@ module _ (c : Column) (rows : tables.Certificate) (small : AreSmall (certificate
 
 -- ---- services
 
-summed : (u v m n z : ℕ) → u ≡ v → m ≡ n → z ≡ 0 → u + m ≡ v + n + z
-summed u v m n z e f g = omega arith
+summed : (u v m n z : ℕ) → u ≡ v → m ≡ n → u + m + z ≡ v + n + z
+summed u v m n z e f = omega arith
 
 module _ (c : Column) (rows : tables.Certificate) (small : AreSmall (certificate_of rows)) (ranges : List Range) (path : Name) (outputs : List Output) (b : wires.Leaf) (service : book.Service)
     (path_is : names_in path ≡ b.path)
@@ -144,10 +145,11 @@ module _ (c : Column) (rows : tables.Certificate) (small : AreSmall (certificate
       loads_are c rows small outputs o (ap (is_in o) outputs_are ∙ h) (subst (AllByRecursion IsNamed) (sym same) (all_weaker _ IsNamed (b.targets o) (λ p w. w.1) (known.words.targets o)))
       ∙ ap (sum_by (column_of c (certificate_of rows)).weight) same
 
-  need_same : (e : Name) → unit_of c + sum_by (load_at c rows outputs) (can_emit service e)
+  need_same : (e : Name) → unit_of c + sum_by (load_at c rows outputs) (can_emit service e) + sending_of (column_of c (certificate_of rows)) service e
       ≡ (column_of c (certificate_of rows)).unit + sent_weight (column_of c (certificate_of rows)) b.targets (can_emit service e) + sending_of (column_of c (certificate_of rows)) service e
   need_same e =
-      summed _ _ _ _ _ (sym (unit_is c rows)) (loads_reached (load_at c rows outputs) (column_of c (certificate_of rows)).weight b.targets (service_event_outputs service) (can_emit service e) load_same (emits_outputs service e)) (sends_nothing c rows service e)
+      summed _ _ _ _ (sending_of (column_of c (certificate_of rows)) service e) (sym (unit_is c rows))
+      (loads_reached (load_at c rows outputs) (column_of c (certificate_of rows)).weight b.targets (service_event_outputs service) (can_emit service e) load_same (emits_outputs service e))
 
   event_word : (e : Name) → is_in e (service_events service) ≡ true → IsWord e
   event_word e h = at_listed IsWord (service_events service) e (events_words service) h
@@ -179,6 +181,7 @@ module _ (c : Column) (rows : tables.Certificate) (small : AreSmall (certificate
             (subst (λ (q : Kind). WeightFails col b.targets (names_in path) q h.0) kind_is (h.2.0, λ f. h.2.1 (event_paying h.0 h.2.0 f))),
       )
   service_fails (Charge row) h = absurd h
+  service_fails (Channel number) h = absurd h
 
 -- ---- results
 

@@ -21,3 +21,4 @@ pub mod Composed
 pub mod Denied
 pub mod Small
 pub mod Costing
+pub mod Hearing

@@ -7,7 +7,7 @@ use Rattle.fb_cert.specs.declared.certificate.Certificate as cert
 use Rattle.fb_rows.specs.fb_blocks.declared.typed.Block.{Block}
 use Rattle.fb_columns.specs.declared.column.Column.{Column}
 use Rattle.fb_columns.specs.declared.fault.Shortfall.{Shortfall}
-use Rattle.fb_columns.specs.declared.fault.Shortfall.TheVariants.{OutOfMemory, Charge, Weight}
+use Rattle.fb_columns.specs.declared.fault.Shortfall.TheVariants.{OutOfMemory, Charge, Weight, Channel}
 use Rattle.fb_columns.specs.Reckoning.{Costs}
 use Rattle.fb_columns.specs.Paying.{IsCharge, IsWeight, NamesOne, StatePays, SourcePays, InputPays, EventPays, event_named, inputs_in, costs_in, most_in, ChartPays, StateOwes, EventOwes, IsOwing}
 use Rattle.fb_columns.proofs.Each.{charge_weaker, weight_weaker}
@@ -17,11 +17,13 @@ module _ (c : Column) (rows : cert.Certificate) (path : Name) (block : Block) (l
   owed_charge OutOfMemory h = tt
   owed_charge (Charge row) h = h
   owed_charge (Weight row) h = absurd h
+  owed_charge (Channel number) h = absurd h
 
   owed_weight : (e : Shortfall) → IsWeight path (EventOwes c rows path block) e → IsOwing c rows path block loads e
   owed_weight OutOfMemory h = tt
   owed_weight (Weight row) h = h
   owed_weight (Charge row) h = absurd h
+  owed_weight (Channel number) h = absurd h
 
   pub source_owes : (e : Shortfall) → NamesOne (IsCharge path) (λ t. string_bytes t.source) (SourcePays c rows path (costs_in block loads)) block.transitions.items (Err e) → IsOwing c rows path block loads e
   source_owes e h = owed_charge e (charge_weaker path _ _ e (λ y p. inr p) h)

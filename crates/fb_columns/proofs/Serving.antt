@@ -8,12 +8,7 @@ use Rattle.fb_model.specs.Spelling.{IsWord, word, part, no_part}
 use Rattle.fb_model.specs.System as book
 use Rattle.fb_model.specs.System.{Service}
 use Rattle.fb_model.specs.Services.{init, rsp, arrive, start, stop, expire, service_events, service_event_outputs, can_emit}
-use Rattle.fb_model.specs.Certificates.{reached, sending_of}
-use Rattle.fb_cert.specs.declared.certificate.Certificate.{Certificate}
-use Rattle.fb_cert.specs.Views.{certificate_of}
-use Rattle.fb_columns.specs.declared.column.Column.{Column}
-use Rattle.fb_columns.specs.declared.column.Column.TheVariants.{Steps, Places}
-use Rattle.fb_columns.specs.Columns.{column_of}
+use Rattle.fb_model.specs.Certificates.{reached}
 
 -- ---- events
 
@@ -21,7 +16,7 @@ use Rattle.fb_columns.specs.Columns.{column_of}
 init_word : IsWord init
 init_word = word refl (part refl (part refl (part refl no_part)))
 
-arrive_word : IsWord arrive
+pub arrive_word : IsWord arrive
 arrive_word = word refl (part refl (part refl (part refl (part refl (part refl no_part)))))
 
 start_word : IsWord start
@@ -68,18 +63,3 @@ loads_reached load weight targets outputs [] same h = refl
 loads_reached load weight targets outputs (o ∷ os) same h =
     sum_by-cons load o os ∙ ap (λ n. n + sum_by load os) (same o h.0) ∙ ap (λ n. sum_by weight (targets o) + n) (loads_reached load weight targets outputs os same h.1)
     ∙ sym (sum_by-append weight (targets o) (reached targets os))
-
-never : (n : ℕ) (b : Bool) → cond b n n ≡ n
-never n true = refl
-never n false = refl
-
--- nothing is paid for sending
-pub sends_nothing : (c : Column) (rows : Certificate) (s : Service) (e : Name) → sending_of (column_of c (certificate_of rows)) s e ≡ 0
-sends_nothing c rows (book.Input n types) e = refl
-sends_nothing c rows (book.Output n types) e = refl
-sends_nothing Steps rows (book.Publish channel types) e = never 0 (bytes_eq e init)
-sends_nothing Places rows (book.Publish channel types) e = never 0 (bytes_eq e init)
-sends_nothing c rows (book.Subscribe channel types) e = refl
-sends_nothing c rows book.Delay e = refl
-sends_nothing c rows book.Cycle e = refl
-sends_nothing c rows book.Restart e = refl

@@ -1,5 +1,5 @@
 -- What the refusals of rows say in one column, in the book's terms.
-use Rattle.std.specs.Prelude.{◌≡◌, ◌≤◌, ◌⊎◌, true, List, [], ◌∷◌, ◌++◌, string_bytes}
+use Rattle.std.specs.Prelude.{◌≡◌, ◌<◌, ◌≤◌, ◌⊎◌, ℕ, true, List, [], ◌∷◌, ◌++◌, string_bytes}
 use Rattle.std.specs.List.{Any, AllByRecursion}
 use Rattle.fb_model.specs.Names.{Name, Path, Place, is_in}
 use Rattle.fb_model.specs.System.{State, Transition, Procedure, Device, System}
@@ -8,12 +8,12 @@ use Rattle.fb_model.specs.Wires as wires
 use Rattle.fb_model.specs.Wires.{Kind, Charted, Serviced, Leaf, leaves}
 use Rattle.fb_model.specs.Ranges.{Range, rows, IsClearAlgorithm}
 use Rattle.fb_model.specs.Clear.{Spans}
-use Rattle.fb_model.specs.Certificates.{Certificate, Row, Column, ColumnFits, StateFits, FreeFits, InputFits, EventFits, event_names}
+use Rattle.fb_model.specs.Certificates.{Certificate, Row, FarRow, ChannelRow, Column, ColumnFits, StateFits, FreeFits, InputFits, EventFits, event_names, far_of, all_leaves, channel_load}
 use Rattle.fb_model.specs.CertificateText.{most_steps, most_places, names_in}
 use Rattle.fb_spelled.specs.Words.{IsWordyLeaf}
 use Rattle.fb_leaves.specs.Leaves.{IsClosed}
 use Rattle.fb_columns.specs.declared.fault.Shortfall.{Shortfall}
-use Rattle.fb_columns.specs.declared.fault.Shortfall.TheVariants.{OutOfMemory, Charge, Weight}
+use Rattle.fb_columns.specs.declared.fault.Shortfall.TheVariants.{OutOfMemory, Charge, Weight, Channel}
 
 -- ---- leaves
 
@@ -45,16 +45,26 @@ abbrev pub IsLeafFault : Column → List Range → Leaf → Shortfall → Type 0
 IsLeafFault col ranges leaf OutOfMemory = Unit {0}
 IsLeafFault col ranges leaf (Charge path) = (x : Name) × (names_in (string_bytes path) ≡ leaf.path ++ x ∷ []) × ChargeFails col (rows ranges leaf.path leaf.kind) leaf.targets leaf.path leaf.kind x
 IsLeafFault col ranges leaf (Weight path) = (e : Name) × (names_in (string_bytes path) ≡ leaf.path ++ e ∷ []) × WeightFails col leaf.targets leaf.path leaf.kind e
+IsLeafFault col ranges leaf (Channel number) = ⊥
 
 -- ---- certificates
 
 abbrev pub IsSmall : Row → Type 0
 IsSmall r = (r.steps ≤ most_steps) × (r.places ≤ most_places)
 
--- no row of states and events says more than a text of certificates can
+abbrev pub IsSmallFar : FarRow → Type 0
+IsSmallFar r = r.steps ≤ most_steps
+
+abbrev pub IsSmallChannel : ChannelRow → Type 0
+IsSmallChannel r = r.steps ≤ most_steps
+
+-- no row of states, events and channels says more than a text of certificates can
 pub record AreSmall (cert : Certificate) : Type 0 where
   pub charges : AllByRecursion IsSmall cert.charges
   pub weights : AllByRecursion IsSmall cert.weights
+  pub fars : AllByRecursion IsSmallFar cert.fars
+  pub far_states : AllByRecursion IsSmallFar cert.far_states
+  pub channels : AllByRecursion IsSmallChannel cert.channels
 
 -- ---- systems
 
@@ -74,3 +84,16 @@ AllPay col ranges s = AllByRecursion (λ (d : Device). ColumnFits col ranges (le
 -- what is known of all leaves
 abbrev pub AreKnown : List Range → System → Type 0
 AreKnown ranges s = AllByRecursion (λ (d : Device). AllByRecursion (IsKnownLeaf ranges) (leaves d)) s.devices
+
+-- ---- channels
+
+-- the row of each channel pays for what a datagram may cost at all SUBSCRIBE, where each is delivered at most so often to a device
+abbrev pub ChannelsPay : Certificate → ℕ → System → Type 0
+ChannelsPay cert repeats s = (c : ℕ) → channel_load (far_of cert) repeats c (all_leaves s.devices) ≤ (far_of cert).sending c
+
+-- the row of the channel that is named does not
+abbrev pub IsShortChannel : Certificate → ℕ → System → Shortfall → Type 0
+IsShortChannel cert repeats s OutOfMemory = Unit {0}
+IsShortChannel cert repeats s (Charge path) = ⊥
+IsShortChannel cert repeats s (Weight path) = ⊥
+IsShortChannel cert repeats s (Channel c) = (far_of cert).sending c < channel_load (far_of cert) repeats c (all_leaves s.devices)

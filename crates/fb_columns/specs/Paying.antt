@@ -4,15 +4,17 @@ use Rattle.std.specs.List.{sum_by, AllByRecursion, Any}
 use Rattle.fb_model.specs.Names.{Name, is_in}
 use Rattle.fb_model.specs.System.{Service}
 use Rattle.fb_model.specs.Services.{can_emit}
+use Rattle.fb_model.specs.Certificates.{sending_of}
 use Rattle.fb_cert.specs.declared.certificate.Certificate.{Certificate}
+use Rattle.fb_cert.specs.Views.{certificate_of}
 use Rattle.fb_rows.specs.fb_flat.declared.flat.Output.{Output}
 use Rattle.fb_rows.specs.fb_flat.Sites.{dotted}
 use Rattle.fb_rows.specs.fb_blocks.declared.typed.Transition.{Transition}
 use Rattle.fb_rows.specs.fb_blocks.declared.typed.Block.{Block}
 use Rattle.fb_columns.specs.declared.column.Column.{Column}
 use Rattle.fb_columns.specs.declared.fault.Shortfall.{Shortfall}
-use Rattle.fb_columns.specs.declared.fault.Shortfall.TheVariants.{OutOfMemory, Charge, Weight}
-use Rattle.fb_columns.specs.Columns.{unit_of, crossing_need}
+use Rattle.fb_columns.specs.declared.fault.Shortfall.TheVariants.{OutOfMemory, Charge, Weight, Channel}
+use Rattle.fb_columns.specs.Columns.{unit_of, column_of, crossing_need}
 use Rattle.fb_columns.specs.Reckoning.{weight_of, charge_of, load_at, table_names, Costs, Entry, own_of, cost_at, most_free}
 
 -- ---- refusals
@@ -22,18 +24,21 @@ abbrev pub IsMemory : Shortfall → Type 0
 IsMemory OutOfMemory = Unit {0}
 IsMemory (Charge row) = ⊥
 IsMemory (Weight row) = ⊥
+IsMemory (Channel number) = ⊥
 
 -- want of memory, or the charge of such a state
 abbrev pub IsCharge : Name → (Name → Type 0) → Shortfall → Type 0
 IsCharge path P OutOfMemory = Unit {0}
 IsCharge path P (Charge row) = (x : Name) × (string_bytes row ≡ dotted path x) × P x
 IsCharge path P (Weight row) = ⊥
+IsCharge path P (Channel number) = ⊥
 
 -- want of memory, or the weight of such an event
 abbrev pub IsWeight : Name → (Name → Type 0) → Shortfall → Type 0
 IsWeight path P OutOfMemory = Unit {0}
 IsWeight path P (Charge row) = ⊥
 IsWeight path P (Weight row) = (e : Name) × (string_bytes row ≡ dotted path e) × P e
+IsWeight path P (Channel number) = ⊥
 
 -- it accepts where this is so, and otherwise names this state or event
 abbrev pub Names : ((Name → Type 0) → Shortfall → Type 0) → Name → Type 0 → Result (Unit {0}) Shortfall → Type 0
@@ -107,12 +112,13 @@ abbrev pub IsOwing : Column → Certificate → Name → Block → Costs → Sho
 IsOwing c cert path block costs OutOfMemory = Unit {0}
 IsOwing c cert path block costs (Charge row) = IsCharge path (StateOwes c cert path block costs) (Charge row)
 IsOwing c cert path block costs (Weight row) = IsWeight path (EventOwes c cert path block) (Weight row)
+IsOwing c cert path block costs (Channel number) = ⊥
 
 -- ---- a service
 
--- the weight of an event input or arrival pays for its dispatch, and for all that it can emit
+-- the weight of an event input or arrival pays for its dispatch, for all that it can emit, and for the datagram that it can send
 abbrev pub DispatchPays : Column → Certificate → Name → Service → List Output → Name → Type 0
-DispatchPays c cert path service outputs e = Pays (weight_of c cert path e) (unit_of c + sum_by (load_at c cert outputs) (can_emit service e))
+DispatchPays c cert path service outputs e = Pays (weight_of c cert path e) (unit_of c + sum_by (load_at c cert outputs) (can_emit service e) + sending_of (column_of c (certificate_of cert)) service e)
 
 -- it is one of these events, and its weight does not pay
 abbrev pub OneOwes : Column → Certificate → Name → Service → List Output → List Name → Name → Type 0

@@ -8,9 +8,8 @@ use Rattle.std.specs.declared.alloc.Global.{Global}
 use Rattle.indexmap.specs.IndexMap.{IndexMap}
 use Rattle.fb_model.specs.Names.{Name}
 use Rattle.fb_model.specs.CertificateText.{most_steps}
-use Rattle.fb_cert.specs.declared.certificate.Amount.{Amount}
 use Rattle.fb_cert.specs.declared.certificate.Certificate.{Certificate}
-use Rattle.fb_cert.specs.Views.{first_at, rows_of}
+use Rattle.fb_cert.specs.Views.{first_at, rows_of, steps_in, places_in, count_in}
 use Rattle.fb_rows.specs.fb_flat.declared.flat.Target.{Target}
 use Rattle.fb_rows.specs.fb_flat.declared.flat.Output.{Output}
 use Rattle.fb_rows.specs.fb_flat.Sites.{dotted}
@@ -18,23 +17,29 @@ use Rattle.fb_rows.specs.fb_blocks.declared.typed.Action.{Action}
 use Rattle.fb_rows.specs.fb_blocks.declared.typed.Transition.{Transition}
 use Rattle.fb_rows.specs.fb_blocks.declared.typed.Block.{Block}
 use Rattle.fb_columns.specs.declared.column.Column.{Column}
+use Rattle.fb_columns.specs.declared.column.Column.TheVariants.{Steps, Places, Far}
 use Rattle.fb_columns.specs.declared.cost.Prices.{Prices}
-use Rattle.fb_columns.specs.Columns.{number_in}
 use Rattle.fb_columns.specs.Sums.{IsSum, greater}
 
 -- ---- rows
 
--- the number of a row, 0 where there is no row; no row says more than the most steps
-abbrev pub number_of : Column → Option Amount → ℕ
-number_of c None = 0
-number_of c (Some a) = min (number_in c a) most_steps
+-- what the row of an event input or arrival says in a column, and that of a state; 0 where there is no row
+abbrev pub weight_row : Column → Certificate → List ℕ → ℕ
+weight_row Steps cert row = steps_in (first_at row (rows_of cert).weights)
+weight_row Places cert row = places_in (first_at row (rows_of cert).weights)
+weight_row Far cert row = count_in (first_at row (rows_of cert).fars)
 
--- the weight of an event input or arrival, and the charge of a state
+abbrev pub charge_row : Column → Certificate → List ℕ → ℕ
+charge_row Steps cert row = steps_in (first_at row (rows_of cert).charges)
+charge_row Places cert row = places_in (first_at row (rows_of cert).charges)
+charge_row Far cert row = count_in (first_at row (rows_of cert).far_states)
+
+-- the weight of an event input or arrival, and the charge of a state; no row says more than the most steps
 abbrev pub weight_of : Column → Certificate → Name → Name → ℕ
-weight_of c cert path event = number_of c (first_at (dotted path event) (rows_of cert).weights)
+weight_of c cert path event = min (weight_row c cert (dotted path event)) most_steps
 
 abbrev pub charge_of : Column → Certificate → Name → Name → ℕ
-charge_of c cert path state = number_of c (first_at (dotted path state) (rows_of cert).charges)
+charge_of c cert path state = min (charge_row c cert (dotted path state)) most_steps
 
 -- ---- outputs
 

@@ -35,7 +35,7 @@ pub(crate) struct Prices {
     pub(crate) outputs: Vec<Option<u64>>,
 }
 
-// The steps that an algorithm costs at most, which are nothing in another column.
+// The steps that an algorithm costs at most, which are nothing in the column of places.
 fn cost(
     alloc: Global,
     column: Column,
@@ -46,7 +46,7 @@ fn cost(
     ensures refused { IfErr result IsMemory }
 {
     match column {
-        Column::Steps => Ok(max_steps(alloc, algorithm, rows)?),
+        Column::Steps | Column::Far => Ok(max_steps(alloc, algorithm, rows)?),
         Column::Places => Ok(Some(0)),
     }
 }

@@ -14,6 +14,8 @@ pub enum Shortfall {
     Charge(String),
     /// The weight of this event input or arrival is less than what it can cause. Code 39.
     Weight(String),
+    /// The number of this channel is less than what a datagram costs at all its SUBSCRIBE. Code 42.
+    Channel(u16),
 }
 
 impl Shortfall {
@@ -27,6 +29,7 @@ impl Shortfall {
             Shortfall::OutOfMemory => 9,
             Shortfall::Charge(_) => 38,
             Shortfall::Weight(_) => 39,
+            Shortfall::Channel(_) => 42,
         }
     }
 }

@@ -1,10 +1,14 @@
 //! When the rows of a service pay in a column.
 
-ghost use Rattle.std.specs.Prelude.{◌≡◌, List, map, MatchResult};
+ghost use Rattle.std.specs.Prelude.{◌≡◌, List, map, MatchResult, if◌then◌else◌};
 ghost use Rattle.std.specs.List.{AllByRecursion};
+ghost use Rattle.std.specs.Str.{bytes_eq};
 ghost use Rattle.fb_model.specs.Names.{Name};
-ghost use Rattle.fb_model.specs.Services.{service_events};
+ghost use Rattle.fb_model.specs.Services.{init, service_events};
+ghost use Rattle.fb_model.specs.Certificates.{sending_of};
+ghost use Rattle.fb_cert.specs.Views.{certificate_of};
 ghost use Rattle.fb_rows.specs.fb_services.Views.{service_of};
+ghost use Rattle.fb_columns.specs.Columns.{column_of};
 ghost use Rattle.fb_columns.specs.Paying.{IsWeight, Names, DispatchPays, OneOwes};
 
 use crate::column::{Column, plus};
@@ -15,7 +19,28 @@ use fb_rows::fb_flat::Output;
 use fb_rows::fb_flat::fb_types::fb_networks::fb_services::Service;
 use std::alloc::Global;
 
-// The weight of an event input or arrival pays for its dispatch, and for all that it can emit.
+// What a datagram of a channel has to be paid, which each event input but INIT sends.
+fn datagram(certificate: &Certificate, column: Column, number: u16, event: &str) -> u64
+    ensures { result ≡ (if bytes_eq event.now init then 0 else (column_of column (certificate_of certificate.now)).sending number) }
+{
+    if event == "INIT" {
+        return 0;
+    }
+    column.sending(certificate, number)
+}
+
+// What the datagram has to be paid that an event can send.
+fn sent(certificate: &Certificate, column: Column, service: &Service, event: &str) -> u64
+    ensures { result ≡ sending_of (column_of column (certificate_of certificate.now)) (service_of service.now) event.now }
+{
+    match service {
+        Service::Publish(channel, _) => datagram(certificate, column, channel.number, event),
+        Service::Input(_, _) | Service::Output(_, _) | Service::Subscribe(_, _) => 0,
+        Service::Delay | Service::Cycle | Service::Restart => 0,
+    }
+}
+
+// The weight of an event input or arrival pays for its dispatch, for all that it can emit, and for a datagram.
 fn dispatch_pays(
     alloc: Global,
     certificate: &Certificate,
@@ -29,7 +54,9 @@ fn dispatch_pays(
 {
     let row = weight(alloc, certificate, column, path, event)?;
     let load = loads_named(alloc, certificate, column, outputs, service.emitted(event))?;
-    weighed(alloc, path, event, plus(Some(column.unit()), load), row)
+    let emitted = plus(Some(column.unit()), load);
+    let sent = sent(certificate, column, service, event);
+    weighed(alloc, path, event, plus(emitted, Some(sent)), row)
 }
 
 // The same of each of these events.

@@ -1,30 +1,27 @@
 //! The numbers of rows, and what an output of a leaf has to be paid.
 
-ghost use Rattle.std.specs.Prelude.{◌≡◌, ◌≤◌, ◌+◌, ℕ, List, map, IfOk, IfErr};
+ghost use Rattle.std.specs.Prelude.{◌≡◌, ◌≤◌, ℕ, List, map, min, IfOk, IfErr};
 ghost use Rattle.std.specs.List.{sum_by};
 ghost use Rattle.fb_model.specs.CertificateText.{most_steps};
 ghost use Rattle.fb_columns.specs.Sums.{IsSum};
-ghost use Rattle.fb_columns.specs.Reckoning.{number_of, weight_of, charge_of, load_of, load_at, AreSums};
+ghost use Rattle.fb_columns.specs.Reckoning.{weight_of, charge_of, load_of, load_at, AreSums};
 ghost use Rattle.fb_columns.specs.Paying.{IsMemory, IsCharge, IsWeight, Names, Pays};
 
 use crate::column::{Column, is_within, plus};
 use crate::fault::Shortfall;
-use fb_cert::{Amount, Certificate};
+use fb_cert::Certificate;
 use fb_rows::fb_flat::{Output, Target, joined};
 use std::alloc::Global;
 
 /// The most that a row says.
 const MOST: u64 = 1_000_000_000_000;
 
-// The number of a row in a column, 0 where there is no row.
-fn number(row: Option<Amount>, column: Column) -> u64
-    ensures value { result ≡ number_of column row }
+// A number, or the most that a row says.
+fn capped(number: u64) -> u64
+    ensures value { result ≡ min number most_steps }
     ensures small { result ≤ most_steps }
 {
-    match row {
-        Some(amount) => column.number(amount).min(MOST),
-        None => 0,
-    }
+    number.min(MOST)
 }
 
 /// The weight of an event input or arrival.
@@ -40,7 +37,7 @@ pub(crate) fn weight(
     ensures refused { IfErr result IsMemory }
 {
     let row = joined(alloc, path, event)?;
-    Ok(number(certificate.weight(row.as_str()), column))
+    Ok(capped(column.weight(certificate, row.as_str())))
 }
 
 /// The charge of a state.
@@ -56,7 +53,7 @@ pub(crate) fn charge(
     ensures refused { IfErr result IsMemory }
 {
     let row = joined(alloc, path, state)?;
-    Ok(number(certificate.charge(row.as_str()), column))
+    Ok(capped(column.charge(certificate, row.as_str())))
 }
 
 // The weights of all targets of an output.

@@ -1,4 +1,4 @@
-use Rattle.std.proofs.Common.{ℕ, List, map, take}
+use Rattle.std.proofs.Common.{map, take}
 use Rattle.fb_columns.specs.Reckoning.{AreSums, Costs, ArePrices, own_of}
 use Rattle.fb_columns.proofs.chart.costs.Given as goal
 

@@ -1,4 +1,4 @@
-use Rattle.std.proofs.Common.{◌≡◌, ◌*◌, ℕ, List, [], ◌∷◌, ◌++◌, map, sym, subst, string_bytes, Global}
+use Rattle.std.proofs.Common.{◌*◌, ℕ, Global}
 use Rattle.std.specs.declared.string.String.{String}
 use Rattle.fb_model.specs.System as system
 use Rattle.fb_model.specs.Clear.{cost}
@@ -6,7 +6,6 @@ use Rattle.fb_model.specs.Ranges.{IsClearAlgorithm}
 use Rattle.fb_rows.specs.st_types.declared.whole.Algo.{Algo}
 use Rattle.fb_rows.specs.fb_ranges.Views.{spans_of}
 use Rattle.fb_columns.specs.Columns.{unit_of}
-use Rattle.fb_columns.specs.Reckoning.{AreSums}
 use Rattle.fb_columns.proofs.Each.{got}
 use Rattle.fb_columns.proofs.Lists.{all_at}
 use Rattle.fb_columns.proofs.Values.{more_sums}

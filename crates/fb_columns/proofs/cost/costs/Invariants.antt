@@ -1,4 +1,4 @@
-use Rattle.std.proofs.Common.{◌*◌, List, map, take}
+use Rattle.std.proofs.Common.{◌*◌, map, take}
 use Rattle.std.specs.List.{AllByRecursion}
 use Rattle.fb_model.specs.System as system
 use Rattle.fb_model.specs.Clear.{cost}
