@@ -28,7 +28,7 @@ use Rattle.fb_cert.specs.Answers.{Refuses, Finds}
 use Rattle.fb_columns.specs.fb_text.Answers.{IsSource, ReadsText, FindsTree}
 use Rattle.fb_check.specs.Checked.{Checked}
 use Rattle.fb_check.specs.declared.refusal.Refusal.{Refusal}
-use Rattle.fb_check.specs.declared.refusal.Refusal.TheVariants.{OutOfMemory, Text, Typing, Certificate as Spelling, UnknownRow, MissingRow, RangeStart, RangeLink, RangeKept, IndexOrDivisor, Charge, Weight, Depth}
+use Rattle.fb_check.specs.declared.refusal.Refusal.TheVariants.{OutOfMemory, Text, Typing, Certificate as Spelling, UnknownRow, MissingRow, UnknownChannel, MissingChannel, RangeStart, RangeLink, RangeKept, IndexOrDivisor, Charge, Weight, Depth, Far, Channel}
 use Rattle.fb_check.specs.Refusals.{of_text, of_type, of_certificate}
 use Rattle.fb_model.specs.Certificates.{Fits}
 use Rattle.fb_columns.specs.fb_types.declared.typed.Configuration.{Configuration}
@@ -78,6 +78,10 @@ tree_fault text source (IndexOrDivisor x) s h = absurd h
 tree_fault text source (Charge x) s h = absurd h
 tree_fault text source (Weight x) s h = absurd h
 tree_fault text source (Depth x) s h = absurd h
+tree_fault text source (Far x) s h = absurd h
+tree_fault text source (Channel c) s h = absurd h
+tree_fault text source (UnknownChannel c) s h = absurd h
+tree_fault text source (MissingChannel c) s h = absurd h
 
 -- where the tree is found unless memory runs out, a fault is that memory ran out
 pub no_memory : (f : TextFault) (source : SourceTree) → FindsTree (Err f) source → of_text f ≡ OutOfMemory
