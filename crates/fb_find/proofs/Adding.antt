@@ -1,5 +1,5 @@
 -- Rows CHARGE and WEIGHT of nodes.
-use Rattle.std.proofs.Common.{ℕ, ◌≡◌, ◌≤◌, suc, true, sym, ap, ap₂, subst, ◌∙◌, arith, List, [], ◌∷◌, drop, length, string_bytes, Result, Ok, Err, OnOk}
+use Rattle.std.proofs.Common.{ℕ, ◌≡◌, ◌≤◌, suc, Option, true, sym, ap, ap₂, subst, ◌∙◌, arith, List, [], ◌∷◌, drop, length, string_bytes, Result, Ok, Err, OnOk}
 use Rattle.std.specs.List.{All, AllByRecursion}
 use Rattle.std.proofs.lemmas.List.{length-map}
 use Rattle.std.proofs.lemmas.List.Elements.{All-drop}
@@ -50,10 +50,10 @@ pub all_listed : {X : Type 0} (P : X → Type 0) (xs : List X) → All P xs → 
 all_listed P [] a = tt
 all_listed P (x ∷ xs) a = (a 0 x (omega arith), all_listed P xs (λ k d l. a (suc k) d (omega (arith, l))))
 
-upper_names : (kind : RowKind) (devices : List FlatDevice) (names : List Name) → All (λ t. is_upper_path t ≡ true) (texts_of kind devices) → names ≡ texts_of kind devices → All (λ t. is_upper_path t ≡ true) names
+pub upper_names : (kind : RowKind) (devices : List FlatDevice) (names : List Name) → All (λ t. is_upper_path t ≡ true) (texts_of kind devices) → names ≡ texts_of kind devices → All (λ t. is_upper_path t ≡ true) names
 upper_names kind devices names a same = subst (λ (ts : List Name). All (λ t. is_upper_path t ≡ true) ts) (sym same) a
 
-module _ (devices : List FlatDevice) (n : Numbering) (order : List ℕ) (s : System) (ready : IsReady devices n order s) (ranges : List Range) where
+module _ (repeats : Option ℕ) (devices : List FlatDevice) (n : Numbering) (order : List ℕ) (s : System) (ready : IsReady repeats devices n order s) (ranges : List Range) where
   pub can_add : (steps places : List ℕ) (rows : Rows) → AreSmallest n (demands 1 ranges (all_leaves s.devices)) most_steps steps → AreSmallest n (demands 0 ranges (all_leaves s.devices)) most_places places → HasFoundRanges s ranges rows → CanBeAdded n steps places rows
   can_add steps places rows a b has =
       let given = ready.numbering.numbered.given in

@@ -1,5 +1,5 @@
 -- Under the ranges that are found, rows hold what variables have at first and what they take: only algorithms and guards may be unclear.
-use Rattle.std.proofs.Common.{◌≡◌, true, inl, inr, refl, ap, subst, ◌∙◌, List, [], ◌∷◌, ◌++◌, length, string_bytes}
+use Rattle.std.proofs.Common.{ℕ, ◌≡◌, Option, true, inl, inr, refl, ap, subst, ◌∙◌, List, [], ◌∷◌, ◌++◌, length, string_bytes}
 use Rattle.std.specs.Str.{bytes_eq}
 use Rattle.std.specs.List.{All, AllByRecursion, Any, IsDistinct}
 use Rattle.fb_model.specs.Clear.{Spans}
@@ -109,6 +109,10 @@ module _ (devices : List FlatDevice) (s : System) (given : IsGiven devices s) wh
       no_charge = adds.charges_same ∙ ap (λ (rows : Rows). rows.charges) e;
       no_weight = adds.weights_same ∙ ap (λ (rows : Rows). rows.weights) e;
       no_depth = adds.depths_same ∙ ap (λ (rows : Rows). rows.depths) e;
+      no_repeats = adds.repeats_same ∙ ap (λ (rows : Rows). rows.repeats) e;
+      no_far = adds.fars_same ∙ ap (λ (rows : Rows). rows.fars) e;
+      no_far_state = adds.far_states_same ∙ ap (λ (rows : Rows). rows.far_states) e;
+      no_channel = adds.channels_same ∙ ap (λ (rows : Rows). rows.channels) e;
     }
 
     all_begin : AllByRecursion (λ (d : Device). AllByRecursion (LeafBegins ranges (leaves d)) (leaves d)) s.devices
@@ -125,9 +129,9 @@ module _ (devices : List FlatDevice) (s : System) (given : IsGiven devices s) wh
         all_begin h
 
     -- so a refusal names an algorithm or a guard
-    pub told : (now : Rows) (fault : Unclear) → range_rows now.ranges ≡ ranges → IsUnclear (range_rows now.ranges) s fault → IsNoBound s (told_of fault)
-    told now fault e h = by fault (subst (λ (rs : List Range). IsUnclear rs s fault) e h) where
-      by : (f : Unclear) → IsUnclear ranges s f → IsNoBound s (told_of f)
+    pub told : (repeats : Option ℕ) (now : Rows) (fault : Unclear) → range_rows now.ranges ≡ ranges → IsUnclear (range_rows now.ranges) s fault → IsNoBound repeats s (told_of fault)
+    told repeats now fault e h = by fault (subst (λ (rs : List Range). IsUnclear rs s fault) e h) where
+      by : (f : Unclear) → IsUnclear ranges s f → IsNoBound repeats s (told_of f)
       by unclear.OutOfMemory u = tt
       by (unclear.Start path) u = absurd (no_reason Starts (string_bytes path) (kind_starts ranges) u)
       by (unclear.Link path) u = absurd (no_reason Links (string_bytes path) (kind_links ranges) u)

@@ -1,5 +1,5 @@
 -- A resource that follows too many connections is told of by its path.
-use Rattle.std.proofs.Common.{◌≡◌, ◌<◌, ℕ, ap, subst, ◌∙◌, List, [], ◌∷◌, length, get_or, string_bytes, Contains}
+use Rattle.std.proofs.Common.{◌≡◌, ◌<◌, ℕ, ap, subst, ◌∙◌, List, [], ◌∷◌, Option, length, get_or, string_bytes, Contains}
 use Rattle.std.specs.List.{AllByRecursion, Any}
 use Rattle.fb_model.specs.Names.{Name}
 use Rattle.fb_model.specs.Spelling.{IsWord}
@@ -32,11 +32,11 @@ pub past_one : (name other : Name) (xs ys : List Resource) (i : ℕ) (x : Resour
 past_one name other xs ys i x same l e is fault h = past_any (IsCrowded name) xs ys i x same l e fault (subst (λ o. IsPastFault (λ t. IsCrowded o t x) fault) is h)
 
 -- the resource that is told of is one of the system
-pub above : (t : Configuration) (fault : NoBound) → IsWritten (system_of t) → IsPastFault (λ text. Any (λ (d : Device). Any (IsCrowded (string_bytes d.name) text) d.resources.items) t.devices.items) fault → IsNoBound (system_of t) fault
-above t OutOfMemory w h = tt
-above t (Cycle places) w h = absurd h
-above t (NoRange path) w h = absurd h
-above t (Limit resource) w h =
+pub above : (repeats : Option ℕ) (t : Configuration) (fault : NoBound) → IsWritten (system_of t) → IsPastFault (λ text. Any (λ (d : Device). Any (IsCrowded (string_bytes d.name) text) d.resources.items) t.devices.items) fault → IsNoBound repeats (system_of t) fault
+above repeats t OutOfMemory w h = tt
+above repeats t (Cycle places) w h = absurd h
+above repeats t (NoRange path) w h = absurd h
+above repeats t (Limit resource) w h =
     let d : Device = h.1 in
     let k = h.4 in
     let r : Resource = k.1 in

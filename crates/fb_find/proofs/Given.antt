@@ -1,5 +1,5 @@
 -- What is given of a system that stands in texts, and what is ready for the columns.
-use Rattle.std.proofs.Common.{ℕ, ◌≡◌, ◌∙◌, List, [], map, ap, subst, sym}
+use Rattle.std.proofs.Common.{ℕ, ◌≡◌, ◌∙◌, List, [], map, ap, subst, sym, Option, None, Some, string_bytes}
 use Rattle.std.specs.List.{AllByRecursion}
 use Rattle.fb_model.specs.Clear.{Spans}
 use Rattle.fb_model.specs.System.{Device, System}
@@ -14,7 +14,9 @@ use Rattle.fb_events.proofs.EventTrees.{event_trees, event_source}
 use Rattle.fb_events.proofs.Spelled.{event_source_spelled}
 use Rattle.fb_spelled.specs.Words.{IsCapitalDevice}
 use Rattle.fb_spelled.proofs.Systems.{capital}
+use Rattle.fb_demands.specs.Demands.{Node, IsClosedWalk}
 use Rattle.fb_demands.proofs.Walks.{walks_exclude}
+use Rattle.fb_demands.proofs.Networks.{networks_exclude}
 use Rattle.fb_solved.specs.Places.{node_of}
 use Rattle.fb_check.specs.Verdicts.{IsWritten}
 use Rattle.fb_check.specs.fb_flat.declared.flat.FlatDevice.{FlatDevice}
@@ -25,7 +27,8 @@ use Rattle.fb_cert.specs.Views.{Rows}
 use Rattle.fb_rows.specs.Fitting.{AllClear}
 use Rattle.fb_ranged.specs.FoundTables.{AreFoundTables}
 use Rattle.fb_ranged.proofs.Distinct.{on_all_leaves, charges_are_apart, weights_are_apart}
-use Rattle.fb_model.specs.CertificateText.{place_of}
+use Rattle.fb_model.specs.CertificateText.{names_in, place_of}
+use Rattle.fb_sums.specs.Ends.{end_of}
 use Rattle.fb_finding.specs.Nodes.{AreRowsOf}
 use Rattle.fb_check.specs.fb_blocks.Views.{names_of}
 use Rattle.fb_ledger.specs.Members.{gathered}
@@ -38,8 +41,8 @@ use Rattle.fb_solved.specs.declared.fault.NoBound.{NoBound}
 use Rattle.fb_solved.specs.declared.fault.NoBound.TheVariants.{OutOfMemory, Cycle, NoRange, Limit}
 use Rattle.fb_sums.specs.Prices.{AreClear, HasClear}
 use Rattle.fb_found.specs.Given.{IsGiven}
-use Rattle.fb_found.specs.Columns.{IsCycle, ServesAll}
-use Rattle.fb_find.specs.Bounds.{IsNoBound, IsWalk}
+use Rattle.fb_found.specs.Columns.{asked, IsCycle, ServesAll}
+use Rattle.fb_find.specs.Bounds.{IsDenied, IsNoBound, IsWalk}
 use Rattle.fb_find.specs.Parts.{HasFoundRanges, HasNumbering, HasTables, IsReady}
 use Rattle.fb_places.specs.declared.numbering.Numbering.{Numbering}
 use Rattle.fb_ranges.specs.Views.{spans_of}
@@ -64,9 +67,10 @@ given s devices w e few = record {
 }
 
 -- numbers by the texts of rows are in the order of the rows
-pub has_numbering : (devices : List FlatDevice) (n : Numbering) (s : System) → IsGiven devices s → AreRowsOf (all_leaves s.devices) (names_of n.states) (names_of n.events) → names_of n.states ≡ gathered [] (texts_of Charge devices) → names_of n.events ≡ gathered [] (texts_of Weight devices)
-    → HasNumbering devices n s
-has_numbering devices n s given rows states events =
+pub has_numbering : (repeats : Option ℕ) (devices : List FlatDevice) (n : Numbering) (s : System) → IsGiven devices s → AreRowsOf repeats (all_leaves s.devices) (names_of n.states) (names_of n.events) n.channels.items
+    → map names_in (map string_bytes n.ends.items) ≡ map (end_of (all_leaves s.devices)) n.channels.items → names_of n.states ≡ gathered [] (texts_of Charge devices) → names_of n.events ≡ gathered [] (texts_of Weight devices)
+    → HasNumbering repeats devices n s
+has_numbering repeats devices n s given rows ends states events =
     let cs = states ∙ each_gathered (texts_of Charge devices) (charges_are_apart given.library given.source devices s given.typed given.tables given.words) in
     let ws = events ∙ each_gathered (texts_of Weight devices) (weights_are_apart given.library given.source devices s given.typed given.tables given.words) in
     record {
@@ -82,6 +86,7 @@ has_numbering devices n s given rows states events =
           };
       states = cs;
       events = ws;
+      ends = ends;
     }
 
 kind_clear : (ranges : List Range) (all : List Leaf) (leaf : Leaf) (kind : Kind) → KindClears ranges all leaf.path leaf.source kind → HasClear (rows ranges leaf.path kind) kind
@@ -97,22 +102,26 @@ clear_of ranges s h =
 pub has_tables : (s : System) (tables : List Spans) (start : Rows) → AreFoundTables s.devices tables → HasFoundRanges s (spelled tables (all_leaves s.devices)) start → HasTables s (spelled tables (all_leaves s.devices)) tables
 has_tables s tables start found has = record { tables_are = found.each; clear = clear_of (spelled tables (all_leaves s.devices)) s has.clear }
 
-pub cycle_told : (s : System) (fault : NoBound) → IsCycle s fault → IsNoBound s fault
-cycle_told s OutOfMemory h = tt
-cycle_told s (Cycle places) h = h
-cycle_told s (NoRange path) h = absurd h
-cycle_told s (Limit resource) h = absurd h
+pub cycle_told : (repeats : Option ℕ) (s : System) (fault : NoBound) → IsCycle repeats s fault → IsNoBound repeats s fault
+cycle_told repeats s OutOfMemory h = tt
+cycle_told repeats s (Cycle places) h = h
+cycle_told repeats s (NoRange path) h = absurd h
+cycle_told repeats s (Limit resource) h = absurd h
 
-pub walk_denies : (s : System) (fault : NoBound) → IsNoBound s fault → IsWalk fault → (cert : certs.Certificate) → Fits s cert → ⊥
-walk_denies s OutOfMemory h w cert fits = absurd w
-walk_denies s (Cycle places) h w cert fits = walks_exclude s cert (map node_of places.items) h.closed fits
-walk_denies s (NoRange path) h w cert fits = absurd w
-walk_denies s (Limit resource) h w cert fits = absurd w
+asked_denies : (repeats : Option ℕ) (s : System) (walk : List Node) → IsClosedWalk (asked repeats s) walk → (cert : certs.Certificate) → IsDenied repeats cert → Fits s cert → ⊥
+asked_denies None s walk h cert d fits = walks_exclude s cert walk h fits
+asked_denies (Some r) s walk h cert d fits = networks_exclude s cert d.0 walk h d.1 d.2 fits
+
+pub walk_denies : (repeats : Option ℕ) (s : System) (fault : NoBound) → IsNoBound repeats s fault → IsWalk fault → (cert : certs.Certificate) → IsDenied repeats cert → Fits s cert → ⊥
+walk_denies repeats s OutOfMemory h w cert d fits = absurd w
+walk_denies repeats s (Cycle places) h w cert d fits = asked_denies repeats s (map node_of places.items) h.closed cert d fits
+walk_denies repeats s (NoRange path) h w cert d fits = absurd w
+walk_denies repeats s (Limit resource) h w cert d fits = absurd w
 
 -- ---- read by other names
 
-pub ready_is : (devices : List FlatDevice) (n : Numbering) (s : System) (order slice : List ℕ) → HasNumbering devices n s → slice ≡ order → ServesAll n s order → IsReady devices n slice s
-ready_is devices n s order slice h e serves = record { numbering = h; serves = subst (λ o. ServesAll n s o) (sym e) serves }
+pub ready_is : (repeats : Option ℕ) (devices : List FlatDevice) (n : Numbering) (s : System) (order slice : List ℕ) → HasNumbering repeats devices n s → slice ≡ order → ServesAll repeats n s order → IsReady repeats devices n slice s
+ready_is repeats devices n s order slice h e serves = record { numbering = h; serves = subst (λ o. ServesAll repeats n s o) (sym e) serves }
 
 pub found_read : (s : System) (tables slice : List Ranges) → slice ≡ tables → AreFoundTables s.devices (map spans_of tables) → AreFoundTables s.devices (map spans_of slice)
 found_read s tables slice e found = subst (λ ts. AreFoundTables s.devices (map spans_of ts)) (sym e) found

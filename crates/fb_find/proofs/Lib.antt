@@ -2,6 +2,8 @@ mod Lists
 mod Clearing
 mod Crowding
 mod Columns
+mod Resources
 mod Adding
+mod Networking
 mod Making
 mod Given

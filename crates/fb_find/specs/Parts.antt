@@ -1,5 +1,5 @@
 -- What is known on the way to a certificate.
-use Rattle.std.specs.Prelude.{ℕ, ◌≡◌, List, [], drop, length}
+use Rattle.std.specs.Prelude.{ℕ, ◌≡◌, List, [], Option, None, drop, length, map, string_bytes}
 use Rattle.fb_model.specs.Names.{Name}
 use Rattle.fb_model.specs.Clear.{Spans}
 use Rattle.fb_model.specs.Ranges.{Range}
@@ -18,6 +18,8 @@ use Rattle.fb_check.specs.fb_blocks.Views.{names_of}
 use Rattle.fb_ledger.specs.Texts.{texts_of}
 use Rattle.fb_ledger.specs.declared.kind.RowKind.TheVariants.{Charge, Weight}
 use Rattle.fb_solved.specs.Numbers.{amounts, CanBeSaid, with_charges, with_weights}
+use Rattle.fb_model.specs.CertificateText.{names_in}
+use Rattle.fb_sums.specs.Ends.{end_of}
 use Rattle.fb_sums.specs.Prices.{AreClear, AreTables}
 use Rattle.fb_found.specs.Columns.{ServesAll}
 use Rattle.fb_found.specs.Given.{IsNumbered}
@@ -30,17 +32,22 @@ pub record HasFoundRanges (s : System) (ranges : List Range) (rows : Rows) : Typ
   pub no_charge : rows.charges ≡ []
   pub no_weight : rows.weights ≡ []
   pub no_depth : rows.depths ≡ []
+  pub no_repeats : rows.repeats ≡ None
+  pub no_far : rows.fars ≡ []
+  pub no_far_state : rows.far_states ≡ []
+  pub no_channel : rows.channels ≡ []
 
--- the nodes have numbers by the texts of their rows, in their order
-pub record HasNumbering (devices : List FlatDevice) (n : Numbering) (s : System) : Type 0 where
-  pub numbered : IsNumbered devices n s
+-- the nodes have numbers by the texts of their rows, in their order, and channels that are followed their first ends
+pub record HasNumbering (repeats : Option ℕ) (devices : List FlatDevice) (n : Numbering) (s : System) : Type 0 where
+  pub numbered : IsNumbered repeats devices n s
   pub states : names_of n.states ≡ texts_of Charge devices
   pub events : names_of n.events ≡ texts_of Weight devices
+  pub ends : map names_in (map string_bytes n.ends.items) ≡ map (end_of (all_leaves s.devices)) n.channels.items
 
 -- and an order serves all columns
-pub record IsReady (devices : List FlatDevice) (n : Numbering) (order : List ℕ) (s : System) : Type 0 where
-  pub numbering : HasNumbering devices n s
-  pub serves : ServesAll n s order
+pub record IsReady (repeats : Option ℕ) (devices : List FlatDevice) (n : Numbering) (order : List ℕ) (s : System) : Type 0 where
+  pub numbering : HasNumbering repeats devices n s
+  pub serves : ServesAll repeats n s order
 
 -- these tables, leaf by leaf, have the ranges, and algorithms are clear under them
 pub record HasTables (s : System) (ranges : List Range) (tables : List Spans) : Type 0 where

@@ -1,6 +1,6 @@
 //! The rows RANGE of a certificate, under which all is clear.
 
-ghost use Rattle.std.specs.Prelude.{◌≡◌, map, IfErr, IfOk};
+ghost use Rattle.std.specs.Prelude.{◌≡◌, ℕ, Option, map, IfErr, IfOk};
 ghost use Rattle.fb_model.specs.System.{System};
 ghost use Rattle.fb_model.specs.Certificates.{all_leaves};
 ghost use Rattle.fb_cert.specs.Views.{rows_of};
@@ -39,7 +39,7 @@ pub(crate) fn with_ranges(
     tables: &[Ranges],
 ) -> Result<Certificate, NoBound>
     ensures found { (s : System) → IsGiven flat.now.devices.items s → AreFoundTables s.devices (map spans_of tables.now) → IfOk result (λ c. HasFoundRanges s (spelled (map spans_of tables.now) (all_leaves s.devices)) (rows_of c)) }
-    ensures refused { (s : System) → IsGiven flat.now.devices.items s → AreFoundTables s.devices (map spans_of tables.now) → IfErr result (IsNoBound s) }
+    ensures refused { (repeats : Option ℕ) (s : System) → IsGiven flat.now.devices.items s → AreFoundTables s.devices (map spans_of tables.now) → IfErr result (IsNoBound repeats s) }
 {
     let mut certificate = Certificate::new(alloc);
     add_ranges(alloc, flat, tables, &mut certificate)?;

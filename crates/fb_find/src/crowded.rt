@@ -1,6 +1,6 @@
 //! The leaves of a system, or the resource that follows too many connections.
 
-ghost use Rattle.std.specs.Prelude.{◌≡◌, ◌≤◌, map, string_bytes, IfErr, IfOk, OnOk};
+ghost use Rattle.std.specs.Prelude.{◌≡◌, ◌≤◌, ℕ, Option, map, string_bytes, IfErr, IfOk, OnOk};
 ghost use Rattle.std.specs.List.{AllByRecursion, Any};
 ghost use Rattle.fb_model.specs.Certificates.{FollowsFew};
 ghost use Rattle.fb_model.specs.Wires.{most_followed, resource_count};
@@ -72,7 +72,7 @@ fn crowded(alloc: Global, typed: &Configuration) -> NoBound
 pub(crate) fn leaves(alloc: Global, typed: &Typed) -> Result<Flat, NoBound>
     ensures tables { IfOk result (λ f. map flat_device f.devices.items ≡ map written_device (system_of typed.now).devices) }
     ensures few { OnOk result (AllByRecursion FollowsFew (system_of typed.now).devices) }
-    ensures refused { IfErr result (IsNoBound (system_of typed.now)) }
+    ensures refused { (repeats : Option ℕ) → IfErr result (IsNoBound repeats (system_of typed.now)) }
 {
     typed.stands_in_text();
     match flatten(alloc, typed) {

@@ -1,6 +1,6 @@
 //! The numbers of both columns, and a certificate with them.
 
-ghost use Rattle.std.specs.Prelude.{◌≡◌, List, map, drop, IfErr, IfOk, OnOk};
+ghost use Rattle.std.specs.Prelude.{◌≡◌, ◌≤◌, ℕ, List, Option, map, drop, IfErr, IfOk, IfSome, OnOk};
 ghost use Rattle.fb_model.specs.System.{System};
 ghost use Rattle.fb_model.specs.Clear.{Spans};
 ghost use Rattle.fb_model.specs.Ranges.{Range};
@@ -11,10 +11,10 @@ ghost use Rattle.fb_demands.specs.Columns.{demands};
 ghost use Rattle.fb_finding.specs.Finding.{IsMade};
 ghost use Rattle.fb_ranges.specs.Views.{spans_of};
 ghost use Rattle.fb_found.specs.Columns.{AreSmallest, IsPastFault};
-ghost use Rattle.fb_found.specs.Given.{nodes_in};
 ghost use Rattle.fb_find.specs.Bounds.{IsNoBound};
-ghost use Rattle.fb_find.specs.Parts.{CanBeAdded, HasFoundRanges, HasTables, IsReady, with_columns};
+ghost use Rattle.fb_find.specs.Parts.{events_in, states_in, CanBeAdded, HasFoundRanges, HasTables, IsReady, with_columns};
 
+use crate::network::add_network;
 use fb_cert::Certificate;
 use fb_flat::Flat;
 use fb_found::column;
@@ -26,7 +26,7 @@ use fb_sums::{plain_rights, priced_rights};
 use std::alloc::{AllocError, Global};
 
 /// The most steps of a row.
-const MOST_STEPS: u64 = 1_000_000_000_000;
+pub(crate) const MOST_STEPS: u64 = 1_000_000_000_000;
 
 /// The most places of a row.
 const MOST_PLACES: u64 = 4096;
@@ -39,9 +39,9 @@ fn steps(
     order: &[usize],
     tables: &[Ranges],
 ) -> Result<Vec<u64>, NoBound>
-    requires { (s : System) × (ranges : List Range) × IsReady flat.now.devices.items numbering.now order.now s × HasTables s ranges (map spans_of tables.now) }
-    ensures least { (s : System) (ranges : List Range) → IsReady flat.now.devices.items numbering.now order.now s → HasTables s ranges (map spans_of tables.now) → IfOk result (λ v. AreSmallest numbering.now (demands 1 ranges (all_leaves s.devices)) most_steps v.items) }
-    ensures refused { (s : System) (ranges : List Range) → IsReady flat.now.devices.items numbering.now order.now s → HasTables s ranges (map spans_of tables.now) → IfErr result (IsPastFault numbering.now (demands 1 ranges (all_leaves s.devices)) most_steps) }
+    requires { (s : System) × (ranges : List Range) × (repeats : Option ℕ) × IsReady repeats flat.now.devices.items numbering.now order.now s × HasTables s ranges (map spans_of tables.now) }
+    ensures least { (s : System) (ranges : List Range) (repeats : Option ℕ) → IsReady repeats flat.now.devices.items numbering.now order.now s → HasTables s ranges (map spans_of tables.now) → IfOk result (λ v. AreSmallest numbering.now (demands 1 ranges (all_leaves s.devices)) most_steps v.items) }
+    ensures refused { (s : System) (ranges : List Range) (repeats : Option ℕ) → IsReady repeats flat.now.devices.items numbering.now order.now s → HasTables s ranges (map spans_of tables.now) → IfErr result (IsPastFault numbering.now (demands 1 ranges (all_leaves s.devices)) most_steps) }
 {
     let rights = priced_rights(alloc, numbering, flat, tables)?;
     column(alloc, numbering, order, rights, MOST_STEPS)
@@ -54,16 +54,16 @@ fn places(
     numbering: &Numbering,
     order: &[usize],
 ) -> Result<Vec<u64>, NoBound>
-    requires { (s : System) × IsReady flat.now.devices.items numbering.now order.now s }
-    ensures least { (s : System) (ranges : List Range) → IsReady flat.now.devices.items numbering.now order.now s → IfOk result (λ v. AreSmallest numbering.now (demands 0 ranges (all_leaves s.devices)) most_places v.items) }
-    ensures refused { (s : System) (ranges : List Range) → IsReady flat.now.devices.items numbering.now order.now s → IfErr result (IsPastFault numbering.now (demands 0 ranges (all_leaves s.devices)) most_places) }
+    requires { (s : System) × (repeats : Option ℕ) × IsReady repeats flat.now.devices.items numbering.now order.now s }
+    ensures least { (s : System) (ranges : List Range) (repeats : Option ℕ) → IsReady repeats flat.now.devices.items numbering.now order.now s → IfOk result (λ v. AreSmallest numbering.now (demands 0 ranges (all_leaves s.devices)) most_places v.items) }
+    ensures refused { (s : System) (ranges : List Range) (repeats : Option ℕ) → IsReady repeats flat.now.devices.items numbering.now order.now s → IfErr result (IsPastFault numbering.now (demands 0 ranges (all_leaves s.devices)) most_places) }
 {
     let rights = plain_rights(alloc, numbering, 0, flat)?;
     column(alloc, numbering, order, rights, MOST_PLACES)
 }
 
-// The numbers behind the first so many.
-fn behind(numbers: &[u64], count: usize) -> &[u64]
+/// The numbers behind the first so many.
+pub(crate) fn behind(numbers: &[u64], count: usize) -> &[u64]
     ensures { result.now ≡ drop count numbers.now }
 {
     if count <= numbers.len() {
@@ -94,18 +94,20 @@ fn add_numbers(
     )
 }
 
-/// A certificate with the rows CHARGE, WEIGHT and DEPTH, each number the least.
+/// A certificate with the rows CHARGE, WEIGHT and DEPTH, each number the least, and with those of the network where datagrams are followed.
 pub(crate) fn with_numbers(
     alloc: Global,
     flat: &Flat,
+    repeats: Option<u8>,
     numbering: &Numbering,
     order: &[usize],
     tables: &[Ranges],
     certificate: Certificate,
 ) -> Result<Certificate, NoBound>
-    requires { (s : System) × (ranges : List Range) × IsReady flat.now.devices.items numbering.now order.now s × HasTables s ranges (map spans_of tables.now) }
-    ensures made { (s : System) (ranges : List Range) → IsReady flat.now.devices.items numbering.now order.now s → HasTables s ranges (map spans_of tables.now) → HasFoundRanges s ranges (rows_of certificate) → IfOk result (λ c. IsMade s (nodes_in numbering.now) (certificate_of c)) }
-    ensures refused { (s : System) (ranges : List Range) → IsReady flat.now.devices.items numbering.now order.now s → HasTables s ranges (map spans_of tables.now) → HasFoundRanges s ranges (rows_of certificate) → IfErr result (IsNoBound s) }
+    requires some { IfSome repeats (λ r. 1 ≤ r) }
+    requires ready { (s : System) × (ranges : List Range) × IsReady repeats flat.now.devices.items numbering.now order.now s × HasTables s ranges (map spans_of tables.now) }
+    ensures made { (s : System) (ranges : List Range) → IsReady repeats flat.now.devices.items numbering.now order.now s → HasTables s ranges (map spans_of tables.now) → HasFoundRanges s ranges (rows_of certificate) → IfOk result (λ c. IsMade repeats s (states_in numbering.now) (events_in numbering.now) numbering.now.channels.items (certificate_of c)) }
+    ensures refused { (s : System) (ranges : List Range) → IsReady repeats flat.now.devices.items numbering.now order.now s → HasTables s ranges (map spans_of tables.now) → HasFoundRanges s ranges (rows_of certificate) → IfErr result (IsNoBound repeats s) }
 {
     let mut certificate = certificate;
     let steps = steps(alloc, flat, numbering, order, tables)?;
@@ -118,6 +120,15 @@ pub(crate) fn with_numbers(
         &mut certificate,
     )?;
     add_depths(alloc, flat, &mut certificate)?;
+    add_network(
+        alloc,
+        flat,
+        repeats,
+        numbering,
+        order,
+        tables,
+        &mut certificate,
+    )?;
     certificate.stands_in_text();
     Ok(certificate)
 }

@@ -5,6 +5,7 @@ mod clear;
 mod crowded;
 mod finding;
 mod least;
+mod network;
 
 pub use fb_check;
 pub use finding::find;

@@ -238,4 +238,8 @@ ranges_added fs s ss old new are plain up apart none many e =
       charges_same = ap (λ (r : Rows). r.charges) made;
       weights_same = ap (λ (r : Rows). r.weights) made;
       depths_same = ap (λ (r : Rows). r.depths) made;
+      repeats_same = ap (λ (r : Rows). r.repeats) made;
+      fars_same = ap (λ (r : Rows). r.fars) made;
+      far_states_same = ap (λ (r : Rows). r.far_states) made;
+      channels_same = ap (λ (r : Rows). r.channels) made;
     }

@@ -60,3 +60,7 @@ pub record AddsRanges (ranges : List book.Range) (old new : Rows) : Type 0 where
   pub charges_same : new.charges ≡ old.charges
   pub weights_same : new.weights ≡ old.weights
   pub depths_same : new.depths ≡ old.depths
+  pub repeats_same : new.repeats ≡ old.repeats
+  pub fars_same : new.fars ≡ old.fars
+  pub far_states_same : new.far_states ≡ old.far_states
+  pub channels_same : new.channels ≡ old.channels

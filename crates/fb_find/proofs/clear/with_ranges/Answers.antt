@@ -15,10 +15,10 @@ returns-in-Ok-clause-found c = λ s given found.
     has_found fs s given tables found (rows_of c.new-certificate.result) (rows_of c.add_ranges.new.certificate) c.new-certificate.ensures adds (c.in-Ok.ensures.clears s given.tables (known fs s given))
 
 pub returns-in-Err-clause-refused : goal.returns-in-Err-clause-refused
-returns-in-Err-clause-refused c = λ s given found.
+returns-in-Err-clause-refused c = λ repeats s given found.
     let fs = c.args.flat.now.devices.items in
     let tables = map spans_of c.args.tables.now in
     let adds =
     c.in_ok-add_ranges.ensures s given.tables given.words (upper_texts fs s given) (apart_texts fs s given) (ap (λ (r : Rows). r.ranges) c.new-certificate.ensures) (as_many fs s given tables found)
     in
-    subst (IsNoBound s) (sym c.no_range.ensures) (told fs s given tables found (rows_of c.add_ranges.new.certificate) c.in-Err.fault adds.ranges_are (c.in-Err.ensures.refused s given.tables (known fs s given)))
+    subst (IsNoBound repeats s) (sym c.no_range.ensures) (told fs s given tables found repeats (rows_of c.add_ranges.new.certificate) c.in-Err.fault adds.ranges_are (c.in-Err.ensures.refused s given.tables (known fs s given)))
