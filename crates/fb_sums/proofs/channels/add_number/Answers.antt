@@ -1,7 +1,7 @@
 use Rattle.std.proofs.Common.{◌≡◌, ◌∷◌, ◌++◌, sym, ap, ◌∙◌}
 use Rattle.fb_places.proofs.Loops.{rest_of}
 use Rattle.fb_places.proofs.Ranks.{if_ok}
-use Rattle.fb_sums.proofs.Channels.{stands_at, stands_before, goes_on}
+use Rattle.fb_sums.proofs.Ends.{stands_at, stands_before, goes_on}
 use Rattle.fb_sums.proofs.channels.add_number.Goals as goal
 
 pub returns-then-is_at : goal.returns-then-is_at

@@ -9,7 +9,7 @@ use Rattle.fb_sums.specs.Leaves.{leaves_under}
 use Rattle.fb_sums.specs.Ends.{channels_in, end_in}
 use Rattle.fb_sums.proofs.Rows.{apart_texts, rows_are}
 use Rattle.fb_sums.proofs.Systems.{all_are}
-use Rattle.fb_sums.proofs.Channels.{channels_are, ends_are}
+use Rattle.fb_sums.proofs.Ends.{channels_are, ends_are}
 use Rattle.fb_sums.proofs.nodes.numbering.Goals as goal
 
 pub returns-clause-rows : goal.returns-clause-rows
