@@ -1,4 +1,4 @@
-use Rattle.std.proofs.Common.{◌≡◌, List, map, ap, ◌∙◌, Bor, string_bytes}
+use Rattle.std.proofs.Common.{◌≡◌, map, ap, ◌∙◌, Bor, string_bytes}
 use Rattle.fb_model.specs.Certificates.{all_leaves, channels_of, with_repeats}
 use Rattle.fb_places.specs.fb_blocks.Views.{names_of}
 use Rattle.fb_places.specs.fb_flat.declared.flat.Leaf.{Leaf}
