@@ -10,7 +10,7 @@ use Rattle.fb_model.specs.Names.{Name, at_place}
 use Rattle.fb_model.specs.System as book
 use Rattle.fb_model.specs.Certificates.{all_leaves}
 use Rattle.fb_model.specs.CertificateText.{place_of}
-use Rattle.fb_demands.specs.Demands.{Node, state, event, channel, Demand, bare_demands, bare_network, node_in, IsClosedWalk}
+use Rattle.fb_demands.specs.Demands.{Node, state, event, channel, Demand, node_in}
 use Rattle.fb_least.specs.Graphs.{IsOrder}
 use Rattle.fb_least.specs.Systems.{System, IsSystem, IsLeast, IsPaying, needed, needs}
 use Rattle.fb_least.proofs.Solving.{walk_of}

@@ -1,6 +1,6 @@
 pub mod Alike
 pub mod Systems
 pub mod Rows
-pub mod Channels
+pub mod Ends
 pub mod Costs
 pub mod Answering

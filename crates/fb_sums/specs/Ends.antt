@@ -1,10 +1,9 @@
 -- The channels of leaves, and where they end.
 -- This project's profile.
-use Rattle.std.specs.Prelude.{ℕ, ◌==◌, Bool, true, false, List, [], ◌∷◌, Option, None, Some, map, string_bytes, if◌then◌else◌}
+use Rattle.std.specs.Prelude.{ℕ, ◌==◌, Bool, false, List, [], ◌∷◌, Option, None, Some, string_bytes, if◌then◌else◌}
 use Rattle.fb_model.specs.Names.{Name, Path}
 use Rattle.fb_model.specs.CertificateText.{names_in}
 use Rattle.fb_model.specs.Wires as wires
-use Rattle.fb_model.specs.Wires.{Kind}
 use Rattle.fb_model.specs.Certificates.{channel_in, with_number}
 use Rattle.fb_places.specs.fb_flat.declared.flat.Leaf.{Leaf}
 use Rattle.fb_places.specs.fb_flat.Leaves.{kind_of}

@@ -127,12 +127,12 @@ count_is states events channels =
     )
 
 -- what nodes are, and where they stand
-is_state : Node → Bool
+abbrev is_state : Node → Bool
 is_state (state p) = true
 is_state (event p) = false
 is_state (channel c) = false
 
-is_event : Node → Bool
+abbrev is_event : Node → Bool
 is_event (state p) = false
 is_event (event p) = true
 is_event (channel c) = false

@@ -1,4 +1,4 @@
-use Rattle.std.proofs.Common.{◌≡◌, ℕ, [], ◌++◌, map, replicate, sym, ap, ap₂, ◌∙◌, OnOk, subst, string_bytes}
+use Rattle.std.proofs.Common.{◌≡◌, ℕ, ◌++◌, map, replicate, sym, ap, ap₂, ◌∙◌, OnOk, subst, string_bytes}
 use Rattle.std.proofs.lemmas.List.{append-nil}
 use Rattle.fb_model.specs.Names.{at_place}
 use Rattle.fb_model.specs.CertificateText.{names_in}

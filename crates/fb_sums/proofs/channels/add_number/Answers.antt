@@ -1,7 +1,6 @@
-use Rattle.std.proofs.Common.{◌≡◌, ◌∷◌, ◌++◌, sym, ap, ◌∙◌}
-use Rattle.fb_places.proofs.Loops.{rest_of}
+use Rattle.std.proofs.Common.{◌∷◌, ◌++◌, sym, ap, ◌∙◌}
 use Rattle.fb_places.proofs.Ranks.{if_ok}
-use Rattle.fb_sums.proofs.Channels.{stands_at, stands_before, goes_on}
+use Rattle.fb_sums.proofs.Ends.{stands_at, stands_before, goes_on}
 use Rattle.fb_sums.proofs.channels.add_number.Goals as goal
 
 pub returns-then-is_at : goal.returns-then-is_at
@@ -24,6 +23,4 @@ pub loop-index-preserved : goal.loop-index-preserved
 loop-index-preserved c =
     let xs = c.args.numbers.now in
     let i = c.loop-index.index in
-    let x = c.index-numbers-index.result in
-    goes_on c.args.number xs c.loop-index.all.items c.push.new.self.items i x c.loop-index-test.true (rest_of xs i x c.loop-index-test.true c.index-numbers-index.is) (sym c.is_at.ensures ∙ c.if-is_at.false) (sym c.is_below.ensures ∙ c.if-is_below.false)
-    c.in_ok-push.ensures.items c.loop-index.invariant
+    goes_on c.args.number xs c.loop-index.all.items c.push.new.self.items i c.loop-index-test.true (sym c.is_at.ensures ∙ c.if-is_at.false) (sym c.is_below.ensures ∙ c.if-is_below.false) c.in_ok-push.ensures.items c.loop-index.invariant

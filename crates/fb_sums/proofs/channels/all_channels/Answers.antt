@@ -1,4 +1,4 @@
-use Rattle.std.proofs.Common.{◌≡◌, ◌-◌, List, length, map, drop, sym, ap, ap₂, ◌∙◌, arith, Bor}
+use Rattle.std.proofs.Common.{◌≡◌, ◌-◌, length, map, drop, sym, ap, ap₂, ◌∙◌, arith, Bor}
 use Rattle.fb_places.specs.fb_flat.declared.flat.Leaf.{Leaf}
 use Rattle.fb_sums.specs.Ends.{with_channel, channels_in}
 use Rattle.fb_sums.proofs.channels.all_channels.Goals as goal

@@ -1,7 +1,7 @@
 use Rattle.std.proofs.Common.{sym, ap, ◌∙◌}
 use Rattle.fb_places.proofs.Loops.{rest_of}
 use Rattle.fb_sums.specs.Ends.{names_channel}
-use Rattle.fb_sums.proofs.Channels.{end_here, end_later}
+use Rattle.fb_sums.proofs.Ends.{end_here, end_later}
 use Rattle.fb_sums.proofs.channels.end.Goals as goal
 
 pub returns-then-is_of : goal.returns-then-is_of

@@ -1,4 +1,4 @@
-use Rattle.std.proofs.Common.{◌≡◌, List, map, ap, ◌∙◌, Bor, string_bytes}
+use Rattle.std.proofs.Common.{◌≡◌, map, ap, ◌∙◌, Bor, string_bytes}
 use Rattle.fb_model.specs.Certificates.{all_leaves, channels_of, with_repeats}
 use Rattle.fb_places.specs.fb_blocks.Views.{names_of}
 use Rattle.fb_places.specs.fb_flat.declared.flat.Leaf.{Leaf}
@@ -9,7 +9,7 @@ use Rattle.fb_sums.specs.Leaves.{leaves_under}
 use Rattle.fb_sums.specs.Ends.{channels_in, end_in}
 use Rattle.fb_sums.proofs.Rows.{apart_texts, rows_are}
 use Rattle.fb_sums.proofs.Systems.{all_are}
-use Rattle.fb_sums.proofs.Channels.{channels_are, ends_are}
+use Rattle.fb_sums.proofs.Ends.{channels_are, ends_are}
 use Rattle.fb_sums.proofs.nodes.numbering.Goals as goal
 
 pub returns-clause-rows : goal.returns-clause-rows

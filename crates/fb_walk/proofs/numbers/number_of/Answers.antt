@@ -1,4 +1,4 @@
-use Rattle.std.proofs.Common.{◌≡◌, sym, ap, ◌∙◌}
+use Rattle.std.proofs.Common.{sym, ap, ◌∙◌}
 use Rattle.fb_model.specs.Spelling.{upper}
 use Rattle.fb_model.specs.CertificateText.{place_of}
 use Rattle.fb_demands.specs.Demands.{event, state}

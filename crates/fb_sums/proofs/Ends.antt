@@ -1,13 +1,14 @@
 -- The channels of tables, and their ends, are those of the book's leaves.
-use Rattle.std.proofs.Common.{◌≡◌, ℕ, ◌+◌, ◌<◌, ◌≤◌, ◌==◌, nat_lt, Bool, true, false, List, [], ◌∷◌, ◌++◌, append_assoc, length, map, drop, slice_index, Option, None, Some, refl, sym, ap, ap₂, ◌∙◌, string_bytes, Bor, if◌then◌else◌}
-use Rattle.fb_model.specs.Names.{Name, Path}
+use Rattle.std.proofs.Common.{◌≡◌, ℕ, ◌+◌, ◌-◌, ◌<◌, ◌≤◌, ◌==◌, nat_lt, Bool, true, false, List, [], ◌∷◌, ◌++◌, append_assoc, length, map, drop, slice_index, Option, None, Some, refl, sym, ap, ap₂, ◌∙◌, arith, get_or, string_bytes, Bor, if◌then◌else◌}
+use Rattle.std.proofs.lemmas.List.{drop-map}
+use Rattle.fb_model.specs.Names.{Name}
 use Rattle.fb_model.specs.CertificateText.{names_in}
 use Rattle.fb_model.specs.Wires as wires
 use Rattle.fb_model.specs.Certificates.{channel_in, with_number, channels_of}
 use Rattle.fb_places.specs.fb_flat.declared.flat.Leaf.{Leaf}
 use Rattle.fb_places.specs.fb_flat.Leaves.{kind_of}
 use Rattle.fb_places.specs.fb_flat.Tables.{AreLeaves}
-use Rattle.fb_places.proofs.Loops.{rest_got, drop_all}
+use Rattle.fb_places.proofs.Loops.{rest_got, rest_of, drop_all}
 use Rattle.fb_sums.specs.Ends.{names_channel, end_of, with_channel, channels_in, end_in}
 
 pub channels_are : (ls : List Leaf) (bs : List wires.Leaf) → AreLeaves ls bs → channels_in ls ≡ channels_of bs
@@ -48,16 +49,12 @@ stands_before n xs i l t b = let e = rest_got xs i 0 l in let m = slice_index xs
 pub stands_behind : (n : ℕ) (xs : List ℕ) (i : ℕ) → i < length xs → (n == slice_index xs i) ≡ false → nat_lt n (slice_index xs i) ≡ false → with_number n (drop i xs) ≡ slice_index xs i ∷ with_number n (drop (i + 1) xs)
 stands_behind n xs i l t b = let e = rest_got xs i 0 l in ap (with_number n) e ∙ numbered_at n (slice_index xs i) (drop (i + 1) xs) false false t b
 
-head : (x y : ℕ) (xs ys : List ℕ) → x ∷ xs ≡ y ∷ ys → x ≡ y
-head x y xs ys e = ap (λ zs. slice_index zs 0) e
-
 -- a smaller number is passed
-pub goes_on : (n : ℕ) (xs all new : List ℕ) (i x : ℕ) → i < length xs → drop i xs ≡ x ∷ drop (i + 1) xs → (n == slice_index xs i) ≡ false → nat_lt n (slice_index xs i) ≡ false → new ≡ all ++ x ∷ []
-    → all ++ with_number n (drop i xs) ≡ with_number n xs → new ++ with_number n (drop (i + 1) xs) ≡ with_number n xs
-goes_on n xs all new i x l e t b p inv =
+pub goes_on : (n : ℕ) (xs all new : List ℕ) (i : ℕ) → i < length xs → (n == slice_index xs i) ≡ false → nat_lt n (slice_index xs i) ≡ false → new ≡ all ++ slice_index xs i ∷ [] → all ++ with_number n (drop i xs) ≡ with_number n xs
+    → new ++ with_number n (drop (i + 1) xs) ≡ with_number n xs
+goes_on n xs all new i l t b p inv =
     let rest = with_number n (drop (i + 1) xs) in
-    let same : x ≡ slice_index xs i = head x (slice_index xs i) (drop (i + 1) xs) (drop (i + 1) xs) (sym e ∙ rest_got xs i 0 l) in
-    ap (λ ys. ys ++ rest) p ∙ (append_assoc all (x ∷ []) rest ∙ (ap (λ ys. all ++ ys) (ap (λ y. y ∷ rest) same ∙ sym (stands_behind n xs i l t b)) ∙ inv))
+    ap (λ ys. ys ++ rest) p ∙ (append_assoc all (slice_index xs i ∷ []) rest ∙ (ap (λ ys. all ++ ys) (sym (stands_behind n xs i l t b)) ∙ inv))
 
 -- ---- the first end
 
@@ -70,3 +67,15 @@ end_later xs i x c e t inv = ap (λ b. if b then string_bytes x.now.path else en
 
 pub end_none : (xs : List (Bor Leaf)) (i c : ℕ) → length xs ≤ i → end_in (map (λ l. l.now) (drop i xs)) c ≡ end_in (map (λ l. l.now) xs) c → [] ≡ end_in (map (λ l. l.now) xs) c
 end_none xs i c l inv = ap (λ ys. end_in (map (λ (l : Bor Leaf). l.now) ys) c) (sym (drop_all xs i l)) ∙ inv
+
+-- ---- from the end
+
+-- the leaf so far from the end stands before those behind it
+pub before_last : (xs : List (Bor Leaf)) (back j : ℕ) (x : Bor Leaf) → back < length xs → j ≡ length xs - 1 - back → x ≡ get_or xs j x → drop (length xs - (back + 1)) (map (λ l. l.now) xs) ≡ x.now ∷ drop (length xs - back) (map (λ l. l.now) xs)
+before_last xs back j x l e is =
+    let here : length xs - (back + 1) ≡ j = omega (arith, e, l) in
+    let behind : length xs - back ≡ j + 1 = omega (arith, e, l) in
+    ap (λ k. drop k (map (λ (l : Bor Leaf). l.now) xs)) here
+    ∙ (drop-map (λ (l : Bor Leaf). l.now) j xs
+    ∙ (ap (map (λ (l : Bor Leaf). l.now)) (rest_of xs j x (omega (arith, e, l)) is)
+    ∙ (ap (λ ys. x.now ∷ ys) (sym (drop-map (λ (l : Bor Leaf). l.now) (j + 1) xs)) ∙ ap (λ k. x.now ∷ drop k (map (λ (l : Bor Leaf). l.now) xs)) (sym behind))))
