@@ -1,10 +1,9 @@
 -- What the datagrams of channels cost, in the tables and in the book.
-use Rattle.std.proofs.Common.{◌≡◌, ◌≤◌, ◌<◌, ◌+◌, ◌*◌, ◌==◌, ℕ, zero, suc, Bool, true, false, cond, List, [], ◌∷◌, ◌++◌, length, get_or, drop, Option, None, Some, Result, Ok, Err, OnOk, IfErr, inl, inr, refl, sym, ap, subst, ◌∙◌, string_bytes, arith}
+use Rattle.std.proofs.Common.{◌≡◌, ◌≤◌, ◌<◌, ◌+◌, ◌*◌, ◌==◌, ℕ, zero, suc, Bool, true, false, cond, List, [], ◌∷◌, ◌++◌, length, get_or, Option, None, Some, Result, Ok, Err, OnOk, IfErr, inl, inr, refl, sym, ap, subst, ◌∙◌, string_bytes, arith}
 use Rattle.std.specs.Prelude.{◌⊎◌, MatchResult}
 use Rattle.std.specs.Option.{SomeIff}
 use Rattle.std.specs.List.{sum_by, flat_map, AllByRecursion}
 use Rattle.std.proofs.lemmas.Bool.{eqb-true}
-use Rattle.std.proofs.lemmas.List.{drop_all}
 use Rattle.std.proofs.lemmas.List.Sums.{sum_by-cons, sum_by-append}
 use Rattle.fb_model.specs.Names.{Name, at_place}
 use Rattle.fb_model.specs.System as system
@@ -27,7 +26,6 @@ use Rattle.fb_columns.specs.declared.column.Column.TheVariants.{Far}
 use Rattle.fb_columns.specs.declared.fault.Shortfall.{Shortfall}
 use Rattle.fb_columns.specs.declared.fault.Shortfall.TheVariants.{OutOfMemory, Charge, Weight, Channel}
 use Rattle.fb_columns.specs.Fitting.{AreSmall, ChannelsPay, IsShortChannel}
-use Rattle.fb_columns.specs.Reckoning.{weight_of}
 use Rattle.fb_columns.specs.Sums.{IsSum}
 use Rattle.fb_columns.specs.Channels.{Cost, cost, heard_by, heard_at, heard_under, cost_of, cost_in, AreCosts, ChannelPays, IsOwingChannel}
 use Rattle.fb_columns.proofs.Amounts.{weight_is}
