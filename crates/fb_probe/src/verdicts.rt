@@ -154,6 +154,9 @@ fn numbers(alloc: Global, verified: &Verified, paths: &str) -> Result<String, Al
         number(&mut out, "steps", verified.steps_of(path))?;
         number(&mut out, "places", verified.places_of(path))?;
         number(&mut out, "depth", verified.depth(path))?;
+        if let Some(far) = verified.far_of(path) {
+            write!(out, " far {far}")?;
+        }
         out.push('\n')?;
     }
     Ok(ended(out))

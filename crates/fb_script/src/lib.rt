@@ -9,6 +9,7 @@ mod told;
 
 pub use fb_device;
 pub use line::{Line, LineFault, read_line};
+pub use number::read_number;
 pub use playing::{play, tell};
 pub use run::{End, simulate};
 pub use told::Told;

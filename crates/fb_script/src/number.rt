@@ -14,7 +14,7 @@ fn has_plus(word: &str) -> bool
 }
 
 /// The number of 16 bits that digits write.
-pub(crate) fn read_number(word: &str) -> Option<u16>
+pub fn read_number(word: &str) -> Option<u16>
     ensures { result ≡ number_in word.now }
 {
     if has_plus(word) {

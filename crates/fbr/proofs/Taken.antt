@@ -1,5 +1,5 @@
 -- What the program takes as words.
-use Rattle.std.proofs.Common.{codes, ◌≡◌, ◌≢◌, ◌⊎◌, inl, inr, ℕ, refl, sym, ◌∙◌, ap, subst, true, false, Bool, not, ◌&&◌, List, [], ◌∷◌, Option, Result, Ok, Err, IfOk}
+use Rattle.std.proofs.Common.{codes, ◌≡◌, ◌≢◌, ◌⊎◌, inl, inr, ℕ, refl, sym, ◌∙◌, ap, subst, true, false, Bool, not, ◌&&◌, List, [], ◌∷◌, Option, None, Some, Result, Ok, Err, IfOk}
 use Rattle.std.specs.Result.{result_unwrap_or}
 use Rattle.clap.specs.Words.{App, Text, Kinds, HasKind, IsAmong, fault_of, is_simple_and_free}
 use Rattle.clap.specs.Values.{kind_of}
@@ -9,7 +9,7 @@ use Rattle.clap.specs.declared.error.kind.ErrorKind.TheVariants.{OutOfMemory, Di
 use Rattle.clap.proofs.OnLiterals.{clap_on_literals}
 use Rattle.fbr.specs.declared.fault.Fault.TheVariants.{Memory}
 use Rattle.fbr.specs.Outcomes.{Tells, TellsFiles, refusal}
-use Rattle.fbr.specs.Program.{program, IsBound, IsCheck, IsSim, IsMisuse}
+use Rattle.fbr.specs.Program.{program, IsBound, IsUncounted, IsCheck, IsSim, IsMisuse}
 use Rattle.fbr.proofs.Told.{tells_files}
 use Rattle.fbr.proofs.Verdicts.{files_memory}
 
@@ -56,9 +56,19 @@ or_three (Ok status) n P e h = inl (subst P (sym e) h)
 or_three (Err x) n P e h = inr e
 
 -- such words ask for a certificate of this file
-is_bound : IsBound (codes "fbr" ∷ codes "bound" ∷ codes "cell.fb" ∷ []) (codes "cell.fb")
+is_bound : IsBound (codes "fbr" ∷ codes "bound" ∷ codes "cell.fb" ∷ []) None (codes "cell.fb")
 unfolding clap_on_literals
-is_bound = record { taken = refl; file_is = refl }
+is_bound = record { taken = refl; file_is = refl; repeats_are = refl }
+
+-- and such for one with steps over the network
+is_far : IsBound (codes "fbr" ∷ codes "bound" ∷ codes "cell.fb" ∷ codes "--repeats" ∷ codes "2" ∷ []) (Some 2) (codes "cell.fb")
+unfolding clap_on_literals
+is_far = record { taken = refl; file_is = refl; repeats_are = refl }
+
+-- a number above 255 is none that counts
+is_uncounted : IsUncounted (codes "fbr" ∷ codes "bound" ∷ codes "cell.fb" ∷ codes "--repeats" ∷ codes "256" ∷ []) (codes "cell.fb")
+unfolding clap_on_literals
+is_uncounted = record { taken = refl; file_is = refl; none = refl }
 
 -- such words are a check of these files
 is_taken : IsCheck (codes "fbr" ∷ codes "check" ∷ codes "cell.fb" ∷ codes "cell.cert" ∷ []) (codes "cell.fb") (codes "cell.cert")

@@ -13,36 +13,36 @@ use Rattle.fbr.specs.declared.fault.Fault.{Fault}
 use Rattle.fbr.specs.declared.fault.Fault.TheVariants.{Memory, Refused, Unbound}
 use Rattle.fbr.specs.Outcomes.{Tells, refusal, IsContents, IsReadFault}
 
--- the text is that of a certificate of the system, which has the least numbers
-pub record IsTextFor (system : System) (text : List ℕ) : Type 0 where
+-- the text is that of a certificate of the system, which has the least numbers, perhaps with those of the network
+pub record IsTextFor (repeats : Option ℕ) (system : System) (text : List ℕ) : Type 0 where
   pub rows : Rows
-  pub found : IsFound system (book_of rows)
+  pub found : IsFound repeats system (book_of rows)
   pub spelled : text ≡ printed rows
 
 -- want of memory, or why there is no certificate of the system
-abbrev pub IsUnbound : System → Fault → Type 0
-IsUnbound system Memory = Unit {0}
-IsUnbound system (Unbound fault) = IsNoBound system fault
-IsUnbound system other = ⊥
+abbrev pub IsUnbound : Option ℕ → System → Fault → Type 0
+IsUnbound repeats system Memory = Unit {0}
+IsUnbound repeats system (Unbound fault) = IsNoBound repeats system fault
+IsUnbound repeats system other = ⊥
 
 -- the text is that of a certificate of the application's system
-pub record IsBoundText (app text : List ℕ) : Type 0 where
+pub record IsBoundText (repeats : Option ℕ) (app text : List ℕ) : Type 0 where
   pub typed : Configuration
   pub typed_is : IsTypedOf app typed
-  pub certificate : IsTextFor (system_of typed) text
+  pub certificate : IsTextFor repeats (system_of typed) text
 
 -- want of memory, a fault of the application's text, or why there is no certificate of its system
-abbrev pub IsBoundFault : List ℕ → Fault → Type 0
-IsBoundFault app Memory = Unit {0}
-IsBoundFault app (Refused refusal) = IsTextFault app refusal
-IsBoundFault app (Unbound fault) = (typed : Configuration) × IsTypedOf app typed × IsNoBound (system_of typed) fault
-IsBoundFault app other = ⊥
+abbrev pub IsBoundFault : Option ℕ → List ℕ → Fault → Type 0
+IsBoundFault repeats app Memory = Unit {0}
+IsBoundFault repeats app (Refused refusal) = IsTextFault app refusal
+IsBoundFault repeats app (Unbound fault) = (typed : Configuration) × IsTypedOf app typed × IsNoBound repeats (system_of typed) fault
+IsBoundFault repeats app other = ⊥
 
 -- what is told over a file of this name, and nothing else
-pub data TellsBound (name : List ℕ) (held old new : Option (List ℕ)) (status : ℕ) : Type 0 where
+pub data TellsBound (repeats : Option ℕ) (name : List ℕ) (held old new : Option (List ℕ)) (status : ℕ) : Type 0 where
   -- the certificate's text
-  a_text : (app text : List ℕ) → IsContents held app → IsBoundText app text → status ≡ 0 → Appends old new text → TellsBound name held old new status
+  a_text : (app text : List ℕ) → IsContents held app → IsBoundText repeats app text → status ≡ 0 → Appends old new text → TellsBound repeats name held old new status
   -- why there is none
-  no_text : (app : List ℕ) (f : Fault) → IsContents held app → IsBoundFault app f → Tells (refusal f) old new status → TellsBound name held old new status
+  no_text : (app : List ℕ) (f : Fault) → IsContents held app → IsBoundFault repeats app f → Tells (refusal f) old new status → TellsBound repeats name held old new status
   -- the file was not read
-  unread : (f : Fault) → IsReadFault name f → Tells (refusal f) old new status → TellsBound name held old new status
+  unread : (f : Fault) → IsReadFault name f → Tells (refusal f) old new status → TellsBound repeats name held old new status

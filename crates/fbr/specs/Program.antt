@@ -1,8 +1,10 @@
 -- The words of the program, in the terms of the crate that reads them.
-use Rattle.std.specs.Prelude.{◌≡◌, ◌≢◌, List, [], Option, Some, None, true, codes, option_and_then, if◌then◌else◌}
+use Rattle.std.specs.Prelude.{◌≡◌, ◌≢◌, ℕ, nat_le, ◌&&◌, List, [], Option, Some, None, true, codes, option_and_then, if◌then◌else◌}
 use Rattle.std.specs.Str.{bytes_eq}
 use Rattle.clap.specs.Words.{App, Row, Rule, Text, first_of, new_app, new_rule, with_rule, with_subcommand, subcommand_of, fault_of, IsAmong}
+use Rattle.clap.specs.declared.builder.action.ArgAction.TheVariants.{Set}
 use Rattle.clap.specs.declared.error.kind.ErrorKind.TheVariants.{DisplayHelp, DisplayVersion}
+use Rattle.fb_script.specs.Lines.{number_in}
 
 -- a file that has to be named
 abbrev pub file : Text → Rule
@@ -16,9 +18,13 @@ over_file name = with_rule (new_app name) (file (codes "APP"))
 abbrev pub over_files : Text → App
 over_files name = with_rule (over_file name) (file (codes "CERT"))
 
--- `bound` and its file
+-- `--repeats` and its number
+abbrev pub repeats : Rule
+repeats = record (new_rule (codes "repeats")) { long = Some (codes "repeats"); action = Some Set; value_names = 1 }
+
+-- `bound`, its file, and how often datagrams are delivered
 abbrev pub bound : App
-bound = over_file (codes "bound")
+bound = with_rule (over_file (codes "bound")) repeats
 
 -- `check` and its two files
 abbrev pub check : App
@@ -48,6 +54,24 @@ file_in name entered = if bytes_eq entered.0 name then first_of (codes "APP") en
 abbrev pub file_of : Text → List Text → Option Text
 file_of name words = option_and_then (file_in name) (subcommand_of program words)
 
+-- a number of 1 to 255
+abbrev pub small_in : Option ℕ → Option ℕ
+small_in None = None
+small_in (Some n) = if nat_le 1 n && nat_le n 255 then Some n else None
+
+-- how often datagrams are delivered: not said, or so often; nothing where what is said is no number of 1 to 255
+abbrev pub repeats_in : Option Text → Option (Option ℕ)
+repeats_in None = Some None
+repeats_in (Some word) = elim (small_in (number_in word)) [ None ↦ None | Some n ↦ Some (Some n) ]
+
+-- the same of a subcommand
+abbrev pub repeats_of : Text × List Row → Option (Option ℕ)
+repeats_of entered = repeats_in (first_of (codes "repeats") entered.1)
+
+-- what the words say of it
+abbrev pub asked_of : List Text → Option (Option ℕ)
+asked_of words = option_and_then repeats_of (subcommand_of program words)
+
 -- the files of a subcommand, where it has this name
 abbrev pub files_in : Text → Text × List Row → Option (Text × Text)
 files_in name entered =
@@ -57,10 +81,17 @@ files_in name entered =
 abbrev pub files_of : Text → List Text → Option (Text × Text)
 files_of name words = option_and_then (files_in name) (subcommand_of program words)
 
--- the words ask for a certificate of this file
-pub record IsBound (words : List Text) (app : Text) : Type 0 where
+-- the words ask for a certificate of this file, perhaps with steps over the network
+pub record IsBound (words : List Text) (repeats : Option ℕ) (app : Text) : Type 0 where
   pub taken : fault_of program words ≡ []
   pub file_is : file_of (codes "bound") words ≡ Some app
+  pub repeats_are : asked_of words ≡ Some repeats
+
+-- they ask for one where datagrams are delivered as often as no number of 1 to 255 says
+pub record IsUncounted (words : List Text) (app : Text) : Type 0 where
+  pub taken : fault_of program words ≡ []
+  pub file_is : file_of (codes "bound") words ≡ Some app
+  pub none : asked_of words ≡ None
 
 -- the words are a check of these two files
 pub record IsCheck (words : List Text) (app cert : Text) : Type 0 where

@@ -1,6 +1,6 @@
 //! Finds a certificate of an application, and prints it.
 
-ghost use Rattle.std.specs.Prelude.{◌≡◌, ◌≤◌, IfOk, MatchResult, string_bytes};
+ghost use Rattle.std.specs.Prelude.{◌≡◌, ◌≤◌, ℕ, Option, IfOk, IfSome, MatchResult, string_bytes};
 ghost use Rattle.std.specs.Io.KnownBytes.{Appends};
 ghost use Rattle.fb_script.specs.fb_check.Verdicts.{IsTypedOf};
 ghost use Rattle.fb_script.specs.fb_types.Views.{system_of};
@@ -24,7 +24,7 @@ use std::io::Write;
 
 // The typed system of an application's text.
 fn typed_in<'a>(alloc: Global, app: &str) -> Result<Typed, Fault<'a>>
-    ensures { MatchResult result (IsTypedOf app.now) (IsBoundFault app.now) }
+    ensures { (repeats : Option ℕ) → MatchResult result (IsTypedOf app.now) (IsBoundFault repeats app.now) }
 {
     match read_system(alloc, app) {
         Ok(typed) => Ok(typed),
@@ -34,10 +34,15 @@ fn typed_in<'a>(alloc: Global, app: &str) -> Result<Typed, Fault<'a>>
 }
 
 // The certificate that is found of a system.
-fn found_for<'a>(alloc: Global, typed: &Typed) -> Result<Certificate, Fault<'a>>
-    ensures { MatchResult result (λ c. IsFound (system_of typed.now) (certificate_of c)) (IsUnbound (system_of typed.now)) }
+fn found_for<'a>(
+    alloc: Global,
+    typed: &Typed,
+    repeats: Option<u8>,
+) -> Result<Certificate, Fault<'a>>
+    requires { IfSome repeats (λ r. 1 ≤ r) }
+    ensures { MatchResult result (λ c. IsFound repeats (system_of typed.now) (certificate_of c)) (IsUnbound repeats (system_of typed.now)) }
 {
-    match find(alloc, typed, None) {
+    match find(alloc, typed, repeats) {
         Ok(certificate) => Ok(certificate),
         Err(NoBound::OutOfMemory) => Err(Fault::Memory),
         Err(fault) => Err(Fault::Unbound(fault)),
@@ -55,10 +60,11 @@ fn text_of<'a>(alloc: Global, certificate: &Certificate) -> Result<String, Fault
 }
 
 // The text of the certificate that is found of a system.
-fn text_for<'a>(alloc: Global, typed: &Typed) -> Result<String, Fault<'a>>
-    ensures { MatchResult result (λ text. IsTextFor (system_of typed.now) (string_bytes text)) (IsUnbound (system_of typed.now)) }
+fn text_for<'a>(alloc: Global, typed: &Typed, repeats: Option<u8>) -> Result<String, Fault<'a>>
+    requires { IfSome repeats (λ r. 1 ≤ r) }
+    ensures { MatchResult result (λ text. IsTextFor repeats (system_of typed.now) (string_bytes text)) (IsUnbound repeats (system_of typed.now)) }
 {
-    match found_for(alloc, typed) {
+    match found_for(alloc, typed, repeats) {
         Ok(certificate) => {
             let text = text_of(alloc, &certificate);
             certificate.let_go();
@@ -68,13 +74,14 @@ fn text_for<'a>(alloc: Global, typed: &Typed) -> Result<String, Fault<'a>>
     }
 }
 
-/// The text of the certificate that is found of an application.
-pub fn bound_text<'a>(alloc: Global, app: &str) -> Result<String, Fault<'a>>
-    ensures { MatchResult result (λ text. IsBoundText app.now (string_bytes text)) (IsBoundFault app.now) }
+/// The text of the certificate that is found of an application; with `repeats`, 1 or more, also of its steps on all devices.
+pub fn bound_text<'a>(alloc: Global, app: &str, repeats: Option<u8>) -> Result<String, Fault<'a>>
+    requires { IfSome repeats (λ r. 1 ≤ r) }
+    ensures { MatchResult result (λ text. IsBoundText repeats app.now (string_bytes text)) (IsBoundFault repeats app.now) }
 {
     match typed_in(alloc, app) {
         Ok(typed) => {
-            let text = text_for(alloc, &typed);
+            let text = text_for(alloc, &typed, repeats);
             typed.let_go();
             text
         }
@@ -96,13 +103,15 @@ pub fn bound_file<'a, S: Sources, W: Write>(
     alloc: Global,
     files: &S,
     app: &'a str,
+    repeats: Option<u8>,
     output: &mut W,
 ) -> io::Result<u8>
-    ensures told { IfOk result (λ status. TellsBound app.now (S.contents files.now app.now) (W.contents output.old) (W.contents output.new) status) }
+    requires { IfSome repeats (λ r. 1 ≤ r) }
+    ensures told { IfOk result (λ status. TellsBound repeats app.now (S.contents files.now app.now) (W.contents output.old) (W.contents output.new) status) }
     ensures status { IfOk result (λ status. status ≤ 4) }
 {
     match read_text(alloc, files, app) {
-        Ok(text) => match bound_text(alloc, text.as_str()) {
+        Ok(text) => match bound_text(alloc, text.as_str(), repeats) {
             Ok(found) => print_text(found.as_str(), output),
             Err(fault) => print_outcome(Err(fault), output),
         },

@@ -1,12 +1,12 @@
 //! The words of the program.
 
-ghost use Rattle.std.specs.Prelude.{◌≡◌, ◌≢◌, ◌⊎◌, ◌<◌, ◌≤◌, length, map, option_map, option_and_then, codes, false, IfOk};
+ghost use Rattle.std.specs.Prelude.{◌≡◌, ◌≢◌, ◌⊎◌, ◌<◌, ◌≤◌, ℕ, Option, None, Some, length, map, option_map, option_and_then, codes, false, IfOk, IfSome};
 ghost use Rattle.clap.specs.Words.{Text, app_of, rule_of, subcommand_rows_of, rows_of, found_of, first_of};
 ghost use Rattle.clap.specs.Values.{kind_of};
 ghost use Rattle.fbr.specs.Outcomes.{Tells, TellsInput, TellsFiles, TellsUsage, refusal};
 ghost use Rattle.fbr.specs.Simulation.{TellsSim};
 ghost use Rattle.fbr.specs.Bounding.{TellsBound};
-ghost use Rattle.fbr.specs.Program.{IsBound, IsCheck, IsSim, IsMisuse};
+ghost use Rattle.fbr.specs.Program.{IsBound, IsCheck, IsSim, IsMisuse, IsUncounted};
 ghost use Rattle.fbr.specs.Program as program;
 
 use crate::bound::bound_file;
@@ -15,7 +15,8 @@ use crate::fault::Fault;
 use crate::sim::sim_files;
 use crate::sources::Sources;
 use clap::error::ErrorKind;
-use clap::{Arg, ArgMatches, Command, Error};
+use clap::{Arg, ArgAction, ArgMatches, Command, Error};
+use fb_script::read_number;
 use std::alloc::{AllocError, Global};
 use std::io;
 use std::io::{Read, Write};
@@ -47,12 +48,33 @@ fn over_files<'a>(alloc: Global, name: &'a str, about: &'a str) -> Result<Comman
     over_file(alloc, name, about)?.arg(file(alloc, "CERT", "The certificate's text"))
 }
 
+// The option `--repeats`.
+fn repeats<'a>(alloc: Global) -> Arg<'a>
+    ensures rule { rule_of result ≡ program.repeats }
+    ensures local { result.global ≡ false }
+{
+    let help =
+        "Bounds the steps on all devices too, where each datagram is delivered at most R times to a device (1 to 255)";
+    Arg::new(alloc, "repeats")
+        .long("repeats")
+        .action(ArgAction::Set)
+        .value_name("R")
+        .help(help)
+}
+
+// The subcommand that finds certificates.
+fn bound<'a>(alloc: Global) -> Result<Command<'a>, AllocError>
+    ensures { IfOk result (λ c. app_of c ≡ program.bound) }
+{
+    let about = "Finds a certificate whose numbers are the least, and prints it";
+    over_file(alloc, "bound", about)?.arg(repeats(alloc))
+}
+
 // The words that the program knows.
 fn commands<'a>(alloc: Global) -> Result<Command<'a>, AllocError>
     ensures { IfOk result (λ c. app_of c ≡ program.program) }
 {
-    let about_bound = "Finds a certificate whose numbers are the least, and prints it";
-    let bound = over_file(alloc, "bound", about_bound)?;
+    let bound = bound(alloc)?;
     let about_check = "Checks that a certificate fits an application";
     let check = over_files(alloc, "check", about_check)?;
     let about_sim = "Checks two texts, and runs the script on standard input";
@@ -132,6 +154,62 @@ fn files_named<'a>(matches: &ArgMatches<'a>, wanted: &str) -> Option<(&'a str, &
     }
 }
 
+// A number of 1 to 255.
+fn small(number: Option<u16>) -> Option<u8>
+    ensures value { result ≡ program.small_in number }
+    ensures some { IfSome result (λ n. 1 ≤ n) }
+{
+    match u8::try_from(number?) {
+        Ok(0) => None,
+        Ok(number) => Some(number),
+        Err(_) => None,
+    }
+}
+
+// How often datagrams are delivered, where the word says it; nothing where it is no number of 1 to 255.
+fn repeats_in(word: Option<&str>) -> Option<Option<u8>>
+    ensures value { result ≡ program.repeats_in (option_map (λ text. text.now) word.entry) }
+    ensures some { IfSome result (λ r. IfSome r (λ n. 1 ≤ n)) }
+{
+    match word {
+        None => Some(None),
+        Some(word) => match small(read_number(word)) {
+            Some(number) => Some(Some(number)),
+            None => None,
+        },
+    }
+}
+
+// The same of the words of a subcommand.
+fn repeats_given<'a>(matches: &ArgMatches<'a>) -> Option<Option<u8>>
+    ensures value { result ≡ option_and_then program.repeats_of (subcommand_rows_of matches.now) }
+    ensures some { IfSome result (λ r. IfSome r (λ n. 1 ≤ n)) }
+{
+    match entered(matches) {
+        Some((_, words)) => repeats_in(given(words, "repeats")),
+        None => None,
+    }
+}
+
+// Finds a certificate, where it is said well how often datagrams are delivered.
+fn run_bound<S: Sources, W: Write>(
+    alloc: Global,
+    files: &S,
+    app: &str,
+    repeats: Option<Option<u8>>,
+    output: &mut W,
+) -> io::Result<u8>
+    requires { IfSome repeats (λ r. IfSome r (λ n. 1 ≤ n)) }
+    ensures bounds { (r : Option ℕ) → repeats ≡ Some r → IfOk result (λ status. TellsBound r app.now (S.contents files.now app.now) (W.contents output.old) (W.contents output.new) status) }
+    ensures usage { repeats ≡ None → IfOk result (λ status. TellsUsage (W.contents output.old) (W.contents output.new) status) }
+    ensures status { IfOk result (λ status. status ≤ 4) }
+{
+    match repeats {
+        Some(repeats) => bound_file(alloc, files, app, repeats, output),
+        None => print_outcome(Err(Fault::Usage), output),
+    }
+}
+
 // What clap refused, or was asked to print.
 fn refused<W: Write>(error: &Error, output: &mut W) -> io::Result<u8>
     ensures memory { kind_of error.now ≡ ErrorKind.OutOfMemory → IfOk result (λ status. Tells (refusal Fault.Memory) (W.contents output.old) (W.contents output.new) status) }
@@ -156,13 +234,15 @@ fn run_words<S: Sources, I: Read, W: Write>(
     input: &mut I,
     output: &mut W,
 ) -> io::Result<u8>
-    ensures bounds { (app : Text) → IsBound (map (λ word. word.now) words.now) app
-        → IfOk result (λ status. TellsBound app (S.contents files.now app) (W.contents output.old) (W.contents output.new) status) }
+    ensures bounds { (repeats : Option ℕ) (app : Text) → IsBound (map (λ word. word.now) words.now) repeats app
+        → IfOk result (λ status. TellsBound repeats app (S.contents files.now app) (W.contents output.old) (W.contents output.new) status) }
     ensures checks { (app cert : Text) → IsCheck (map (λ word. word.now) words.now) app cert
         → IfOk result (λ status. TellsFiles app cert (S.contents files.now app) (S.contents files.now cert) (W.contents output.old) (W.contents output.new) status) }
     ensures sims { (app cert : Text) → IsSim (map (λ word. word.now) words.now) app cert
         → IfOk result (λ status. TellsSim app cert (S.contents files.now app) (S.contents files.now cert) (I.remaining input.old) (W.contents output.old) (W.contents output.new) status) }
     ensures usage { IsMisuse (map (λ word. word.now) words.now)
+        → IfOk result (λ status. TellsUsage (W.contents output.old) (W.contents output.new) status) }
+    ensures uncounted { (app : Text) → IsUncounted (map (λ word. word.now) words.now) app
         → IfOk result (λ status. TellsUsage (W.contents output.old) (W.contents output.new) status) }
     ensures status { IfOk result (λ status. status ≤ 4) }
 {
@@ -175,7 +255,7 @@ fn run_words<S: Sources, I: Read, W: Write>(
         Err(error) => return refused(&error, output),
     };
     if let Some(app) = file_named(&matches, "bound") {
-        return bound_file(alloc, files, app, output);
+        return run_bound(alloc, files, app, repeats_given(&matches), output);
     }
     match files_named(&matches, "check") {
         Some((app, cert)) => check_files(alloc, files, app, cert, output),
@@ -202,17 +282,20 @@ pub fn command<R: AllocGlobal, S: Sources, I: Read, W: Write>(
     ensures status { result ≤ 4 }
     // Unless the writer fails, one outcome is told and nothing else: without words that of the input,
     ensures input { length words.now < 2 → TellsInput (I.remaining input.old) (W.contents output.old) (W.contents output.new) result ⊎ (result ≡ 3) }
-    // with those that ask for a certificate the text of one that is found, or why there is none,
-    ensures bounds { (app : Text) → 2 ≤ length words.now → IsBound (map (λ word. word.now) words.now) app
-        → TellsBound app (S.contents files.now app) (W.contents output.old) (W.contents output.new) result ⊎ (result ≡ 3) }
+    // with those that ask for a certificate the text of one that is found, perhaps with steps over the network, or why there is none,
+    ensures bounds { (repeats : Option ℕ) (app : Text) → 2 ≤ length words.now → IsBound (map (λ word. word.now) words.now) repeats app
+        → TellsBound repeats app (S.contents files.now app) (W.contents output.old) (W.contents output.new) result ⊎ (result ≡ 3) }
     // with the words of a check that of the two files that they name,
     ensures checks { (app cert : Text) → 2 ≤ length words.now → IsCheck (map (λ word. word.now) words.now) app cert
         → TellsFiles app cert (S.contents files.now app) (S.contents files.now cert) (W.contents output.old) (W.contents output.new) result ⊎ (result ≡ 3) }
     // with those of a simulation the verdict over their two files, or what the script on `input` does on a device,
     ensures sims { (app cert : Text) → 2 ≤ length words.now → IsSim (map (λ word. word.now) words.now) app cert
         → TellsSim app cert (S.contents files.now app) (S.contents files.now cert) (I.remaining input.old) (W.contents output.old) (W.contents output.new) result ⊎ (result ≡ 3) }
-    // and that they are at fault where they are no words of the program, and ask for neither help nor the version.
+    // and that they are at fault where they are no words of the program, and ask for neither help nor the version,
     ensures usage { 2 ≤ length words.now → IsMisuse (map (λ word. word.now) words.now)
+        → TellsUsage (W.contents output.old) (W.contents output.new) result ⊎ (result ≡ 3) }
+    // or where the number behind `--repeats` is none of 1 to 255.
+    ensures uncounted { (app : Text) → 2 ≤ length words.now → IsUncounted (map (λ word. word.now) words.now) app
         → TellsUsage (W.contents output.old) (W.contents output.new) result ⊎ (result ≡ 3) }
 {
     let alloc = rt.alloc();

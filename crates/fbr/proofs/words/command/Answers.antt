@@ -17,7 +17,7 @@ returns-clause-sims g c = λ app cert two is.
     c.unwrap_or-2.ensures (c.run_words.ensures.sims app cert is)
 
 pub returns-clause-bounds : goal.returns-clause-bounds
-returns-clause-bounds g c = λ app two is.
+returns-clause-bounds g c = λ repeats app two is.
     or_three c.run_words.result c.unwrap_or-2.result
-    (λ status. TellsBound app (g.S.Sources.contents c.args.files.now app) (g.W.Write.contents c.args.output.now) (g.W.Write.contents c.run_words.new.output) status)
-    c.unwrap_or-2.ensures (c.run_words.ensures.bounds app is)
+    (λ status. TellsBound repeats app (g.S.Sources.contents c.args.files.now app) (g.W.Write.contents c.args.output.now) (g.W.Write.contents c.run_words.new.output) status)
+    c.unwrap_or-2.ensures (c.run_words.ensures.bounds repeats app is)

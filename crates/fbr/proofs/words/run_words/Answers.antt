@@ -55,16 +55,16 @@ returns-in-Some-files_named-clause-usage g c = λ is.
     absurd (no_misuse words _ program_is (c.in-Ok-try_get_matches_from.ensures.kinds (free_app _ program_is)) is)
 
 pub returns-in-Err-clause-bounds : goal.returns-in-Err-clause-bounds
-returns-in-Err-clause-bounds g c = λ app is.
-    unread_told app Memory (g.S.Sources.contents c.args.files.now app) (g.W.Write.contents c.args.output.now) (g.W.Write.contents c.print_outcome.new.output) c.print_outcome.result tt c.print_outcome.ensures.told
+returns-in-Err-clause-bounds g c = λ repeats app is.
+    unread_told repeats app Memory (g.S.Sources.contents c.args.files.now app) (g.W.Write.contents c.args.output.now) (g.W.Write.contents c.print_outcome.new.output) c.print_outcome.result tt c.print_outcome.ensures.told
 
 pub returns-in-Err-try_get_matches_from-clause-bounds : goal.returns-in-Err-try_get_matches_from-clause-bounds
-returns-in-Err-try_get_matches_from-clause-bounds g c = λ app is.
+returns-in-Err-try_get_matches_from-clause-bounds g c = λ repeats app is.
     let words : List Text = map (λ word. word.now) c.args.words.now in
     let error = c.in-Err-try_get_matches_from.error in
     let program_is : app_of c.in-Ok.command ≡ program = c.in-Ok.ensures in
     let kinds : HasKind (fault_of program words) error = subst (λ a. HasKind (fault_of a words) error) program_is (c.in-Err-try_get_matches_from.ensures.kinds (free_app _ program_is)) in
-    unread_told app Memory (g.S.Sources.contents c.args.files.now app) (g.W.Write.contents c.args.output.now) (g.W.Write.contents c.refused.new.output) c.refused.result tt
+    unread_told repeats app Memory (g.S.Sources.contents c.args.files.now app) (g.W.Write.contents c.args.output.now) (g.W.Write.contents c.refused.new.output) c.refused.result tt
     (c.refused.ensures.memory (taken_memory words is.taken error kinds))
 
 pub returns-in-Some-files_named-2-clause-usage : goal.returns-in-Some-files_named-2-clause-usage

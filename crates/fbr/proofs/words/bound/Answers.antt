@@ -1,0 +1,9 @@
+use Rattle.std.proofs.Common.{◌∙◌, ap₂, rules}
+use Rattle.std.proofs.lemmas.Result.{IfOk-weaker}
+use Rattle.clap.specs.Words.{with_rule}
+use Rattle.fbr.proofs.words.bound.Goals as goal
+
+pub returns : goal.returns
+returns c =
+    IfOk-weaker c.arg.result _ _
+    (λ r h. h.shape (search rules) ∙ ap₂ with_rule c.in_ok-over_file.ensures (search rules)) c.arg.ensures
