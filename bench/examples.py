@@ -6,7 +6,8 @@ written anew. Texts shown in docs/LANGUAGE.md have to stand in an example or a c
 are run in their folders, as `$ fbr ..`, and have to print what the pages say.
 
 What a case answers comes from the files beside a plant, and these from the rules of the language: NAME.cert is what `fbr bound NAME.fb` prints, NAME.out what `fbr sim` prints for NAME.script (for no
-lines where there is no script). Of a wrong plant NAME.out is its refusal by `fbr bound`, or NAME.cert its certificate where it is not refused so far; mended.out is what `fbr check NAME.fb mended.cert` prints."""
+lines where there is no script). Of a wrong plant NAME.out is its refusal by `fbr bound`, or NAME.cert its certificate where each device by itself has one, with NAME.repeats.out its
+refusal by `fbr bound --repeats 2` and mended.repeats.cert what that prints of the mended one; mended.out is what `fbr check NAME.fb mended.cert` prints."""
 import pathlib
 import re
 import subprocess
@@ -65,11 +66,15 @@ def wrong(folder):
     app, mended, cert = folder / f"{name}.fb", folder / "mended.fb", folder / "mended.cert"
     cases = Cases(f"The wrong plant examples/wrong/{name}: what is said of it, and that it is mended.")
     found = folder / f"{name}.cert"
+    network = folder / f"{name}.repeats.out"
     if found.exists():
-        cases.add("a certificate is found so far", f"bound {app.name}", found.read_text(), [app])
-        cases.add("it is accepted so far", f"check {app.name} {found.name}", "accepted\n", [app, found])
+        cases.add("each device by itself has a certificate", f"bound {app.name}", found.read_text(), [app])
+        cases.add("it is accepted", f"check {app.name} {found.name}", "accepted\n", [app, found])
     else:
         cases.add("it has no certificate", f"bound {app.name}", (folder / f"{name}.out").read_text(), [app])
+    if network.exists():
+        cases.add("over the network it has none", f"bound {app.name} --repeats 2", network.read_text(), [app])
+        cases.add("the mended one has one over the network", f"bound {mended.name} --repeats 2", (folder / "mended.repeats.cert").read_text(), [mended])
     if (folder / "mended.out").exists():
         cases.add("the certificate of the mended one does not fit", f"check {app.name} {cert.name}", (folder / "mended.out").read_text(), [app, cert])
     cases.add("it is mended", f"bound {mended.name}", cert.read_text(), [mended])
