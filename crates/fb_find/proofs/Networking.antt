@@ -53,17 +53,17 @@ both_placed n numbers count more old mid r new can e s first next =
 
 -- ---- all together
 
-pub all_added : {E : Type 0} (repeats : ℕ) (n : Numbering) (numbers : List ℕ) (states events : ℕ) (channels some more : List ℕ) (old first mid : Rows) (r : Result (Unit {0}) E) (new : Rows) → 1 ≤ repeats → CanBeFar n numbers old
+pub all_added : {E : Type 0} (often : ℕ) (n : Numbering) (numbers : List ℕ) (states events : ℕ) (channels some more : List ℕ) (old first mid : Rows) (r : Result (Unit {0}) E) (new : Rows) → 1 ≤ often → CanBeFar n numbers old
     → states ≡ length n.states.keys → events ≡ length n.events.keys → channels ≡ n.channels.items → some ≡ drop states numbers → more ≡ drop events some
-    → (1 ≤ repeats → old.repeats ≡ None → first ≡ with_repeat repeats old)
+    → (1 ≤ often → old.repeats ≡ None → first ≡ with_repeat often old)
     → (CanBePlaced n numbers first → mid ≡ with_places n numbers first)
     → (mid.channels ≡ [] → ChannelsCanBeCounted channels more → OnOk r (new ≡ with_channels (counts channels more) mid))
-    → OnOk r (new ≡ with_network repeats n numbers old)
-all_added repeats n numbers states events channels some more old first mid r new low can es ee ec s m begun placed sent =
+    → OnOk r (new ≡ with_network often n numbers old)
+all_added often n numbers states events channels some more old first mid r new low can es ee ec s m begun placed sent =
     let one = begun low can.no_repeats in
     let places = can.places_can in
     let two = placed (record { states_can = places.states_can; events_can = places.events_can; no_far = ap (λ (rows : Rows). rows.fars) one ∙ places.no_far; no_far_state = ap (λ (rows : Rows). rows.far_states) one ∙ places.no_far_state }) in
-    let whole : mid ≡ with_places n numbers (with_repeat repeats old) = two ∙ ap (with_places n numbers) one in
+    let whole : mid ≡ with_places n numbers (with_repeat often old) = two ∙ ap (with_places n numbers) one in
     let same : more ≡ behind_events n numbers =
     m ∙ ap₂ (λ k xs. drop k xs) (ee ∙ sym (length-map n.events.keys string_bytes)) (s ∙ ap (λ k. drop k numbers) (es ∙ sym (length-map n.states.keys string_bytes))) in
     on_ok r (λ q. q ∙ ap₂ (λ xs rows. with_channels xs rows) (ap₂ (λ (cs xs : List ℕ). counts cs xs) ec same) whole)
@@ -107,7 +107,7 @@ can_be_far r devices n order s ready ranges numbers rows a none =
     }
 
 -- the same where the numbers are read by another name
-pub network_added : {E : Type 0} (r : ℕ) (devices : List FlatDevice) (n : Numbering) (order : List ℕ) (s : System) (ready : IsReady (Some r) devices n order s) (ranges : List Range) (numbers slice : List ℕ) (old new : Rows) → slice ≡ numbers → 1 ≤ r
+pub network_added : (r : ℕ) (devices : List FlatDevice) (n : Numbering) (order : List ℕ) (s : System) (ready : IsReady (Some r) devices n order s) (ranges : List Range) (numbers slice : List ℕ) (old new : Rows) → slice ≡ numbers → 1 ≤ r
     → AreSmallest n (network_demands r ranges (all_leaves s.devices)) most_steps numbers → HasNoNetwork old → (1 ≤ r → CanBeFar n slice old → new ≡ with_network r n slice old) → HasNetwork (Some r) n s ranges old new
 network_added r devices n order s ready ranges numbers slice old new e low a none made =
     let can = can_be_far r devices n order s ready ranges numbers old a none in

@@ -1,4 +1,5 @@
 use Rattle.std.proofs.Common.{ap, map, sym, subst}
+use Rattle.std.proofs.lemmas.Result.{err_from_is_err_and}
 use Rattle.fb_cert.specs.Views.{Rows, rows_of}
 use Rattle.fb_ranges.specs.Views.{spans_of}
 use Rattle.fb_find.specs.Bounds.{IsNoBound}
@@ -22,3 +23,8 @@ returns-in-Err-clause-refused c = λ repeats s given found.
     c.in_ok-add_ranges.ensures s given.tables given.words (upper_texts fs s given) (apart_texts fs s given) (ap (λ (r : Rows). r.ranges) c.new-certificate.ensures) (as_many fs s given tables found)
     in
     subst (IsNoBound repeats s) (sym c.no_range.ensures) (told fs s given tables found repeats (rows_of c.add_ranges.new.certificate) c.in-Err.fault adds.ranges_are (c.in-Err.ensures.refused s given.tables (known fs s given)))
+
+pub returns-in_err-add_ranges-clause-refused : goal.returns-in_err-add_ranges-clause-refused
+returns-in_err-add_ranges-clause-refused c = λ repeats s given found.
+    let p = err_from_is_err_and c.from_residual.result c.from_residual.ensures.1 in
+    rw (p.1, p.2) tt

@@ -25,3 +25,8 @@ pub returns-in-Err-clause-denies : goal.returns-in-Err-clause-denies
 returns-in-Err-clause-denies c =
     let s = system_of c.args.typed.now in
     walk_denies c.args.repeats s c.in-Err.fault (c.in-Err.ensures.refused s (given s c.in_ok-flat.flat.devices.items c.stands_in_text.ensures c.in_ok-flat.ensures.tables c.in_ok-flat.ensures.few))
+
+pub returns-in_err-flat-clause-refused : goal.returns-in_err-flat-clause-refused
+returns-in_err-flat-clause-refused c =
+    let p = err_from_is_err_and c.from_residual.result c.from_residual.ensures.1 in
+    rw (p.1, p.2) (c.in_err-flat.ensures.refused c.args.repeats)
