@@ -1,16 +1,15 @@
 -- What the algorithms of a block cost.
-use Rattle.std.proofs.Common.{◌≡◌, ◌≤◌, ◌<◌, ◌+◌, ◌*◌, ◌++◌, ℕ, take, length, get_or, Bool, true, false, cond, List, [], ◌∷◌, map, Option, None, Some, refl, sym, ap, ◌∙◌, string_bytes, arith}
+use Rattle.std.proofs.Common.{◌≡◌, ◌<◌, ◌+◌, ◌*◌, ◌++◌, ℕ, take, length, get_or, Bool, true, false, cond, List, [], ◌∷◌, map, None, Some, refl, sym, ap, ◌∙◌, string_bytes, arith}
 use Rattle.std.specs.Prelude.{nat_le}
 use Rattle.std.proofs.lemmas.Bool.{leb-false}
-use Rattle.std.specs.List.{AllByRecursion}
 use Rattle.std.specs.Str.{bytes_eq}
 use Rattle.std.specs.declared.string.String.{String}
 use Rattle.std.specs.declared.alloc.Global.{Global}
 use Rattle.fb_model.specs.Names.{Name}
 use Rattle.fb_model.specs.System as book
 use Rattle.fb_model.specs.Charts.{named}
-use Rattle.fb_model.specs.Clear.{Spans, Found, Clear, examined, found_cost, cost}
-use Rattle.fb_model.specs.Ranges.{cost_of, IsClearAlgorithm}
+use Rattle.fb_model.specs.Clear.{Spans, Found, Clear, found_cost, cost}
+use Rattle.fb_model.specs.Ranges.{cost_of}
 use Rattle.fb_rows.specs.st_types.declared.whole.Algo.{Algo}
 use Rattle.fb_rows.specs.st_types.CommandViews.{commands_of}
 use Rattle.fb_rows.specs.fb_ranges.Answers.{most_steps}

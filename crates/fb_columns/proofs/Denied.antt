@@ -1,6 +1,5 @@
 -- A refusal that is true of a system denies that its rows pay.
 use Rattle.std.proofs.Common.{◌≡◌, ℕ, List, inl, inr, refl, arith}
-use Rattle.std.specs.List.{AllByRecursion}
 use Rattle.fb_model.specs.System as system
 use Rattle.fb_model.specs.Wires as wires
 use Rattle.fb_model.specs.Wires.{Kind, Charted, Serviced, leaves}

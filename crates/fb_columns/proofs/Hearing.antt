@@ -2,7 +2,7 @@
 use Rattle.std.proofs.Common.{◌≡◌, ◌≤◌, ◌<◌, ◌+◌, ◌*◌, ◌==◌, ℕ, zero, suc, Bool, true, false, cond, List, [], ◌∷◌, ◌++◌, length, get_or, Option, None, Some, Result, Ok, Err, OnOk, IfErr, inl, inr, refl, sym, ap, subst, ◌∙◌, string_bytes, arith}
 use Rattle.std.specs.Prelude.{◌⊎◌, MatchResult}
 use Rattle.std.specs.Option.{SomeIff}
-use Rattle.std.specs.List.{sum_by, flat_map, AllByRecursion}
+use Rattle.std.specs.List.{flat_map, AllByRecursion}
 use Rattle.std.proofs.lemmas.Bool.{eqb-true}
 use Rattle.std.proofs.lemmas.List.Sums.{sum_by-cons, sum_by-append}
 use Rattle.fb_model.specs.Names.{Name, at_place}
@@ -27,7 +27,7 @@ use Rattle.fb_columns.specs.declared.fault.Shortfall.{Shortfall}
 use Rattle.fb_columns.specs.declared.fault.Shortfall.TheVariants.{OutOfMemory, Charge, Weight, Channel}
 use Rattle.fb_columns.specs.Fitting.{AreSmall, ChannelsPay, IsShortChannel}
 use Rattle.fb_columns.specs.Sums.{IsSum}
-use Rattle.fb_columns.specs.Channels.{Cost, cost, heard_by, heard_at, heard_under, cost_of, cost_in, AreCosts, ChannelPays, IsOwingChannel}
+use Rattle.fb_columns.specs.Channels.{Cost, heard_by, heard_at, heard_under, cost_of, cost_in, AreCosts, ChannelPays, IsOwingChannel}
 use Rattle.fb_columns.proofs.Amounts.{weight_is}
 use Rattle.fb_columns.proofs.Serving.{arrive_word}
 

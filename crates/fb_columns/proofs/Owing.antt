@@ -1,5 +1,5 @@
 -- Refusals of a block.
-use Rattle.std.proofs.Common.{Result, Ok, Err, List, ℕ, inr, string_bytes}
+use Rattle.std.proofs.Common.{Result, Ok, Err, inr, string_bytes}
 use Rattle.std.specs.Prelude.{MatchResult}
 use Rattle.std.specs.List.{AllByRecursion}
 use Rattle.fb_model.specs.Names.{Name}

@@ -1,5 +1,5 @@
 -- A certificate that a text spells says no more than a row can.
-use Rattle.std.proofs.Common.{◌≡◌, ◌≤◌, ℕ, List, [], ◌∷◌, sym, subst}
+use Rattle.std.proofs.Common.{◌≤◌, ℕ, List, [], ◌∷◌, sym, subst}
 use Rattle.std.specs.List.{AllByRecursion}
 use Rattle.fb_model.specs.Names.{Place}
 use Rattle.fb_model.specs.Certificates.{Row, Certificate, steps_of}

@@ -1,4 +1,4 @@
-use Rattle.std.proofs.Common.{◌≡◌, ◌*◌, sym, ap, ap₂, ◌∙◌, subst}
+use Rattle.std.proofs.Common.{◌*◌, ap₂, ◌∙◌, subst}
 use Rattle.fb_columns.specs.Sums.{IsSum}
 use Rattle.fb_columns.proofs.Hearing.{product}
 use Rattle.fb_columns.proofs.channel.cost.Goals as goal

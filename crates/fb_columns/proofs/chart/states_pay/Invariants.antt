@@ -1,4 +1,4 @@
-use Rattle.std.proofs.Common.{ℕ, List, take}
+use Rattle.std.proofs.Common.{take}
 use Rattle.std.specs.List.{AllByRecursion}
 use Rattle.fb_columns.specs.Reckoning.{Costs, ArePrices}
 use Rattle.fb_columns.specs.Paying.{StatePays}

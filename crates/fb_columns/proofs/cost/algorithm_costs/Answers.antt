@@ -1,14 +1,12 @@
-use Rattle.std.proofs.Common.{◌≡◌, ◌*◌, ◌∙◌, List, map, sym, ap, subst, OnOk, IfOk}
+use Rattle.std.proofs.Common.{◌≡◌, ◌∙◌, sym, ap, subst}
 use Rattle.std.specs.List.{AllByRecursion}
 use Rattle.fb_model.specs.System as system
-use Rattle.fb_model.specs.Wires.{Kind, Charted}
-use Rattle.fb_model.specs.Clear.{Spans, cost}
+use Rattle.fb_model.specs.Wires.{Charted}
+use Rattle.fb_model.specs.Clear.{Spans}
 use Rattle.fb_model.specs.Ranges.{rows, IsClearAlgorithm}
 use Rattle.fb_cert.specs.Views.{certificate_of}
 use Rattle.fb_rows.specs.fb_ranges.Views.{spans_of}
 use Rattle.fb_rows.specs.fb_blocks.Views.{block_of}
-use Rattle.fb_columns.specs.Columns.{unit_of}
-use Rattle.fb_columns.specs.Reckoning.{AreSums}
 use Rattle.fb_columns.specs.Fitting.{AlgorithmsClear}
 use Rattle.fb_columns.proofs.cost.algorithm_costs.Goals as goal
 

@@ -1,14 +1,12 @@
-use Rattle.std.proofs.Common.{sym, ap, ◌∙◌, string_bytes, map}
+use Rattle.std.proofs.Common.{sym, ap, ◌∙◌, string_bytes}
 use Rattle.fb_model.specs.Names.{is_in}
 use Rattle.fb_model.specs.CertificateText.{names_in}
 use Rattle.fb_rows.specs.fb_flat.declared.flat.Body.{Body}
-use Rattle.fb_rows.specs.fb_flat.declared.flat.Output.{Output}
 use Rattle.fb_rows.specs.fb_flat.Leaves.{kind_of, outputs_of}
 use Rattle.fb_rows.specs.fb_services.Views.{service_of}
 use Rattle.fb_rows.specs.fb_blocks.Views.{block_of}
 use Rattle.fb_model.specs.Wires.{Charted}
 use Rattle.fb_cert.specs.Views.{certificate_of}
-use Rattle.fb_columns.specs.Reckoning.{Costs}
 use Rattle.fb_columns.proofs.Leaves.{costs, accepted, refused, chart_fits, chart_fails, service_fits, service_fails}
 use Rattle.fb_columns.proofs.leaf.leaf_pays.Goals as goal
 
