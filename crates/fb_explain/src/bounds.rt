@@ -13,10 +13,10 @@ fn tell_arrival<W: Write>(verified: &Verified, path: &str, output: &mut W) -> io
         let places = verified.places_of(path).unwrap_or(0);
         write!(
             output,
-            "    {path}: at most {steps} steps, {places} places of the queue"
+            "    {path}: steps at most {steps}, places at most {places}"
         )?;
         if let Some(far) = verified.far_of(path) {
-            write!(output, ", {far} steps on all devices")?;
+            write!(output, ", steps on all devices at most {far}")?;
         }
         writeln!(output)?;
     }
@@ -86,7 +86,7 @@ fn tell_resource<W: Write>(
 ) -> io::Result<()> {
     let path = resource.path.as_str();
     let depth = verified.depth(path).unwrap_or(0);
-    writeln!(output, "{path}: a queue of {depth} places")?;
+    writeln!(output, "{path}: depth of the queue {depth}")?;
     for leaf in &resource.leaves {
         tell_leaf(alloc, verified, leaf, output)?;
     }

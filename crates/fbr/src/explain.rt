@@ -145,7 +145,10 @@ fn explain_files<'a, S: Sources, W: Write>(
                 None => explain_verdict(alloc, verified_alone(alloc, app.text), app, app, output),
             }
         }
-        Err(fault) => print_outcome(Err(fault), output),
+        Err(fault) => {
+            let unread = Named { name, text: "" };
+            explain_fault(fault, unread, unread, output)
+        }
     }
 }
 

@@ -83,13 +83,13 @@ fn bound<'a>(alloc: Global) -> Result<Command<'a>, AllocError>
 fn explained<'a>(alloc: Global) -> Result<Command<'a>, AllocError>
     ensures { IfOk result (λ c. app_of c ≡ program.explain) }
 {
-    let about =
-        "Says where an application or its certificate is at fault, why, and what to do, or how much each arrival causes; or what the number of a refusal says";
-    over_file(alloc, "explain", about)?.arg(maybe_file(
-        alloc,
-        "CERT",
-        "The certificate's text; without it the one that is found",
-    ))
+    let about = "Explains the verdict over an application, or the number of a refusal";
+    let help_app = "The application's text, or a number";
+    let help_cert = "The certificate's text; without it the one that is found";
+    Command::new(alloc, "explain")
+        .about(about)
+        .arg(file(alloc, "APP", help_app))?
+        .arg(maybe_file(alloc, "CERT", help_cert))
 }
 
 // The words that the program knows.
