@@ -4,7 +4,7 @@ ghost use Rattle.std.specs.Prelude.{◌≡◌, ◌<◌, length, Some, slice_get,
 ghost use Rattle.std.specs.List.{AllByRecursion};
 ghost use Rattle.fb_model.specs.System.{Device};
 ghost use Rattle.fb_model.specs.Wires.{Leaf, leaves};
-ghost use Rattle.fb_cert.specs.Views.{depth_in};
+ghost use Rattle.fb_cert.specs.Views.{count_in};
 ghost use Rattle.fb_check.specs.Verdicts.{system_in, certificate_in};
 ghost use Rattle.fb_tables.specs.Runnable.{CanRun, IsUnfit};
 ghost use Rattle.fb_tables.specs.Tables.{AreTables};
@@ -24,7 +24,7 @@ use std::alloc::{AllocError, Global};
 
 // The depth of a row, 0 where there is none.
 fn depth(row: Option<u64>) -> u64
-    ensures { result ≡ depth_in row }
+    ensures { result ≡ count_in row }
 {
     match row {
         Some(depth) => depth,
