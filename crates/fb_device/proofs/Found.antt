@@ -56,6 +56,10 @@ missing_so v name (Checked (checks.IndexOrDivisor x)) a h = absurd h
 missing_so v name (Checked (checks.Charge x)) a h = absurd h
 missing_so v name (Checked (checks.Weight x)) a h = absurd h
 missing_so v name (Checked (checks.Depth x)) a h = absurd h
+missing_so v name (Checked (checks.UnknownChannel x)) a h = absurd h
+missing_so v name (Checked (checks.MissingChannel x)) a h = absurd h
+missing_so v name (Checked (checks.Far x)) a h = absurd h
+missing_so v name (Checked (checks.Channel x)) a h = absurd h
 
 -- a device of this name is not ready
 pub unready_so : (v : Verified) (name : List ℕ) (number : ℕ) (f : Refusal) → (d : Device) → slice_get (system_in v).devices number ≡ Some d → is_same_path d.name name ≡ true → IsUnready v number f → IsMissing v name f
@@ -74,6 +78,10 @@ unready_so v name number (Checked (checks.IndexOrDivisor x)) d e n h = absurd h
 unready_so v name number (Checked (checks.Charge x)) d e n h = absurd h
 unready_so v name number (Checked (checks.Weight x)) d e n h = absurd h
 unready_so v name number (Checked (checks.Depth x)) d e n h = absurd h
+unready_so v name number (Checked (checks.UnknownChannel x)) d e n h = absurd h
+unready_so v name number (Checked (checks.MissingChannel x)) d e n h = absurd h
+unready_so v name number (Checked (checks.Far x)) d e n h = absurd h
+unready_so v name number (Checked (checks.Channel x)) d e n h = absurd h
 
 -- why no tables were made is why the device is not ready
 pub unfit_so : (v : Verified) (number : ℕ) (u : Unfit) (d : Device) → slice_get (system_in v).devices number ≡ Some d → IsUnfit d u → IsUnready v number (of_unfit u)
@@ -107,6 +115,10 @@ fault_so text certificate name v (Checked (checks.IndexOrDivisor x)) t h = absur
 fault_so text certificate name v (Checked (checks.Charge x)) t h = absurd h
 fault_so text certificate name v (Checked (checks.Weight x)) t h = absurd h
 fault_so text certificate name v (Checked (checks.Depth x)) t h = absurd h
+fault_so text certificate name v (Checked (checks.UnknownChannel x)) t h = absurd h
+fault_so text certificate name v (Checked (checks.MissingChannel x)) t h = absurd h
+fault_so text certificate name v (Checked (checks.Far x)) t h = absurd h
+fault_so text certificate name v (Checked (checks.Channel x)) t h = absurd h
 
 none_there : (ds : List Device) (name : List ℕ) (k : ℕ) (d : Device) → AllByRecursion (λ (d : Device). is_same_path d.name name ≡ false) ds → slice_get ds k ≡ Some d → is_same_path d.name name ≡ true → ⊥
 none_there ds name k d a h t = (let f = all_got (λ (d : Device). is_same_path d.name name ≡ false) ds k d a h in let g : true ≡ false = sym t ∙ f in absurd cc)
@@ -131,3 +143,7 @@ memory_so v name (Checked (checks.IndexOrDivisor x)) t h = absurd h
 memory_so v name (Checked (checks.Charge x)) t h = absurd h
 memory_so v name (Checked (checks.Weight x)) t h = absurd h
 memory_so v name (Checked (checks.Depth x)) t h = absurd h
+memory_so v name (Checked (checks.UnknownChannel x)) t h = absurd h
+memory_so v name (Checked (checks.MissingChannel x)) t h = absurd h
+memory_so v name (Checked (checks.Far x)) t h = absurd h
+memory_so v name (Checked (checks.Channel x)) t h = absurd h
