@@ -9,7 +9,7 @@ ghost use Rattle.fb_ranges.specs.Finding.{tell};
 ghost use Rattle.fb_ranges.specs.Views.{spans_of};
 
 use crate::assigned::names_assigned;
-use crate::examine::examine;
+use crate::examination::examine;
 use crate::fault::{OutOfMemory, RangeFault};
 use crate::join::{are_kept, ask_all, copied};
 use crate::rows::Ranges;

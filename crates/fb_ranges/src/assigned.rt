@@ -33,7 +33,7 @@ pub(crate) fn pushed(name: &String, names: &mut Vec<String>) -> Result<(), Alloc
 
 /// The variables that statements assign, as they stand in the text: the own variable of each FOR too, but of one between two spelled numbers
 /// that has no turn.
-pub(crate) fn names_assigned(alloc: Global, list: &[TypedStmt]) -> Result<Vec<String>, AllocError>
+pub fn names_assigned(alloc: Global, list: &[TypedStmt]) -> Result<Vec<String>, AllocError>
     ensures { IfOk result (λ names. busy_of names.items ≡ book.assigned (commands_of list.now)) }
 {
     let mut names = Vec::new(alloc);

@@ -19,13 +19,13 @@ use st_types::{TypedExpr, TypedLink};
 /// The range of an expression, in which a division at fault counts as its whole type; and whether it is clear: no divisor in it may be zero
 /// and no index out of bounds.
 #[derive(Clone, Copy)]
-pub(crate) struct Ranged {
+pub struct Ranged {
     pub range: Interval,
     pub is_clear: bool,
 }
 
 /// Whether a range lies between the lowest and the highest index of an array.
-pub(crate) fn is_between(index: Interval, low: i64, high: i64) -> bool
+pub fn is_between(index: Interval, low: i64, high: i64) -> bool
     ensures { result ≡ within (span_of index) (span low high) }
 {
     low <= index.low && index.high <= high
@@ -86,7 +86,7 @@ fn combined(operation: Operation, of: ElemType, first: Ranged, second: Ranged) -
 
 /// The range of an expression, and whether it is clear.
 #[cycle(ranging)]
-pub(crate) fn range(expr: &TypedExpr, ranges: &Ranges) -> Ranged
+pub fn range(expr: &TypedExpr, ranges: &Ranges) -> Ranged
     ensures range { span_of result.range ≡ range_in (term_of expr.now) (spans_of ranges.now) }
     ensures clear { clear_range result ≡ book.range_of (term_of expr.now) (spans_of ranges.now) }
 {

@@ -12,7 +12,7 @@ use fb_intervals::{Interval, is_within, joined};
 use std::alloc::AllocError;
 
 /// The same ranges.
-pub(crate) fn copied(ranges: &Ranges) -> Result<Ranges, AllocError>
+pub fn copied(ranges: &Ranges) -> Result<Ranges, AllocError>
     ensures { IfOk result (λ r. spans_of r ≡ spans_of ranges.now) }
 {
     Ok(Ranges {
@@ -22,7 +22,7 @@ pub(crate) fn copied(ranges: &Ranges) -> Result<Ranges, AllocError>
 }
 
 /// Gives each of these variables its row.
-pub(crate) fn reset(names: &[String], rows: &Ranges, ranges: &mut Ranges) -> Result<(), AllocError>
+pub fn reset(names: &[String], rows: &Ranges, ranges: &mut Ranges) -> Result<(), AllocError>
     ensures { OnOk result (spans_of ranges.new ≡ book.reset (busy_of names.now) (spans_of rows.now) (spans_of ranges.old)) }
 {
     for name in names {

@@ -10,7 +10,7 @@ use crate::steps::{added, longest, of_turns, told};
 
 /// What is told of an examination: its most steps, up to the first number that stands for all greater ones; or its first fault in the text.
 #[derive(Clone, Copy)]
-pub(crate) enum Told {
+pub enum Told {
     Steps(u64),
     Leaves,
     Traps,

@@ -34,12 +34,20 @@ check = over_files (codes "check")
 abbrev pub sim : App
 sim = over_files (codes "sim")
 
+-- a file that may be named
+abbrev pub maybe_file : Text → Rule
+maybe_file id = new_rule id
+
+-- `explain`, its file or number, and perhaps another file
+abbrev pub explain : App
+explain = with_rule (over_file (codes "explain")) (maybe_file (codes "CERT"))
+
 -- the command without its subcommands: it tells its version, and wants a subcommand
 abbrev pub top : App
 top = record { top = record (new_app (codes "fbr")).top { has_version = true; subcommand_required = true }; subs = [] }
 
 abbrev pub program : App
-program = with_subcommand (with_subcommand (with_subcommand top bound.top) check.top) sim.top
+program = with_subcommand (with_subcommand (with_subcommand (with_subcommand top bound.top) check.top) sim.top) explain.top
 
 -- two arguments, where both were given
 abbrev pub both : Option Text → Option Text → Option (Text × Text)

@@ -22,8 +22,8 @@ use std::alloc::Global;
 use std::io;
 use std::io::Write;
 
-// The typed system of an application's text.
-fn typed_in<'a>(alloc: Global, app: &str) -> Result<Typed, Fault<'a>>
+/// The typed system of an application's text.
+pub fn typed_in<'a>(alloc: Global, app: &str) -> Result<Typed, Fault<'a>>
     ensures { (repeats : Option ℕ) → MatchResult result (IsTypedOf app.now) (IsBoundFault repeats app.now) }
 {
     match read_system(alloc, app) {
@@ -33,8 +33,8 @@ fn typed_in<'a>(alloc: Global, app: &str) -> Result<Typed, Fault<'a>>
     }
 }
 
-// The certificate that is found of a system.
-fn found_for<'a>(
+/// The certificate that is found of a system.
+pub fn found_for<'a>(
     alloc: Global,
     typed: &Typed,
     repeats: Option<u8>,

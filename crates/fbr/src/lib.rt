@@ -3,6 +3,7 @@
 
 mod bound;
 mod check;
+mod explain;
 mod fault;
 mod sim;
 mod sources;

@@ -14,8 +14,8 @@ use std::alloc::Global;
 use std::io;
 use std::io::{Read, Write};
 
-// What was verified of two texts.
-fn verified_texts<'a>(alloc: Global, app: &str, cert: &str) -> Result<Verified, Fault<'a>>
+/// What was verified of two texts.
+pub fn verified_texts<'a>(alloc: Global, app: &str, cert: &str) -> Result<Verified, Fault<'a>>
     ensures { IsVerifiedTexts app.now cert.now result }
 {
     match check_text(alloc, app, cert) {

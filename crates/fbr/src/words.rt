@@ -11,6 +11,7 @@ ghost use Rattle.fbr.specs.Program as program;
 
 use crate::bound::bound_file;
 use crate::check::{check_files, check_input, print_outcome};
+use crate::explain::explain;
 use crate::fault::Fault;
 use crate::sim::sim_files;
 use crate::sources::Sources;
@@ -30,6 +31,14 @@ fn file<'a>(alloc: Global, id: &'a str, help: &'a str) -> Arg<'a>
     ensures local { result.global ≡ false }
 {
     Arg::new(alloc, id).required(true).help(help)
+}
+
+// A file that may be named.
+fn maybe_file<'a>(alloc: Global, id: &'a str, help: &'a str) -> Arg<'a>
+    ensures rule { rule_of result ≡ program.maybe_file id.now }
+    ensures local { result.global ≡ false }
+{
+    Arg::new(alloc, id).help(help)
 }
 
 // A subcommand that wants a file.
@@ -70,6 +79,19 @@ fn bound<'a>(alloc: Global) -> Result<Command<'a>, AllocError>
     over_file(alloc, "bound", about)?.arg(repeats(alloc))
 }
 
+// The subcommand that explains.
+fn explained<'a>(alloc: Global) -> Result<Command<'a>, AllocError>
+    ensures { IfOk result (λ c. app_of c ≡ program.explain) }
+{
+    let about = "Explains the verdict over an application, or the number of a refusal";
+    let help_app = "The application's text, or a number";
+    let help_cert = "The certificate's text; without it the one that is found";
+    Command::new(alloc, "explain")
+        .about(about)
+        .arg(file(alloc, "APP", help_app))?
+        .arg(maybe_file(alloc, "CERT", help_cert))
+}
+
 // The words that the program knows.
 fn commands<'a>(alloc: Global) -> Result<Command<'a>, AllocError>
     ensures { IfOk result (λ c. app_of c ≡ program.program) }
@@ -79,13 +101,15 @@ fn commands<'a>(alloc: Global) -> Result<Command<'a>, AllocError>
     let check = over_files(alloc, "check", about_check)?;
     let about_sim = "Checks two texts, and runs the script on standard input";
     let sim = over_files(alloc, "sim", about_sim)?;
+    let explain = explained(alloc)?;
     Command::new(alloc, "fbr")
         .about("Proves bounds of function block applications before they run")
         .version(VERSION)
         .subcommand_required(true)
         .subcommand(bound)?
         .subcommand(check)?
-        .subcommand(sim)
+        .subcommand(sim)?
+        .subcommand(explain)
 }
 
 // The subcommand that the words name, with what they give to it.
@@ -210,6 +234,24 @@ fn run_bound<S: Sources, W: Write>(
     }
 }
 
+// Explains what the words name.
+fn run_explain<'a, S: Sources, W: Write>(
+    alloc: Global,
+    files: &S,
+    matches: &ArgMatches<'a>,
+    output: &mut W,
+) -> io::Result<u8>
+    ensures status { IfOk result (λ status. status ≤ 4) }
+{
+    match entered(matches) {
+        Some((_, words)) => match given(words, "APP") {
+            Some(what) => explain(alloc, files, what, given(words, "CERT"), output),
+            None => print_outcome(Err(Fault::Usage), output),
+        },
+        None => print_outcome(Err(Fault::Usage), output),
+    }
+}
+
 // What clap refused, or was asked to print.
 fn refused<W: Write>(error: &Error, output: &mut W) -> io::Result<u8>
     ensures memory { kind_of error.now ≡ ErrorKind.OutOfMemory → IfOk result (λ status. Tells (refusal Fault.Memory) (W.contents output.old) (W.contents output.new) status) }
@@ -261,7 +303,7 @@ fn run_words<S: Sources, I: Read, W: Write>(
         Some((app, cert)) => check_files(alloc, files, app, cert, output),
         None => match files_named(&matches, "sim") {
             Some((app, cert)) => sim_files(alloc, files, app, cert, input, output),
-            None => print_outcome(Err(Fault::Usage), output),
+            None => run_explain(alloc, files, &matches, output),
         },
     }
 }
@@ -271,7 +313,8 @@ fn run_words<S: Sources, I: Read, W: Write>(
 ///
 /// Without words, `input` holds an application up to the first line that is exactly `====`, and then its certificate.
 /// With `bound` the certificate that is found is written. With `sim` `input` holds a script, whose answers are written one line each.
-/// Each fault is told by one line on `output`: `refused`, its code, and its place where there is one.
+/// Each fault is told by one line on `output`: `refused`, its code, and its place where there is one. With `explain` more is written behind that line,
+/// for people; what it writes is not said here.
 pub fn command<R: AllocGlobal, S: Sources, I: Read, W: Write>(
     rt: &R,
     words: &[&str],

@@ -72,3 +72,9 @@ returns-in-Some-files_named-2-clause-usage g c = λ is.
     let words : List Text = map (λ word. word.now) c.args.words.now in
     let program_is : app_of c.in-Ok.command ≡ program = c.in-Ok.ensures in
     absurd (no_misuse words _ program_is (c.in-Ok-try_get_matches_from.ensures.kinds (free_app _ program_is)) is)
+
+pub returns-clause-usage : goal.returns-clause-usage
+returns-clause-usage g c = λ is.
+    let words : List Text = map (λ word. word.now) c.args.words.now in
+    let program_is : app_of c.in-Ok.command ≡ program = c.in-Ok.ensures in
+    absurd (no_misuse words _ program_is (c.in-Ok-try_get_matches_from.ensures.kinds (free_app _ program_is)) is)

@@ -5,7 +5,7 @@ use Rattle.fb_model.specs.Clear.{narrowed}
 use Rattle.fb_ranges.specs.Views.{spans_of}
 use Rattle.st_types.proofs.term.TypedExpr.TheLaws.{the_size as expr_size}
 use Rattle.st_types.proofs.term.TypedLink.TheLaws.{the_size as link_size}
-use Rattle.fb_ranges.proofs.narrow.+narrowing.Given as goal
+use Rattle.fb_ranges.proofs.narrowed.+narrowing.Given as goal
 
 abbrev pub decreases-narrow : goal.decreases-narrow
 decreases-narrow l = 3 * expr_size l.condition.now

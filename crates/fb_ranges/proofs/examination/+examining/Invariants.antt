@@ -11,7 +11,7 @@ use Rattle.fb_ranges.specs.Views.{mark_of, spans_of}
 use Rattle.st_types.proofs.command.TypedStmt.TheLaws.{the_size as stmt_size}
 use Rattle.st_types.proofs.command.TypedBranch.TheLaws.{the_size as branch_size}
 use Rattle.st_types.proofs.command.TypedArm.TheLaws.{the_size as arm_size}
-use Rattle.fb_ranges.proofs.examine.+examining.Given as goal
+use Rattle.fb_ranges.proofs.examination.+examining.Given as goal
 
 abbrev pub decreases-examine : goal.decreases-examine
 decreases-examine l = 5 * most stmt_size l.list.now + 1

@@ -100,11 +100,7 @@ fn narrow_relation(
 ///
 /// Fails where memory runs out; then nothing is said of the ranges.
 #[cycle(narrowing)]
-pub(crate) fn narrow(
-    condition: &TypedExpr,
-    holds: bool,
-    ranges: &mut Ranges,
-) -> Result<(), AllocError>
+pub fn narrow(condition: &TypedExpr, holds: bool, ranges: &mut Ranges) -> Result<(), AllocError>
     ensures { OnOk result (spans_of ranges.new ≡ book.narrowed (term_of condition.now) holds (spans_of ranges.old)) }
 {
     match condition {

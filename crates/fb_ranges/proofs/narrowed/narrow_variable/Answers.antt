@@ -5,7 +5,7 @@ use Rattle.fb_model.specs.Clear.{Spans, meets}
 use Rattle.fb_intervals.specs.Views.{span_of}
 use Rattle.fb_ranges.specs.Views.{spans_of}
 use Rattle.fb_ranges.proofs.Sides.{changed_known}
-use Rattle.fb_ranges.proofs.narrow.narrow_variable.Goals as goal
+use Rattle.fb_ranges.proofs.narrowed.narrow_variable.Goals as goal
 
 pub returns : goal.returns
 returns c =

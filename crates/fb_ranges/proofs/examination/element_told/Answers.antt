@@ -9,7 +9,7 @@ use Rattle.fb_ranges.specs.declared.told.Told.TheVariants as t
 use Rattle.fb_ranges.specs.Finding.{keeping, trapping}
 use Rattle.fb_ranges.specs.Views.{clear_range, spans_of}
 use Rattle.fb_ranges.proofs.Telling.{tell_element, tell_range}
-use Rattle.fb_ranges.proofs.examine.element_told.Goals as goal
+use Rattle.fb_ranges.proofs.examination.element_told.Goals as goal
 
 pub returns : goal.returns
 returns c =

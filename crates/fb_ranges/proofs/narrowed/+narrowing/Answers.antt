@@ -4,7 +4,7 @@ use Rattle.st_types.specs.Views.{Tail, term_of, tail_of, joined}
 use Rattle.fb_ranges.specs.Narrowing.{splits}
 use Rattle.fb_ranges.specs.Views.{spans_of}
 use Rattle.fb_ranges.proofs.Conditions.{tail_is, one_more, front_none}
-use Rattle.fb_ranges.proofs.narrow.+narrowing.Goals as goal
+use Rattle.fb_ranges.proofs.narrowed.+narrowing.Goals as goal
 
 pub narrow_chain-loop-i-preserved : goal.narrow_chain-loop-i-preserved
 narrow_chain-loop-i-preserved t c =

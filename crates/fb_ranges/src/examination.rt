@@ -21,7 +21,7 @@ use crate::assigned::names_assigned;
 use crate::expression::{Ranged, is_between, range};
 use crate::join::{are_kept, ask, ask_all, reset};
 use crate::merge::{close, ended, merged, no_ways, noted};
-use crate::narrow::narrow;
+use crate::narrowed::narrow;
 use crate::rows::Ranges;
 use crate::told::{Told, in_turn, keeping, trapping, turned};
 use crate::touched::names_touched;
@@ -63,7 +63,7 @@ fn element_told(
 ///
 /// Fails where memory runs out; then nothing is said of the ranges.
 #[cycle(examining)]
-pub(crate) fn examine(
+pub fn examine(
     alloc: Global,
     rows: &Ranges,
     list: &[TypedStmt],
@@ -81,8 +81,9 @@ pub(crate) fn examine(
     Ok(all)
 }
 
+/// The same of one statement.
 #[cycle(examining)]
-fn examine_one(
+pub fn examine_one(
     alloc: Global,
     rows: &Ranges,
     statement: &TypedStmt,

@@ -2,7 +2,7 @@ use Rattle.std.proofs.Common.{◌≡◌, ℕ, ◌<◌, ◌≤◌, ◌-◌, true,
 use Rattle.st_types.specs.declared.term.TypedLink.{TypedLink}
 use Rattle.st_types.specs.Views.{tail_of}
 use Rattle.fb_ranges.specs.Narrowing.{splits}
-use Rattle.fb_ranges.proofs.narrow.parts_from.Given as goal
+use Rattle.fb_ranges.proofs.narrowed.parts_from.Given as goal
 
 abbrev pub invariant-loop-i : goal.invariant-loop-i
 invariant-loop-i l =

@@ -24,7 +24,7 @@ use Rattle.fb_ranges.proofs.Branches.{branch_asked, branch_besides, branch_told,
 use Rattle.fb_ranges.proofs.Frames.{all_besides}
 use Rattle.fb_ranges.proofs.Joins.{back_at, reset_besides, turns_leave}
 use Rattle.fb_ranges.proofs.Telling.{tell_last, tell_looped, told_kept}
-use Rattle.fb_ranges.proofs.examine.+examining.Goals as goal
+use Rattle.fb_ranges.proofs.examination.+examining.Goals as goal
 
 pub examine-loop-statement-preserved : goal.examine-loop-statement-preserved
 examine-loop-statement-preserved t c =
