@@ -5,10 +5,8 @@
 mod bounds;
 mod meaning;
 mod place;
-mod spot;
 mod told;
 
 pub use bounds::tell_bounds;
 pub use meaning::{Meaning, meaning_of};
-pub use spot::Spot;
 pub use told::{Named, tell_meaning, tell_no_bound, tell_refusal};

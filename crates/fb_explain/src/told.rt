@@ -2,9 +2,9 @@
 
 use crate::meaning::{Meaning, found_limit, meaning_of};
 use crate::place::{byte_in, line_in};
-use crate::spot::Spot;
 use fb_check::{Place, Refusal};
 use fb_solved::NoBound;
+use fb_spots::Spot;
 use std::io;
 use std::io::Write;
 
