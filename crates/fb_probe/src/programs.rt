@@ -64,7 +64,7 @@ impl io::Write for Output {
     }
 }
 
-/// The status of a command and what it prints: its words stand in the section `words`, its standard input in `input`, its files in
+/// The status of a command and what it prints, on standard error behind what it prints on standard output: its words stand in the section `words`, its standard input in `input`, its files in
 /// a section `file NAME` each, and in `room`, where it is given, how many bytes its output takes before it fails.
 pub fn commands<R: AllocGlobal>(rt: &R, case: &Case<'_>) -> Result<String, AllocError> {
     let alloc = rt.alloc();
@@ -79,13 +79,21 @@ pub fn commands<R: AllocGlobal>(rt: &R, case: &Case<'_>) -> Result<String, Alloc
     };
     let input = bytes(alloc, case, case.text("input"))?;
     let files = Held { case };
+    let mut errors: Vec<u8> = Vec::new(alloc);
     let status = command(
         rt,
         words.as_slice(),
         &files,
         &mut input.as_slice(),
         &mut output,
+        &mut errors,
     );
     let text = String::from_utf8_lossy(alloc, output.bytes.as_slice())?;
-    Ok(ended(format!(in alloc; "status {status}\n{text}")?))
+    let told = String::from_utf8_lossy(alloc, errors.as_slice())?;
+    let mark = if told.is_empty() {
+        ""
+    } else {
+        "on standard error:\n"
+    };
+    Ok(ended(format!(in alloc; "status {status}\n{text}{mark}{told}")?))
 }

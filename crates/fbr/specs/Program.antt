@@ -2,7 +2,7 @@
 use Rattle.std.specs.Prelude.{◌≡◌, ◌≢◌, ℕ, nat_le, ◌&&◌, List, [], Option, Some, None, true, codes, option_and_then, if◌then◌else◌}
 use Rattle.std.specs.Str.{bytes_eq}
 use Rattle.clap.specs.Words.{App, Row, Rule, Text, first_of, new_app, new_rule, with_rule, with_subcommand, subcommand_of, fault_of, IsAmong}
-use Rattle.clap.specs.declared.builder.action.ArgAction.TheVariants.{Set}
+use Rattle.clap.specs.declared.builder.action.ArgAction.TheVariants.{Set, SetTrue}
 use Rattle.clap.specs.declared.error.kind.ErrorKind.TheVariants.{DisplayHelp, DisplayVersion}
 use Rattle.fb_script.specs.Lines.{number_in}
 
@@ -38,16 +38,24 @@ sim = over_files (codes "sim")
 abbrev pub maybe_file : Text → Rule
 maybe_file id = new_rule id
 
--- `explain`, its file or number, and perhaps another file
+-- `explain`, its file or number, perhaps another file, and how often datagrams are delivered
 abbrev pub explain : App
-explain = with_rule (over_file (codes "explain")) (maybe_file (codes "CERT"))
+explain = with_rule (with_rule (over_file (codes "explain")) (maybe_file (codes "CERT"))) repeats
+
+-- `--flat`
+abbrev pub flat : Rule
+flat = record (new_rule (codes "flat")) { long = Some (codes "flat"); action = Some SetTrue }
+
+-- `draw`, its file, perhaps another one, how often datagrams are delivered, and `--flat`
+abbrev pub draw : App
+draw = with_rule (with_rule (with_rule (over_file (codes "draw")) (maybe_file (codes "CERT"))) repeats) flat
 
 -- the command without its subcommands: it tells its version, and wants a subcommand
 abbrev pub top : App
 top = record { top = record (new_app (codes "fbr")).top { has_version = true; subcommand_required = true }; subs = [] }
 
 abbrev pub program : App
-program = with_subcommand (with_subcommand (with_subcommand (with_subcommand top bound.top) check.top) sim.top) explain.top
+program = with_subcommand (with_subcommand (with_subcommand (with_subcommand (with_subcommand top bound.top) check.top) sim.top) explain.top) draw.top
 
 -- two arguments, where both were given
 abbrev pub both : Option Text → Option Text → Option (Text × Text)

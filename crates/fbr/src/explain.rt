@@ -1,17 +1,20 @@
 //! Explains verdicts, and numbers of refusals. What is written is tested, and no contract says it.
 
-ghost use Rattle.std.specs.Prelude.{◌≤◌, IfOk};
+ghost use Rattle.std.specs.Prelude.{◌≤◌, IfOk, IfSome};
 
 use crate::bound::{found_for, typed_in};
 use crate::check::{print_outcome, read_text};
 use crate::fault::Fault;
 use crate::sim::verified_texts;
 use crate::sources::Sources;
-use fb_cert::Certificate;
-use fb_explain::{Named, meaning_of, tell_bounds, tell_meaning, tell_no_bound, tell_refusal};
+use fb_cert::{Certificate, parse_cert};
+use fb_explain::{
+    Named, Refused, meaning_of, tell_bounds, tell_meaning, tell_no_bound, tell_refusal,
+};
 use fb_find::fb_check::fb_columns::fb_flat::fb_types::Typed;
 use fb_find::fb_check::{Refusal, Verified, check};
 use fb_script::read_number;
+use fb_solved::NoBound;
 use std::alloc::Global;
 use std::io;
 use std::io::Write;
@@ -29,22 +32,117 @@ fn explain_number<W: Write>(number: u16, output: &mut W) -> io::Result<u8>
     }
 }
 
-// Writes the line of a fault, and what there is to say of it.
-fn explain_fault<W: Write>(
-    fault: Fault<'_>,
+// Writes the line of a fault that stands in no text, and what there is to say of it.
+fn explain_fault<W: Write>(fault: Fault<'_>, output: &mut W) -> io::Result<u8>
+    ensures status { IfOk result (λ status. status ≤ 4) }
+{
+    writeln!(output, "{fault}")?;
+    tell_meaning(meaning_of(fault.code()), output)?;
+    Ok(fault.status())
+}
+
+// The certificate that is found of an application's text.
+fn found_alone(alloc: Global, app: &str, repeats: Option<u8>) -> Option<Certificate>
+    requires { IfSome repeats (λ r. 1 ≤ r) }
+{
+    match typed_in(alloc, app) {
+        Ok(typed) => {
+            let found = found_for(alloc, &typed, repeats);
+            typed.let_go();
+            found.ok()
+        }
+        Err(_) => None,
+    }
+}
+
+// How often datagrams are delivered by a certificate's text.
+fn repeats_of(alloc: Global, cert: &str) -> Option<u8>
+    ensures { IfSome result (λ r. 1 ≤ r) }
+{
+    match parse_cert(alloc, cert) {
+        Ok(certificate) => {
+            let repeats = certificate.repeats();
+            certificate.let_go();
+            match repeats {
+                Some(0) => None,
+                other => other,
+            }
+        }
+        Err(_) => None,
+    }
+}
+
+// Writes what there is to say of a refusal.
+fn tell<W: Write>(
+    alloc: Global,
+    refusal: &Refusal,
+    app: Named<'_>,
+    cert: Named<'_>,
+    found: Option<&Certificate>,
+    output: &mut W,
+) -> io::Result<()> {
+    let refused = Refused {
+        alloc,
+        refusal,
+        app,
+        cert,
+        found,
+    };
+    tell_refusal(&refused, output)
+}
+
+// The same, with the row that is missing as it is found, where one is.
+fn tell_with_rows<W: Write>(
+    alloc: Global,
+    refusal: &Refusal,
+    app: Named<'_>,
+    cert: Named<'_>,
+    output: &mut W,
+) -> io::Result<()> {
+    let found = match refusal {
+        Refusal::MissingRow(_) | Refusal::MissingChannel(_) => {
+            found_alone(alloc, app.text, repeats_of(alloc, cert.text))
+        }
+        _ => None,
+    };
+    match found {
+        Some(certificate) => {
+            let told = tell(alloc, refusal, app, cert, Some(&certificate), output);
+            certificate.let_go();
+            told
+        }
+        None => tell(alloc, refusal, app, cert, None, output),
+    }
+}
+
+// Writes the line of a refusal of two texts, and what there is to say of it.
+fn explain_refusal<W: Write>(
+    alloc: Global,
+    refusal: Refusal,
     app: Named<'_>,
     cert: Named<'_>,
     output: &mut W,
 ) -> io::Result<u8>
     ensures status { IfOk result (λ status. status ≤ 4) }
 {
-    writeln!(output, "{fault}")?;
-    match &fault {
-        Fault::Refused(refusal) => tell_refusal(refusal, app, cert, output)?,
-        Fault::Unbound(reason) => tell_no_bound(reason, output)?,
-        other => tell_meaning(meaning_of(other.code()), output)?,
-    }
-    Ok(fault.status())
+    writeln!(output, "refused {refusal}")?;
+    tell_with_rows(alloc, &refusal, app, cert, output)?;
+    Ok(Fault::Refused(refusal).status())
+}
+
+// Writes the line of why there is no certificate, and what there is to say of it.
+fn explain_unbound<W: Write>(
+    alloc: Global,
+    reason: NoBound,
+    typed: &Typed,
+    app: Named<'_>,
+    output: &mut W,
+) -> io::Result<u8>
+    ensures status { IfOk result (λ status. status ≤ 4) }
+{
+    writeln!(output, "refused {reason}")?;
+    tell_no_bound(alloc, &reason, typed, app, output)?;
+    Ok(Fault::Unbound(reason).status())
 }
 
 // Writes the line of an acceptance, and the bounds of what fits.
@@ -56,6 +154,23 @@ fn explain_bounds<W: Write>(alloc: Global, verified: Verified, output: &mut W) -
     verified.let_go();
     told?;
     Ok(0)
+}
+
+// Explains a verdict over two texts.
+fn explain_verdict<W: Write>(
+    alloc: Global,
+    verdict: Result<Verified, Fault<'_>>,
+    app: Named<'_>,
+    cert: Named<'_>,
+    output: &mut W,
+) -> io::Result<u8>
+    ensures status { IfOk result (λ status. status ≤ 4) }
+{
+    match verdict {
+        Ok(verified) => explain_bounds(alloc, verified, output),
+        Err(Fault::Refused(refusal)) => explain_refusal(alloc, refusal, app, cert, output),
+        Err(fault) => explain_fault(fault, output),
+    }
 }
 
 // What is verified of a system with a certificate.
@@ -71,33 +186,47 @@ fn verified_with<'a>(
     }
 }
 
-// What is verified of an application's text with the certificate that is found of it.
-fn verified_alone<'a>(alloc: Global, app: &str) -> Result<Verified, Fault<'a>> {
-    match typed_in(alloc, app) {
-        Ok(typed) => match found_for(alloc, &typed, None) {
-            Ok(certificate) => verified_with(alloc, typed, certificate),
-            Err(fault) => {
-                typed.let_go();
-                Err(fault)
-            }
-        },
-        Err(fault) => Err(fault),
+// Explains a system by the certificate that is found of it, or why there is none.
+fn explain_system<W: Write>(
+    alloc: Global,
+    typed: Typed,
+    repeats: Option<u8>,
+    app: Named<'_>,
+    output: &mut W,
+) -> io::Result<u8>
+    requires { IfSome repeats (λ r. 1 ≤ r) }
+    ensures status { IfOk result (λ status. status ≤ 4) }
+{
+    match found_for(alloc, &typed, repeats) {
+        Ok(certificate) => {
+            let verdict = verified_with(alloc, typed, certificate);
+            explain_verdict(alloc, verdict, app, app, output)
+        }
+        Err(Fault::Unbound(reason)) => {
+            let explained = explain_unbound(alloc, reason, &typed, app, output);
+            typed.let_go();
+            explained
+        }
+        Err(fault) => {
+            typed.let_go();
+            explain_fault(fault, output)
+        }
     }
 }
 
-// Explains a verdict over two texts.
-fn explain_verdict<W: Write>(
+// Explains an application's text by itself.
+fn explain_alone<W: Write>(
     alloc: Global,
-    verdict: Result<Verified, Fault<'_>>,
+    repeats: Option<u8>,
     app: Named<'_>,
-    cert: Named<'_>,
     output: &mut W,
 ) -> io::Result<u8>
+    requires { IfSome repeats (λ r. 1 ≤ r) }
     ensures status { IfOk result (λ status. status ≤ 4) }
 {
-    match verdict {
-        Ok(verified) => explain_bounds(alloc, verified, output),
-        Err(fault) => explain_fault(fault, app, cert, output),
+    match typed_in(alloc, app.text) {
+        Ok(typed) => explain_system(alloc, typed, repeats, app, output),
+        Err(fault) => explain_verdict(alloc, Err(fault), app, app, output),
     }
 }
 
@@ -120,7 +249,7 @@ fn explain_both<'a, S: Sources, W: Write>(
             };
             explain_verdict(alloc, verdict, app, cert, output)
         }
-        Err(fault) => explain_fault(fault, app, app, output),
+        Err(fault) => explain_fault(fault, output),
     }
 }
 
@@ -130,8 +259,10 @@ fn explain_files<'a, S: Sources, W: Write>(
     files: &S,
     name: &'a str,
     cert: Option<&'a str>,
+    repeats: Option<u8>,
     output: &mut W,
 ) -> io::Result<u8>
+    requires { IfSome repeats (λ r. 1 ≤ r) }
     ensures status { IfOk result (λ status. status ≤ 4) }
 {
     match read_text(alloc, files, name) {
@@ -142,29 +273,29 @@ fn explain_files<'a, S: Sources, W: Write>(
             };
             match cert {
                 Some(cert) => explain_both(alloc, files, app, cert, output),
-                None => explain_verdict(alloc, verified_alone(alloc, app.text), app, app, output),
+                None => explain_alone(alloc, repeats, app, output),
             }
         }
-        Err(fault) => {
-            let unread = Named { name, text: "" };
-            explain_fault(fault, unread, unread, output)
-        }
+        Err(fault) => explain_fault(fault, output),
     }
 }
 
 /// Explains the number of a refusal or a denial, or else the verdict over the application in the file of this name: with the certificate of a second
-/// file, or with the one that is found. The first line is that of `check`, or of `bound` where there is no certificate, and so is the status.
+/// file, or with the one that is found, for `repeats`, 1 or more, over all devices too. The first line is that of `check`, or of `bound` where there is
+/// no certificate, and so is the status.
 pub fn explain<'a, S: Sources, W: Write>(
     alloc: Global,
     files: &S,
     what: &'a str,
     cert: Option<&'a str>,
+    repeats: Option<u8>,
     output: &mut W,
 ) -> io::Result<u8>
+    requires { IfSome repeats (λ r. 1 ≤ r) }
     ensures status { IfOk result (λ status. status ≤ 4) }
 {
     match read_number(what) {
         Some(number) => explain_number(number, output),
-        None => explain_files(alloc, files, what, cert, output),
+        None => explain_files(alloc, files, what, cert, repeats, output),
     }
 }

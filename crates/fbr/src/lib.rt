@@ -3,6 +3,7 @@
 
 mod bound;
 mod check;
+mod draw;
 mod explain;
 mod fault;
 mod sim;

@@ -11,6 +11,7 @@ ghost use Rattle.fbr.specs.Program as program;
 
 use crate::bound::bound_file;
 use crate::check::{check_files, check_input, print_outcome};
+use crate::draw::{Drawing, draw_file};
 use crate::explain::explain;
 use crate::fault::Fault;
 use crate::sim::sim_files;
@@ -24,6 +25,9 @@ use std::io::{Read, Write};
 
 /// The version that `fbr --version` tells.
 pub const VERSION: &str = "0.1.0";
+
+// What people are told where the number behind `--repeats` is none.
+const UNCOUNTED: &str = "fbr: `--repeats` takes a number of 1 to 255";
 
 // A file that has to be named.
 fn file<'a>(alloc: Global, id: &'a str, help: &'a str) -> Arg<'a>
@@ -89,7 +93,31 @@ fn explained<'a>(alloc: Global) -> Result<Command<'a>, AllocError>
     Command::new(alloc, "explain")
         .about(about)
         .arg(file(alloc, "APP", help_app))?
-        .arg(maybe_file(alloc, "CERT", help_cert))
+        .arg(maybe_file(alloc, "CERT", help_cert))?
+        .arg(repeats(alloc))
+}
+
+// The option `--flat`.
+fn flat<'a>(alloc: Global) -> Arg<'a>
+    ensures rule { rule_of result ≡ program.flat }
+    ensures local { result.global ≡ false }
+{
+    Arg::new(alloc, "flat")
+        .long("flat")
+        .action(ArgAction::SetTrue)
+        .help("Draws what composites are made of without boxes around it")
+}
+
+// The subcommand that draws.
+fn drawn<'a>(alloc: Global) -> Result<Command<'a>, AllocError>
+    ensures { IfOk result (λ c. app_of c ≡ program.draw) }
+{
+    let about = "Draws the system and its bounds as a graph in DOT, for graphviz";
+    let help_cert = "The certificate's text; without it the one that is found";
+    over_file(alloc, "draw", about)?
+        .arg(maybe_file(alloc, "CERT", help_cert))?
+        .arg(repeats(alloc))?
+        .arg(flat(alloc))
 }
 
 // The words that the program knows.
@@ -102,6 +130,7 @@ fn commands<'a>(alloc: Global) -> Result<Command<'a>, AllocError>
     let about_sim = "Checks two texts, and runs the script on standard input";
     let sim = over_files(alloc, "sim", about_sim)?;
     let explain = explained(alloc)?;
+    let draw = drawn(alloc)?;
     Command::new(alloc, "fbr")
         .about("Proves bounds of function block applications before they run")
         .version(VERSION)
@@ -109,7 +138,8 @@ fn commands<'a>(alloc: Global) -> Result<Command<'a>, AllocError>
         .subcommand(bound)?
         .subcommand(check)?
         .subcommand(sim)?
-        .subcommand(explain)
+        .subcommand(explain)?
+        .subcommand(draw)
 }
 
 // The subcommand that the words name, with what they give to it.
@@ -215,13 +245,23 @@ fn repeats_given<'a>(matches: &ArgMatches<'a>) -> Option<Option<u8>>
     }
 }
 
+// Tells that the words are at fault, and people why.
+fn misused<W: Write, E: Write>(why: &str, output: &mut W, errors: &mut E) -> io::Result<u8>
+    ensures usage { IfOk result (λ status. TellsUsage (W.contents output.old) (W.contents output.new) status) }
+    ensures status { IfOk result (λ status. status ≤ 4) }
+{
+    let _ = writeln!(errors, "{why}");
+    print_outcome(Err(Fault::Usage), output)
+}
+
 // Finds a certificate, where it is said well how often datagrams are delivered.
-fn run_bound<S: Sources, W: Write>(
+fn run_bound<S: Sources, W: Write, E: Write>(
     alloc: Global,
     files: &S,
     app: &str,
     repeats: Option<Option<u8>>,
     output: &mut W,
+    errors: &mut E,
 ) -> io::Result<u8>
     requires { IfSome repeats (λ r. IfSome r (λ n. 1 ≤ n)) }
     ensures bounds { (r : Option ℕ) → repeats ≡ Some r → IfOk result (λ status. TellsBound r app.now (S.contents files.now app.now) (W.contents output.old) (W.contents output.new) status) }
@@ -230,30 +270,59 @@ fn run_bound<S: Sources, W: Write>(
 {
     match repeats {
         Some(repeats) => bound_file(alloc, files, app, repeats, output),
+        None => misused(UNCOUNTED, output, errors),
+    }
+}
+
+// Explains or draws what the words of a subcommand name.
+fn run_telling<'a, S: Sources, W: Write>(
+    alloc: Global,
+    files: &S,
+    name: &str,
+    words: &ArgMatches<'a>,
+    repeats: Option<u8>,
+    output: &mut W,
+) -> io::Result<u8>
+    requires { IfSome repeats (λ r. 1 ≤ r) }
+    ensures status { IfOk result (λ status. status ≤ 4) }
+{
+    let cert = given(words, "CERT");
+    match given(words, "APP") {
+        Some(app) => {
+            if name == "explain" {
+                return explain(alloc, files, app, cert, repeats, output);
+            }
+            let drawing = Drawing {
+                cert,
+                repeats,
+                boxes: !words.get_flag("flat"),
+            };
+            draw_file(alloc, files, app, drawing, output)
+        }
         None => print_outcome(Err(Fault::Usage), output),
     }
 }
 
-// Explains what the words name.
-fn run_explain<'a, S: Sources, W: Write>(
+// The same of all words, where it is said well how often datagrams are delivered.
+fn run_rest<'a, S: Sources, W: Write, E: Write>(
     alloc: Global,
     files: &S,
     matches: &ArgMatches<'a>,
     output: &mut W,
+    errors: &mut E,
 ) -> io::Result<u8>
     ensures status { IfOk result (λ status. status ≤ 4) }
 {
-    match entered(matches) {
-        Some((_, words)) => match given(words, "APP") {
-            Some(what) => explain(alloc, files, what, given(words, "CERT"), output),
-            None => print_outcome(Err(Fault::Usage), output),
-        },
-        None => print_outcome(Err(Fault::Usage), output),
+    match (entered(matches), repeats_given(matches)) {
+        (Some((name, words)), Some(repeats)) => {
+            run_telling(alloc, files, name, words, repeats, output)
+        }
+        _ => misused(UNCOUNTED, output, errors),
     }
 }
 
-// What clap refused, or was asked to print.
-fn refused<W: Write>(error: &Error, output: &mut W) -> io::Result<u8>
+// What clap refused, or was asked to print. Where the words are at fault, people are told why.
+fn refused<W: Write, E: Write>(error: &Error, output: &mut W, errors: &mut E) -> io::Result<u8>
     ensures memory { kind_of error.now ≡ ErrorKind.OutOfMemory → IfOk result (λ status. Tells (refusal Fault.Memory) (W.contents output.old) (W.contents output.new) status) }
     ensures usage { (kind_of error.now ≢ ErrorKind.DisplayHelp) → (kind_of error.now ≢ ErrorKind.DisplayVersion) → IfOk result (λ status. TellsUsage (W.contents output.old) (W.contents output.new) status) }
     ensures status { IfOk result (λ status. status ≤ 4) }
@@ -264,17 +333,21 @@ fn refused<W: Write>(error: &Error, output: &mut W) -> io::Result<u8>
             Ok(0)
         }
         ErrorKind::OutOfMemory => print_outcome(Err(Fault::Memory), output),
-        _ => print_outcome(Err(Fault::Usage), output),
+        _ => {
+            let _ = write!(errors, "{error}");
+            print_outcome(Err(Fault::Usage), output)
+        }
     }
 }
 
 // Runs the command that the words name.
-fn run_words<S: Sources, I: Read, W: Write>(
+fn run_words<S: Sources, I: Read, W: Write, E: Write>(
     alloc: Global,
     words: &[&str],
     files: &S,
     input: &mut I,
     output: &mut W,
+    errors: &mut E,
 ) -> io::Result<u8>
     ensures bounds { (repeats : Option ℕ) (app : Text) → IsBound (map (λ word. word.now) words.now) repeats app
         → IfOk result (λ status. TellsBound repeats app (S.contents files.now app) (W.contents output.old) (W.contents output.new) status) }
@@ -294,16 +367,16 @@ fn run_words<S: Sources, I: Read, W: Write>(
     };
     let matches = match command.try_get_matches_from(words) {
         Ok(matches) => matches,
-        Err(error) => return refused(&error, output),
+        Err(error) => return refused(&error, output, errors),
     };
     if let Some(app) = file_named(&matches, "bound") {
-        return run_bound(alloc, files, app, repeats_given(&matches), output);
+        return run_bound(alloc, files, app, repeats_given(&matches), output, errors);
     }
     match files_named(&matches, "check") {
         Some((app, cert)) => check_files(alloc, files, app, cert, output),
         None => match files_named(&matches, "sim") {
             Some((app, cert)) => sim_files(alloc, files, app, cert, input, output),
-            None => run_explain(alloc, files, &matches, output),
+            None => run_rest(alloc, files, &matches, output, errors),
         },
     }
 }
@@ -314,13 +387,14 @@ fn run_words<S: Sources, I: Read, W: Write>(
 /// Without words, `input` holds an application up to the first line that is exactly `====`, and then its certificate.
 /// With `bound` the certificate that is found is written. With `sim` `input` holds a script, whose answers are written one line each.
 /// Each fault is told by one line on `output`: `refused`, its code, and its place where there is one. With `explain` more is written behind that line,
-/// for people; what it writes is not said here.
-pub fn command<R: AllocGlobal, S: Sources, I: Read, W: Write>(
+/// for people, and with `draw` a graph; what they write is not said here, nor what people are told on `errors`: why the words are at fault.
+pub fn command<R: AllocGlobal, S: Sources, I: Read, W: Write, E: Write>(
     rt: &R,
     words: &[&str],
     files: &S,
     input: &mut I,
     output: &mut W,
+    errors: &mut E,
 ) -> u8
     ensures status { result ≤ 4 }
     // Unless the writer fails, one outcome is told and nothing else: without words that of the input,
@@ -345,5 +419,5 @@ pub fn command<R: AllocGlobal, S: Sources, I: Read, W: Write>(
     if words.len() < 2 {
         return check_input(alloc, input, output).unwrap_or(3);
     }
-    run_words(alloc, words, files, input, output).unwrap_or(3)
+    run_words(alloc, words, files, input, output, errors).unwrap_or(3)
 }

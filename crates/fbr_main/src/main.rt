@@ -7,9 +7,30 @@ ghost use Rattle.std.specs.Process.{exit_status};
 use fbr::{Disk, command};
 use std::alloc::AllocError;
 use std::io;
+use std::io::IsTerminal;
 use std::process::ExitCode;
 
-// Runs the command of the process's words, over its files, its standard input and its standard output.
+// Tells people at a terminal what the command waits for or does.
+fn tell_waiting(rt: &HostRuntime, words: &[&str]) -> io::Result<()> {
+    let word = words.get(1).copied();
+    if rt.stdin().is_terminal() {
+        match word {
+            None => eprintln!(rt;
+                "fbr: reading an application, a line `====` and a certificate from the terminal; `fbr --help` lists the commands"
+            )?,
+            Some("sim") => eprintln!(rt;
+                "fbr: reading a script from the terminal, a call a line (`offer`, `dispatch`, `state`, ..), to its end (Ctrl-D)"
+            )?,
+            Some(_) => {}
+        }
+    }
+    if word == Some("bound") && rt.stderr().is_terminal() {
+        eprintln!(rt; "fbr: looking for the least certificate")?;
+    }
+    Ok(())
+}
+
+// Runs the command of the process's words, over its files, its standard input, its standard output, and its standard error for people.
 fn status(rt: &HostRuntime) -> io::Result<u8>
     ensures { IfOk result (λ status. status ≤ 4) }
 {
@@ -19,9 +40,18 @@ fn status(rt: &HostRuntime) -> io::Result<u8>
     for word in &words {
         texts.push(word.as_str()).map_err(AllocError::from)?;
     }
+    tell_waiting(rt, texts.as_slice()).unwrap_or(());
     let mut input = rt.reader();
     let mut output = io::writer(rt);
-    Ok(command(rt, texts.as_slice(), &Disk { rt }, &mut input, &mut output))
+    let mut errors = rt.stderr();
+    Ok(command(
+        rt,
+        texts.as_slice(),
+        &Disk { rt },
+        &mut input,
+        &mut output,
+        &mut errors,
+    ))
 }
 
 // The status of the process: the command's, and 4 where there was no memory for its words.

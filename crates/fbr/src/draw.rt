@@ -1,0 +1,146 @@
+//! Draws systems. What is written is tested, and no contract says it.
+
+ghost use Rattle.std.specs.Prelude.{◌≤◌, IfOk, IfSome};
+
+use crate::bound::{found_for, typed_in};
+use crate::check::{print_outcome, read_text};
+use crate::fault::Fault;
+use crate::sources::Sources;
+use fb_cert::{Certificate, parse_cert};
+use fb_draw::{Picture, draw};
+use fb_find::fb_check::fb_columns::fb_flat::fb_types::Typed;
+use fb_find::fb_check::fb_columns::fb_flat::{Flat, flatten};
+use fb_find::fb_check::{Place, Refusal};
+use fb_solved::NoBound;
+use fb_spots::tree_of;
+use std::alloc::Global;
+use std::io;
+use std::io::Write;
+
+/// What is drawn of a system: the weights of a certificate in this file, or else of the one that is found, or the walk for which there is none; and
+/// whether composites are boxes.
+#[derive(Clone, Copy)]
+pub struct Drawing<'a> {
+    pub cert: Option<&'a str>,
+    pub repeats: Option<u8>,
+    pub boxes: bool,
+}
+
+// Writes the graph of a system with a certificate, or with a walk.
+fn draw_flat<W: Write>(
+    alloc: Global,
+    app: &str,
+    flat: &Flat,
+    certificate: Option<&Certificate>,
+    walk: &[Place],
+    boxes: bool,
+    output: &mut W,
+) -> io::Result<u8>
+    ensures status { IfOk result (λ status. status ≤ 4) }
+{
+    match tree_of(alloc, app) {
+        Some(tree) => {
+            let picture = Picture {
+                file: &tree,
+                certificate,
+                walk,
+                boxes,
+            };
+            let drawn = draw(alloc, flat, &picture, output);
+            tree.let_go();
+            drawn?;
+            Ok(0)
+        }
+        None => print_outcome(Err(Fault::Memory), output),
+    }
+}
+
+// The certificate in a file.
+fn named_certificate<'a, S: Sources>(
+    alloc: Global,
+    files: &S,
+    name: &'a str,
+) -> Result<Certificate, Fault<'a>> {
+    match read_text(alloc, files, name) {
+        Ok(text) => match parse_cert(alloc, text.as_str()) {
+            Ok(certificate) => Ok(certificate),
+            Err(fault) => Err(Fault::Refused(Refusal::from(fault))),
+        },
+        Err(fault) => Err(fault),
+    }
+}
+
+// Writes the graph of a system with what is known of its bounds.
+fn draw_bounds<W: Write>(
+    alloc: Global,
+    app: &str,
+    flat: &Flat,
+    bounds: Result<Certificate, Fault<'_>>,
+    boxes: bool,
+    output: &mut W,
+) -> io::Result<u8>
+    ensures status { IfOk result (λ status. status ≤ 4) }
+{
+    match bounds {
+        Ok(certificate) => {
+            let drawn = draw_flat(alloc, app, flat, Some(&certificate), &[], boxes, output);
+            certificate.let_go();
+            drawn
+        }
+        Err(Fault::Unbound(NoBound::Cycle(walk))) => {
+            draw_flat(alloc, app, flat, None, &walk, boxes, output)
+        }
+        Err(Fault::Unbound(_)) => draw_flat(alloc, app, flat, None, &[], boxes, output),
+        Err(fault) => print_outcome(Err(fault), output),
+    }
+}
+
+// Writes the graph of a typed system.
+fn draw_typed<'a, S: Sources, W: Write>(
+    alloc: Global,
+    files: &S,
+    app: &str,
+    typed: &Typed,
+    drawing: Drawing<'a>,
+    output: &mut W,
+) -> io::Result<u8>
+    requires { IfSome drawing.repeats (λ r. 1 ≤ r) }
+    ensures status { IfOk result (λ status. status ≤ 4) }
+{
+    match flatten(alloc, typed) {
+        Ok(flat) => {
+            let bounds = match drawing.cert {
+                Some(name) => named_certificate(alloc, files, name),
+                None => found_for(alloc, typed, drawing.repeats),
+            };
+            let drawn = draw_bounds(alloc, app, &flat, bounds, drawing.boxes, output);
+            flat.let_go();
+            drawn
+        }
+        Err(fault) => print_outcome(Err(Fault::Refused(Refusal::from(fault))), output),
+    }
+}
+
+/// Writes the system of the application in a file as a graph in DOT, with its bounds, or the fault of a text.
+pub fn draw_file<'a, S: Sources, W: Write>(
+    alloc: Global,
+    files: &S,
+    app: &'a str,
+    drawing: Drawing<'a>,
+    output: &mut W,
+) -> io::Result<u8>
+    requires { IfSome drawing.repeats (λ r. 1 ≤ r) }
+    ensures status { IfOk result (λ status. status ≤ 4) }
+{
+    match read_text(alloc, files, app) {
+        Ok(text) => match typed_in(alloc, text.as_str()) {
+            Ok(typed) => {
+                let drawn = draw_typed(alloc, files, text.as_str(), &typed, drawing, output);
+                typed.let_go();
+                drawn
+            }
+            Err(fault) => print_outcome(Err(fault), output),
+        },
+        Err(fault) => print_outcome(Err(fault), output),
+    }
+}
