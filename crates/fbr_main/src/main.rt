@@ -44,14 +44,19 @@ fn status(rt: &HostRuntime) -> io::Result<u8>
     let mut input = rt.reader();
     let mut output = io::writer(rt);
     let mut errors = rt.stderr();
-    Ok(command(
+    let status = command(
         rt,
         texts.as_slice(),
         &Disk { rt },
         &mut input,
         &mut output,
         &mut errors,
-    ))
+    );
+    if status == 3 {
+        let told = "fbr: a file could not be read, or the output failed; `fbr --help` lists the commands";
+        eprintln!(rt; "{told}").unwrap_or(());
+    }
+    Ok(status)
 }
 
 // The status of the process: the command's, and 4 where there was no memory for its words.
