@@ -1,14 +1,12 @@
 //! The kinds of cases.
 
 use crate::case::Case;
-use crate::{devices, made, programs, systems, texts, verdicts, walks};
-use std::alloc::AllocError;
+use crate::{devices, made, systems, texts, verdicts, walks};
+use std::alloc::{AllocError, Global};
 
-/// What the product answers for a case of a kind.
-pub fn answer<R: AllocGlobal>(rt: &R, kind: &str, case: &Case<'_>) -> Result<String, AllocError> {
-    let alloc = rt.alloc();
+/// What the product's calls answer for a case of a kind.
+pub fn answer(alloc: Global, kind: &str, case: &Case<'_>) -> Result<String, AllocError> {
     match kind {
-        "commands" => programs::commands(rt, case),
         "devices" => devices::devices(alloc, case),
         "first" => made::first(alloc, case),
         "ranges" => verdicts::ranges(alloc, case),

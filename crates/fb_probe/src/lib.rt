@@ -1,4 +1,4 @@
-//! What the product's calls answer for a case, as short text.
+//! What the product's calls answer for a case, as short text: what no command shows.
 #![tactic(auto)]
 
 mod case;
@@ -6,7 +6,6 @@ mod declared;
 mod devices;
 mod kinds;
 mod made;
-mod programs;
 mod systems;
 mod terms;
 mod texts;
@@ -16,3 +15,4 @@ mod walks;
 
 pub use case::{Case, Section};
 pub use kinds::answer;
+pub use texts::ended;

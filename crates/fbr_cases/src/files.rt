@@ -1,5 +1,6 @@
 //! Folders of files of cases.
 
+use crate::programs::commands;
 use crate::tally::Tally;
 use fb_probe::{Case, answer};
 use std::alloc::AllocError;
@@ -38,7 +39,10 @@ fn run_case(
     case: &Case<'_>,
     stored: &str,
 ) -> io::Result<bool> {
-    let answered = answer(rt, kind, case)?;
+    let answered = match kind {
+        "commands" => commands(rt, case)?,
+        _ => answer(rt.alloc(), kind, case)?,
+    };
     let same = answered.as_str() == stored;
     if !same {
         println!(rt; "{kind}/{file} {}: answered\n{answered}", case.label)?;

@@ -2,6 +2,7 @@
 #![tactic(auto)]
 
 mod files;
+mod programs;
 mod tally;
 
 use crate::files::run_folder;

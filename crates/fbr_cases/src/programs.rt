@@ -1,7 +1,6 @@
 //! What the program prints.
 
-use crate::case::Case;
-use crate::texts::ended;
+use fb_probe::{Case, ended};
 use fbr::{ReadFault, Sources, command};
 use std::alloc::{AllocError, Global};
 use std::io;
