@@ -7,7 +7,7 @@ ghost use Rattle.std.specs.Process.{exit_status};
 use fbr::{Disk, command};
 use std::alloc::AllocError;
 use std::io;
-use std::io::IsTerminal;
+use std::io::{BufWriter, IsTerminal, Write};
 use std::process::ExitCode;
 
 // Tells people at a terminal what the command waits for or does.
@@ -19,7 +19,7 @@ fn tell_waiting(rt: &HostRuntime, words: &[&str]) -> io::Result<()> {
                 "fbr: reading an application, a line `====` and a certificate from the terminal; `fbr --help` lists the commands"
             )?,
             Some("sim") => eprintln!(rt;
-                "fbr: reading a script from the terminal, a call a line (`offer`, `dispatch`, `state`, ..), to its end (Ctrl-D)"
+                "fbr: reading a script from the terminal, a call a line, as `offer D 1` and `dispatch D R`, to its end (Ctrl-D)"
             )?,
             Some(_) => {}
         }
@@ -28,6 +28,20 @@ fn tell_waiting(rt: &HostRuntime, words: &[&str]) -> io::Result<()> {
         eprintln!(rt; "fbr: looking for the least certificate")?;
     }
     Ok(())
+}
+
+// The status where what was written has gone out, and 3 where it has not; people are told of it.
+fn told(rt: &HostRuntime, status: u8, flushed: io::Result<()>) -> u8
+    requires { status ≤ 4 }
+    ensures { result ≤ 4 }
+{
+    let status = if flushed.is_ok() { status } else { 3 };
+    if status == 3 {
+        let why =
+            "fbr: a file could not be read, or the output failed; `fbr --help` lists the commands";
+        eprintln!(rt; "{why}").unwrap_or(());
+    }
+    status
 }
 
 // Runs the command of the process's words, over its files, its standard input, its standard output, and its standard error for people.
@@ -42,7 +56,7 @@ fn status(rt: &HostRuntime) -> io::Result<u8>
     }
     tell_waiting(rt, texts.as_slice()).unwrap_or(());
     let mut input = rt.reader();
-    let mut output = io::writer(rt);
+    let mut output = BufWriter::new(rt.alloc(), io::writer(rt))?;
     let mut errors = rt.stderr();
     let status = command(
         rt,
@@ -52,11 +66,7 @@ fn status(rt: &HostRuntime) -> io::Result<u8>
         &mut output,
         &mut errors,
     );
-    if status == 3 {
-        let told = "fbr: a file could not be read, or the output failed; `fbr --help` lists the commands";
-        eprintln!(rt; "{told}").unwrap_or(());
-    }
-    Ok(status)
+    Ok(told(rt, status, output.flush()))
 }
 
 // The status of the process: the command's, and 4 where there was no memory for its words.
