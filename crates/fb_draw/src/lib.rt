@@ -1,27 +1,19 @@
-//! Stub.
+//! Systems as graphs in DOT, the language of graphviz: their blocks with their ports, connections, channels, and a walk.
+//! What is written is tested, and no contract says it.
 #![tactic(auto)]
 
-use fb_cert::Certificate;
-use fb_flat::Flat;
-use fb_solved::Place;
-use fb_spots::fb_text::FileTree;
-use std::alloc::Global;
-use std::io;
-use std::io::Write;
+mod channel;
+mod cluster;
+mod device;
+mod edge;
+mod head;
+mod leaf;
+mod margin;
+mod number;
+mod picture;
+mod port;
+mod system;
+mod walk;
 
-#[derive(Clone, Copy)]
-pub struct Picture<'a> {
-    pub file: &'a FileTree,
-    pub certificate: Option<&'a Certificate>,
-    pub walk: &'a [Place],
-    pub boxes: bool,
-}
-
-pub fn draw<W: Write>(
-    _alloc: Global,
-    _flat: &Flat,
-    _picture: &Picture<'_>,
-    _output: &mut W,
-) -> io::Result<()> {
-    Ok(())
-}
+pub use picture::Picture;
+pub use system::draw;

@@ -1,0 +1,92 @@
+//! Channels, as nodes of their own outside all devices.
+
+use crate::edge::end_edge;
+use crate::picture::Sheet;
+use crate::walk::{comes_to_channel, goes_to_channel, leaves_channel};
+use fb_flat::fb_types::fb_networks::fb_services::Service;
+use fb_flat::{Body, Leaf};
+use indexmap::IndexSet;
+use std::alloc::{AllocError, Global};
+use std::io;
+use std::io::Write;
+
+// The channel that a leaf sends on.
+fn sent_on(body: &Body) -> Option<u16> {
+    match body {
+        Body::Served(Service::Publish(channel, _)) => Some(channel.number),
+        _ => None,
+    }
+}
+
+// The channel that a leaf receives from.
+fn received_from(body: &Body) -> Option<u16> {
+    match body {
+        Body::Served(Service::Subscribe(channel, _)) => Some(channel.number),
+        _ => None,
+    }
+}
+
+// The channels of leaves, each once.
+fn channels(alloc: Global, leaves: &[&Leaf]) -> Result<IndexSet<u16>, AllocError> {
+    let mut numbers = IndexSet::new(alloc);
+    for leaf in leaves {
+        if let Some(channel) = sent_on(&leaf.body).or(received_from(&leaf.body)) {
+            numbers.insert(channel)?;
+        }
+    }
+    Ok(numbers)
+}
+
+// Draws a channel.
+fn draw_channel<W: Write>(is_walked: bool, channel: u16, output: &mut W) -> io::Result<()> {
+    let color = if is_walked { ", color=red" } else { "" };
+    writeln!(
+        output,
+        "    channel_{channel} [label=\"channel {channel}\", shape=ellipse{color}];"
+    )
+}
+
+// Draws what joins a leaf, which has a number, to its channel.
+fn draw_end<W: Write>(
+    sheet: &Sheet<'_>,
+    leaf: &Leaf,
+    number: usize,
+    output: &mut W,
+) -> io::Result<()> {
+    let walk = sheet.picture.walk;
+    let path = leaf.path.as_str();
+    if let Some(channel) = sent_on(&leaf.body) {
+        write!(output, "    n{number}:head:e -> channel_{channel}")?;
+        return end_edge(goes_to_channel(walk, path, channel), output);
+    }
+    if let Some(channel) = received_from(&leaf.body) {
+        write!(output, "    channel_{channel} -> n{number}:head:w")?;
+        return end_edge(leaves_channel(walk, channel, path), output);
+    }
+    Ok(())
+}
+
+/// Draws the channels of leaves, which are numbered from 0 on.
+pub fn draw_channels<W: Write>(
+    sheet: &Sheet<'_>,
+    leaves: &[&Leaf],
+    output: &mut W,
+) -> io::Result<()> {
+    let numbers = channels(sheet.alloc, leaves)?;
+    if numbers.is_empty() {
+        return Ok(());
+    }
+    writeln!(output, "  subgraph channels {{")?;
+    writeln!(output, "    edge [style=dotted, penwidth=1.4];")?;
+    for channel in &numbers {
+        draw_channel(
+            comes_to_channel(sheet.picture.walk, *channel),
+            *channel,
+            output,
+        )?;
+    }
+    for (number, leaf) in leaves.iter().enumerate() {
+        draw_end(sheet, *leaf, number, output)?;
+    }
+    writeln!(output, "  }}")
+}

@@ -1,0 +1,95 @@
+//! Boxes around what devices, resources and composites have in them.
+
+use crate::margin::{depth_of, indent};
+use crate::picture::Sheet;
+use fb_spots::instance_at;
+use std::io;
+use std::io::Write;
+
+/// Begins a box in a style, at the depth of the names of its path, up to the text of its label.
+pub fn open_cluster<W: Write>(path: &str, style: &str, output: &mut W) -> io::Result<()> {
+    let depth = depth_of(path);
+    indent(depth, output)?;
+    writeln!(output, "subgraph \"cluster_{path}\" {{")?;
+    let inside = depth.saturating_add(1);
+    indent(inside, output)?;
+    writeln!(output, "style={style};")?;
+    indent(inside, output)?;
+    writeln!(output, "margin=14;")?;
+    indent(inside, output)?;
+    write!(output, "label=\"")
+}
+
+/// Ends the label of a box.
+pub fn end_label<W: Write>(output: &mut W) -> io::Result<()> {
+    writeln!(output, "\";")
+}
+
+/// Ends a box at a depth.
+pub fn close_cluster<W: Write>(depth: usize, output: &mut W) -> io::Result<()> {
+    indent(depth, output)?;
+    writeln!(output, "}}")
+}
+
+// How many names two paths begin with in common.
+fn shared(one: &str, other: &str) -> usize {
+    let mut count: usize = 0;
+    for (left, right) in one.split('.').zip(other.split('.')) {
+        if left != right {
+            return count;
+        }
+        count = count.saturating_add(1);
+    }
+    count
+}
+
+// Begins the box of a composite.
+fn open_composite<W: Write>(
+    sheet: &Sheet<'_>,
+    path: &str,
+    name: &str,
+    output: &mut W,
+) -> io::Result<()> {
+    open_cluster(path, "dashed", output)?;
+    write!(output, "{name}")?;
+    if let Some(instance) = instance_at(sheet.picture.file, path) {
+        let of_type = instance.of_type.text.as_str();
+        write!(output, " : {of_type}")?;
+    }
+    end_label(output)
+}
+
+// Ends the boxes of composites that are around one path and not around another.
+fn close_composites<W: Write>(from: &str, to: &str, output: &mut W) -> io::Result<()> {
+    for depth in (shared(from, to)..depth_of(from)).rev() {
+        close_cluster(depth.saturating_add(1), output)?;
+    }
+    Ok(())
+}
+
+// Begins the boxes of composites that are around one path and not around another.
+fn open_composites<W: Write>(
+    sheet: &Sheet<'_>,
+    from: &str,
+    to: &str,
+    output: &mut W,
+) -> io::Result<()> {
+    let kept = shared(from, to);
+    let mut path = String::new(sheet.alloc);
+    for (index, name) in to.split('.').enumerate() {
+        if index > 0 {
+            path.push('.')?;
+        }
+        path.push_str(name)?;
+        if index >= kept {
+            open_composite(sheet, path.as_str(), name, output)?;
+        }
+    }
+    Ok(())
+}
+
+/// Goes on in another composite of a resource: ends the boxes that one is in alone, and begins those that the other is in alone.
+pub fn cross<W: Write>(sheet: &Sheet<'_>, from: &str, to: &str, output: &mut W) -> io::Result<()> {
+    close_composites(from, to, output)?;
+    open_composites(sheet, from, to, output)
+}

@@ -1,0 +1,109 @@
+//! The heads of leaves: their names, what they are, and the states of a walk.
+
+use crate::margin::indent;
+use crate::picture::Sheet;
+use crate::walk::state_of;
+use fb_flat::fb_types::fb_networks::fb_services::Service;
+use fb_flat::{Body, Leaf};
+use fb_solved::Place;
+use fb_spots::instance_at;
+use std::io;
+use std::io::Write;
+
+// The path of a leaf below its resource.
+fn below_resource(path: &str) -> &str {
+    match path.split_once('.') {
+        Some((_, rest)) => match rest.split_once('.') {
+            Some((_, below)) => below,
+            None => rest,
+        },
+        None => path,
+    }
+}
+
+// What a leaf is called: its own name, or its path where composites have no boxes.
+fn name_of(boxes: bool, path: &str) -> &str {
+    if boxes {
+        match path.rsplit_once('.') {
+            Some((_, name)) => name,
+            None => path,
+        }
+    } else {
+        below_resource(path)
+    }
+}
+
+// The number of a service or of its channel.
+fn number_of(body: &Body) -> Option<u16> {
+    match body {
+        Body::Basic(_) => None,
+        Body::Served(service) => match service {
+            Service::Input(number, _) | Service::Output(number, _) => Some(*number),
+            Service::Publish(channel, _) | Service::Subscribe(channel, _) => Some(channel.number),
+            Service::Delay | Service::Cycle | Service::Restart => None,
+        },
+    }
+}
+
+// Draws what a leaf is called, and below that its type and the number of a service.
+fn draw_name<W: Write>(sheet: &Sheet<'_>, leaf: &Leaf, output: &mut W) -> io::Result<()> {
+    let path = leaf.path.as_str();
+    let name = name_of(sheet.picture.boxes, path);
+    write!(
+        output,
+        "<TR><TD COLSPAN=\"2\" PORT=\"head\" BGCOLOR=\"gray94\"><B>{name}</B>"
+    )?;
+    if let Some(instance) = instance_at(sheet.picture.file, path) {
+        let of_type = instance.of_type.text.as_str();
+        write!(output, "<BR/>{of_type}")?;
+    }
+    if let Some(number) = number_of(&leaf.body) {
+        write!(output, " {number}")?;
+    }
+    writeln!(output, "</TD></TR>")
+}
+
+// The places of a walk, each once: the last is the first again.
+fn without_last(walk: &[Place]) -> &[Place] {
+    match walk.split_last() {
+        Some((_, rest)) => rest,
+        None => walk,
+    }
+}
+
+// Draws the states of a leaf that a walk comes to, in a row if there are some.
+fn draw_states<W: Write>(
+    sheet: &Sheet<'_>,
+    leaf: &Leaf,
+    depth: usize,
+    output: &mut W,
+) -> io::Result<()> {
+    let mut begun = false;
+    for place in without_last(sheet.picture.walk) {
+        if let Some(state) = state_of(place, leaf.path.as_str()) {
+            if begun {
+                write!(output, " → {state}")?;
+            } else {
+                indent(depth, output)?;
+                write!(output, "<TR><TD COLSPAN=\"2\"><FONT COLOR=\"red\">{state}")?;
+                begun = true;
+            }
+        }
+    }
+    if begun {
+        writeln!(output, "</FONT></TD></TR>")?;
+    }
+    Ok(())
+}
+
+/// Draws the head of a leaf.
+pub fn draw_head<W: Write>(
+    sheet: &Sheet<'_>,
+    leaf: &Leaf,
+    depth: usize,
+    output: &mut W,
+) -> io::Result<()> {
+    indent(depth, output)?;
+    draw_name(sheet, leaf, output)?;
+    draw_states(sheet, leaf, depth, output)
+}

@@ -1,0 +1,165 @@
+//! Leaves, as tables: their heads, events and below these their data.
+
+use crate::head::draw_head;
+use crate::margin::{depth_of, indent};
+use crate::picture::Sheet;
+use crate::port::{draw_arrival, draw_event_input, draw_event_output, draw_input, draw_output};
+use crate::walk::comes_to;
+use fb_flat::{Body, Leaf};
+use std::alloc::{AllocError, Global};
+use std::io;
+use std::io::Write;
+
+// The event inputs of a leaf.
+fn event_inputs<'a>(alloc: Global, body: &'a Body) -> Result<Vec<&'a str>, AllocError> {
+    let mut names = Vec::new(alloc);
+    match body {
+        Body::Basic(block) => {
+            for name in block.face.event_inputs.keys() {
+                names.push(name.as_str())?;
+            }
+        }
+        Body::Served(service) => {
+            for name in service.event_inputs() {
+                names.push(*name)?;
+            }
+        }
+    }
+    Ok(names)
+}
+
+// The data outputs of a leaf.
+fn outputs(alloc: Global, body: &Body) -> Result<Vec<String>, AllocError> {
+    match body {
+        Body::Basic(block) => {
+            let mut names = Vec::new(alloc);
+            for name in block.face.outputs.keys() {
+                names.push(name.clone()?)?;
+            }
+            Ok(names)
+        }
+        Body::Served(service) => service.outputs(alloc),
+    }
+}
+
+// What comes to a leaf from outside.
+fn arrival(body: &Body) -> Option<&'static str> {
+    match body {
+        Body::Basic(_) => None,
+        Body::Served(service) => service.arrival(),
+    }
+}
+
+// Draws a rule above so many rows, if there are some.
+fn draw_rule<W: Write>(rows: usize, depth: usize, output: &mut W) -> io::Result<()> {
+    if rows == 0 {
+        return Ok(());
+    }
+    indent(depth, output)?;
+    writeln!(output, "<HR/>")
+}
+
+// Draws the rows of events.
+fn draw_events<W: Write>(
+    sheet: &Sheet<'_>,
+    leaf: &Leaf,
+    depth: usize,
+    output: &mut W,
+) -> io::Result<()> {
+    let names = event_inputs(sheet.alloc, &leaf.body)?;
+    let rows = names.len().max(leaf.outputs.len());
+    draw_rule(rows, depth, output)?;
+    for index in 0..rows {
+        indent(depth, output)?;
+        write!(output, "<TR>")?;
+        draw_event_input(sheet, leaf, names.get(index).copied(), output)?;
+        draw_event_output(leaf.outputs.get(index), output)?;
+        writeln!(output, "</TR>")?;
+    }
+    Ok(())
+}
+
+// Draws the row of what comes from outside.
+fn draw_outside<W: Write>(
+    sheet: &Sheet<'_>,
+    leaf: &Leaf,
+    depth: usize,
+    output: &mut W,
+) -> io::Result<()> {
+    match arrival(&leaf.body) {
+        Some(event) => {
+            if sheet.picture.certificate.is_none() {
+                return Ok(());
+            }
+            indent(depth, output)?;
+            write!(output, "<TR>")?;
+            draw_arrival(sheet, leaf, event, output)?;
+            writeln!(output, "</TR>")
+        }
+        None => Ok(()),
+    }
+}
+
+// Draws the rows of data.
+fn draw_data<W: Write>(
+    sheet: &Sheet<'_>,
+    leaf: &Leaf,
+    depth: usize,
+    output: &mut W,
+) -> io::Result<()> {
+    let names = outputs(sheet.alloc, &leaf.body)?;
+    let rows = leaf.inputs.len().max(names.len());
+    draw_rule(rows, depth, output)?;
+    for index in 0..rows {
+        indent(depth, output)?;
+        write!(output, "<TR>")?;
+        draw_input(leaf.inputs.get(index), output)?;
+        draw_output(names.get(index), output)?;
+        writeln!(output, "</TR>")?;
+    }
+    Ok(())
+}
+
+// Draws the table of a leaf.
+fn draw_table<W: Write>(
+    sheet: &Sheet<'_>,
+    leaf: &Leaf,
+    depth: usize,
+    output: &mut W,
+) -> io::Result<()> {
+    let border = if comes_to(sheet.picture.walk, leaf.path.as_str()) {
+        "BORDER=\"2\" COLOR=\"red\""
+    } else {
+        "BORDER=\"1\""
+    };
+    let rows = depth.saturating_add(1);
+    indent(depth, output)?;
+    writeln!(
+        output,
+        "<TABLE {border} CELLBORDER=\"0\" CELLSPACING=\"0\" CELLPADDING=\"3\">"
+    )?;
+    draw_head(sheet, leaf, rows, output)?;
+    draw_events(sheet, leaf, rows, output)?;
+    draw_outside(sheet, leaf, rows, output)?;
+    draw_data(sheet, leaf, rows, output)?;
+    indent(depth, output)?;
+    writeln!(output, "</TABLE>")
+}
+
+/// Draws a leaf as a node.
+pub fn draw_leaf<W: Write>(sheet: &Sheet<'_>, leaf: &Leaf, output: &mut W) -> io::Result<()> {
+    let path = leaf.path.as_str();
+    let Some(number) = sheet.numbers.get(path).copied() else {
+        return Ok(());
+    };
+    let depth = if sheet.picture.boxes {
+        depth_of(path)
+    } else {
+        3
+    };
+    indent(depth, output)?;
+    writeln!(output, "n{number} [label=<")?;
+    draw_table(sheet, leaf, depth.saturating_add(1), output)?;
+    indent(depth, output)?;
+    writeln!(output, ">];")
+}
