@@ -4,6 +4,7 @@ use crate::seen::{block_in, leaf_at, place_at};
 use fb_cert::Certificate;
 use fb_columns::fb_rows::fb_ranges::Interval;
 use fb_columns::fb_rows::{first_range, leaf_row, source_named, start_range};
+use fb_faults::tell_numbers;
 use fb_flat::fb_types::fb_networks::fb_services::fb_blocks::{Block, Variable};
 use fb_flat::{Flat, Leaf, Source};
 use std::alloc::Global;
@@ -29,21 +30,10 @@ fn begins_with(leaf: &Leaf, block: &Block, name: &str, variable: &Variable) -> I
     }
 }
 
-/// Writes an interval: one number, or two.
-pub fn tell_interval<W: Write>(range: Interval, output: &mut W) -> io::Result<()> {
-    let low = range.low;
-    let high = range.high;
-    if low == high {
-        write!(output, "{low}")
-    } else {
-        write!(output, "{low} to {high}")
-    }
-}
-
 // Writes the row of a variable.
 fn tell_row<W: Write>(path: &str, row: Interval, output: &mut W) -> io::Result<()> {
     write!(output, "RANGE {path} says ")?;
-    tell_interval(row, output)
+    tell_numbers(row.low, row.high, output)
 }
 
 /// Writes the row of a variable, the numbers of its type, and what it begins with.
@@ -70,7 +60,8 @@ pub fn tell_start<W: Write>(
         output,
         "; its type has {low} to {high}, and it begins with "
     )?;
-    tell_interval(begins_with(leaf, block, name, variable), output)?;
+    let first = begins_with(leaf, block, name, variable);
+    tell_numbers(first.low, first.high, output)?;
     writeln!(output)
 }
 
@@ -87,7 +78,8 @@ fn tell_output<W: Write>(
         return Ok(());
     };
     write!(output, "; {path}.{name}, which is connected to it, may be ")?;
-    tell_interval(leaf_row(alloc, certificate, leaf, name)?, output)
+    let row = leaf_row(alloc, certificate, leaf, name)?;
+    tell_numbers(row.low, row.high, output)
 }
 
 /// Writes the row of a data input, and what is connected to it may have.

@@ -15,4 +15,4 @@ mod told;
 
 pub use algorithm::{algorithm_fault, guard_fault};
 pub use found::{Fault, Wrong};
-pub use told::tell_fault;
+pub use told::{tell_fault, tell_numbers};

@@ -5,8 +5,8 @@ use fb_ranges::Interval;
 use std::io;
 use std::io::Write;
 
-// Writes the numbers from one to another, or the one number that they are.
-fn tell_numbers<W: Write>(low: i64, high: i64, output: &mut W) -> io::Result<()> {
+/// Writes the numbers from one to another, or the one number that they are: `0 to 9`, `7`.
+pub fn tell_numbers<W: Write>(low: i64, high: i64, output: &mut W) -> io::Result<()> {
     if low == high {
         write!(output, "{low}")
     } else {
