@@ -1,7 +1,10 @@
 -- What the program takes as words.
-use Rattle.std.proofs.Common.{codes, ◌≡◌, ◌≢◌, ◌⊎◌, inl, inr, ℕ, refl, sym, ◌∙◌, ap, subst, true, false, Bool, not, ◌&&◌, List, [], ◌∷◌, Option, None, Some, Result, Ok, Err, IfOk}
+use Rattle.std.proofs.Common.{codes, ◌≡◌, ◌≢◌, ◌⊎◌, inl, inr, ℕ, refl, sym, ◌∙◌, ap, ap₂, subst, true, false, Bool, not, ◌&&◌, List, [], ◌∷◌, Option, None, Some, Result, Ok, Err, IfOk}
 use Rattle.std.specs.Result.{result_unwrap_or}
-use Rattle.clap.specs.Words.{App, Text, Kinds, HasKind, IsAmong, fault_of, is_simple_and_free}
+use Rattle.clap.specs.Words.{App, Text, Kinds, HasKind, IsAmong, AddsSubcommand, app_of, with_subcommand, fault_of, is_simple_and_free}
+use Rattle.clap.specs.Simple.{has_plain_fields}
+use Rattle.clap.specs.declared.builder.command.Command.{Command}
+use Rattle.clap.specs.declared.builder.command.Command.TheViews.{out-Command}
 use Rattle.clap.specs.Values.{kind_of}
 use Rattle.clap.specs.declared.error.Error.{Error}
 use Rattle.clap.specs.declared.error.kind.ErrorKind.{ErrorKind}
@@ -14,11 +17,22 @@ use Rattle.fbr.proofs.Told.{tells_files}
 use Rattle.fbr.proofs.Verdicts.{files_memory}
 
 -- a command without groups and global arguments has none of the latter
-pub third : (a b c d : Bool) → (a && (not b && (not c && d))) ≡ true → c ≡ false
+third : (a b c d : Bool) → (a && (not b && (not c && d))) ≡ true → c ≡ false
 third false b c d e = absurd cc
 third true true c d e = absurd cc
 third true false true d e = absurd cc
 third true false false d e = refl
+
+-- a plain command has no global arguments
+no_globals : (k : Command) (a : App) → app_of k ≡ a → a.top.is_plain ≡ true → (out-Command k).has_globals ≡ false
+no_globals k a is plain =
+    let f = out-Command k in
+    let own : has_plain_fields f ≡ true = ap (λ (b : App). b.top.is_plain) is ∙ plain in
+    third _ f.allow_external_subcommands f.has_globals _ own
+
+-- a command with one more, which is plain
+pub adds : (old sub new : Command) (o s : App) → AddsSubcommand old sub new → app_of old ≡ o → app_of sub ≡ s → s.top.is_plain ≡ true → app_of new ≡ with_subcommand o s.top
+adds old sub new o s h old_is sub_is plain = h.shape (no_globals sub s sub_is plain) ∙ ap₂ with_subcommand old_is (ap (λ (a : App). a.top) sub_is)
 
 is_free : is_simple_and_free program ≡ true
 unfolding clap_on_literals

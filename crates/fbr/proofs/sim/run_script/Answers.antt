@@ -1,4 +1,4 @@
-use Rattle.fbr.proofs.Simulated.{not_loaded, not_one}
+use Rattle.fbr.proofs.Simulated.{not_loaded}
 use Rattle.fbr.proofs.sim.run_script.Goals as goal
 
 pub returns-in-Ok-clause-told : goal.returns-in-Ok-clause-told

@@ -1,21 +1,19 @@
-use Rattle.std.proofs.Common.{◌≡◌, ◌∙◌, ap, ap₂, rules}
+use Rattle.std.proofs.Common.{◌≡◌, refl, rules}
 use Rattle.std.proofs.lemmas.Result.{IfOk-weaker}
 use Rattle.clap.specs.Words.{App, app_of, with_subcommand}
 use Rattle.fbr.specs.Program.{bound, check, sim, explain, draw, top}
-use Rattle.fbr.proofs.Taken.{third}
+use Rattle.fbr.proofs.Taken.{adds}
 use Rattle.fbr.proofs.words.commands.Goals as goal
 
 pub returns : goal.returns
 returns c =
-    let bound_is : app_of c.in_ok-bound.bound ≡ bound = c.in_ok-bound.ensures in
-    let check_is : app_of c.in_ok-check.check ≡ check = c.in_ok-check.ensures in
-    let sim_is : app_of c.in_ok-sim.sim ≡ sim = c.in_ok-sim.ensures in
-    let explain_is : app_of c.in_ok-explain.explain ≡ explain = c.in_ok-explain.ensures in
-    let draw_is : app_of c.in_ok-draw.draw ≡ draw = c.in_ok-draw.ensures in
+    let one : App = with_subcommand top bound.top in
+    let two : App = with_subcommand one check.top in
+    let three : App = with_subcommand two sim.top in
+    let four : App = with_subcommand three explain.top in
     let top_is : app_of c.subcommand_required.result ≡ top = search rules in
-    let first_is = c.in_ok-subcommand.ensures.shape (third _ _ _ _ (ap (λ (a : App). a.top.is_plain) bound_is)) ∙ ap₂ with_subcommand top_is (ap (λ (a : App). a.top) bound_is) in
-    let second_is = c.in_ok-subcommand-2.ensures.shape (third _ _ _ _ (ap (λ (a : App). a.top.is_plain) check_is)) ∙ ap₂ with_subcommand first_is (ap (λ (a : App). a.top) check_is) in
-    let third_is = c.in_ok-subcommand-3.ensures.shape (third _ _ _ _ (ap (λ (a : App). a.top.is_plain) sim_is)) ∙ ap₂ with_subcommand second_is (ap (λ (a : App). a.top) sim_is) in
-    let fourth_is = c.in_ok-subcommand-4.ensures.shape (third _ _ _ _ (ap (λ (a : App). a.top.is_plain) explain_is)) ∙ ap₂ with_subcommand third_is (ap (λ (a : App). a.top) explain_is) in
-    IfOk-weaker c.subcommand-5.result _ _
-    (λ r h. h.shape (third _ _ _ _ (ap (λ (a : App). a.top.is_plain) draw_is)) ∙ ap₂ with_subcommand fourth_is (ap (λ (a : App). a.top) draw_is)) c.subcommand-5.ensures
+    let first_is = adds _ _ _ top bound c.in_ok-subcommand.ensures top_is c.in_ok-bound.ensures refl in
+    let second_is = adds _ _ _ one check c.in_ok-subcommand-2.ensures first_is c.in_ok-check.ensures refl in
+    let third_is = adds _ _ _ two sim c.in_ok-subcommand-3.ensures second_is c.in_ok-sim.ensures refl in
+    let fourth_is = adds _ _ _ three explain c.in_ok-subcommand-4.ensures third_is c.in_ok-explain.ensures refl in
+    IfOk-weaker c.subcommand-5.result _ _ (λ r h. adds _ _ _ four draw h fourth_is c.in_ok-draw.ensures refl) c.subcommand-5.ensures

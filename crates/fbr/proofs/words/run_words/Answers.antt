@@ -1,6 +1,11 @@
-use Rattle.std.proofs.Common.{◌≡◌, subst, map, List}
-use Rattle.clap.specs.Words.{Text, HasKind, app_of, fault_of}
-use Rattle.fbr.specs.Program.{program}
+use Rattle.std.proofs.Common.{codes, ◌≡◌, ◌∙◌, refl, sym, ap, subst, map, List, None, Some, IfOk}
+use Rattle.std.specs.Prelude.{option_map, option_and_then}
+use Rattle.clap.specs.Words.{Text, HasKind, app_of, fault_of, first_of, subcommand_of}
+use Rattle.fbr.specs.Program.{program, file_of, file_in, files_of, files_in, both, repeats_of}
+use Rattle.fbr.specs.Outcomes.{TellsFiles}
+use Rattle.fbr.specs.Simulation.{TellsSim}
+use Rattle.fbr.specs.Bounding.{TellsBound}
+use Rattle.fbr.proofs.Entered.{rows_taken, apart, memory_usage, unwrap_or_nil, unwrap_or_nils, no_some}
 use Rattle.fbr.proofs.Taken.{free_app, taken_memory, no_help, no_version, no_misuse, memory_told}
 use Rattle.fbr.specs.declared.fault.Fault.TheVariants.{Memory}
 use Rattle.fbr.proofs.Simulated as simulated
@@ -78,3 +83,142 @@ returns-clause-usage g c = λ is.
     let words : List Text = map (λ word. word.now) c.args.words.now in
     let program_is : app_of c.in-Ok.command ≡ program = c.in-Ok.ensures in
     absurd (no_misuse words _ program_is (c.in-Ok-try_get_matches_from.ensures.kinds (free_app _ program_is)) is)
+
+pub returns-in-Err-try_get_matches_from-clause-uncounted : goal.returns-in-Err-try_get_matches_from-clause-uncounted
+returns-in-Err-try_get_matches_from-clause-uncounted g c = λ app is.
+    let words : List Text = map (λ word. word.now) c.args.words.now in
+    let program_is : app_of c.in-Ok.command ≡ program = c.in-Ok.ensures in
+    let error = c.in-Err-try_get_matches_from.error in
+    let kinds : HasKind (fault_of program words) error = subst (λ a. HasKind (fault_of a words) error) program_is (c.in-Err-try_get_matches_from.ensures.kinds (free_app _ program_is)) in
+    memory_usage _ _ _ (c.refused.ensures.memory (taken_memory words is.taken error kinds))
+
+pub returns-in-Some-clause-bounds : goal.returns-in-Some-clause-bounds
+returns-in-Some-clause-bounds g c = λ repeats app is.
+    let words : List Text = map (λ word. word.now) c.args.words.now in
+    let program_is : app_of c.in-Ok.command ≡ program = c.in-Ok.ensures in
+    let rows = rows_taken _ program_is words c.in-Ok-try_get_matches_from.matches c.in-Ok-try_get_matches_from.ensures.matches in
+    let here : Some c.in-Some.app.now ≡ file_of (codes "bound") words = c.in-Some.ensures ∙ ap (option_and_then (file_in (codes "bound"))) rows in
+    let same : c.in-Some.app.now ≡ app = ap (unwrap_or_nil) (here ∙ is.file_is) in
+    let asked = c.repeats_given.ensures.value ∙ ap (option_and_then repeats_of) rows ∙ is.repeats_are in
+    subst (λ (a : Text). IfOk c.run_bound.result (λ status. TellsBound repeats a (g.S.Sources.contents c.args.files.now a) (g.W.Write.contents c.args.output.now) (g.W.Write.contents c.run_bound.new.output) status)) same (c.run_bound.ensures.bounds repeats asked)
+
+pub returns-in-Some-clause-checks : goal.returns-in-Some-clause-checks
+returns-in-Some-clause-checks g c = λ app cert is.
+    let words : List Text = map (λ word. word.now) c.args.words.now in
+    let program_is : app_of c.in-Ok.command ≡ program = c.in-Ok.ensures in
+    let rows = rows_taken _ program_is words c.in-Ok-try_get_matches_from.matches c.in-Ok-try_get_matches_from.ensures.matches in
+    let here : Some c.in-Some.app.now ≡ file_of (codes "bound") words = c.in-Some.ensures ∙ ap (option_and_then (file_in (codes "bound"))) rows in
+    absurd (apart (codes "bound") (codes "check") refl refl (first_of (codes "APP")) (λ r. both (first_of (codes "APP") r) (first_of (codes "CERT") r)) (subcommand_of program words) _ _ (sym here) is.files)
+
+pub returns-in-Some-clause-sims : goal.returns-in-Some-clause-sims
+returns-in-Some-clause-sims g c = λ app cert is.
+    let words : List Text = map (λ word. word.now) c.args.words.now in
+    let program_is : app_of c.in-Ok.command ≡ program = c.in-Ok.ensures in
+    let rows = rows_taken _ program_is words c.in-Ok-try_get_matches_from.matches c.in-Ok-try_get_matches_from.ensures.matches in
+    let here : Some c.in-Some.app.now ≡ file_of (codes "bound") words = c.in-Some.ensures ∙ ap (option_and_then (file_in (codes "bound"))) rows in
+    absurd (apart (codes "bound") (codes "sim") refl refl (first_of (codes "APP")) (λ r. both (first_of (codes "APP") r) (first_of (codes "CERT") r)) (subcommand_of program words) _ _ (sym here) is.files)
+
+pub returns-in-Some-clause-uncounted : goal.returns-in-Some-clause-uncounted
+returns-in-Some-clause-uncounted g c = λ app is.
+    let words : List Text = map (λ word. word.now) c.args.words.now in
+    let program_is : app_of c.in-Ok.command ≡ program = c.in-Ok.ensures in
+    let rows = rows_taken _ program_is words c.in-Ok-try_get_matches_from.matches c.in-Ok-try_get_matches_from.ensures.matches in
+    c.run_bound.ensures.usage (c.repeats_given.ensures.value ∙ ap (option_and_then repeats_of) rows ∙ is.none)
+
+pub returns-in-Some-files_named-clause-bounds : goal.returns-in-Some-files_named-clause-bounds
+returns-in-Some-files_named-clause-bounds g c = λ repeats app is.
+    let words : List Text = map (λ word. word.now) c.args.words.now in
+    let program_is : app_of c.in-Ok.command ≡ program = c.in-Ok.ensures in
+    let rows = rows_taken _ program_is words c.in-Ok-try_get_matches_from.matches c.in-Ok-try_get_matches_from.ensures.matches in
+    let here : Some (c.in-Some-files_named.app.now, c.in-Some-files_named.cert.now) ≡ files_of (codes "check") words = c.in-Some-files_named.ensures ∙ ap (option_and_then (files_in (codes "check"))) rows in
+    absurd (apart (codes "check") (codes "bound") refl refl (λ r. both (first_of (codes "APP") r) (first_of (codes "CERT") r)) (first_of (codes "APP")) (subcommand_of program words) _ _ (sym here) is.file_is)
+
+pub returns-in-Some-files_named-clause-checks : goal.returns-in-Some-files_named-clause-checks
+returns-in-Some-files_named-clause-checks g c = λ app cert is.
+    let words : List Text = map (λ word. word.now) c.args.words.now in
+    let program_is : app_of c.in-Ok.command ≡ program = c.in-Ok.ensures in
+    let rows = rows_taken _ program_is words c.in-Ok-try_get_matches_from.matches c.in-Ok-try_get_matches_from.ensures.matches in
+    let here : Some (c.in-Some-files_named.app.now, c.in-Some-files_named.cert.now) ≡ files_of (codes "check") words = c.in-Some-files_named.ensures ∙ ap (option_and_then (files_in (codes "check"))) rows in
+    let same : (c.in-Some-files_named.app.now, c.in-Some-files_named.cert.now) ≡ (app, cert) = ap unwrap_or_nils (here ∙ is.files) in
+    subst (λ (p : Text × Text). IfOk c.check_files.result (λ status. TellsFiles p.0 p.1 (g.S.Sources.contents c.args.files.now p.0) (g.S.Sources.contents c.args.files.now p.1) (g.W.Write.contents c.args.output.now) (g.W.Write.contents c.check_files.new.output) status)) same c.check_files.ensures.told
+
+pub returns-in-Some-files_named-clause-sims : goal.returns-in-Some-files_named-clause-sims
+returns-in-Some-files_named-clause-sims g c = λ app cert is.
+    let words : List Text = map (λ word. word.now) c.args.words.now in
+    let program_is : app_of c.in-Ok.command ≡ program = c.in-Ok.ensures in
+    let rows = rows_taken _ program_is words c.in-Ok-try_get_matches_from.matches c.in-Ok-try_get_matches_from.ensures.matches in
+    let here : Some (c.in-Some-files_named.app.now, c.in-Some-files_named.cert.now) ≡ files_of (codes "check") words = c.in-Some-files_named.ensures ∙ ap (option_and_then (files_in (codes "check"))) rows in
+    absurd (apart (codes "check") (codes "sim") refl refl (λ r. both (first_of (codes "APP") r) (first_of (codes "CERT") r)) (λ r. both (first_of (codes "APP") r) (first_of (codes "CERT") r)) (subcommand_of program words) _ _ (sym here) is.files)
+
+pub returns-in-Some-files_named-clause-uncounted : goal.returns-in-Some-files_named-clause-uncounted
+returns-in-Some-files_named-clause-uncounted g c = λ app is.
+    let words : List Text = map (λ word. word.now) c.args.words.now in
+    let program_is : app_of c.in-Ok.command ≡ program = c.in-Ok.ensures in
+    let rows = rows_taken _ program_is words c.in-Ok-try_get_matches_from.matches c.in-Ok-try_get_matches_from.ensures.matches in
+    let here : Some (c.in-Some-files_named.app.now, c.in-Some-files_named.cert.now) ≡ files_of (codes "check") words = c.in-Some-files_named.ensures ∙ ap (option_and_then (files_in (codes "check"))) rows in
+    absurd (apart (codes "check") (codes "bound") refl refl (λ r. both (first_of (codes "APP") r) (first_of (codes "CERT") r)) (first_of (codes "APP")) (subcommand_of program words) _ _ (sym here) is.file_is)
+
+pub returns-in-Some-files_named-2-clause-bounds : goal.returns-in-Some-files_named-2-clause-bounds
+returns-in-Some-files_named-2-clause-bounds g c = λ repeats app is.
+    let words : List Text = map (λ word. word.now) c.args.words.now in
+    let program_is : app_of c.in-Ok.command ≡ program = c.in-Ok.ensures in
+    let rows = rows_taken _ program_is words c.in-Ok-try_get_matches_from.matches c.in-Ok-try_get_matches_from.ensures.matches in
+    let here : Some (c.in-Some-files_named-2.app.now, c.in-Some-files_named-2.cert.now) ≡ files_of (codes "sim") words = c.in-Some-files_named-2.ensures ∙ ap (option_and_then (files_in (codes "sim"))) rows in
+    absurd (apart (codes "sim") (codes "bound") refl refl (λ r. both (first_of (codes "APP") r) (first_of (codes "CERT") r)) (first_of (codes "APP")) (subcommand_of program words) _ _ (sym here) is.file_is)
+
+pub returns-in-Some-files_named-2-clause-checks : goal.returns-in-Some-files_named-2-clause-checks
+returns-in-Some-files_named-2-clause-checks g c = λ app cert is.
+    let words : List Text = map (λ word. word.now) c.args.words.now in
+    let program_is : app_of c.in-Ok.command ≡ program = c.in-Ok.ensures in
+    let rows = rows_taken _ program_is words c.in-Ok-try_get_matches_from.matches c.in-Ok-try_get_matches_from.ensures.matches in
+    let here : Some (c.in-Some-files_named-2.app.now, c.in-Some-files_named-2.cert.now) ≡ files_of (codes "sim") words = c.in-Some-files_named-2.ensures ∙ ap (option_and_then (files_in (codes "sim"))) rows in
+    absurd (apart (codes "sim") (codes "check") refl refl (λ r. both (first_of (codes "APP") r) (first_of (codes "CERT") r)) (λ r. both (first_of (codes "APP") r) (first_of (codes "CERT") r)) (subcommand_of program words) _ _ (sym here) is.files)
+
+pub returns-in-Some-files_named-2-clause-sims : goal.returns-in-Some-files_named-2-clause-sims
+returns-in-Some-files_named-2-clause-sims g c = λ app cert is.
+    let words : List Text = map (λ word. word.now) c.args.words.now in
+    let program_is : app_of c.in-Ok.command ≡ program = c.in-Ok.ensures in
+    let rows = rows_taken _ program_is words c.in-Ok-try_get_matches_from.matches c.in-Ok-try_get_matches_from.ensures.matches in
+    let here : Some (c.in-Some-files_named-2.app.now, c.in-Some-files_named-2.cert.now) ≡ files_of (codes "sim") words = c.in-Some-files_named-2.ensures ∙ ap (option_and_then (files_in (codes "sim"))) rows in
+    let same : (c.in-Some-files_named-2.app.now, c.in-Some-files_named-2.cert.now) ≡ (app, cert) = ap unwrap_or_nils (here ∙ is.files) in
+    subst (λ (p : Text × Text). IfOk c.sim_files.result (λ status. TellsSim p.0 p.1 (g.S.Sources.contents c.args.files.now p.0) (g.S.Sources.contents c.args.files.now p.1) (g.I.Read.remaining c.args.input.now) (g.W.Write.contents c.args.output.now) (g.W.Write.contents c.sim_files.new.output) status)) same c.sim_files.ensures.told
+
+pub returns-in-Some-files_named-2-clause-uncounted : goal.returns-in-Some-files_named-2-clause-uncounted
+returns-in-Some-files_named-2-clause-uncounted g c = λ app is.
+    let words : List Text = map (λ word. word.now) c.args.words.now in
+    let program_is : app_of c.in-Ok.command ≡ program = c.in-Ok.ensures in
+    let rows = rows_taken _ program_is words c.in-Ok-try_get_matches_from.matches c.in-Ok-try_get_matches_from.ensures.matches in
+    let here : Some (c.in-Some-files_named-2.app.now, c.in-Some-files_named-2.cert.now) ≡ files_of (codes "sim") words = c.in-Some-files_named-2.ensures ∙ ap (option_and_then (files_in (codes "sim"))) rows in
+    absurd (apart (codes "sim") (codes "bound") refl refl (λ r. both (first_of (codes "APP") r) (first_of (codes "CERT") r)) (first_of (codes "APP")) (subcommand_of program words) _ _ (sym here) is.file_is)
+
+pub returns-clause-bounds : goal.returns-clause-bounds
+returns-clause-bounds g c = λ repeats app is.
+    let words : List Text = map (λ word. word.now) c.args.words.now in
+    let program_is : app_of c.in-Ok.command ≡ program = c.in-Ok.ensures in
+    let rows = rows_taken _ program_is words c.in-Ok-try_get_matches_from.matches c.in-Ok-try_get_matches_from.ensures.matches in
+    let none : None ≡ file_of (codes "bound") words = ap (option_map (λ file. file.now)) (sym c.in_default.is) ∙ c.file_named.ensures ∙ ap (option_and_then (file_in (codes "bound"))) rows in
+    absurd (no_some _ (none ∙ is.file_is))
+
+pub returns-clause-checks : goal.returns-clause-checks
+returns-clause-checks g c = λ app cert is.
+    let words : List Text = map (λ word. word.now) c.args.words.now in
+    let program_is : app_of c.in-Ok.command ≡ program = c.in-Ok.ensures in
+    let rows = rows_taken _ program_is words c.in-Ok-try_get_matches_from.matches c.in-Ok-try_get_matches_from.ensures.matches in
+    let none : None ≡ files_of (codes "check") words = c.in-None.ensures ∙ ap (option_and_then (files_in (codes "check"))) rows in
+    absurd (no_some _ (none ∙ is.files))
+
+pub returns-clause-sims : goal.returns-clause-sims
+returns-clause-sims g c = λ app cert is.
+    let words : List Text = map (λ word. word.now) c.args.words.now in
+    let program_is : app_of c.in-Ok.command ≡ program = c.in-Ok.ensures in
+    let rows = rows_taken _ program_is words c.in-Ok-try_get_matches_from.matches c.in-Ok-try_get_matches_from.ensures.matches in
+    let none : None ≡ files_of (codes "sim") words = c.in-None-files_named.ensures ∙ ap (option_and_then (files_in (codes "sim"))) rows in
+    absurd (no_some _ (none ∙ is.files))
+
+pub returns-clause-uncounted : goal.returns-clause-uncounted
+returns-clause-uncounted g c = λ app is.
+    let words : List Text = map (λ word. word.now) c.args.words.now in
+    let program_is : app_of c.in-Ok.command ≡ program = c.in-Ok.ensures in
+    let rows = rows_taken _ program_is words c.in-Ok-try_get_matches_from.matches c.in-Ok-try_get_matches_from.ensures.matches in
+    let none : None ≡ file_of (codes "bound") words = ap (option_map (λ file. file.now)) (sym c.in_default.is) ∙ c.file_named.ensures ∙ ap (option_and_then (file_in (codes "bound"))) rows in
+    absurd (no_some _ (none ∙ is.file_is))
