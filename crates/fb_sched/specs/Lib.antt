@@ -1,0 +1,4 @@
+pub mod Agenda
+pub mod Changes
+pub mod Keeping
+pub mod Laws

@@ -1,0 +1,12 @@
+//! The queue of a resource: its pending entries in a ring, and a slot for each cause that has not ended. After `new` nothing takes memory, and no call but `find` searches.
+#![tactic(auto)]
+
+mod law;
+mod queue;
+mod reaction;
+mod ticket;
+
+pub use law::{credit_is_held, pending_reactions_fit, steps_by_slot};
+pub use queue::Queue;
+pub use reaction::Reaction;
+pub use ticket::Ticket;
