@@ -2,7 +2,7 @@
 use Rattle.std.proofs.Common.{◌≡◌, ◌≢◌, ◌⊎◌, ℕ, zero, suc, ◌+◌, ◌-◌, ◌<◌, ◌≤◌, ℤ, Bool, true, false, cond, List, [], ◌∷◌, ◌++◌, length, Option, Some, None, is_some, count_by, eqb, eq-eqb, refl, sym, ap, ◌∙◌, subst, inl, inr, arith, length-append}
 use Rattle.std.specs.List.{sum_by, AllByRecursion}
 use Rattle.std.proofs.lemmas.Bool.{cases_eq, ne_eqb}
-use Rattle.std.proofs.lemmas.List.Sums.{sum_by-cons, sum_by-append}
+use Rattle.std.proofs.lemmas.List.Sums.{sum_by-cons, sum_by-append, count_by-le-length}
 use Rattle.arrayvec.specs.ArrayVec.{ArrayVec}
 use Rattle.fb_invoke.specs.declared.table.Point.{Point}
 use Rattle.fb_sched.specs.declared.ticket.Ticket.{Ticket}
@@ -26,11 +26,11 @@ all_last slots [] t h o = (o, h)
 all_last slots (u ∷ ts) t h o = (h.0, all_last slots ts t h.1 o)
 
 -- the ticket is for the slot
-for_own : (k : ℕ) (t : Ticket) (ts : List Ticket) → t.slot ≡ k → tickets_for k (t ∷ ts) ≡ suc (tickets_for k ts)
+pub for_own : (k : ℕ) (t : Ticket) (ts : List Ticket) → t.slot ≡ k → tickets_for k (t ∷ ts) ≡ suc (tickets_for k ts)
 for_own k t ts e = (let s : cond {A = ℕ} (is_for k t) 1 0 ≡ 1 = ap (λ b. cond {A = ℕ} b 1 0) (eq-eqb t.slot k e) in omega (arith, s, sum_by-cons (λ u. cond {A = ℕ} (is_for k u) 1 0) t ts))
 
 -- and for no other
-for_other : (k : ℕ) (t : Ticket) (ts : List Ticket) → t.slot ≢ k → tickets_for k (t ∷ ts) ≡ tickets_for k ts
+pub for_other : (k : ℕ) (t : Ticket) (ts : List Ticket) → t.slot ≢ k → tickets_for k (t ∷ ts) ≡ tickets_for k ts
 for_other k t ts n = (let s : cond {A = ℕ} (is_for k t) 1 0 ≡ 0 = ap (λ b. cond {A = ℕ} b 1 0) (ne_eqb t.slot k n) in omega (arith, s, sum_by-cons (λ u. cond {A = ℕ} (is_for k u) 1 0) t ts))
 
 last_own : (k : ℕ) (t : Ticket) (ts : List Ticket) → t.slot ≡ k → tickets_for k (ts ++ t ∷ []) ≡ tickets_for k ts + 1
@@ -222,3 +222,13 @@ settles_keeps old slot steps ended new h s =
       | inl z ↦ ends_keeps old new slot r h s.was z (subst (λ b. ChangesSlot old.slots new.slots slot (cond b None (Some more))) (eq-eqb r.pending 0 z) s.slots) s.tickets s.room
       | inr n ↦ goes_on_keeps old new slot r more h s.was refl refl refl (subst (λ b. ChangesSlot old.slots new.slots slot (cond b None (Some more))) (ne_eqb r.pending 0 n) s.slots) s.tickets s.room
     ]
+
+-- ---- how many tickets of a reaction are pending
+
+-- the first ticket's reaction has a pending ticket
+pub first_pending : (a : Agenda) (t : Ticket) (ts : List Ticket) (r : Reaction) → IsAgenda a → a.tickets ≡ t ∷ ts → slot_at a.slots t.slot ≡ Some r → 1 ≤ r.pending
+first_pending a t ts r h e was = omega (arith, h.counted t.slot r was, ap (tickets_for t.slot) e, for_own t.slot t ts refl)
+
+-- no reaction has more than all
+pub pending_few : (a : Agenda) (k : ℕ) (r : Reaction) → IsAgenda a → slot_at a.slots k ≡ Some r → r.pending ≤ length a.tickets
+pending_few a k r h was = omega (arith, h.counted k r was, count_by-le-length (is_for k) a.tickets)

@@ -1,2 +1,5 @@
 pub mod Slots
 pub mod Kept
+pub mod Fields
+pub mod Marked
+pub mod Steps

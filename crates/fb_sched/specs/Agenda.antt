@@ -25,6 +25,10 @@ IsOpen slots slot = IsSome (slot_at slots slot)
 abbrev pub IsNew : ℕ → List (Option Reaction) → Type 0
 IsNew cause slots = (slot : ℕ) (r : Reaction) → slot_at slots slot ≡ Some r → r.cause ≢ cause
 
+-- a slot holds this reaction, and it is of the cause
+abbrev pub IsReactionOf : ℕ → List (Option Reaction) → Reaction → Type 0
+IsReactionOf cause slots r = (slot : ℕ) × (slot_at slots slot ≡ Some r) × (r.cause ≡ cause)
+
 -- how many slots hold a reaction
 abbrev pub reactions_in : List (Option Reaction) → ℕ
 reactions_in slots = count_by is_some slots

@@ -16,3 +16,5 @@ pub record IsKept (ring : Buffer Ticket) (reactions : Slab Reaction) (used : ℕ
   pub used_is : used ≡ all_places reactions.slots
   -- a reaction for each ticket that there may be needs no memory
   pub capacity : ring.capacity ≤ reactions.capacity
+  -- the room is a length
+  pub fits : ring.capacity < 2 ^ 64

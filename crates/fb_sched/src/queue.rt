@@ -1,10 +1,10 @@
 //! The queue of a resource.
 
-ghost use Rattle.std.specs.Prelude.{ℕ, ◌≡◌, ◌-◌, ◌+◌, ◌<◌, ◌≤◌, [], length, Some, IfOk, IfSome, IfNone};
-ghost use Rattle.fb_sched.specs.Agenda.{Agenda, IsAgenda, slot_at, all_places, reactions_in, IsOpen, IsNew};
+ghost use Rattle.std.specs.Prelude.{◌≡◌, ◌-◌, ◌+◌, ◌<◌, ◌≤◌, [], length, Some, IfOk, IfSome, IfNone};
+ghost use Rattle.fb_sched.specs.Agenda.{Agenda, IsAgenda, slot_at, all_places, reactions_in, IsOpen, IsNew, IsReactionOf};
 ghost use Rattle.fb_sched.specs.Changes.{Opens, Takes, Puts, Settles, CanSettle};
 
-use crate::reaction::{Reaction, reaction_in, rewrite};
+use crate::reaction::{Reaction, find_in, reaction_in, rewrite};
 use crate::ticket::{Ticket, append};
 use circular_buffer::HeapCircularBuffer;
 use fb_invoke::{Point, Values};
@@ -145,16 +145,9 @@ impl Queue {
 
     /// The reaction of a cause. It is looked for in each slot.
     pub fn find(&self, cause: u64) -> Option<Reaction>
-        ensures found { IfSome result (λ reaction. (reaction.cause ≡ cause) × ((slot : ℕ) × (slot_at self.now.slots slot ≡ Some reaction))) }
+        ensures found { IfSome result (IsReactionOf cause self.now.slots) }
         ensures none { IfNone result (IsNew cause self.now.slots) }
     {
-        for slot in 0..self.reactions.capacity() {
-            if let Some(reaction) = self.reaction(slot) {
-                if reaction.cause == cause {
-                    return Some(reaction);
-                }
-            }
-        }
-        None
+        find_in(&self.reactions, cause)
     }
 }

@@ -1,7 +1,8 @@
 //! Causes that have not ended.
 
-ghost use Rattle.std.specs.Prelude.{◌≡◌, Some};
+ghost use Rattle.std.specs.Prelude.{◌≡◌, Some, IfSome, IfNone};
 ghost use Rattle.slab.specs.Slab.{get, ContainsKey, with_value};
+ghost use Rattle.fb_sched.specs.Agenda.{IsNew, IsReactionOf};
 
 use fb_invoke::Point;
 use slab::Slab;
@@ -38,4 +39,17 @@ pub(crate) fn rewrite(reactions: &mut Slab<Reaction>, slot: usize, reaction: Rea
         Some(place) => *place = reaction,
         None => unreachable!(),
     }
+}
+
+/// The reaction of a cause.
+pub(crate) fn find_in(reactions: &Slab<Reaction>, cause: u64) -> Option<Reaction>
+    ensures found { IfSome result (IsReactionOf cause reactions.now.slots) }
+    ensures none { IfNone result (IsNew cause reactions.now.slots) }
+{
+    for (_, reaction) in reactions.iter() {
+        if reaction.cause == cause {
+            return Some(*reaction);
+        }
+    }
+    None
 }
