@@ -1,15 +1,14 @@
 -- What each call does to the ring, the slab and the sum, as a change of what a contract sees.
-use Rattle.std.proofs.Common.{◌≡◌, ◌≢◌, ℕ, zero, suc, ◌+◌, ◌-◌, ◌<◌, ◌≤◌, ◌^◌, ℤ, Bool, true, false, cond, List, [], ◌∷◌, ◌++◌, length, drop, slice_get, slice_index_or, get_or, Option, Some, None, is_some, eq-eqb, refl, sym, ap, ◌∙◌, subst, arith}
-use Rattle.std.proofs.lemmas.Bool.{ne_eqb}
+use Rattle.std.proofs.Common.{◌≡◌, ℕ, ◌+◌, ◌-◌, ◌<◌, ◌≤◌, ◌^◌, ℤ, List, [], ◌∷◌, ◌++◌, length, Option, Some, None, is_some, refl, sym, ap, ◌∙◌, subst, arith}
 use Rattle.arrayvec.specs.ArrayVec.{ArrayVec}
 use Rattle.circular_buffer.specs.Buffer.{Buffer, buffer}
-use Rattle.slab.specs.Slab.{Slab, get, ContainsKey, Updates, with_value}
+use Rattle.slab.specs.Slab.{Slab, get, Updates, with_value}
 use Rattle.slab.proofs.SlabLemmas.{Updates-with_value}
 use Rattle.fb_invoke.specs.declared.table.Point.{Point}
 use Rattle.fb_sched.specs.declared.ticket.Ticket.{Ticket}
 use Rattle.fb_sched.specs.declared.reaction.Reaction.{Reaction}
-use Rattle.fb_sched.specs.Agenda.{Agenda, IsAgenda, IsNew, all_places, places_of, slot_at}
-use Rattle.fb_sched.specs.Changes.{ChangesSlot, Opens, Takes, Puts, Settles, with_pending, with_steps}
+use Rattle.fb_sched.specs.Agenda.{IsNew, all_places, places_of, slot_at}
+use Rattle.fb_sched.specs.Changes.{ChangesSlot, Takes, with_pending}
 use Rattle.fb_sched.specs.Keeping.{agenda_of, IsKept}
 use Rattle.fb_sched.proofs.Slots.{places_changed}
 use Rattle.fb_sched.proofs.Kept.{opens_keeps, takes_keeps, puts_keeps, ends_keeps, goes_on_keeps, places_stay, first_pending, pending_few}
@@ -24,28 +23,24 @@ rewritten old new k r s was e = slot_of_updates old new k (Some s) (subst (λ n.
 cap_stays : (old new : Slab Reaction) (k : ℕ) (s : Reaction) → new ≡ with_value old k s → new.capacity ≡ old.capacity
 cap_stays old new k s e = ap (λ (x : Slab Reaction). x.capacity) e
 
-first_is : (ts : List Ticket) (t : Ticket) → slice_get ts 0 ≡ Some t → ts ≡ t ∷ drop 1 ts
-first_is [] t e = absurd (cc)
-first_is (x ∷ xs) t e = (let q : x ≡ t = cc in ap (λ y. y ∷ xs) q)
-
 -- ---- take
 
-pub take_counted : (ring : Buffer Ticket) (slab : Slab Reaction) (used : ℕ) (t : Ticket) (r : Reaction) → IsKept ring slab used → slice_get ring.items 0 ≡ Some t → get slab t.slot ≡ Some r → 1 ≤ r.pending
-take_counted ring slab used t r h e was = first_pending (agenda_of ring slab) t (drop 1 ring.items) r h.agenda (first_is ring.items t e) was
+pub take_counted : (ring : Buffer Ticket) (slab : Slab Reaction) (used : ℕ) (t : Ticket) (ts : List Ticket) (r : Reaction) → IsKept ring slab used → ring.items ≡ t ∷ ts → get slab t.slot ≡ Some r → 1 ≤ r.pending
+take_counted ring slab used t ts r h e was = first_pending (agenda_of ring slab) t ts r h.agenda e was
 
-pub take_takes : (ring ring' : Buffer Ticket) (slab slab' : Slab Reaction) (used : ℕ) (t : Ticket) (r : Reaction) → IsKept ring slab used → slice_get ring.items 0 ≡ Some t → ring' ≡ buffer (drop 1 ring.items) ring.capacity → get slab t.slot ≡ Some r → slab' ≡ with_value slab t.slot (with_pending r (r.pending - 1))
+pub take_takes : (ring ring' : Buffer Ticket) (slab slab' : Slab Reaction) (used : ℕ) (t : Ticket) (r : Reaction) → IsKept ring slab used → ring.items ≡ t ∷ ring'.items → ring'.capacity ≡ ring.capacity → get slab t.slot ≡ Some r → slab' ≡ with_value slab t.slot (with_pending r (r.pending - 1))
     → Takes (agenda_of ring slab) t (agenda_of ring' slab')
 take_takes ring ring' slab slab' used t r h e p was w =
     record {
       reaction = r;
       was = was;
-      counted = omega (arith, take_counted ring slab used t r h e was);
-      tickets = first_is ring.items t e ∙ ap (λ ts. t ∷ ts) (sym (ap (λ (b : Buffer Ticket). b.items) p));
+      counted = omega (arith, take_counted ring slab used t ring'.items r h e was);
+      tickets = e;
       slots = rewritten slab slab' t.slot r (with_pending r (r.pending - 1)) was w;
-      room = ap (λ (b : Buffer Ticket). b.capacity) p;
+      room = p;
     }
 
-pub take_keeps : (ring ring' : Buffer Ticket) (slab slab' : Slab Reaction) (used : ℕ) (t : Ticket) (r : Reaction) → IsKept ring slab used → slice_get ring.items 0 ≡ Some t → ring' ≡ buffer (drop 1 ring.items) ring.capacity → get slab t.slot ≡ Some r → slab' ≡ with_value slab t.slot (with_pending r (r.pending - 1))
+pub take_keeps : (ring ring' : Buffer Ticket) (slab slab' : Slab Reaction) (used : ℕ) (t : Ticket) (r : Reaction) → IsKept ring slab used → ring.items ≡ t ∷ ring'.items → ring'.capacity ≡ ring.capacity → get slab t.slot ≡ Some r → slab' ≡ with_value slab t.slot (with_pending r (r.pending - 1))
     → IsKept ring' slab' used
 take_keeps ring ring' slab slab' used t r h e p was w =
     let takes = take_takes ring ring' slab slab' used t r h e p was w in

@@ -1,6 +1,6 @@
 -- Each change of a queue leaves a queue.
-use Rattle.std.proofs.Common.{◌≡◌, ◌≢◌, ◌⊎◌, ℕ, zero, suc, ◌+◌, ◌-◌, ◌<◌, ◌≤◌, ℤ, Bool, true, false, cond, List, [], ◌∷◌, ◌++◌, length, Option, Some, None, is_some, count_by, eqb, eq-eqb, refl, sym, ap, ◌∙◌, subst, inl, inr, arith, length-append}
-use Rattle.std.specs.List.{sum_by, AllByRecursion}
+use Rattle.std.proofs.Common.{◌≡◌, ◌≢◌, ℕ, suc, ◌+◌, ◌-◌, ◌<◌, ◌≤◌, ℤ, false, cond, List, [], ◌∷◌, ◌++◌, length, Option, Some, None, is_some, eq-eqb, refl, sym, ap, ◌∙◌, subst, inl, inr, arith, length-append}
+use Rattle.std.specs.List.{AllByRecursion}
 use Rattle.std.proofs.lemmas.Bool.{cases_eq, ne_eqb}
 use Rattle.std.proofs.lemmas.List.Sums.{sum_by-cons, sum_by-append, count_by-le-length}
 use Rattle.arrayvec.specs.ArrayVec.{ArrayVec}
@@ -9,7 +9,7 @@ use Rattle.fb_sched.specs.declared.ticket.Ticket.{Ticket}
 use Rattle.fb_sched.specs.declared.reaction.Reaction.{Reaction}
 use Rattle.fb_sched.specs.Agenda.{Agenda, IsAgenda, IsOpen, IsNew, slot_at, places_of, all_places, tickets_for, is_for}
 use Rattle.fb_sched.specs.Changes.{ChangesSlot, Opens, Takes, Puts, Settles}
-use Rattle.fb_sched.proofs.Slots.{places_changed, slot_cases, reaction_there, open_stays}
+use Rattle.fb_sched.proofs.Slots.{places_changed, slot_cases, open_stays}
 
 -- ---- tickets and their slots
 

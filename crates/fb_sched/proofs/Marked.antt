@@ -1,6 +1,5 @@
 -- Reactions and pending tickets: slots are freed one by one as their last tickets are passed.
-use Rattle.std.proofs.Common.{◌≡◌, ◌≢◌, ◌⊎◌, ℕ, zero, suc, ◌+◌, ◌<◌, ◌≤◌, Bool, true, false, cond, ◌||◌, List, [], ◌∷◌, length, map, get_or, Option, Some, None, is_some, eqb, eq-eqb, refl, sym, ap, ◌∙◌, subst, inl, inr, arith}
-use Rattle.std.specs.List.{sum_by}
+use Rattle.std.proofs.Common.{◌≡◌, ◌≢◌, ◌⊎◌, ℕ, zero, suc, ◌+◌, ◌<◌, ◌≤◌, Bool, true, false, cond, ◌||◌, List, [], ◌∷◌, length, map, Option, Some, None, is_some, eqb, eq-eqb, refl, sym, ap, ◌∙◌, inl, inr, arith}
 use Rattle.std.proofs.lemmas.Bool.{cases_eq, ne_eqb}
 use Rattle.fb_model.specs.Names.{Place}
 use Rattle.fb_model.specs.Devices as book
@@ -10,7 +9,7 @@ use Rattle.fb_sched.specs.declared.ticket.Ticket.{Ticket}
 use Rattle.fb_sched.specs.declared.reaction.Reaction.{Reaction}
 use Rattle.fb_sched.specs.Agenda.{Agenda, IsAgenda, IsOpen, slot_at, places_of, all_places, reactions_in, tickets_for}
 use Rattle.fb_sched.specs.Changes.{ChangesSlot}
-use Rattle.fb_sched.specs.Laws.{AllPending, Weighs, HoldsPlaces, entry_by, booked}
+use Rattle.fb_sched.specs.Entries.{AllPending, Weighs, HoldsPlaces, entry_by, booked}
 use Rattle.fb_sched.proofs.Slots.{sum_same, places_changed, reactions_changed, one_if, reaction_there}
 use Rattle.fb_sched.proofs.Kept.{AllOpen, for_own, for_other}
 
@@ -42,7 +41,7 @@ none_there None h = refl
 none_there (Some r) h = absurd (h refl)
 
 -- a ticket more is no ticket less
-more_tickets : (k : ℕ) (t : Ticket) (ts : List Ticket) → tickets_for k ts ≤ tickets_for k (t ∷ ts)
+pub more_tickets : (k : ℕ) (t : Ticket) (ts : List Ticket) → tickets_for k ts ≤ tickets_for k (t ∷ ts)
 more_tickets k t ts =
     elim (cases_eq t.slot k) [
       | inl e ↦ omega (arith, for_own k t ts e)
@@ -92,7 +91,7 @@ opening_is : (slots : List (Option Reaction)) (t : Ticket) (r : Reaction) → sl
 opening_is slots t r e = ap (λ o. (entry_by o t).opening) e
 
 -- a cause is pending where its slot has a ticket
-pending_some : (place : Point → Place) (slots : List (Option Reaction)) (k : ℕ) (r : Reaction) → slot_at slots k ≡ Some r → (ts : List Ticket) → 0 < tickets_for k ts → is_pending r.cause (bookings place slots ts) ≡ true
+pub pending_some : (place : Point → Place) (slots : List (Option Reaction)) (k : ℕ) (r : Reaction) → slot_at slots k ≡ Some r → (ts : List Ticket) → 0 < tickets_for k ts → is_pending r.cause (bookings place slots ts) ≡ true
 pending_some place slots k r e [] h = absurd (omega (arith, h))
 pending_some place slots k r e (t ∷ ts) h =
     elim (cases_eq t.slot k) [
@@ -108,7 +107,7 @@ pending_some place slots k r e (t ∷ ts) h =
     or_true false = refl
 
 -- and not where it has none
-pending_none : (place : Point → Place) (slots : List (Option Reaction)) (k : ℕ) (r : Reaction) → AllDiffer slots → slot_at slots k ≡ Some r → (ts : List Ticket) → AllOpen slots ts → tickets_for k ts ≡ 0 → is_pending r.cause (bookings place slots ts) ≡ false
+pub pending_none : (place : Point → Place) (slots : List (Option Reaction)) (k : ℕ) (r : Reaction) → AllDiffer slots → slot_at slots k ≡ Some r → (ts : List Ticket) → AllOpen slots ts → tickets_for k ts ≡ 0 → is_pending r.cause (bookings place slots ts) ≡ false
 pending_none place slots k r d e [] o h = refl
 pending_none place slots k r d e (t ∷ ts) o h =
     elim (cases_eq t.slot k) [

@@ -1,4 +1,5 @@
 pub mod Agenda
 pub mod Changes
 pub mod Keeping
-pub mod Laws
+pub mod Entries
+pub mod Steps

@@ -5,7 +5,7 @@ ghost use Rattle.fb_sched.specs.Agenda.{Agenda, IsAgenda, slot_at, all_places, r
 ghost use Rattle.fb_sched.specs.Changes.{Opens, Takes, Puts, Settles, CanSettle};
 
 use crate::reaction::{Reaction, find_in, reaction_in, rewrite};
-use crate::ticket::{Ticket, append};
+use crate::ticket::{Ticket, append, take_first};
 use circular_buffer::HeapCircularBuffer;
 use fb_invoke::{Point, Values};
 use slab::Slab;
@@ -38,7 +38,8 @@ impl Model for Queue {
 impl Queue {
     /// A queue with no entries, for at most `depth` entries and `depth` causes that have not ended.
     pub fn new(alloc: Global, depth: usize) -> Result<Queue, AllocError>
-        ensures { IfOk result (λ queue. queue ≡ record { tickets = []; slots = []; room = depth }) }
+        ensures empty { IfOk result (λ queue. queue ≡ record { tickets = []; slots = []; room = depth }) }
+        ensures sound { IfOk result IsAgenda }
     {
         Ok(Queue {
             ring: HeapCircularBuffer::with_capacity(alloc, depth)?,
@@ -69,7 +70,8 @@ impl Queue {
         requires reactions { reactions_in self.old.slots < self.old.room }
         requires places { all_places self.old.slots + places ≤ self.old.room }
         requires cause { IsNew cause self.old.slots }
-        ensures { Opens self.old cause opening places values self.new }
+        ensures opens { Opens self.old cause opening places values self.new }
+        ensures sound { IsAgenda self.new }
     {
         let slot = self.reactions.insert_reserved(Reaction {
             cause,
@@ -93,8 +95,9 @@ impl Queue {
     pub fn take(&mut self) -> Option<Ticket>
         ensures none { IfNone result ((self.old.tickets ≡ []) × (self.new ≡ self.old)) }
         ensures first { IfSome result (λ first. Takes self.old first self.new) }
+        ensures sound { IsAgenda self.new }
     {
-        let first = self.ring.pop_front()?;
+        let first = take_first(&mut self.ring)?;
         let mut reaction = reaction_in(&self.reactions, first.slot);
         reaction.pending -= 1;
         rewrite(&mut self.reactions, first.slot, reaction);
@@ -105,7 +108,8 @@ impl Queue {
     pub fn put(&mut self, slot: usize, point: Point)
         requires entries { length self.old.tickets < self.old.room }
         requires slot { IsOpen self.old.slots slot }
-        ensures { Puts self.old slot point self.new }
+        ensures puts { Puts self.old slot point self.new }
+        ensures sound { IsAgenda self.new }
     {
         let mut reaction = reaction_in(&self.reactions, slot);
         reaction.pending += 1;
@@ -123,7 +127,8 @@ impl Queue {
     /// Adds the steps of a run to a cause. Where no entry of the cause is pending it has ended: its slot is free, and the reaction is handed out with all its steps.
     pub fn settle(&mut self, slot: usize, steps: u64) -> Option<Reaction>
         requires { CanSettle self.old slot steps }
-        ensures { Settles self.old slot steps result self.new }
+        ensures settles { Settles self.old slot steps result self.new }
+        ensures sound { IsAgenda self.new }
     {
         let mut reaction = reaction_in(&self.reactions, slot);
         reaction.steps += steps;

@@ -1,6 +1,6 @@
 //! What is pending.
 
-ghost use Rattle.std.specs.Prelude.{◌≡◌, ◌<◌, ◌++◌, ◌∷◌, [], length};
+ghost use Rattle.std.specs.Prelude.{◌≡◌, ◌<◌, ◌++◌, ◌∷◌, [], length, IfSome, IfNone};
 ghost use Rattle.circular_buffer.specs.Buffer.{buffer};
 
 use circular_buffer::HeapCircularBuffer;
@@ -25,4 +25,13 @@ pub(crate) fn append(ring: &mut HeapCircularBuffer<Ticket>, ticket: Ticket)
         Ok(()) => {}
         Err(_) => unreachable!(),
     }
+}
+
+/// Takes the first ticket of a ring.
+pub(crate) fn take_first(ring: &mut HeapCircularBuffer<Ticket>) -> Option<Ticket>
+    ensures none { IfNone result ((ring.old.items ≡ []) × (ring.new ≡ ring.old)) }
+    ensures first { IfSome result (λ first. ring.old.items ≡ first ∷ ring.new.items) }
+    ensures room { ring.new.capacity ≡ ring.old.capacity }
+{
+    ring.pop_front()
 }

@@ -1,4 +1,4 @@
-use Rattle.std.proofs.Common.{ℕ, ◌<◌, length, sym, ap, subst}
+use Rattle.std.proofs.Common.{◌<◌, length, sym, subst}
 use Rattle.fb_sched.specs.Agenda.{Agenda}
 use Rattle.fb_sched.proofs.Fields.{put_keeps, no_values}
 use Rattle.fb_sched.proofs.queue.Queue.put.Goals as goal
@@ -6,3 +6,6 @@ use Rattle.fb_sched.proofs.queue.Queue.put.Goals as goal
 pub invariant_of-self : goal.invariant_of-self
 invariant_of-self c =
     put_keeps c.self.inside.ring _ c.self.inside.reactions _ _ _ c.reaction_in-reaction.result c.self.invariant (subst (λ (a : Agenda). length a.tickets < a.room) (sym c.self.view_is) c.requires.entries) (no_values c.new.result c.new.ensures) c.append.ensures c.reaction_in-reaction.ensures c.rewrite.ensures
+
+pub returns-clause-sound : goal.returns-clause-sound
+returns-clause-sound c = (invariant_of-self c).agenda

@@ -1,5 +1,6 @@
--- The tickets as entries of the book, and the laws that tie slots to them.
-use Rattle.std.specs.Prelude.{ℕ, ◌≡◌, ◌<◌, ◌≤◌, ◌==◌, List, [], ◌∷◌, map, length, Option, Some, None, if◌then◌else◌}
+-- The tickets as entries, also as the book has them, and which causes have one.
+-- IEC 61499-1 edition 2, 4.5.3 (event propagation); causes and credit are this project's profile.
+use Rattle.std.specs.Prelude.{ℕ, ◌≡◌, ◌≢◌, ◌<◌, List, map, Option, Some, None}
 use Rattle.fb_model.specs.Names.{Place}
 use Rattle.fb_model.specs.Devices as book
 use Rattle.fb_model.specs.Devices.{held}
@@ -7,11 +8,15 @@ use Rattle.fb_invoke.specs.declared.table.Point.{Point}
 use Rattle.fb_invoke.specs.declared.entry.Entry.{Entry}
 use Rattle.fb_sched.specs.declared.ticket.Ticket.{Ticket}
 use Rattle.fb_sched.specs.declared.reaction.Reaction.{Reaction}
-use Rattle.fb_sched.specs.Agenda.{Agenda, slot_at, all_places, reactions_in}
+use Rattle.fb_sched.specs.Agenda.{Agenda, slot_at, all_places}
 
 -- every open reaction has a pending ticket
 abbrev pub AllPending : List (Option Reaction) → Type 0
 AllPending slots = (slot : ℕ) (r : Reaction) → slot_at slots slot ≡ Some r → 0 < r.pending
+
+-- every open reaction has, but perhaps the one whose block runs now
+abbrev pub OthersPending : ℕ → List (Option Reaction) → Type 0
+OthersPending running slots = (slot : ℕ) (r : Reaction) → slot ≢ running → slot_at slots slot ≡ Some r → 0 < r.pending
 
 -- ---- tickets as entries
 
@@ -35,16 +40,3 @@ Weighs weight slots = (slot : ℕ) (r : Reaction) → slot_at slots slot ≡ Som
 -- the book's entries hold the places that all reactions take
 abbrev pub HoldsPlaces : (Place → ℕ) → (Point → Place) → Agenda → Type 0
 HoldsPlaces weight place a = held weight (map (booked place) (entries a)) ≡ all_places a.slots
-
--- ---- steps by cause
-
--- the reactions, by rising slot
-abbrev pub reactions : List (Option Reaction) → List Reaction
-reactions [] = []
-reactions (None ∷ slots) = reactions slots
-reactions (Some r ∷ slots) = r ∷ reactions slots
-
--- the steps so far of a cause, by its row: 0 where it has none
-abbrev pub steps_of : List Reaction → ℕ → ℕ
-steps_of [] cause = 0
-steps_of (r ∷ rows) cause = if r.cause == cause then r.steps else steps_of rows cause
