@@ -74,10 +74,10 @@ pub record OneCause (old new : List (Option Reaction)) (k : ℕ) (o : Option Rea
 steps_own : (old new : List (Option Reaction)) (k : ℕ) (o : Option Reaction) (cause : ℕ) → AllDiffer new → OneCause old new k o cause → steps_by_row (rows new) cause ≡ steps_in o
 steps_own old new k None cause d c =
     steps_none new cause (λ j r e.
-      elim (slot_cases old new k None c.change j) [
-        | inl p ↦ absurd (cc (p.1, e))
-        | inr p ↦ c.others j r p.0 (sym p.1 ∙ e)
-      ])
+    elim (slot_cases old new k None c.change j) [
+      | inl p ↦ absurd (cc (p.1, e))
+      | inr p ↦ c.others j r p.0 (sym p.1 ∙ e)
+    ])
 steps_own old new k (Some s) cause d c = ap (steps_by_row (rows new)) (sym (c.after s refl)) ∙ steps_found new k s d c.change.changed
 
 steps_other : (old new : List (Option Reaction)) (k : ℕ) (o : Option Reaction) (cause : ℕ) → AllDiffer old → AllDiffer new → OneCause old new k o cause → (c : ℕ) → cause ≢ c → steps_by_row (rows new) c ≡ steps_by_row (rows old) c
@@ -99,10 +99,10 @@ steps_other old new k o cause d d' h c n =
 steps_changed : (old new : List (Option Reaction)) (k : ℕ) (o : Option Reaction) (cause : ℕ) → AllDiffer old → AllDiffer new → OneCause old new k o cause → steps_by_row (rows new) ≡ put (steps_by_row (rows old)) cause (steps_in o)
 steps_changed old new k o cause d d' h =
     fun_ext (λ c.
-      elim (cases_eq cause c) [
-        | inl e ↦ ap (steps_by_row (rows new)) (sym e) ∙ steps_own old new k o cause d' h ∙ sym (cond-true (eqb cause c) (steps_in o) (steps_by_row (rows old) c) (eq-eqb cause c e))
-        | inr n ↦ steps_other old new k o cause d d' h c n ∙ sym (cond-false (eqb cause c) (steps_in o) (steps_by_row (rows old) c) (ne_eqb cause c n))
-      ])
+    elim (cases_eq cause c) [
+      | inl e ↦ ap (steps_by_row (rows new)) (sym e) ∙ steps_own old new k o cause d' h ∙ sym (cond-true (eqb cause c) (steps_in o) (steps_by_row (rows old) c) (eq-eqb cause c e))
+      | inr n ↦ steps_other old new k o cause d d' h c n ∙ sym (cond-false (eqb cause c) (steps_in o) (steps_by_row (rows old) c) (ne_eqb cause c n))
+    ])
 
 -- a reaction is rewritten, with its cause
 one_rewritten : (old new : List (Option Reaction)) (k : ℕ) (r : Reaction) (o : Option Reaction) → AllDiffer old → slot_at old k ≡ Some r → ChangesSlot old new k o → ((s : Reaction) → o ≡ Some s → s.cause ≡ r.cause) → OneCause old new k o r.cause
@@ -119,10 +119,10 @@ steps_stay : (old new : List (Option Reaction)) (k : ℕ) (r s : Reaction) → A
 steps_stay old new k r s d d' was c cause steps =
     let h = one_rewritten old new k r (Some s) d was c (λ x e. (let own : s ≡ x = cc in sym (ap (λ (y : Reaction). y.cause) own) ∙ cause)) in
     fun_ext (λ n.
-      elim (cases_eq r.cause n) [
-        | inl e ↦ ap (steps_by_row (rows new)) (sym e) ∙ steps_own old new k (Some s) r.cause d' h ∙ steps ∙ sym (steps_found old k r d was) ∙ ap (steps_by_row (rows old)) e
-        | inr x ↦ steps_other old new k (Some s) r.cause d d' h n x
-      ])
+    elim (cases_eq r.cause n) [
+      | inl e ↦ ap (steps_by_row (rows new)) (sym e) ∙ steps_own old new k (Some s) r.cause d' h ∙ steps ∙ sym (steps_found old k r d was) ∙ ap (steps_by_row (rows old)) e
+      | inr x ↦ steps_other old new k (Some s) r.cause d d' h n x
+    ])
 
 pub opens_steps : (old new : Agenda) (cause : ℕ) (opening : Point) (places : ℕ) (values : ArrayVec ℤ) → IsAgenda old → IsAgenda new → IsNew cause old.slots → Opens old cause opening places values new → spent new ≡ put (spent old) cause 0
 opens_steps old new cause opening places values h h' fresh o =

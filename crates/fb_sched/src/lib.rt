@@ -6,7 +6,10 @@ mod queue;
 mod reaction;
 mod ticket;
 
-pub use law::{causes_stay_pending, credit_is_held, entries_by_call, pending_by_slot, pending_reactions_fit, steps_by_call, steps_by_slot};
+pub use law::{
+    causes_stay_pending, credit_is_held, entries_by_call, pending_by_slot, pending_reactions_fit,
+    steps_by_call, steps_by_slot,
+};
 pub use queue::Queue;
 pub use reaction::Reaction;
 pub use ticket::Ticket;

@@ -25,7 +25,7 @@ loop-reaction-preserved c =
 
 pub returns-then-reaction-cause-clause-found : goal.returns-then-reaction-cause-clause-found
 returns-then-reaction-cause-clause-found c = (
-    c.in-Some.field-0-0,
-    c.loop-reaction.invariant.3 c.in-Some.field-0-0 c.in-Some.reaction.now (rw (c.in-Some.ensures.steps) (0, omega arith, refl)),
-    c.if-reaction-cause.true,
-  )
+  c.in-Some.field-0-0,
+  c.loop-reaction.invariant.3 c.in-Some.field-0-0 c.in-Some.reaction.now (rw (c.in-Some.ensures.steps) (0, omega arith, refl)),
+  c.if-reaction-cause.true,
+)
