@@ -8,7 +8,7 @@ use Rattle.fb_invoke.specs.declared.table.Point.{Point}
 use Rattle.fb_sched.specs.declared.ticket.Ticket.{Ticket}
 use Rattle.fb_sched.specs.declared.reaction.Reaction.{Reaction}
 use Rattle.fb_sched.specs.Agenda.{IsNew, all_places, places_of, slot_at}
-use Rattle.fb_sched.specs.Changes.{ChangesSlot, Takes, with_pending}
+use Rattle.fb_sched.specs.Changes.{ChangesSlot, Takes, with_pending, opened_reaction, arrival_ticket}
 use Rattle.fb_sched.specs.Keeping.{agenda_of, IsKept}
 use Rattle.fb_sched.proofs.Slots.{places_changed}
 use Rattle.fb_sched.proofs.Kept.{opens_keeps, takes_keeps, puts_keeps, ends_keeps, goes_on_keeps, places_stay, first_pending, pending_few}
@@ -72,15 +72,8 @@ put_keeps ring ring' slab slab' used t r h room none p was w =
 
 -- ---- open
 
--- the reaction and the ticket of an opening
-abbrev pub opened_reaction : ℕ → Point → ℕ → Reaction
-opened_reaction cause opening places = record { cause = cause; opening = opening; places = places; pending = 1; steps = 0 }
-
-abbrev pub opened_ticket : ℕ → Point → ArrayVec ℤ → Ticket
-opened_ticket slot opening values = record { slot = slot; point = opening; values = values }
-
 pub open_keeps : (ring ring' : Buffer Ticket) (slab slab' : Slab Reaction) (used slot cause : ℕ) (opening : Point) (places : ℕ) (values : ArrayVec ℤ) → IsKept ring slab used → length ring.items < ring.capacity → all_places slab.slots + places ≤ ring.capacity → IsNew cause slab.slots
-    → ring' ≡ buffer (ring.items ++ opened_ticket slot opening values ∷ []) ring.capacity → get slab slot ≡ None → Updates slab slab' slot (Some (opened_reaction cause opening places)) → slab'.capacity ≡ slab.capacity → IsKept ring' slab' (used + places)
+    → ring' ≡ buffer (ring.items ++ arrival_ticket slot opening values ∷ []) ring.capacity → get slab slot ≡ None → Updates slab slab' slot (Some (opened_reaction cause opening places)) → slab'.capacity ≡ slab.capacity → IsKept ring' slab' (used + places)
 open_keeps ring ring' slab slab' used slot cause opening places values h room fits fresh p was u more =
     let s = opened_reaction cause opening places in
     let c = slot_of_updates slab slab' slot (Some s) u in

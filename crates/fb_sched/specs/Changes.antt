@@ -16,16 +16,27 @@ pub record ChangesSlot (old new : List (Option Reaction)) (slot : ℕ) (now : Op
 abbrev pub with_pending : Reaction → ℕ → Reaction
 with_pending r n = record r { pending = n }
 
--- a reaction with this many steps
-abbrev pub with_steps : Reaction → ℕ → Reaction
-with_steps r n = record r { steps = n }
+-- a reaction with so many steps more
+abbrev pub with_more_steps : Reaction → ℕ → Reaction
+with_more_steps r steps = record r { steps = r.steps + steps }
+
+-- the reaction of a cause that has just been opened
+abbrev pub opened_reaction : ℕ → Point → ℕ → Reaction
+opened_reaction cause opening places = record { cause = cause; opening = opening; places = places; pending = 1; steps = 0 }
+
+-- the ticket of an arrival, and one without values
+abbrev pub arrival_ticket : ℕ → Point → ArrayVec ℤ → Ticket
+arrival_ticket slot opening values = record { slot = slot; point = opening; values = values }
+
+abbrev pub bare_ticket : ℕ → Point → Ticket
+bare_ticket slot point = record { slot = slot; point = point; values = record { items = [] } }
 
 -- a cause is opened, in a slot that was free, with the ticket of its arrival
 pub record Opens (old : Agenda) (cause : ℕ) (opening : Point) (places : ℕ) (values : ArrayVec ℤ) (new : Agenda) : Type 0 where
   pub slot : ℕ
   pub was_free : slot_at old.slots slot ≡ None
-  pub tickets : new.tickets ≡ old.tickets ++ record { slot = slot; point = opening; values = values } ∷ []
-  pub slots : ChangesSlot old.slots new.slots slot (Some (record { cause = cause; opening = opening; places = places; pending = 1; steps = 0 }))
+  pub tickets : new.tickets ≡ old.tickets ++ arrival_ticket slot opening values ∷ []
+  pub slots : ChangesSlot old.slots new.slots slot (Some (opened_reaction cause opening places))
   pub room : new.room ≡ old.room
 
 -- the first ticket is taken, and one ticket less of its reaction is pending
@@ -41,7 +52,7 @@ pub record Takes (old : Agenda) (first : Ticket) (new : Agenda) : Type 0 where
 pub record Puts (old : Agenda) (slot : ℕ) (point : Point) (new : Agenda) : Type 0 where
   pub reaction : Reaction
   pub was : slot_at old.slots slot ≡ Some reaction
-  pub tickets : new.tickets ≡ old.tickets ++ record { slot = slot; point = point; values = record { items = [] } } ∷ []
+  pub tickets : new.tickets ≡ old.tickets ++ bare_ticket slot point ∷ []
   pub slots : ChangesSlot old.slots new.slots slot (Some (with_pending reaction (reaction.pending + 1)))
   pub room : new.room ≡ old.room
 
@@ -55,7 +66,7 @@ pub record CanSettle (old : Agenda) (slot steps : ℕ) : Type 0 where
 pub record Settles (old : Agenda) (slot steps : ℕ) (ended : Option Reaction) (new : Agenda) : Type 0 where
   pub reaction : Reaction
   pub was : slot_at old.slots slot ≡ Some reaction
-  pub ended_is : ended ≡ (if reaction.pending == 0 then Some (with_steps reaction (reaction.steps + steps)) else None)
+  pub ended_is : ended ≡ (if reaction.pending == 0 then Some (with_more_steps reaction steps) else None)
   pub tickets : new.tickets ≡ old.tickets
-  pub slots : ChangesSlot old.slots new.slots slot (if reaction.pending == 0 then None else Some (with_steps reaction (reaction.steps + steps)))
+  pub slots : ChangesSlot old.slots new.slots slot (if reaction.pending == 0 then None else Some (with_more_steps reaction steps))
   pub room : new.room ≡ old.room

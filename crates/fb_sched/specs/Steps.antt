@@ -1,5 +1,5 @@
 -- The steps so far of each cause: in its slot, and in rows by cause, as a session tells them.
-use Rattle.std.specs.Prelude.{ℕ, ◌==◌, List, [], ◌∷◌, Option, Some, None, if◌then◌else◌}
+use Rattle.std.specs.Prelude.{ℕ, ◌+◌, ◌==◌, List, [], ◌∷◌, Option, Some, None, if◌then◌else◌}
 use Rattle.fb_sched.specs.declared.reaction.Reaction.{Reaction}
 use Rattle.fb_sched.specs.Agenda.{Agenda}
 
@@ -17,3 +17,7 @@ steps_by_row (r ∷ rest) cause = if r.cause == cause then r.steps else steps_by
 -- the steps so far of each cause
 abbrev pub spent : Agenda → ℕ → ℕ
 spent a = steps_by_row (rows a.slots)
+
+-- the steps that a cause has once these are added: those of a cause that ends are forgotten
+abbrev pub steps_left : Reaction → ℕ → ℕ
+steps_left r steps = if r.pending == 0 then 0 else r.steps + steps

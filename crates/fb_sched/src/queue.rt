@@ -14,7 +14,11 @@ use std::marker::Model;
 
 /// The queue of a resource: its pending entries, first to last, and the causes that have not ended, each in a slot.
 ///
-/// Events propagate in the order of their tickets: IEC 61499-1 edition 2, 4.5.3 and 5.2.2. Causes, credit and the bound on entries are this project's profile. A slot is a number from 0, free again once its cause has ended.
+/// Events propagate in the order of their entries: IEC 61499-1 edition 2, 4.5.3 and 5.2.2. Causes, credit and the bound on entries are this project's profile.
+///
+/// An arrival is admitted by `open`, where `free` leaves the places of its WEIGHT row. A dispatch is `take`, then `put` for each event input that the outputs of the block reach, then `settle` with the steps of the run. Each takes constant time, and no memory.
+///
+/// A slot is a number from 0, free again once its cause has ended. Places count entries, and steps are those of the certificate.
 #[derive(Drop)]
 pub struct Queue {
     ring: HeapCircularBuffer<Ticket>,
@@ -56,7 +60,7 @@ impl Queue {
         self.ring.len()
     }
 
-    /// The places that no cause holds.
+    /// The places that no open cause holds, by a running number.
     pub fn free(&self) -> u64
         ensures free { result ≡ self.now.room - all_places self.now.slots }
         ensures sound { IsAgenda self.now }
