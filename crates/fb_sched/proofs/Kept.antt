@@ -1,5 +1,5 @@
 -- Each change of a queue leaves a queue.
-use Rattle.std.proofs.Common.{◌≡◌, ◌≢◌, ℕ, suc, ◌+◌, ◌-◌, ◌<◌, ◌≤◌, ℤ, false, cond, List, [], ◌∷◌, ◌++◌, length, Option, Some, None, is_some, eq-eqb, refl, sym, ap, ◌∙◌, subst, inl, inr, arith, length-append}
+use Rattle.std.proofs.Common.{◌≡◌, ◌≢◌, ℕ, suc, ◌+◌, ◌-◌, ◌<◌, ◌≤◌, ℤ, Bool, true, false, cond, List, [], ◌∷◌, ◌++◌, length, Option, Some, None, is_some, eqb, eq-eqb, refl, sym, ap, ◌∙◌, subst, inl, inr, arith, length-append}
 use Rattle.std.specs.List.{AllByRecursion}
 use Rattle.std.proofs.lemmas.Bool.{cases_eq, ne_eqb}
 use Rattle.std.proofs.lemmas.List.Sums.{sum_by-cons, sum_by-append, count_by-le-length}
@@ -232,3 +232,30 @@ first_pending a t ts r h e was = omega (arith, h.counted t.slot r was, ap (ticke
 -- no reaction has more than all
 pub pending_few : (a : Agenda) (k : ℕ) (r : Reaction) → IsAgenda a → slot_at a.slots k ≡ Some r → r.pending ≤ length a.tickets
 pending_few a k r h was = omega (arith, h.counted k r was, count_by-le-length (is_for k) a.tickets)
+
+-- ---- the places that all reactions take
+
+pub opens_places : (old new : Agenda) (cause : ℕ) (opening : Point) (places : ℕ) (values : ArrayVec ℤ) → Opens old cause opening places values new → all_places new.slots ≡ all_places old.slots + places
+opens_places old new cause opening places values o =
+    let free : places_of (slot_at old.slots o.slot) ≡ 0 = ap places_of o.was_free in
+    omega (arith, free, places_changed old.slots new.slots o.slot _ o.slots)
+
+pub takes_places : (old new : Agenda) (first : Ticket) → Takes old first new → all_places new.slots ≡ all_places old.slots
+takes_places old new first t = places_stay old.slots new.slots first.slot t.reaction _ t.slots t.was refl
+
+pub puts_places : (old new : Agenda) (slot : ℕ) (point : Point) → Puts old slot point new → all_places new.slots ≡ all_places old.slots
+puts_places old new slot point p = places_stay old.slots new.slots slot p.reaction _ p.slots p.was refl
+
+pub settles_places : (old new : Agenda) (slot steps : ℕ) (ended : Option Reaction) → Settles old slot steps ended new → all_places new.slots + places_of ended ≡ all_places old.slots
+settles_places old new slot steps ended s =
+    let r = s.reaction in
+    let more : Reaction = record r { steps = r.steps + steps } in
+    let told = ap places_of s.ended_is in
+    let held : places_of (slot_at old.slots slot) ≡ r.places = ap places_of s.was in
+    let change = places_changed old.slots new.slots slot _ s.slots in
+    let both : places_of (cond (eqb r.pending 0) None (Some more)) + places_of (cond (eqb r.pending 0) (Some more) None) ≡ r.places = split (eqb r.pending 0) more in
+    omega (arith, told, held, change, both)
+  where
+    split : (b : Bool) (x : Reaction) → places_of (cond b None (Some x)) + places_of (cond b (Some x) None) ≡ x.places
+    split true x = omega arith
+    split false x = omega arith

@@ -1,13 +1,13 @@
 //! Laws of queues: of what is true between dispatches, of the credit, and of what each call does to entries and steps as the book tells them.
 
-ghost use Rattle.std.specs.Prelude.{ℕ, ℤ, ◌≡◌, ◌≤◌, ◌==◌, not, [], ◌∷◌, ◌++◌, map, length, Option, Some};
+ghost use Rattle.std.specs.Prelude.{ℕ, ℤ, ◌≡◌, ◌≤◌, ◌+◌, ◌==◌, not, [], ◌∷◌, ◌++◌, map, length, Option, Some};
 ghost use Rattle.arrayvec.specs.ArrayVec.{ArrayVec};
 ghost use Rattle.fb_model.specs.Names.{Place};
 ghost use Rattle.fb_model.specs.Devices.{is_pending, put};
 ghost use Rattle.fb_invoke.specs.declared.table.Point.{Point};
 ghost use Rattle.fb_sched.specs.declared.reaction.Reaction.{Reaction};
 ghost use Rattle.fb_sched.specs.declared.ticket.Ticket.{Ticket};
-ghost use Rattle.fb_sched.specs.Agenda.{Agenda, IsAgenda, IsNew, slot_at, reactions_in};
+ghost use Rattle.fb_sched.specs.Agenda.{Agenda, IsAgenda, IsNew, slot_at, reactions_in, places_of, all_places};
 ghost use Rattle.fb_sched.specs.Changes.{Opens, Takes, Puts, Settles};
 ghost use Rattle.fb_sched.specs.Entries.{AllPending, OthersPending, Weighs, HoldsPlaces, entries, entry_by, arrival_entry, sent_entry, booked};
 ghost use Rattle.fb_sched.specs.Steps.{rows, steps_by_row, spent, steps_left};
@@ -33,6 +33,18 @@ pub fn causes_stay_pending()
 pub fn credit_is_held()
     ensures { (a : Agenda) (weight : Place → ℕ) (place : Point → Place)
         → IsAgenda a → AllPending a.slots → Weighs (λ p. weight (place p)) a.slots → HoldsPlaces weight place a }
+{}
+
+/// What the calls do to the places that all causes take: `open` adds its own, an end gives them back, and nothing else changes them.
+pub fn credit_by_call()
+    ensures opens { (old new : Agenda) (cause : ℕ) (opening : Point) (places : ℕ) (values : ArrayVec ℤ)
+        → Opens old cause opening places values new → all_places new.slots ≡ all_places old.slots + places }
+    ensures takes { (old new : Agenda) (first : Ticket)
+        → Takes old first new → all_places new.slots ≡ all_places old.slots }
+    ensures puts { (old new : Agenda) (slot : ℕ) (point : Point)
+        → Puts old slot point new → all_places new.slots ≡ all_places old.slots }
+    ensures settles { (old new : Agenda) (slot steps : ℕ) (ended : Option Reaction)
+        → Settles old slot steps ended new → all_places new.slots + places_of ended ≡ all_places old.slots }
 {}
 
 /// A cause is pending among the entries exactly where its reaction counts an entry.

@@ -7,8 +7,8 @@ mod reaction;
 mod ticket;
 
 pub use law::{
-    causes_stay_pending, credit_is_held, entries_by_call, pending_by_slot, pending_reactions_fit,
-    steps_by_call, steps_by_slot,
+    causes_stay_pending, credit_by_call, credit_is_held, entries_by_call, pending_by_slot,
+    pending_reactions_fit, steps_by_call, steps_by_slot,
 };
 pub use queue::Queue;
 pub use reaction::Reaction;
