@@ -214,15 +214,6 @@ ends_keeps old new slot r h was none c tickets room =
       credit = omega (arith, h.credit, room, places_changed old.slots new.slots slot None c);
     }
 
-pub settles_keeps : (old : Agenda) (slot steps : ℕ) (ended : Option Reaction) (new : Agenda) → IsAgenda old → Settles old slot steps ended new → IsAgenda new
-settles_keeps old slot steps ended new h s =
-    let r = s.reaction in
-    let more : Reaction = record r { steps = r.steps + steps } in
-    elim (cases_eq r.pending 0) [
-      | inl z ↦ ends_keeps old new slot r h s.was z (subst (λ b. ChangesSlot old.slots new.slots slot (cond b None (Some more))) (eq-eqb r.pending 0 z) s.slots) s.tickets s.room
-      | inr n ↦ goes_on_keeps old new slot r more h s.was refl refl refl (subst (λ b. ChangesSlot old.slots new.slots slot (cond b None (Some more))) (ne_eqb r.pending 0 n) s.slots) s.tickets s.room
-    ]
-
 -- ---- how many tickets of a reaction are pending
 
 -- the first ticket's reaction has a pending ticket
