@@ -1,5 +1,5 @@
 -- Timers stay in order, and of each block one.
-use Rattle.std.proofs.Common.{◌≡◌, ℕ, zero, suc, ◌+◌, ◌<◌, ◌≤◌, ◌⊎◌, inl, inr, Bool, true, false, List, [], ◌∷◌, length, Option, None, Some, refl, sym, ap, subst, ◌∙◌, arith}
+use Rattle.std.proofs.Common.{◌≡◌, ℕ, zero, suc, ◌<◌, ◌≤◌, ◌⊎◌, inl, inr, Bool, true, false, List, [], ◌∷◌, None, Some, refl, sym, ap, subst, ◌∙◌, arith}
 use Rattle.std.specs.Prelude.{◌==◌, ◌≢◌, nat_le, if◌then◌else◌, slice_get}
 use Rattle.std.specs.List.{AllByRecursion}
 use Rattle.std.proofs.lemmas.Bool.Decides.{leb_tells, eqb_tells}
@@ -8,19 +8,19 @@ use Rattle.fb_timers.specs.Order.{is_ahead, IsOrdered, AreApart, placed, without
 use Rattle.fb_timers.proofs.Ahead.{ahead_on, ahead_else, ahead_before, IsBefore}
 
 -- the block of another timer is another
-other_block : (a x : Armed) (l : List Armed) → due_of (a ∷ l) x.block ≡ None → (a.block == x.block) ≡ false
+pub other_block : (a x : Armed) (l : List Armed) → due_of (a ∷ l) x.block ≡ None → (a.block == x.block) ≡ false
 other_block a x l h = by (a.block == x.block) h where
   by : (b : Bool) → (if b then Some a.due else due_of l x.block) ≡ None → b ≡ false
   by true g = absurd (cc)
   by false g = refl
 
-other_rest : (a x : Armed) (l : List Armed) → due_of (a ∷ l) x.block ≡ None → due_of l x.block ≡ None
+pub other_rest : (a x : Armed) (l : List Armed) → due_of (a ∷ l) x.block ≡ None → due_of l x.block ≡ None
 other_rest a x l h = by (a.block == x.block) h where
   by : (b : Bool) → (if b then Some a.due else due_of l x.block) ≡ None → due_of l x.block ≡ None
   by true g = absurd (cc)
   by false g = g
 
-differ : (m n : ℕ) → (m == n) ≡ false → n ≢ m
+pub differ : (m n : ℕ) → (m == n) ≡ false → n ≢ m
 differ m n f e = by (eqb_tells m n) where
   by : (((m == n) ≡ true) × (m ≡ n)) ⊎ (((m == n) ≡ false) × (m ≢ n)) → ⊥
   by (inl p) = absurd (cc)
@@ -52,11 +52,13 @@ due_placed x (a ∷ l) k n = by (is_ahead x a) (due_placed x l k (other_rest a x
   swap true true f = let g = f refl in absurd (cc)
   swap true false f = refl
   swap false q f = refl
+
   apart : (x.block == k) ≡ true → (a.block == k) ≡ false
   apart t = by2 (eqb_tells x.block k) where
     by2 : (((x.block == k) ≡ true) × (x.block ≡ k)) ⊎ (((x.block == k) ≡ false) × (x.block ≢ k)) → (a.block == k) ≡ false
     by2 (inl p) = subst (λ m. (a.block == m) ≡ false) p.1 (other_block a x l n)
     by2 (inr p) = absurd (cc)
+
   by : (c : Bool) → due_of (placed x l) k ≡ (if x.block == k then Some x.due else due_of l k) → due_of (if c then x ∷ a ∷ l else a ∷ placed x l) k ≡ (if x.block == k then Some x.due else due_of (a ∷ l) k)
   by true again = refl
   by false again = ap (λ r. if a.block == k then Some a.due else r) again ∙ swap (a.block == k) (x.block == k) apart
@@ -70,6 +72,7 @@ apart_placed x (a ∷ l) p n = by (is_ahead x a) (apart_placed x l p.1 (other_re
     by3 (inl q) = absurd (differ a.block x.block (other_block a x l n) q.1)
     by3 (inr q) = absurd (cc)
   flip false e = refl
+
   by : (c : Bool) → AreApart (placed x l) → AreApart (if c then x ∷ a ∷ l else a ∷ placed x l)
   by true again = (n, (p.0, p.1))
   by false again = (due_placed x l a.block (other_rest a x l n) ∙ ap (λ b. if b then Some x.due else due_of l a.block) (flip (x.block == a.block) refl) ∙ p.0, again)
@@ -110,7 +113,7 @@ apart_without (a ∷ l) k p = by (a.block == k) (apart_without l k p.1) where
 
 -- ---- those that are due
 
-late : (clock : ℕ) (a : Armed) (l : List Armed) → nat_le a.due clock ≡ false → AllByRecursion (λ (b : Armed). is_ahead a b ≡ true) l → AllByRecursion (λ (b : Armed). nat_le b.due clock ≡ false) l
+pub late : (clock : ℕ) (a : Armed) (l : List Armed) → nat_le a.due clock ≡ false → AllByRecursion (λ (b : Armed). is_ahead a b ≡ true) l → AllByRecursion (λ (b : Armed). nat_le b.due clock ≡ false) l
 late clock a [] f all = tt
 late clock a (b ∷ bs) f all = (by (leb_tells a.due clock) (leb_tells b.due clock) (ahead_before a b all.0), late clock a bs f all.1) where
   by : ((nat_le a.due clock ≡ true) × (a.due ≤ clock)) ⊎ ((nat_le a.due clock ≡ false) × (clock < a.due)) → ((nat_le b.due clock ≡ true) × (b.due ≤ clock)) ⊎ ((nat_le b.due clock ≡ false) × (clock < b.due)) → IsBefore a b → nat_le b.due clock ≡ false

@@ -1,5 +1,5 @@
 -- Where a timer has its place among others, and where the timer of a block stands, by index.
-use Rattle.std.proofs.Common.{◌≡◌, ℕ, zero, suc, ◌+◌, ◌<◌, ◌≤◌, Bool, true, false, List, [], ◌∷◌, length, drop, drop-cons, Option, None, Some, refl, sym, ap, subst, ◌∙◌, arith, insert, remove}
+use Rattle.std.proofs.Common.{◌≡◌, ℕ, suc, ◌+◌, ◌<◌, ◌≤◌, Bool, true, false, List, [], ◌∷◌, length, drop, drop-cons, Some, refl, sym, ap, ◌∙◌, arith, insert, remove}
 use Rattle.std.specs.Prelude.{◌==◌, if◌then◌else◌, slice_index_or}
 use Rattle.fb_timers.specs.declared.armed.Armed.{Armed}
 use Rattle.fb_timers.specs.Order.{is_ahead, placed, without, due_of}

@@ -1,6 +1,6 @@
 -- Armed timers in the order in which they expire: by due moment, then in the order of their blocks, which is that of resources first.
 -- This project's profile of IEC 61499-1 edition 2, annex A (E_DELAY and E_CYCLE).
-use Rattle.std.specs.Prelude.{ℕ, ◌≡◌, ◌+◌, ◌==◌, nat_lt, nat_le, Bool, true, false, ◌&&◌, ◌||◌, not, List, [], ◌∷◌, Option, None, Some, if◌then◌else◌}
+use Rattle.std.specs.Prelude.{ℕ, ◌≡◌, ◌==◌, nat_lt, nat_le, Bool, true, ◌&&◌, ◌||◌, List, [], ◌∷◌, Option, None, Some, if◌then◌else◌}
 use Rattle.std.specs.List.{AllByRecursion}
 use Rattle.fb_timers.specs.declared.armed.Armed.{Armed}
 

@@ -1,7 +1,7 @@
 //! All timers of a device that are armed.
 
 ghost use Rattle.std.specs.Prelude.{◌≡◌, ◌≤◌, ◌<◌, [], length, insert, remove, slice_get, Option, None, IfOk, MatchOption};
-ghost use Rattle.fb_timers.specs.Order.{is_ahead, placed, without, due_of, due_at, if_due};
+ghost use Rattle.fb_timers.specs.Order.{placed, without, due_of, due_at, if_due, IsOrdered, AreApart};
 
 use crate::armed::Armed;
 use std::alloc::{AllocError, Global};
@@ -69,6 +69,13 @@ impl Timers {
         Ok(Timers {
             armed: Vec::with_capacity(alloc, count)?,
         })
+    }
+
+    /// The timers stand in the order in which they expire, and each block has one at most.
+    pub fn keeps_order(&self)
+        ensures { IsOrdered self.now.armed × AreApart self.now.armed }
+    {
+        let _ = &self.armed;
     }
 
     /// Arms the timer of a block for a moment.

@@ -1,4 +1,4 @@
-use Rattle.std.proofs.Common.{◌≡◌, List, None, insert, refl, sym, ap, subst, ◌∙◌}
+use Rattle.std.proofs.Common.{◌≡◌, List, None, insert, sym, ap, subst, ◌∙◌}
 use Rattle.fb_timers.specs.declared.armed.Armed.{Armed}
 use Rattle.fb_timers.specs.Order.{IsOrdered, AreApart, placed, due_of}
 use Rattle.fb_timers.proofs.Ordered.{ordered_placed, apart_placed}

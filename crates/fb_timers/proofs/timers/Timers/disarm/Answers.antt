@@ -1,4 +1,4 @@
-use Rattle.std.proofs.Common.{◌≡◌, ◌<◌, List, Some, remove, length, sym, ap, subst, ◌∙◌}
+use Rattle.std.proofs.Common.{◌≡◌, List, remove, sym, subst, ◌∙◌}
 use Rattle.fb_timers.specs.declared.armed.Armed.{Armed}
 use Rattle.fb_timers.specs.Order.{IsOrdered, AreApart, without}
 use Rattle.fb_timers.proofs.Ordered.{ordered_without, apart_without}
