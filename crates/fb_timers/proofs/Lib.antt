@@ -2,4 +2,4 @@ pub mod Ahead
 pub mod Seats
 pub mod Ordered
 pub mod Told
-pub mod Fires
+pub mod Leaves

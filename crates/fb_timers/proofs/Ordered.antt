@@ -8,19 +8,19 @@ use Rattle.fb_timers.specs.Order.{is_ahead, IsOrdered, AreApart, placed, without
 use Rattle.fb_timers.proofs.Ahead.{ahead_on, ahead_else, ahead_before, IsBefore}
 
 -- the block of another timer is another
-pub other_block : (a x : Armed) (l : List Armed) → due_of (a ∷ l) x.block ≡ None → (a.block == x.block) ≡ false
+other_block : (a x : Armed) (l : List Armed) → due_of (a ∷ l) x.block ≡ None → (a.block == x.block) ≡ false
 other_block a x l h = by (a.block == x.block) h where
   by : (b : Bool) → (if b then Some a.due else due_of l x.block) ≡ None → b ≡ false
   by true g = absurd (cc)
   by false g = refl
 
-pub other_rest : (a x : Armed) (l : List Armed) → due_of (a ∷ l) x.block ≡ None → due_of l x.block ≡ None
+other_rest : (a x : Armed) (l : List Armed) → due_of (a ∷ l) x.block ≡ None → due_of l x.block ≡ None
 other_rest a x l h = by (a.block == x.block) h where
   by : (b : Bool) → (if b then Some a.due else due_of l x.block) ≡ None → due_of l x.block ≡ None
   by true g = absurd (cc)
   by false g = g
 
-pub differ : (m n : ℕ) → (m == n) ≡ false → n ≢ m
+differ : (m n : ℕ) → (m == n) ≡ false → n ≢ m
 differ m n f e = by (eqb_tells m n) where
   by : (((m == n) ≡ true) × (m ≡ n)) ⊎ (((m == n) ≡ false) × (m ≢ n)) → ⊥
   by (inl p) = absurd (cc)
@@ -113,6 +113,7 @@ apart_without (a ∷ l) k p = by (a.block == k) (apart_without l k p.1) where
 
 -- ---- those that are due
 
+-- behind a timer that is not due none is
 pub late : (clock : ℕ) (a : Armed) (l : List Armed) → nat_le a.due clock ≡ false → AllByRecursion (λ (b : Armed). is_ahead a b ≡ true) l → AllByRecursion (λ (b : Armed). nat_le b.due clock ≡ false) l
 late clock a [] f all = tt
 late clock a (b ∷ bs) f all = (by (leb_tells a.due clock) (leb_tells b.due clock) (ahead_before a b all.0), late clock a bs f all.1) where

@@ -8,7 +8,7 @@ use Rattle.fb_timers.specs.Order.{is_ahead, IsOrdered, AreApart, without, due_of
 use Rattle.fb_timers.proofs.Ahead.{ahead_before, IsBefore}
 use Rattle.fb_timers.proofs.Ordered.{late}
 
--- two numbers that the test parts, or joins
+-- the test of two numbers, and what it tells
 pub equal_tells : (m n : ℕ) → ((m == n) ≡ true) ⊎ ((m == n) ≡ false)
 equal_tells m n = by (eqb_tells m n) where
   by : (((m == n) ≡ true) × (m ≡ n)) ⊎ (((m == n) ≡ false) × (m ≢ n)) → ((m == n) ≡ true) ⊎ ((m == n) ≡ false)
@@ -62,6 +62,7 @@ due_cleared (a ∷ l) k j p = by (eqb_tells a.block k) (due_cleared l k j p.1) w
 
 -- ---- timers that tell the same
 
+-- a timer is its moment and its block
 same_timer : (a b : Armed) → a.due ≡ b.due → a.block ≡ b.block → a ≡ b
 same_timer a b d k = subst (λ m. a ≡ record { due = m; block = b.block }) d (subst (λ n. a ≡ record { due = a.due; block = n }) k refl)
 
@@ -82,6 +83,7 @@ all_told P (a ∷ l) k d all h = by (equal_tells a.block k) (λ g. all_told P l 
 told_first : (a : Armed) (l : List Armed) → due_of (a ∷ l) a.block ≡ Some a.due
 told_first a l = ap (λ b. if b then Some a.due else due_of l a.block) (equal_yes a.block a.block refl)
 
+-- and of other blocks the rest tells
 told_rest : (a : Armed) (l : List Armed) (k : ℕ) → (a.block == k) ≡ false → due_of (a ∷ l) k ≡ due_of l k
 told_rest a l k f = ap (λ b. if b then Some a.due else due_of l k) f
 
@@ -97,17 +99,20 @@ first_or a b m o h = by (equal_tells b.block a.block) where
       inl is
   by (inr f) = inr (ahead_before b a (all_told (λ (c : Armed). is_ahead b c ≡ true) m a.block a.due o.0 (sym (told_rest b m a.block f) ∙ h)))
 
+-- of two timers one alone comes before the other
 never_both : (a b : Armed) → IsBefore a b → IsBefore b a → ⊥
 never_both a b (inl p) (inl q) = omega (arith, p, q)
 never_both a b (inl p) (inr q) = omega (arith, p, q.0)
 never_both a b (inr p) (inl q) = omega (arith, p.0, q)
 never_both a b (inr p) (inr q) = omega (arith, p.1, q.1)
 
+-- so the first of both is one
 firsts_join : (a b : Armed) → (a ≡ b) ⊎ IsBefore b a → (b ≡ a) ⊎ IsBefore a b → a ≡ b
 firsts_join a b (inl e) q = e
 firsts_join a b (inr p) (inl e) = sym e
 firsts_join a b (inr p) (inr q) = absurd (never_both a b q p)
 
+-- and what is behind it tells the same
 rests_tell : (a : Armed) (l m : List Armed) (k : ℕ) → due_of l a.block ≡ None → due_of m a.block ≡ None → due_of (a ∷ l) k ≡ due_of (a ∷ m) k → due_of l k ≡ due_of m k
 rests_tell a l m k p q h = by (equal_tells a.block k) where
   by : ((a.block == k) ≡ true) ⊎ ((a.block == k) ≡ false) → due_of l k ≡ due_of m k
@@ -133,6 +138,7 @@ abbrev pub up_to : ℕ → Option ℕ → Option ℕ
 up_to clock None = None
 up_to clock (Some d) = if nat_le d clock then Some d else None
 
+-- of those that are not due nothing is told up to the clock
 none_late : (clock : ℕ) (l : List Armed) (k : ℕ) → AllByRecursion (λ (b : Armed). nat_le b.due clock ≡ false) l → up_to clock (due_of l k) ≡ None
 none_late clock [] k all = refl
 none_late clock (a ∷ l) k all = by (a.block == k) (none_late clock l k all.1) where
@@ -152,6 +158,7 @@ told_due clock (a ∷ l) k o = by (nat_le a.due clock) refl (a.block == k) (told
     two false = again
   by false h b again = sym (none_late clock (a ∷ l) k (h, late clock a l h o.0))
 
+-- what holds of all holds of those that are due
 all_due : (P : Armed → Type 0) (clock : ℕ) (l : List Armed) → AllByRecursion P l → AllByRecursion P (due_at clock l)
 all_due P clock [] all = tt
 all_due P clock (a ∷ l) all = by (nat_le a.due clock) (all_due P clock l all.1) where
@@ -159,6 +166,7 @@ all_due P clock (a ∷ l) all = by (nat_le a.due clock) (all_due P clock l all.1
   by true again = (all.0, again)
   by false again = tt
 
+-- they are in order, and of each block one
 pub ordered_due : (clock : ℕ) (l : List Armed) → IsOrdered l → IsOrdered (due_at clock l)
 ordered_due clock [] o = tt
 ordered_due clock (a ∷ l) o = by (nat_le a.due clock) (ordered_due clock l o.1) where
