@@ -1,6 +1,6 @@
 -- What trees with slots are in the book: the same as the typed trees without slots.
-use Rattle.std.specs.Prelude.{ℤ, List, [], ◌∷◌, map, string_bytes}
-use Rattle.fb_model.specs.TypedText.{Term, constant, read, part, single, double, Command, set, set_part, choose, match_on, count, Commands, done, then_do, Choices, no_choice, choice, Cases, no_case, a_case}
+use Rattle.std.specs.Prelude.{List, map, string_bytes}
+use Rattle.fb_model.specs.TypedText.{Term, constant, read, part, single, Command, set, set_part, choose, match_on, Commands, done, Choices, no_choice, Cases, no_case}
 use Rattle.st_types.specs.Commanding.{Counted}
 use Rattle.st_types.specs.Views.{Tail, joined}
 use Rattle.st_types.specs.CommandViews.{Chosen, Cased, then_all, all_choices, all_cases, counted_command}

@@ -1,5 +1,5 @@
 -- When the slots in a tree are those of the variables that it names.
-use Rattle.std.specs.Prelude.{ℕ, ◌==◌, Bool, true, ◌&&◌, List, [], ◌∷◌, map, string_bytes}
+use Rattle.std.specs.Prelude.{◌==◌, Bool, true, ◌&&◌, List, [], ◌∷◌, map, string_bytes}
 use Rattle.st_code.specs.declared.code.Code.{Code, fold-Code}
 use Rattle.st_code.specs.declared.code.Code.TheOpen.{Code-F, CodeLink-F}
 use Rattle.st_code.specs.declared.code.CodeLink.{CodeLink, fold-CodeLink}

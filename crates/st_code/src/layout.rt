@@ -95,13 +95,11 @@ impl Layout {
         ensures { result ≡ plain_slot self.now name.now }
     {
         match find(&self.places, name) {
-            Some(
-                Place {
-                    first,
-                    bounds: None,
-                },
-            ) => first,
-            _ => self.size,
+            Some(place) => match place.bounds {
+                None => place.first,
+                Some(_) => self.size,
+            },
+            None => self.size,
         }
     }
 }
