@@ -1,6 +1,6 @@
 //! Where the numbers of one variable lie.
 
-ghost use Rattle.std.specs.Prelude.{◌≡◌, ◌+◌, ◌++◌, [], ◌∷◌, None, IfSome, IfOk, OnOk, OnErr};
+ghost use Rattle.std.specs.Prelude.{◌≡◌, ◌<◌, ◌^◌, ◌+◌, ◌++◌, [], ◌∷◌, None, IfSome, IfOk, OnOk, OnErr};
 ghost use Rattle.st_code.specs.Forms.{slot_count};
 ghost use Rattle.st_code.specs.Laid.{found, forms_in, IsLaid};
 
@@ -14,6 +14,19 @@ pub struct Place {
     pub first: usize,
     /// The lowest and the highest index of an array.
     pub bounds: Option<(i64, i64)>,
+}
+
+impl Place {
+    /// How many slots the variable has.
+    pub fn count(&self) -> usize
+        requires { slot_count self.now.bounds < 2 ^ 64 }
+        ensures { result ≡ slot_count self.now.bounds }
+    {
+        match self.bounds {
+            None => 1,
+            Some((low, high)) => high.abs_diff(low) as usize + 1,
+        }
+    }
 }
 
 /// The place of a variable.
