@@ -1,11 +1,11 @@
 -- Values that are kept as numbers in a row: what is read from slots, and what is written.
-use Rattle.std.proofs.Common.{◌≡◌, ℕ, zero, suc, ◌+◌, ◌-◌, ◌<◌, ◌≤◌, ℤ, pos, ◌-ℤ◌, ◌≤ℤ◌, unsigned_abs, int_le, Bool, true, false, ◌&&◌, ◌⊎◌, inl, inr, List, [], ◌∷◌, ◌++◌, map, length, take, drop, replicate, get_or, Option, None, Some, IsSome, refl, sym, ap, subst, ◌∙◌, arith, append_assoc, length-drop, length-append, min}
+use Rattle.std.proofs.Common.{◌≡◌, ℕ, zero, suc, ◌+◌, ◌-◌, ◌<◌, ◌≤◌, ℤ, pos, ◌-ℤ◌, ◌≤ℤ◌, unsigned_abs, int_le, Bool, true, false, ◌&&◌, inl, inr, List, [], ◌∷◌, ◌++◌, length, take, drop, replicate, get_or, Option, None, Some, IsSome, refl, sym, ap, subst, ◌∙◌, arith, append_assoc, length-drop, length-append, min}
 use Rattle.std.specs.Prelude.{slice_get, slice_set, if◌then◌else◌}
 use Rattle.std.specs.Option.{option_map}
 use Rattle.std.specs.Str.{bytes_eq}
 use Rattle.std.proofs.Math.Path.{fun_ext}
 use Rattle.std.proofs.Math.Seq.{take-set-lt}
-use Rattle.std.proofs.lemmas.List.{drop-set, drop-set-add, drop-replicate, take-replicate, take-append-le, take_all, length-take-le, length-replicate, length-set}
+use Rattle.std.proofs.lemmas.List.{drop-set-add, drop-replicate, take-replicate, take-append-le, take_all, length-take-le, length-replicate, length-set}
 use Rattle.std.proofs.lemmas.Bool.{cases_lt}
 use Rattle.std.proofs.lemmas.List.Edits.{sets, sets-eq}
 use Rattle.fb_words.proofs.Types.{le_true}
@@ -15,13 +15,13 @@ use Rattle.fb_model.specs.Values.{Value, Values, One, Many, number_of, numbers_o
 use Rattle.fb_model.specs.BlockTyping.{extent}
 use Rattle.fb_model.specs.Language.{element_at, setting, setting_part, Done, Trap}
 use Rattle.fb_model.specs.Shapes.{HasForm, HasShape}
-use Rattle.st_code.specs.Forms.{Form, slot_count, size_of, slot_in, bounds_in, plain_slot, IsDeclaredIn}
+use Rattle.st_code.specs.Forms.{Form, slot_count, size_of, slot_in, bounds_in, plain_slot}
 use Rattle.st_exec.specs.Cells.{Cell, values_of, forms_of, shape_in, filled, declared}
 use Rattle.st_exec.specs.Slots.{first_of, formed}
 use Rattle.st_exec.proofs.Writing.{IsSameOutside, set_same, first_put, index_within, spliced}
-use Rattle.st_exec.proofs.Reading.{element_is, some_within, taken_few, get_dropped}
+use Rattle.st_exec.proofs.Reading.{element_is, some_within, taken_few}
 use Rattle.st_run.specs.Kept.{cells_at, zeros_in}
-use Rattle.st_run.proofs.Slots.{shape_is, slots_some, declared_within, array_within, length_within, apart, one_slot, plain_is}
+use Rattle.st_run.proofs.Slots.{shape_is, array_within, apart, one_slot, plain_is}
 
 -- ---- a whole layout
 

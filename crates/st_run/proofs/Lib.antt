@@ -1,3 +1,6 @@
 pub mod Slots
 pub mod Keeping
 pub mod Chaining
+pub mod Placing
+pub mod Setting
+pub mod Branching

@@ -68,7 +68,7 @@ impl Store {
     }
 
     /// The element of an index of an array whose lowest index is `low`.
-    pub fn element(&self, first: usize, low: i64, index: i64) -> i64
+    pub(crate) fn element(&self, first: usize, low: i64, index: i64) -> i64
         ensures { (x : Name) (high : ℤ) → slot_of self.now x ≡ first → IsSome (element_at low high (numbers_of (values_of self.now x)) index) → element_at low high (numbers_of (values_of self.now x)) index ≡ Some result }
     {
         let slot = first.saturating_add(index.abs_diff(low) as usize);
@@ -85,7 +85,7 @@ impl Store {
     }
 
     /// Gives the element of an index of an array another number, whose lowest index is `low`.
-    pub fn set_element(&mut self, first: usize, low: i64, index: i64, number: i64)
+    pub(crate) fn set_element(&mut self, first: usize, low: i64, index: i64, number: i64)
         requires { first + unsigned_abs (index -ℤ low) < room_of self.old }
         ensures values { (x : Name) (high : ℤ) → slot_of self.old x ≡ first → length_of self.old x ≡ Some (extent (low, high)) → low ≤ℤ index → index ≤ℤ high → setting_part (values_of self.old) x low high index number ≡ Done (values_of self.new) 0 }
         ensures forms { forms_of self.new ≡ forms_of self.old }

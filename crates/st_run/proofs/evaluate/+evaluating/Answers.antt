@@ -36,9 +36,11 @@ eval_links-eval-operand-requires t c =
     let d = drop_step c.args.links.now c.loop-link.link-index c.link-item.result c.loop-link-test.true c.link-item.is in
     let h : IsSome (value_of (joined (constant (to_z w64 (of_z w64 c.args.first))) (map code_tail c.args.links.now)) (values_of c.args.store.now)) = subst (λ k. IsSome (value_of (joined (constant k) (map code_tail c.args.links.now)) (values_of c.args.store.now))) (sym q) c.requires.done in (
       search (rules, the_lemmas),
-      (operand_placed (forms_of c.args.store.now) c.link-item.result (drop (c.loop-link.link-index + 1) c.args.links.now) (ap (λ ls. all_true (map (placed_link (forms_of c.args.store.now)) ls)) (sym d) ∙ c.loop-link.invariant.slots),
-      operand_some (values_of c.args.store.now) (to_z w64 c.loop-link.whole-bits) c.link-item.result (map code_tail (drop (c.loop-link.link-index + 1) c.args.links.now)) _
-          (ap (λ ls. value_of (joined (constant (to_z w64 c.loop-link.whole-bits)) (map code_tail ls)) (values_of c.args.store.now)) (sym d) ∙ c.loop-link.invariant.left) h),
+      (
+        operand_placed (forms_of c.args.store.now) c.link-item.result (drop (c.loop-link.link-index + 1) c.args.links.now) (ap (λ ls. all_true (map (placed_link (forms_of c.args.store.now)) ls)) (sym d) ∙ c.loop-link.invariant.slots),
+        operand_some (values_of c.args.store.now) (to_z w64 c.loop-link.whole-bits) c.link-item.result (map code_tail (drop (c.loop-link.link-index + 1) c.args.links.now)) _
+            (ap (λ ls. value_of (joined (constant (to_z w64 c.loop-link.whole-bits)) (map code_tail ls)) (values_of c.args.store.now)) (sym d) ∙ c.loop-link.invariant.left) h,
+      ),
     )
 
 pub eval_links-apply_two-whole-requires : goal.eval_links-apply_two-whole-requires
@@ -57,8 +59,8 @@ eval_links-loop-link-preserved t c =
     let d = drop_step c.args.links.now c.loop-link.link-index c.link-item.result c.loop-link-test.true c.link-item.is in
     record {
       left = result_next (values_of c.args.store.now) (to_z w64 c.loop-link.whole-bits) c.link-item.result (map code_tail (drop (c.loop-link.link-index + 1) c.args.links.now)) _
-    (ap (λ ls. value_of (joined (constant (to_z w64 c.loop-link.whole-bits)) (map code_tail ls)) (values_of c.args.store.now)) (sym d) ∙ c.loop-link.invariant.left)
-    (to_z w64 (of_z w64 c.eval-operand.result)) (to_z w64 (of_z w64 c.apply_two-whole.result)) (c.eval-operand.ensures ∙ ap Some (sym p)) (c.apply_two-whole.ensures ∙ ap Some (sym r));
+          (ap (λ ls. value_of (joined (constant (to_z w64 c.loop-link.whole-bits)) (map code_tail ls)) (values_of c.args.store.now)) (sym d) ∙ c.loop-link.invariant.left)
+          (to_z w64 (of_z w64 c.eval-operand.result)) (to_z w64 (of_z w64 c.apply_two-whole.result)) (c.eval-operand.ensures ∙ ap Some (sym p)) (c.apply_two-whole.ensures ∙ ap Some (sym r));
       slots = rest_placed (forms_of c.args.store.now) c.link-item.result (drop (c.loop-link.link-index + 1) c.args.links.now) (ap (λ ls. all_true (map (placed_link (forms_of c.args.store.now)) ls)) (sym d) ∙ c.loop-link.invariant.slots);
     }
 

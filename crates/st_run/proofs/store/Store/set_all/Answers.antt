@@ -1,8 +1,8 @@
-use Rattle.std.proofs.Common.{◌≡◌, ◌+◌, ◌≤◌, false, length, refl, sym, ap, ◌∙◌, arith, to_z, of_z, w64}
+use Rattle.std.proofs.Common.{◌≡◌, false, refl, sym, ap, ◌∙◌, arith, w64}
 use Rattle.std.proofs.lemmas.Int.{to_z-of_z}
 use Rattle.fb_model.specs.Names.{is_in}
 use Rattle.fb_model.specs.Language.{setting}
-use Rattle.st_code.specs.Forms.{slot_in, slot_count, bounds_in, size_of, names_in, IsDeclaredIn}
+use Rattle.st_code.specs.Forms.{slot_in, slot_count, bounds_in, names_in, IsDeclaredIn}
 use Rattle.st_exec.specs.Cells.{values_of, forms_of, shape_of, filled}
 use Rattle.st_run.proofs.Slots.{place_within}
 use Rattle.st_run.proofs.Keeping.{forms_are, room_is}

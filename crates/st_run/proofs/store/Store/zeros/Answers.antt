@@ -1,6 +1,5 @@
-use Rattle.std.proofs.Common.{◌≡◌, ◌-◌, pos, ℤ, [], List, replicate, take, ap, ◌∙◌, arith}
+use Rattle.std.proofs.Common.{◌≡◌, ap, ◌∙◌, arith}
 use Rattle.st_code.specs.Forms.{size_of}
-use Rattle.st_run.specs.Kept.{cells_at}
 use Rattle.st_run.proofs.Keeping.{zeros_resized}
 use Rattle.st_run.proofs.store.Store.zeros.Goals as goal
 
