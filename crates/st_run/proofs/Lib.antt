@@ -4,3 +4,4 @@ pub mod Chaining
 pub mod Placing
 pub mod Setting
 pub mod Branching
+pub mod Zeros

@@ -18,7 +18,7 @@ use st_exec::arithmetic::{apply_one, apply_two, is_zero};
 #[cycle(evaluating)]
 pub fn eval(code: &Code, store: &Store) -> i64
     requires placed { placed (forms_of store.now) code.now ≡ true }
-    requires done { IsSome (value_of (code_term code.now) (values_of store.now)) }
+    requires defined { IsSome (value_of (code_term code.now) (values_of store.now)) }
     ensures { value_of (code_term code.now) (values_of store.now) ≡ Some result }
 {
     match code {
@@ -43,7 +43,7 @@ pub fn eval(code: &Code, store: &Store) -> i64
 #[cycle(evaluating)]
 fn eval_links(first: i64, links: &[CodeLink], store: &Store) -> i64
     requires placed { all_true (map (placed_link (forms_of store.now)) links.now) ≡ true }
-    requires done { IsSome (value_of (joined (constant first) (map code_tail links.now)) (values_of store.now)) }
+    requires defined { IsSome (value_of (joined (constant first) (map code_tail links.now)) (values_of store.now)) }
     ensures { value_of (joined (constant first) (map code_tail links.now)) (values_of store.now) ≡ Some result }
 {
     let mut whole = first;
@@ -57,7 +57,7 @@ fn eval_links(first: i64, links: &[CodeLink], store: &Store) -> i64
 /// Whether a guard or a condition is true. Its evaluation does not trap.
 pub fn truth(code: &Code, store: &Store) -> bool
     requires placed { placed (forms_of store.now) code.now ≡ true }
-    requires done { IsSome (value_of (code_term code.now) (values_of store.now)) }
+    requires defined { IsSome (value_of (code_term code.now) (values_of store.now)) }
     ensures { holds (code_term code.now) (values_of store.now) ≡ Some result }
 {
     !is_zero(eval(code, store))

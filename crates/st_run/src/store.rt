@@ -60,14 +60,14 @@ impl Store {
         let _ = &self.layout;
     }
 
-    /// The number of a variable; 0 where it is an array or not declared.
+    /// The number of the variable that has this slot; 0 behind all slots, where arrays and undeclared names have theirs.
     pub fn number(&self, slot: usize) -> i64
         ensures { (x : Name) → plain_slot_of self.now x ≡ slot → result ≡ number_of (values_of self.now x) }
     {
         number_at(&self.numbers, slot)
     }
 
-    /// The element of an index of an array whose lowest index is `low`.
+    /// The element of an index of the array that has this first slot and this lowest index.
     pub(crate) fn element(&self, first: usize, low: i64, index: i64) -> i64
         ensures { (x : Name) (high : ℤ) → slot_of self.now x ≡ first → IsSome (element_at low high (numbers_of (values_of self.now x)) index) → element_at low high (numbers_of (values_of self.now x)) index ≡ Some result }
     {
@@ -75,7 +75,7 @@ impl Store {
         number_at(&self.numbers, slot)
     }
 
-    /// Gives a variable that is no array another number.
+    /// Gives the variable that has this slot another number.
     pub fn set_number(&mut self, slot: usize, number: i64)
         requires { slot < room_of self.old }
         ensures values { (x : Name) → plain_slot_of self.old x ≡ slot → values_of self.new ≡ setting (values_of self.old) x (One number) }
@@ -84,7 +84,7 @@ impl Store {
         self.numbers[slot] = number;
     }
 
-    /// Gives the element of an index of an array another number, whose lowest index is `low`.
+    /// Gives the element of an index another number, of the array that has this first slot and this lowest index.
     pub(crate) fn set_element(&mut self, first: usize, low: i64, index: i64, number: i64)
         requires { first + unsigned_abs (index -ℤ low) < room_of self.old }
         ensures values { (x : Name) (high : ℤ) → slot_of self.old x ≡ first → length_of self.old x ≡ Some (extent (low, high)) → low ≤ℤ index → index ≤ℤ high → setting_part (values_of self.old) x low high index number ≡ Done (values_of self.new) 0 }
@@ -93,7 +93,7 @@ impl Store {
         self.numbers[first + index.abs_diff(low) as usize] = number;
     }
 
-    /// Gives a variable of so many slots a number, an array this number in each element.
+    /// Gives the variable that has so many slots from this one on a number, an array this number in each element.
     pub fn fill(&mut self, first: usize, count: usize, number: i64)
         requires { first + count ≤ room_of self.old }
         ensures values { (x : Name) → slot_of self.old x ≡ first → count_of self.old x ≡ count → values_of self.new ≡ setting (values_of self.old) x (filled (shape_of self.old x) number) }
@@ -114,7 +114,7 @@ impl Store {
         self.fill(place.first, place.count(), number);
     }
 
-    /// Gives a variable of so many slots the value of a variable of another store: both are no arrays, or arrays of one length.
+    /// Gives the variable that has so many slots from this one on the value of a variable of another store: both are no arrays, or arrays of one length.
     pub fn copy(&mut self, first: usize, from: &Store, source: usize, count: usize)
         requires room { first + count ≤ room_of self.old }
         requires enough { source + count ≤ room_of from.now }
