@@ -1,5 +1,5 @@
 -- A statement that gives a variable or an element a number: its slot is there, and its run.
-use Rattle.std.proofs.Common.{◌≡◌, ℕ, ◌+◌, ◌<◌, ℤ, ◌-ℤ◌, ◌≤ℤ◌, unsigned_abs, true, Some, ap, subst, ◌∙◌, refl, List, arith, rules, string_bytes}
+use Rattle.std.proofs.Common.{sym, ◌≡◌, ℕ, ◌+◌, ◌<◌, ℤ, ◌-ℤ◌, ◌≤ℤ◌, unsigned_abs, true, Some, ap, subst, ◌∙◌, refl, List, arith, rules, string_bytes}
 use Rattle.std.specs.declared.alloc.Global.{Global}
 use Rattle.std.specs.declared.string.String.{String}
 use Rattle.std.specs.Option.{option_map}
@@ -35,8 +35,18 @@ module _ (fs : List Form) (c : CodeStmt) (right : placed_stmt fs c ≡ true) whe
       let w = plain_within fs (string_bytes x) v.0 v.1 in
       omega (arith, p.0, w)
 
-  module _ (x : String Global) (s : ℕ) (low high : ℤ) (i e : Code) (is : c ≡ SetElement x s low high i e) (serves : ServesOne fs (code_command c)) (values : Values) (index number : ℤ)
-      (at : value_of (code_term i) values ≡ Some index) (new : value_of (code_term e) values ≡ Some number) where
+  -- an element, whose lowest index, index and number are passed on as equal ones
+  module _ (x : String Global) (s : ℕ) (low' high : ℤ) (i e : Code) (stands : c ≡ SetElement x s low' high i e) (serves : ServesOne fs (code_command c)) (values : Values) (index' number' : ℤ)
+      (found : value_of (code_term i) values ≡ Some index') (made : value_of (code_term e) values ≡ Some number') (low index number : ℤ) (same_low : low ≡ low') (same_index : index ≡ index') (same_number : number ≡ number') where
+    is : c ≡ SetElement x s low high i e
+    is = stands ∙ ap (λ z. SetElement x s z high i e) (sym same_low)
+
+    at : value_of (code_term i) values ≡ Some index
+    at = found ∙ ap Some (sym same_index)
+
+    new : value_of (code_term e) values ≡ Some number
+    new = made ∙ ap Some (sym same_number)
+
     command_is : code_command c ≡ set_part (string_bytes x) low high (code_term i) (code_term e)
     command_is = ap code_command is ∙ element_view x s low high i e
 

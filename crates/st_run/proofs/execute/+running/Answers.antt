@@ -15,7 +15,6 @@ use Rattle.st_code.proofs.command.CodeBranch.TheLaws.{the_size as branch_size}
 use Rattle.st_code.proofs.command.CodeArm.TheLaws.{the_size as arm_size}
 use Rattle.st_exec.proofs.Serving.{first_served, rest_served, other_served, no_case_served, selected_served}
 use Rattle.st_exec.proofs.Runs.{part_within, one_more, within_more, given_within, turns_within, turns_from, turn_within, turn_done, turn_steps, turns_end, next_value, same_whole}
-use Rattle.st_code.specs.declared.command.CodeStmt.{SetElement}
 use Rattle.st_code.specs.Forms.{size_of, plain_slot}
 use Rattle.st_code.specs.Placed.{placed_stmt, placed_branch, placed_arm, placed_all, all_true}
 use Rattle.st_run.proofs.Chaining.{and_second}
@@ -291,37 +290,23 @@ run_statement-set_number-requires t c =
 
 pub run_statement-set_element-requires : goal.run_statement-set_element-requires
 run_statement-set_element-requires t c =
-    let V = values_of c.args.store.now in
-    let fs = forms_of c.args.store.now in
-    let x = c.in-SetElement.field-0 in
-    let high = c.in-SetElement.field-3 in
     let low = to_z w64 (of_z w64 c.in-SetElement.low) in
     let index = to_z w64 (of_z w64 c.eval-index.result) in
     let number = to_z w64 (of_z w64 c.eval-value-in-SetElement.result) in
     let l : low ≡ c.in-SetElement.low = to_z-of_z w64 c.in-SetElement.low (search rules) in
     let q : index ≡ c.eval-index.result = to_z-of_z w64 c.eval-index.result (search rules) in
     let r : number ≡ c.eval-value-in-SetElement.result = to_z-of_z w64 c.eval-value-in-SetElement.result (search rules) in
-    let is : c.args.statement.now ≡ SetElement x c.in-SetElement.first low high c.in-SetElement.index c.in-SetElement.value = c.in-SetElement.is ∙ ap (λ z. SetElement x c.in-SetElement.first z high c.in-SetElement.index c.in-SetElement.value) (sym l) in
-    let at : value_of (code_term c.in-SetElement.index) V ≡ Some index = c.eval-index.ensures ∙ ap Some (sym q) in
-    let new : value_of (code_term c.in-SetElement.value) V ≡ Some number = c.eval-value-in-SetElement.ensures ∙ ap Some (sym r) in
-    element_room fs c.args.statement.now c.requires.placed x c.in-SetElement.first low high c.in-SetElement.index c.in-SetElement.value is c.requires.serves V index number at new (10 ^ 12) c.requires.small
+    element_room (forms_of c.args.store.now) c.args.statement.now c.requires.placed c.in-SetElement.field-0 c.in-SetElement.first c.in-SetElement.low c.in-SetElement.field-3 c.in-SetElement.index c.in-SetElement.value c.in-SetElement.is c.requires.serves (values_of c.args.store.now) c.eval-index.result c.eval-value-in-SetElement.result c.eval-index.ensures c.eval-value-in-SetElement.ensures low index number l q r (10 ^ 12) c.requires.small
 
 pub run_statement-returns-in-SetElement-clause-answers : goal.run_statement-returns-in-SetElement-clause-answers
 run_statement-returns-in-SetElement-clause-answers t c =
-    let V = values_of c.args.store.now in
-    let fs = forms_of c.args.store.now in
-    let x = c.in-SetElement.field-0 in
-    let high = c.in-SetElement.field-3 in
     let low = to_z w64 (of_z w64 c.in-SetElement.low) in
     let index = to_z w64 (of_z w64 c.eval-index.result) in
     let number = to_z w64 (of_z w64 c.eval-value-in-SetElement.result) in
     let l : low ≡ c.in-SetElement.low = to_z-of_z w64 c.in-SetElement.low (search rules) in
     let q : index ≡ c.eval-index.result = to_z-of_z w64 c.eval-index.result (search rules) in
     let r : number ≡ c.eval-value-in-SetElement.result = to_z-of_z w64 c.eval-value-in-SetElement.result (search rules) in
-    let is : c.args.statement.now ≡ SetElement x c.in-SetElement.first low high c.in-SetElement.index c.in-SetElement.value = c.in-SetElement.is ∙ ap (λ z. SetElement x c.in-SetElement.first z high c.in-SetElement.index c.in-SetElement.value) (sym l) in
-    let at : value_of (code_term c.in-SetElement.index) V ≡ Some index = c.eval-index.ensures ∙ ap Some (sym q) in
-    let new : value_of (code_term c.in-SetElement.value) V ≡ Some number = c.eval-value-in-SetElement.ensures ∙ ap Some (sym r) in
-    let slot = element_slot fs c.args.statement.now c.requires.placed x c.in-SetElement.first low high c.in-SetElement.index c.in-SetElement.value is c.requires.serves V index number at new in
-    let count = element_count fs c.args.statement.now c.requires.placed x c.in-SetElement.first low high c.in-SetElement.index c.in-SetElement.value is c.requires.serves V index number at new in
-    let within = element_within fs c.args.statement.now c.requires.placed x c.in-SetElement.first low high c.in-SetElement.index c.in-SetElement.value is c.requires.serves V index number at new (10 ^ 12) c.requires.small in
-    element_runs fs c.args.statement.now c.requires.placed x c.in-SetElement.first low high c.in-SetElement.index c.in-SetElement.value is c.requires.serves V index number at new (values_of c.set_element.new.self) (c.set_element.ensures.values (string_bytes x) high slot count within.0 within.1)
+    let slot = element_slot (forms_of c.args.store.now) c.args.statement.now c.requires.placed c.in-SetElement.field-0 c.in-SetElement.first c.in-SetElement.low c.in-SetElement.field-3 c.in-SetElement.index c.in-SetElement.value c.in-SetElement.is c.requires.serves (values_of c.args.store.now) c.eval-index.result c.eval-value-in-SetElement.result c.eval-index.ensures c.eval-value-in-SetElement.ensures low index number l q r in
+    let count = element_count (forms_of c.args.store.now) c.args.statement.now c.requires.placed c.in-SetElement.field-0 c.in-SetElement.first c.in-SetElement.low c.in-SetElement.field-3 c.in-SetElement.index c.in-SetElement.value c.in-SetElement.is c.requires.serves (values_of c.args.store.now) c.eval-index.result c.eval-value-in-SetElement.result c.eval-index.ensures c.eval-value-in-SetElement.ensures low index number l q r in
+    let within = element_within (forms_of c.args.store.now) c.args.statement.now c.requires.placed c.in-SetElement.field-0 c.in-SetElement.first c.in-SetElement.low c.in-SetElement.field-3 c.in-SetElement.index c.in-SetElement.value c.in-SetElement.is c.requires.serves (values_of c.args.store.now) c.eval-index.result c.eval-value-in-SetElement.result c.eval-index.ensures c.eval-value-in-SetElement.ensures low index number l q r (10 ^ 12) c.requires.small in
+    element_runs (forms_of c.args.store.now) c.args.statement.now c.requires.placed c.in-SetElement.field-0 c.in-SetElement.first c.in-SetElement.low c.in-SetElement.field-3 c.in-SetElement.index c.in-SetElement.value c.in-SetElement.is c.requires.serves (values_of c.args.store.now) c.eval-index.result c.eval-value-in-SetElement.result c.eval-index.ensures c.eval-value-in-SetElement.ensures low index number l q r (values_of c.set_element.new.self) (c.set_element.ensures.values (string_bytes c.in-SetElement.field-0) c.in-SetElement.field-3 slot count within.0 within.1)
