@@ -4,12 +4,11 @@ use Rattle.std.specs.declared.alloc.Global.{Global}
 use Rattle.std.specs.declared.string.String.{String}
 use Rattle.st_types.proofs.Gathering.{drop_step}
 use Rattle.st_code.specs.declared.code.Code.{Code}
-use Rattle.st_code.specs.declared.command.CodeStmt.{CodeStmt, Set, SetElement, If, Case, For, the_lemmas}
+use Rattle.st_code.specs.declared.command.CodeStmt.{CodeStmt, Set, SetElement, If, Case, the_lemmas}
 use Rattle.st_code.specs.declared.command.CodeArm.{CodeArm}
 use Rattle.st_code.specs.declared.command.CodeBranch.{CodeBranch}
-use Rattle.st_code.specs.declared.command.CodeCounting.{CodeCounting}
 use Rattle.st_code.specs.Forms.{Form, slot_in, plain_slot}
-use Rattle.st_code.specs.Placed.{placed, placed_counting, placed_stmt, placed_arm, placed_branch, placed_all, all_true}
+use Rattle.st_code.specs.Placed.{placed, placed_stmt, placed_arm, placed_branch, placed_all, all_true}
 use Rattle.st_run.proofs.Chaining.{and_first, and_second, same_slot}
 
 -- ---- items of a list, one after another
@@ -45,25 +44,19 @@ module _ (fs : List Form) where
   pub arm_placed : (a : CodeArm) (body : List CodeStmt) → body ≡ a.body.items → placed_arm fs a ≡ true → placed_all fs body ≡ true
   arm_placed a body at h = ap (placed_all fs) at ∙ sym (arm_slots a) ∙ h
 
-  pub condition_placed : (b : CodeBranch) → placed_branch fs b ≡ true → placed fs b.condition ≡ true
-  condition_placed b h = and_first (placed fs b.condition) (placed_all fs b.body.items) (sym (branch_slots b) ∙ h)
-
   pub branch_placed : (b : CodeBranch) (body : List CodeStmt) → body ≡ b.body.items → placed_branch fs b ≡ true → placed_all fs body ≡ true
   branch_placed b body at h = ap (placed_all fs) at ∙ and_second (placed fs b.condition) (placed_all fs b.body.items) (sym (branch_slots b) ∙ h)
 
   module _ (c : CodeStmt) (right : placed_stmt fs c ≡ true) where
-    pub set_placed : (x : String Global) (s : ℕ) (e : Code) → c ≡ Set x s e → (plain_slot fs (string_bytes x) ≡ s) × (placed fs e ≡ true)
-    set_placed x s e is =
+    pub set_slot : (x : String Global) (s : ℕ) (e : Code) → c ≡ Set x s e → plain_slot fs (string_bytes x) ≡ s
+    set_slot x s e is =
         let view : placed_stmt fs (Set x s e) ≡ ((plain_slot fs (string_bytes x) == s) && placed fs e) = search (rules, the_lemmas) in
-        let both : ((plain_slot fs (string_bytes x) == s) && placed fs e) ≡ true = sym view ∙ ap (placed_stmt fs) (sym is) ∙ right in
-        (same_slot (plain_slot fs (string_bytes x)) s (and_first (plain_slot fs (string_bytes x) == s) (placed fs e) both), and_second (plain_slot fs (string_bytes x) == s) (placed fs e) both)
+        same_slot (plain_slot fs (string_bytes x)) s (and_first (plain_slot fs (string_bytes x) == s) (placed fs e) (sym view ∙ ap (placed_stmt fs) (sym is) ∙ right))
 
-    pub set_element_placed : (x : String Global) (s : ℕ) (low high : ℤ) (i e : Code) → c ≡ SetElement x s low high i e → (slot_in fs (string_bytes x) ≡ s) × (placed fs i ≡ true) × (placed fs e ≡ true)
-    set_element_placed x s low high i e is =
+    pub array_slot : (x : String Global) (s : ℕ) (low high : ℤ) (i e : Code) → c ≡ SetElement x s low high i e → slot_in fs (string_bytes x) ≡ s
+    array_slot x s low high i e is =
         let view : placed_stmt fs (SetElement x s low high i e) ≡ ((slot_in fs (string_bytes x) == s) && (placed fs i && placed fs e)) = search (rules, the_lemmas) in
-        let all : ((slot_in fs (string_bytes x) == s) && (placed fs i && placed fs e)) ≡ true = sym view ∙ ap (placed_stmt fs) (sym is) ∙ right in
-        let both = and_second (slot_in fs (string_bytes x) == s) (placed fs i && placed fs e) all in
-        (same_slot (slot_in fs (string_bytes x)) s (and_first (slot_in fs (string_bytes x) == s) (placed fs i && placed fs e) all), and_first (placed fs i) (placed fs e) both, and_second (placed fs i) (placed fs e) both)
+        same_slot (slot_in fs (string_bytes x)) s (and_first (slot_in fs (string_bytes x) == s) (placed fs i && placed fs e) (sym view ∙ ap (placed_stmt fs) (sym is) ∙ right))
 
     pub if_placed : (b : Vec CodeBranch Global) (v : Vec CodeStmt Global) → c ≡ If b v → (bs : List CodeBranch) (rest : List CodeStmt) → bs ≡ b.items → rest ≡ v.items → (all_true (map (placed_branch fs) bs) && placed_all fs rest) ≡ true
     if_placed b v is bs rest p q =
@@ -76,30 +69,7 @@ module _ (fs : List Form) where
           let view : placed_stmt fs (Case e a v) ≡ (placed fs e && (all_true (map (placed_arm fs) a.items) && placed_all fs v.items)) = search (rules, the_lemmas) in
           sym view ∙ ap (placed_stmt fs) (sym is) ∙ right
 
-      pub selector_placed : placed fs e ≡ true
-      selector_placed = and_first (placed fs e) (all_true (map (placed_arm fs) a.items) && placed_all fs v.items) case_all
-
       pub arms_placed : (arms : List CodeArm) (rest : List CodeStmt) → arms ≡ a.items → rest ≡ v.items → (all_true (map (placed_arm fs) arms) && placed_all fs rest) ≡ true
       arms_placed arms rest p q =
           ap (λ l. all_true (map (placed_arm fs) l) && placed_all fs rest) p ∙ ap (λ l. all_true (map (placed_arm fs) a.items) && placed_all fs l) q
           ∙ and_second (placed fs e) (all_true (map (placed_arm fs) a.items) && placed_all fs v.items) case_all
-
-    module _ (k : CodeCounting) (v : Vec CodeStmt Global) (is : c ≡ For k v) where
-      for_all : (placed_counting fs k && placed_all fs v.items) ≡ true
-      for_all =
-          let view : placed_stmt fs (For k v) ≡ (placed_counting fs k && placed_all fs v.items) = search (rules, the_lemmas) in
-          sym view ∙ ap (placed_stmt fs) (sym is) ∙ right
-
-      counting_placed : ((plain_slot fs (string_bytes k.variable) == k.slot) && (placed fs k.first && placed fs k.last)) ≡ true
-      counting_placed = and_first (placed_counting fs k) (placed_all fs v.items) for_all
-
-      pub counted_slot : plain_slot fs (string_bytes k.variable) ≡ k.slot
-      counted_slot = same_slot (plain_slot fs (string_bytes k.variable)) k.slot (and_first (plain_slot fs (string_bytes k.variable) == k.slot) (placed fs k.first && placed fs k.last) counting_placed)
-
-      pub bounds_placed : (placed fs k.first ≡ true) × (placed fs k.last ≡ true)
-      bounds_placed =
-          let both = and_second (plain_slot fs (string_bytes k.variable) == k.slot) (placed fs k.first && placed fs k.last) counting_placed in
-          (and_first (placed fs k.first) (placed fs k.last) both, and_second (placed fs k.first) (placed fs k.last) both)
-
-      pub turns_placed : (body : List CodeStmt) → body ≡ v.items → placed_all fs body ≡ true
-      turns_placed body at = ap (placed_all fs) at ∙ and_second (placed_counting fs k) (placed_all fs v.items) for_all

@@ -18,7 +18,7 @@ use Rattle.st_exec.proofs.Serving.{set_served, part_served}
 use Rattle.st_exec.proofs.Runs.{index_within}
 use Rattle.st_exec.proofs.Writing.{index_within as index_below}
 use Rattle.st_run.proofs.Slots.{plain_within, length_within}
-use Rattle.st_run.proofs.Placing.{set_placed, set_element_placed}
+use Rattle.st_run.proofs.Placing.{set_slot, array_slot}
 
 set_view : (x : String Global) (s : ℕ) (e : Code) → code_command (Set x s e) ≡ set (string_bytes x) (code_term e)
 set_view x s e = search (rules, the_lemmas)
@@ -30,10 +30,10 @@ module _ (fs : List Form) (c : CodeStmt) (right : placed_stmt fs c ≡ true) whe
   -- a variable that is set has a slot
   pub set_room : (x : String Global) (s : ℕ) (e : Code) → c ≡ Set x s e → ServesOne fs (code_command c) → s < size_of fs
   set_room x s e is serves =
-      let p = set_placed fs c right x s e is in
+      let p = set_slot fs c right x s e is in
       let v = set_served fs (string_bytes x) (code_term e) (subst (ServesOne fs) (ap code_command is ∙ set_view x s e) serves) in
       let w = plain_within fs (string_bytes x) v.0 v.1 in
-      omega (arith, p.0, w)
+      omega (arith, p, w)
 
   -- an element, whose lowest index, index and number are passed on as equal ones
   module _ (x : String Global) (s : ℕ) (low' high : ℤ) (i e : Code) (stands : c ≡ SetElement x s low' high i e) (serves : ServesOne fs (code_command c)) (values : Values) (index' number' : ℤ)
@@ -61,7 +61,7 @@ module _ (fs : List Form) (c : CodeStmt) (right : placed_stmt fs c ≡ true) whe
     element_count = part_served fs (string_bytes x) low high (code_term i) (code_term e) (subst (ServesOne fs) command_is serves)
 
     pub element_slot : slot_in fs (string_bytes x) ≡ s
-    element_slot = (set_element_placed fs c right x s low high i e is).0
+    element_slot = array_slot fs c right x s low high i e is
 
     module _ (limit : ℕ) (small : IsWithin limit (run_one (code_command c) values)) where
       pub element_within : (low ≤ℤ index) × (index ≤ℤ high)
