@@ -1,0 +1,6 @@
+pub mod Slots
+pub mod Kept
+pub mod Fields
+pub mod Marked
+pub mod Entries
+pub mod Steps

@@ -1,0 +1,5 @@
+pub mod Agenda
+pub mod Changes
+pub mod Keeping
+pub mod Entries
+pub mod Steps
