@@ -1,0 +1,5 @@
+pub mod Ahead
+pub mod Seats
+pub mod Ordered
+pub mod Told
+pub mod Leaves
