@@ -7,7 +7,7 @@ ghost use Rattle.fb_model.specs.Language.{bit, is_zero, quotient, remainder, on_
 use fb_words::{ElemType, Operation, Operator};
 
 /// Whether a number is the truth value FALSE.
-pub(crate) fn is_zero(number: i64) -> bool
+pub fn is_zero(number: i64) -> bool
     ensures { result ≡ is_zero number }
 {
     number == 0
@@ -57,7 +57,7 @@ fn computed(operator: Operator, of: ElemType, x: i64, y: i64) -> i64
 }
 
 /// An operation on two operands of a type, which does not trap.
-pub(crate) fn apply_two(operation: Operation, of: ElemType, x: i64, y: i64) -> i64
+pub fn apply_two(operation: Operation, of: ElemType, x: i64, y: i64) -> i64
     requires { IsSome (on_two operation of x y) }
     ensures { on_two operation of x y ≡ Some result }
 {
@@ -70,7 +70,7 @@ pub(crate) fn apply_two(operation: Operation, of: ElemType, x: i64, y: i64) -> i
 }
 
 /// An operation on one operand of a type, which does not trap.
-pub(crate) fn apply_one(operation: Operation, of: ElemType, x: i64) -> i64
+pub fn apply_one(operation: Operation, of: ElemType, x: i64) -> i64
     requires { IsSome (on_one operation of x) }
     ensures { on_one operation of x ≡ Some result }
 {

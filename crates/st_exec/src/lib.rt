@@ -1,7 +1,7 @@
 //! Running Structured Text: typed algorithms and guards over the values of one block.
 #![tactic(auto)]
 
-mod arithmetic;
+pub mod arithmetic;
 mod evaluate;
 mod execute;
 mod place;

@@ -1,0 +1,14 @@
+//! Running Structured Text by slots: algorithms and guards with slots over the numbers of one block.
+#![tactic(auto)]
+
+mod evaluate;
+mod execute;
+mod row;
+mod store;
+#[cfg(test)]
+mod tests;
+mod turns;
+
+pub use evaluate::{eval, truth};
+pub use execute::exec;
+pub use store::Store;
