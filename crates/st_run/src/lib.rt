@@ -5,8 +5,6 @@ mod evaluate;
 mod execute;
 mod row;
 mod store;
-#[cfg(test)]
-mod tests;
 mod turns;
 
 pub use evaluate::{eval, truth};
