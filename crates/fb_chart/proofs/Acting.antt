@@ -1,5 +1,5 @@
 -- Actions of states: what they run, issue and send, by numbers and by names.
-use Rattle.std.proofs.Common.{◌≡◌, ℕ, zero, suc, ◌+◌, ◌^◌, ◌<◌, ◌≤◌, Bool, true, false, ◌||◌, List, [], ◌∷◌, ◌++◌, map, length, slice_get, Option, Some, None, refl, sym, ap, subst, ◌∙◌, arith, string_bytes}
+use Rattle.std.proofs.Common.{◌≡◌, ℕ, zero, suc, ◌+◌, ◌^◌, ◌<◌, ◌≤◌, Bool, true, false, ◌||◌, List, [], ◌∷◌, ◌++◌, length, slice_get, Option, Some, None, refl, sym, ap, subst, ◌∙◌, arith, string_bytes}
 use Rattle.std.specs.Prelude.{IfSome, if◌then◌else◌}
 use Rattle.std.specs.Option.{option_map}
 use Rattle.std.specs.List.{AllByRecursion}
@@ -16,8 +16,8 @@ use Rattle.fb_model.specs.Store as st
 use Rattle.fb_model.specs.Store.{Cells, carried, variable_names, inputs, outputs, internals, where_in}
 use Rattle.fb_model.specs.Shapes.{written, AlgorithmFits}
 use Rattle.fb_model.specs.Certificates.{names}
-use Rattle.fb_model.specs.Charts.{Moment, At, Acting, Reaches, then as and_then, acts, Traps, work, algorithm_of, emission, issue_all, actions_of}
-use Rattle.fb_model.proofs.Lists.{all_both, all_weaker, at_listed}
+use Rattle.fb_model.specs.Charts.{Moment, At, Acting, Reaches, then as and_then, acts, work, algorithm_of, emission, issue_all, actions_of}
+use Rattle.fb_model.proofs.Lists.{all_both, at_listed}
 use Rattle.fb_model.proofs.Placed.{Apart, apart, name_same}
 use Rattle.fb_shapes.specs.Shaped.{IsShapely, AreOwn}
 use Rattle.st_code.specs.declared.command.Procedure.{Procedure}

@@ -11,10 +11,10 @@ use Rattle.fb_model.specs.System as book
 use Rattle.fb_model.specs.Typing.{AreDistinct}
 use Rattle.fb_model.specs.Wires.{Charted}
 use Rattle.fb_model.specs.Store.{Cells}
-use Rattle.fb_model.specs.Charts.{Cross, choice, Phase, Moment, At, Acting, Settling, settles, Reaches, here, then as and_then, work, algorithm_of, emission, issue_all, actions_of}
+use Rattle.fb_model.specs.Charts.{Cross, choice, Phase, At, Acting, Settling, settles, Reaches, here, then as and_then, work, algorithm_of, emission, issue_all, actions_of}
 use Rattle.fb_model.proofs.Placed.{apart}
 use Rattle.st_exec.specs.Cells.{Cell, Form, values_of, forms_of}
-use Rattle.st_exec.specs.Runs.{IsWithin, Serves}
+use Rattle.st_exec.specs.Runs.{IsWithin}
 use Rattle.fb_chart.specs.declared.table.Action.{Action}
 use Rattle.fb_chart.specs.declared.table.State.{State}
 use Rattle.fb_chart.specs.declared.table.Output.{Output}

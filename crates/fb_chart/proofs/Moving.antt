@@ -7,7 +7,7 @@ use Rattle.std.specs.declared.string.String.{String}
 use Rattle.std.specs.declared.alloc.Global.{Global}
 use Rattle.std.proofs.Math.Path.{fun_ext}
 use Rattle.fb_model.specs.Names.{Name, is_in}
-use Rattle.fb_model.specs.Values.{Value, Values}
+use Rattle.fb_model.specs.Values.{Values}
 use Rattle.fb_model.specs.BlockTyping.{extent}
 use Rattle.fb_model.specs.Language.{setting}
 use Rattle.fb_model.specs.Store.{where_in}

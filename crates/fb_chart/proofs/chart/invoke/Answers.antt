@@ -1,4 +1,4 @@
-use Rattle.std.proofs.Common.{refl, sym, ◌∙◌, arith}
+use Rattle.std.proofs.Common.{refl, ◌∙◌, arith}
 use Rattle.fb_model.specs.Charts.{Waiting}
 use Rattle.fb_chart.specs.Views.{named}
 use Rattle.fb_chart.specs.Charting.{block_in, states_in, events_in, phase_of, cells_of}
@@ -64,5 +64,5 @@ returns-clause-rested g c =
     record {
       phase = phase_of (events_in k) c.loop-target.waiting;
       come = v.come;
-      rest = ?;
+      rest = rests_so (block_in k) (events_in k) (named (states_in k) c.loop-target.now) (cells_of c.loop-target.own c.loop-target.issued) c.loop-target.waiting c.in_default.ensures.chosen;
     }
