@@ -131,27 +131,24 @@ module _ (c : Chart) (outs : List Output) (own0 issued0 : List Cell) (ready : Is
 -- ---- crossings
 
 module _ (c : Chart) (outs : List Output) (own0 issued0 : List Cell) (before event most room : ℕ) (fine : FineFrom (block_in c) outs most room (begun c before (cells_of own0 issued0) event)) (old : Points)
-    (own issued : List Cell) (state steps : ℕ) (w : Option ℕ) (sent : Points) (come : HasCome (block_in c) outs (begun c before (cells_of own0 issued0) event) (named (states_in c) state) (cells_of own issued) (phase_of (events_in c) w) steps old sent) where
-  pub steps_so_far : steps ≤ most
-  steps_so_far = (fine _ come.run).steps
+    (own issued : List Cell) (state steps : ℕ) (w : Option ℕ) (sent : Points) (come : HasCome (block_in c) outs (begun c before (cells_of own0 issued0) event) (named (states_in c) state) (cells_of own issued) (phase_of (events_in c) w) steps old sent)
+    (target : ℕ) (crosses : choice (block_in c).transitions (named (states_in c) state) (option_map (named (events_in c)) w) (values_of own) ≡ Cross (named (states_in c) target)) where
+  crossed : Reaches (block_in c) (begun c before (cells_of own0 issued0) event) (At (named (states_in c) target) (cells_of own issued) (Acting (actions_of (block_in c).states (named (states_in c) target))) (steps + 1) come.outs)
+  crossed = enters (block_in c) (events_in c) (begun c before (cells_of own0 issued0) event) (named (states_in c) state) (named (states_in c) target) (cells_of own issued) w steps come.outs come.run crosses
 
-  module _ (target : ℕ) (crosses : choice (block_in c).transitions (named (states_in c) state) (option_map (named (events_in c)) w) (values_of own) ≡ Cross (named (states_in c) target)) where
-    crossed : Reaches (block_in c) (begun c before (cells_of own0 issued0) event) (At (named (states_in c) target) (cells_of own issued) (Acting (actions_of (block_in c).states (named (states_in c) target))) (steps + 1) come.outs)
-    crossed = enters (block_in c) (events_in c) (begun c before (cells_of own0 issued0) event) (named (states_in c) state) (named (states_in c) target) (cells_of own issued) w steps come.outs come.run crosses
+  pub crossing_steps : steps + 1 ≤ most
+  crossing_steps = (fine _ crossed).steps
 
-    pub crossing_steps : steps + 1 ≤ most
-    crossing_steps = (fine _ crossed).steps
+  pub crossing_fine : (now : ℕ) → room + length old ≡ now + length sent → FineFrom (block_in c) outs most now (entered c target (cells_of own issued) (steps + 1))
+  crossing_fine now e =
+      let r = subst (λ (os : List Name). Reaches (block_in c) (begun c before (cells_of own0 issued0) event) (At (named (states_in c) target) (cells_of own issued) (Acting (actions_of (block_in c).states (named (states_in c) target))) (steps + 1) os)) (sym (append-nil come.outs)) crossed in
+      fine_on (block_in c) outs most room now (begun c before (cells_of own0 issued0) event) (entered c target (cells_of own issued) (steps + 1)) come.outs fine r (room_left outs room now old sent come.outs come.sent e)
 
-    pub crossing_fine : (now : ℕ) → room + length old ≡ now + length sent → FineFrom (block_in c) outs most now (entered c target (cells_of own issued) (steps + 1))
-    crossing_fine now e =
-        let r = subst (λ (os : List Name). Reaches (block_in c) (begun c before (cells_of own0 issued0) event) (At (named (states_in c) target) (cells_of own issued) (Acting (actions_of (block_in c).states (named (states_in c) target))) (steps + 1) os)) (sym (append-nil come.outs)) crossed in
-        fine_on (block_in c) outs most room now (begun c before (cells_of own0 issued0) event) (entered c target (cells_of own issued) (steps + 1)) come.outs fine r (room_left outs room now old sent come.outs come.sent e)
+  module _ (own' issued' : List Cell) (steps' : ℕ) (sent' : Points) (acted : HasCome (block_in c) outs (entered c target (cells_of own issued) (steps + 1)) (named (states_in c) target) (cells_of own' issued') Settling steps' sent sent') where
+    pub steps_more : steps + 1 ≤ steps'
+    steps_more = steps_grow (block_in c) (entered c target (cells_of own issued) (steps + 1)) (At (named (states_in c) target) (cells_of own' issued') Settling steps' acted.outs) acted.run
 
-    module _ (own' issued' : List Cell) (steps' : ℕ) (sent' : Points) (acted : HasCome (block_in c) outs (entered c target (cells_of own issued) (steps + 1)) (named (states_in c) target) (cells_of own' issued') Settling steps' sent sent') where
-      pub steps_more : steps + 1 ≤ steps'
-      steps_more = steps_grow (block_in c) (entered c target (cells_of own issued) (steps + 1)) (At (named (states_in c) target) (cells_of own' issued') Settling steps' acted.outs) acted.run
-
-      pub come_further : HasCome (block_in c) outs (begun c before (cells_of own0 issued0) event) (named (states_in c) target) (cells_of own' issued') Settling steps' old sent'
-      come_further =
-          come_on (block_in c) outs (begun c before (cells_of own0 issued0) event) (named (states_in c) target) (named (states_in c) target) (cells_of own issued) (cells_of own' issued') (actions_of (block_in c).states (named (states_in c) target)) Settling (steps + 1) steps' come.outs old sent sent'
-          crossed come.sent acted
+    pub come_further : HasCome (block_in c) outs (begun c before (cells_of own0 issued0) event) (named (states_in c) target) (cells_of own' issued') Settling steps' old sent'
+    come_further =
+        come_on (block_in c) outs (begun c before (cells_of own0 issued0) event) (named (states_in c) target) (named (states_in c) target) (cells_of own issued) (cells_of own' issued') (actions_of (block_in c).states (named (states_in c) target)) Settling (steps + 1) steps' come.outs old sent sent'
+        crossed come.sent acted
