@@ -98,6 +98,7 @@ fn send<E: Emit>(
     ensures forms { forms_of issued.new ≡ forms_of issued.old }
     ensures sent { E.sent emit.new ≡ E.sent emit.old ++ sent_by outputs.now output }
     ensures room { E.room emit.old ≡ E.room emit.new + length (sent_by outputs.now output) }
+    ensures same_reference { E.reference emit.new ≡ E.reference emit.old }
 {
     match output {
         None => {}
@@ -128,6 +129,7 @@ fn act<E: Emit>(
     ensures own { forms_of own.new ≡ forms_of own.old }
     ensures issued { forms_of issued.new ≡ forms_of issued.old }
     ensures room { E.room emit.old + length (E.sent emit.old) ≡ E.room emit.new + length (E.sent emit.new) }
+    ensures same_reference { E.reference emit.new ≡ E.reference emit.old }
 {
     let mut steps = before;
     for action in &chart.states[state as usize].actions {
@@ -161,6 +163,7 @@ pub fn invoke<E: Emit>(
     ensures own { forms_of own.new ≡ forms_of own.old }
     ensures issued { forms_of issued.new ≡ forms_of issued.old }
     ensures room { E.room emit.old + length (E.sent emit.old) ≡ E.room emit.new + length (E.sent emit.new) }
+    ensures same_reference { E.reference emit.new ≡ E.reference emit.old }
 {
     let mut now = state;
     let mut steps = 1;

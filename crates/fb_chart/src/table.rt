@@ -99,6 +99,7 @@ pub struct Chart {
 #[derive(Drop)]
 pub enum Body {
     Chart(Chart),
+    /// A service interface: IEC 61499-1 edition 2, 6.1.
     Served(Service),
 }
 

@@ -34,6 +34,7 @@ loop-action-init g c =
       refl,
       refl,
       refl,
+      refl,
     )
 
 pub work-steps-requires-clause-within : goal.work-steps-requires-clause-within
@@ -156,6 +157,7 @@ loop-action-preserved g c =
       c.send.ensures.forms ∙ v.4,
       room_kept (g.E.Emit.room c.args.emit.now) (g.E.Emit.room c.loop-action.emit) (g.E.Emit.room c.send.new.emit) (g.E.Emit.sent c.args.emit.now) (g.E.Emit.sent c.loop-action.emit) (g.E.Emit.sent c.send.new.emit) (sent_by c.args.outputs.now x.output)
           v.5 c.send.ensures.sent c.send.ensures.room,
+      c.send.ensures.same_reference ∙ v.6,
     )
 
 pub returns-clause-come : goal.returns-clause-come

@@ -14,3 +14,4 @@ invariant-loop-action g l =
     × HasCome (block_in l.chart) l.outputs (entered l.chart l.state (cells_of l.fn.own l.fn.issued) l.before) (named (states_in l.chart) l.state) (cells_of l.own l.issued) (Acting left) l.steps (g.E.Emit.sent l.fn.emit) (g.E.Emit.sent l.emit)
     × (forms_of l.own ≡ forms_of l.fn.own) × (forms_of l.issued ≡ forms_of l.fn.issued)
     × (g.E.Emit.room l.fn.emit + length (g.E.Emit.sent l.fn.emit) ≡ g.E.Emit.room l.emit + length (g.E.Emit.sent l.emit))
+    × (g.E.Emit.reference l.emit ≡ g.E.Emit.reference l.fn.emit)

@@ -16,6 +16,7 @@ loop-target-init g c =
       own_forms = refl;
       issued_forms = refl;
       kept = refl;
+      same = refl;
     }
 
 pub next_state-requires-clause-clear : goal.next_state-requires-clause-clear
@@ -55,6 +56,7 @@ loop-target-preserved g c =
       own_forms = c.act-steps.ensures.own ∙ v.own_forms;
       issued_forms = c.act-steps.ensures.issued ∙ v.issued_forms;
       kept = v.kept ∙ c.act-steps.ensures.room;
+      same = c.act-steps.ensures.same_reference ∙ v.same;
     }
 
 pub returns-clause-rested : goal.returns-clause-rested

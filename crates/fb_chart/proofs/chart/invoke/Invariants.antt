@@ -14,6 +14,7 @@ invariant-loop-target g l = record {
   own_forms : forms_of l.own ≡ forms_of l.fn.own;
   issued_forms : forms_of l.issued ≡ forms_of l.fn.issued;
   kept : g.E.Emit.room l.fn.emit + length (g.E.Emit.sent l.fn.emit) ≡ g.E.Emit.room l.emit + length (g.E.Emit.sent l.emit);
+  same : g.E.Emit.reference l.emit ≡ g.E.Emit.reference l.fn.emit;
 }
 
 abbrev pub decreases-loop-target : goal.decreases-loop-target
