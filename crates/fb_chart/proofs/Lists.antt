@@ -1,0 +1,85 @@
+-- Elements of lists, by their places, and of two lists one by one.
+use Rattle.std.proofs.Common.{◌≡◌, ℕ, zero, suc, ◌+◌, ◌<◌, List, [], ◌∷◌, ◌++◌, map, drop, length, get_or, slice_get, Some, refl, sym, ap, subst, ◌∙◌, arith}
+use Rattle.std.specs.List.{AllByRecursion}
+use Rattle.std.proofs.lemmas.Option.{slice_get-get_or}
+use Rattle.std.proofs.lemmas.List.{append_assoc}
+use Rattle.fb_chart.specs.Tables.{Each}
+
+-- what is so of all is so of the one at an index
+pub all_got : {X : Type 0} (P : X → Type 0) (xs : List X) (n : ℕ) (x : X) → AllByRecursion P xs → slice_get xs n ≡ Some x → P x
+all_got P [] n x h e = absurd cc
+all_got P (y ∷ xs) zero x h e = let s : y ≡ x = cc in subst P s h.0
+all_got P (y ∷ xs) (suc n) x h e = all_got P xs n x h.1 e
+
+pub stands_at : {X : Type 0} (xs : List X) (i : ℕ) (x d : X) → i < length xs → x ≡ get_or xs i d → slice_get xs i ≡ Some x
+stands_at xs i x d l h = slice_get-get_or xs i d l ∙ ap Some (sym h)
+
+-- what is so of all images
+pub all_mapped : {X Y : Type 0} (P : Y → Type 0) (f : X → Y) (xs : List X) → AllByRecursion P (map f xs) → AllByRecursion (λ x. P (f x)) xs
+all_mapped P f [] h = tt
+all_mapped P f (x ∷ xs) h = (h.0, all_mapped P f xs h.1)
+
+pub drop_at : {X : Type 0} (xs : List X) (i : ℕ) (x : X) → slice_get xs i ≡ Some x → drop i xs ≡ x ∷ drop (i + 1) xs
+drop_at [] i x h = absurd cc
+drop_at (y ∷ xs) zero x h = let e : y ≡ x = cc in ap (λ z. z ∷ xs) e
+drop_at (y ∷ xs) (suc i) x h =
+    let e : suc (i + 1) ≡ suc i + 1 = omega arith in
+    drop_at xs i x h ∙ ap (λ k. x ∷ drop k (y ∷ xs)) e
+
+pub within_got : {X : Type 0} (xs : List X) (i : ℕ) (x : X) → slice_get xs i ≡ Some x → i < length xs
+within_got [] i x h = absurd cc
+within_got (y ∷ xs) zero x h = omega arith
+within_got (y ∷ xs) (suc i) x h = omega (arith, within_got xs i x h)
+
+-- ---- two lists
+
+pub each_length : {X Y : Type 0} (R : X → Y → Type 0) (xs : List X) (ys : List Y) → Each R xs ys → length ys ≡ length xs
+each_length R [] [] h = refl
+each_length R [] (y ∷ ys) h = absurd h
+each_length R (x ∷ xs) [] h = absurd h
+each_length R (x ∷ xs) (y ∷ ys) h = ap suc (each_length R xs ys h.1)
+
+-- the elements at one index
+pub record Both {X Y : Type 0} (R : X → Y → Type 0) (xs : List X) (n : ℕ) (y : Y) : Type 0 where
+  pub x : X
+  pub at : slice_get xs n ≡ Some x
+  pub so : R x y
+
+pub each_at : {X Y : Type 0} (R : X → Y → Type 0) (xs : List X) (ys : List Y) (n : ℕ) (y : Y) → Each R xs ys → slice_get ys n ≡ Some y → Both R xs n y
+each_at R [] [] n y h e = absurd cc
+each_at R [] (z ∷ ys) n y h e = absurd h
+each_at R (x ∷ xs) [] n y h e = absurd h
+each_at R (x ∷ xs) (z ∷ ys) zero y h e = record { x = x; at = refl; so = (let s : z ≡ y = cc in subst (R x) s h.0) }
+each_at R (x ∷ xs) (z ∷ ys) (suc n) y h e = let b = each_at R xs ys n y h.1 e in record { x = b.x; at = b.at; so = b.so }
+
+-- the first elements
+pub record First {X Y : Type 0} (R : X → Y → Type 0) (xs : List X) (y : Y) (ys : List Y) : Type 0 where
+  pub x : X
+  pub left : List X
+  pub is : xs ≡ x ∷ left
+  pub so : R x y
+  pub each : Each R left ys
+
+pub each_first : {X Y : Type 0} (R : X → Y → Type 0) (xs : List X) (y : Y) (ys : List Y) → Each R xs (y ∷ ys) → First R xs y ys
+each_first R [] y ys h = absurd h
+each_first R (x ∷ xs) y ys h = record { x = x; left = xs; is = refl; so = h.0; each = h.1 }
+
+pub each_none : {X Y : Type 0} (R : X → Y → Type 0) (xs : List X) → Each R xs [] → xs ≡ []
+each_none R [] h = refl
+each_none R (x ∷ xs) h = absurd h
+
+-- what is appended after what was appended
+pub appended_on : {X : Type 0} (old mid new ps qs : List X) → mid ≡ old ++ ps → new ≡ mid ++ qs → new ≡ old ++ (ps ++ qs)
+appended_on old mid new ps qs a b = b ∙ ap (λ m. m ++ qs) a ∙ append_assoc old ps qs
+
+-- the other element at an index
+pub record Other {X Y : Type 0} (R : X → Y → Type 0) (x : X) (ys : List Y) (n : ℕ) : Type 0 where
+  pub y : Y
+  pub at : slice_get ys n ≡ Some y
+  pub so : R x y
+
+pub each_other : {X Y : Type 0} (R : X → Y → Type 0) (xs : List X) (ys : List Y) (n : ℕ) (x : X) → Each R xs ys → slice_get xs n ≡ Some x → Other R x ys n
+each_other R [] ys n x h e = absurd cc
+each_other R (w ∷ xs) [] n x h e = absurd h
+each_other R (w ∷ xs) (z ∷ ys) zero x h e = record { y = z; at = refl; so = (let s : w ≡ x = cc in subst (λ v. R v z) s h.0) }
+each_other R (w ∷ xs) (z ∷ ys) (suc n) x h e = let o = each_other R xs ys n x h.1 e in record { y = o.y; at = o.at; so = o.so }
