@@ -1,3 +1,4 @@
 pub mod Slots
 pub mod Replies
 pub mod Placing
+pub mod Serving

@@ -11,7 +11,7 @@ use Rattle.fb_model.specs.Language.{given}
 use Rattle.fb_model.specs.System as book
 use Rattle.fb_model.specs.BlockTyping.{extent}
 use Rattle.fb_model.specs.NetworkTyping.{variable_named}
-use Rattle.fb_model.specs.Services.{qo, received, sent, numbered, ports, service_inputs, service_outputs}
+use Rattle.fb_model.specs.Services.{qo, received, sent, numbered, ports, service_inputs, service_outputs, ind, service_gives}
 use Rattle.fb_model.specs.Wires.{Serviced}
 use Rattle.fb_model.specs.Store.{variable_names}
 use Rattle.fb_model.specs.Ranges.{length_in}
@@ -132,3 +132,16 @@ module _ (service : book.Service) (own issued : List Form) (stores : AreStores (
     go : (xs : List Name) → AllByRecursion (λ (x : Name). is_in x (variable_names (service_outputs service)) ≡ true) xs → AllByRecursion (λ (n : ℕ). n < size_of own) (slots_of own xs)
     go [] h = tt
     go (x ∷ xs) h = (output_within x h.0, go xs h.1)
+
+-- what an event output is WITH are outputs
+pub gives_out : (service : book.Service) (o : Name) → AllByRecursion (λ (x : Name). is_in x (variable_names (service_outputs service)) ≡ true) (service_gives service o)
+gives_out (book.Input n types) o = receives_out (book.Input n types)
+gives_out (book.Output n types) o = tt
+gives_out (book.Publish channel types) o = (refl, tt)
+gives_out (book.Subscribe channel types) o = by (bytes_eq o ind) where
+  by : (b : Bool) → AllByRecursion (λ (x : Name). is_in x (variable_names (service_outputs (book.Subscribe channel types))) ≡ true) (if b then qo ∷ numbered received 1 types else qo ∷ [])
+  by true = (refl, receives_out (book.Subscribe channel types))
+  by false = (refl, tt)
+gives_out book.Delay o = tt
+gives_out book.Cycle o = tt
+gives_out book.Restart o = tt

@@ -2,6 +2,7 @@
 //! Its inputs are sampled already. Variables go by slots, events and event outputs by numbers.
 #![tactic(auto)]
 
+mod dispatch;
 mod emission;
 mod quality;
 mod standing;
@@ -9,4 +10,5 @@ mod timer;
 mod transfer;
 mod turn;
 
+pub use dispatch::serve;
 pub use standing::{Effect, Ports, Standing};
