@@ -1,10 +1,12 @@
 -- Where the variables of services lie, and what fits in them.
-use Rattle.std.proofs.Common.{◌≡◌, ℕ, ◌+◌, ◌<◌, ◌≤◌, ℤ, Bool, true, false, ◌||◌, List, [], ◌∷◌, ◌++◌, length, Option, Some, None, refl, sym, ap, ◌∙◌, arith}
+use Rattle.std.proofs.Common.{◌≡◌, ℕ, ◌+◌, ◌<◌, ◌≤◌, ℤ, Bool, true, false, ◌||◌, List, [], ◌∷◌, ◌++◌, length, Option, Some, None, refl, sym, ap, ◌∙◌, arith, ◌⊎◌, inl, inr}
 use Rattle.std.specs.Prelude.{if◌then◌else◌}
 use Rattle.std.specs.Option.{option_map}
 use Rattle.std.specs.List.{AllByRecursion}
 use Rattle.std.specs.Str.{bytes_eq}
+use Rattle.std.proofs.lemmas.Bool.{and_parts}
 use Rattle.std.proofs.lemmas.List.{length-map}
+use Rattle.fb_model.specs.Values.{in_type, all_in}
 use Rattle.fb_words.specs.declared.elem_type.ElemType.{ElemType}
 use Rattle.fb_model.specs.Names.{Name, is_in}
 use Rattle.fb_model.specs.Language.{given}
@@ -38,6 +40,16 @@ sends_few (book.Subscribe channel types) = omega arith
 sends_few book.Delay = omega arith
 sends_few book.Cycle = omega arith
 sends_few book.Restart = omega arith
+
+all_in_length : (types : List ElemType) (vs : List ℤ) → all_in types vs ≡ true → length vs ≤ length types
+all_in_length [] [] h = omega arith
+all_in_length [] (v ∷ vs) h = absurd cc
+all_in_length (t ∷ types) [] h = absurd cc
+all_in_length (t ∷ types) (v ∷ vs) h = omega (arith, all_in_length types vs (and_parts (in_type t v) (all_in types vs) h).1)
+
+pub few_values : (types : List ElemType) (vs : List ℤ) → (vs ≡ []) ⊎ (all_in types vs ≡ true) → length vs ≤ length types
+few_values types vs (inl e) = omega (arith, ap length e)
+few_values types vs (inr e) = all_in_length types vs e
 
 module _ (service : book.Service) (p : Ports) (forms : List Form) (values : List ℤ) (can : CanTurn service p forms values) where
   pub message_fits : length values ≤ length p.received.items

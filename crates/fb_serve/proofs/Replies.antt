@@ -12,11 +12,11 @@ use Rattle.fb_model.specs.System.{Service, Channel, Publish, Subscribe}
 use Rattle.fb_model.specs.Services.{init, inito, req, rsp, cnf, ind, qi, qo, arrive, received, sent, numbered}
 use Rattle.fb_model.specs.Store.{Condition, Ready, Closed}
 use Rattle.fb_model.specs.Messages.{To_channel}
-use Rattle.fb_model.specs.Serving.{Effect, Send, Reply, bit, is_true, is_ready, set_value, receive, typed_values, emits, opened, published, subscribed, reply}
+use Rattle.fb_model.specs.Serving.{Effect, Send, Reply, bit, is_true, is_ready, set_value, receive, typed_values, emits, opened, published, subscribed}
 use Rattle.fb_model.proofs.Names.{eq_turned}
 use Rattle.fb_chart.specs.Views.{named}
 use Rattle.fb_serve.specs.Ports.{received_in, numbers_at}
-use Rattle.fb_serve.specs.Turns.{condition_of, typed, effect_in, outs_at, event_at, leaf_of, turned}
+use Rattle.fb_serve.specs.Turns.{condition_of, typed, effect_in, outs_at, leaf_of, turned}
 use Rattle.fb_serve.specs.declared.standing.Standing.{Standing}
 use Rattle.fb_serve.specs.declared.standing.Standing.TheVariants as s
 use Rattle.fb_serve.specs.declared.standing.Turn.{Turn}
@@ -42,10 +42,6 @@ typed_numbers n (t ∷ types) own = ap (λ vs. number_of (own (sent n)) ∷ vs) 
 pub typed_is : (n : ℕ) (types : List ElemType) (own : Values) → typed types (numbers_at (numbered sent n types) own) ≡ typed_values n types own
 typed_is n [] own = refl
 typed_is n (t ∷ types) own = ap (λ vs. record { type = t; value = number_of (own (sent n)) } ∷ vs) (typed_is (n + 1) types own)
-
--- a dispatch of a service, by its event's number, comes to this turn
-abbrev pub Replies : Service → ℕ → ℕ → List ℤ → Values → Values → Values → Standing → Turn → Type 0
-Replies service clock event values own own' issued standing t = reply service clock (event_at service event) values (leaf_of own issued standing) ≡ turned service t own' issued
 
 -- ---- PUBLISH and SUBSCRIBE
 

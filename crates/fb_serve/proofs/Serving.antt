@@ -10,6 +10,7 @@ use Rattle.fb_model.specs.Services.{ind, rsp, init, inito, cnf, qo, dt, eo, star
 use Rattle.fb_model.specs.Wires.{Serviced}
 use Rattle.fb_model.specs.Store as st
 use Rattle.fb_model.specs.Store.{LeafState, variable_names}
+use Rattle.fb_model.specs.Ranges.{IsMessage}
 use Rattle.fb_model.specs.Charts.{issue_all, emission}
 use Rattle.fb_model.specs.Serving.{Reply, reply, emits, opened, published, subscribed, started, expires, wait, due_after, set_own, set_condition, set_value, receive, bit, is_ready, is_fired}
 use Rattle.fb_model.proofs.Lists.{all_both}
@@ -28,10 +29,9 @@ use Rattle.fb_serve.specs.declared.standing.Ports.{Ports}
 use Rattle.fb_serve.specs.declared.standing.Standing.{Standing}
 use Rattle.fb_serve.specs.declared.standing.Turn.{Turn}
 use Rattle.fb_serve.specs.Ports.{receives}
-use Rattle.fb_serve.specs.Turns.{event_at, outs_at, leaf_of, effect_of, condition_of}
+use Rattle.fb_serve.specs.Turns.{Replies, event_at, outs_at, leaf_of, effect_of, condition_of}
 use Rattle.fb_serve.specs.Serving.{CanServe, CanTurn, HasServed}
-use Rattle.fb_serve.proofs.Replies.{Replies}
-use Rattle.fb_serve.proofs.Placing.{output_within, received_within, gives_out}
+use Rattle.fb_serve.proofs.Placing.{few_values, output_within, received_within, gives_out}
 
 -- a reply emits nothing, or all of these
 abbrev Emits : Reply → List Name → Type 0
@@ -74,13 +74,13 @@ reply_outs book.Restart clock e values s = inr refl
 -- ---- a service with its outputs and its stores
 
 module _ (service : book.Service) (p : Ports) (outputs : List Output) (own issued : List Form) (can : CanServe service p outputs own issued) where
-  pub can_turn : (values : List ℤ) → length values ≤ length (receives service) → CanTurn service p own values
+  pub can_turn : (values : List ℤ) → IsMessage (Serviced service) values → CanTurn service p own values
   can_turn values h = record {
     few = can.few;
     ports = can.ports;
     quality_out = λ e. subst (λ (n : ℕ). n < size_of own) (sym can.ports.quality_out) (output_within service own issued can.stores qo e);
     received = subst (AllByRecursion (λ (n : ℕ). n < size_of own)) (sym can.ports.received) (received_within service own issued can.stores);
-    message = h;
+    message = few_values (receives service) values h;
   }
 
   one_gives : (g : Give) → is_in (string_bytes g.output) (variable_names (service_outputs service)) ≡ true → IsPlacedGive own issued g → CanGive own issued g

@@ -6,6 +6,8 @@ use Rattle.fb_model.specs.Values.{One, Values, number_of}
 use Rattle.fb_model.specs.Language.{setting}
 use Rattle.fb_model.specs.System.{Service, Input, Output, Publish, Subscribe, Delay, Cycle, Restart}
 use Rattle.fb_model.specs.Services.{qi, qo, dt, received, sent, numbered}
+use Rattle.fb_model.specs.Wires.{Serviced}
+use Rattle.fb_model.specs.Ranges.{types_of}
 use Rattle.st_code.specs.Forms.{Form, plain_slot}
 use Rattle.fb_serve.specs.declared.standing.Ports.{Ports}
 
@@ -21,13 +23,7 @@ sends Restart = []
 
 -- the types of the values that a service receives
 abbrev pub receives : Service → List ElemType
-receives (Input number types) = types
-receives (Output number types) = []
-receives (Publish channel types) = []
-receives (Subscribe channel types) = types
-receives Delay = []
-receives Cycle = []
-receives Restart = []
+receives service = types_of (Serviced service)
 
 -- the slots of variables, one by one
 abbrev pub slots_of : List Form → List Name → List ℕ

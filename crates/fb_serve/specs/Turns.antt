@@ -1,6 +1,6 @@
 -- What a dispatch of a service comes to, in the book's terms.
 -- This project's profile of IEC 61499-1 edition 2, 6.
-use Rattle.std.specs.Prelude.{ℕ, ℤ, List, [], ◌∷◌, Option, None, Some}
+use Rattle.std.specs.Prelude.{ℕ, ℤ, ◌≡◌, List, [], ◌∷◌, Option, None, Some}
 use Rattle.std.specs.Option.{option_map}
 use Rattle.fb_words.specs.declared.elem_type.ElemType.{ElemType}
 use Rattle.fb_model.specs.Names.{Name}
@@ -11,7 +11,7 @@ use Rattle.fb_model.specs.Store as st
 use Rattle.fb_model.specs.Store.{Condition, LeafState}
 use Rattle.fb_model.specs.Messages.{To_channel, Typed}
 use Rattle.fb_model.specs.Serving as book
-use Rattle.fb_model.specs.Serving.{Reply, emits}
+use Rattle.fb_model.specs.Serving.{Reply, emits, reply}
 use Rattle.fb_services.specs.Views.{values_of}
 use Rattle.fb_chart.specs.Views.{named}
 use Rattle.fb_serve.specs.declared.standing.Standing.{Standing}
@@ -59,3 +59,7 @@ leaf_of own issued standing = record { cells = record { own = own; issued = issu
 -- the reply that a turn comes to, where these are the working values after it and the issued ones before it
 abbrev pub turned : Service → Turn → Values → Values → Reply
 turned service t own issued = emits service (outs_at service t.output) (effect_of service t.effect) (leaf_of own issued t.standing)
+
+-- a dispatch of a service, by its event's number, comes to this turn; these are the working values before it and after it, and the issued ones before it
+abbrev pub Replies : Service → ℕ → ℕ → List ℤ → Values → Values → Values → Standing → Turn → Type 0
+Replies service clock event values own own' issued standing t = reply service clock (event_at service event) values (leaf_of own issued standing) ≡ turned service t own' issued

@@ -1,6 +1,6 @@
 //! PUBLISH and SUBSCRIBE: IEC 61499-1 edition 2, annex A, this project's profile.
 
-ghost use Rattle.std.specs.Prelude.{◌≡◌, ◌≤◌, ◌<◌, ◌&&◌, ℕ, true, List, [], ◌∷◌, length, None, Some, if◌then◌else◌};
+ghost use Rattle.std.specs.Prelude.{◌≡◌, ◌≤◌, ◌<◌, ◌&&◌, ℕ, true, List, length, None, Some, if◌then◌else◌};
 ghost use Rattle.std.specs.Option.{option_map};
 ghost use Rattle.std.specs.List.{AllByRecursion};
 ghost use Rattle.fb_words.specs.declared.elem_type.ElemType as element;

@@ -1,14 +1,14 @@
 //! E_DELAY and E_CYCLE: IEC 61499-1 edition 2, annex A, this project's profile.
 
-ghost use Rattle.std.specs.Prelude.{◌≡◌, ◌<◌, ◌+◌, ℤ, ℕ, List, None, Some, IfSome, max, if◌then◌else◌};
+ghost use Rattle.std.specs.Prelude.{◌≡◌, ◌<◌, ℤ, List, None, Some, IfSome, if◌then◌else◌};
 ghost use Rattle.fb_model.specs.Names.{Name};
 ghost use Rattle.fb_model.specs.Values.{Values};
 ghost use Rattle.fb_model.specs.System.{Delay, Cycle};
 ghost use Rattle.fb_model.specs.Services.{dt};
-ghost use Rattle.fb_model.specs.Serving.{reply, wait, due_after, is_quiet, is_fired};
+ghost use Rattle.fb_model.specs.Serving.{wait, due_after, is_quiet, is_fired};
 ghost use Rattle.st_exec.specs.Cells.{values_of};
 ghost use Rattle.st_run.specs.Kept.{plain_slot_of};
-ghost use Rattle.fb_serve.specs.Turns.{condition_of, event_at, leaf_of, turned};
+ghost use Rattle.fb_serve.specs.Turns.{condition_of, Replies};
 
 use crate::standing::{Standing, Turn, silent};
 use fb_chart::Store;
@@ -56,7 +56,7 @@ fn expired(standing: Standing, next: Standing) -> Turn
 pub(crate) fn delay(time: usize, event: u16, clock: u64, standing: Standing, own: &Store) -> Turn
     requires { time ≡ plain_slot_of own.now dt }
     ensures output { IfSome result.output (λ k. k < 1) }
-    ensures reply { (values : List ℤ) (issued : Values) → reply Delay clock (event_at Delay event) values (leaf_of (values_of own.now) issued standing) ≡ turned Delay result (values_of own.now) issued }
+    ensures reply { (values : List ℤ) (issued : Values) → Replies Delay clock event values (values_of own.now) (values_of own.now) issued standing result }
 {
     match event {
         0 => silent(started(clock, waiting(own, time), standing)),
@@ -70,7 +70,7 @@ pub(crate) fn delay(time: usize, event: u16, clock: u64, standing: Standing, own
 pub(crate) fn cycle(time: usize, event: u16, clock: u64, standing: Standing, own: &Store) -> Turn
     requires { time ≡ plain_slot_of own.now dt }
     ensures output { IfSome result.output (λ k. k < 1) }
-    ensures reply { (values : List ℤ) (issued : Values) → reply Cycle clock (event_at Cycle event) values (leaf_of (values_of own.now) issued standing) ≡ turned Cycle result (values_of own.now) issued }
+    ensures reply { (values : List ℤ) (issued : Values) → Replies Cycle clock event values (values_of own.now) (values_of own.now) issued standing result }
 {
     let period = waiting(own, time).max(1);
     match event {

@@ -1,18 +1,16 @@
 //! One dispatch of a service up to its emission: IEC 61499-1 edition 2, 6.1 and annex A, this project's profile.
 
 ghost use Rattle.std.specs.Prelude.{◌≡◌, ◌≤◌, ◌<◌, ℕ, ℤ, List, length, None, Some, IfSome};
-ghost use Rattle.std.specs.Option.{option_map};
 ghost use Rattle.std.specs.List.{AllByRecursion};
 ghost use Rattle.fb_words.specs.declared.elem_type.ElemType as element;
 ghost use Rattle.fb_model.specs.Values.{Values as BookValues};
 ghost use Rattle.fb_model.specs.System as system;
 ghost use Rattle.fb_model.specs.Services.{qi, qo, sent, received, numbered, service_event_outputs};
-ghost use Rattle.fb_model.specs.Serving as book;
-ghost use Rattle.fb_services.specs.Views.{service_of, channel_of, values_of as types_of};
+ghost use Rattle.fb_services.specs.Views.{service_of, channel_of};
 ghost use Rattle.st_exec.specs.Cells.{values_of, forms_of};
 ghost use Rattle.st_run.specs.Kept.{plain_slot_of, room_of};
-ghost use Rattle.fb_serve.specs.Ports.{slots_of, numbers_at};
-ghost use Rattle.fb_serve.specs.Turns.{condition_of, event_at, leaf_of, turned, effect_in};
+ghost use Rattle.fb_serve.specs.Ports.{slots_of};
+ghost use Rattle.fb_serve.specs.Turns.{Replies};
 ghost use Rattle.fb_serve.specs.Serving.{CanTurn};
 
 use crate::quality::{open, publish, subscribe};
@@ -29,7 +27,7 @@ fn arrive(slots: &[usize], values: &[i64], standing: Standing, own: &mut Store) 
     ensures output { result.output ≡ Some 0 }
     ensures standing { result.standing ≡ standing }
     ensures effect { result.effect ≡ None }
-    ensures reply { (number clock event : ℕ) (types : List element.ElemType) (issued : BookValues) → length values.now ≤ length types → slots.now ≡ slots_of (forms_of own.old) (numbered received 1 types) → book.reply (system.Input number types) clock (event_at (system.Input number types) event) values.now (leaf_of (values_of own.old) issued standing) ≡ turned (system.Input number types) result (values_of own.new) issued }
+    ensures reply { (number clock event : ℕ) (types : List element.ElemType) (issued : BookValues) → length values.now ≤ length types → slots.now ≡ slots_of (forms_of own.old) (numbered received 1 types) → Replies (system.Input number types) clock event values.now (values_of own.old) (values_of own.new) issued standing result }
     ensures forms { forms_of own.new ≡ forms_of own.old }
 {
     receive(slots, values, own);
@@ -44,7 +42,7 @@ fn arrive(slots: &[usize], values: &[i64], standing: Standing, own: &mut Store) 
 fn write(number: u16, slots: &[usize], standing: Standing, own: &Store) -> Turn
     requires { length slots.now ≤ 16 }
     ensures output { result.output ≡ None }
-    ensures reply { (clock event : ℕ) (types : List element.ElemType) (values : List ℤ) (issued : BookValues) → slots.now ≡ slots_of (forms_of own.now) (numbered sent 1 types) → book.reply (system.Output number types) clock (event_at (system.Output number types) event) values (leaf_of (values_of own.now) issued standing) ≡ turned (system.Output number types) result (values_of own.now) issued }
+    ensures reply { (clock event : ℕ) (types : List element.ElemType) (values : List ℤ) (issued : BookValues) → slots.now ≡ slots_of (forms_of own.now) (numbered sent 1 types) → Replies (system.Output number types) clock event values (values_of own.now) (values_of own.now) issued standing result }
 {
     Turn {
         standing,
@@ -66,7 +64,7 @@ fn published(
     requires within { ports.now.quality_out < room_of own.old }
     requires few { length ports.now.sent.items ≤ 16 }
     ensures output { IfSome result.output (λ k. k < 2) }
-    ensures reply { (clock : ℕ) (types : List element.ElemType) (values : List ℤ) (issued : BookValues) → ports.now.sent.items ≡ slots_of (forms_of own.old) (numbered sent 1 types) → book.reply (system.Publish (channel_of channel.now) types) clock (event_at (system.Publish (channel_of channel.now) types) event) values (leaf_of (values_of own.old) issued standing) ≡ turned (system.Publish (channel_of channel.now) types) result (values_of own.new) issued }
+    ensures reply { (clock : ℕ) (types : List element.ElemType) (values : List ℤ) (issued : BookValues) → ports.now.sent.items ≡ slots_of (forms_of own.old) (numbered sent 1 types) → Replies (system.Publish (channel_of channel.now) types) clock event values (values_of own.old) (values_of own.new) issued standing result }
     ensures forms { forms_of own.new ≡ forms_of own.old }
 {
     match event {
@@ -89,7 +87,7 @@ fn subscribed(
     requires few { length values.now ≤ length ports.now.received.items }
     requires all_within { AllByRecursion (λ (n : ℕ). n < room_of own.old) ports.now.received.items }
     ensures output { IfSome result.output (λ k. k < 2) }
-    ensures reply { (clock : ℕ) (channel : system.Channel) (types : List element.ElemType) (issued : BookValues) → length values.now ≤ length types → ports.now.received.items ≡ slots_of (forms_of own.old) (numbered received 1 types) → book.reply (system.Subscribe channel types) clock (event_at (system.Subscribe channel types) event) values.now (leaf_of (values_of own.old) issued standing) ≡ turned (system.Subscribe channel types) result (values_of own.new) issued }
+    ensures reply { (clock : ℕ) (channel : system.Channel) (types : List element.ElemType) (issued : BookValues) → length values.now ≤ length types → ports.now.received.items ≡ slots_of (forms_of own.old) (numbered received 1 types) → Replies (system.Subscribe channel types) clock event values.now (values_of own.old) (values_of own.new) issued standing result }
     ensures forms { forms_of own.new ≡ forms_of own.old }
 {
     match event {
@@ -111,7 +109,7 @@ pub(crate) fn reply(
 ) -> Turn
     requires { CanTurn (service_of service.now) ports.now (forms_of own.old) values.now }
     ensures output { IfSome result.output (λ k. k < length (service_event_outputs (service_of service.now))) }
-    ensures reply { (issued : BookValues) → book.reply (service_of service.now) clock (event_at (service_of service.now) event) values.now (leaf_of (values_of own.old) issued standing) ≡ turned (service_of service.now) result (values_of own.new) issued }
+    ensures reply { (issued : BookValues) → Replies (service_of service.now) clock event values.now (values_of own.old) (values_of own.new) issued standing result }
     ensures forms { forms_of own.new ≡ forms_of own.old }
 {
     match service {

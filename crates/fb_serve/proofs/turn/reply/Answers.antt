@@ -4,7 +4,7 @@ use Rattle.fb_model.specs.Services.{sent, received, numbered, service_event_outp
 use Rattle.fb_services.specs.Views.{service_of, channel_of}
 use Rattle.st_exec.specs.Cells.{values_of, forms_of}
 use Rattle.fb_serve.specs.Ports.{slots_of, sends, receives}
-use Rattle.fb_serve.proofs.Replies.{Replies}
+use Rattle.fb_serve.specs.Turns.{Replies}
 use Rattle.fb_serve.proofs.Placing.{message_fits, sent_few}
 use Rattle.fb_serve.proofs.turn.reply.Goals as goal
 
