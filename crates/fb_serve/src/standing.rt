@@ -4,7 +4,7 @@ ghost use Rattle.std.specs.Prelude.{◌≡◌, None};
 
 use fb_chart::Values;
 
-/// What a service remembers from one dispatch to the next.
+/// What a service remembers from one dispatch to the next: IEC 61499-1 edition 2, 6.1 and annex A, this project's profile.
 #[derive(Clone, Copy)]
 pub enum Standing {
     /// A PUBLISH or SUBSCRIBE that is not open.
@@ -21,7 +21,7 @@ pub enum Standing {
     Plain,
 }
 
-/// What a service does outside of its device.
+/// What a service does outside of its device: IEC 61499-1 edition 2, 6.1, this project's profile.
 #[derive(Drop)]
 pub enum Effect {
     /// A PUBLISH sends values to the channel of a number.
@@ -30,7 +30,8 @@ pub enum Effect {
     Write(u16, Values),
 }
 
-/// The slots of a service's variables: QI, QO, DT, SD_1 and so on, RD_1 and so on. What it does not have has the slot behind all.
+/// The slots of a service's variables: QI, QO, DT, SD_1 and so on, RD_1 and so on. A QI, QO or DT that it does not have has the slot behind all, and a list
+/// that it does not have is empty.
 #[derive(Drop)]
 pub struct Ports {
     pub quality_in: usize,
