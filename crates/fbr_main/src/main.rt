@@ -30,18 +30,26 @@ fn tell_waiting(rt: &HostRuntime, words: &[&str]) -> io::Result<()> {
     Ok(())
 }
 
-// The status where what was written has gone out, and 3 where it has not; people are told of it.
-fn told(rt: &HostRuntime, status: u8, flushed: io::Result<()>) -> u8
+// The status of a command whose output has gone out, and 3 where it has not.
+fn outcome(status: u8, flushed: io::Result<()>) -> u8
     requires { status ≤ 4 }
-    ensures { result ≤ 4 }
+    ensures said { MatchResult flushed (λ _. result ≡ status) (λ _. result ≡ 3) }
+    ensures most { result ≤ 4 }
 {
-    let status = if flushed.is_ok() { status } else { 3 };
+    match flushed {
+        Ok(()) => status,
+        Err(_) => 3,
+    }
+}
+
+// Tells people of a file that was not read, or of output that failed.
+fn tell_failure(rt: &HostRuntime, status: u8) -> io::Result<()> {
     if status == 3 {
         let why =
             "fbr: a file could not be read, or the output failed; `fbr --help` lists the commands";
-        eprintln!(rt; "{why}").unwrap_or(());
+        eprintln!(rt; "{why}")?;
     }
-    status
+    Ok(())
 }
 
 // Runs the command of the process's words, over its files, its standard input, its standard output, and its standard error for people.
@@ -66,7 +74,9 @@ fn status(rt: &HostRuntime) -> io::Result<u8>
         &mut output,
         &mut errors,
     );
-    Ok(told(rt, status, output.flush()))
+    let status = outcome(status, output.flush());
+    tell_failure(rt, status).unwrap_or(());
+    Ok(status)
 }
 
 // The status of the process: the command's, and 4 where there was no memory for its words.
