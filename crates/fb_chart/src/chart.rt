@@ -13,11 +13,9 @@ ghost use Rattle.st_exec.specs.Cells.{values_of, forms_of};
 ghost use Rattle.st_exec.specs.Runs.{IsWithin};
 ghost use Rattle.fb_chart.specs.Views.{named};
 ghost use Rattle.fb_chart.specs.Tables.{IsChart};
-ghost use Rattle.fb_chart.specs.Sampling.{CanGiveAll};
-ghost use Rattle.fb_chart.specs.Charting.{block_in, states_in, events_in, outputs_in, most_steps, IsStateNumber, IsReady, CanWork, numbered, is_open_to, chosen, sent_by, issued_by, cells_of, entered, begun, FineFrom, HasCome, HasRested};
+ghost use Rattle.fb_chart.specs.Charting.{block_in, states_in, events_in, outputs_in, most_steps, IsStateNumber, IsReady, CanWork, numbered, is_open_to, chosen, cells_of, entered, begun, FineFrom, HasCome, HasRested};
 
-use crate::emit::{Emit, put_all};
-use crate::sampling::issue;
+use crate::emit::{Emit, send};
 use crate::table::{Chart, Output};
 use st_code::{Code, Procedure};
 use st_run::{Store, exec, truth};
@@ -80,33 +78,6 @@ fn work(procedures: &[Procedure], algorithm: Option<u16>, own: &mut Store) -> u6
     match algorithm {
         None => 0,
         Some(number) => exec(&procedures[number as usize], own),
-    }
-}
-
-// Emits the output of an action, if it has one.
-fn send<E: Emit>(
-    outputs: &[Output],
-    output: Option<u16>,
-    own: &Store,
-    issued: &mut Store,
-    emit: &mut E,
-)
-    requires output { IfSome output (λ k. k < length outputs.now) }
-    requires gives { AllByRecursion (CanGiveAll (forms_of own.now) (forms_of issued.old)) outputs.now }
-    requires room { length (sent_by outputs.now output) ≤ E.room emit.old }
-    ensures issued { values_of issued.new ≡ issued_by outputs.now output (values_of own.now) (values_of issued.old) }
-    ensures forms { forms_of issued.new ≡ forms_of issued.old }
-    ensures sent { E.sent emit.new ≡ E.sent emit.old ++ sent_by outputs.now output }
-    ensures room { E.room emit.old ≡ E.room emit.new + length (sent_by outputs.now output) }
-    ensures same_reference { E.reference emit.new ≡ E.reference emit.old }
-{
-    match output {
-        None => {}
-        Some(number) => {
-            let output = &outputs[number as usize];
-            issue(&output.gives, own, issued);
-            put_all(&output.targets, emit);
-        }
     }
 }
 

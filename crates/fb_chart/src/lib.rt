@@ -9,7 +9,7 @@ mod sampling;
 mod table;
 
 pub use chart::invoke;
-pub use emit::Emit;
+pub use emit::{Emit, send};
 pub use sampling::sample;
 pub use st_run::Store;
 pub use table::{

@@ -5,8 +5,7 @@ use Rattle.std.proofs.lemmas.List.{map-append}
 use Rattle.arrayvec.specs.ArrayVec.{ArrayVec}
 use Rattle.fb_model.specs.Names.{Place}
 use Rattle.fb_model.specs.Devices.{is_pending}
-use Rattle.fb_invoke.specs.declared.table.Point.{Point}
-use Rattle.fb_invoke.specs.declared.entry.Entry.{Entry}
+use Rattle.fb_chart.specs.declared.table.Point.{Point}
 use Rattle.fb_sched.specs.declared.ticket.Ticket.{Ticket}
 use Rattle.fb_sched.specs.declared.reaction.Reaction.{Reaction}
 use Rattle.fb_sched.specs.Agenda.{Agenda, IsAgenda, slot_at, tickets_for}

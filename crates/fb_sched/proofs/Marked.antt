@@ -4,7 +4,7 @@ use Rattle.std.proofs.lemmas.Bool.{cases_eq, ne_eqb}
 use Rattle.fb_model.specs.Names.{Place}
 use Rattle.fb_model.specs.Devices as book
 use Rattle.fb_model.specs.Devices.{held, is_pending}
-use Rattle.fb_invoke.specs.declared.table.Point.{Point}
+use Rattle.fb_chart.specs.declared.table.Point.{Point}
 use Rattle.fb_sched.specs.declared.ticket.Ticket.{Ticket}
 use Rattle.fb_sched.specs.declared.reaction.Reaction.{Reaction}
 use Rattle.fb_sched.specs.Agenda.{Agenda, IsAgenda, IsOpen, slot_at, places_of, all_places, reactions_in, tickets_for}

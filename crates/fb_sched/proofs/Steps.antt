@@ -4,7 +4,7 @@ use Rattle.std.proofs.Math.Path.{fun_ext}
 use Rattle.std.proofs.lemmas.Bool.{cond-true, cond-false, cases_eq, ne_eqb}
 use Rattle.arrayvec.specs.ArrayVec.{ArrayVec}
 use Rattle.fb_model.specs.Devices.{put}
-use Rattle.fb_invoke.specs.declared.table.Point.{Point}
+use Rattle.fb_chart.specs.declared.table.Point.{Point}
 use Rattle.fb_sched.specs.declared.ticket.Ticket.{Ticket}
 use Rattle.fb_sched.specs.declared.reaction.Reaction.{Reaction}
 use Rattle.fb_sched.specs.Agenda.{Agenda, IsAgenda, slot_at, IsNew}

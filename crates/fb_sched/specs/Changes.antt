@@ -2,7 +2,7 @@
 -- IEC 61499-1 edition 2, 4.5.3 and 5.2.2 (event propagation); causes and credit are this project's profile.
 use Rattle.std.specs.Prelude.{ℕ, ◌≡◌, ◌≢◌, ◌+◌, ◌-◌, ◌<◌, ◌^◌, ◌==◌, ℤ, List, [], ◌∷◌, ◌++◌, Option, Some, None, if◌then◌else◌}
 use Rattle.arrayvec.specs.ArrayVec.{ArrayVec}
-use Rattle.fb_invoke.specs.declared.table.Point.{Point}
+use Rattle.fb_chart.specs.declared.table.Point.{Point}
 use Rattle.fb_sched.specs.declared.ticket.Ticket.{Ticket}
 use Rattle.fb_sched.specs.declared.reaction.Reaction.{Reaction}
 use Rattle.fb_sched.specs.Agenda.{Agenda, slot_at}

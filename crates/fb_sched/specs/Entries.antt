@@ -5,13 +5,19 @@ use Rattle.arrayvec.specs.ArrayVec.{ArrayVec}
 use Rattle.fb_model.specs.Names.{Place}
 use Rattle.fb_model.specs.Devices as book
 use Rattle.fb_model.specs.Devices.{held}
-use Rattle.fb_invoke.specs.declared.table.Point.{Point}
-use Rattle.fb_invoke.specs.declared.entry.Entry.{Entry}
+use Rattle.fb_chart.specs.declared.table.Point.{Point}
 use Rattle.fb_sched.specs.declared.ticket.Ticket.{Ticket}
 use Rattle.fb_sched.specs.declared.reaction.Reaction.{Reaction}
 use Rattle.fb_sched.specs.Agenda.{Agenda, slot_at, all_places}
 
 -- ---- tickets as entries
+
+-- a pending entry: its cause, the arrival that opened the cause, the event input that it is for, and the values of an arrival
+pub record Entry : Type 0 where
+  pub cause : ℕ
+  pub opening : Point
+  pub point : Point
+  pub values : ArrayVec ℤ
 
 -- the entry of a ticket whose slot holds this: a ticket without a reaction would be its own opening
 abbrev pub entry_by : Option Reaction → Ticket → Entry

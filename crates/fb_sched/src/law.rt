@@ -4,7 +4,7 @@ ghost use Rattle.std.specs.Prelude.{ℕ, ℤ, ◌≡◌, ◌≤◌, ◌+◌, ◌
 ghost use Rattle.arrayvec.specs.ArrayVec.{ArrayVec};
 ghost use Rattle.fb_model.specs.Names.{Place};
 ghost use Rattle.fb_model.specs.Devices.{is_pending, put};
-ghost use Rattle.fb_invoke.specs.declared.table.Point.{Point};
+ghost use Rattle.fb_chart.specs.declared.table.Point.{Point};
 ghost use Rattle.fb_sched.specs.declared.reaction.Reaction.{Reaction};
 ghost use Rattle.fb_sched.specs.declared.ticket.Ticket.{Ticket};
 ghost use Rattle.fb_sched.specs.Agenda.{Agenda, IsAgenda, IsNew, slot_at, reactions_in, places_of, all_places};

@@ -7,7 +7,7 @@ ghost use Rattle.fb_sched.specs.Changes.{Opens, Takes, Puts, Settles, CanSettle}
 use crate::reaction::{Reaction, find_in, reaction_in, rewrite};
 use crate::ticket::{Ticket, append, take_first};
 use circular_buffer::HeapCircularBuffer;
-use fb_invoke::{Point, Values};
+use fb_chart::{Point, Values};
 use slab::Slab;
 use std::alloc::{AllocError, Global};
 use std::marker::Model;

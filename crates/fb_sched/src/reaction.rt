@@ -4,7 +4,7 @@ ghost use Rattle.std.specs.Prelude.{◌≡◌, Some, IfSome, IfNone};
 ghost use Rattle.slab.specs.Slab.{get, ContainsKey, with_value};
 ghost use Rattle.fb_sched.specs.Agenda.{IsNew, IsReactionOf};
 
-use fb_invoke::Point;
+use fb_chart::Point;
 use slab::Slab;
 
 /// A cause that has not ended: its number, the arrival that opened it, the places of that arrival's WEIGHT row, how many of its entries are pending, and its steps so far.

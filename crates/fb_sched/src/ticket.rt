@@ -4,7 +4,7 @@ ghost use Rattle.std.specs.Prelude.{◌≡◌, ◌<◌, ◌++◌, ◌∷◌, [],
 ghost use Rattle.circular_buffer.specs.Buffer.{buffer};
 
 use circular_buffer::HeapCircularBuffer;
-use fb_invoke::{Point, Values};
+use fb_chart::{Point, Values};
 
 /// A pending entry: the slot of its cause, the event input or arrival that it is for, and the values of an arrival.
 ///

@@ -1,0 +1,4 @@
+pub mod Slots
+pub mod Replies
+pub mod Placing
+pub mod Serving

@@ -1,0 +1,104 @@
+-- What services reply, by slots and numbers.
+use Rattle.std.proofs.Common.{◌≡◌, ℕ, zero, suc, ◌+◌, ◌≤◌, ℤ, Bool, true, false, List, [], ◌∷◌, map, length, Option, Some, None, refl, sym, ap, ◌∙◌, arith}
+use Rattle.std.specs.Prelude.{◌&&◌, ◌≢◌, if◌then◌else◌}
+use Rattle.std.specs.Option.{option_map}
+use Rattle.std.specs.Str.{bytes_eq}
+use Rattle.std.proofs.Math.Path.{fun_ext}
+use Rattle.fb_words.specs.declared.elem_type.ElemType.{ElemType}
+use Rattle.fb_model.specs.Names.{Name}
+use Rattle.fb_model.specs.Values.{Value, One, Values, number_of}
+use Rattle.fb_model.specs.Language.{setting}
+use Rattle.fb_model.specs.System.{Service, Channel, Publish, Subscribe}
+use Rattle.fb_model.specs.Services.{init, inito, req, rsp, cnf, ind, qi, qo, arrive, received, sent, numbered}
+use Rattle.fb_model.specs.Store.{Condition, Ready, Closed}
+use Rattle.fb_model.specs.Messages.{To_channel}
+use Rattle.fb_model.specs.Serving.{Effect, Send, Reply, bit, is_true, is_ready, set_value, receive, typed_values, emits, opened, published, subscribed}
+use Rattle.fb_model.proofs.Names.{eq_turned}
+use Rattle.fb_chart.specs.Views.{named}
+use Rattle.fb_serve.specs.Ports.{received_in, numbers_at}
+use Rattle.fb_serve.specs.Turns.{condition_of, typed, effect_in, outs_at, leaf_of, turned}
+use Rattle.fb_serve.specs.declared.standing.Standing.{Standing}
+use Rattle.fb_serve.specs.declared.standing.Standing.TheVariants as s
+use Rattle.fb_serve.specs.declared.standing.Turn.{Turn}
+
+pub setting_is : (values : Values) (x : Name) (v : Value) → setting values x v ≡ set_value x v values
+setting_is values x v = fun_ext (λ y. ap (λ e. if e then v else values y) (eq_turned x y))
+
+pub numbered_length : (f : ℕ → Name) (n : ℕ) (types : List ElemType) → length (numbered f n types) ≡ length types
+numbered_length f n [] = refl
+numbered_length f n (t ∷ types) = ap suc (numbered_length f (n + 1) types)
+
+pub receive_is : (n : ℕ) (types : List ElemType) (vs : List ℤ) (values : Values) → length vs ≤ length types → received_in (numbered received n types) vs values ≡ receive n vs values
+receive_is n [] [] values h = refl
+receive_is n [] (v ∷ vs) values h = absurd (omega (arith, h))
+receive_is n (t ∷ types) [] values h = refl
+receive_is n (t ∷ types) (v ∷ vs) values h =
+    receive_is (n + 1) types vs (setting values (received n) (One v)) (omega (arith, h)) ∙ ap (receive (n + 1) vs) (setting_is values (received n) (One v))
+
+pub typed_numbers : (n : ℕ) (types : List ElemType) (own : Values) → numbers_at (numbered sent n types) own ≡ map (λ v. v.value) (typed_values n types own)
+typed_numbers n [] own = refl
+typed_numbers n (t ∷ types) own = ap (λ vs. number_of (own (sent n)) ∷ vs) (typed_numbers (n + 1) types own)
+
+pub typed_is : (n : ℕ) (types : List ElemType) (own : Values) → typed types (numbers_at (numbered sent n types) own) ≡ typed_values n types own
+typed_is n [] own = refl
+typed_is n (t ∷ types) own = ap (λ vs. record { type = t; value = number_of (own (sent n)) } ∷ vs) (typed_is (n + 1) types own)
+
+-- ---- PUBLISH and SUBSCRIBE
+
+-- a reply, by its parts
+abbrev replied : Service → List Name → Option Effect → Values → Values → Condition → Reply
+replied service outs effect own issued condition = emits service outs effect (record { cells = record { own = own; issued = issued }; condition = condition })
+
+pub opened_is : (service : Service) (t : Turn) (own own' issued : Values) (standing : Standing) → outs_at service (Some 0) ≡ inito ∷ []
+    → t ≡ record { standing = (if is_true (own qi) then s.Ready else s.Closed); output = Some 0; effect = None } → own' ≡ setting own qo (bit (is_true (own qi)))
+    → opened service (leaf_of own issued standing) ≡ turned service t own' issued
+opened_is service t own own' issued standing o h e =
+    ap (λ v. replied service (inito ∷ []) None v issued (if is_true (own qi) then Ready else Closed)) (sym (e ∙ setting_is own qo (bit (is_true (own qi))))) ∙ by (is_true (own qi)) ∙ ap (λ t. turned service t own' issued) (sym h)
+  where
+    by : (q : Bool) → replied service (inito ∷ []) None own' issued (if q then Ready else Closed) ≡ turned service (record { standing = (if q then s.Ready else s.Closed); output = Some 0; effect = None }) own' issued
+    by true = ap (λ os. replied service os None own' issued Ready) (sym o)
+    by false = ap (λ os. replied service os None own' issued Closed) (sym o)
+
+pub published_is : (channel : Channel) (types : List ElemType) (t : Turn) (own own' issued : Values) (standing : Standing) → t.standing ≡ standing → t.output ≡ Some 1
+    → option_map (effect_in types) t.effect ≡ (if is_ready (condition_of standing) && is_true (own qi) then Some (Send (record { purpose = To_channel; number = channel.number; values = typed types (numbers_at (numbered sent 1 types) own) })) else None)
+    → own' ≡ setting own qo (bit (is_ready (condition_of standing) && is_true (own qi))) → published channel types (leaf_of own issued standing) ≡ turned (Publish channel types) t own' issued
+published_is channel types t own own' issued standing h o f e =
+    ap (λ ts. replied service (cnf ∷ []) (if q then Some (Send (record { purpose = To_channel; number = channel.number; values = ts })) else None) (set_value qo (bit q) own) issued (condition_of standing)) (sym (typed_is 1 types own))
+    ∙ ap (λ x. replied service (cnf ∷ []) x (set_value qo (bit q) own) issued (condition_of standing)) (sym f)
+    ∙ ap (λ v. replied service (cnf ∷ []) (option_map (effect_in types) t.effect) v issued (condition_of standing)) (sym (e ∙ setting_is own qo (bit q)))
+    ∙ ap (λ k. replied service (outs_at service k) (option_map (effect_in types) t.effect) own' issued (condition_of standing)) (sym o)
+    ∙ ap (λ c. replied service (outs_at service t.output) (option_map (effect_in types) t.effect) own' issued (condition_of c)) (sym h)
+  where
+    service : Service
+    service = Publish channel types
+
+    q : Bool
+    q = is_ready (condition_of standing) && is_true (own qi)
+
+pub subscribed_is : (channel : Channel) (types : List ElemType) (t : Turn) (values : List ℤ) (own own' issued : Values) (standing : Standing) → length values ≤ length types
+    → t ≡ record { standing = standing; output = (if is_ready (condition_of standing) then Some 1 else None); effect = None }
+    → own' ≡ (if is_ready (condition_of standing) then received_in (numbered received 1 types) values (setting own qo (bit true)) else own)
+    → subscribed channel types values (leaf_of own issued standing) ≡ turned (Subscribe channel types) t own' issued
+subscribed_is channel types t values own own' issued standing few h e =
+    by (is_ready (condition_of standing)) ∙ ap (λ v. turned service (record { standing = standing; output = (if is_ready (condition_of standing) then Some 1 else None); effect = None }) v issued) (sym e) ∙ ap (λ t. turned service t own' issued) (sym h)
+  where
+    service : Service
+    service = Subscribe channel types
+
+    by : (r : Bool) → (if r then replied service (ind ∷ []) None (receive 1 values (set_value qo (bit true) own)) issued (condition_of standing) else replied service [] None own issued (condition_of standing))
+        ≡ turned service (record { standing = standing; output = (if r then Some 1 else None); effect = None }) (if r then received_in (numbered received 1 types) values (setting own qo (bit true)) else own) issued
+    by true = ap (λ v. replied service (ind ∷ []) None v issued (condition_of standing)) (ap (receive 1 values) (sym (setting_is own qo (bit true))) ∙ sym (receive_is 1 types values (setting own qo (bit true)) few))
+    by false = refl
+
+-- ---- events by their numbers
+
+pub not_init : (n : ℕ) → n ≢ 0 → bytes_eq (named (init ∷ req ∷ []) n) init ≡ false
+not_init zero h = absurd (h refl)
+not_init (suc zero) h = refl
+not_init (suc (suc n)) h = refl
+
+pub arrives : (n : ℕ) → n ≢ 0 → n ≢ 1 → (bytes_eq (named (init ∷ rsp ∷ arrive ∷ []) n) init ≡ false) × (bytes_eq (named (init ∷ rsp ∷ arrive ∷ []) n) rsp ≡ false)
+arrives zero h k = absurd (h refl)
+arrives (suc zero) h k = absurd (k refl)
+arrives (suc (suc zero)) h k = (refl, refl)
+arrives (suc (suc (suc n))) h k = (refl, refl)

@@ -1,0 +1,13 @@
+//! One dispatch of a service interface: IEC 61499-1 edition 2, 6.1 and annex A, this project's profile.
+//! Its inputs are sampled already. Variables go by slots, events and event outputs by numbers.
+#![tactic(auto)]
+
+mod dispatch;
+mod quality;
+mod standing;
+mod timer;
+mod transfer;
+mod turn;
+
+pub use dispatch::serve;
+pub use standing::{Effect, Ports, Standing};

@@ -1,0 +1,61 @@
+//! What a service remembers, where its variables lie, and what it does.
+
+ghost use Rattle.std.specs.Prelude.{◌≡◌, None};
+
+use fb_chart::Values;
+
+/// What a service remembers from one dispatch to the next: IEC 61499-1 edition 2, 6.1 and annex A, this project's profile.
+#[derive(Clone, Copy)]
+pub enum Standing {
+    /// A PUBLISH or SUBSCRIBE that is not open.
+    Closed,
+    /// A PUBLISH or SUBSCRIBE that is open.
+    Ready,
+    /// A timer that does not run.
+    Quiet,
+    /// A timer that is due at this moment.
+    Armed(u64),
+    /// A timer that was due and has not expired yet.
+    Fired,
+    /// The others, which remember nothing.
+    Plain,
+}
+
+/// What a service does outside of its device: IEC 61499-1 edition 2, 6.1, this project's profile.
+#[derive(Drop)]
+pub enum Effect {
+    /// A PUBLISH sends values to the channel of a number.
+    Send(u16, Values),
+    /// An OUTPUT of a number writes values.
+    Write(u16, Values),
+}
+
+/// The slots of a service's variables: QI, QO, DT, SD_1 and so on, RD_1 and so on. A QI, QO or DT that it does not have has the slot behind all, and a list
+/// that it does not have is empty.
+#[derive(Drop)]
+pub struct Ports {
+    pub quality_in: usize,
+    pub quality_out: usize,
+    pub time: usize,
+    pub sent: Vec<usize>,
+    pub received: Vec<usize>,
+}
+
+/// What a dispatch comes to: what the service remembers after it, the number of the event output that it emits, and its effect.
+#[derive(Drop)]
+pub(crate) struct Turn {
+    pub(crate) standing: Standing,
+    pub(crate) output: Option<u16>,
+    pub(crate) effect: Option<Effect>,
+}
+
+// A dispatch that emits nothing and has no effect.
+pub(crate) fn silent(standing: Standing) -> Turn
+    ensures { result ≡ record { standing = standing; output = None; effect = None } }
+{
+    Turn {
+        standing,
+        output: None,
+        effect: None,
+    }
+}
