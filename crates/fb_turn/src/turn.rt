@@ -1,0 +1,117 @@
+//! One dispatch.
+
+ghost use Rattle.std.specs.Prelude.{◌≡◌, ◌≤◌, ◌+◌, length};
+ghost use Rattle.st_exec.specs.Cells.{forms_of};
+ghost use Rattle.fb_chart.specs.Views.{kind_of};
+ghost use Rattle.fb_turn.specs.Conditions.{IsConditionOf, leaf_state};
+ghost use Rattle.fb_turn.specs.Turning.{CanRun, HasRun, CanTurn, HasTurned};
+
+use crate::memory::{Condition, Memory};
+use fb_chart::{Block, Body, Emit, Point, Store, invoke, sample};
+use fb_serve::{Effect, Ports, serve};
+
+/// What a dispatch has come to: its steps, and what it did outside of the device.
+#[derive(Drop)]
+pub struct Outcome {
+    pub steps: u64,
+    pub effect: Option<Effect>,
+}
+
+// Runs a block whose inputs are sampled, and answers what it remembers.
+fn run<E: Emit>(
+    block: &Block,
+    ports: &Ports,
+    own: &mut Store,
+    issued: &mut Store,
+    condition: Condition,
+    event: u16,
+    values: &[i64],
+    clock: u64,
+    most: u64,
+    emit: &mut E,
+) -> (Condition, Outcome)
+    requires { CanRun block.now ports.now own.old issued.old condition event values.now most (E.room emit.old) }
+    ensures ran { HasRun block.now event values.now clock (leaf_state (kind_of block.now) own.old issued.old condition) (leaf_state (kind_of block.now) own.new issued.new result.0) result.1.steps result.1.effect (E.sent emit.old) (E.sent emit.new) }
+    ensures condition { IsConditionOf (kind_of block.now) result.0 }
+    ensures own { forms_of own.new ≡ forms_of own.old }
+    ensures issued { forms_of issued.new ≡ forms_of issued.old }
+    ensures room { E.room emit.old + length (E.sent emit.old) ≡ E.room emit.new + length (E.sent emit.new) }
+    ensures same_reference { E.reference emit.new ≡ E.reference emit.old }
+{
+    match (&block.body, condition) {
+        (Body::Chart(chart), Condition::State(state)) => {
+            let (state, steps) = invoke(
+                chart,
+                &block.outputs,
+                state,
+                event,
+                own,
+                issued,
+                most,
+                emit,
+            );
+            (
+                Condition::State(state),
+                Outcome {
+                    steps,
+                    effect: None,
+                },
+            )
+        }
+        (Body::Served(service), Condition::Service(standing)) => {
+            let (standing, effect) = serve(
+                service,
+                ports,
+                &block.outputs,
+                event,
+                values,
+                clock,
+                standing,
+                own,
+                issued,
+                emit,
+            );
+            (Condition::Service(standing), Outcome { steps: 1, effect })
+        }
+        _ => unreachable!(),
+    }
+}
+
+/// Dispatches an event of a block at a moment of the clock: each data input that is WITH the event takes its value, and the block runs to its end.
+/// `values` are those of an arrival.
+///
+/// It does not trap, and takes no more than the steps of the event's WEIGHT row. What its event outputs reach is emitted, for which there is room; the
+/// room falls by as many. It takes no memory.
+pub fn turn<E: Emit>(
+    blocks: &[Block],
+    ports: &[Ports],
+    memory: &mut Memory,
+    point: Point,
+    values: &[i64],
+    clock: u64,
+    emit: &mut E,
+) -> Outcome
+    requires { CanTurn blocks.now ports.now memory.old point values.now (E.room emit.old) }
+    ensures turned { HasTurned blocks.now ports.now memory.old point values.now clock memory.new result.steps result.effect (E.sent emit.old) (E.sent emit.new) }
+    ensures room { E.room emit.old + length (E.sent emit.old) ≡ E.room emit.new + length (E.sent emit.new) }
+    ensures same_reference { E.reference emit.new ≡ E.reference emit.old }
+{
+    let at = point.block as usize;
+    let block = &blocks[at];
+    let event = &block.events[point.event as usize];
+    sample(&event.takes, &memory.issued, &mut memory.own[at]);
+    let (condition, outcome) = run(
+        block,
+        &ports[at],
+        &mut memory.own[at],
+        &mut memory.issued[at],
+        memory.conditions[at],
+        point.event,
+        values,
+        clock,
+        event.steps,
+        emit,
+    );
+    memory.conditions[at] = condition;
+    outcome
+}
