@@ -1,5 +1,5 @@
 -- What each call does to the entries.
-use Rattle.std.proofs.Common.{◌≡◌, ◌≢◌, ◌⊎◌, ℕ, ◌+◌, ◌-◌, ℤ, cond, not, List, [], ◌∷◌, ◌++◌, map, Option, Some, None, eqb, eq-eqb, refl, sym, ap, ◌∙◌, subst, inl, inr, arith}
+use Rattle.std.proofs.Common.{◌≡◌, ◌≢◌, ◌⊎◌, ℕ, ◌+◌, ◌-◌, ℤ, cond, not, List, [], ◌∷◌, ◌++◌, map, length, Option, Some, None, eqb, eq-eqb, refl, sym, ap, ◌∙◌, subst, inl, inr, arith}
 use Rattle.std.proofs.lemmas.Bool.{cases_eq, ne_eqb}
 use Rattle.std.proofs.lemmas.List.{map-append}
 use Rattle.arrayvec.specs.ArrayVec.{ArrayVec}
@@ -9,8 +9,8 @@ use Rattle.fb_chart.specs.declared.table.Point.{Point}
 use Rattle.fb_sched.specs.declared.ticket.Ticket.{Ticket}
 use Rattle.fb_sched.specs.declared.reaction.Reaction.{Reaction}
 use Rattle.fb_sched.specs.Agenda.{Agenda, IsAgenda, slot_at, tickets_for}
-use Rattle.fb_sched.specs.Changes.{ChangesSlot, Opens, Takes, Puts, Settles}
-use Rattle.fb_sched.specs.Entries.{entries, entry_by, booked}
+use Rattle.fb_sched.specs.Changes.{ChangesSlot, Opens, Takes, Puts, PutsAll, Settles, bare_ticket}
+use Rattle.fb_sched.specs.Entries.{Entry, entries, entry_by, sent_entry, booked}
 use Rattle.fb_sched.proofs.Slots.{slot_cases}
 use Rattle.fb_sched.proofs.Kept.{for_own, for_none}
 use Rattle.fb_sched.proofs.Marked.{pending_some, pending_none, more_tickets}
@@ -70,6 +70,23 @@ puts_entries old new slot point r p was =
     ap (entries_of new.slots) p.tickets ∙ entries_last new.slots old.tickets t s p.slots.changed
     ∙ ap (λ es. es ++ entry_by (Some s) t ∷ []) (entries_rewritten old.slots new.slots slot p.reaction s p.slots p.was refl refl old.tickets)
     ∙ ap (λ x. entries old ++ entry_by (Some x) t ∷ []) own
+
+-- the entries of tickets without values
+bare_entries : (slots : List (Option Reaction)) (slot : ℕ) (r s : Reaction) → slot_at slots slot ≡ Some s → s.cause ≡ r.cause → s.opening ≡ r.opening → (ps : List Point) → entries_of slots (map (bare_ticket slot) ps) ≡ map (sent_entry r) ps
+bare_entries slots slot r s e cause opening [] = refl
+bare_entries slots slot r s e cause opening (p ∷ ps) =
+    ap (λ o. entry_by o (bare_ticket slot p) ∷ entries_of slots (map (bare_ticket slot) ps)) e
+    ∙ ap (λ x. x ∷ entries_of slots (map (bare_ticket slot) ps)) (same_entry r s (bare_ticket slot p) cause opening)
+    ∙ ap (λ es. sent_entry r p ∷ es) (bare_entries slots slot r s e cause opening ps)
+
+pub puts_all_entries : (old new : Agenda) (slot : ℕ) (points : List Point) (r : Reaction) → PutsAll old slot points new → slot_at old.slots slot ≡ Some r → entries new ≡ entries old ++ map (sent_entry r) points
+puts_all_entries old new slot points r p was =
+    let s : Reaction = record p.reaction { pending = p.reaction.pending + length points } in
+    let own : p.reaction ≡ r = cc (p.was, was) in
+    ap (entries_of new.slots) p.tickets ∙ map-append (λ (u : Ticket). entry_by (slot_at new.slots u.slot) u) old.tickets (map (bare_ticket slot) points)
+    ∙ ap (λ es. es ++ entries_of new.slots (map (bare_ticket slot) points)) (entries_rewritten old.slots new.slots slot p.reaction s p.slots p.was refl refl old.tickets)
+    ∙ ap (λ es. entries old ++ es) (bare_entries new.slots slot p.reaction s p.slots.changed refl refl points)
+    ∙ ap (λ (x : Reaction). entries old ++ map (sent_entry x) points) own
 
 pub settles_entries : (old new : Agenda) (slot steps : ℕ) (ended : Option Reaction) → IsAgenda old → Settles old slot steps ended new → entries new ≡ entries old
 settles_entries old new slot steps ended h s =

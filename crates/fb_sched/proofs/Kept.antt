@@ -8,7 +8,7 @@ use Rattle.fb_chart.specs.declared.table.Point.{Point}
 use Rattle.fb_sched.specs.declared.ticket.Ticket.{Ticket}
 use Rattle.fb_sched.specs.declared.reaction.Reaction.{Reaction}
 use Rattle.fb_sched.specs.Agenda.{Agenda, IsAgenda, IsOpen, IsNew, slot_at, places_of, all_places, tickets_for, is_for}
-use Rattle.fb_sched.specs.Changes.{ChangesSlot, Opens, Takes, Puts, Settles}
+use Rattle.fb_sched.specs.Changes.{ChangesSlot, Opens, Takes, Puts, PutsAll, Settles}
 use Rattle.fb_sched.proofs.Slots.{places_changed, slot_cases, open_stays}
 
 -- ---- tickets and their slots
@@ -236,6 +236,9 @@ takes_places old new first t = places_stay old.slots new.slots first.slot t.reac
 
 pub puts_places : (old new : Agenda) (slot : ℕ) (point : Point) → Puts old slot point new → all_places new.slots ≡ all_places old.slots
 puts_places old new slot point p = places_stay old.slots new.slots slot p.reaction _ p.slots p.was refl
+
+pub puts_all_places : (old new : Agenda) (slot : ℕ) (points : List Point) → PutsAll old slot points new → all_places new.slots ≡ all_places old.slots
+puts_all_places old new slot points p = places_stay old.slots new.slots slot p.reaction _ p.slots p.was refl
 
 pub settles_places : (old new : Agenda) (slot steps : ℕ) (ended : Option Reaction) → Settles old slot steps ended new → all_places new.slots + places_of ended ≡ all_places old.slots
 settles_places old new slot steps ended s =

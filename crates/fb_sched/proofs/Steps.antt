@@ -8,7 +8,7 @@ use Rattle.fb_chart.specs.declared.table.Point.{Point}
 use Rattle.fb_sched.specs.declared.ticket.Ticket.{Ticket}
 use Rattle.fb_sched.specs.declared.reaction.Reaction.{Reaction}
 use Rattle.fb_sched.specs.Agenda.{Agenda, IsAgenda, slot_at, IsNew}
-use Rattle.fb_sched.specs.Changes.{ChangesSlot, Opens, Takes, Puts, Settles}
+use Rattle.fb_sched.specs.Changes.{ChangesSlot, Opens, Takes, Puts, PutsAll, Settles}
 use Rattle.fb_sched.specs.Steps.{rows, steps_by_row, spent}
 use Rattle.fb_sched.proofs.Slots.{slot_cases}
 use Rattle.fb_sched.proofs.Marked.{AllDiffer}
@@ -140,6 +140,9 @@ takes_steps old new first h h' t = steps_stay old.slots new.slots first.slot t.r
 
 pub puts_steps : (old new : Agenda) (slot : ℕ) (point : Point) → IsAgenda old → IsAgenda new → Puts old slot point new → spent new ≡ spent old
 puts_steps old new slot point h h' p = steps_stay old.slots new.slots slot p.reaction _ h.different h'.different p.was p.slots refl refl
+
+pub puts_all_steps : (old new : Agenda) (slot : ℕ) (points : List Point) → IsAgenda old → IsAgenda new → PutsAll old slot points new → spent new ≡ spent old
+puts_all_steps old new slot points h h' p = steps_stay old.slots new.slots slot p.reaction _ h.different h'.different p.was p.slots refl refl
 
 pub settles_steps : (old new : Agenda) (slot steps : ℕ) (ended : Option Reaction) (r : Reaction) → IsAgenda old → IsAgenda new → Settles old slot steps ended new → slot_at old.slots slot ≡ Some r → spent new ≡ put (spent old) r.cause (cond (eqb r.pending 0) 0 (r.steps + steps))
 settles_steps old new slot steps ended r h h' s was =

@@ -1,6 +1,6 @@
 -- What each call changes.
 -- IEC 61499-1 edition 2, 4.5.3 and 5.2.2 (event propagation); causes and credit are this project's profile.
-use Rattle.std.specs.Prelude.{ℕ, ◌≡◌, ◌≢◌, ◌+◌, ◌-◌, ◌<◌, ◌^◌, ◌==◌, ℤ, List, [], ◌∷◌, ◌++◌, Option, Some, None, if◌then◌else◌}
+use Rattle.std.specs.Prelude.{ℕ, ◌≡◌, ◌≢◌, ◌+◌, ◌-◌, ◌<◌, ◌^◌, ◌==◌, ℤ, List, [], ◌∷◌, ◌++◌, map, length, Option, Some, None, if◌then◌else◌}
 use Rattle.arrayvec.specs.ArrayVec.{ArrayVec}
 use Rattle.fb_chart.specs.declared.table.Point.{Point}
 use Rattle.fb_sched.specs.declared.ticket.Ticket.{Ticket}
@@ -54,6 +54,14 @@ pub record Puts (old : Agenda) (slot : ℕ) (point : Point) (new : Agenda) : Typ
   pub was : slot_at old.slots slot ≡ Some reaction
   pub tickets : new.tickets ≡ old.tickets ++ bare_ticket slot point ∷ []
   pub slots : ChangesSlot old.slots new.slots slot (Some (with_pending reaction (reaction.pending + 1)))
+  pub room : new.room ≡ old.room
+
+-- tickets without values are appended, one for each point, and so many more of the reaction are pending
+pub record PutsAll (old : Agenda) (slot : ℕ) (points : List Point) (new : Agenda) : Type 0 where
+  pub reaction : Reaction
+  pub was : slot_at old.slots slot ≡ Some reaction
+  pub tickets : new.tickets ≡ old.tickets ++ map (bare_ticket slot) points
+  pub slots : ChangesSlot old.slots new.slots slot (Some (with_pending reaction (reaction.pending + length points)))
   pub room : new.room ≡ old.room
 
 -- the slot holds a reaction, and its steps and these can be counted

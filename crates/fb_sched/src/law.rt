@@ -1,6 +1,6 @@
 //! Laws of queues: of what is true between dispatches, of the credit, and of what each call does to entries and steps as the book tells them.
 
-ghost use Rattle.std.specs.Prelude.{ℕ, ℤ, ◌≡◌, ◌≤◌, ◌+◌, ◌==◌, not, [], ◌∷◌, ◌++◌, map, length, Option, Some};
+ghost use Rattle.std.specs.Prelude.{ℕ, ℤ, ◌≡◌, ◌≤◌, ◌+◌, ◌==◌, not, [], ◌∷◌, ◌++◌, map, length, List, Option, Some};
 ghost use Rattle.arrayvec.specs.ArrayVec.{ArrayVec};
 ghost use Rattle.fb_model.specs.Names.{Place};
 ghost use Rattle.fb_model.specs.Devices.{is_pending, put};
@@ -8,7 +8,7 @@ ghost use Rattle.fb_chart.specs.declared.table.Point.{Point};
 ghost use Rattle.fb_sched.specs.declared.reaction.Reaction.{Reaction};
 ghost use Rattle.fb_sched.specs.declared.ticket.Ticket.{Ticket};
 ghost use Rattle.fb_sched.specs.Agenda.{Agenda, IsAgenda, IsNew, slot_at, reactions_in, places_of, all_places};
-ghost use Rattle.fb_sched.specs.Changes.{Opens, Takes, Puts, Settles};
+ghost use Rattle.fb_sched.specs.Changes.{Opens, Takes, Puts, PutsAll, Settles};
 ghost use Rattle.fb_sched.specs.Entries.{AllPending, OthersPending, Weighs, HoldsPlaces, entries, entry_by, arrival_entry, sent_entry, booked};
 ghost use Rattle.fb_sched.specs.Steps.{rows, steps_by_row, spent, steps_left};
 
@@ -25,6 +25,8 @@ pub fn causes_stay_pending()
         → Takes old first new → AllPending old.slots → OthersPending first.slot new.slots }
     ensures puts { (old new : Agenda) (slot : ℕ) (point : Point)
         → Puts old slot point new → OthersPending slot old.slots → OthersPending slot new.slots }
+    ensures all { (old new : Agenda) (slot : ℕ) (points : List Point)
+        → PutsAll old slot points new → OthersPending slot old.slots → OthersPending slot new.slots }
     ensures settles { (old new : Agenda) (slot steps : ℕ) (ended : Option Reaction)
         → Settles old slot steps ended new → OthersPending slot old.slots → AllPending new.slots }
 {}
@@ -43,6 +45,8 @@ pub fn credit_by_call()
         → Takes old first new → all_places new.slots ≡ all_places old.slots }
     ensures puts { (old new : Agenda) (slot : ℕ) (point : Point)
         → Puts old slot point new → all_places new.slots ≡ all_places old.slots }
+    ensures all { (old new : Agenda) (slot : ℕ) (points : List Point)
+        → PutsAll old slot points new → all_places new.slots ≡ all_places old.slots }
     ensures settles { (old new : Agenda) (slot steps : ℕ) (ended : Option Reaction)
         → Settles old slot steps ended new → all_places new.slots + places_of ended ≡ all_places old.slots }
 {}
@@ -61,6 +65,8 @@ pub fn entries_by_call()
         → Takes old first new → slot_at old.slots first.slot ≡ Some r → entries old ≡ entry_by (Some r) first ∷ entries new }
     ensures puts { (old new : Agenda) (slot : ℕ) (point : Point) (r : Reaction)
         → Puts old slot point new → slot_at old.slots slot ≡ Some r → entries new ≡ entries old ++ sent_entry r point ∷ [] }
+    ensures all { (old new : Agenda) (slot : ℕ) (points : List Point) (r : Reaction)
+        → PutsAll old slot points new → slot_at old.slots slot ≡ Some r → entries new ≡ entries old ++ map (sent_entry r) points }
     ensures settles { (old new : Agenda) (slot steps : ℕ) (ended : Option Reaction)
         → IsAgenda old → Settles old slot steps ended new → entries new ≡ entries old }
 {}
@@ -79,6 +85,8 @@ pub fn steps_by_call()
         → IsAgenda old → IsAgenda new → Takes old first new → spent new ≡ spent old }
     ensures puts { (old new : Agenda) (slot : ℕ) (point : Point)
         → IsAgenda old → IsAgenda new → Puts old slot point new → spent new ≡ spent old }
+    ensures all { (old new : Agenda) (slot : ℕ) (points : List Point)
+        → IsAgenda old → IsAgenda new → PutsAll old slot points new → spent new ≡ spent old }
     ensures settles { (old new : Agenda) (slot steps : ℕ) (ended : Option Reaction) (r : Reaction)
         → IsAgenda old → IsAgenda new → Settles old slot steps ended new → slot_at old.slots slot ≡ Some r → spent new ≡ put (spent old) r.cause (steps_left r steps) }
 {}

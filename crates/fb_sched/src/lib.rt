@@ -2,6 +2,7 @@
 #![tactic(auto)]
 
 mod law;
+mod outbox;
 mod queue;
 mod reaction;
 mod ticket;
@@ -10,6 +11,7 @@ pub use law::{
     causes_stay_pending, credit_by_call, credit_is_held, entries_by_call, pending_by_slot,
     pending_reactions_fit, steps_by_call, steps_by_slot,
 };
+pub use outbox::Outbox;
 pub use queue::Queue;
 pub use reaction::Reaction;
 pub use ticket::Ticket;
