@@ -4,3 +4,4 @@ pub mod Fields
 pub mod Marked
 pub mod Entries
 pub mod Steps
+pub mod Pending

@@ -1,0 +1,31 @@
+-- What a dispatch answers, in the book.
+use Rattle.std.specs.Prelude.{ℕ, List, Option, None, Some, slice_get}
+use Rattle.std.specs.Option.{option_map}
+use Rattle.fb_model.specs.Wires.{Leaf}
+use Rattle.fb_model.specs.Serving.{Effect as Outside}
+use Rattle.fb_model.specs.Devices as book
+use Rattle.fb_chart.specs.declared.table.Point.{Point}
+use Rattle.fb_serve.specs.declared.standing.Effect.{Effect}
+use Rattle.fb_turn.specs.Conditions.{effect_at}
+use Rattle.fb_tables.specs.Views.{place_at}
+use Rattle.fb_tables.specs.Tables.{IsPoint}
+use Rattle.fb_dispatch.specs.declared.answer.Ended.{Ended}
+use Rattle.fb_dispatch.specs.declared.answer.Turned.{Turned}
+use Rattle.fb_dispatch.specs.declared.answer.Turned.TheVariants.{Idle, Ran}
+
+abbrev pub end_of : Ended → book.Ended
+end_of e = record { cause = e.cause; total = e.total; bound = e.bound }
+
+-- what a leaf has done outside of the device
+abbrev pub effect_in : Option Leaf → Option Effect → Option Outside
+effect_in None e = None
+effect_in (Some leaf) e = effect_at leaf.kind e
+
+abbrev pub turned_of : List Leaf → Turned → book.Answer
+turned_of all Idle = book.Idle
+turned_of all (Ran r) = book.Ran r.cause (place_at all (record { block = r.block; event = r.event })) r.steps (effect_in (slice_get all r.block) r.effect) (option_map end_of r.ended)
+
+-- a dispatch answers the numbers of an event
+abbrev pub HasPoint : List Leaf → Turned → Type 0
+HasPoint all Idle = Unit {0}
+HasPoint all (Ran r) = IsPoint all (record { block = r.block; event = r.event })

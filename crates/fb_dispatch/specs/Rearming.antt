@@ -1,0 +1,21 @@
+-- Armed timers after a dispatch.
+use Rattle.std.specs.Prelude.{ℕ, ◌≡◌, ◌==◌, Option, None, Some, if◌then◌else◌}
+use Rattle.fb_serve.specs.declared.standing.Standing.{Standing}
+use Rattle.fb_serve.specs.declared.standing.Standing.TheVariants as s
+use Rattle.fb_turn.specs.declared.memory.Condition.{Condition}
+use Rattle.fb_turn.specs.declared.memory.Condition.TheVariants as c
+use Rattle.fb_timers.specs.Order.{Timing, due_of}
+
+-- the moment at which what is remembered is due
+abbrev pub moment_in : Condition → Option ℕ
+moment_in (c.State n) = None
+moment_in (c.Service (s.Armed due)) = Some due
+moment_in (c.Service s.Closed) = None
+moment_in (c.Service s.Ready) = None
+moment_in (c.Service s.Quiet) = None
+moment_in (c.Service s.Fired) = None
+moment_in (c.Service s.Plain) = None
+
+-- the timer of a block is due when it remembers, and the others as before
+abbrev pub IsRearmed : Timing → ℕ → Condition → Timing → Type 0
+IsRearmed old block now new = (k : ℕ) → due_of new.armed k ≡ (if block == k then moment_in now else due_of old.armed k)
