@@ -5,3 +5,4 @@ pub mod Marked
 pub mod Entries
 pub mod Steps
 pub mod Pending
+pub mod Delivering

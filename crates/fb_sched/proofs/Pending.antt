@@ -1,12 +1,12 @@
 -- Which causes have a pending entry after each call.
-use Rattle.std.proofs.Common.{◌≡◌, ◌≢◌, ℕ, ◌+◌, ◌-◌, ◌<◌, ℤ, cond, List, Option, Some, None, length, eqb, eq-eqb, sym, ap, ◌∙◌, subst, inl, inr, arith}
+use Rattle.std.proofs.Common.{◌≡◌, ℕ, ◌+◌, ◌<◌, ℤ, cond, List, Option, Some, None, eqb, eq-eqb, sym, ap, ◌∙◌, subst, inl, inr, arith}
 use Rattle.std.proofs.lemmas.Bool.{cases_eq, ne_eqb}
 use Rattle.arrayvec.specs.ArrayVec.{ArrayVec}
 use Rattle.fb_chart.specs.declared.table.Point.{Point}
 use Rattle.fb_sched.specs.declared.ticket.Ticket.{Ticket}
 use Rattle.fb_sched.specs.declared.reaction.Reaction.{Reaction}
-use Rattle.fb_sched.specs.Agenda.{Agenda, slot_at}
-use Rattle.fb_sched.specs.Changes.{ChangesSlot, Opens, Takes, PutsAll, Settles}
+use Rattle.fb_sched.specs.Agenda.{Agenda}
+use Rattle.fb_sched.specs.Changes.{Opens, Takes, PutsAll, Settles}
 use Rattle.fb_sched.specs.Entries.{AllPending, OthersPending}
 use Rattle.fb_sched.proofs.Slots.{slot_cases}
 
