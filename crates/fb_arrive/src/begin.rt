@@ -1,0 +1,43 @@
+//! The start of a device.
+
+ghost use Rattle.std.specs.Prelude.{◌≡◌, ◌≤◌, ◌+◌, ◌^◌, length};
+ghost use Rattle.fb_model.specs.Wires.{leaves};
+ghost use Rattle.fb_model.specs.Certificates.{is_restart};
+ghost use Rattle.fb_model.specs.Devices.{begun, silent};
+ghost use Rattle.fb_chart.specs.Views.{body_kind};
+ghost use Rattle.fb_state.specs.Sessions.{session_of, next_of};
+ghost use Rattle.fb_state.specs.Machines.{device_in, machine_of};
+ghost use Rattle.fb_state.specs.Keeping.{IsGood};
+
+use fb_services::Service;
+use fb_state::fb_turn::fb_chart::{Body, Point, Values};
+use fb_state::{Program, Running, admit};
+
+// Whether a body is an E_RESTART.
+fn begins(body: &Body) -> bool
+    ensures { result ≡ is_restart (body_kind body.now) }
+{
+    match body {
+        Body::Served(Service::Restart) => true,
+        _ => false,
+    }
+}
+
+/// Admits every BEGIN of a device to which nothing has happened, in resource and block order. There is room for all: the certificate pays for them.
+pub fn begin(program: &Program, running: &mut Running)
+    requires good { IsGood program.now running.old }
+    requires silent { machine_of (session_of program.now running.old) ≡ silent (device_in (session_of program.now running.old)) (next_of running.old.next) }
+    requires numbers { next_of running.old.next + length (leaves (device_in (session_of program.now running.old))) ≤ 2 ^ 64 }
+    ensures begun { machine_of (session_of program.now running.new) ≡ begun (leaves (device_in (session_of program.now running.old))) (machine_of (session_of program.now running.old)) }
+    ensures good { IsGood program.now running.new }
+{
+    for at in 0..program.tables.blocks.len() {
+        if begins(&program.tables.blocks[at].body) {
+            let point = Point {
+                block: at as u16,
+                event: 0,
+            };
+            let _ = admit(program, running, point, Values::new());
+        }
+    }
+}

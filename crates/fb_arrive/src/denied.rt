@@ -1,0 +1,35 @@
+//! Why an offer is refused.
+
+ghost use Rattle.std.specs.Prelude.{◌≡◌};
+
+/// Why an offer is refused.
+#[derive(Clone, Copy)]
+pub enum Denied {
+    /// The device has no INPUT of this number. Code 50.
+    UnknownInput,
+    /// The offer has another number of values than the INPUT. Code 51.
+    BadCount,
+    /// The value of this place, counted from 1, does not fit its type. Code 52.
+    BadValue(u16),
+    /// The arrival needs so many places, and so many are free. Code 53.
+    NoCredit { needs: u64, free: u64 },
+    /// No cause number is left. Code 54.
+    Spent,
+}
+
+impl Denied {
+    ghost use Rattle.fb_arrive.specs.Answers.{denied_code};
+
+    /// The number of the refusal.
+    pub fn code(&self) -> u8
+        ensures { result ≡ denied_code self.now }
+    {
+        match self {
+            Denied::UnknownInput => 50,
+            Denied::BadCount => 51,
+            Denied::BadValue(_) => 52,
+            Denied::NoCredit { needs: _, free: _ } => 53,
+            Denied::Spent => 54,
+        }
+    }
+}

@@ -1,0 +1,99 @@
+//! An offer.
+
+ghost use Rattle.std.specs.Prelude.{◌≡◌, ◌≤◌, true, length, IfOk, IfErr};
+ghost use Rattle.fb_model.specs.Values.{all_in};
+ghost use Rattle.fb_model.specs.Ranges.{types_of};
+ghost use Rattle.fb_model.specs.Devices.{Happens, Offer, is_input_numbered};
+ghost use Rattle.fb_chart.specs.Views.{body_kind};
+ghost use Rattle.fb_state.specs.Sessions.{session_of};
+ghost use Rattle.fb_state.specs.Machines.{device_in, cert_in, machine_of};
+ghost use Rattle.fb_state.specs.Keeping.{IsGood};
+ghost use Rattle.fb_arrive.specs.Answers.{admission_of};
+ghost use Rattle.fb_arrive.specs.Offering.{input_at, IsOutside};
+
+use crate::denied::Denied;
+use fb_services::Service;
+use fb_state::fb_turn::fb_chart::{Block, Body, Point, Values};
+use fb_state::{Program, Running, Shortage, admit};
+use fb_words::ElemType;
+
+// Whether a body is the INPUT of a number.
+fn is_input(body: &Body, number: u16) -> bool
+    ensures { result ≡ is_input_numbered number (body_kind body.now) }
+{
+    match body {
+        Body::Served(Service::Input(own, _)) => *own == number,
+        _ => false,
+    }
+}
+
+// The block of the first INPUT of a number.
+fn input(blocks: &[Block], number: u16) -> Option<usize>
+    ensures { result ≡ input_at blocks.now number }
+{
+    for at in 0..blocks.len() {
+        if is_input(&blocks[at].body, number) {
+            return Some(at);
+        }
+    }
+    None
+}
+
+// The types of the values that come to a block from outside.
+fn arriving(body: &Body) -> &[ElemType]
+    ensures { result.now ≡ types_of (body_kind body.now) }
+{
+    match body {
+        Body::Served(Service::Input(_, types)) => types.as_slice(),
+        Body::Served(Service::Subscribe(_, types)) => types.as_slice(),
+        _ => &[],
+    }
+}
+
+// The values of an offer as those of an entry, of which each has its type.
+fn taken(types: &[ElemType], values: &[i64]) -> Result<Values, Denied>
+    requires { length types.now ≤ 16 }
+    ensures fit { IfOk result (λ taken. (taken.items ≡ values.now) × (all_in types.now values.now ≡ true)) }
+    ensures refused { IfErr result (IsOutside types.now values.now) }
+{
+    if values.len() != types.len() {
+        return Err(Denied::BadCount);
+    }
+    let mut taken = Values::new();
+    for at in 0..values.len() {
+        if !types[at].fits(i128::from(values[at])) {
+            return Err(Denied::BadValue(at as u16 + 1));
+        }
+        taken.push(values[at]);
+    }
+    Ok(taken)
+}
+
+/// Offers an arrival at the INPUT of a number. Refused where a line of [`Denied`] holds; nothing changes then.
+pub fn offer(
+    program: &Program,
+    running: &mut Running,
+    number: u16,
+    values: &[i64],
+) -> Result<u64, Denied>
+    requires { IsGood program.now running.old }
+    ensures step { Happens (cert_in (session_of program.now running.old)) (device_in (session_of program.now running.old)) (machine_of (session_of program.now running.old)) (Offer number values.now) (admission_of result) (machine_of (session_of program.now running.new)) }
+    ensures good { IsGood program.now running.new }
+{
+    let Some(at) = input(&program.tables.blocks, number) else {
+        return Err(Denied::UnknownInput);
+    };
+    let values = match taken(arriving(&program.tables.blocks[at].body), values) {
+        Ok(values) => values,
+        Err(denied) => return Err(denied),
+    };
+    let point = Point {
+        block: at as u16,
+        event: 0,
+    };
+    match admit(program, running, point, values) {
+        Ok(cause) => Ok(cause),
+        Err(Shortage::Places { needs, free }) => Err(Denied::NoCredit { needs, free }),
+        Err(Shortage::Numbers) => Err(Denied::Spent),
+    }
+}

@@ -1,0 +1,94 @@
+//! The clock: E_DELAY and E_CYCLE of IEC 61499-1 edition 2, annex A, this project's profile.
+
+ghost use Rattle.std.specs.Prelude.{◌≡◌, true, false, Some, slice_get, if◌then◌else◌};
+ghost use Rattle.fb_model.specs.Wires.{Leaf, leaves};
+ghost use Rattle.fb_model.specs.Store.{Fired, with_leaf};
+ghost use Rattle.fb_model.specs.Devices.{Happens, Tick, Expired, HasRoom, at_moment, expired, expiring};
+ghost use Rattle.fb_timers.specs.Order.{without};
+ghost use Rattle.fb_state.specs.Sessions.{session_of};
+ghost use Rattle.fb_state.specs.Machines.{device_in, cert_in, machine_of};
+ghost use Rattle.fb_state.specs.Keeping.{IsGood};
+ghost use Rattle.fb_arrive.specs.Ticking.{IsTimer};
+
+use fb_state::fb_turn::Condition;
+use fb_state::fb_turn::fb_chart::{Point, Values};
+use fb_state::fb_turn::fb_serve::Standing;
+use fb_state::{Program, Running, admit};
+
+// The number of EXPIRE among the events of a timer.
+const EXPIRE: u16 = 2;
+
+// Sets the clock, unless the moment is earlier.
+fn advance(program: &Program, running: &mut Running, now: u64)
+    requires { IsGood program.now running.old }
+    ensures machine { machine_of (session_of program.now running.new) ≡ at_moment (machine_of (session_of program.now running.old)) now }
+    ensures good { IsGood program.now running.new }
+    ensures timers { running.new.timers ≡ running.old.timers }
+{
+    let _ = program;
+    if now > running.clock {
+        running.clock = now;
+    }
+}
+
+// A timer becomes fired, and is armed no longer.
+fn fire(program: &Program, running: &mut Running, block: u16)
+    requires good { IsGood program.now running.old }
+    requires timer { IsTimer (leaves (device_in (session_of program.now running.old))) block }
+    ensures machine { (leaf : Leaf) → slice_get (leaves (device_in (session_of program.now running.old))) block ≡ Some leaf
+        → machine_of (session_of program.now running.new) ≡ record (machine_of (session_of program.now running.old)) { store = with_leaf (machine_of (session_of program.now running.old)).store leaf.path (record { cells = ((machine_of (session_of program.now running.old)).store leaf.path).cells; condition = Fired }) } }
+    ensures good { IsGood program.now running.new }
+    ensures timers { running.new.timers.armed ≡ without running.old.timers.armed block }
+    ensures clock { running.new.clock ≡ running.old.clock }
+{
+    let _ = program;
+    running.memory.conditions[block as usize] = Condition::Service(Standing::Fired);
+    running.timers.keeps_order();
+    running.timers.disarm(block);
+}
+
+// Admits the EXPIRE of a timer that is due, where its resource has the places and a cause number is left; the timer is fired then.
+fn expire(program: &Program, running: &mut Running, block: u16) -> bool
+    requires good { IsGood program.now running.old }
+    requires timer { IsTimer (leaves (device_in (session_of program.now running.old))) block }
+    ensures fires { (leaf : Leaf) → slice_get (leaves (device_in (session_of program.now running.old))) block ≡ Some leaf → result ≡ true
+        → HasRoom (cert_in (session_of program.now running.old)) (device_in (session_of program.now running.old)) (machine_of (session_of program.now running.old)) (expiring leaf) × (machine_of (session_of program.now running.new) ≡ expired (machine_of (session_of program.now running.old)) leaf) }
+    ensures stays { (leaf : Leaf) → slice_get (leaves (device_in (session_of program.now running.old))) block ≡ Some leaf → result ≡ false
+        → (HasRoom (cert_in (session_of program.now running.old)) (device_in (session_of program.now running.old)) (machine_of (session_of program.now running.old)) (expiring leaf) → ⊥) × (machine_of (session_of program.now running.new) ≡ machine_of (session_of program.now running.old)) }
+    ensures armed { running.new.timers.armed ≡ (if result then without running.old.timers.armed block else running.old.timers.armed) }
+    ensures good { IsGood program.now running.new }
+    ensures clock { running.new.clock ≡ running.old.clock }
+{
+    let point = Point {
+        block,
+        event: EXPIRE,
+    };
+    match admit(program, running, point, Values::new()) {
+        Ok(_) => {
+            fire(program, running, block);
+            true
+        }
+        Err(_) => false,
+    }
+}
+
+/// Sets the clock, unless it stands later already, and tries the timers that are due: by due moment, then in the order of resources and blocks. One whose
+/// resource has the places, where a cause number is left, is fired, and its EXPIRE is admitted; any other stays armed. Answers how many were admitted.
+pub fn tick(program: &Program, running: &mut Running, now: u64) -> u32
+    requires { IsGood program.now running.old }
+    ensures step { Happens (cert_in (session_of program.now running.old)) (device_in (session_of program.now running.old)) (machine_of (session_of program.now running.old)) (Tick now) (Expired result) (machine_of (session_of program.now running.new)) }
+    ensures good { IsGood program.now running.new }
+{
+    advance(program, running, now);
+    running.timers.keeps_order();
+    let mut fired = 0;
+    let mut waiting = 0;
+    while let Some(due) = running.timers.due_at(running.clock, waiting) {
+        if expire(program, running, due.block) {
+            fired += 1;
+        } else {
+            waiting += 1;
+        }
+    }
+    fired
+}
