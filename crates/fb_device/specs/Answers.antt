@@ -1,7 +1,6 @@
 -- What calls and answers of a device are in the book.
-use Rattle.std.specs.Prelude.{ℕ, ◌≡◌, true, false, List, Option, None, Some, Result, Ok, Err, slice_get}
+use Rattle.std.specs.Prelude.{ℕ, ◌≡◌, true, false, List, Option, None, Some, slice_get}
 use Rattle.std.specs.List.{AllByRecursion}
-use Rattle.std.specs.Option.{option_map}
 use Rattle.fb_model.specs.Wires.{Leaf}
 use Rattle.fb_model.specs.System.{Resource}
 use Rattle.fb_model.specs.Certificates.{Certificate, events_of}
@@ -10,54 +9,29 @@ use Rattle.fb_model.specs.Devices as book
 use Rattle.fb_model.specs.Devices.{Machine, steps_row, is_pending}
 use Rattle.fb_model.specs.Headline.{IsOpen}
 use Rattle.fb_tables.specs.fb_check.Lookups.{is_same_path}
-use Rattle.fb_invoke.specs.Turning.{effect_of}
 use Rattle.fb_tables.specs.Views.{place_at}
-use Rattle.fb_tables.specs.Tables.{IsPoint}
-use Rattle.fb_device.specs.declared.answer.Denied.{Denied}
-use Rattle.fb_device.specs.declared.answer.Denied.TheVariants.{UnknownInput, BadCount, BadValue, NoCredit, Spent}
-use Rattle.fb_device.specs.declared.answer.Ended.{Ended}
-use Rattle.fb_device.specs.declared.answer.Turned.{Turned}
-use Rattle.fb_device.specs.declared.answer.Turned.TheVariants.{Idle, Ran}
+use Rattle.fb_arrive.specs.Answers.{admission_of}
+use Rattle.fb_dispatch.specs.Answers.{turned_of, HasPoint}
 use Rattle.fb_device.specs.declared.answer.Opening.{Opening}
 use Rattle.fb_device.specs.declared.answer.Step.{Step}
-use Rattle.fb_device.specs.declared.answer.Step.TheVariants.{Offer, Dispatch}
+use Rattle.fb_device.specs.declared.answer.Step.TheVariants.{Offer, Tick, Dispatch}
 use Rattle.fb_device.specs.declared.answer.Answer.{Answer}
-use Rattle.fb_device.specs.declared.answer.Answer.TheVariants.{Admitted, Served}
-
-abbrev pub denial_of : Denied → book.Denial
-denial_of UnknownInput = book.UnknownInput
-denial_of BadCount = book.BadCount
-denial_of (BadValue number) = book.BadValue number
-denial_of (NoCredit needs free) = book.NoCredit needs free
-denial_of Spent = book.Spent
-
-abbrev pub admission_of : Result ℕ Denied → book.Answer
-admission_of (Ok cause) = book.Admitted cause
-admission_of (Err why) = book.Denied (denial_of why)
-
-abbrev pub end_of : Ended → book.Ended
-end_of e = record { cause = e.cause; total = e.total; bound = e.bound }
-
-abbrev pub turned_of : List Leaf → Turned → book.Answer
-turned_of all Idle = book.Idle
-turned_of all (Ran r) = book.Ran r.cause (place_at all (record { block = r.block; event = r.event })) r.steps (effect_of r.effect) (option_map end_of r.ended)
+use Rattle.fb_device.specs.declared.answer.Answer.TheVariants.{Admitted, Fired, Served}
 
 abbrev pub answer_of : List Leaf → Answer → book.Answer
 answer_of all (Admitted answer) = admission_of answer
+answer_of all (Fired count) = book.Expired count
 answer_of all (Served turned) = turned_of all turned
 
 abbrev pub event_of : Step → book.Event
 event_of (Offer input values) = book.Offer input values.items
+event_of (Tick now) = book.Tick now
 event_of (Dispatch resource) = book.Dispatch resource
 
 -- a dispatch answers the numbers of an event
-abbrev pub HasPoint : List Leaf → Turned → Type 0
-HasPoint all Idle = Unit {0}
-HasPoint all (Ran r) = IsPoint all (record { block = r.block; event = r.event })
-
--- and so does a call
 abbrev pub HasPlace : List Leaf → Answer → Type 0
 HasPlace all (Admitted answer) = Unit {0}
+HasPlace all (Fired count) = Unit {0}
 HasPlace all (Served turned) = HasPoint all turned
 
 -- ---- questions

@@ -1,36 +1,53 @@
 -- A device to which nothing has happened.
-use Rattle.std.specs.Prelude.{ℕ, ◌≡◌, ◌≤◌, List, [], ◌∷◌, length, replicate, Some, slice_get, Vec, vec_capacity}
-use Rattle.std.specs.List.{sum_by}
-use Rattle.std.specs.declared.alloc.Global.{Global}
-use Rattle.fb_model.specs.System.{Device}
-use Rattle.fb_model.specs.Wires.{leaves}
+use Rattle.std.specs.Prelude.{ℕ, ◌≡◌, ◌≤◌, List, [], ◌∷◌, map, length, Some, slice_get}
+use Rattle.std.specs.List.{AllByRecursion}
+use Rattle.fb_model.specs.System.{Device, Input, Output, Publish, Subscribe, Delay, Cycle, Restart}
+use Rattle.fb_model.specs.Wires.{Kind, Charted, Serviced, leaves}
 use Rattle.fb_tables.specs.fb_check.Verdicts.{system_in}
 use Rattle.fb_tables.specs.fb_check.declared.verified.Verified.{Verified}
+use Rattle.fb_chart.specs.declared.table.Block.{Block}
+use Rattle.fb_chart.specs.Views.{kind_of}
+use Rattle.fb_serve.specs.declared.standing.Standing.TheVariants.{Closed, Quiet, Plain}
 use Rattle.fb_first.specs.First.{AreFirst}
+use Rattle.fb_first.specs.declared.first.FirstValues.{FirstValues}
 use Rattle.fb_tables.specs.declared.table.Resource.{Resource}
 use Rattle.fb_tables.specs.declared.table.Tables.{Tables}
-use Rattle.fb_first.specs.declared.first.FirstValues.{FirstValues}
-use Rattle.fb_invoke.specs.declared.entry.Entry.{Entry}
-use Rattle.fb_device.specs.declared.program.Running.{Running}
+use Rattle.fb_turn.specs.declared.memory.Condition.{Condition}
+use Rattle.fb_turn.specs.declared.memory.Condition.TheVariants.{State, Service}
+use Rattle.fb_sched.specs.Agenda.{Agenda, IsAgenda}
+use Rattle.fb_state.specs.declared.program.Running.{Running}
+
+-- what a leaf remembers at first: a chart its initial state
+abbrev pub first_of : Kind → Condition
+first_of (Charted block) = State 0
+first_of (Serviced (Publish channel types)) = Service Closed
+first_of (Serviced (Subscribe channel types)) = Service Closed
+first_of (Serviced Delay) = Service Quiet
+first_of (Serviced Cycle) = Service Quiet
+first_of (Serviced (Input number types)) = Service Plain
+first_of (Serviced (Output number types)) = Service Plain
+first_of (Serviced Restart) = Service Plain
 
 -- an empty queue for each resource, with room for its depth
-abbrev pub AreEmpty : List Resource → List (Vec Entry Global) → Type 0
+abbrev pub AreEmpty : List Resource → List Agenda → Type 0
 AreEmpty [] [] = Unit {0}
-AreEmpty (x ∷ xs) (v ∷ vs) = (v.items ≡ []) × (x.depth ≤ vec_capacity v) × AreEmpty xs vs
-AreEmpty [] (v ∷ vs) = ⊥
+AreEmpty (x ∷ xs) (a ∷ as') = (a ≡ record { tickets = []; slots = []; room = x.depth }) × IsAgenda a × AreEmpty xs as'
+AreEmpty [] (a ∷ as') = ⊥
 AreEmpty (x ∷ xs) [] = ⊥
 
 pub record IsAtRest (t : Tables) (first : FirstValues) (r : Running) : Type 0 where
-  pub own : r.own ≡ first.own
-  pub issued : r.issued ≡ first.issued
+  pub own : r.memory.own ≡ first.own
+  pub issued : r.memory.issued ≡ first.issued
+  pub conditions : r.memory.conditions.items ≡ map (λ (x : Block). first_of (kind_of x)) t.blocks.items
   pub queues : AreEmpty t.resources.items r.queues.items
-  pub states : r.states.items ≡ replicate (length t.blocks.items) 0
-  pub spent : r.spent.items ≡ []
-  pub room : sum_by (λ x. x.depth) t.resources.items ≤ vec_capacity r.spent
+  pub armed : r.timers.armed ≡ []
+  pub timers : length t.blocks.items ≤ r.timers.room
+  pub outbox : r.outbox.items ≡ []
+  pub wide : AllByRecursion (λ (x : Resource). x.depth ≤ r.outbox.capacity) t.resources.items
+  pub clock : r.clock ≡ 0
   pub next : r.next ≡ Some 1
 
 -- how a device of these tables stands at first, the one of this number in what was checked
-pub record IsFirst (v : Verified) (k : ℕ) (t : Tables) (r : Running) : Type 0 where
-  pub first : FirstValues
+pub record IsFirst (v : Verified) (k : ℕ) (first : FirstValues) (t : Tables) (r : Running) : Type 0 where
   pub values : (d : Device) → slice_get (system_in v).devices k ≡ Some d → AreFirst (leaves d) first.own.items first.issued.items
   pub rest : IsAtRest t first r

@@ -1,18 +1,20 @@
 //! A device that runs.
 
-ghost use Rattle.std.specs.Prelude.{◌≡◌, ◌≤◌, length, map, take, drop, List, [], None, MatchOption};
-ghost use Rattle.fb_model.specs.Devices.{Happens, Offer, Dispatch, Run};
+ghost use Rattle.std.specs.Prelude.{◌≡◌, ◌≤◌, length, map, take, drop, MatchOption};
+ghost use Rattle.fb_model.specs.Devices.{Happens, Offer, Tick, Dispatch, Expired, Run};
 ghost use Rattle.fb_model.specs.Headline.{KeepsBounds, StaysWithinAll};
 ghost use Rattle.fb_model.specs.Wires.{leaves};
-ghost use Rattle.fb_device.specs.Machines.{device_in, cert_in, machine_of};
-ghost use Rattle.fb_device.specs.Answers.{admission_of, turned_of, answer_of, event_of, HasPoint, IsOpening, IsNamed, IsNoPoint, IsNumberOf, IsNoNumber};
+ghost use Rattle.fb_arrive.specs.Answers.{admission_of};
+ghost use Rattle.fb_dispatch.specs.Answers.{turned_of, HasPoint};
+ghost use Rattle.fb_state.specs.Machines.{device_in, cert_in, machine_of};
+ghost use Rattle.fb_device.specs.Answers.{answer_of, event_of, IsOpening, IsNamed, IsNoPoint, IsNumberOf, IsNoNumber};
 ghost use Rattle.fb_device.specs.Promises.{IsBounded};
 
-use crate::answer::{Answer, Denied, Opening, Step, Turned};
-use crate::dispatch::dispatch;
+use crate::answer::{Answer, Opening, Step};
 use crate::names::{name, opening, path, resource};
-use crate::offer::offer;
-use crate::program::{Program, Running};
+use fb_arrive::{Denied, offer, tick};
+use fb_dispatch::{Turned, dispatch};
+use fb_state::{Program, Running};
 use std::marker::Model;
 
 /// A device that runs a checked application. Its calls take no memory.
@@ -25,8 +27,8 @@ pub struct Device {
 }
 
 impl Model for Device {
-    ghost use Rattle.fb_device.specs.Sessions.{Session, session_of};
-    ghost use Rattle.fb_device.specs.Running.{IsGood};
+    ghost use Rattle.fb_state.specs.Sessions.{Session, session_of};
+    ghost use Rattle.fb_state.specs.Keeping.{IsGood};
     ghost use Rattle.fb_tables.specs.fb_check.contracts.verified.Verified as checked;
     ghost use Rattle.std.specs.Coded.{codes};
 
@@ -74,6 +76,16 @@ impl Device {
         offer(&self.program, &mut self.running, input, values)
     }
 
+    /// Sets the clock to a moment in milliseconds, unless it stands later already, and tries the timers that are due: by due moment, then in the order of
+    /// resources and blocks. Answers how many were fired: their EXPIRE is admitted. A timer without credit or cause number stays armed.
+    pub fn tick(&mut self, now: u64) -> u32
+        ensures step { Happens (cert_in self.old) (device_in self.old) (machine_of self.old) (Tick now) (Expired result) (machine_of self.new) }
+        ensures bounded { IsBounded (cert_in self.old) (device_in self.old) (machine_of self.new) }
+        ensures same { (self.new.verified ≡ self.old.verified) × (self.new.number ≡ self.old.number) }
+    {
+        tick(&self.program, &mut self.running, now)
+    }
+
     // One call, and its answer.
     fn serve(&mut self, step: &Step) -> Answer
         ensures step { Happens (cert_in self.old) (device_in self.old) (machine_of self.old) (event_of step.now) (answer_of (leaves (device_in self.old)) result) (machine_of self.new) }
@@ -81,6 +93,7 @@ impl Device {
     {
         match step {
             Step::Offer(input, values) => Answer::Admitted(self.offer(*input, values.as_slice())),
+            Step::Tick(now) => Answer::Fired(self.tick(*now)),
             Step::Dispatch(resource) => Answer::Served(self.dispatch(*resource)),
         }
     }

@@ -3,19 +3,16 @@
 
 mod answer;
 mod device;
-mod dispatch;
 mod loading;
 mod names;
-mod offer;
-mod program;
-mod queue;
 mod refusal;
-mod spending;
 
-pub use answer::{Answer, Denied, Ended, Opening, Ran, Step, Turned};
+pub use answer::{Answer, Opening, Step};
 pub use device::Device;
-pub use fb_invoke;
-pub use fb_invoke::{Effect, Values};
-pub use fb_tables;
+pub use fb_arrive::Denied;
+pub use fb_dispatch::{Ended, Ran, Turned};
+pub use fb_state::fb_tables;
+pub use fb_state::fb_turn::fb_chart::Values;
+pub use fb_state::fb_turn::fb_serve::Effect;
 pub use loading::{Ready, load, load_checked};
 pub use refusal::Refusal;

@@ -1,23 +1,27 @@
 //! Names of a device's blocks, events and resources.
 
-ghost use Rattle.std.specs.Prelude.{◌≡◌, ◌<◌, ◌≤◌, length, map, string_bytes, List, MatchOption};
+ghost use Rattle.std.specs.Prelude.{ℕ, ◌≡◌, ◌<◌, ◌≤◌, length, map, string_bytes, List, Some, MatchOption};
 ghost use Rattle.std.specs.List.{AllByRecursion};
 ghost use Rattle.fb_model.specs.Wires.{Leaf};
 ghost use Rattle.fb_model.specs.Certificates.{Certificate};
+ghost use Rattle.st_exec.specs.Cells.{Form};
+ghost use Rattle.fb_serve.specs.declared.standing.Ports.{Ports};
 ghost use Rattle.fb_tables.specs.fb_check.Verdicts.{system_in};
-ghost use Rattle.fb_tables.specs.Tables.{AreBlocks};
-ghost use Rattle.fb_device.specs.Machines.{device_at};
-ghost use Rattle.fb_device.specs.Answers.{IsNamed, IsNoPoint};
 ghost use Rattle.fb_tables.specs.fb_check.Lookups.{is_same_path};
+ghost use Rattle.fb_tables.specs.Tables.{AreBlocks};
+ghost use Rattle.fb_sched.specs.declared.reaction.Reaction.{Reaction};
+ghost use Rattle.fb_sched.specs.Agenda.{Agenda, slot_at};
+ghost use Rattle.fb_state.specs.Machines.{device_at};
+ghost use Rattle.fb_state.specs.Numbers.{event_at, steps_in, IsKnown};
+ghost use Rattle.fb_device.specs.Answers.{IsNamed, IsNoPoint};
 ghost use Rattle.fb_device.specs.Finding.{first_named};
-ghost use Rattle.fb_device.specs.Numbers.{IsKnown};
-ghost use Rattle.fb_device.specs.Openings.{first_opening, opening_in};
+ghost use Rattle.fb_device.specs.Openings.{IsOpeningIn};
 
 use crate::answer::Opening;
-use crate::program::Program;
-use crate::queue::steps_at;
-use fb_invoke::{Block, Entry, Point};
-use fb_tables::Resource;
+use fb_state::Program;
+use fb_state::fb_sched::Queue;
+use fb_state::fb_tables::Resource;
+use fb_state::fb_turn::fb_chart::{Block, Point};
 
 /// The name of the device.
 pub fn name(program: &Program) -> &str
@@ -31,7 +35,7 @@ pub fn name(program: &Program) -> &str
 
 /// The path of a block and the name of its event, by their numbers.
 pub fn path(blocks: &[Block], block: u16, event: u16) -> Option<(&str, &str)>
-    ensures { (cert : Certificate) (all : List Leaf) → AreBlocks cert all blocks.now all → MatchOption result (IsNoPoint all block event) (λ r. IsNamed all block event r.0.now r.1.now) }
+    ensures { (cert : Certificate) (all : List Leaf) (issues owns rest : List (List Form)) (ports : List Ports) → AreBlocks cert all issues owns rest blocks.now ports all → MatchOption result (IsNoPoint all block event) (λ r. IsNamed all block event r.0.now r.1.now) }
 {
     let at = block as usize;
     if at >= blocks.len() {
@@ -65,25 +69,22 @@ pub fn resource(resources: &[Resource], name: &str) -> Option<u16>
     None
 }
 
-// The opening of the first entry of a cause.
-fn first_of(queue: &[Entry], cause: u64) -> Option<Point>
-    ensures { result ≡ first_opening queue.now cause }
+// The steps of a point's WEIGHT row.
+fn steps_at(blocks: &[Block], point: Point) -> u64
+    requires { IsKnown blocks.now point }
+    ensures { result ≡ steps_in (event_at blocks.now point) }
 {
-    for entry in queue {
-        if entry.cause == cause {
-            return Some(entry.opening);
-        }
-    }
-    None
+    blocks[point.block as usize].events[point.event as usize].steps
 }
 
 /// The arrival that opened a cause which has not ended.
-pub fn opening(blocks: &[Block], queues: &[Vec<Entry>], cause: u64) -> Option<Opening>
-    requires { AllByRecursion (λ q. AllByRecursion (λ (e : _). IsKnown blocks.now e.opening) q.items) queues.now }
-    ensures { result ≡ opening_in blocks.now (map (λ q. q.items) queues.now) cause }
+pub fn opening(blocks: &[Block], queues: &[Queue], cause: u64) -> Option<Opening>
+    requires { AllByRecursion (λ (a : Agenda). (slot : ℕ) (r : Reaction) → slot_at a.slots slot ≡ Some r → IsKnown blocks.now r.opening) queues.now }
+    ensures { IsOpeningIn blocks.now queues.now cause result }
 {
     for queue in queues {
-        if let Some(point) = first_of(queue, cause) {
+        if let Some(reaction) = queue.find(cause) {
+            let point = reaction.opening;
             return Some(Opening {
                 block: point.block,
                 event: point.event,

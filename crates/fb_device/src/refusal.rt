@@ -2,7 +2,6 @@
 
 ghost use Rattle.std.specs.Prelude.{◌≡◌};
 
-use fb_tables::Unfit;
 use std::alloc::{AllocError, AllocFailed};
 use std::fmt;
 
@@ -10,11 +9,9 @@ use std::fmt;
 #[derive(Drop)]
 pub enum Refusal {
     /// The application or its certificate is refused, or memory ran out. Codes 1 to 20 and 30 to 40.
-    Checked(fb_tables::fb_check::Refusal),
+    Checked(fb_state::fb_tables::fb_check::Refusal),
     /// The system has no device of this name, in upper case. Code 21.
     NoDevice(String),
-    /// A device cannot run the leaf of this path so far: it is another service than INPUT and OUTPUT. Code 22.
-    CannotRun(String),
 }
 
 impl Refusal {
@@ -27,7 +24,6 @@ impl Refusal {
         match self {
             Refusal::Checked(refusal) => refusal.code(),
             Refusal::NoDevice(_) => 21,
-            Refusal::CannotRun(_) => 22,
         }
     }
 }
@@ -43,7 +39,6 @@ impl fmt::Display for Refusal {
         match self {
             Refusal::Checked(refusal) => write!(f, "{refusal}"),
             Refusal::NoDevice(name) => write!(f, "21 {name}"),
-            Refusal::CannotRun(path) => write!(f, "22 {path}"),
         }
     }
 }
@@ -54,7 +49,7 @@ impl From<AllocError> for Refusal {
     ghost from_gives = { λ _ e. e ≡ no_memory };
 
     fn from(_: AllocError) -> Refusal {
-        Refusal::Checked(fb_tables::fb_check::Refusal::OutOfMemory)
+        Refusal::Checked(fb_state::fb_tables::fb_check::Refusal::OutOfMemory)
     }
 }
 
@@ -64,19 +59,6 @@ impl<T: Drop> From<AllocFailed<T>> for Refusal {
     ghost from_gives = { λ _ e. e ≡ no_memory };
 
     fn from(_: AllocFailed<T>) -> Refusal {
-        Refusal::Checked(fb_tables::fb_check::Refusal::OutOfMemory)
-    }
-}
-
-impl From<Unfit> for Refusal {
-    ghost use Rattle.fb_device.specs.Refusals.{of_unfit};
-
-    ghost from_gives = { λ u e. e ≡ of_unfit u };
-
-    fn from(unfit: Unfit) -> Refusal {
-        match unfit {
-            Unfit::OutOfMemory => Refusal::Checked(fb_tables::fb_check::Refusal::OutOfMemory),
-            Unfit::CannotRun(path) => Refusal::CannotRun(path),
-        }
+        Refusal::Checked(fb_state::fb_tables::fb_check::Refusal::OutOfMemory)
     }
 }
