@@ -6,24 +6,26 @@ use Rattle.std.specs.List.{join_with_byte}
 use Rattle.std.specs.Option.{option_map, option_copied}
 use Rattle.std.proofs.lemmas.List.Splits.{join_with_byte-slice_split}
 use Rattle.fb_model.specs.Names.{Name}
-use Rattle.fb_model.specs.Wires.{Leaf}
+use Rattle.fb_model.specs.Wires.{Kind, Charted, Serviced, Leaf}
+use Rattle.fb_device.specs.fb_dispatch.fb_turn.Conditions.{effect_at}
 use Rattle.fb_model.specs.System.{Device, Resource}
 use Rattle.fb_model.specs.Certificates.{Certificate, events_of}
 use Rattle.fb_model.specs.Devices as model
 use Rattle.fb_model.specs.Devices.{Event, Machine, Happens}
 use Rattle.fb_device.specs.fb_check.Lookups.{is_same_path}
 use Rattle.fb_device.specs.fb_tables.Views.{place_at, place_in}
-use Rattle.fb_device.specs.Answers.{IsNamed, IsNoPoint, IsNumberOf, IsNoNumber, turned_of, end_of, denial_of}
-use Rattle.fb_device.specs.declared.answer.Denied.{Denied}
-use Rattle.fb_device.specs.declared.answer.Denied.TheVariants as d
-use Rattle.fb_device.specs.declared.answer.Ended.{Ended}
-use Rattle.fb_device.specs.fb_invoke.declared.dispatch.Effect.{Effect as Outside}
-use Rattle.fb_device.specs.fb_invoke.declared.dispatch.Effect.TheVariants as outside
+use Rattle.fb_device.specs.Answers.{IsNamed, IsNoPoint, IsNumberOf, IsNoNumber}
+use Rattle.fb_device.specs.fb_dispatch.Answers.{turned_of, end_of, effect_in}
+use Rattle.fb_device.specs.fb_arrive.Answers.{denial_of}
+use Rattle.fb_device.specs.fb_arrive.declared.denied.Denied.{Denied}
+use Rattle.fb_device.specs.fb_arrive.declared.denied.Denied.TheVariants as d
+use Rattle.fb_device.specs.fb_dispatch.declared.answer.Ended.{Ended}
+use Rattle.fb_device.specs.fb_serve.declared.standing.Effect.{Effect as Outside}
+use Rattle.fb_device.specs.fb_serve.declared.standing.Effect.TheVariants as outside
 use Rattle.fb_device.specs.fb_tables.Tables.{IsPoint}
-use Rattle.fb_device.specs.fb_invoke.Turning.{effect_of}
-use Rattle.fb_device.specs.declared.answer.Ran.{Ran as RanRecord}
-use Rattle.fb_device.specs.declared.answer.Turned.TheVariants as turned
-use Rattle.fb_script.specs.Lines.{Offer, Dispatch}
+use Rattle.fb_device.specs.fb_dispatch.declared.answer.Ran.{Ran as RanRecord}
+use Rattle.fb_device.specs.fb_dispatch.declared.answer.Turned.TheVariants as turned
+use Rattle.fb_script.specs.Lines.{Offer, Tick, Dispatch}
 use Rattle.fb_script.specs.Playing.{Asks, Plays}
 use Rattle.fb_script.specs.Texts.{place_text, values_text, effect_text, end_text, outside_text, done_text, ended_text, denial_text, why_text, told_text, answer_text}
 use Rattle.fb_script.specs.declared.told.Told.TheVariants as told
@@ -38,20 +40,29 @@ same_end : (o : Option Ended) → ended_text o ≡ end_text (option_map end_of o
 same_end None = refl
 same_end (Some e) = refl
 
-same_effect : (effect : Option (Bor Outside)) → done_text effect ≡ effect_text (effect_of (option_copied effect))
-same_effect None = refl
-same_effect (Some e) = by e.now
+-- what the leaf of a run has done
+same_effect : (leaf : Leaf) (send : ℕ) (effect : Option (Bor Outside)) → done_text effect send ≡ effect_text send (effect_in (Some leaf) (option_copied effect))
+same_effect leaf send None = by leaf.kind
   where
-    by : (x : Outside) → outside_text x ≡ effect_text (effect_of (Some x))
-    by (outside.Write number values) = refl
+    by : (kind : Kind) → [] ≡ effect_text send (effect_at kind None)
+    by (Charted block) = refl
+    by (Serviced service) = refl
+same_effect leaf send (Some e) = by leaf.kind e.now
+  where
+    by : (kind : Kind) (x : Outside) → outside_text send x ≡ effect_text send (effect_at kind (Some x))
+    by (Charted block) (outside.Write number values) = refl
+    by (Charted block) (outside.Send channel values) = refl
+    by (Serviced service) (outside.Write number values) = refl
+    by (Serviced service) (outside.Send channel values) = refl
 
 -- a run is told by its names
-pub run_told : (all : List Leaf) (r : RanRecord) (path event : Bor (List ℕ)) (effect : Option (Bor Outside)) → IsNamed all r.block r.event path.now event.now → option_copied effect ≡ r.effect
-    → told_text (told.Ran r.cause path event r.steps effect r.ended) ≡ answer_text (turned_of all (turned.Ran r))
-run_told all r path event effect n lent =
-    ap (λ t. codes "ran " ++ t ++ codes " steps " ++ decimal r.steps ++ done_text effect ++ ended_text r.ended) (sym (place_named all r.block r.event path.now event.now n))
-    ∙ ap (λ t. codes "ran " ++ place_text (place_at all (record { block = r.block; event = r.event })) ++ codes " steps " ++ decimal r.steps ++ t ++ ended_text r.ended) (same_effect effect ∙ ap (λ o. effect_text (effect_of o)) lent)
-    ∙ ap (λ t. codes "ran " ++ place_text (place_at all (record { block = r.block; event = r.event })) ++ codes " steps " ++ decimal r.steps ++ effect_text (effect_of r.effect) ++ t) (same_end r.ended)
+pub run_told : (all : List Leaf) (r : RanRecord) (path event : Bor (List ℕ)) (effect : Option (Bor Outside)) (send : ℕ) → IsNamed all r.block r.event path.now event.now → option_copied effect ≡ r.effect
+    → told_text (told.Ran r.cause path event r.steps effect send r.ended) ≡ answer_text send (turned_of all (turned.Ran r))
+run_told all r path event effect send n lent =
+    ap (λ t. codes "ran " ++ t ++ codes " steps " ++ decimal r.steps ++ done_text effect send ++ ended_text r.ended) (sym (place_named all r.block r.event path.now event.now n))
+    ∙ ap (λ t. codes "ran " ++ place_text (place_at all (record { block = r.block; event = r.event })) ++ codes " steps " ++ decimal r.steps ++ t ++ ended_text r.ended)
+    (same_effect n.leaf send effect ∙ ap (λ o. effect_text send (effect_in (Some n.leaf) o)) lent ∙ ap (λ o. effect_text send (effect_in o r.effect)) (sym n.block_is))
+    ∙ ap (λ t. codes "ran " ++ place_text (place_at all (record { block = r.block; event = r.event })) ++ codes " steps " ++ decimal r.steps ++ effect_text send (effect_in (slice_get all r.block) r.effect) ++ t) (same_end r.ended)
 
 -- an answer of the device has a name
 pub never_unnamed : (all : List Leaf) (block event : ℕ) → IsPoint all (record { block = block; event = event }) → IsNoPoint all block event → ⊥
@@ -74,6 +85,9 @@ same_why d.Spent = refl
 pub no_offer : (device : Device) (name : List ℕ) (n : ℕ) (values : List ℤ) → is_same_path device.name name ≡ false → (event : Event) → Asks device (Offer name n values) event → ⊥
 no_offer device name n values e event a = let h = a.0 in absurd cc
 
+pub no_tick : (device : Device) (name : List ℕ) (now : ℕ) → is_same_path device.name name ≡ false → (event : Event) → Asks device (Tick name now) event → ⊥
+no_tick device name now e event a = let h = a.0 in absurd cc
+
 pub no_dispatch : (device : Device) (name resource : List ℕ) → is_same_path device.name name ≡ false → (event : Event) → Asks device (Dispatch name resource) event → ⊥
 no_dispatch device name resource e event a = let h = a.0 in absurd cc
 
@@ -88,6 +102,10 @@ no_resource device name resource h event a = none_there device.resources resourc
 pub offers : (cert : Certificate) (device : Device) (name : List ℕ) (n : ℕ) (values : List ℤ) (old : Machine) (answer : model.Answer) (new : Machine) → is_same_path device.name name ≡ true
     → Happens cert device old (model.Offer n values) answer new → Plays cert device (Offer name n values) old answer new
 offers cert device name n values old answer new e h = (model.Offer n values, (e, refl), h)
+
+pub ticks : (cert : Certificate) (device : Device) (name : List ℕ) (now : ℕ) (old : Machine) (answer : model.Answer) (new : Machine) → is_same_path device.name name ≡ true
+    → Happens cert device old (model.Tick now) answer new → Plays cert device (Tick name now) old answer new
+ticks cert device name now old answer new e h = (model.Tick now, (e, refl), h)
 
 pub dispatches : (cert : Certificate) (device : Device) (name resource : List ℕ) (n : ℕ) (old : Machine) (answer : model.Answer) (new : Machine) → is_same_path device.name name ≡ true
     → IsNumberOf device.resources resource n → Happens cert device old (model.Dispatch n) answer new → Plays cert device (Dispatch name resource) old answer new

@@ -7,11 +7,12 @@ use Rattle.fb_model.specs.Devices as book
 use Rattle.fb_model.specs.CertificateText.{words}
 use Rattle.fb_device.specs.fb_check.Lookups.{is_same_path}
 use Rattle.fb_device.specs.Answers.{IsNumberOf}
-use Rattle.fb_script.specs.Lines.{Command, Offer, Dispatch, command_in}
+use Rattle.fb_script.specs.Lines.{Command, Offer, Tick, Dispatch, command_in}
 
 -- the event of a command at a device of its name. Letter case has no meaning in names
 abbrev pub Asks : Device → Command → Event → Type 0
 Asks device (Offer name number values) event = (is_same_path device.name name ≡ true) × (event ≡ book.Offer number values)
+Asks device (Tick name now) event = (is_same_path device.name name ≡ true) × (event ≡ book.Tick now)
 Asks device (Dispatch name resource) event = (is_same_path device.name name ≡ true) × ((n : ℕ) × IsNumberOf device.resources resource n × (event ≡ book.Dispatch n))
 
 -- the words of a line are a command that asks for this event

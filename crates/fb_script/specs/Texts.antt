@@ -1,16 +1,16 @@
 -- How an answer is printed: this project's profile.
 use denote.Ref.{Bor}
-use Rattle.std.specs.Prelude.{ℕ, ℤ, flat_map, List, [], ◌++◌, codes, Option, None, Some}
+use Rattle.std.specs.Prelude.{ℕ, ℤ, ◌+◌, flat_map, List, [], ◌++◌, codes, Option, None, Some}
 use Rattle.std.specs.Fmt.{decimal, signed_decimal}
 use Rattle.std.specs.List.{join_with_byte}
 use Rattle.fb_model.specs.Names.{Place}
 use Rattle.fb_model.specs.Serving.{Effect, Write, Send}
-use Rattle.fb_model.specs.Devices.{Ended as End, Denial, UnknownInput, BadCount, BadValue, NoCredit, Spent, Answer, Admitted, Denied, Idle, Ran}
-use Rattle.fb_device.specs.declared.answer.Denied.{Denied as RustDenied}
-use Rattle.fb_device.specs.declared.answer.Denied.TheVariants as d
-use Rattle.fb_device.specs.declared.answer.Ended.{Ended}
-use Rattle.fb_device.specs.fb_invoke.declared.dispatch.Effect.{Effect as Outside}
-use Rattle.fb_device.specs.fb_invoke.declared.dispatch.Effect.TheVariants as outside
+use Rattle.fb_model.specs.Devices.{Ended as End, Denial, UnknownInput, BadCount, BadValue, NoCredit, Spent, Answer, Admitted, Denied, Expired, Idle, Ran}
+use Rattle.fb_device.specs.fb_arrive.declared.denied.Denied.{Denied as RustDenied}
+use Rattle.fb_device.specs.fb_arrive.declared.denied.Denied.TheVariants as d
+use Rattle.fb_device.specs.fb_dispatch.declared.answer.Ended.{Ended}
+use Rattle.fb_device.specs.fb_serve.declared.standing.Effect.{Effect as Outside}
+use Rattle.fb_device.specs.fb_serve.declared.standing.Effect.TheVariants as outside
 use Rattle.fb_script.specs.declared.told.Told.{Told}
 use Rattle.fb_script.specs.declared.told.Told.TheVariants as told
 
@@ -33,24 +33,38 @@ place_text place = join_with_byte 46 place.path ++ codes "." ++ place.event
 abbrev pub values_text : List ℤ → List ℕ
 values_text values = flat_map (λ v. codes " " ++ signed_decimal v) values
 
--- what a service has done; what is sent comes with its lines
-abbrev pub effect_text : Option Effect → List ℕ
-effect_text None = []
-effect_text (Some (Write number values)) = codes " write " ++ decimal number ++ values_text values
-effect_text (Some (Send message)) = []
+-- what a service has done; what is sent has a number
+abbrev pub effect_text : ℕ → Option Effect → List ℕ
+effect_text send None = []
+effect_text send (Some (Write number values)) = codes " write " ++ decimal number ++ values_text values
+effect_text send (Some (Send message)) = codes " send " ++ decimal send
 
 -- a cause that has ended: its total, and the bound on it
 abbrev pub end_text : Option End → List ℕ
 end_text None = []
 end_text (Some e) = codes " ended " ++ decimal e.cause ++ codes " " ++ decimal e.total ++ codes " of " ++ decimal e.bound
 
--- an answer to an offer or a dispatch; others come with their lines
-abbrev pub answer_text : Answer → List ℕ
-answer_text (Admitted cause) = codes "cause " ++ decimal cause
-answer_text (Denied why) = codes "denied " ++ denial_text why
-answer_text Idle = codes "idle"
-answer_text (Ran cause place steps effect ended) = codes "ran " ++ place_text place ++ codes " steps " ++ decimal steps ++ effect_text effect ++ end_text ended
-answer_text other = []
+-- an answer, where the next send has this number
+abbrev pub answer_text : ℕ → Answer → List ℕ
+answer_text send (Admitted cause) = codes "cause " ++ decimal cause
+answer_text send (Denied why) = codes "denied " ++ denial_text why
+answer_text send (Expired count) = codes "fired " ++ decimal count
+answer_text send Idle = codes "idle"
+answer_text send (Ran cause place steps effect ended) = codes "ran " ++ place_text place ++ codes " steps " ++ decimal steps ++ effect_text send effect ++ end_text ended
+
+-- the number of the next send after what was done
+abbrev pub send_after : ℕ → Option Effect → ℕ
+send_after send None = send
+send_after send (Some (Write number values)) = send
+send_after send (Some (Send message)) = send + 1
+
+-- and after an answer
+abbrev pub next_send : ℕ → Answer → ℕ
+next_send send (Admitted cause) = send
+next_send send (Denied why) = send
+next_send send (Expired count) = send
+next_send send Idle = send
+next_send send (Ran cause place steps effect ended) = send_after send effect
 
 -- ---- answers of the program
 
@@ -65,15 +79,17 @@ abbrev pub ended_text : Option Ended → List ℕ
 ended_text None = []
 ended_text (Some e) = codes " ended " ++ decimal e.cause ++ codes " " ++ decimal e.total ++ codes " of " ++ decimal e.bound
 
-abbrev pub outside_text : Outside → List ℕ
-outside_text (outside.Write number values) = codes " write " ++ decimal number ++ values_text values.items
+abbrev pub outside_text : ℕ → Outside → List ℕ
+outside_text send (outside.Send channel values) = codes " send " ++ decimal send
+outside_text send (outside.Write number values) = codes " write " ++ decimal number ++ values_text values.items
 
-abbrev pub done_text : Option (Bor Outside) → List ℕ
-done_text None = []
-done_text (Some e) = outside_text e.now
+abbrev pub done_text : Option (Bor Outside) → ℕ → List ℕ
+done_text None send = []
+done_text (Some e) send = outside_text send e.now
 
 abbrev pub told_text : Told → List ℕ
 told_text (told.Admitted cause) = codes "cause " ++ decimal cause
 told_text (told.Denied why) = codes "denied " ++ why_text why
+told_text (told.Fired count) = codes "fired " ++ decimal count
 told_text told.Idle = codes "idle"
-told_text (told.Ran cause path event steps effect ended) = codes "ran " ++ (path.now ++ codes "." ++ event.now) ++ codes " steps " ++ decimal steps ++ done_text effect ++ ended_text ended
+told_text (told.Ran cause path event steps effect send ended) = codes "ran " ++ (path.now ++ codes "." ++ event.now) ++ codes " steps " ++ decimal steps ++ done_text effect send ++ ended_text ended

@@ -12,7 +12,7 @@ use Rattle.fb_device.specs.declared.answer.Answer.{Answer}
 use Rattle.fb_script.specs.Playing.{Asks, Plays}
 use Rattle.fb_script.specs.Lines as book
 use Rattle.fb_script.specs.declared.line.Line.{Line}
-use Rattle.fb_script.specs.declared.line.Line.TheVariants.{Offer, Dispatch}
+use Rattle.fb_script.specs.declared.line.Line.TheVariants.{Offer, Tick, Dispatch}
 use Rattle.fb_script.specs.declared.line.LineFault.{LineFault}
 use Rattle.fb_script.specs.declared.line.LineFault.TheVariants.{OutOfMemory, Form}
 
@@ -21,6 +21,7 @@ texts ws = map (λ w. w.now) ws
 
 abbrev pub command_of : Line → Command
 command_of (Offer device number values) = book.Offer device.now number values.items
+command_of (Tick device now) = book.Tick device.now now
 command_of (Dispatch device resource) = book.Dispatch device.now resource.now
 
 -- each of the words is a value, or one is none

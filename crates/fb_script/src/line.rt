@@ -1,11 +1,11 @@
 //! Lines of a script.
 
-ghost use Rattle.std.specs.Prelude.{◌≡◌, ◌∷◌, codes, IfOk};
+ghost use Rattle.std.specs.Prelude.{◌≡◌, [], ◌∷◌, codes, IfOk};
 ghost use Rattle.fb_model.specs.CertificateText.{words};
 ghost use Rattle.fb_script.specs.Views.{texts, AreValues, IsRead, IsLine};
 ghost use Rattle.fb_script.specs.declared.line.LineFault.TheVariants.{OutOfMemory};
 
-use crate::number::{read_number, read_value};
+use crate::number::{read_moment, read_number, read_value};
 use std::alloc::{AllocError, AllocFailed, Global};
 
 /// A line that has words.
@@ -17,6 +17,8 @@ pub enum Line<'a> {
         number: u16,
         values: Vec<i64>,
     },
+    /// `tick DEVICE NOW`: the clock comes to a moment, in milliseconds.
+    Tick { device: &'a str, now: u64 },
     /// `dispatch DEVICE RESOURCE`: the first pending entry of a resource is to run.
     Dispatch {
         device: &'a str,
@@ -29,7 +31,7 @@ pub enum Line<'a> {
 pub enum LineFault {
     /// Memory ran out.
     OutOfMemory,
-    /// The words are none of the two forms, or one of them is no number that fits.
+    /// The words are none of the three forms, or one of them is no number that fits.
     Form,
 }
 
@@ -106,6 +108,15 @@ fn read_offer<'a>(
     }
 }
 
+fn read_tick<'a>(device: &'a str, now: &str) -> Result<Line<'a>, LineFault>
+    ensures { IsRead (codes "tick" ∷ device.now ∷ now.now ∷ []) result }
+{
+    match read_moment(now) {
+        Some(now) => Ok(Line::Tick { device, now }),
+        None => Err(LineFault::Form),
+    }
+}
+
 // The command of three words and more.
 fn read_by<'a>(
     alloc: Global,
@@ -118,6 +129,9 @@ fn read_by<'a>(
 {
     if word == "offer" {
         return read_offer(alloc, device, third, rest);
+    }
+    if word == "tick" && rest.is_empty() {
+        return read_tick(device, third);
     }
     if word == "dispatch" && rest.is_empty() {
         return Ok(Line::Dispatch {

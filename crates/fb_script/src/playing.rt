@@ -5,8 +5,9 @@ ghost use Rattle.fb_model.specs.Devices.{Event};
 ghost use Rattle.fb_model.specs.Wires.{leaves};
 ghost use Rattle.fb_device.specs.fb_check.Lookups.{is_same_path};
 ghost use Rattle.fb_device.specs.Machines.{device_in, cert_in, machine_of};
-ghost use Rattle.fb_device.specs.Answers.{answer_of, turned_of, HasPoint, HasPlace};
-ghost use Rattle.fb_device.specs.declared.answer.Turned.TheVariants as turned;
+ghost use Rattle.fb_device.specs.Answers.{answer_of, HasPlace};
+ghost use Rattle.fb_device.specs.fb_dispatch.Answers.{turned_of, HasPoint};
+ghost use Rattle.fb_device.specs.fb_dispatch.declared.answer.Turned.TheVariants as turned;
 ghost use Rattle.fb_script.specs.Lines as book;
 ghost use Rattle.fb_script.specs.Views.{command_of, IsPlayed};
 ghost use Rattle.fb_script.specs.Texts.{told_text, answer_text};
@@ -31,6 +32,17 @@ fn play_offer(device: &mut Device, name: &str, number: u16, values: &[i64]) -> O
         return None;
     }
     Some(Answer::Admitted(device.offer(number, values)))
+}
+
+fn play_tick(device: &mut Device, name: &str, now: u64) -> Option<Answer>
+    ensures plays { IsPlayed device.old (book.Tick name.now now) result device.new }
+    ensures place { IfSome result (HasPlace (leaves (device_in device.new))) }
+    ensures same { (device.new.verified ≡ device.old.verified) × (device.new.number ≡ device.old.number) }
+{
+    if !is_named(device, name) {
+        return None;
+    }
+    Some(Answer::Fired(device.tick(now)))
 }
 
 fn play_dispatch(device: &mut Device, name: &str, resource: &str) -> Option<Answer>
@@ -60,6 +72,7 @@ pub fn play(device: &mut Device, line: &Line<'_>) -> Option<Answer>
             number,
             values,
         } => play_offer(device, name, *number, values.as_slice()),
+        Line::Tick { device: name, now } => play_tick(device, name, *now),
         Line::Dispatch {
             device: name,
             resource,
@@ -68,8 +81,8 @@ pub fn play(device: &mut Device, line: &Line<'_>) -> Option<Answer>
 }
 
 // A block that ran, by its names.
-fn tell_run<'a>(device: &'a Device, ran: &'a Ran) -> Told<'a>
-    ensures { HasPoint (leaves (device_in device.now)) (turned.Ran ran.now) → told_text result ≡ answer_text (turned_of (leaves (device_in device.now)) (turned.Ran ran.now)) }
+fn tell_run<'a>(device: &'a Device, ran: &'a Ran, send: u64) -> Told<'a>
+    ensures { HasPoint (leaves (device_in device.now)) (turned.Ran ran.now) → told_text result ≡ answer_text send (turned_of (leaves (device_in device.now)) (turned.Ran ran.now)) }
 {
     match device.path(ran.block, ran.event) {
         Some((path, event)) => Told::Ran {
@@ -78,6 +91,7 @@ fn tell_run<'a>(device: &'a Device, ran: &'a Ran) -> Told<'a>
             event,
             steps: ran.steps,
             effect: ran.effect.as_ref(),
+            send,
             ended: ran.ended,
         },
         None => Told::Ran {
@@ -86,19 +100,21 @@ fn tell_run<'a>(device: &'a Device, ran: &'a Ran) -> Told<'a>
             event: "",
             steps: ran.steps,
             effect: ran.effect.as_ref(),
+            send,
             ended: ran.ended,
         },
     }
 }
 
-/// An answer of a device, with the names of its block and event.
-pub fn tell<'a>(device: &'a Device, answer: &'a Answer) -> Told<'a>
-    ensures { HasPlace (leaves (device_in device.now)) answer.now → told_text result ≡ answer_text (answer_of (leaves (device_in device.now)) answer.now) }
+/// An answer of a device, with the names of its block and event, and with the number that a send has.
+pub fn tell<'a>(device: &'a Device, answer: &'a Answer, send: u64) -> Told<'a>
+    ensures { HasPlace (leaves (device_in device.now)) answer.now → told_text result ≡ answer_text send (answer_of (leaves (device_in device.now)) answer.now) }
 {
     match answer {
         Answer::Admitted(Ok(cause)) => Told::Admitted(*cause),
         Answer::Admitted(Err(why)) => Told::Denied(*why),
         Answer::Served(Turned::Idle) => Told::Idle,
-        Answer::Served(Turned::Ran(ran)) => tell_run(device, ran),
+        Answer::Fired(count) => Told::Fired(*count),
+        Answer::Served(Turned::Ran(ran)) => tell_run(device, ran, send),
     }
 }

@@ -5,12 +5,12 @@ ghost use Rattle.fb_model.specs.Wires.{leaves};
 ghost use Rattle.fb_device.specs.Machines.{device_in};
 ghost use Rattle.fb_device.specs.Answers.{answer_of, HasPlace};
 ghost use Rattle.fb_script.specs.Views.{command_of};
-ghost use Rattle.fb_script.specs.Steps.{IsWritten, IsObeyed, IsStep};
+ghost use Rattle.fb_script.specs.Steps.{IsWritten, IsObeyed, IsStep, sends};
 ghost use Rattle.fb_script.specs.Runs.{IsRun};
 
 use crate::line::{Line, LineFault, read_line};
 use crate::playing::{play, tell};
-use fb_device::{Answer, Device};
+use fb_device::{Answer, Device, Effect, Turned};
 use std::alloc::Global;
 use std::io;
 use std::io::Write;
@@ -27,53 +27,76 @@ pub enum End {
 }
 
 // Writes the answer of a device.
-fn write_answer<W: Write>(device: &Device, answer: &Answer, output: &mut W) -> io::Result<()>
+fn write_answer<W: Write>(
+    device: &Device,
+    answer: &Answer,
+    send: u64,
+    output: &mut W,
+) -> io::Result<()>
     requires { HasPlace (leaves (device_in device.now)) answer.now }
-    ensures { IfOk result (λ _. IsWritten (answer_of (leaves (device_in device.now)) answer.now) (W.contents output.old) (W.contents output.new)) }
+    ensures { IfOk result (λ _. IsWritten send (answer_of (leaves (device_in device.now)) answer.now) (W.contents output.old) (W.contents output.new)) }
 {
-    let told = tell(device, answer);
+    let told = tell(device, answer, send);
     writeln!(output, "{told}")
 }
 
-// Runs a command, and writes its answer.
+// Whether a dispatch has sent something.
+fn has_sent(answer: &Answer) -> bool
+    ensures { result ≡ sends answer.now }
+{
+    match answer {
+        Answer::Served(Turned::Ran(ran)) => match &ran.effect {
+            Some(Effect::Send(_, _)) => true,
+            _ => false,
+        },
+        _ => false,
+    }
+}
+
+// Runs a command, and writes its answer. Gives the number of the next send, or how the script ends.
 fn obey<W: Write>(
     device: &mut Device,
     line: &Line<'_>,
     number: usize,
+    send: u64,
     output: &mut W,
-) -> io::Result<Option<End>>
-    ensures obeys { IfOk result (λ end. IsObeyed device.old (command_of line.now) number (W.contents output.old) (W.contents output.new) end device.new) }
+) -> io::Result<Result<u64, End>>
+    requires { send ≤ 33554433 }
+    ensures obeys { IfOk result (λ next. IsObeyed device.old (command_of line.now) number send (W.contents output.old) (W.contents output.new) next device.new) }
     ensures same { (device.new.verified ≡ device.old.verified) × (device.new.number ≡ device.old.number) }
 {
-    match play(device, line) {
-        Some(answer) => match write_answer(device, &answer, output) {
-            Ok(()) => Ok(None),
-            Err(error) => Err(error),
-        },
-        None => Ok(Some(End::Line(number))),
+    let Some(answer) = play(device, line) else {
+        return Ok(Err(End::Line(number)));
+    };
+    match write_answer(device, &answer, send, output) {
+        Ok(()) if has_sent(&answer) => Ok(Ok(send + 1)),
+        Ok(()) => Ok(Ok(send)),
+        Err(error) => Err(error),
     }
 }
 
-// Runs a line, and tells how the script ends where it ends there.
+// Runs a line. Gives the number of the next send, or how the script ends.
 fn step<W: Write>(
     alloc: Global,
     device: &mut Device,
     line: &str,
     number: usize,
+    send: u64,
     output: &mut W,
-) -> io::Result<Option<End>>
-    ensures steps { IfOk result (λ end. IsStep device.old line.now number (W.contents output.old) (W.contents output.new) end device.new) }
+) -> io::Result<Result<u64, End>>
+    requires { send ≤ 33554433 }
+    ensures steps { IfOk result (λ next. IsStep device.old line.now number send (W.contents output.old) (W.contents output.new) next device.new) }
     ensures same { (device.new.verified ≡ device.old.verified) × (device.new.number ≡ device.old.number) }
 {
     match read_line(alloc, line) {
-        Ok(Some(line)) => obey(device, &line, number, output),
-        Ok(None) => Ok(None),
-        Err(LineFault::Form) => Ok(Some(End::Line(number))),
-        Err(LineFault::OutOfMemory) => Ok(Some(End::OutOfMemory)),
+        Ok(Some(line)) => obey(device, &line, number, send, output),
+        Ok(None) => Ok(Ok(send)),
+        Err(LineFault::Form) => Ok(Err(End::Line(number))),
+        Err(LineFault::OutOfMemory) => Ok(Err(End::OutOfMemory)),
     }
 }
 
-/// Runs the lines of a script on a device, in order, up to the first that is bad. Each answer is written on a line of its own.
+/// Runs the lines of a script on a device, in order, up to the first that is bad. Each answer is written on a line of its own. Sends are numbered from 1.
 pub fn simulate<W: Write>(
     alloc: Global,
     device: &mut Device,
@@ -85,11 +108,12 @@ pub fn simulate<W: Write>(
     ensures same { (device.new.verified ≡ device.old.verified) × (device.new.number ≡ device.old.number) }
 {
     let mut number = 0;
+    let mut send = 1;
     for line in script.lines() {
         number += 1;
-        match step(alloc, device, line, number, output) {
-            Ok(None) => {}
-            Ok(Some(end)) => return Ok(end),
+        match step(alloc, device, line, number, send, output) {
+            Ok(Ok(next)) => send = next,
+            Ok(Err(end)) => return Ok(end),
             Err(error) => return Err(error),
         }
     }

@@ -10,15 +10,18 @@ pub enum Told<'a> {
     Admitted(u64),
     /// An offer is refused.
     Denied(Denied),
+    /// So many timers were fired.
+    Fired(u32),
     /// Nothing was pending.
     Idle,
-    /// A block ran at an event, for a cause, so many steps.
+    /// A block ran at an event, for a cause, so many steps. `send` is the number of what it has sent, where it has.
     Ran {
         cause: u64,
         path: &'a str,
         event: &'a str,
         steps: u64,
         effect: Option<&'a Effect>,
+        send: u64,
         ended: Option<Ended>,
     },
 }
@@ -41,15 +44,15 @@ impl fmt::Display for Row<'_> {
     }
 }
 
-// What a dispatch has done outside of the device: of an OUTPUT, ` write 1 9`.
+// What a dispatch has done outside of the device: of an OUTPUT, ` write 1 9`, and of a PUBLISH, ` send 1` with the number of the send.
 #[derive(Clone, Copy)]
-struct Done<'a>(Option<&'a Effect>);
+struct Done<'a>(Option<&'a Effect>, u64);
 
 impl fmt::Display for Done<'_> {
     ghost use Rattle.std.specs.Prelude.{Some};
     ghost use Rattle.fb_script.specs.Texts.{done_text};
 
-    ghost output = { λ d. Some (done_text d.0) };
+    ghost output = { λ d. Some (done_text d.0 d.1) };
 
     fn fmt<W: fmt::Write>(&self, f: &mut fmt::Formatter<W>) -> fmt::Result {
         match self.0 {
@@ -57,6 +60,10 @@ impl fmt::Display for Done<'_> {
             Some(Effect::Write(number, values)) => {
                 let row = Row(values.as_slice());
                 write!(f, " write {number}{row}")
+            }
+            Some(Effect::Send(_, _)) => {
+                let send = self.1;
+                write!(f, " send {send}")
             }
         }
     }
@@ -86,8 +93,8 @@ impl fmt::Display for Closed {
     }
 }
 
-/// `cause 1`, `denied 53 needs 2 free 1`, `idle`, `ran D.R.C.EI steps 3`, with ` write 1 9` where an OUTPUT has written and ` ended 1 4 of 4`
-/// where the cause has ended.
+/// `cause 1`, `denied 53 needs 2 free 1`, `fired 2`, `idle`, `ran D.R.C.EI steps 3`, with ` write 1 9` where an OUTPUT has written, ` send 1` where a PUBLISH has sent,
+/// and ` ended 1 4 of 4` where the cause has ended.
 impl fmt::Display for Told<'_> {
     ghost use Rattle.std.specs.Prelude.{Some};
     ghost use Rattle.fb_script.specs.Texts.{told_text};
@@ -104,6 +111,7 @@ impl fmt::Display for Told<'_> {
             Told::Denied(Denied::UnknownInput) => write!(f, "denied 50"),
             Told::Denied(Denied::BadCount) => write!(f, "denied 51"),
             Told::Denied(Denied::Spent) => write!(f, "denied 54"),
+            Told::Fired(count) => write!(f, "fired {count}"),
             Told::Idle => write!(f, "idle"),
             Told::Ran {
                 cause,
@@ -111,11 +119,12 @@ impl fmt::Display for Told<'_> {
                 event,
                 steps,
                 effect,
+                send,
                 ended,
             } => {
                 let path: &str = path;
                 let event: &str = event;
-                let done = Done(*effect);
+                let done = Done(*effect, *send);
                 let closed = Closed(*ended);
                 write!(f, "ran {path}.{event} steps {steps}{done}{closed}")
             }

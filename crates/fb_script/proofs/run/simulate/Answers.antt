@@ -10,10 +10,10 @@ pub overflow_add-number : goal.overflow_add-number
 overflow_add-number g c = omega (arith, c.loop-line.invariant.counted, lines_le c.args.script.now, c.requires)
 
 pub loop-line-preserved : goal.loop-line-preserved
-loop-line-preserved g c = next (turn c.in-Some.line c.loop-line.invariant c.in-Some.ensures.steps) (rw c.in-Ok-None.field-0-is at c.in-Ok-None.ensures.steps) c.step.ensures.same.0 c.step.ensures.same.1
+loop-line-preserved g c = next (turn c.in-Some.line c.loop-line.invariant c.in-Some.ensures.steps) (rw c.in-Ok-Ok.field-0-is at c.in-Ok-Ok.ensures.steps) c.step.ensures.same.0 c.step.ensures.same.1
 
-pub returns-in-Ok-Some-clause-runs : goal.returns-in-Ok-Some-clause-runs
-returns-in-Ok-Some-clause-runs g c = stopped c.in-Ok-Some.end (turn {t = c.next.new.self} c.in-Some.line c.loop-line.invariant c.in-Some.ensures.steps) (rw c.in-Ok-Some.field-0-is at c.in-Ok-Some.ensures.steps)
+pub returns-in-Ok-Err-clause-runs : goal.returns-in-Ok-Err-clause-runs
+returns-in-Ok-Err-clause-runs g c = stopped c.in-Ok-Err.end (turn {t = c.next.new.self} c.in-Some.line c.loop-line.invariant c.in-Some.ensures.steps) (rw c.in-Ok-Err.field-0-is at c.in-Ok-Err.ensures.steps)
 
 pub returns-clause-runs : goal.returns-clause-runs
 returns-clause-runs g c = ended c.loop-line.invariant c.in-None.ensures.steps
