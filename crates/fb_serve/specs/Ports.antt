@@ -6,7 +6,7 @@ use Rattle.fb_model.specs.Values.{One, Values, number_of}
 use Rattle.fb_model.specs.Language.{setting}
 use Rattle.fb_model.specs.System.{Service, Input, Output, Publish, Subscribe, Delay, Cycle, Restart}
 use Rattle.fb_model.specs.Services.{qi, qo, dt, received, sent, numbered}
-use Rattle.fb_model.specs.Wires.{Serviced}
+use Rattle.fb_model.specs.Wires.{Kind, Charted, Serviced}
 use Rattle.fb_model.specs.Ranges.{types_of}
 use Rattle.st_code.specs.Forms.{Form, plain_slot}
 use Rattle.fb_serve.specs.declared.standing.Ports.{Ports}
@@ -36,6 +36,11 @@ pub record ArePorts (service : Service) (forms : List Form) (p : Ports) : Type 0
   pub time : p.time ≡ plain_slot forms dt
   pub sent : p.sent.items ≡ slots_of forms (numbered sent 1 (sends service))
   pub received : p.received.items ≡ slots_of forms (numbered received 1 (receives service))
+
+-- of a leaf the slots are those of a service's variables; of a chart nothing is said
+abbrev pub ServesPorts : Kind → List Form → Ports → Type 0
+ServesPorts (Charted block) forms p = Unit {0}
+ServesPorts (Serviced service) forms p = ArePorts service forms p
 
 -- values after the variables of these names took these numbers, one after another
 abbrev pub received_in : List Name → List ℤ → Values → Values

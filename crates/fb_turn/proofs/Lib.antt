@@ -1,1 +1,3 @@
-
+pub mod Standing
+pub mod Charted
+pub mod Served

@@ -11,7 +11,7 @@ use Rattle.fb_model.specs.Serving.{Serves}
 use Rattle.fb_model.specs.Ranges.{IsMessage}
 use Rattle.fb_leaves.specs.Leaves.{OnChart, IsClosed}
 use Rattle.fb_shapes.specs.Shaped.{IsShapely}
-use Rattle.st_exec.specs.Cells.{Cell, Form, values_of, forms_of}
+use Rattle.st_exec.specs.Cells.{Cell, values_of, forms_of}
 use Rattle.fb_chart.specs.declared.table.Point.{Point}
 use Rattle.fb_chart.specs.declared.table.Event.{Event}
 use Rattle.fb_chart.specs.declared.table.Output.{Output}
@@ -23,15 +23,10 @@ use Rattle.fb_chart.specs.Sampling.{AreStores, CanTake, sampled_by}
 use Rattle.fb_chart.specs.Charting.{FineFrom, most_steps}
 use Rattle.fb_serve.specs.declared.standing.Effect.{Effect}
 use Rattle.fb_serve.specs.declared.standing.Ports.{Ports}
-use Rattle.fb_serve.specs.Ports.{ArePorts}
+use Rattle.fb_serve.specs.Ports.{ServesPorts}
 use Rattle.fb_turn.specs.declared.memory.Condition.{Condition}
 use Rattle.fb_turn.specs.declared.memory.Memory.{Memory}
 use Rattle.fb_turn.specs.Conditions.{IsConditionOf, leaf_state, effect_at}
-
--- the slots are those of the variables of a service; of a chart nothing is said
-abbrev pub ServesPorts : Kind → List Form → Ports → Type 0
-ServesPorts (Charted block) forms p = Unit {0}
-ServesPorts (Serviced service) forms p = ArePorts service forms p
 
 -- at each moment from the dispatch on nothing of a chart traps, and there is room for what is sent; and there is room for all that a service can send
 abbrev pub HasRoom : Kind → List Output → LeafState → Name → ℕ → ℕ → Type 0
@@ -39,17 +34,17 @@ HasRoom (Charted block) outputs before event most room = FineFrom block outputs 
 HasRoom (Serviced service) outputs before event most room = length (sent_to outputs (can_emit service event)) ≤ room
 
 -- a block whose inputs are sampled can run
-pub record CanRun (x : Block) (p : Ports) (own issued : List Cell) (c : Condition) (event : ℕ) (values : List ℤ) (most room : ℕ) : Type 0 where
+pub record CanRun (x : Block) (p : Ports) (own issued : List Cell) (c : Condition) (number : ℕ) (values : List ℤ) (most room : ℕ) : Type 0 where
   pub table : IsTable (forms_of own) (forms_of issued) x
   pub ports : ServesPorts (kind_of x) (forms_of own) p
   pub closed : IsClosed (kind_of x)
   pub shaped : OnChart IsShapely (kind_of x)
   pub stores : AreStores (kind_of x) (forms_of own) (forms_of issued)
   pub condition : IsConditionOf (kind_of x) c
-  pub event : event < length x.events.items
+  pub event : number < length x.events.items
   pub message : IsMessage (kind_of x) values
   pub few : most ≤ most_steps
-  pub fine : HasRoom (kind_of x) x.outputs.items (leaf_state (kind_of x) own issued c) (named (event_names x) event) most room
+  pub fine : HasRoom (kind_of x) x.outputs.items (leaf_state (kind_of x) own issued c) (named (event_names x) number) most room
 
 -- it has run to its end as the book says, and what its outputs reach was sent
 pub record HasRun (x : Block) (event : ℕ) (values : List ℤ) (clock : ℕ) (before after : LeafState) (steps : ℕ) (effect : Option Effect) (old new : Points) : Type 0 where
