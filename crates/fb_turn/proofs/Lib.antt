@@ -1,1 +1,4 @@
-
+pub mod Standing
+pub mod Sampled
+pub mod Charted
+pub mod Served

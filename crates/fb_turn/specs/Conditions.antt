@@ -1,6 +1,6 @@
 -- What a leaf remembers from one dispatch to the next, by numbers and in the book's terms.
 -- IEC 61499-1 edition 2, 5.2.2 (execution control charts), 6.1 (services); this project's profile.
-use Rattle.std.specs.Prelude.{ℕ, List, [], Option}
+use Rattle.std.specs.Prelude.{List, [], Option}
 use Rattle.std.specs.Option.{option_map}
 use Rattle.fb_model.specs.Wires.{Kind, Charted, Serviced}
 use Rattle.fb_model.specs.Store as book

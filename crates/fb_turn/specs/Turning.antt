@@ -34,17 +34,17 @@ HasRoom (Charted block) outputs before event most room = FineFrom block outputs 
 HasRoom (Serviced service) outputs before event most room = length (sent_to outputs (can_emit service event)) ≤ room
 
 -- a block whose inputs are sampled can run
-pub record CanRun (x : Block) (p : Ports) (own issued : List Cell) (c : Condition) (event : ℕ) (values : List ℤ) (most room : ℕ) : Type 0 where
+pub record CanRun (x : Block) (p : Ports) (own issued : List Cell) (c : Condition) (number : ℕ) (values : List ℤ) (most room : ℕ) : Type 0 where
   pub table : IsTable (forms_of own) (forms_of issued) x
   pub ports : ServesPorts (kind_of x) (forms_of own) p
   pub closed : IsClosed (kind_of x)
   pub shaped : OnChart IsShapely (kind_of x)
   pub stores : AreStores (kind_of x) (forms_of own) (forms_of issued)
   pub condition : IsConditionOf (kind_of x) c
-  pub event : event < length x.events.items
+  pub event : number < length x.events.items
   pub message : IsMessage (kind_of x) values
   pub few : most ≤ most_steps
-  pub fine : HasRoom (kind_of x) x.outputs.items (leaf_state (kind_of x) own issued c) (named (event_names x) event) most room
+  pub fine : HasRoom (kind_of x) x.outputs.items (leaf_state (kind_of x) own issued c) (named (event_names x) number) most room
 
 -- it has run to its end as the book says, and what its outputs reach was sent
 pub record HasRun (x : Block) (event : ℕ) (values : List ℤ) (clock : ℕ) (before after : LeafState) (steps : ℕ) (effect : Option Effect) (old new : Points) : Type 0 where

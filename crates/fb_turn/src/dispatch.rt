@@ -38,42 +38,42 @@ fn run<E: Emit>(
     ensures room { E.room emit.old + length (E.sent emit.old) ≡ E.room emit.new + length (E.sent emit.new) }
     ensures same_reference { E.reference emit.new ≡ E.reference emit.old }
 {
-    match (&block.body, condition) {
-        (Body::Chart(chart), Condition::State(state)) => {
-            let (state, steps) = invoke(
-                chart,
-                &block.outputs,
-                state,
-                event,
-                own,
-                issued,
-                most,
-                emit,
-            );
-            (
-                Condition::State(state),
-                Outcome {
-                    steps,
-                    effect: None,
-                },
-            )
-        }
-        (Body::Served(service), Condition::Service(standing)) => {
-            let (standing, effect) = serve(
-                service,
-                ports,
-                &block.outputs,
-                event,
-                values,
-                clock,
-                standing,
-                own,
-                issued,
-                emit,
-            );
-            (Condition::Service(standing), Outcome { steps: 1, effect })
-        }
-        _ => unreachable!(),
+    match &block.body {
+        Body::Chart(chart) => match condition {
+            Condition::State(state) => {
+                let (state, steps) = invoke(
+                    chart,
+                    &block.outputs,
+                    state,
+                    event,
+                    own,
+                    issued,
+                    most,
+                    emit,
+                );
+                let effect = None;
+                (Condition::State(state), Outcome { steps, effect })
+            }
+            Condition::Service(_) => unreachable!(),
+        },
+        Body::Served(service) => match condition {
+            Condition::State(_) => unreachable!(),
+            Condition::Service(standing) => {
+                let (standing, effect) = serve(
+                    service,
+                    ports,
+                    &block.outputs,
+                    event,
+                    values,
+                    clock,
+                    standing,
+                    own,
+                    issued,
+                    emit,
+                );
+                (Condition::Service(standing), Outcome { steps: 1, effect })
+            }
+        },
     }
 }
 
