@@ -8,7 +8,7 @@ use Rattle.fb_script.specs.fb_check.Verdicts.{IsTypedOf}
 use Rattle.fb_script.specs.fb_types.declared.typed.Configuration.{Configuration}
 use Rattle.fb_script.specs.fb_types.Views.{system_of}
 use Rattle.fbr.specs.declared.fault.Fault.{Fault}
-use Rattle.fbr.specs.declared.fault.Fault.TheVariants.{Memory, Input, File, Line, Usage, Refused, Unloaded, Unbound}
+use Rattle.fbr.specs.declared.fault.Fault.TheVariants.{Memory, Input, File, Line, Usage, Refused, Unbound}
 use Rattle.fbr.specs.Outcomes.{Tells, refusal, IsContents, IsReadFault}
 use Rattle.fbr.specs.Bounding.{IsTextFor, IsUnbound, IsBoundText, IsBoundFault, TellsBound, a_text, no_text, unread}
 
@@ -22,7 +22,6 @@ of_text repeats app typed (Err (File name)) is h = absurd h
 of_text repeats app typed (Err (Line n)) is h = absurd h
 of_text repeats app typed (Err Usage) is h = absurd h
 of_text repeats app typed (Err (Refused f)) is h = absurd h
-of_text repeats app typed (Err (Unloaded f)) is h = absurd h
 of_text repeats app typed (Err (Unbound f)) is h = (typed, is, h)
 
 pub text_told : {E : Type 0} (repeats : Option ℕ) (name app text : List ℕ) (held old new : Option (List ℕ)) (r : Result ℕ E) → IsContents held app → IsBoundText repeats app text

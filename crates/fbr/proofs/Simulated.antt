@@ -1,10 +1,9 @@
 -- What is told of a simulation.
 use Rattle.std.proofs.Common.{◌≡◌, ◌∙◌, ℕ, List, sym, ap, inl, inr, subst, Option, Result, Ok, Err, IfOk}
 use Rattle.fb_script.specs.fb_check.Verdicts.{system_in}
-use Rattle.fb_script.specs.fb_device.Loads.{IsUnready}
 use Rattle.fb_script.specs.fb_check.declared.verified.Verified.{Verified}
 use Rattle.fbr.specs.declared.fault.Fault.{Fault}
-use Rattle.fbr.specs.declared.fault.Fault.TheVariants.{Memory, Usage, Unloaded}
+use Rattle.fbr.specs.declared.fault.Fault.TheVariants.{Memory, Usage}
 use Rattle.fbr.specs.Outcomes.{Tells, refusal, IsFilesOutcome}
 use Rattle.fbr.specs.Simulation.{IsVerified, IsScript, IsScriptFault, TellsEnd, IsSilent, IsFresh, HasOneDevice, TellsRun, a_run, no_load, no_device, TellsRunFrom, TellsScript, TellsSim}
 use Rattle.fb_script.specs.fb_device.Sessions.{Session}
@@ -13,7 +12,6 @@ use Rattle.fb_model.specs.Wires.{leaves}
 use Rattle.fb_model.specs.Devices.{begun, at_first}
 use Rattle.fb_script.specs.Runs.{IsRun}
 use Rattle.fb_model.specs.System.{Device}
-use Rattle.fb_script.specs.fb_device.declared.refusal.Refusal.{Refusal}
 use Rattle.fb_script.specs.declared.run.End.{End}
 use Rattle.fbr.proofs.Verdicts.{files_memory}
 
@@ -44,9 +42,9 @@ script_read v held script old new (Ok status) is h = inr (script, is.contents, h
 script_read v held script old new (Err e) is h = tt
 
 -- a device that is not loaded
-pub not_loaded : {E : Type 0} (v : Verified) (script : List ℕ) (f : Refusal) (old new : Option (List ℕ)) (r : Result ℕ E) → HasOneDevice v → IsUnready v 0 f → IfOk r (λ status. Tells (refusal (Unloaded f)) old new status) → IfOk r (λ status. TellsRun v script old new status)
-not_loaded v script f old new (Ok status) one is h = no_load f one is h
-not_loaded v script f old new (Err e) one is h = tt
+pub not_loaded : {E : Type 0} (v : Verified) (script : List ℕ) (old new : Option (List ℕ)) (r : Result ℕ E) → HasOneDevice v → IfOk r (λ status. Tells (refusal Memory) old new status) → IfOk r (λ status. TellsRun v script old new status)
+not_loaded v script old new (Ok status) one h = no_load one h
+not_loaded v script old new (Err e) one h = tt
 
 -- no device, or several
 pub not_one : {E : Type 0} (v : Verified) (script : List ℕ) (old new : Option (List ℕ)) (r : Result ℕ E) → (HasOneDevice v → ⊥) → IfOk r (λ status. Tells (refusal Usage) old new status) → IfOk r (λ status. TellsRun v script old new status)

@@ -4,13 +4,12 @@ use Rattle.std.specs.Io.KnownBytes.{Appends}
 use Rattle.std.specs.Fmt.{decimal}
 use Rattle.std.specs.Str.{is_utf8}
 use Rattle.fb_script.specs.fb_check.Refusals as refusals
-use Rattle.fb_script.specs.fb_device.Refusals as loading
 use Rattle.fb_solved.specs.Codes as finding
 use Rattle.fb_script.specs.fb_check.Verdicts as verdicts
 use Rattle.fb_script.specs.fb_check.declared.verified.Verified.{Verified}
 use Rattle.fbr.specs.Halves.{divide}
 use Rattle.fbr.specs.declared.fault.Fault.{Fault}
-use Rattle.fbr.specs.declared.fault.Fault.TheVariants.{Memory, Input, File, Line, Usage, Refused, Unloaded, Unbound}
+use Rattle.fbr.specs.declared.fault.Fault.TheVariants.{Memory, Input, File, Line, Usage, Refused, Unbound}
 use Rattle.fbr.specs.Statuses.{status_of_code, status_of_no_bound}
 
 pub record Outcome : Type 0 where
@@ -28,7 +27,6 @@ line_of (File name) = codes "refused 61 " ++ name.now
 line_of (Line number) = codes "refused 60 " ++ decimal number
 line_of Usage = codes "refused 63"
 line_of (Refused refusal) = codes "refused " ++ refusals.line_of refusal
-line_of (Unloaded refusal) = codes "refused " ++ loading.line_of refusal
 line_of (Unbound fault) = codes "refused " ++ finding.line_of fault
 
 abbrev pub code_of : Fault → ℕ
@@ -38,7 +36,6 @@ code_of (File name) = 61
 code_of (Line number) = 60
 code_of Usage = 63
 code_of (Refused refusal) = refusals.code_of refusal
-code_of (Unloaded refusal) = loading.code_of refusal
 code_of (Unbound fault) = finding.code_of fault
 
 abbrev pub status_of : Fault → ℕ
@@ -48,7 +45,6 @@ status_of (File name) = 3
 status_of (Line number) = 2
 status_of Usage = 2
 status_of (Refused refusal) = status_of_code (refusals.code_of refusal)
-status_of (Unloaded refusal) = status_of_code (loading.code_of refusal)
 status_of (Unbound fault) = status_of_no_bound (finding.code_of fault)
 
 -- a refusal's line and status

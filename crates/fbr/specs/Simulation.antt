@@ -2,8 +2,6 @@
 use Rattle.std.specs.Prelude.{◌≡◌, ◌≤◌, ℕ, ◌⊎◌, List, [], length, Option, Result, Ok, Err}
 use Rattle.std.specs.Io.KnownBytes.{Appends}
 use Rattle.fb_script.specs.fb_check.Verdicts as verdicts
-use Rattle.fb_script.specs.fb_device.Loads.{IsUnready}
-use Rattle.fb_script.specs.fb_device.declared.refusal.Refusal.{Refusal}
 use Rattle.fb_script.specs.fb_check.declared.verified.Verified.{Verified}
 use Rattle.fb_script.specs.fb_device.Sessions.{Session}
 use Rattle.fb_script.specs.fb_device.Machines.{device_in, machine_of}
@@ -12,7 +10,7 @@ use Rattle.fb_script.specs.Runs.{IsRun}
 use Rattle.fb_script.specs.declared.run.End.{End}
 use Rattle.fb_script.specs.declared.run.End.TheVariants as ends
 use Rattle.fbr.specs.declared.fault.Fault.{Fault}
-use Rattle.fbr.specs.declared.fault.Fault.TheVariants.{Memory, Input, Line, Usage, Unloaded}
+use Rattle.fbr.specs.declared.fault.Fault.TheVariants.{Memory, Input, Line, Usage}
 use Rattle.fbr.specs.Outcomes.{Tells, refusal, IsContents, IsVerdict, IsFilesOutcome}
 
 -- ---- the files
@@ -67,8 +65,8 @@ RunsTo v script old new end = (first : Session) × (last : Session) × IsFresh v
 pub data TellsRun (v : Verified) (script : List ℕ) (old new : Option (List ℕ)) (status : ℕ) : Type 0 where
   -- the one device runs it, and its end is told behind its answers
   a_run : (end : End) (mid : Option (List ℕ)) → HasOneDevice v → RunsTo v script old mid end → TellsEnd end mid new status → TellsRun v script old new status
-  -- the one device is not loaded, and a refusal says why
-  no_load : (f : Refusal) → HasOneDevice v → IsUnready v 0 f → Tells (refusal (Unloaded f)) old new status → TellsRun v script old new status
+  -- there is no memory for the one device
+  no_load : HasOneDevice v → Tells (refusal Memory) old new status → TellsRun v script old new status
   -- there is no device, or there are several
   no_device : (HasOneDevice v → ⊥) → Tells (refusal Usage) old new status → TellsRun v script old new status
 

@@ -23,8 +23,6 @@ pub enum Fault<'a> {
     Usage,
     /// The checker refused. Status 1 where the certificate does not fit, status 2 where a text is at fault.
     Refused(Refusal),
-    /// The device of the system was not loaded. Status 2, or 4 where memory ran out.
-    Unloaded(fb_script::fb_device::Refusal),
     /// The finder has no certificate of the system. Status 1, or 4 where memory ran out.
     Unbound(NoBound),
 }
@@ -42,7 +40,6 @@ impl Fault<'_> {
             Fault::Line(_) => 60,
             Fault::Usage => 63,
             Fault::Refused(refusal) => refusal.code(),
-            Fault::Unloaded(refusal) => refusal.code(),
             Fault::Unbound(fault) => fault.code(),
         }
     }
@@ -58,7 +55,6 @@ impl Fault<'_> {
             Fault::Line(_) => 2,
             Fault::Usage => 2,
             Fault::Refused(refusal) => status_of_code(refusal.code()),
-            Fault::Unloaded(refusal) => status_of_code(refusal.code()),
             Fault::Unbound(fault) => status_of_no_bound(fault.code()),
         }
     }
@@ -104,7 +100,6 @@ impl fmt::Display for Fault<'_> {
             Fault::Line(number) => write!(f, "refused 60 {number}"),
             Fault::Usage => write!(f, "refused 63"),
             Fault::Refused(refusal) => write!(f, "refused {refusal}"),
-            Fault::Unloaded(refusal) => write!(f, "refused {refusal}"),
             Fault::Unbound(fault) => write!(f, "refused {fault}"),
         }
     }

@@ -93,7 +93,7 @@ fn run_device<W: Write>(
 // Starts a device, and runs a script on it.
 fn run_ready<W: Write>(alloc: Global, ready: Ready, script: &str, output: &mut W) -> io::Result<u8>
     requires short { length script.now ≤ 33554432 }
-    ensures told { (v : of_check.Verified) → HasOneDevice v → IsSilent v ready.device → IfOk result (λ status. TellsRun v script.now (W.contents output.old) (W.contents output.new) status) }
+    ensures told { (v : of_check.Verified) → HasOneDevice v → IsSilent v ready → IfOk result (λ status. TellsRun v script.now (W.contents output.old) (W.contents output.new) status) }
     ensures status { IfOk result (λ status. status ≤ 4) }
 {
     let mut device = ready.start();
@@ -127,7 +127,7 @@ fn run_script<W: Write>(
     }
     match load_checked(alloc, verified, 0) {
         Ok(ready) => run_ready(alloc, ready, script, output),
-        Err(refusal) => print_outcome(Err(Fault::Unloaded(refusal)), output),
+        Err(_) => print_outcome(Err(Fault::Memory), output),
     }
 }
 
