@@ -1,0 +1,120 @@
+-- Blocks of the tables and leaves of the book have the same kinds.
+use Rattle.std.proofs.Common.{◌≡◌, ℕ, zero, suc, ◌+◌, ◌<◌, ◌≤◌, Bool, true, false, cond, List, [], ◌∷◌, map, length, slice_get, Option, Some, None, refl, sym, ◌∙◌, ap, subst, arith}
+use Rattle.fb_model.specs.Wires.{Kind, Leaf, leaves}
+use Rattle.fb_model.specs.Certificates.{Certificate}
+use Rattle.fb_model.specs.Devices.{is_input_numbered, first_leaf}
+use Rattle.st_exec.specs.Cells.{Form, forms_of}
+use Rattle.fb_serve.specs.declared.standing.Ports.{Ports}
+use Rattle.fb_chart.specs.declared.table.Block.{Block}
+use Rattle.fb_chart.specs.Views.{kind_of}
+use Rattle.fb_tables.specs.Tables.{AreBlocks}
+use Rattle.fb_state.specs.declared.program.Program.{Program}
+use Rattle.fb_state.specs.declared.program.Running.{Running}
+use Rattle.fb_state.specs.Sessions.{session_of}
+use Rattle.fb_state.specs.Machines.{device_in}
+use Rattle.fb_state.specs.Keeping.{IsGood}
+use Rattle.fb_arrive.specs.Offering.{input_at, later}
+
+abbrev pub leaf_kind : Leaf → Kind
+leaf_kind leaf = leaf.kind
+
+kinds_of : (cert : Certificate) (all : List Leaf) (issues owns rest : List (List Form)) (xs : List Block) (ps : List Ports) (ls : List Leaf) → AreBlocks cert all issues owns rest xs ps ls → map kind_of xs ≡ map leaf_kind ls
+kinds_of cert all issues [] [] [] [] [] a = refl
+kinds_of cert all issues (o ∷ os) (r ∷ rs) (x ∷ xs) (p ∷ ps) (l ∷ ls) a = ap (λ k. k ∷ map kind_of xs) a.0.kind ∙ ap (λ ks. l.kind ∷ ks) (kinds_of cert all issues os rs xs ps ls a.1)
+kinds_of cert all issues [] rest xs ps (l ∷ ls) a = absurd a
+kinds_of cert all issues (o ∷ os) [] xs ps (l ∷ ls) a = absurd a
+kinds_of cert all issues (o ∷ os) (r ∷ rs) [] ps (l ∷ ls) a = absurd a
+kinds_of cert all issues (o ∷ os) (r ∷ rs) (x ∷ xs) [] (l ∷ ls) a = absurd a
+kinds_of cert all issues (o ∷ os) rest xs ps [] a = absurd a
+kinds_of cert all issues [] (r ∷ rs) xs ps [] a = absurd a
+kinds_of cert all issues [] [] (x ∷ xs) ps [] a = absurd a
+kinds_of cert all issues [] [] [] (p ∷ ps) [] a = absurd a
+
+pub same_kinds : (p : Program) (r : Running) → IsGood p r → map kind_of p.tables.blocks.items ≡ map leaf_kind (leaves (device_in (session_of p r)))
+same_kinds p r g = kinds_of _ _ _ _ _ p.tables.blocks.items p.tables.ports.items (leaves (device_in (session_of p r))) g.program.tables.blocks
+
+-- the leaf of a block's number
+pub leaf_at_block : (xs : List Block) (ls : List Leaf) (k : ℕ) (x : Block) → map kind_of xs ≡ map leaf_kind ls → slice_get xs k ≡ Some x → (leaf : Leaf) × (slice_get ls k ≡ Some leaf) × (kind_of x ≡ leaf.kind)
+leaf_at_block [] ls k x e h = cc
+leaf_at_block (y ∷ ys) [] k x e h = cc
+leaf_at_block (y ∷ ys) (l ∷ ls) zero x e h = (let s : y ≡ x = cc in let t : kind_of y ≡ l.kind = cc in (l, refl, ap kind_of (sym s) ∙ t))
+leaf_at_block (y ∷ ys) (l ∷ ls) (suc k) x e h = leaf_at_block ys ls k x (tails e) h
+  where
+    tails : (kind_of y ∷ map kind_of ys) ≡ (l.kind ∷ map leaf_kind ls) → map kind_of ys ≡ map leaf_kind ls
+    tails f = cc
+
+pub kind_count : (xs : List Block) (ls : List Leaf) → map kind_of xs ≡ map leaf_kind ls → length xs ≡ length ls
+kind_count [] [] e = refl
+kind_count [] (l ∷ ls) e = cc
+kind_count (x ∷ xs) [] e = cc
+kind_count (x ∷ xs) (l ∷ ls) e = ap suc (kind_count xs ls (tails e))
+  where
+    tails : (kind_of x ∷ map kind_of xs) ≡ (l.kind ∷ map leaf_kind ls) → map kind_of xs ≡ map leaf_kind ls
+    tails f = cc
+
+-- ---- the INPUT of a number
+
+-- no INPUT has the number
+pub no_input : (xs : List Block) (ls : List Leaf) (n : ℕ) → map kind_of xs ≡ map leaf_kind ls → input_at xs n ≡ None → first_leaf (is_input_numbered n) ls ≡ None
+no_input [] [] n e h = refl
+no_input [] (l ∷ ls) n e h = cc
+no_input (x ∷ xs) [] n e h = cc
+no_input (x ∷ xs) (l ∷ ls) n e h =
+    ap (λ k. cond (is_input_numbered n k) (Some l) (first_leaf (is_input_numbered n) ls)) (sym (heads e)) ∙ go (is_input_numbered n (kind_of x)) (input_at xs n) h (no_input xs ls n (tails e))
+  where
+    heads : (kind_of x ∷ map kind_of xs) ≡ (l.kind ∷ map leaf_kind ls) → kind_of x ≡ l.kind
+    heads f = cc
+
+    tails : (kind_of x ∷ map kind_of xs) ≡ (l.kind ∷ map leaf_kind ls) → map kind_of xs ≡ map leaf_kind ls
+    tails f = cc
+
+    go : (b : Bool) (o : Option ℕ) → cond b (Some 0) (later o) ≡ None → (o ≡ None → first_leaf (is_input_numbered n) ls ≡ None) → cond b (Some l) (first_leaf (is_input_numbered n) ls) ≡ None
+    go true o f r = cc
+    go false None f r = r refl
+    go false (Some k) f r = cc
+
+-- the INPUT of a number, and its leaf
+pub record InputAt (xs : List Block) (ls : List Leaf) (n k : ℕ) : Type 0 where
+  pub leaf : Leaf
+  pub block : Block
+  pub leaf_stands : slice_get ls k ≡ Some leaf
+  pub block_stands : slice_get xs k ≡ Some block
+  pub kind : kind_of block ≡ leaf.kind
+  pub first : first_leaf (is_input_numbered n) ls ≡ Some leaf
+  pub input : is_input_numbered n leaf.kind ≡ true
+
+pub an_input : (xs : List Block) (ls : List Leaf) (n k : ℕ) → map kind_of xs ≡ map leaf_kind ls → input_at xs n ≡ Some k → InputAt xs ls n k
+an_input [] ls n k e h = cc
+an_input (x ∷ xs) [] n k e h = cc
+an_input (x ∷ xs) (l ∷ ls) n k e h = go (is_input_numbered n (kind_of x)) refl (input_at xs n) h (λ j f. an_input xs ls n j (tails e) f)
+  where
+    heads : (kind_of x ∷ map kind_of xs) ≡ (l.kind ∷ map leaf_kind ls) → kind_of x ≡ l.kind
+    heads f = cc
+
+    tails : (kind_of x ∷ map kind_of xs) ≡ (l.kind ∷ map leaf_kind ls) → map kind_of xs ≡ map leaf_kind ls
+    tails f = cc
+
+    numbered : (b : Bool) → is_input_numbered n (kind_of x) ≡ b → is_input_numbered n l.kind ≡ b
+    numbered b f = ap (is_input_numbered n) (sym (heads e)) ∙ f
+
+    next : (j : ℕ) → is_input_numbered n (kind_of x) ≡ false → InputAt xs ls n j → InputAt (x ∷ xs) (l ∷ ls) n (suc j)
+    next j f i = record {
+      leaf = i.leaf;
+      block = i.block;
+      leaf_stands = i.leaf_stands;
+      block_stands = i.block_stands;
+      kind = i.kind;
+      first = ap (λ b. cond b (Some l) (first_leaf (is_input_numbered n) ls)) (numbered false f) ∙ i.first;
+      input = i.input;
+    }
+
+    go : (b : Bool) → is_input_numbered n (kind_of x) ≡ b → (o : Option ℕ) → cond b (Some 0) (later o) ≡ Some k → ((j : ℕ) → o ≡ Some j → InputAt xs ls n j) → InputAt (x ∷ xs) (l ∷ ls) n k
+    go true t o f r =
+        let z : 0 ≡ k = cc in
+        subst (InputAt (x ∷ xs) (l ∷ ls) n) z
+        (record { leaf = l; block = x; leaf_stands = refl; block_stands = refl; kind = heads e; first = ap (λ b. cond b (Some l) (first_leaf (is_input_numbered n) ls)) (numbered true t); input = numbered true t })
+    go false t None f r = cc
+    go false t (Some j) f r =
+        let z : j + 1 ≡ k = cc in
+        let s : suc j ≡ k = omega (arith, z) in
+        subst (InputAt (x ∷ xs) (l ∷ ls) n) s (next j t (r j refl))
