@@ -3,3 +3,4 @@ pub mod Kinds
 pub mod Inputs
 pub mod Firing
 pub mod Ticking
+pub mod Beginning
