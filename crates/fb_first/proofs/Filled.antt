@@ -1,7 +1,7 @@
 -- Leaves of tables and their stores, one by one.
 use Rattle.std.proofs.Common.{◌≡◌, ℕ, ◌+◌, ◌<◌, List, [], ◌∷◌, ◌++◌, take, length, get_or, sym, ap, subst, ◌∙◌}
 use Rattle.std.proofs.lemmas.List.{take_more, append_assoc, append-nil}
-use Rattle.fb_invoke.specs.st_exec.Cells.{Cell}
+use Rattle.st_exec.specs.Cells.{Cell}
 use Rattle.fb_check.specs.fb_flat.declared.flat.Leaf.{Leaf}
 use Rattle.fb_check.specs.fb_flat.declared.flat.FlatResource.{FlatResource}
 use Rattle.fb_first.specs.Filling.{IsFilled, AreFilled, leaves_in}

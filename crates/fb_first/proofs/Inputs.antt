@@ -29,7 +29,7 @@ use Rattle.fb_check.specs.fb_flat.declared.flat.Input.{Input}
 use Rattle.fb_check.specs.fb_flat.Leaves.{kind_of}
 use Rattle.fb_check.specs.fb_flat.Tables.{book_source, source_at, input_names}
 use Rattle.fb_check.proofs.of_fb_flat.Sources.{start_at, start_found, service_start}
-use Rattle.fb_invoke.specs.st_exec.Cells.{Cell, values_of, names_of, shape_of, filled}
+use Rattle.st_exec.specs.Cells.{Cell, values_of, names_of, shape_of, filled}
 use Rattle.fb_first.specs.Filling.{number_in, input_declared, bounds_if, start_if, input_cell}
 use Rattle.fb_first.proofs.Starts.{IsUniform, zeros_uniform, start_uniform, IsBare, ports_bare}
 

@@ -13,8 +13,8 @@ use Rattle.fb_model.specs.Certificates.{DeviceHolds}
 use Rattle.fb_check.proofs.Composed.{devices_hold}
 use Rattle.fb_leaves.specs.Leaves.{IsFed}
 use Rattle.fb_leaves.proofs.Values.{all_fed}
-use Rattle.fb_invoke.specs.st_exec.Cells.{Cell}
-use Rattle.fb_invoke.proofs.Lists.{all_got}
+use Rattle.st_exec.specs.Cells.{Cell}
+use Rattle.fb_chart.proofs.Lists.{all_got}
 use Rattle.fb_check.specs.fb_flat.declared.flat.Leaf.{Leaf}
 use Rattle.fb_check.specs.fb_flat.declared.flat.FlatResource.{FlatResource}
 use Rattle.fb_check.specs.fb_flat.declared.flat.FlatDevice.{FlatDevice}

@@ -26,10 +26,11 @@ use Rattle.fb_check.specs.fb_flat.Leaves.{kind_of}
 use Rattle.fb_check.specs.fb_flat.Sources.{written_inputs}
 use Rattle.fb_check.specs.fb_flat.Tables.{source_at, input_names, IsLeaf}
 use Rattle.fb_check.specs.fb_blocks.Views.{declared_in}
-use Rattle.fb_invoke.specs.st_exec.Cells.{Cell, values_of, forms_of, names_of, shape_of, length_of}
-use Rattle.fb_invoke.specs.Sampling.{AreStores}
+use Rattle.st_exec.specs.Cells.{Cell, values_of, forms_of, names_of, shape_of, length_of}
+use Rattle.fb_chart.specs.Sampling.{AreStores}
 use Rattle.fb_first.specs.First.{IsFirst}
-use Rattle.fb_first.specs.Filling.{Holds, input_declared, bounds_if, start_if, input_cells, output_cells, internal_cells, own_cells, IsSmall, IsFilled}
+use Rattle.fb_first.specs.Drafts.{Holds}
+use Rattle.fb_first.specs.Filling.{input_declared, bounds_if, start_if, input_cells, output_cells, internal_cells, own_cells, IsSmall, IsFilled}
 use Rattle.fb_first.proofs.Starts.{filled_is, AreStarts, starts_append, names_are, lengths_are, values_are, variables_start, ports_start, outputs_bare}
 use Rattle.fb_first.proofs.Inputs.{input_length, input_start, first_uniform, inputs_named, inputs_shaped, first_at, inputs_valued}
 use Rattle.fb_check.proofs.of_fb_flat.Few.{IsSmallKind}

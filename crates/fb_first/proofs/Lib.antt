@@ -1,6 +1,6 @@
 pub use Rattle.fb_check.proofs.of_fb_flat as of_fb_flat
-pub mod Holding
-pub mod Entries
+pub mod Drafting
+pub mod Adding
 pub mod Starts
 pub mod Inputs
 pub mod Filled

@@ -18,7 +18,7 @@ use Rattle.fb_model.specs.BlockTyping.{Declared, extent, variable_of}
 use Rattle.fb_model.specs.Store.{variable_names}
 use Rattle.fb_model.specs.Ranges.{length_in, HasLength}
 use Rattle.fb_model.proofs.Names.{eq_turned}
-use Rattle.fb_invoke.specs.st_exec.Cells.{Cell, values_of, names_of, shape_of, length_of, filled}
+use Rattle.st_exec.specs.Cells.{Cell, values_of, names_of, shape_of, length_of, filled}
 use Rattle.fb_first.specs.Filling.{first_number, number_in, variable_cell, port_cell, port_cells}
 
 -- ---- values all of whose elements are the same

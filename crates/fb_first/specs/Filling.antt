@@ -5,14 +5,14 @@ use Rattle.std.specs.declared.string.String.{String}
 use Rattle.std.specs.declared.alloc.Global.{Global}
 use Rattle.std.specs.Map.{lookup}
 use Rattle.indexmap.specs.IndexMap.{IndexMap}
-use Rattle.fb_model.specs.Names.{Name, is_in}
+use Rattle.fb_model.specs.Names.{Name}
 use Rattle.fb_model.specs.Values.{Value, One, Many}
 use Rattle.fb_model.specs.System as book
 use Rattle.fb_model.specs.System.{start_of}
 use Rattle.fb_model.specs.Services.{service_outputs}
 use Rattle.fb_model.specs.BlockTyping.{Declared, variable_of}
 use Rattle.fb_model.specs.Store.{variable_names, first_input}
-use Rattle.fb_invoke.specs.st_exec.Cells.{Cell, values_of, names_of, shape_of, declared}
+use Rattle.st_exec.specs.Cells.{Cell, declared}
 use Rattle.fb_check.specs.fb_blocks.declared.typed.Variable.{Variable}
 use Rattle.fb_check.specs.fb_blocks.Views.{declared_of, declared_in}
 use Rattle.fb_check.specs.fb_services.Views as services
@@ -23,12 +23,7 @@ use Rattle.fb_check.specs.fb_flat.declared.flat.Input.{Input}
 use Rattle.fb_check.specs.fb_flat.declared.flat.Leaf.{Leaf}
 use Rattle.fb_check.specs.fb_flat.declared.flat.FlatResource.{FlatResource}
 use Rattle.fb_check.specs.fb_flat.Tables.{book_source}
-
--- a store holds these variables, of each name the first
-pub record Holds (store cells : List Cell) : Type 0 where
-  pub names : (x : Name) → is_in x (names_of store) ≡ is_in x (names_of cells)
-  pub shapes : (x : Name) → shape_of store x ≡ shape_of cells x
-  pub values : (x : Name) → values_of store x ≡ values_of cells x
+use Rattle.fb_first.specs.Drafts.{Holds}
 
 -- ---- one variable
 

@@ -3,8 +3,8 @@
 use Rattle.std.specs.Prelude.{◌≡◌, List, [], ◌∷◌}
 use Rattle.fb_model.specs.Wires.{Leaf}
 use Rattle.fb_model.specs.Store.{first_cells}
-use Rattle.fb_invoke.specs.st_exec.Cells.{Cell, values_of, forms_of}
-use Rattle.fb_invoke.specs.Sampling.{AreStores}
+use Rattle.st_exec.specs.Cells.{Cell, values_of, forms_of}
+use Rattle.fb_chart.specs.Sampling.{AreStores}
 
 -- the stores of a leaf, with its first values
 pub record IsFirst (leaf : Leaf) (working given : List Cell) : Type 0 where

@@ -11,7 +11,7 @@ ghost use Rattle.fb_first.specs.Filling.{AreFilled, leaves_in};
 use crate::leaf::{issued_values, own_values};
 use fb_check::Verified;
 use fb_check::fb_columns::fb_flat::{FlatResource, Leaf};
-use fb_invoke::Store;
+use st_run::Store;
 use std::alloc::{AllocError, Global};
 
 /// The first values of all blocks of a device, by their numbers: working values of all variables, and issued values of outputs.

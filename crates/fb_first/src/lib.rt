@@ -2,11 +2,12 @@
 #![tactic(auto)]
 
 mod declare;
+mod draft;
 mod first;
 mod leaf;
+mod making;
 mod number;
 mod port;
 
 pub use fb_check;
-pub use fb_invoke;
 pub use first::{FirstValues, first_values};

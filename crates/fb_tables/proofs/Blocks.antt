@@ -2,7 +2,6 @@
 use Rattle.std.proofs.Common.{◌≡◌, ◌≤◌, List, [], ◌∷◌, ◌++◌, map, length, string_bytes, refl, sym, ap, subst, ◌∙◌, arith}
 use Rattle.std.specs.List.{AllByRecursion}
 use Rattle.std.proofs.lemmas.List.{length-map}
-use Rattle.fb_words.specs.declared.elem_type.ElemType.{ElemType}
 use Rattle.fb_model.specs.Names.{Name, Path, at_place}
 use Rattle.fb_model.specs.Spelling.{IsWord}
 use Rattle.fb_model.specs.System as book
@@ -14,34 +13,37 @@ use Rattle.fb_model.specs.Ranges.{LeafLies}
 use Rattle.fb_model.specs.Certificates.{event_names as event_names_of, events_of, IsWired}
 use Rattle.fb_model.specs.CertificateText.{names_in, place_of, all_but_last, last_name}
 use Rattle.fb_model.specs.Devices.{steps_row, places_row}
-use Rattle.fb_leaves.specs.Leaves.{IsClosed}
+use Rattle.fb_leaves.specs.Leaves.{IsClosed, OnChart}
 use Rattle.fb_cert.specs.declared.certificate.Certificate.{Certificate}
 use Rattle.fb_cert.specs.Views.{certificate_of}
 use Rattle.fb_check.specs.fb_blocks.declared.typed.Block as from_block
 use Rattle.fb_check.specs.fb_blocks.Views.{block_of}
-use Rattle.fb_check.specs.fb_services.Views.{service_of}
+use Rattle.fb_check.specs.fb_services.Views.{service_of, values_of}
 use Rattle.fb_check.specs.fb_flat.declared.flat.Body as from_body
 use Rattle.fb_check.specs.fb_flat.declared.flat.Body.TheVariants as f
 use Rattle.fb_check.specs.fb_flat.declared.flat.Output as from_output
-use Rattle.fb_check.specs.fb_flat.declared.flat.Leaf as from_leaf
 use Rattle.fb_check.specs.fb_flat.Sites.{dotted}
 use Rattle.fb_check.specs.fb_flat.Leaves.{kind_of}
 use Rattle.fb_check.specs.fb_flat.Leaves as flat
 use Rattle.fb_check.proofs.of_fb_flat.Dotted.{names_dotted}
-use Rattle.fb_invoke.specs.declared.table.Event.{Event}
-use Rattle.fb_invoke.specs.declared.table.Output.{Output}
-use Rattle.fb_invoke.specs.declared.table.Body.{Body}
-use Rattle.fb_invoke.specs.declared.table.Body.TheVariants as b
-use Rattle.fb_invoke.specs.declared.table.Block.{Block}
-use Rattle.fb_invoke.specs.Views.{event_names, output_names, taken_by, given_by, body_kind, outputs_of}
-use Rattle.fb_invoke.specs.Tables.{Each, IsChart, IsBody, IsTable}
-use Rattle.fb_tables.specs.Runnable.{IsServed, CanRun}
+use Rattle.fb_chart.specs.declared.table.Event.{Event}
+use Rattle.fb_chart.specs.declared.table.Output.{Output}
+use Rattle.fb_chart.specs.declared.table.Body.{Body}
+use Rattle.fb_chart.specs.declared.table.Body.TheVariants as b
+use Rattle.fb_chart.specs.declared.table.Block.{Block}
+use Rattle.fb_chart.specs.Views.{event_names, output_names, taken_by, given_by, body_kind, outputs_of}
+use Rattle.fb_chart.specs.Tables.{Each, IsChart, IsBody, IsPlacedOutput, IsTable}
+use Rattle.st_code.specs.Forms.{Form}
+use Rattle.fb_serve.specs.declared.standing.Ports.{Ports}
+use Rattle.fb_serve.specs.Ports.{ServesPorts}
+use Rattle.fb_check.proofs.of_fb_flat.Few.{IsSmallKind}
+use Rattle.fb_tables.specs.Filling as made
 use Rattle.fb_tables.specs.Tables.{IsWeighed, IsTaken, IsBlock, AreBlocks}
-use Rattle.fb_tables.specs.Filling.{Numbered, paths_of, events_with, IsTakeMade, IsRowMade, IsEventMade, IsOutputMade, IsServiceMade, IsBodyMade, IsBlockMade}
+use Rattle.fb_tables.specs.Filling.{Seated, paths_of, events_with, IsTakeMade, IsRowMade, IsEventMade, IsOutputMade, IsBodyMade, IsBlockMade, IsPortsMade}
 use Rattle.fb_tables.proofs.Lists.{each_map, each_weaker, each_same, each_second}
 use Rattle.fb_tables.proofs.Charts.{chart_done}
 use Rattle.fb_tables.proofs.Leaves.{IsSeated}
-use Rattle.fb_tables.proofs.Points.{IsEventful, IsKnownLeaf, AreKnown, known_events, names_same, outputs_lead}
+use Rattle.fb_tables.proofs.Points.{IsEventful, HasFew, IsKnownLeaf, AreKnown, known_events, names_same, outputs_lead}
 use Rattle.fb_tables.proofs.Takes.{with_takes, with_names, with_all, all_taken, inputs_taken}
 
 -- ---- events
@@ -67,42 +69,34 @@ weighed rows path x e w m =
     let place : place_of (dotted path x) ≡ at_place (names_in path) (string_bytes e.name) = place_dotted path x w ∙ ap (at_place (names_in path)) (sym m.name) in
     record { steps = m.steps ∙ ap (steps_row (certificate_of rows)) place; places = m.places ∙ ap (places_row (certificate_of rows)) place }
 
-events_named : (rows : Certificate) (paths : List Name) (l : from_leaf.Leaf) (vs : List book.Event) (es : List Event) → Each (IsEventMade rows paths l) vs es → map (λ (e : Event). string_bytes e.name) es ≡ event_names_of vs
-events_named rows paths l [] [] h = refl
-events_named rows paths l [] (e ∷ es) h = absurd h
-events_named rows paths l (v ∷ vs) [] h = absurd h
-events_named rows paths l (v ∷ vs) (e ∷ es) h = ap (λ n. n ∷ map (λ (d : Event). string_bytes d.name) es) h.0.row.name ∙ ap (λ ns. v.name ∷ ns) (events_named rows paths l vs es h.1)
+events_named : (rows : Certificate) (paths : List Name) (all : List Seated) (l : Seated) (vs : List book.Event) (es : List Event) → Each (IsEventMade rows paths all l) vs es → map (λ (e : Event). string_bytes e.name) es ≡ event_names_of vs
+events_named rows paths all l [] [] h = refl
+events_named rows paths all l [] (e ∷ es) h = absurd h
+events_named rows paths all l (v ∷ vs) [] h = absurd h
+events_named rows paths all l (v ∷ vs) (e ∷ es) h = ap (λ n. n ∷ map (λ (d : Event). string_bytes d.name) es) h.0.row.name ∙ ap (λ ns. v.name ∷ ns) (events_named rows paths all l vs es h.1)
 
 -- ---- bodies
 
 -- what a body is in the book, and its numbers by the names of its events and outputs
-record IsBodyDone (kind : Kind) (y : Body) : Type 0 where
+record IsBodyDone (own : List Form) (kind : Kind) (y : Body) : Type 0 where
   kind_is : body_kind y ≡ kind
-  numbers : IsBody (events_of kind) (outputs_of kind) y
+  numbers : IsBody own (events_of kind) (outputs_of kind) y
 
-service_done : (service : book.Service) (y : Body) → IsServed service → IsServiceMade service y → IsBodyDone (Serviced service) y
-service_done (book.Input number types) (b.Input n ts) r m = record { kind_is = ap (λ i. Serviced (book.Input i ts.items)) m.0 ∙ ap (λ (us : List ElemType). Serviced (book.Input number us)) m.1; numbers = subst (λ (us : List ElemType). length us ≤ 16) (sym m.1) r }
-service_done (book.Output number types) (b.Output n ts) r m = record { kind_is = ap (λ i. Serviced (book.Output i ts.items)) m.0 ∙ ap (λ (us : List ElemType). Serviced (book.Output number us)) m.1; numbers = subst (λ (us : List ElemType). length us ≤ 16) (sym m.1) r }
-service_done (book.Input number types) (b.Output n ts) r m = absurd m
-service_done (book.Input number types) (b.Chart c) r m = absurd m
-service_done (book.Output number types) (b.Input n ts) r m = absurd m
-service_done (book.Output number types) (b.Chart c) r m = absurd m
-service_done (book.Publish channel types) y r m = absurd r
-service_done (book.Subscribe channel types) y r m = absurd r
-service_done book.Delay y r m = absurd r
-service_done book.Cycle y r m = absurd r
-service_done book.Restart y r m = absurd r
-
-body_done : (x : from_body.Body) (y : Body) → CanRun (kind_of x) → IsClosed (kind_of x) → IsBodyMade x y → IsBodyDone (kind_of x) y
-body_done (f.Basic block) (b.Chart c) r closed m =
+body_done : (own : List Form) (x : from_body.Body) (y : Body) → IsSmallKind (kind_of x) → OnChart HasFew (kind_of x) → IsClosed (kind_of x) → IsBodyMade own x y → IsBodyDone own (kind_of x) y
+body_done own (f.Basic block) (b.Chart c) small few closed m =
     let k = block.value in
     record {
       kind_is = ap (λ (j : from_block.Block). Charted (block_of j)) m.block;
-      numbers = subst (λ (j : from_block.Block). IsChart (event_names_of (block_of k).event_inputs) (event_names_of (block_of k).event_outputs) (block_of j) c) (sym m.block) (chart_done k c closed m);
+      numbers = subst (λ (j : from_block.Block). IsChart own (event_names_of (block_of k).event_inputs) (event_names_of (block_of k).event_outputs) (block_of j) c) (sym m.block) (chart_done own k c closed few m);
     }
-body_done (f.Basic block) (b.Input n ts) r closed m = absurd m
-body_done (f.Basic block) (b.Output n ts) r closed m = absurd m
-body_done (f.Served service) y r closed m = service_done (service_of service) y r m
+body_done own (f.Served service) (b.Served x) small few closed m = record { kind_is = ap Serviced m; numbers = subst (λ (s : book.Service). length (values_of s) ≤ 16) (sym m) small }
+body_done own (f.Basic block) (b.Served x) small few closed m = absurd m
+body_done own (f.Served service) (b.Chart c) small few closed m = absurd m
+
+-- ports have two digits at most
+few_ports : (kind : Kind) → IsSmallKind kind → made.IsSmallKind kind
+few_ports (Charted block) h = tt
+few_ports (Serviced service) h = omega (arith, h)
 
 same_outputs : (kind : Kind) → flat.outputs_of kind ≡ outputs_of kind
 same_outputs (Charted block) = names_same block.event_outputs
@@ -111,52 +105,62 @@ same_outputs (Serviced service) = refl
 -- ---- blocks
 
 -- a block that was made of a leaf, and what is known of both
-module _ (rows : Certificate) (ss : List Numbered) (bs : List wires.Leaf) (known : AreKnown (certificate_of rows).ranges ss bs) (s : Numbered) (c : wires.Leaf) (seat : IsSeated s c) (here : IsKnownLeaf c) (wired : IsWired bs c) (lies : LeafLies (certificate_of rows).ranges bs c)
+module _ (rows : Certificate) (ss : List Seated) (bs : List wires.Leaf) (known : AreKnown (certificate_of rows).ranges ss bs) (s : Seated) (c : wires.Leaf) (seat : IsSeated s c) (here : IsKnownLeaf c) (wired : IsWired bs c) (lies : LeafLies (certificate_of rows).ranges bs c)
     (x : Block) (m : IsBlockMade rows (paths_of ss) ss s x) where
   abbrev path : Name
-  path = string_bytes s.1.path
+  path = string_bytes s.leaf.path
+
+  abbrev issues : List (List Form)
+  issues = map (λ (u : Seated). u.issued) ss
 
   full : IsEventful c.kind
   full = known_events c here
 
-  runs : CanRun (kind_of s.1.body)
-  runs = subst CanRun (sym seat.leaf.kind) here.runs
+  small : made.IsSmallKind (kind_of s.leaf.body)
+  small = subst made.IsSmallKind (sym seat.leaf.kind) (few_ports c.kind here.small)
 
-  done : IsBodyDone c.kind x.body
-  done = subst (λ (k : Kind). IsBodyDone k x.body) seat.leaf.kind (body_done s.1.body x.body runs (subst IsClosed (sym seat.leaf.kind) here.closed) m.body)
+  done : IsBodyDone s.own c.kind x.body
+  done =
+      subst (λ (k : Kind). IsBodyDone s.own k x.body) seat.leaf.kind
+      (body_done s.own s.leaf.body x.body (subst IsSmallKind (sym seat.leaf.kind) here.small) (subst (OnChart HasFew) (sym seat.leaf.kind) here.procedures) (subst IsClosed (sym seat.leaf.kind) here.closed) m.body)
 
-  made : Each (IsEventMade rows (paths_of ss) s.1) (events_with c.kind) x.events.items
-  made = subst (λ (k : Kind). Each (IsEventMade rows (paths_of ss) s.1) (events_with k) x.events.items) seat.leaf.kind (m.events runs)
+  made_events : Each (IsEventMade rows (paths_of ss) ss s) (events_with c.kind) x.events.items
+  made_events = subst (λ (k : Kind). Each (IsEventMade rows (paths_of ss) ss s) (events_with k) x.events.items) seat.leaf.kind (m.events small)
 
   events : event_names x ≡ events_of c.kind
-  events = events_named rows (paths_of ss) s.1 (events_with c.kind) x.events.items made ∙ with_names c.kind
+  events = events_named rows (paths_of ss) ss s (events_with c.kind) x.events.items made_events ∙ with_names c.kind
 
   outputs : output_names x ≡ outputs_of c.kind
   outputs =
-      each_same (λ (o : from_output.Output). string_bytes o.name) (λ (o : Output). string_bytes o.name) s.1.outputs.items x.outputs.items
-      (each_map (IsOutputMade (paths_of ss) ss s.1.body) (λ (o : from_output.Output) (p : Output). string_bytes p.name ≡ string_bytes o.name) s.1.outputs.items x.outputs.items (λ o p h. h.name) m.outputs)
+      each_same (λ (o : from_output.Output). string_bytes o.name) (λ (o : Output). string_bytes o.name) s.leaf.outputs.items x.outputs.items
+      (each_map (IsOutputMade (paths_of ss) ss s) (λ (o : from_output.Output) (p : Output). string_bytes p.name ≡ string_bytes o.name) s.leaf.outputs.items x.outputs.items (λ o p h. h.name) m.outputs)
       ∙ seat.leaf.outputs ∙ same_outputs c.kind
 
   -- each event takes what the leaf's does
   taken_are : AllByRecursion (λ (e : Event). taken_by e ≡ takes c.kind (string_bytes e.name)) x.events.items
   taken_are =
       each_second (λ (e : Event). taken_by e ≡ takes c.kind (string_bytes e.name)) (events_with c.kind) x.events.items
-      (each_weaker (λ (v : book.Event). takes c.kind v.name ≡ v.carries) (IsEventMade rows (paths_of ss) s.1) (λ (v : book.Event) (e : Event). taken_by e ≡ takes c.kind (string_bytes e.name)) (events_with c.kind) x.events.items
-      (λ v e p h. inputs_taken (paths_of ss) s.1.inputs.items v.carries e.takes.items h.takes ∙ sym p ∙ ap (takes c.kind) (sym h.row.name)) (with_takes c.kind full.apart) made)
+      (each_weaker (λ (v : book.Event). takes c.kind v.name ≡ v.carries) (IsEventMade rows (paths_of ss) ss s) (λ (v : book.Event) (e : Event). taken_by e ≡ takes c.kind (string_bytes e.name)) (events_with c.kind) x.events.items
+      (λ v e p h. inputs_taken (paths_of ss) ss s.own s.leaf.inputs.items v.carries e.takes.items h.takes ∙ sym p ∙ ap (takes c.kind) (sym h.row.name)) (with_takes c.kind full.apart) made_events)
 
-  origins : AllByRecursion (λ (e : Event). AllByRecursion (IsTaken bs c) e.takes.items) x.events.items
+  origins : AllByRecursion (λ (e : Event). AllByRecursion (IsTaken bs issues s.own c) e.takes.items) x.events.items
   origins =
-      each_second (λ (e : Event). AllByRecursion (IsTaken bs c) e.takes.items) (events_with c.kind) x.events.items
-      (each_weaker (λ (v : book.Event). takes c.kind v.name ≡ v.carries) (IsEventMade rows (paths_of ss) s.1) (λ (v : book.Event) (e : Event). AllByRecursion (IsTaken bs c) e.takes.items) (events_with c.kind) x.events.items
-      (λ v e p h. all_taken (certificate_of rows).ranges ss bs known s c seat.leaf lies here.runs here.closed v.name e.takes.items (subst (λ (ns : List Name). Each (IsTakeMade (paths_of ss) s.1.inputs.items) ns e.takes.items) (sym p) h.takes)) (with_takes c.kind full.apart) made)
+      each_second (λ (e : Event). AllByRecursion (IsTaken bs issues s.own c) e.takes.items) (events_with c.kind) x.events.items
+      (each_weaker (λ (v : book.Event). takes c.kind v.name ≡ v.carries) (IsEventMade rows (paths_of ss) ss s) (λ (v : book.Event) (e : Event). AllByRecursion (IsTaken bs issues s.own c) e.takes.items) (events_with c.kind) x.events.items
+      (λ v e p h. all_taken (certificate_of rows).ranges ss bs known s c seat.leaf here lies v.name e.takes.items (subst (λ (ns : List Name). Each (IsTakeMade (paths_of ss) ss s.own s.leaf.inputs.items) ns e.takes.items) (sym p) h.takes)) (with_takes c.kind full.apart) made_events)
 
   gives_are : AllByRecursion (λ (o : Output). given_by o ≡ gives c.kind (string_bytes o.name)) x.outputs.items
   gives_are =
-      each_second (λ (o : Output). given_by o ≡ gives c.kind (string_bytes o.name)) s.1.outputs.items x.outputs.items
-      (each_map (IsOutputMade (paths_of ss) ss s.1.body) (λ (o : from_output.Output) (p : Output). given_by p ≡ gives c.kind (string_bytes p.name)) s.1.outputs.items x.outputs.items
-      (λ o p h. h.gives_are runs ∙ ap (λ (k : Kind). gives k (string_bytes o.name)) seat.leaf.kind ∙ ap (gives c.kind) (sym h.name)) m.outputs)
+      each_second (λ (o : Output). given_by o ≡ gives c.kind (string_bytes o.name)) s.leaf.outputs.items x.outputs.items
+      (each_map (IsOutputMade (paths_of ss) ss s) (λ (o : from_output.Output) (p : Output). given_by p ≡ gives c.kind (string_bytes p.name)) s.leaf.outputs.items x.outputs.items
+      (λ o p h. h.gives_are small ∙ ap (λ (k : Kind). gives k (string_bytes o.name)) seat.leaf.kind ∙ ap (gives c.kind) (sym h.name)) m.outputs)
 
-  table : IsTable x
+  placed : AllByRecursion (IsPlacedOutput s.own s.issued) x.outputs.items
+  placed =
+      each_second (IsPlacedOutput s.own s.issued) s.leaf.outputs.items x.outputs.items
+      (each_map (IsOutputMade (paths_of ss) ss s) (λ (o : from_output.Output) (p : Output). IsPlacedOutput s.own s.issued p) s.leaf.outputs.items x.outputs.items (λ o p h. h.placed) m.outputs)
+
+  table : IsTable s.own s.issued x
   table =
       record {
         events = events ∙ ap events_of (sym done.kind_is);
@@ -166,37 +170,48 @@ module _ (rows : Certificate) (ss : List Numbered) (bs : List wires.Leaf) (known
         outputs_apart = subst AreDistinct (sym (outputs ∙ sym (same_outputs c.kind))) full.outputs;
         takes = subst (λ (k : Kind). AllByRecursion (λ (e : Event). taken_by e ≡ takes k (string_bytes e.name)) x.events.items) (sym done.kind_is) taken_are;
         gives = subst (λ (k : Kind). AllByRecursion (λ (o : Output). given_by o ≡ gives k (string_bytes o.name)) x.outputs.items) (sym done.kind_is) gives_are;
-        body = subst (λ (ns : List Name). IsBody ns (output_names x) x.body) (sym events) (subst (λ (ns : List Name). IsBody (events_of c.kind) ns x.body) (sym outputs) done.numbers);
+        placed = placed;
+        body = subst (λ (ns : List Name). IsBody s.own ns (output_names x) x.body) (sym events) (subst (λ (ns : List Name). IsBody s.own (events_of c.kind) ns x.body) (sym outputs) done.numbers);
       }
 
   weights : AllByRecursion (IsWeighed (certificate_of rows) c.path) x.events.items
   weights =
       subst (λ (q : Path). AllByRecursion (IsWeighed (certificate_of rows) q) x.events.items) seat.leaf.path
       (each_second (IsWeighed (certificate_of rows) (names_in path)) (events_with c.kind) x.events.items
-      (each_weaker (λ (v : book.Event). IsWord v.name) (IsEventMade rows (paths_of ss) s.1) (λ (v : book.Event) (e : Event). IsWeighed (certificate_of rows) (names_in path) e) (events_with c.kind) x.events.items
-      (λ v e w h. weighed rows path v.name e w h.row) (with_all IsWord c.kind full.words) made))
+      (each_weaker (λ (v : book.Event). IsWord v.name) (IsEventMade rows (paths_of ss) ss s) (λ (v : book.Event) (e : Event). IsWeighed (certificate_of rows) (names_in path) e) (events_with c.kind) x.events.items
+      (λ v e w h. weighed rows path v.name e w h.row) (with_all IsWord c.kind full.words) made_events))
 
-  pub block_is : IsBlock (certificate_of rows) bs x c
-  block_is =
+  pub block_is : (p : Ports) → IsPortsMade s p → IsBlock (certificate_of rows) bs issues s.own s.issued x p c
+  block_is p h =
       record {
         path = ap names_in m.path ∙ seat.leaf.path;
         home = m.resource ∙ seat.home;
         kind = done.kind_is;
         table = table;
+        ports = subst (λ (k : Kind). ServesPorts k s.own p) seat.leaf.kind (h small);
         weights = weights;
         takes = origins;
         leads = outputs_lead (certificate_of rows).ranges ss bs known s c seat.leaf full wired x.outputs.items m.outputs;
       }
 
--- some of the blocks are those of some of the leaves
-blocks_from : (rows : Certificate) (ss : List Numbered) (bs : List wires.Leaf) → AreKnown (certificate_of rows).ranges ss bs → (us : List Numbered) (cs : List wires.Leaf) (xs : List Block) → Each IsSeated us cs → AllByRecursion IsKnownLeaf cs → AllByRecursion (IsWired bs) cs
-    → AllByRecursion (LeafLies (certificate_of rows).ranges bs) cs → Each (IsBlockMade rows (paths_of ss) ss) us xs → AreBlocks (certificate_of rows) bs xs cs
-blocks_from rows ss bs known [] [] [] i p w l m = tt
-blocks_from rows ss bs known [] [] (x ∷ xs) i p w l m = absurd m
-blocks_from rows ss bs known [] (c ∷ cs) xs i p w l m = absurd i
-blocks_from rows ss bs known (u ∷ us) [] xs i p w l m = absurd i
-blocks_from rows ss bs known (u ∷ us) (c ∷ cs) [] i p w l m = absurd m
-blocks_from rows ss bs known (u ∷ us) (c ∷ cs) (x ∷ xs) i p w l m = (block_is rows ss bs known u c i.0 p.0 w.0 l.0 x m.0, blocks_from rows ss bs known us cs xs i.1 p.1 w.1 l.1 m.1)
+abbrev owns_of : List Seated → List (List Form)
+owns_of us = map (λ (u : Seated). u.own) us
 
-pub blocks_are : (rows : Certificate) (ss : List Numbered) (bs : List wires.Leaf) (xs : List Block) → AreKnown (certificate_of rows).ranges ss bs → Each (IsBlockMade rows (paths_of ss) ss) ss xs → AreBlocks (certificate_of rows) bs xs bs
-blocks_are rows ss bs xs known m = blocks_from rows ss bs known ss bs xs known.seated known.leaves known.wired known.lies m
+abbrev issues_of : List Seated → List (List Form)
+issues_of us = map (λ (u : Seated). u.issued) us
+
+-- some of the blocks are those of some of the leaves
+blocks_from : (rows : Certificate) (ss : List Seated) (bs : List wires.Leaf) → AreKnown (certificate_of rows).ranges ss bs → (us : List Seated) (cs : List wires.Leaf) (xs : List Block) (ps : List Ports) → Each IsSeated us cs → AllByRecursion IsKnownLeaf cs → AllByRecursion (IsWired bs) cs
+    → AllByRecursion (LeafLies (certificate_of rows).ranges bs) cs → Each (IsBlockMade rows (paths_of ss) ss) us xs → Each IsPortsMade us ps → AreBlocks (certificate_of rows) bs (issues_of ss) (owns_of us) (issues_of us) xs ps cs
+blocks_from rows ss bs known [] [] [] [] i p w l m q = tt
+blocks_from rows ss bs known [] [] [] (r ∷ ps) i p w l m q = absurd q
+blocks_from rows ss bs known [] [] (x ∷ xs) ps i p w l m q = absurd m
+blocks_from rows ss bs known [] (c ∷ cs) xs ps i p w l m q = absurd i
+blocks_from rows ss bs known (u ∷ us) [] xs ps i p w l m q = absurd i
+blocks_from rows ss bs known (u ∷ us) (c ∷ cs) [] ps i p w l m q = absurd m
+blocks_from rows ss bs known (u ∷ us) (c ∷ cs) (x ∷ xs) [] i p w l m q = absurd q
+blocks_from rows ss bs known (u ∷ us) (c ∷ cs) (x ∷ xs) (r ∷ ps) i p w l m q = (block_is rows ss bs known u c i.0 p.0 w.0 l.0 x m.0 r q.0, blocks_from rows ss bs known us cs xs ps i.1 p.1 w.1 l.1 m.1 q.1)
+
+pub blocks_are : (rows : Certificate) (ss : List Seated) (bs : List wires.Leaf) (xs : List Block) (ps : List Ports) → AreKnown (certificate_of rows).ranges ss bs → Each (IsBlockMade rows (paths_of ss) ss) ss xs → Each IsPortsMade ss ps
+    → AreBlocks (certificate_of rows) bs (issues_of ss) (owns_of ss) (issues_of ss) xs ps bs
+blocks_are rows ss bs xs ps known m q = blocks_from rows ss bs known ss bs xs ps known.seated known.leaves known.wired known.lies m q

@@ -14,13 +14,17 @@ use Rattle.fb_check.specs.fb_blocks.declared.typed.Block.{Block}
 use Rattle.fb_check.specs.fb_blocks.Views as source
 use Rattle.fb_check.specs.fb_blocks.Views.{name_of, event_of, block_of}
 use Rattle.fb_check.specs.fb_blocks.Answers.{names_in_map}
-use Rattle.fb_invoke.specs.declared.table.Action.{Action}
-use Rattle.fb_invoke.specs.declared.table.State.{State}
-use Rattle.fb_invoke.specs.declared.table.Transition.{Transition}
-use Rattle.fb_invoke.specs.declared.table.Chart.{Chart}
-use Rattle.fb_invoke.specs.Tables.{Each, IsOptional, IsAction, IsState, IsTransition, IsChart}
-use Rattle.fb_tables.specs.Filling.{Entry, IsOptionalNumber, IsActionMade, IsStateMade, IsTransitionMade, IsChartMade, most_numbers}
-use Rattle.fb_tables.proofs.Lists.{each_weaker, each_image, all_source}
+use Rattle.fb_chart.specs.declared.table.Action.{Action}
+use Rattle.fb_chart.specs.declared.table.State.{State}
+use Rattle.fb_chart.specs.declared.table.Transition.{Transition}
+use Rattle.fb_chart.specs.declared.table.Chart.{Chart}
+use Rattle.st_code.specs.declared.command.Procedure.{Procedure}
+use Rattle.st_code.specs.Forms.{Form}
+use Rattle.fb_chart.specs.Tables.{Each, IsOptional, IsProcedure, IsAction, IsState, IsTransition, IsChart, leaving}
+use Rattle.fb_tables.specs.Filling.{Entry, Routine, IsOptionalNumber, IsActionMade, IsStateMade, IsTransitionMade, IsProcedureMade, IsChartMade, leaving_from, most_numbers}
+use Rattle.fb_tables.proofs.Lists.{each_map, each_weaker, each_image, all_source}
+use Rattle.fb_tables.proofs.Routines.{routine_of}
+use Rattle.fb_tables.proofs.Leaving.{leaving_map, all_leaving}
 use Rattle.fb_tables.proofs.Numbers.{entry_state, event_names_are, state_names_are}
 
 -- ---- the names of a block
@@ -104,51 +108,65 @@ optional_is names (Some x) (Some n) l h m = m l h
 optional_is names None (Some n) l h m = absurd m
 optional_is names (Some x) None l h m = absurd m
 
-action_done : (outputs : List Name) → length outputs ≤ most_numbers → (a : from_action.Action) (x : Action) → IsListed outputs (name_of a.output) → IsActionMade outputs a x → IsAction outputs (source.action_of a) x
-action_done outputs l a x p m = record { algorithm = m.0; output = optional_is outputs a.output x.output l p m.1 }
+action_done : (k : Block) → length (outputs_in k) ≤ most_numbers → length k.procedures.entries ≤ most_numbers → (a : from_action.Action) (x : Action) → IsListed (outputs_in k) (name_of a.output) → IsActionMade k a x
+    → IsAction (block_of k) (outputs_in k) (source.action_of a) x
+action_done k l procedures a x p m = record { algorithm = m.algorithm procedures; output = optional_is (outputs_in k) a.output x.output l p m.output }
 
-state_done : (outputs : List Name) → length outputs ≤ most_numbers → (s : Entry) (x : State) → Emits outputs (entry_state s) → IsStateMade outputs s x → IsState outputs (entry_state s) x
-state_done outputs l s x p m =
-    let acts = s.1.items in
-    let xs = x.actions.items in
-    let listed : AllByRecursion (λ (a : from_action.Action). IsListed outputs (name_of a.output)) acts =
-    all_source (λ (a : from_action.Action). IsListed outputs (name_of a.output)) (λ (a : book.Action). IsListed outputs a.output) source.action_of acts (λ a h. h) p in
-    record {
-      name = m.0;
-      actions =
-          each_image (IsAction outputs) source.action_of acts xs
-          (each_weaker (λ (a : from_action.Action). IsListed outputs (name_of a.output)) (IsActionMade outputs) (λ (a : from_action.Action) (y : Action). IsAction outputs (source.action_of a) y) acts xs (action_done outputs l) listed m.1);
-    }
-
-transition_done : (states events : List Name) → length states ≤ most_numbers → length events ≤ most_numbers → (t : from_transition.Transition) (x : Transition) → IsCrossing states events (source.transition_of t) → IsTransitionMade states events t x
-    → IsTransition states events (source.transition_of t) x
-transition_done states events ls le t x p m = record { source = m.source ls p.source; target = m.target ls p.target; event = optional_is events t.event x.event le p.event m.event }
+transition_done : (own : List Form) (k : Block) → length (states_in k) ≤ most_numbers → length (inputs_in k) ≤ most_numbers → (t : from_transition.Transition) (x : Transition) → IsCrossing (states_in k) (inputs_in k) (source.transition_of t) → IsTransitionMade own k t x
+    → IsTransition own (states_in k) (inputs_in k) (source.transition_of t) x
+transition_done own k ls le t x p m = record { target = m.target ls p.target; event = optional_is (inputs_in k) t.event x.event le p.event m.event; guard = m.guard; placed = m.placed }
 
 -- ---- the chart
 
-pub chart_done : (k : Block) (c : Chart) → IsClosedBlock (block_of k) → IsChartMade k c → IsChart (event_names (block_of k).event_inputs) (event_names (block_of k).event_outputs) (block_of k) c
-chart_done k c closed m =
-    let t = tabled k closed in
+module _ (own : List Form) (k : Block) (f : IsFew k) (procedures : length k.procedures.entries ≤ most_numbers) (t : IsTabled k) where
+  actions_done : (s : Entry) (x : State) → Emits (outputs_in k) (entry_state s) → IsStateMade own k s x → Each (IsAction (block_of k) (outputs_in k)) (entry_state s).actions x.actions.items
+  actions_done s x p m =
+      let acts = s.1.items in
+      let xs = x.actions.items in
+      let listed : AllByRecursion (λ (a : from_action.Action). IsListed (outputs_in k) (name_of a.output)) acts =
+      all_source (λ (a : from_action.Action). IsListed (outputs_in k) (name_of a.output)) (λ (a : book.Action). IsListed (outputs_in k) a.output) source.action_of acts (λ a h. h) p in
+      each_image (IsAction (block_of k) (outputs_in k)) source.action_of acts xs
+      (each_weaker (λ (a : from_action.Action). IsListed (outputs_in k) (name_of a.output)) (IsActionMade k) (λ (a : from_action.Action) (y : Action). IsAction (block_of k) (outputs_in k) (source.action_of a) y) acts xs
+      (action_done k (omega (arith, f.few_outputs)) procedures) listed m.actions)
+
+  transitions_done : (s : Entry) (x : State) → IsStateMade own k s x → Each (IsTransition own (states_in k) (inputs_in k)) (leaving (entry_state s).name (block_of k).transitions) x.transitions.items
+  transitions_done s x m =
+      let name = string_bytes s.0 in
+      let ts = leaving_from name k.transitions.items in
+      let ys = x.transitions.items in
+      subst (λ (us : List book.Transition). Each (IsTransition own (states_in k) (inputs_in k)) us ys) (sym (leaving_map name k.transitions.items))
+      (each_image (IsTransition own (states_in k) (inputs_in k)) source.transition_of ts ys
+      (each_weaker (λ (u : from_transition.Transition). IsCrossing (states_in k) (inputs_in k) (source.transition_of u)) (IsTransitionMade own k) (λ (u : from_transition.Transition) (y : Transition). IsTransition own (states_in k) (inputs_in k) (source.transition_of u) y) ts ys
+      (transition_done own k (omega (arith, f.few_states)) (omega (arith, f.few_inputs))) (all_leaving (λ (u : from_transition.Transition). IsCrossing (states_in k) (inputs_in k) (source.transition_of u)) name k.transitions.items t.transitions) m.transitions))
+
+  state_done : (s : Entry) (x : State) → Emits (outputs_in k) (entry_state s) → IsStateMade own k s x → IsState own (inputs_in k) (outputs_in k) (block_of k) (entry_state s) x
+  state_done s x p m =
+      record {
+        name = m.name;
+        actions = actions_done s x p m;
+        transitions = subst (λ (names : List Name). Each (IsTransition own names (inputs_in k)) (leaving (entry_state s).name (block_of k).transitions) x.transitions.items) (sym (states_are k)) (transitions_done s x m);
+      }
+
+  pub states_done : (xs : List State) → Each (IsStateMade own k) k.states.entries xs → Each (IsState own (inputs_in k) (outputs_in k) (block_of k)) (block_of k).states xs
+  states_done xs m =
+      each_image (IsState own (inputs_in k) (outputs_in k) (block_of k)) entry_state k.states.entries xs
+      (each_weaker (λ (s : Entry). Emits (outputs_in k) (entry_state s)) (IsStateMade own k) (λ (s : Entry) (x : State). IsState own (inputs_in k) (outputs_in k) (block_of k) (entry_state s) x) k.states.entries xs state_done t.states m)
+
+procedure_done : (own : List Form) (r : Routine) (x : Procedure) → IsProcedureMade own r x → IsProcedure own (routine_of r) x
+procedure_done own r x m = record { same = m.0; placed = m.1 }
+
+pub chart_done : (own : List Form) (k : Block) (c : Chart) → IsClosedBlock (block_of k) → length (block_of k).procedures ≤ 256 → IsChartMade own k c → IsChart own (event_names (block_of k).event_inputs) (event_names (block_of k).event_outputs) (block_of k) c
+chart_done own k c closed procedures m =
     let f = few k closed in
-    let ins = inputs_in k in
-    let outs = outputs_in k in
-    let ns = states_in k in
-    let ss = k.states.entries in
-    let ts = k.transitions.items in
-    let xs = c.states.items in
-    let ys = c.transitions.items in
-    let made : Each (IsState outs) (block_of k).states xs =
-    each_image (IsState outs) entry_state ss xs
-    (each_weaker (λ (s : Entry). Emits outs (entry_state s)) (IsStateMade outs) (λ (s : Entry) (x : State). IsState outs (entry_state s) x) ss xs (state_done outs (omega (arith, f.few_outputs))) t.states m.states) in
-    let crossed : Each (IsTransition ns ins) (block_of k).transitions ys =
-    each_image (IsTransition ns ins) source.transition_of ts ys
-    (each_weaker (λ (u : from_transition.Transition). IsCrossing ns ins (source.transition_of u)) (IsTransitionMade ns ins) (λ (u : from_transition.Transition) (y : Transition). IsTransition ns ins (source.transition_of u) y) ts ys
-    (transition_done ns ins (omega (arith, f.few_states)) (omega (arith, f.few_inputs))) t.transitions m.transitions) in
+    let rs = k.procedures.entries in
+    let made = states_done own k f (omega (arith, procedures, length-map rs routine_of)) (tabled k closed) c.states.items m.states in
     record {
       few = subst (λ (names : List Name). length names ≤ 65535) (sym (states_are k)) (omega (arith, f.few_states));
       apart = closed.states_apart;
-      states = subst (λ (names : List Name). Each (IsState names) (block_of k).states xs) (sym (outputs_are k)) made;
-      transitions =
-          subst (λ (names : List Name). Each (IsTransition names (event_names (block_of k).event_inputs)) (block_of k).transitions ys) (sym (states_are k))
-          (subst (λ (names : List Name). Each (IsTransition ns names) (block_of k).transitions ys) (sym (inputs_are k)) crossed);
+      states =
+          subst (λ (names : List Name). Each (IsState own names (event_names (block_of k).event_outputs) (block_of k)) (block_of k).states c.states.items) (sym (inputs_are k))
+          (subst (λ (names : List Name). Each (IsState own (inputs_in k) names (block_of k)) (block_of k).states c.states.items) (sym (outputs_are k)) made);
+      procedures =
+          each_image (IsProcedure own) routine_of rs c.procedures.items
+          (each_map (IsProcedureMade own) (λ (r : Routine) (x : Procedure). IsProcedure own (routine_of r) x) rs c.procedures.items (procedure_done own) m.procedures);
     }

@@ -1,5 +1,5 @@
 -- The tables of a device that was checked.
-use Rattle.std.proofs.Common.{◌≡◌, ◌≤◌, ◌+◌, ℕ, zero, suc, List, [], ◌∷◌, ◌++◌, map, length, get_or, string_bytes, Some, slice_get, refl, sym, ap, subst, ◌∙◌, arith}
+use Rattle.std.proofs.Common.{◌≡◌, ◌≤◌, ◌<◌, ◌+◌, ℕ, zero, suc, List, [], ◌∷◌, ◌++◌, map, length, get_or, string_bytes, Some, slice_get, refl, sym, ap, subst, ◌∙◌, arith}
 use Rattle.std.specs.List.{AllByRecursion}
 use Rattle.fb_model.specs.Names.{Name, Path}
 use Rattle.fb_model.specs.Spelling.{IsWord}
@@ -8,11 +8,22 @@ use Rattle.fb_model.specs.Typing.{AreDistinct}
 use Rattle.fb_model.specs.Wires as wires
 use Rattle.fb_model.specs.Wires.{leaves}
 use Rattle.fb_model.specs.Ranges.{LeafLies}
+use Rattle.fb_model.specs.Store.{variable_names, inputs}
+use Rattle.fb_model.specs.Declarations.{AlgorithmTree, BlockTree, ChartTree}
+use Rattle.fb_model.specs.TextTyping.{Entry as TextEntry}
+use Rattle.fb_model.specs.BlockTyping.{IsBasic, AreProcedures, no_procedure, a_procedure, scope}
+use Rattle.st_code.specs.Forms.{Form}
+use Rattle.st_exec.specs.Cells.{Cell}
+use Rattle.fb_first.specs.First.{AreFirst}
 use Rattle.fb_model.specs.Certificates.{DeviceHolds, IsWired, name_at, depth_at}
 use Rattle.fb_model.specs.CertificateText.{names_in}
 use Rattle.fb_spelled.specs.Words.{IsWordyLeaf, IsWordyDevice}
 use Rattle.fb_check.proofs.Composed.{devices_hold}
-use Rattle.fb_leaves.specs.Leaves.{AreApart, IsClosed}
+use Rattle.fb_leaves.specs.Leaves.{AreApart, IsClosed, OnChart}
+use Rattle.fb_leaves.proofs.Charts.{on_charts}
+use Rattle.fb_clear.proofs.Taking.{TakesInputs, all_take_inputs}
+use Rattle.fb_check.specs.fb_flat.Sources.{written_inputs}
+use Rattle.fb_check.proofs.of_fb_flat.Few.{IsSmallKind, services_small, inputs_written}
 use Rattle.fb_leaves.proofs.Paths.{all_apart}
 use Rattle.fb_leaves.proofs.Closed.{all_charts_closed}
 use Rattle.fb_leaves.proofs.Few.{devices_few}
@@ -31,17 +42,20 @@ use Rattle.fb_check.proofs.Reading.{words}
 use Rattle.fb_check.proofs.Composed as composed
 use Rattle.fb_tables.specs.declared.table.Resource.{Resource}
 use Rattle.fb_tables.specs.declared.table.Tables.{Tables}
-use Rattle.fb_tables.specs.Runnable.{CanRun}
-use Rattle.fb_tables.specs.Tables.{AreResources, AreTables}
-use Rattle.fb_invoke.specs.Tables.{Each}
-use Rattle.fb_tables.specs.Filling.{Numbered, Runs, numbered_from, paths_of, IsBlockMade, IsResourceMade, most_numbers}
-use Rattle.fb_invoke.proofs.Lists.{all_got}
-use Rattle.fb_tables.proofs.Leaves.{IsSeated, all_seated, as_many_resources, paths_apart}
-use Rattle.fb_tables.proofs.Points.{IsKnownLeaf, AreKnown}
-use Rattle.fb_tables.proofs.Stops.{all_runnable}
+use Rattle.fb_tables.specs.Tables.{AreBlocks, AreResources, AreTables}
+use Rattle.fb_chart.specs.Tables.{Each}
+use Rattle.fb_tables.specs.Filling.{Numbered, numbered_from, Seated, AreSeats, paths_of, IsBlockMade, IsPortsMade, IsResourceMade, most_numbers}
+use Rattle.fb_chart.proofs.Lists.{all_got, each_length}
+use Rattle.fb_tables.proofs.Leaves.{IsNumbered, IsSeated, seats_from, all_numbered, as_many_resources, paths_apart}
+use Rattle.fb_tables.proofs.Points.{HasFew, IsKnownLeaf, AreKnown}
 use Rattle.fb_tables.proofs.Blocks.{blocks_are}
 
 -- ---- devices at an index
+
+there_is : {X : Type 0} (xs : List X) (n : ℕ) → n < length xs → (x : X) × (slice_get xs n ≡ Some x)
+there_is [] n h = absurd (omega (arith, h))
+there_is (x ∷ xs) zero h = (x, refl)
+there_is (x ∷ xs) (suc n) h = there_is xs n (omega (arith, h))
 
 flat_at : (fs : List FlatDevice) (ds : List book.Device) (n : ℕ) (d : book.Device) (f : FlatDevice) → AreDevices fs ds → slice_get ds n ≡ Some d → f ≡ get_or fs n f → IsDevice f d
 flat_at [] [] n d f a e g = absurd cc
@@ -69,13 +83,24 @@ typed_at (u ∷ ts) (suc n) t d e g = typed_at ts n t d e g
 
 pub record IsKnown (v : Verified) (f : FlatDevice) (d : book.Device) : Type 0 where
   pub words : IsWordyDevice d
-  pub seated : Each IsSeated (numbered_from 0 f.resources.items) (leaves d)
+  pub numbered : Each IsNumbered (numbered_from 0 f.resources.items) (leaves d)
+  pub small : AllByRecursion (λ (leaf : wires.Leaf). IsSmallKind leaf.kind) (leaves d)
   pub closed : AllByRecursion (λ (leaf : wires.Leaf). IsClosed leaf.kind) (leaves d)
+  pub procedures : AllByRecursion (λ (leaf : wires.Leaf). OnChart HasFew leaf.kind) (leaves d)
+  pub written : AllByRecursion (λ (leaf : wires.Leaf). written_inputs leaf.kind ≡ variable_names (inputs leaf.kind)) (leaves d)
+  pub takes : AllByRecursion (λ (leaf : wires.Leaf). TakesInputs leaf.kind) (leaves d)
   pub wired : AllByRecursion (IsWired (leaves d)) (leaves d)
   pub lies : AllByRecursion (LeafLies (certificate_in v).ranges (leaves d)) (leaves d)
   pub apart : AreApart (leaves d)
   pub few : length (leaves d) ≤ most_numbers
   pub few_resources : length f.resources.items ≤ most_numbers
+
+algorithms_many : (env : List TextEntry) (fs : List AlgorithmTree) (ps : List book.Procedure) → AreProcedures env fs ps → length ps ≡ length fs
+algorithms_many env [] [] no_procedure = refl
+algorithms_many env (a ∷ fs) (p ∷ ps) (a_procedure n t h) = ap suc (algorithms_many env fs ps h)
+
+few_algorithms : (b : BlockTree) (c : ChartTree) (k : book.Block) → IsBasic b c k → HasFew k
+few_algorithms b c k h = omega (arith, algorithms_many (scope h.ins h.outs h.inner) c.algorithms k.procedures h.procedures, h.few_algorithms)
 
 pub known_at : (v : Verified) (n : ℕ) (f : FlatDevice) (d : book.Device) → IsChecked v → slice_get (system_in v).devices n ≡ Some d → f ≡ get_or v.flat.devices.items n f → IsKnown v f d
 known_at v n f d checked e g =
@@ -87,8 +112,12 @@ known_at v n f d checked e g =
     let holds = all_got (DeviceHolds (certificate_in v)) s.devices n d (devices_hold s (certificate_in v) w checked.fits) e in
     record {
       words = all_got IsWordyDevice s.devices n d (words s w) e;
-      seated = all_seated 0 (d.name ∷ []) f.resources.items d.resources flat.resources;
+      numbered = all_numbered 0 (d.name ∷ []) f.resources.items d.resources flat.resources;
+      small = all_got (λ (x : book.Device). AllByRecursion (λ (leaf : wires.Leaf). IsSmallKind leaf.kind) (leaves x)) s.devices n d (services_small _ _ s elaborated) e;
       closed = all_got (λ (x : book.Device). AllByRecursion (λ (leaf : wires.Leaf). IsClosed leaf.kind) (leaves x)) s.devices n d (all_charts_closed _ _ s elaborated) e;
+      procedures = all_got (λ (x : book.Device). AllByRecursion (λ (leaf : wires.Leaf). OnChart HasFew leaf.kind) (leaves x)) s.devices n d (on_charts HasFew few_algorithms _ _ s elaborated) e;
+      written = all_got (λ (x : book.Device). AllByRecursion (λ (leaf : wires.Leaf). written_inputs leaf.kind ≡ variable_names (inputs leaf.kind)) (leaves x)) s.devices n d (inputs_written _ _ s elaborated) e;
+      takes = all_got (λ (x : book.Device). AllByRecursion (λ (leaf : wires.Leaf). TakesInputs leaf.kind) (leaves x)) s.devices n d (all_take_inputs _ _ s elaborated) e;
       wired = holds.wired;
       lies = holds.ranges;
       apart = all_got (λ (x : book.Device). AreApart (leaves x)) s.devices n d (all_apart _ _ s elaborated) e;
@@ -96,9 +125,10 @@ known_at v n f d checked e g =
       few_resources = omega (arith, few.1, as_many_resources 0 (d.name ∷ []) f.resources.items d.resources flat.resources);
     }
 
-known_leaves : (bs : List wires.Leaf) → AllByRecursion (λ (leaf : wires.Leaf). CanRun leaf.kind) bs → AllByRecursion (λ (leaf : wires.Leaf). IsClosed leaf.kind) bs → AllByRecursion IsWordyLeaf bs → AllByRecursion IsKnownLeaf bs
-known_leaves [] r c w = tt
-known_leaves (b ∷ bs) r c w = (record { runs = r.0; closed = c.0; words = w.0 }, known_leaves bs r.1 c.1 w.1)
+known_leaves : (bs : List wires.Leaf) → AllByRecursion (λ (leaf : wires.Leaf). IsSmallKind leaf.kind) bs → AllByRecursion (λ (leaf : wires.Leaf). IsClosed leaf.kind) bs → AllByRecursion (λ (leaf : wires.Leaf). OnChart HasFew leaf.kind) bs → AllByRecursion IsWordyLeaf bs
+    → AllByRecursion (λ (leaf : wires.Leaf). written_inputs leaf.kind ≡ variable_names (inputs leaf.kind)) bs → AllByRecursion (λ (leaf : wires.Leaf). TakesInputs leaf.kind) bs → AllByRecursion IsKnownLeaf bs
+known_leaves [] s c p w i t = tt
+known_leaves (b ∷ bs) s c p w i t = (record { small = s.0; closed = c.0; procedures = p.0; words = w.0; written = i.0; takes = t.0 }, known_leaves bs s.1 c.1 p.1 w.1 i.1 t.1)
 
 -- ---- resources
 
@@ -121,24 +151,43 @@ resources_are rows t xs p m =
 
 -- ---- tables
 
--- the seats of a device that was checked are its leaves
-pub seats_are : (v : Verified) (n : ℕ) (f : FlatDevice) (d : book.Device) (ss : List Numbered) → IsChecked v → slice_get (system_in v).devices n ≡ Some d → f ≡ get_or v.flat.devices.items n f
-    → (length f.resources.items ≤ most_numbers → ss ≡ numbered_from 0 f.resources.items) → Each IsSeated ss (leaves d)
-seats_are v n f d ss checked e g seats =
-    let k = known_at v n f d checked e g in
-    subst (λ (us : List Numbered). Each IsSeated us (leaves d)) (sym (seats k.few_resources)) k.seated
+first_many : (bs : List wires.Leaf) (owns issues : List (List Cell)) → AreFirst bs owns issues → (length owns ≡ length bs) × (length issues ≡ length bs)
+first_many [] [] [] h = (refl, refl)
+first_many [] [] (i ∷ is) h = absurd h
+first_many [] (o ∷ os) [] h = absurd h
+first_many [] (o ∷ os) (i ∷ is) h = absurd h
+first_many (b ∷ bs) [] [] h = absurd h
+first_many (b ∷ bs) [] (i ∷ is) h = absurd h
+first_many (b ∷ bs) (o ∷ os) [] h = absurd h
+first_many (b ∷ bs) (o ∷ os) (i ∷ is) h = let k = first_many bs os is h.1 in (ap suc k.0, ap suc k.1)
+
+-- there are as many stores as leaves
+pub stores_many : (v : Verified) (n : ℕ) (f : FlatDevice) (hs : List Numbered) (owns issues : List (List Cell)) → IsChecked v → n < length (system_in v).devices → f ≡ get_or v.flat.devices.items n f
+    → (length f.resources.items ≤ most_numbers → hs ≡ numbered_from 0 f.resources.items) → ((d : book.Device) → slice_get (system_in v).devices n ≡ Some d → AreFirst (leaves d) owns issues) → (length owns ≡ length hs) × (length issues ≡ length hs)
+stores_many v n f hs owns issues checked within g homes first =
+    let at = there_is (system_in v).devices n within in
+    let d = at.0 in
+    let k = known_at v n f d checked at.1 g in
+    let many = first_many (leaves d) owns issues (first d at.1) in
+    let same : length hs ≡ length (numbered_from 0 f.resources.items) = ap length (homes k.few_resources) in
+    let leaves_many = each_length IsNumbered (numbered_from 0 f.resources.items) (leaves d) k.numbered in
+    (many.0 ∙ leaves_many ∙ sym same, many.1 ∙ leaves_many ∙ sym same)
 
 -- tables that are made of a device that was checked are its tables
-pub tables_are : (v : Verified) (n : ℕ) (f : FlatDevice) (t : from_device.Device) (d : book.Device) (ss : List Numbered) (names : List Name) (x : Tables) → IsChecked v → slice_get (system_in v).devices n ≡ Some d
-    → f ≡ get_or v.flat.devices.items n f → t ≡ get_or v.typed.devices.items n t → Each IsSeated ss (leaves d) → AllByRecursion Runs ss → (AreDistinct (paths_of ss) → names ≡ paths_of ss)
-    → Each (IsBlockMade v.certificate names ss) ss x.blocks.items → Each (IsResourceMade v.certificate (string_bytes t.name)) t.resources.items x.resources.items → AreTables (certificate_in v) d x
-tables_are v n f t d ss names x checked e g h seated runs paths blocks resources =
+pub tables_are : (v : Verified) (n : ℕ) (f : FlatDevice) (t : from_device.Device) (d : book.Device) (hs : List Numbered) (owns issues : List (List Form)) (ss : List Seated) (names : List Name) (x : Tables) → IsChecked v → slice_get (system_in v).devices n ≡ Some d
+    → f ≡ get_or v.flat.devices.items n f → t ≡ get_or v.typed.devices.items n t → (length f.resources.items ≤ most_numbers → hs ≡ numbered_from 0 f.resources.items) → AreSeats hs owns issues ss → (AreDistinct (paths_of ss) → names ≡ paths_of ss)
+    → Each (IsBlockMade v.certificate names ss) ss x.blocks.items → Each IsPortsMade ss x.ports.items → Each (IsResourceMade v.certificate (string_bytes t.name)) t.resources.items x.resources.items → AreTables (certificate_in v) d owns issues x
+tables_are v n f t d hs owns issues ss names x checked e g h homes seats paths blocks ports resources =
     let k = known_at v n f d checked e g in
-    let known : AreKnown (certificate_in v).ranges ss (leaves d) = record { seated = seated; leaves = known_leaves (leaves d) (all_runnable ss (leaves d) seated runs) k.closed k.words.leaves; wired = k.wired; lies = k.lies; few = k.few } in
+    let seated : Each IsSeated ss (leaves d) = seats_from ss (leaves d) (subst (λ (us : List Numbered). Each IsNumbered us (leaves d)) (sym (seats.leaves_are ∙ homes k.few_resources)) k.numbered) in
+    let known : AreKnown (certificate_in v).ranges ss (leaves d) = record { seated = seated; leaves = known_leaves (leaves d) k.small k.closed k.procedures k.words.leaves k.written k.takes; wired = k.wired; lies = k.lies; few = k.few } in
     let named : names ≡ paths_of ss = paths (paths_apart ss (leaves d) seated k.apart) in
     let typed : device_of t ≡ d = typed_at v.typed.devices.items n t d e h in
+    let all = blocks_are v.certificate ss (leaves d) x.blocks.items x.ports.items known (subst (λ (ns : List Name). Each (IsBlockMade v.certificate ns ss) ss x.blocks.items) named blocks) ports in
     record {
-      blocks = blocks_are v.certificate ss (leaves d) x.blocks.items known (subst (λ (ns : List Name). Each (IsBlockMade v.certificate ns ss) ss x.blocks.items) named blocks);
+      blocks =
+          subst (λ (os : List (List Form)). AreBlocks (certificate_in v) (leaves d) issues os issues x.blocks.items x.ports.items (leaves d)) seats.owns_are
+          (subst (λ (is : List (List Form)). AreBlocks (certificate_in v) (leaves d) is (map (λ (u : Seated). u.own) ss) is x.blocks.items x.ports.items (leaves d)) seats.issues_are all);
       resources =
           subst (λ (c : book.Device). AreResources (certificate_in v) c 0 x.resources.items c.resources) typed
           (resources_are v.certificate t x.resources.items (subst IsWordyDevice (sym typed) k.words) resources);

@@ -5,12 +5,14 @@ pub use Rattle.fb_check.proofs.of_fb_text as of_fb_text
 pub use Rattle.fb_check.proofs.of_fb_types as of_fb_types
 pub mod Lists
 pub mod Numbers
+pub mod Slots
+pub mod Routines
+pub mod Leaving
 pub mod Charts
 pub mod Leaves
 pub mod Points
 pub mod Takes
 pub mod Carried
 pub mod Ports
-pub mod Stops
 pub mod Blocks
 pub mod Devices

@@ -1,10 +1,8 @@
 -- What is so of the elements of two lists, one by one.
 use Rattle.std.proofs.Common.{◌≡◌, ℕ, zero, suc, ◌+◌, ◌<◌, List, [], ◌∷◌, ◌++◌, map, take, drop, length, get_or, slice_get, Some, refl, sym, ap, subst, ◌∙◌, arith}
-use Rattle.std.specs.List.{Any, AllByRecursion}
+use Rattle.std.specs.List.{AllByRecursion}
 use Rattle.std.proofs.lemmas.List.{take_more}
-use Rattle.std.proofs.Math.Seq.{drop-cons}
-use Rattle.fb_model.proofs.Lists.{all_append}
-use Rattle.fb_invoke.specs.Tables.{Each}
+use Rattle.fb_chart.specs.Tables.{Each}
 
 pub each_push : {X Y : Type 0} (R : X → Y → Type 0) (xs : List X) (ys : List Y) (x : X) (y : Y) → Each R xs ys → R x y → Each R (xs ++ x ∷ []) (ys ++ y ∷ [])
 each_push R [] [] x y h r = (r, tt)
@@ -73,6 +71,11 @@ each_image R f (x ∷ xs) (y ∷ ys) h = (h.0, each_image R f xs ys h.1)
 
 -- ---- indices
 
+pub image_at : {X Y : Type 0} (f : X → Y) (xs : List X) (n : ℕ) (x : X) → slice_get xs n ≡ Some x → slice_get (map f xs) n ≡ Some (f x)
+image_at f [] n x h = absurd cc
+image_at f (y ∷ xs) zero x h = let e : y ≡ x = cc in ap (λ z. Some (f z)) e
+image_at f (y ∷ xs) (suc n) x h = image_at f xs n x h
+
 -- the item at an index, and its image among images
 pub got : {X : Type 0} (xs : List X) (i : ℕ) (x : X) → Some x ≡ slice_get xs i → (i < length xs) × (x ≡ get_or xs i x)
 got [] i x h = absurd cc
@@ -82,56 +85,6 @@ got (y ∷ ys) (suc i) x h = let k = got ys i x h in (omega (arith, k.0), k.1)
 pub got_at : {X Y : Type 0} (f : X → Y) (xs : List X) (i : ℕ) (x : X) → Some x ≡ slice_get xs i → (i < length (map f xs)) × (f x ≡ get_or (map f xs) i (f x))
 got_at f xs i x h = let k = got xs i x h in there f xs i x k.0 k.1
 
-pub all_here : {X : Type 0} (P : X → Type 0) (xs : List X) (i : ℕ) (x : X) → AllByRecursion P xs → i < length xs → x ≡ get_or xs i x → P x
-all_here P [] i x h l e = absurd (omega arith)
-all_here P (y ∷ xs) zero x h l e = let s : y ≡ x = cc in subst P s h.0
-all_here P (y ∷ xs) (suc i) x h l e = all_here P xs i x h.1 (omega arith) e
-
 pub all_source : {X Y : Type 0} (Q : X → Type 0) (P : Y → Type 0) (f : X → Y) (xs : List X) → ((x : X) → P (f x) → Q x) → AllByRecursion P (map f xs) → AllByRecursion Q xs
 all_source Q P f [] g h = tt
 all_source Q P f (x ∷ xs) g h = (g x h.0, all_source Q P f xs g h.1)
-
--- one more has it
-pub all_more : {X : Type 0} (P : X → Type 0) (xs : List X) (i : ℕ) (x : X) → i < length xs → x ≡ get_or xs i x → AllByRecursion P (take i xs) → P x → AllByRecursion P (take (i + 1) xs)
-all_more P xs i x h e all p = subst (AllByRecursion P) (sym (take_more xs i x h ∙ ap (λ y. take i xs ++ y ∷ []) (sym e))) (all_append P (take i xs) (x ∷ []) all (p, tt))
-
--- ---- from one list to the other
-
--- what all of the first have, all of the second have
-pub all_across : {X Y : Type 0} (R : X → Y → Type 0) (P : X → Type 0) (Q : Y → Type 0) (xs : List X) (ys : List Y) → ((x : X) (y : Y) → R x y → P x → Q y) → Each R xs ys → AllByRecursion P xs → AllByRecursion Q ys
-all_across R P Q [] [] f h a = tt
-all_across R P Q [] (y ∷ ys) f h a = absurd h
-all_across R P Q (x ∷ xs) [] f h a = absurd h
-all_across R P Q (x ∷ xs) (y ∷ ys) f h a = (f x y h.0 a.0, all_across R P Q xs ys f h.1 a.1)
-
-behind : {X : Type 0} (P : X → Type 0) (y : X) (xs : List X) (k : ℕ) (x : X) → suc k < length (y ∷ xs) → get_or (y ∷ xs) (suc k) x ≡ x → P x → Any P xs
-behind P y xs k x l e p = (k, x, omega (arith, l), e, p)
-
-one_behind : {X : Type 0} (P : X → Type 0) (y : X) (xs : List X) → Any P xs → Any P (y ∷ xs)
-one_behind P y xs (k, x, l, e, p) = (suc k, x, omega (arith, l), e, p)
-
--- what one of the first has, one of the second has
-pub any_across : {X Y : Type 0} (R : X → Y → Type 0) (P : X → Type 0) (Q : Y → Type 0) (xs : List X) (ys : List Y) → ((x : X) (y : Y) → R x y → P x → Q y) → Each R xs ys → Any P xs → Any Q ys
-any_across R P Q [] ys f h (k, x, l, e, p) = absurd (omega (arith, l))
-any_across R P Q (x ∷ xs) [] f h a = absurd h
-any_across R P Q (x ∷ xs) (y ∷ ys) f h (zero, z, l, e, p) = (0, y, omega arith, refl, f x y h.0 (subst P (sym e) p))
-any_across R P Q (x ∷ xs) (y ∷ ys) f h (suc k, z, l, e, p) = one_behind Q y ys (any_across R P Q xs ys f h.1 (behind P x xs k z l e p))
-
--- what all have, none lacks
-pub none_lacks : {X : Type 0} (P Q : X → Type 0) (xs : List X) → ((x : X) → P x → Q x → ⊥) → AllByRecursion P xs → Any Q xs → ⊥
-none_lacks P Q xs f a (k, x, l, e, q) = f x (all_here P xs k x a l (sym e)) q
-
--- one has it, so all do where the others behind it do
-pub all_on : {X Y : Type 0} (P : Y → Type 0) (f : X → Y) (xs : List X) (i : ℕ) (x : X) → i < length xs → x ≡ get_or xs i x → P (f x) → (AllByRecursion P (map f (drop i xs)) → AllByRecursion P (map f xs))
-    → AllByRecursion P (map f (drop (i + 1) xs)) → AllByRecursion P (map f xs)
-all_on P f xs i x l e p before rest =
-    let here : drop i xs ≡ x ∷ drop (suc i) xs = drop-cons xs i x l ∙ ap (λ y. y ∷ drop (suc i) xs) (sym e) in
-    let next : i + 1 ≡ suc i = omega arith in
-    before (subst (λ ys. AllByRecursion P (map f ys)) (sym here) (p, subst (λ n. AllByRecursion P (map f (drop n xs))) next rest))
-
--- what one lacks, not all have
-pub one_lacks : {X Y : Type 0} (P : Y → Type 0) (f : X → Y) (xs : List X) (i : ℕ) (x : X) → i < length xs → x ≡ get_or xs i x → (P (f x) → ⊥) → AllByRecursion P (map f xs) → ⊥
-one_lacks P f xs i x l e n h = let k = there f xs i x l e in n (all_here P (map f xs) i (f x) h k.0 k.1)
-
-pub any_at : {X Y : Type 0} (P : Y → Type 0) (f : X → Y) (xs : List X) (i : ℕ) (x : X) → i < length xs → x ≡ get_or xs i x → P (f x) → Any P (map f xs)
-any_at P f xs i x l e p = let k = there f xs i x l e in (i, f x, k.0, sym k.1, p)

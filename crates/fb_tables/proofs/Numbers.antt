@@ -6,12 +6,13 @@ use Rattle.std.specs.declared.vec.Vec.{Vec}
 use Rattle.indexmap.specs.IndexMap.{IndexMap, keys}
 use Rattle.fb_model.specs.Names.{Name, is_in}
 use Rattle.fb_model.specs.System as book
+use Rattle.fb_model.specs.Services.{init, req, rsp, start, stop, arrive, expire, begin, service_events}
 use Rattle.fb_model.specs.Certificates.{event_names, names}
 use Rattle.fb_model.proofs.Lists.{same_name}
 use Rattle.fb_check.specs.fb_blocks.Views.{event_of, action_of}
 use Rattle.fb_check.specs.fb_blocks.Answers.{names_in_map}
 use Rattle.fb_check.proofs.of_fb_networks.Places.{place, place_below, position_is, position_map}
-use Rattle.fb_tables.specs.Filling.{IsNumber, Entry, most_numbers}
+use Rattle.fb_tables.specs.Filling.{IsNumber, Entry, service_event, most_numbers}
 
 -- ---- places
 
@@ -19,7 +20,7 @@ use Rattle.fb_tables.specs.Filling.{IsNumber, Entry, most_numbers}
 pub placed : {V S : Type 0} (m : IndexMap (String Global) V S) (x : Name) → place (bytes_eq x) (names_in_map m) ≡ position (λ s. bytes_eq x (string_bytes s)) (keys m)
 placed m x = sym (position_is (bytes_eq x) (names_in_map m)) ∙ position_map (bytes_eq x) (λ e. string_bytes e.0) m.entries ∙ sym (position_map (λ s. bytes_eq x (string_bytes s)) (λ e. e.0) m.entries)
 
-suc_of : (o : Option ℕ) (i : ℕ) → option_map suc o ≡ Some i → (j : ℕ) × (o ≡ Some j) × (i ≡ suc j)
+pub suc_of : (o : Option ℕ) (i : ℕ) → option_map suc o ≡ Some i → (j : ℕ) × (o ≡ Some j) × (i ≡ suc j)
 suc_of None i e = absurd cc
 suc_of (Some j) i e = (j, refl, cc)
 
@@ -55,6 +56,38 @@ number_some x names i n e f =
 
 pub number_none : (x : Name) (names : List Name) (n : ℕ) → place (bytes_eq x) names ≡ None → IsNumber names x n
 number_none x names n e = λ few listed. absurd (let none = not_placed x names e in let f : false ≡ true = sym none ∙ listed in cc)
+
+-- ---- events of services
+
+one_number : (x a : Name) → is_in x (a ∷ []) ≡ true → slice_get (a ∷ []) 0 ≡ Some x
+one_number x a h = by (bytes_eq x a) refl h where
+  by : (b : Bool) → bytes_eq x a ≡ b → (b || false) ≡ true → Some a ≡ Some x
+  by true e h = ap Some (sym (same_name x a e))
+  by false e h = absurd cc
+
+two_number : (x a b : Name) → is_in x (a ∷ b ∷ []) ≡ true → slice_get (a ∷ b ∷ []) (cond (bytes_eq x a) 0 1) ≡ Some x
+two_number x a b h = by (bytes_eq x a) refl h where
+  by : (t : Bool) → bytes_eq x a ≡ t → (t || is_in x (b ∷ [])) ≡ true → slice_get (a ∷ b ∷ []) (cond t 0 1) ≡ Some x
+  by true e h = ap Some (sym (same_name x a e))
+  by false e h = one_number x b h
+
+three_number : (x a b c : Name) → is_in x (a ∷ b ∷ c ∷ []) ≡ true → slice_get (a ∷ b ∷ c ∷ []) (cond (bytes_eq x a) 0 (cond (bytes_eq x b) 1 2)) ≡ Some x
+three_number x a b c h = by (bytes_eq x a) (bytes_eq x b) refl refl h where
+  by : (t u : Bool) → bytes_eq x a ≡ t → bytes_eq x b ≡ u → (t || (u || is_in x (c ∷ []))) ≡ true → slice_get (a ∷ b ∷ c ∷ []) (cond t 0 (cond u 1 2)) ≡ Some x
+  by true u e f h = ap Some (sym (same_name x a e))
+  by false true e f h = ap Some (sym (same_name x b f))
+  by false false e f h = one_number x c h
+
+pub service_number : (s : book.Service) (x : Name) (n : ℕ) → n ≡ service_event s x → IsNumber (service_events s) x n
+service_number s x n e = λ few listed. ap (slice_get (service_events s)) e ∙ by s listed where
+  by : (s : book.Service) → is_in x (service_events s) ≡ true → slice_get (service_events s) (service_event s x) ≡ Some x
+  by (book.Input number types) h = one_number x arrive h
+  by (book.Output number types) h = one_number x req h
+  by (book.Publish channel types) h = two_number x init req h
+  by (book.Subscribe channel types) h = three_number x init rsp arrive h
+  by book.Delay h = three_number x start stop expire h
+  by book.Cycle h = three_number x start stop expire h
+  by book.Restart h = one_number x begin h
 
 -- ---- names of tables
 

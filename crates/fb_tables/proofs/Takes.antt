@@ -1,40 +1,37 @@
 -- What is taken at an event, by names and numbers, is what the book's leaf takes there.
-use Rattle.std.proofs.Common.{◌≡◌, ◌≤◌, ◌<◌, ℕ, ℤ, pos, Bool, true, false, cond, ◌||◌, List, [], ◌∷◌, map, length, replicate, string_bytes, Some, refl, sym, ap, subst, ◌∙◌, arith}
+use denote.Ref.{Bor}
+use Rattle.std.proofs.Common.{◌≡◌, ◌≤◌, ◌<◌, ℕ, ℤ, pos, Bool, true, false, cond, ◌||◌, List, [], ◌∷◌, ◌++◌, map, length, replicate, string_bytes, Option, Some, slice_get, refl, sym, ap, subst, ◌∙◌, arith}
 use Rattle.std.specs.List.{AllByRecursion}
 use Rattle.std.specs.Str.{bytes_eq}
-use Rattle.std.proofs.lemmas.Bool.{le-ltb}
-use Rattle.std.proofs.lemmas.List.{length-replicate}
-use Rattle.fb_words.specs.declared.elem_type.ElemType.{ElemType}
+use Rattle.std.proofs.lemmas.List.{length-replicate, map-append}
 use Rattle.fb_model.specs.Names.{Name, Path, is_in}
 use Rattle.fb_model.specs.System as book
-use Rattle.fb_model.specs.Services.{sent, ports, numbered, service_inputs, service_takes, service_events}
+use Rattle.fb_model.specs.Services.{service_takes, service_event_inputs, arrivals, service_events}
 use Rattle.fb_model.specs.Typing.{AreDistinct}
 use Rattle.fb_model.specs.Wires as wires
 use Rattle.fb_model.specs.Wires.{Kind, Charted, Serviced}
-use Rattle.fb_model.specs.Store.{carried, takes, variable_names}
+use Rattle.fb_model.specs.Store.{carried, takes}
 use Rattle.fb_model.specs.Ranges.{Range, LinkFits, LeafLies}
 use Rattle.fb_model.specs.Certificates.{event_names, events_of}
 use Rattle.fb_model.specs.BlockTyping.{extent}
-use Rattle.fb_model.proofs.Lists.{all_both, all_weaker, at_listed}
+use Rattle.fb_model.proofs.Lists.{all_both, all_weaker}
 use Rattle.fb_model.proofs.Placed.{Apart, apart, name_same}
-use Rattle.fb_leaves.specs.Leaves.{IsClosed}
-use Rattle.fb_check.specs.fb_services.Views.{values_of}
 use Rattle.fb_check.specs.fb_flat.declared.flat.Source as from_source
 use Rattle.fb_check.specs.fb_flat.declared.flat.Source.TheVariants as g
 use Rattle.fb_check.specs.fb_flat.declared.flat.Input.{Input}
 use Rattle.fb_check.specs.fb_flat.Sources.{written_inputs}
 use Rattle.fb_check.specs.fb_flat.Tables.{IsLeaf, book_source, source_at, input_names}
-use Rattle.fb_invoke.specs.declared.table.Source.{Source}
-use Rattle.fb_invoke.specs.declared.table.Source.TheVariants as s
-use Rattle.fb_invoke.specs.declared.table.Take.{Take}
-use Rattle.fb_invoke.specs.declared.table.Event.{Event}
-use Rattle.fb_invoke.specs.Tables.{Each}
-use Rattle.fb_tables.specs.Runnable.{IsServed, CanRun}
+use Rattle.fb_chart.specs.declared.table.Source.{Source}
+use Rattle.fb_chart.specs.declared.table.Source.TheVariants as s
+use Rattle.fb_chart.specs.declared.table.Take.{Take}
+use Rattle.fb_chart.specs.declared.table.Event.{Event}
+use Rattle.fb_chart.specs.Tables.{Each}
 use Rattle.fb_tables.specs.Tables.{IsOrigin, IsTaken}
-use Rattle.fb_tables.specs.Filling.{Numbered, paths_of, source_named, IsSourceMade, IsTakeMade, events_with}
-use Rattle.fb_tables.proofs.Lists.{each_weaker, each_second}
-use Rattle.fb_tables.proofs.Points.{AreKnown, seat_at}
-use Rattle.fb_tables.proofs.Ports.{ports_named}
+use Rattle.st_code.specs.Forms.{Form, slot_in}
+use Rattle.fb_chart.specs.Sampling.{count_among}
+use Rattle.fb_tables.specs.Filling.{Seated, paths_of, source_named, IsSourceMade, IsTakeMade, served_with, events_with, arrived}
+use Rattle.fb_tables.proofs.Lists.{image_at, each_append, each_weaker, each_second}
+use Rattle.fb_tables.proofs.Points.{IsKnownLeaf, AreKnown, seat_at}
 
 -- ---- the events of a leaf with what they are WITH
 
@@ -51,16 +48,16 @@ carried_own (x ∷ xs) a = (
       (λ v d h. ap (λ t. cond t x.carries (carried xs v.name)) d ∙ h) (event_all (λ n. bytes_eq x.name n ≡ false) xs a.0) (carried_own xs a.1),
 )
 
-served_with : (service : book.Service) (ns : List Name) → AllByRecursion (λ (v : book.Event). service_takes service v.name ≡ v.carries) (map (λ e. record { name = e; carries = service_takes service e }) ns)
-served_with service [] = tt
-served_with service (n ∷ ns) = (refl, served_with service ns)
+all_served : (service : book.Service) (ns : List Name) → AllByRecursion (λ (v : book.Event). service_takes service v.name ≡ v.carries) (map (served_with service) ns)
+all_served service [] = tt
+all_served service (n ∷ ns) = (refl, all_served service ns)
 
 -- each carries what a leaf of the kind takes at it
 pub with_takes : (kind : Kind) → AreDistinct (events_of kind) → AllByRecursion (λ (v : book.Event). takes kind v.name ≡ v.carries) (events_with kind)
 with_takes (Charted block) d = carried_own block.event_inputs (apart (event_names block.event_inputs) d)
-with_takes (Serviced service) d = served_with service (service_events service)
+with_takes (Serviced service) d = all_served service (service_events service)
 
-served_names : (service : book.Service) (ns : List Name) → event_names (map (λ e. record { name = e; carries = service_takes service e }) ns) ≡ ns
+served_names : (service : book.Service) (ns : List Name) → event_names (map (served_with service) ns) ≡ ns
 served_names service [] = refl
 served_names service (n ∷ ns) = ap (λ xs. n ∷ xs) (served_names service ns)
 
@@ -72,58 +69,27 @@ with_names (Serviced service) = served_names service (service_events service)
 pub with_all : (P : Name → Type 0) (kind : Kind) → AllByRecursion P (events_of kind) → AllByRecursion (λ (v : book.Event). P v.name) (events_with kind)
 with_all P kind h = event_all P (events_with kind) (subst (AllByRecursion P) (sym (with_names kind)) h)
 
--- ---- services that a device can run
+-- the event inputs of a service, and then its arrival
+pub inputs_first : (service : book.Service) → service_events service ≡ service_event_inputs service ++ arrivals service
+inputs_first (book.Input number types) = refl
+inputs_first (book.Output number types) = refl
+inputs_first (book.Publish channel types) = refl
+inputs_first (book.Subscribe channel types) = refl
+inputs_first book.Delay = refl
+inputs_first book.Cycle = refl
+inputs_first book.Restart = refl
 
-pub served_few : (service : book.Service) → IsServed service → length (values_of service) < 100
-served_few (book.Input number types) r = omega (arith, r)
-served_few (book.Output number types) r = omega (arith, r)
-served_few (book.Publish channel types) r = absurd r
-served_few (book.Subscribe channel types) r = absurd r
-served_few book.Delay r = absurd r
-served_few book.Cycle r = absurd r
-served_few book.Restart r = absurd r
+pub served_borrowed : (service : book.Service) (bs : List (Bor Name)) → map (λ (b : Bor Name). served_with service b.now) bs ≡ map (served_with service) (map (λ (b : Bor Name). b.now) bs)
+served_borrowed service [] = refl
+served_borrowed service (b ∷ bs) = ap (λ vs. served_with service b.now ∷ vs) (served_borrowed service bs)
 
--- they take all their inputs
-inputs_taken_by : (service : book.Service) → IsServed service → (e : Name) → variable_names (service_inputs service) ≡ service_takes service e
-inputs_taken_by (book.Input number types) r e = refl
-inputs_taken_by (book.Output number types) r e = ports_named sent 1 types
-inputs_taken_by (book.Publish channel types) r e = absurd r
-inputs_taken_by (book.Subscribe channel types) r e = absurd r
-inputs_taken_by book.Delay r e = absurd r
-inputs_taken_by book.Cycle r e = absurd r
-inputs_taken_by book.Restart r e = absurd r
-
--- the one event is all events
-pub served_made : (service : book.Service) → IsServed service → (R : book.Event → Event → Type 0) (n : Name) (ns : List Name) (e : Event) → service_events service ≡ n ∷ [] → ns ≡ variable_names (service_inputs service) → R (record { name = n; carries = ns }) e
-    → Each R (events_with (Serviced service)) (e ∷ [])
-served_made service r R n ns e one names h =
-    subst (λ (xs : List Name). Each R (map (λ m. record { name = m; carries = service_takes service m }) xs) (e ∷ [])) (sym one)
-    (subst (λ (cs : List Name). R (record { name = n; carries = cs }) e) (names ∙ inputs_taken_by service r n) h, tt)
-
--- ---- what is taken is written of the leaf
-
-carried_known : (vs : List book.Event) (ns : List Name) (e x : Name) → AllByRecursion (λ (v : book.Event). AllByRecursion (λ (y : Name). is_in y ns ≡ true) v.carries) vs → is_in x (carried vs e) ≡ true → is_in x ns ≡ true
-carried_known [] ns e x a h = cc
-carried_known (v ∷ vs) ns e x a h = by (bytes_eq v.name e) h (carried_known vs ns e x a.1) where
-  by : (t : Bool) → is_in x (cond t v.carries (carried vs e)) ≡ true → (is_in x (carried vs e) ≡ true → is_in x ns ≡ true) → is_in x ns ≡ true
-  by true h again = at_listed (λ (y : Name). is_in y ns ≡ true) v.carries x a.0 h
-  by false h again = again h
-
-sent_written : (number : ℕ) (types : List ElemType) (x : Name) → length types ≤ 16 → is_in x (numbered sent 1 types) ≡ true → is_in x (written_inputs (Serviced (book.Output number types))) ≡ true
-sent_written number types x few h =
-    let all : written_inputs (Serviced (book.Output number types)) ≡ numbered sent 1 types =
-    ap (λ t. cond t [] (variable_names (ports sent 1 types))) (le-ltb 99 (length types) (omega (arith, few))) ∙ ports_named sent 1 types in
-    ap (is_in x) all ∙ h
-
-pub takes_written : (kind : Kind) → CanRun kind → IsClosed kind → (e x : Name) → is_in x (takes kind e) ≡ true → is_in x (written_inputs kind) ≡ true
-takes_written (Charted block) r closed e x h = carried_known block.event_inputs (variable_names block.inputs) e x closed.takes h
-takes_written (Serviced (book.Input number types)) r closed e x h = cc
-takes_written (Serviced (book.Output number types)) r closed e x h = sent_written number types x r h
-takes_written (Serviced (book.Publish channel types)) r closed e x h = absurd r
-takes_written (Serviced (book.Subscribe channel types)) r closed e x h = absurd r
-takes_written (Serviced book.Delay) r closed e x h = absurd r
-takes_written (Serviced book.Cycle) r closed e x h = absurd r
-takes_written (Serviced book.Restart) r closed e x h = absurd r
+-- what is made of the event inputs and of the arrival is made of all events
+pub served_made : (service : book.Service) (R : book.Event → Event → Type 0) (names : List Name) (es : List Event) (o : Option Event) → names ≡ service_event_inputs service → Each R (map (served_with service) names) es
+    → Each R (map (served_with service) (arrivals service)) (arrived o) → Each R (events_with (Serviced service)) (es ++ arrived o)
+served_made service R names es o same h k =
+    let all : map (served_with service) names ++ map (served_with service) (arrivals service) ≡ events_with (Serviced service) =
+    ap (λ ns. map (served_with service) ns ++ map (served_with service) (arrivals service)) same ∙ sym (map-append (served_with service) (service_event_inputs service) (arrivals service)) ∙ sym (ap (map (served_with service)) (inputs_first service)) in
+    subst (λ (vs : List book.Event). Each R vs (es ++ arrived o)) all (each_append R (map (served_with service) names) (map (served_with service) (arrivals service)) es (arrived o) h k)
 
 -- ---- sources
 
@@ -139,26 +105,39 @@ source_found (i ∷ is) x h = by (bytes_eq x (string_bytes i.name)) h (source_fo
 zeros_filled : (count : ℕ) (n : ℤ) → n ≡ pos 0 → replicate count (pos 0) ≡ replicate (length (replicate count (pos 0))) n
 zeros_filled count n h = ap (λ k. replicate k (pos 0)) (sym (length-replicate count (pos 0))) ∙ ap (replicate (length (replicate count (pos 0)))) (sym h)
 
-origin_is : (ranges : List Range) (ss : List Numbered) (bs : List wires.Leaf) → AreKnown ranges ss bs → (path : Path) (kind : Kind) (y : Name) (from : from_source.Source) (x : Source) → LinkFits ranges bs path kind y (book_source from) → IsSourceMade (paths_of ss) from x
-    → IsOrigin bs x (book_source from)
-origin_is ranges ss bs known path kind y (g.Output text name) (s.Output n z) link m = let at = seat_at ranges ss bs known (string_bytes text) n link.leaf link.found m.0 in (at.1, at.3, at.5, m.1)
+-- the forms of the issued values of a seat
+issued_at : (ss : List Seated) (n : ℕ) (s : Seated) (forms : List Form) → slice_get ss n ≡ Some s → slice_get (map (λ (u : Seated). u.issued) ss) n ≡ Some forms → s.issued ≡ forms
+issued_at ss n s forms e f = let g : Some s.issued ≡ Some forms = sym (image_at (λ (u : Seated). u.issued) ss n s e) ∙ f in cc
+
+origin_is : (ranges : List Range) (ss : List Seated) (bs : List wires.Leaf) → AreKnown ranges ss bs → (path : Path) (kind : Kind) (y : Name) (from : from_source.Source) (x : Source) → LinkFits ranges bs path kind y (book_source from) → IsSourceMade (paths_of ss) ss from x
+    → IsOrigin bs (map (λ (u : Seated). u.issued) ss) x (book_source from)
+origin_is ranges ss bs known path kind y (g.Output text name) (s.Output n z slot) link m =
+    let at = seat_at ranges ss bs known (string_bytes text) n link.leaf link.found m.0 in
+    (at.1, at.3, at.5, m.1, λ forms f. m.2 at.0 at.2 ∙ ap (λ fs. slot_in fs (string_bytes name)) (issued_at ss n at.0 forms at.2 f))
 origin_is ranges ss bs known path kind y (g.Number k) (s.Number n) link m = sym m
 origin_is ranges ss bs known path kind y (g.Zeros low high) (s.Number n) link m = zeros_filled (extent (low, high)) n m
 origin_is ranges ss bs known path kind y (g.Output text name) (s.Number n) link m = absurd m
-origin_is ranges ss bs known path kind y (g.Number k) (s.Output n z) link m = absurd m
-origin_is ranges ss bs known path kind y (g.Zeros low high) (s.Output n z) link m = absurd m
+origin_is ranges ss bs known path kind y (g.Number k) (s.Output n z slot) link m = absurd m
+origin_is ranges ss bs known path kind y (g.Zeros low high) (s.Output n z slot) link m = absurd m
 
 -- ---- one event
 
-module _ (ranges : List Range) (ss : List Numbered) (bs : List wires.Leaf) (known : AreKnown ranges ss bs) (u : Numbered) (b : wires.Leaf) (l : IsLeaf u.1 b) (lies : LeafLies ranges bs b) where
+module _ (ranges : List Range) (ss : List Seated) (bs : List wires.Leaf) (known : AreKnown ranges ss bs) (u : Seated) (b : wires.Leaf) (l : IsLeaf u.leaf b) (here : IsKnownLeaf b) (lies : LeafLies ranges bs b) where
+  abbrev issues : List (List Form)
+  issues = map (λ (v : Seated). v.issued) ss
+
   -- an input takes its value where the leaf's does
-  taken_is : (x : Name) (t : Take) → LinkFits ranges bs b.path b.kind x (b.source x) × (is_in x (written_inputs b.kind) ≡ true) → IsTakeMade (paths_of ss) u.1.inputs.items x t → IsTaken bs b t
+  taken_is : (x : Name) (t : Take) → LinkFits ranges bs b.path b.kind x (b.source x) × (is_in x (written_inputs b.kind) ≡ true) → IsTakeMade (paths_of ss) ss u.own u.leaf.inputs.items x t → IsTaken bs issues u.own b t
   taken_is x t h m =
-      let from = source_found u.1.inputs.items x (ap (is_in x) l.inputs ∙ h.1) in
+      let from = source_found u.leaf.inputs.items x (ap (is_in x) l.inputs ∙ h.1) in
       let same : book_source from.0 ≡ b.source x = sym from.2 ∙ l.sources x h.1 in
       let link : LinkFits ranges bs b.path b.kind x (book_source from.0) = subst (LinkFits ranges bs b.path b.kind x) (sym same) h.0 in
-      let origin : IsOrigin bs t.source (book_source from.0) = origin_is ranges ss bs known b.path b.kind x from.0 t.source link (m.source from.0 from.1) in
-      subst (IsOrigin bs t.source) (same ∙ ap b.source (sym m.input)) origin
+      let origin : IsOrigin bs issues t.source (book_source from.0) = origin_is ranges ss bs known b.path b.kind x from.0 t.source link (m.source from.0 from.1) in
+      record {
+        origin = subst (IsOrigin bs issues t.source) (same ∙ ap b.source (sym m.input)) origin;
+        slot = m.slot ∙ ap (slot_in u.own) (sym m.input);
+        count = m.count ∙ ap (count_among u.own) (sym m.input);
+      }
 
   all_listed : (ns : List Name) → AllByRecursion (λ (n : Name). is_in n ns ≡ true) ns
   all_listed [] = tt
@@ -169,18 +148,18 @@ module _ (ranges : List Range) (ss : List Numbered) (bs : List wires.Leaf) (know
       or_true false c h = h
 
   -- all that an event takes
-  pub all_taken : (runs : CanRun b.kind) (closed : IsClosed b.kind) (e : Name) (ts : List Take) → Each (IsTakeMade (paths_of ss) u.1.inputs.items) (takes b.kind e) ts → AllByRecursion (IsTaken bs b) ts
-  all_taken runs closed e ts m =
+  pub all_taken : (e : Name) (ts : List Take) → Each (IsTakeMade (paths_of ss) ss u.own u.leaf.inputs.items) (takes b.kind e) ts → AllByRecursion (IsTaken bs issues u.own b) ts
+  all_taken e ts m =
       let xs = takes b.kind e in
       let linked : AllByRecursion (λ (x : Name). LinkFits ranges bs b.path b.kind x (b.source x) × (is_in x (written_inputs b.kind) ≡ true)) xs =
       all_weaker (λ (x : Name). is_in x xs ≡ true) (λ (x : Name). LinkFits ranges bs b.path b.kind x (b.source x) × (is_in x (written_inputs b.kind) ≡ true)) xs
-      (λ x h. (lies.links e x h, takes_written b.kind runs closed e x h)) (all_listed xs) in
-      each_second (IsTaken bs b) xs ts
-      (each_weaker (λ (x : Name). LinkFits ranges bs b.path b.kind x (b.source x) × (is_in x (written_inputs b.kind) ≡ true)) (IsTakeMade (paths_of ss) u.1.inputs.items) (λ (x : Name) (t : Take). IsTaken bs b t) xs ts taken_is linked m)
+      (λ x h. (lies.links e x h, ap (is_in x) here.written ∙ here.takes e x h)) (all_listed xs) in
+      each_second (IsTaken bs issues u.own b) xs ts
+      (each_weaker (λ (x : Name). LinkFits ranges bs b.path b.kind x (b.source x) × (is_in x (written_inputs b.kind) ≡ true)) (IsTakeMade (paths_of ss) ss u.own u.leaf.inputs.items) (λ (x : Name) (t : Take). IsTaken bs issues u.own b t) xs ts taken_is linked m)
 
 -- the names of what is taken
-pub inputs_taken : (paths : List Name) (inputs : List Input) (xs : List Name) (ts : List Take) → Each (IsTakeMade paths inputs) xs ts → map (λ (t : Take). string_bytes t.input) ts ≡ xs
-inputs_taken paths inputs [] [] m = refl
-inputs_taken paths inputs [] (t ∷ ts) m = absurd m
-inputs_taken paths inputs (x ∷ xs) [] m = absurd m
-inputs_taken paths inputs (x ∷ xs) (t ∷ ts) m = ap (λ n. n ∷ map (λ (u : Take). string_bytes u.input) ts) m.0.input ∙ ap (λ ns. x ∷ ns) (inputs_taken paths inputs xs ts m.1)
+pub inputs_taken : (paths : List Name) (all : List Seated) (own : List Form) (inputs : List Input) (xs : List Name) (ts : List Take) → Each (IsTakeMade paths all own inputs) xs ts → map (λ (t : Take). string_bytes t.input) ts ≡ xs
+inputs_taken paths all own inputs [] [] m = refl
+inputs_taken paths all own inputs [] (t ∷ ts) m = absurd m
+inputs_taken paths all own inputs (x ∷ xs) [] m = absurd m
+inputs_taken paths all own inputs (x ∷ xs) (t ∷ ts) m = ap (λ n. n ∷ map (λ (u : Take). string_bytes u.input) ts) m.0.input ∙ ap (λ ns. x ∷ ns) (inputs_taken paths all own inputs xs ts m.1)

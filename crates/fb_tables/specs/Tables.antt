@@ -1,5 +1,5 @@
 -- When tables are those of a device of the book.
--- IEC 61499-1 edition 2, 5.2 (charts), 5.3 (instances and their connections) and 7 (devices and resources).
+-- IEC 61499-1 edition 2, 5.2 (charts), 5.3 (instances and their connections), 6.1 (service interfaces) and 7 (devices and resources).
 use Rattle.std.specs.Prelude.{ℕ, ℤ, ◌≡◌, ◌<◌, ◌≤◌, ◌+◌, List, [], ◌∷◌, map, length, replicate, string_bytes, Some, slice_get}
 use Rattle.std.specs.List.{AllByRecursion}
 use Rattle.fb_model.specs.Names.{Path, at_place}
@@ -11,15 +11,19 @@ use Rattle.fb_model.specs.CertificateText.{names_in}
 use Rattle.fb_model.specs.Certificates.{Certificate, events_of, depth_of}
 use Rattle.fb_model.specs.Devices.{steps_row, places_row}
 use Rattle.fb_leaves.specs.Leaves.{AreApart}
-use Rattle.fb_invoke.specs.declared.table.Point.{Point}
-use Rattle.fb_invoke.specs.declared.table.Source.{Source}
-use Rattle.fb_invoke.specs.declared.table.Source.TheVariants as s
-use Rattle.fb_invoke.specs.declared.table.Take.{Take}
-use Rattle.fb_invoke.specs.declared.table.Event.{Event}
-use Rattle.fb_invoke.specs.declared.table.Output.{Output}
-use Rattle.fb_invoke.specs.declared.table.Block.{Block}
-use Rattle.fb_invoke.specs.Views.{kind_of}
-use Rattle.fb_invoke.specs.Tables.{IsTable}
+use Rattle.st_code.specs.Forms.{Form, slot_in}
+use Rattle.fb_chart.specs.declared.table.Point.{Point}
+use Rattle.fb_chart.specs.declared.table.Source.{Source}
+use Rattle.fb_chart.specs.declared.table.Source.TheVariants as s
+use Rattle.fb_chart.specs.declared.table.Take.{Take}
+use Rattle.fb_chart.specs.declared.table.Event.{Event}
+use Rattle.fb_chart.specs.declared.table.Output.{Output}
+use Rattle.fb_chart.specs.declared.table.Block.{Block}
+use Rattle.fb_chart.specs.Views.{kind_of}
+use Rattle.fb_chart.specs.Tables.{IsTable}
+use Rattle.fb_chart.specs.Sampling.{count_among}
+use Rattle.fb_serve.specs.declared.standing.Ports.{Ports}
+use Rattle.fb_serve.specs.Ports.{ServesPorts}
 use Rattle.fb_tables.specs.declared.table.Resource.{Resource}
 use Rattle.fb_tables.specs.declared.table.Tables.{Tables}
 use Rattle.fb_tables.specs.Views.{place_at}
@@ -49,35 +53,38 @@ abbrev pub IsFilled : ℤ → Value → Type 0
 IsFilled n (One k) = k ≡ n
 IsFilled n (Many ks) = ks ≡ replicate (length ks) n
 
--- an output of the leaf of this number, or a constant
-abbrev pub IsOrigin : List Leaf → Source → wires.Source → Type 0
-IsOrigin all (s.Output block y) (wires.Output_of path name) = (leaf : Leaf) × (slice_get all block ≡ Some leaf) × (leaf.path ≡ path) × (string_bytes y ≡ name)
-IsOrigin all (s.Number n) (wires.Constant value) = IsFilled n value
-IsOrigin all (s.Output block y) (wires.Constant value) = ⊥
-IsOrigin all (s.Number n) (wires.Output_of path name) = ⊥
+-- an output of the leaf of this number with its slot among that leaf's issued values, whose forms are those of all leaves; or a constant
+abbrev pub IsOrigin : List Leaf → List (List Form) → Source → wires.Source → Type 0
+IsOrigin all issues (s.Output block y slot) (wires.Output_of path name) =
+    (leaf : Leaf) × (slice_get all block ≡ Some leaf) × (leaf.path ≡ path) × (string_bytes y ≡ name) × ((forms : List Form) → slice_get issues block ≡ Some forms → slot ≡ slot_in forms name)
+IsOrigin all issues (s.Number n) (wires.Constant value) = IsFilled n value
+IsOrigin all issues (s.Output block y slot) (wires.Constant value) = ⊥
+IsOrigin all issues (s.Number n) (wires.Output_of path name) = ⊥
 
--- an input takes its value where the leaf's does
-abbrev pub IsTaken : List Leaf → Leaf → Take → Type 0
-IsTaken all leaf t = IsOrigin all t.source (leaf.source (string_bytes t.input))
+-- an input takes its value where the leaf's does, and has its slots among the leaf's working values
+pub record IsTaken (all : List Leaf) (issues : List (List Form)) (own : List Form) (leaf : Leaf) (t : Take) : Type 0 where
+  pub origin : IsOrigin all issues t.source (leaf.source (string_bytes t.input))
+  pub slot : t.slot ≡ slot_in own (string_bytes t.input)
+  pub count : t.count ≡ count_among own (string_bytes t.input)
 
 -- ---- blocks
 
--- a block of the tables is this one of the leaves of a device
-pub record IsBlock (cert : Certificate) (all : List Leaf) (x : Block) (leaf : Leaf) : Type 0 where
+-- a block of the tables with its ports is this one of the leaves of a device; its working and its issued values have these forms
+pub record IsBlock (cert : Certificate) (all : List Leaf) (issues : List (List Form)) (own issued : List Form) (x : Block) (p : Ports) (leaf : Leaf) : Type 0 where
   pub path : names_in (string_bytes x.path) ≡ leaf.path
   pub home : x.resource ≡ leaf.home
   pub kind : kind_of x ≡ leaf.kind
-  pub table : IsTable x
+  pub table : IsTable own issued x
+  pub ports : ServesPorts leaf.kind own p
   pub weights : AllByRecursion (IsWeighed cert leaf.path) x.events.items
-  pub takes : AllByRecursion (λ (e : Event). AllByRecursion (IsTaken all leaf) e.takes.items) x.events.items
+  pub takes : AllByRecursion (λ (e : Event). AllByRecursion (IsTaken all issues own leaf) e.takes.items) x.events.items
   pub leads : AllByRecursion (LeadsTo all leaf) x.outputs.items
 
--- the same of many, one by one
-abbrev pub AreBlocks : Certificate → List Leaf → List Block → List Leaf → Type 0
-AreBlocks cert all [] [] = Unit {0}
-AreBlocks cert all (x ∷ xs) (leaf ∷ leaves) = IsBlock cert all x leaf × AreBlocks cert all xs leaves
-AreBlocks cert all [] (leaf ∷ leaves) = ⊥
-AreBlocks cert all (x ∷ xs) [] = ⊥
+-- the same of many, one by one: the forms of working and of issued values, blocks, ports and leaves
+abbrev pub AreBlocks : Certificate → List Leaf → List (List Form) → List (List Form) → List (List Form) → List Block → List Ports → List Leaf → Type 0
+AreBlocks cert all issues [] [] [] [] [] = Unit {0}
+AreBlocks cert all issues (own ∷ owns) (issued ∷ rest) (x ∷ xs) (p ∷ ps) (leaf ∷ leaves) = IsBlock cert all issues own issued x p leaf × AreBlocks cert all issues owns rest xs ps leaves
+AreBlocks cert all issues owns rest xs ps leaves = ⊥
 
 -- ---- resources
 
@@ -90,9 +97,9 @@ AreResources cert device n (x ∷ xs) [] = ⊥
 
 -- ---- devices
 
--- the tables are those of a device, with the numbers of a certificate
-pub record AreTables (cert : Certificate) (device : book.Device) (t : Tables) : Type 0 where
-  pub blocks : AreBlocks cert (leaves device) t.blocks.items (leaves device)
+-- the tables are those of a device, with the numbers of a certificate; the working and the issued values of its leaves have these forms
+pub record AreTables (cert : Certificate) (device : book.Device) (owns issues : List (List Form)) (t : Tables) : Type 0 where
+  pub blocks : AreBlocks cert (leaves device) issues owns issues t.blocks.items t.ports.items (leaves device)
   pub resources : AreResources cert device 0 t.resources.items device.resources
   pub few : length (leaves device) ≤ 65535
   pub apart : AreApart (leaves device)

@@ -3,8 +3,8 @@ use Rattle.std.specs.Prelude.{ℕ, List, [], None, Some, Option, slice_get}
 use Rattle.fb_model.specs.Names.{Place, at_place}
 use Rattle.fb_model.specs.Wires.{Leaf}
 use Rattle.fb_model.specs.Certificates.{events_of}
-use Rattle.fb_invoke.specs.declared.table.Point.{Point}
-use Rattle.fb_invoke.specs.Views.{named}
+use Rattle.fb_chart.specs.declared.table.Point.{Point}
+use Rattle.fb_chart.specs.Views.{named}
 
 abbrev pub place_in : Option Leaf → ℕ → Place
 place_in None event = at_place [] []

@@ -1,17 +1,18 @@
 //! The data outputs that an event output is WITH.
 
 ghost use Rattle.std.specs.Prelude.{◌≡◌, map, string_bytes, IfOk};
-ghost use Rattle.fb_model.specs.Names.{Name};
-ghost use Rattle.fb_model.specs.Services.{service_gives};
 ghost use Rattle.fb_model.specs.Store as store;
 ghost use Rattle.fb_check.specs.fb_blocks.Views.{events_of};
-ghost use Rattle.fb_check.specs.fb_services.Views.{service_of};
 ghost use Rattle.fb_check.specs.fb_flat.Leaves.{kind_of};
-ghost use Rattle.fb_tables.specs.Runnable.{IsServed, CanRun};
+ghost use Rattle.fb_chart.specs.Tables.{Each};
+ghost use Rattle.fb_tables.specs.Filling.{IsSmallKind, IsGiveMade};
 
+use crate::carry;
+use crate::take::count;
+use fb_chart::Give;
 use fb_check::fb_columns::fb_flat::Body;
-use fb_check::fb_columns::fb_flat::fb_types::fb_networks::fb_services::Service;
 use fb_check::fb_columns::fb_flat::fb_types::fb_networks::fb_services::fb_blocks::Events;
+use st_code::Layout;
 use std::alloc::{AllocError, Global};
 
 // The same names again.
@@ -35,22 +36,40 @@ fn carried(alloc: Global, events: &Events, name: &str) -> Result<Vec<String>, Al
     }
 }
 
-// What an event output of a service is WITH: the values of an INPUT.
-fn served(alloc: Global, service: &Service) -> Result<Vec<String>, AllocError>
-    ensures { (o : Name) → IsServed (service_of service.now) → IfOk result (λ v. map string_bytes v.items ≡ service_gives (service_of service.now) o) }
-{
-    match service {
-        Service::Input(_, _) => service.outputs(alloc),
-        _ => Ok(Vec::new(alloc)),
-    }
-}
-
-/// The data outputs that the event output of a name is WITH.
-pub fn given(alloc: Global, body: &Body, name: &str) -> Result<Vec<String>, AllocError>
-    ensures { CanRun (kind_of body.now) → IfOk result (λ v. map string_bytes v.items ≡ store.gives (kind_of body.now) name.now) }
+/// The names of the data outputs that the event output of a name is WITH.
+pub(crate) fn given(alloc: Global, body: &Body, name: &str) -> Result<Vec<String>, AllocError>
+    ensures { IsSmallKind (kind_of body.now) → IfOk result (λ v. map string_bytes v.items ≡ store.gives (kind_of body.now) name.now) }
 {
     match body {
         Body::Basic(block) => carried(alloc, &block.face.event_outputs, name),
-        Body::Served(service) => served(alloc, service),
+        Body::Served(service) => carry::given(alloc, service, name),
     }
+}
+
+// The data output of a name with its slots.
+fn give(own: &Layout, issued: &Layout, name: &String) -> Result<Give, AllocError>
+    ensures { IfOk result (λ g. IsGiveMade own.now issued.now (string_bytes name.now) g) }
+{
+    Ok(Give {
+        output: name.clone()?,
+        own: own.slot(name.as_str()),
+        issued: issued.slot(name.as_str()),
+        count: count(own, name.as_str()),
+    })
+}
+
+/// Data outputs with their slots, in order.
+pub(crate) fn gives(
+    alloc: Global,
+    own: &Layout,
+    issued: &Layout,
+    names: &[String],
+) -> Result<Vec<Give>, AllocError>
+    ensures { IfOk result (λ v. Each (IsGiveMade own.now issued.now) (map string_bytes names.now) v.items) }
+{
+    let mut gives = Vec::new(alloc);
+    for name in names {
+        gives.push(give(own, issued, name)?)?;
+    }
+    Ok(gives)
 }

@@ -1,20 +1,21 @@
-//! A device by numbers: its blocks, their events with what these weigh and take, their charts, and where their outputs lead.
-//! So far of devices whose blocks are charts, and the services INPUT and OUTPUT.
+//! A device by numbers and slots: its blocks, their events with what these weigh and take, their charts and ports, and where their outputs lead.
 #![tactic(auto)]
 
 mod block;
+mod body;
+mod carry;
 mod chart;
+mod event;
 mod give;
 mod names;
 mod number;
-mod runnable;
+mod port;
 mod seat;
+mod state;
 mod table;
 mod take;
 mod target;
-mod unfit;
 
 pub use fb_check;
 pub use number::tables;
 pub use table::{Resource, Tables};
-pub use unfit::Unfit;

@@ -1,25 +1,24 @@
 //! From what was checked to tables.
 
-ghost use Rattle.std.specs.Prelude.{◌≡◌, ◌<◌, length, Some, slice_get, IfOk, IfErr};
-ghost use Rattle.std.specs.List.{AllByRecursion};
+ghost use Rattle.std.specs.Prelude.{◌≡◌, ◌<◌, length, map, Some, slice_get, IfOk};
 ghost use Rattle.fb_model.specs.System.{Device};
-ghost use Rattle.fb_model.specs.Wires.{Leaf, leaves};
+ghost use Rattle.fb_model.specs.Wires.{leaves};
+ghost use Rattle.st_exec.specs.Cells.{forms_of};
 ghost use Rattle.fb_cert.specs.Views.{count_in};
 ghost use Rattle.fb_check.specs.Verdicts.{system_in, certificate_in};
-ghost use Rattle.fb_tables.specs.Runnable.{CanRun, IsUnfit};
+ghost use Rattle.fb_first.specs.First.{AreFirst};
 ghost use Rattle.fb_tables.specs.Tables.{AreTables};
-ghost use Rattle.fb_invoke.specs.Tables.{Each};
+ghost use Rattle.fb_chart.specs.Tables.{Each};
 ghost use Rattle.fb_tables.specs.Filling.{IsResourceMade};
-ghost use Rattle.fb_tables.specs.declared.unfit.Unfit.TheVariants.{OutOfMemory};
 
 use crate::block::blocks;
-use crate::runnable::all_run;
-use crate::seat::{paths, seats};
+use crate::port::ports;
+use crate::seat::{homes, paths, seats};
 use crate::table::{Resource, Tables};
-use crate::unfit::Unfit;
 use fb_cert::Certificate;
 use fb_check::Verified;
 use fb_check::fb_columns::fb_flat::{fb_types, joined};
+use fb_first::FirstValues;
 use std::alloc::{AllocError, Global};
 
 // The depth of a row, 0 where there is none.
@@ -64,24 +63,32 @@ fn resources(
     Ok(resources)
 }
 
-/// The tables of the device of this number, counted from 0.
+/// The tables of the device of this number, counted from 0, whose first values are these.
 ///
 /// Its blocks are the leaves of the device, depth first in text order, and its numbers are those of the certificate.
-/// Refused with `CannotRun` where there is a leaf that a device cannot run yet, at the first.
-pub fn tables(alloc: Global, verified: &Verified, device: usize) -> Result<Tables, Unfit>
+pub fn tables(
+    alloc: Global,
+    verified: &Verified,
+    device: usize,
+    values: &FirstValues,
+) -> Result<Tables, AllocError>
     requires within { device < length (system_in verified.now).devices }
-    ensures tables { (d : Device) → slice_get (system_in verified.now).devices device ≡ Some d → IfOk result (AreTables (certificate_in verified.now) d) }
-    ensures refused { (d : Device) → slice_get (system_in verified.now).devices device ≡ Some d → IfErr result (IsUnfit d) }
-    ensures runs { (d : Device) → slice_get (system_in verified.now).devices device ≡ Some d → AllByRecursion (λ (leaf : Leaf). CanRun leaf.kind) (leaves d) → IfErr result (λ f. f ≡ OutOfMemory) }
+    requires first { (d : Device) → slice_get (system_in verified.now).devices device ≡ Some d → AreFirst (leaves d) values.now.own.items values.now.issued.items }
+    ensures { (d : Device) → slice_get (system_in verified.now).devices device ≡ Some d → IfOk result (AreTables (certificate_in verified.now) d (map forms_of values.now.own.items) (map forms_of values.now.issued.items)) }
 {
     verified.fits();
     let certificate = verified.certificate();
     let flat = &verified.flat().devices[device];
     let typed = &verified.typed().devices[device];
-    let seats = seats(alloc, &flat.resources)?;
-    all_run(&seats)?;
+    let homes = homes(alloc, &flat.resources)?;
+    let seats = seats(alloc, &homes, &values.own, &values.issued)?;
     let paths = paths(alloc, &seats)?;
     let blocks = blocks(alloc, certificate, &paths, &seats)?;
+    let ports = ports(alloc, &seats)?;
     let resources = resources(alloc, certificate, typed.name.as_str(), &typed.resources)?;
-    Ok(Tables { blocks, resources })
+    Ok(Tables {
+        blocks,
+        ports,
+        resources,
+    })
 }

@@ -2,49 +2,88 @@
 
 ghost use Rattle.std.specs.Prelude.{◌≡◌, ◌≤◌, ◌++◌, length, map, IfOk, OnOk};
 ghost use Rattle.fb_model.specs.Typing.{AreDistinct};
+ghost use Rattle.st_exec.specs.Cells.{forms_of};
 ghost use Rattle.fb_check.specs.fb_blocks.Views.{names_of};
-ghost use Rattle.fb_tables.specs.Filling.{seats_of, numbered, numbered_from, paths_of, most_numbers};
+ghost use Rattle.fb_tables.specs.Filling.{homes_of, seats_of, numbered, numbered_from, paths_of, most_numbers, AreSeats};
 
 use crate::names::short;
+use fb_chart::Store;
 use fb_check::fb_columns::fb_flat::fb_types::fb_networks::fb_services::fb_blocks::insert;
 use fb_check::fb_columns::fb_flat::{FlatResource, Leaf};
 use indexmap::IndexSet;
+use st_code::Layout;
 use std::alloc::{AllocError, Global};
 
 /// A leaf, and the number of its resource.
 #[derive(Clone, Copy)]
-pub struct Seat<'a> {
-    pub resource: u16,
-    pub leaf: &'a Leaf,
+pub(crate) struct Home<'a> {
+    pub(crate) resource: u16,
+    pub(crate) leaf: &'a Leaf,
+}
+
+/// A leaf with the number of its resource, and where its working and its issued values lie.
+#[derive(Clone, Copy)]
+pub(crate) struct Seat<'a> {
+    pub(crate) resource: u16,
+    pub(crate) leaf: &'a Leaf,
+    pub(crate) own: &'a Layout,
+    pub(crate) issued: &'a Layout,
 }
 
 // Adds the leaves of a resource at the end.
 fn add_leaves<'a>(
-    seats: &mut Vec<Seat<'a>>,
+    homes: &mut Vec<Home<'a>>,
     resource: u16,
     leaves: &'a [Leaf],
 ) -> Result<(), AllocError>
-    ensures { OnOk result (seats_of seats.new.items ≡ seats_of seats.old.items ++ numbered resource leaves.now) }
+    ensures { OnOk result (homes_of homes.new.items ≡ homes_of homes.old.items ++ numbered resource leaves.now) }
 {
     for leaf in leaves {
-        seats.push(Seat { resource, leaf })?;
+        homes.push(Home { resource, leaf })?;
     }
     Ok(())
 }
 
 /// The leaves of resources in order, each with the number of its resource.
-pub fn seats<'a>(alloc: Global, resources: &'a [FlatResource]) -> Result<Vec<Seat<'a>>, AllocError>
-    ensures { length resources.now ≤ most_numbers → IfOk result (λ v. seats_of v.items ≡ numbered_from 0 resources.now) }
+pub(crate) fn homes<'a>(
+    alloc: Global,
+    resources: &'a [FlatResource],
+) -> Result<Vec<Home<'a>>, AllocError>
+    ensures { length resources.now ≤ most_numbers → IfOk result (λ v. homes_of v.items ≡ numbered_from 0 resources.now) }
+{
+    let mut homes = Vec::new(alloc);
+    for index in 0..resources.len() {
+        add_leaves(&mut homes, short(index), &resources[index].leaves)?;
+    }
+    Ok(homes)
+}
+
+/// Leaves in order, each with where its values lie.
+pub(crate) fn seats<'a>(
+    alloc: Global,
+    homes: &[Home<'a>],
+    own: &'a [Store],
+    issued: &'a [Store],
+) -> Result<Vec<Seat<'a>>, AllocError>
+    requires own { length own.now ≡ length homes.now }
+    requires issued { length issued.now ≡ length homes.now }
+    ensures { IfOk result (λ v. AreSeats (homes_of homes.now) (map forms_of own.now) (map forms_of issued.now) (seats_of v.items)) }
 {
     let mut seats = Vec::new(alloc);
-    for index in 0..resources.len() {
-        add_leaves(&mut seats, short(index), &resources[index].leaves)?;
+    for index in 0..homes.len() {
+        let home = homes[index];
+        seats.push(Seat {
+            resource: home.resource,
+            leaf: home.leaf,
+            own: own[index].layout(),
+            issued: issued[index].layout(),
+        })?;
     }
     Ok(seats)
 }
 
 /// The paths of leaves, in order.
-pub fn paths(alloc: Global, seats: &[Seat]) -> Result<IndexSet<String>, AllocError>
+pub(crate) fn paths(alloc: Global, seats: &[Seat]) -> Result<IndexSet<String>, AllocError>
     ensures { AreDistinct (paths_of (seats_of seats.now)) → IfOk result (λ t. names_of t ≡ paths_of (seats_of seats.now)) }
 {
     let mut names = IndexSet::new(alloc);

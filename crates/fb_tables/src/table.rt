@@ -1,6 +1,7 @@
 //! A device by numbers.
 
-use fb_invoke::Block;
+use fb_chart::Block;
+use fb_serve::Ports;
 
 /// A resource, with its DEPTH.
 #[derive(Drop)]
@@ -9,10 +10,11 @@ pub struct Resource {
     pub depth: u64,
 }
 
-/// A device: its blocks by resource and then in text order, and its resources in text order.
+/// A device: its blocks by resource and then in text order, the ports of each of them (which mean nothing of a chart), and its resources in text order.
 #[derive(Drop)]
 pub struct Tables {
     pub blocks: Vec<Block>,
+    pub ports: Vec<Ports>,
     pub resources: Vec<Resource>,
 }
 

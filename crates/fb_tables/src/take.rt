@@ -1,25 +1,55 @@
-//! The data inputs that an event takes, and where their values come from.
+//! The data inputs that an event takes, their slots, and where their values come from.
 
-ghost use Rattle.std.specs.Prelude.{◌≡◌, map, string_bytes, IfOk};
+ghost use Rattle.std.specs.Prelude.{◌≡◌, map, string_bytes, Some, slice_get, IfOk};
 ghost use Rattle.std.specs.Option.{option_map};
 ghost use Rattle.fb_check.specs.fb_blocks.Views.{names_of};
-ghost use Rattle.fb_invoke.specs.Tables.{Each};
-ghost use Rattle.fb_tables.specs.Filling.{source_named, IsSourceMade, IsTakeMade};
+ghost use Rattle.fb_chart.specs.Tables.{Each};
+ghost use Rattle.fb_chart.specs.Sampling.{count_among};
+ghost use Rattle.fb_tables.specs.Filling.{source_named, seats_of, IsSlotAt, IsSourceMade, IsTakeMade};
 
 use crate::names::number;
+use crate::seat::Seat;
+use fb_chart::{Source, Take};
 use fb_check::fb_columns::fb_flat;
 use fb_check::fb_columns::fb_flat::Input;
-use fb_invoke::{Source, Take};
 use indexmap::IndexSet;
+use st_code::Layout;
 use std::alloc::{AllocError, Global};
 
-// A source: an output by the number of its block, or a constant.
-fn origin(paths: &IndexSet<String>, source: &fb_flat::Source) -> Result<Source, AllocError>
-    ensures { IfOk result (λ s. IsSourceMade (names_of paths.now) source.now s) }
+/// How many slots a variable has.
+pub(crate) fn count(layout: &Layout, name: &str) -> usize
+    ensures { result ≡ count_among layout.now name.now }
+{
+    let _room = layout.size();
+    match layout.place(name) {
+        Some(place) => place.count(),
+        None => 1,
+    }
+}
+
+// The slot of an output of the block of a number, 0 where there is no such block.
+fn slot_at(seats: &[Seat], block: u16, name: &str) -> usize
+    ensures { IsSlotAt (seats_of seats.now) block name.now result }
+{
+    match seats.get(block as usize) {
+        Some(seat) => seat.issued.slot(name),
+        None => 0,
+    }
+}
+
+// A source: an output by the number of its block and its slot, or a constant.
+fn origin(
+    paths: &IndexSet<String>,
+    seats: &[Seat],
+    source: &fb_flat::Source,
+) -> Result<Source, AllocError>
+    ensures { IfOk result (λ s. IsSourceMade (names_of paths.now) (seats_of seats.now) source.now s) }
 {
     match source {
         fb_flat::Source::Output(path, name) => {
-            Ok(Source::Output(number(paths, path.as_str()), name.clone()?))
+            let block = number(paths, path.as_str());
+            let slot = slot_at(seats, block, name.as_str());
+            Ok(Source::Output(block, name.clone()?, slot))
         }
         fb_flat::Source::Number(number) => Ok(Source::Number(*number)),
         fb_flat::Source::Zeros(_, _) => Ok(Source::Number(0)),
@@ -39,31 +69,41 @@ fn source_of<'a>(inputs: &'a [Input], name: &str) -> Option<&'a fb_flat::Source>
 }
 
 // The input of a name takes its value.
-fn taken(paths: &IndexSet<String>, inputs: &[Input], name: &String) -> Result<Take, AllocError>
-    ensures { IfOk result (λ t. IsTakeMade (names_of paths.now) inputs.now (string_bytes name.now) t) }
+fn taken(
+    paths: &IndexSet<String>,
+    seats: &[Seat],
+    own: &Layout,
+    inputs: &[Input],
+    name: &String,
+) -> Result<Take, AllocError>
+    ensures { IfOk result (λ t. IsTakeMade (names_of paths.now) (seats_of seats.now) own.now inputs.now (string_bytes name.now) t) }
 {
     let source = match source_of(inputs, name.as_str()) {
-        Some(source) => origin(paths, source)?,
+        Some(source) => origin(paths, seats, source)?,
         None => Source::Number(0),
     };
     Ok(Take {
         input: name.clone()?,
+        slot: own.slot(name.as_str()),
+        count: count(own, name.as_str()),
         source,
     })
 }
 
 /// The inputs of these names take their values, in order.
-pub fn takes(
+pub(crate) fn takes(
     alloc: Global,
     paths: &IndexSet<String>,
+    seats: &[Seat],
+    own: &Layout,
     inputs: &[Input],
     names: &[String],
 ) -> Result<Vec<Take>, AllocError>
-    ensures { IfOk result (λ v. Each (IsTakeMade (names_of paths.now) inputs.now) (map string_bytes names.now) v.items) }
+    ensures { IfOk result (λ v. Each (IsTakeMade (names_of paths.now) (seats_of seats.now) own.now inputs.now) (map string_bytes names.now) v.items) }
 {
     let mut takes = Vec::new(alloc);
     for name in names {
-        takes.push(taken(paths, inputs, name)?)?;
+        takes.push(taken(paths, seats, own, inputs, name)?)?;
     }
     Ok(takes)
 }

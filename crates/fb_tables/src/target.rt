@@ -1,29 +1,63 @@
 //! Where outputs lead, by numbers.
 
-ghost use Rattle.std.specs.Prelude.{IfOk};
+ghost use Rattle.std.specs.Prelude.{◌≡◌, IfOk, if◌then◌else◌};
+ghost use Rattle.std.specs.Str.{bytes_eq};
 ghost use Rattle.fb_model.specs.Certificates.{events_of};
 ghost use Rattle.fb_check.specs.fb_blocks.Views.{names_of};
+ghost use Rattle.fb_check.specs.fb_services.Views.{service_of};
 ghost use Rattle.fb_check.specs.fb_flat.Leaves.{kind_of};
-ghost use Rattle.fb_invoke.specs.Tables.{Each};
-ghost use Rattle.fb_tables.specs.Runnable.{CanRun};
-ghost use Rattle.fb_tables.specs.Filling.{IsNumber, IsPointMade, IsOutputMade, seats_of};
+ghost use Rattle.fb_chart.specs.Tables.{Each};
+ghost use Rattle.fb_tables.specs.Filling.{service_event, IsNumber, IsPointMade, IsOutputMade, seat_of, seats_of};
 
-use crate::give::given;
+use crate::give::{given, gives};
 use crate::names::{number, number_in};
 use crate::seat::Seat;
+use fb_chart::{Output, Point};
 use fb_check::fb_columns::fb_flat;
+use fb_check::fb_columns::fb_flat::fb_types::fb_networks::fb_services::Service;
 use fb_check::fb_columns::fb_flat::{Body, Target};
-use fb_invoke::{Output, Point};
 use indexmap::IndexSet;
 use std::alloc::{AllocError, Global};
 
-// The number of an event of a body. An INPUT and an OUTPUT have one.
+// The number of a name that is one of two, by the first.
+fn of_two(name: &str, first: &str) -> u16
+    ensures { result ≡ (if bytes_eq name.now first.now then 0 else 1) }
+{
+    if name == first { 0 } else { 1 }
+}
+
+// The number of a name that is one of three, by the first two.
+fn of_three(name: &str, first: &str, second: &str) -> u16
+    ensures { result ≡ (if bytes_eq name.now first.now then 0 else if bytes_eq name.now second.now then 1 else 2) }
+{
+    if name == first {
+        0
+    } else if name == second {
+        1
+    } else {
+        2
+    }
+}
+
+// The number of an event input or arrival of a service.
+fn served(service: &Service, name: &str) -> u16
+    ensures { result ≡ service_event (service_of service.now) name.now }
+{
+    match service {
+        Service::Input(_, _) | Service::Output(_, _) | Service::Restart => 0,
+        Service::Publish(_, _) => of_two(name, "INIT"),
+        Service::Subscribe(_, _) => of_three(name, "INIT", "RSP"),
+        Service::Delay | Service::Cycle => of_three(name, "START", "STOP"),
+    }
+}
+
+// The number of an event of a body.
 fn event(body: &Body, name: &str) -> u16
-    ensures { CanRun (kind_of body.now) → IsNumber (events_of (kind_of body.now)) name.now result }
+    ensures { IsNumber (events_of (kind_of body.now)) name.now result }
 {
     match body {
         Body::Basic(block) => number_in(&block.face.event_inputs, name),
-        Body::Served(_) => 0,
+        Body::Served(service) => served(service, name),
     }
 }
 
@@ -57,19 +91,20 @@ fn points(
     Ok(points)
 }
 
-// An output of a body, its targets, and the data outputs that it is WITH.
+// An output of a leaf, its targets, and the data outputs that it is WITH.
 fn output(
     alloc: Global,
     paths: &IndexSet<String>,
     seats: &[Seat],
-    body: &Body,
+    seat: &Seat,
     source: &fb_flat::Output,
 ) -> Result<Output, AllocError>
-    ensures { IfOk result (λ x. IsOutputMade (names_of paths.now) (seats_of seats.now) body.now source.now x) }
+    ensures { IfOk result (λ x. IsOutputMade (names_of paths.now) (seats_of seats.now) (seat_of seat.now) source.now x) }
 {
     let name = source.name.clone()?;
     let targets = points(alloc, paths, seats, &source.targets)?;
-    let gives = given(alloc, body, source.name.as_str())?;
+    let names = given(alloc, &seat.leaf.body, source.name.as_str())?;
+    let gives = gives(alloc, seat.own, seat.issued, &names)?;
     Ok(Output {
         name,
         targets,
@@ -77,19 +112,18 @@ fn output(
     })
 }
 
-/// Outputs of a body, in order.
-pub fn outputs(
+/// The outputs of a leaf, in order.
+pub(crate) fn outputs(
     alloc: Global,
     paths: &IndexSet<String>,
     seats: &[Seat],
-    body: &Body,
-    sources: &[fb_flat::Output],
+    seat: &Seat,
 ) -> Result<Vec<Output>, AllocError>
-    ensures { IfOk result (λ v. Each (IsOutputMade (names_of paths.now) (seats_of seats.now) body.now) sources.now v.items) }
+    ensures { IfOk result (λ v. Each (IsOutputMade (names_of paths.now) (seats_of seats.now) (seat_of seat.now)) seat.now.leaf.now.outputs.items v.items) }
 {
     let mut outputs = Vec::new(alloc);
-    for source in sources {
-        outputs.push(output(alloc, paths, seats, body, source)?)?;
+    for source in &seat.leaf.outputs {
+        outputs.push(output(alloc, paths, seats, seat, source)?)?;
     }
     Ok(outputs)
 }

@@ -1,14 +1,14 @@
-use Rattle.std.proofs.Common.{List, ◌++◌, OnOk, subst, arith}
+use Rattle.std.proofs.Common.{◌≡◌, List, ◌++◌, OnOk, subst, arith}
 use Rattle.fb_model.specs.Services.{service_outputs}
 use Rattle.fb_model.specs.Store.{variable_names}
-use Rattle.fb_invoke.specs.st_exec.Cells.{Cell}
+use Rattle.st_exec.specs.Cells.{Cell}
 use Rattle.fb_check.specs.fb_services.Views.{service_of}
-use Rattle.fb_first.specs.Filling.{Holds}
+use Rattle.fb_first.specs.Drafts.{cells_in}
 use Rattle.fb_first.proofs.Starts.{cells_named}
 use Rattle.fb_first.proofs.port.add_outputs.Goals as goal
 
 pub returns : goal.returns
 returns c =
     λ few.
-    subst (λ (cs : List Cell). OnOk c.add_ports.result (Holds c.add_ports.new.store (c.args.store.now ++ cs)))
+    subst (λ (cs : List Cell). OnOk c.add_ports.result (cells_in c.add_ports.new.drafts.items ≡ cells_in c.args.drafts.now.items ++ cs))
     (cells_named c.in_ok-names.names.items (variable_names (service_outputs (service_of c.args.service.now))) (c.in_ok-names.ensures (omega (arith, few)))) (rw c.deref.ensures.value at c.add_ports.ensures)

@@ -1,5 +1,5 @@
 use Rattle.std.proofs.Common.{take}
-use Rattle.fb_invoke.specs.Tables.{Each}
+use Rattle.fb_chart.specs.Tables.{Each}
 use Rattle.fb_tables.specs.Filling.{IsResourceMade}
 use Rattle.fb_tables.proofs.number.resources.Given as goal
 

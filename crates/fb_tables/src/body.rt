@@ -1,0 +1,43 @@
+//! What blocks are made of.
+
+ghost use Rattle.std.specs.Prelude.{◌≡◌, IfOk};
+ghost use Rattle.fb_check.specs.fb_services.Views.{service_of};
+ghost use Rattle.fb_tables.specs.Filling.{IsBodyMade};
+
+use crate::chart::chart;
+use fb_chart::Body;
+use fb_check::fb_columns::fb_flat;
+use fb_check::fb_columns::fb_flat::fb_types::fb_networks::fb_services::Service;
+use st_code::Layout;
+use std::alloc::{AllocError, Global};
+
+// The same service again.
+fn again(alloc: Global, service: &Service) -> Result<Service, AllocError>
+    ensures { IfOk result (λ s. service_of s ≡ service_of service.now) }
+{
+    match service {
+        Service::Input(number, types) => Ok(Service::Input(*number, Vec::from_slice(alloc, types)?)),
+        Service::Output(number, types) => {
+            Ok(Service::Output(*number, Vec::from_slice(alloc, types)?))
+        }
+        Service::Publish(channel, types) => {
+            Ok(Service::Publish(*channel, Vec::from_slice(alloc, types)?))
+        }
+        Service::Subscribe(channel, types) => {
+            Ok(Service::Subscribe(*channel, Vec::from_slice(alloc, types)?))
+        }
+        Service::Delay => Ok(Service::Delay),
+        Service::Cycle => Ok(Service::Cycle),
+        Service::Restart => Ok(Service::Restart),
+    }
+}
+
+/// What a block is made of, whose working values lie so.
+pub(crate) fn body(alloc: Global, own: &Layout, source: &fb_flat::Body) -> Result<Body, AllocError>
+    ensures { IfOk result (λ x. IsBodyMade own.now source.now x) }
+{
+    match source {
+        fb_flat::Body::Basic(block) => Ok(Body::Chart(chart(alloc, own, block)?)),
+        fb_flat::Body::Served(service) => Ok(Body::Served(again(alloc, service)?)),
+    }
+}
