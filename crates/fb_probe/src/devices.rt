@@ -26,12 +26,15 @@ fn small(found: &[i64], at: usize) -> u16 {
     }
 }
 
-// An offer or a dispatch: `offer NUMBER VALUES`, `dispatch NUMBER`.
+// An offer, a moment or a dispatch: `offer NUMBER VALUES`, `tick NOW`, `dispatch NUMBER`.
 fn step(alloc: Global, line: &str) -> Result<Step, AllocError> {
     let mut found = numbers(alloc, line)?;
     let first = small(found.as_slice(), 0);
     if line.starts_with("dispatch") {
         return Ok(Step::Dispatch(first));
+    }
+    if let Some(now) = line.strip_prefix("tick ") {
+        return Ok(Step::Tick(now.parse::<u64>().unwrap_or(0)));
     }
     if !found.is_empty() {
         let _ = found.remove(0);
@@ -80,7 +83,7 @@ fn run(alloc: Global, out: &mut String, device: &mut Device, text: &str) -> Resu
         device.run(steps.as_slice(), answers.as_mut_slice());
     }
     for answer in &answers {
-        writeln!(out, "{}", tell(device, answer))?;
+        writeln!(out, "{}", tell(device, answer, 1))?;
     }
     Ok(())
 }
@@ -92,14 +95,15 @@ fn call(
     device: &mut Device,
     line: &str,
 ) -> Result<(), AllocError> {
-    if !line.starts_with("offer") && !line.starts_with("dispatch") {
+    if !line.starts_with("offer") && !line.starts_with("tick") && !line.starts_with("dispatch") {
         return asked(alloc, out, device, line);
     }
     let answer = match step(alloc, line)? {
         Step::Offer(number, values) => Answer::Admitted(device.offer(number, values.as_slice())),
+        Step::Tick(now) => Answer::Fired(device.tick(now)),
         Step::Dispatch(number) => Answer::Served(device.dispatch(number)),
     };
-    writeln!(out, "{}", tell(device, &answer))
+    writeln!(out, "{}", tell(device, &answer, 1))
 }
 
 // What a device answers to the lines of a case.

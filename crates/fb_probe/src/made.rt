@@ -5,8 +5,10 @@ use crate::terms::term;
 use crate::texts::{ended, refused, text_of};
 use fb_check::{Verified, check_text};
 use fb_first::first_values;
-use fb_invoke::{Block, Body, Chart, Event, Output, Source, Store};
-use fb_tables::{Tables, Unfit, tables};
+use fb_chart::{Block, Body, Chart, Event, Output, Source, Store};
+use fb_services::Service;
+use fb_tables::{Tables, tables};
+use fb_words::ElemType;
 use std::alloc::{AllocError, Global};
 use std::fmt::Write;
 
@@ -18,7 +20,9 @@ fn event(out: &mut String, event: &Event) -> Result<(), AllocError> {
     )?;
     for take in &event.takes {
         match &take.source {
-            Source::Output(block, name) => write!(out, ", {} from {block} {name}", take.input)?,
+            Source::Output(block, name, _) => {
+                write!(out, ", {} from {block} {name}", take.input)?
+            }
             Source::Number(number) => write!(out, ", {} {number}", take.input)?,
         }
     }
@@ -27,8 +31,8 @@ fn event(out: &mut String, event: &Event) -> Result<(), AllocError> {
 
 fn output(out: &mut String, output: &Output) -> Result<(), AllocError> {
     write!(out, "  output {}", output.name)?;
-    for name in &output.gives {
-        write!(out, ", gives {name}")?;
+    for give in &output.gives {
+        write!(out, ", gives {}", give.output)?;
     }
     for target in &output.targets {
         write!(out, ", to {} {}", target.block, target.event)?;
@@ -36,50 +40,101 @@ fn output(out: &mut String, output: &Output) -> Result<(), AllocError> {
     out.push('\n')
 }
 
-fn chart(out: &mut String, chart: &Chart) -> Result<(), AllocError> {
+// The name of an algorithm, by its number.
+fn algorithm<'a>(chart: &'a Chart, number: Option<u16>) -> &'a str {
+    match number {
+        Some(number) => match chart.block.procedures.get_index(number as usize) {
+            Some((name, _)) => name.as_str(),
+            None => "?",
+        },
+        None => "-",
+    }
+}
+
+fn states(out: &mut String, chart: &Chart) -> Result<(), AllocError> {
     for state in &chart.states {
         write!(out, "  state {}", state.name)?;
         for action in &state.actions {
-            let algorithm = match &action.algorithm {
-                Some(name) => name.as_str(),
-                None => "-",
-            };
+            write!(out, ", {} ", algorithm(chart, action.algorithm))?;
             match action.output {
-                Some(output) => write!(out, ", {algorithm} {output}")?,
-                None => write!(out, ", {algorithm} -")?,
+                Some(output) => write!(out, "{output}")?,
+                None => out.push('-')?,
             }
-        }
-        out.push('\n')?;
-    }
-    for (transition, named) in chart.transitions.iter().zip(&chart.block.transitions) {
-        write!(out, "  {} to {}", transition.source, transition.target)?;
-        if let Some(event) = transition.event {
-            write!(out, " at {event}")?;
-        }
-        if let Some(guard) = &named.guard {
-            out.push(' ')?;
-            term(out, guard)?;
         }
         out.push('\n')?;
     }
     Ok(())
 }
 
-fn block(out: &mut String, block: &Block) -> Result<(), AllocError> {
-    write!(out, "{} of {}", block.path, block.resource)?;
-    let types = match &block.body {
-        Body::Chart(_) => [].as_slice(),
-        Body::Input(number, types) => {
+// The transitions that leave each state, in text order.
+fn transitions(out: &mut String, chart: &Chart) -> Result<(), AllocError> {
+    let mut source = 0;
+    for state in &chart.states {
+        let mut left = state.transitions.iter();
+        for named in &chart.block.transitions {
+            if named.source.as_str() != state.name.as_str() {
+                continue;
+            }
+            let Some(transition) = left.next() else {
+                continue;
+            };
+            write!(out, "  {source} to {}", transition.target)?;
+            if let Some(event) = transition.event {
+                write!(out, " at {event}")?;
+            }
+            if let Some(guard) = &named.guard {
+                out.push(' ')?;
+                term(out, guard)?;
+            }
+            out.push('\n')?;
+        }
+        source += 1;
+    }
+    Ok(())
+}
+
+// What a service is, and the types of its values.
+fn service(out: &mut String, service: &Service) -> Result<(), AllocError> {
+    let types: &[ElemType] = match service {
+        Service::Input(number, types) => {
             write!(out, " input {number}")?;
             types.as_slice()
         }
-        Body::Output(number, types) => {
+        Service::Output(number, types) => {
             write!(out, " output {number}")?;
             types.as_slice()
+        }
+        Service::Publish(channel, types) => {
+            write!(out, " publish {}", channel.number)?;
+            types.as_slice()
+        }
+        Service::Subscribe(channel, types) => {
+            write!(out, " subscribe {}", channel.number)?;
+            types.as_slice()
+        }
+        Service::Delay => {
+            write!(out, " delay")?;
+            &[]
+        }
+        Service::Cycle => {
+            write!(out, " cycle")?;
+            &[]
+        }
+        Service::Restart => {
+            write!(out, " restart")?;
+            &[]
         }
     };
     for of_type in types {
         write!(out, " {}", of_type.name())?;
+    }
+    Ok(())
+}
+
+fn block(out: &mut String, block: &Block) -> Result<(), AllocError> {
+    write!(out, "{} of {}", block.path, block.resource)?;
+    if let Body::Served(it) = &block.body {
+        service(out, it)?;
     }
     out.push('\n')?;
     for it in &block.events {
@@ -89,8 +144,11 @@ fn block(out: &mut String, block: &Block) -> Result<(), AllocError> {
         output(out, it)?;
     }
     match &block.body {
-        Body::Chart(it) => chart(out, it),
-        _ => Ok(()),
+        Body::Chart(it) => {
+            states(out, it)?;
+            transitions(out, it)
+        }
+        Body::Served(_) => Ok(()),
     }
 }
 
@@ -111,15 +169,11 @@ fn first_tables(alloc: Global, verified: &Verified) -> Result<String, AllocError
     if count < 1 {
         return String::from_str(alloc, "no device");
     }
-    match tables(alloc, verified, 0) {
-        Ok(found) => {
-            let answer = told(alloc, &found);
-            found.let_go();
-            answer
-        }
-        Err(Unfit::CannotRun(path)) => format!(in alloc; "cannot run {path}"),
-        Err(Unfit::OutOfMemory) => Err(AllocError),
-    }
+    let values = first_values(alloc, verified, 0)?;
+    let found = tables(alloc, verified, 0, &values)?;
+    let answer = told(alloc, &found);
+    found.let_go();
+    answer
 }
 
 /// The blocks and resources of the first device, by numbers, or why there are none.
@@ -135,18 +189,13 @@ pub fn tables_of(alloc: Global, case: &Case<'_>) -> Result<String, AllocError> {
     }
 }
 
-// The numbers that a store has of these variables. It has a variable just where it cannot be declared once more.
-fn values(
-    alloc: Global,
-    out: &mut String,
-    mut store: Store,
-    names: &str,
-) -> Result<(), AllocError> {
+// The numbers that a store has of these variables; 0 of an array.
+fn values(out: &mut String, store: &Store, names: &str) -> Result<(), AllocError> {
     for name in names.split_whitespace() {
-        if store.declare(alloc, name, None, 0)? {
-            continue;
+        let layout = store.layout();
+        if layout.place(name).is_some() {
+            write!(out, " {name} {}", store.number(layout.plain_slot(name)))?;
         }
-        write!(out, " {name} {}", store.number(name))?;
     }
     Ok(())
 }
@@ -161,9 +210,9 @@ fn first_of(alloc: Global, verified: &Verified, names: &str) -> Result<String, A
     let found = first_values(alloc, verified, 0)?;
     for (own, issued) in found.own.into_iter().zip(found.issued) {
         out.push_str("own")?;
-        values(alloc, &mut out, own, names)?;
+        values(&mut out, &own, names)?;
         out.push_str("\nissued")?;
-        values(alloc, &mut out, issued, names)?;
+        values(&mut out, &issued, names)?;
         out.push('\n')?;
     }
     Ok(ended(out))
