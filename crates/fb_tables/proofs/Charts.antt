@@ -66,16 +66,14 @@ few k closed =
 
 -- ---- what a chart names
 
--- a transition between these states, at one of these events
+-- a transition to one of these states, at one of these events
 pub record IsCrossing (states inputs : List Name) (t : book.Transition) : Type 0 where
-  pub source : is_in t.source states ≡ true
   pub target : is_in t.target states ≡ true
   pub event : IsListed inputs t.event
 
-crossings : (states inputs : List Name) (ts : List book.Transition) → AllByRecursion (λ (t : book.Transition). is_in t.source states ≡ true) ts → AllByRecursion (λ (t : book.Transition). is_in t.target states ≡ true) ts
-    → AllByRecursion (λ (t : book.Transition). IsListed inputs t.event) ts → AllByRecursion (IsCrossing states inputs) ts
-crossings states inputs [] s t e = tt
-crossings states inputs (x ∷ xs) s t e = (record { source = s.0; target = t.0; event = e.0 }, crossings states inputs xs s.1 t.1 e.1)
+crossings : (states inputs : List Name) (ts : List book.Transition) → AllByRecursion (λ (t : book.Transition). is_in t.target states ≡ true) ts → AllByRecursion (λ (t : book.Transition). IsListed inputs t.event) ts → AllByRecursion (IsCrossing states inputs) ts
+crossings states inputs [] t e = tt
+crossings states inputs (x ∷ xs) t e = (record { target = t.0; event = e.0 }, crossings states inputs xs t.1 e.1)
 
 -- actions emit these outputs, if any
 abbrev Emits : List Name → book.State → Type 0
@@ -94,7 +92,7 @@ tabled k closed =
     let crossed : AllByRecursion (IsCrossing (states_in k) (inputs_in k)) ts =
     subst (λ (states : List Name). AllByRecursion (IsCrossing states (inputs_in k)) ts) (states_are k)
     (subst (λ (ins : List Name). AllByRecursion (IsCrossing (names (block_of k).states) ins) ts) (inputs_are k)
-    (crossings (names (block_of k).states) (event_names (block_of k).event_inputs) ts closed.sources closed.targets closed.events)) in
+    (crossings (names (block_of k).states) (event_names (block_of k).event_inputs) ts closed.targets closed.events)) in
     record {
       states = all_source (λ (s : Entry). Emits (outputs_in k) (entry_state s)) (Emits (outputs_in k)) entry_state k.states.entries (λ s h. h) emit;
       transitions = all_source (λ (t : from_transition.Transition). IsCrossing (states_in k) (inputs_in k) (source.transition_of t)) (IsCrossing (states_in k) (inputs_in k)) source.transition_of k.transitions.items (λ t h. h) crossed;

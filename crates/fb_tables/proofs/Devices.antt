@@ -97,6 +97,8 @@ pub record IsKnown (v : Verified) (f : FlatDevice) (d : book.Device) : Type 0 wh
 
 algorithms_many : (env : List TextEntry) (fs : List AlgorithmTree) (ps : List book.Procedure) → AreProcedures env fs ps → length ps ≡ length fs
 algorithms_many env [] [] no_procedure = refl
+algorithms_many env [] (p ∷ ps) h = elim h [ ]
+algorithms_many env (a ∷ fs) [] h = elim h [ ]
 algorithms_many env (a ∷ fs) (p ∷ ps) (a_procedure n t h) = ap suc (algorithms_many env fs ps h)
 
 few_algorithms : (b : BlockTree) (c : ChartTree) (k : book.Block) → IsBasic b c k → HasFew k

@@ -14,5 +14,6 @@ pub mod Points
 pub mod Takes
 pub mod Carried
 pub mod Ports
+pub mod Giving
 pub mod Blocks
 pub mod Devices

@@ -88,3 +88,16 @@ got_at f xs i x h = let k = got xs i x h in there f xs i x k.0 k.1
 pub all_source : {X Y : Type 0} (Q : X → Type 0) (P : Y → Type 0) (f : X → Y) (xs : List X) → ((x : X) → P (f x) → Q x) → AllByRecursion P (map f xs) → AllByRecursion Q xs
 all_source Q P f [] g h = tt
 all_source Q P f (x ∷ xs) g h = (g x h.0, all_source Q P f xs g h.1)
+
+-- what stands at an index does not hang on what else there might be
+got_either : {X : Type 0} (xs : List X) (i : ℕ) (d e : X) → i < length xs → get_or xs i d ≡ get_or xs i e
+got_either [] i d e l = absurd (omega arith)
+got_either (x ∷ xs) zero d e l = refl
+got_either (x ∷ xs) (suc i) d e l = got_either xs i d e (omega arith)
+
+-- one more of images and of what is made of them
+pub each_image_more : {X Y Z : Type 0} (R : Z → Y → Type 0) (f : X → Z) (xs : List X) (i : ℕ) (d : X) (ys new : List Y) (y : Y) → i < length xs → new ≡ ys ++ y ∷ [] → Each R (take i (map f xs)) ys → R (f (get_or xs i d)) y → Each R (take (i + 1) (map f xs)) new
+each_image_more R f xs i d ys new y l n h r =
+    let x = get_or xs i d in
+    let g = there f xs i x l (got_either xs i d x l) in
+    each_more R (map f xs) i (f x) ys new y g.0 g.1 n h r

@@ -68,10 +68,10 @@ eventful (Charted block) c w =
     }
 eventful (Serviced (book.Input number types)) c w = record { few = omega arith; apart = (refl, tt); words = w; outputs = (refl, tt) }
 eventful (Serviced (book.Output number types)) c w = record { few = omega arith; apart = (refl, tt); words = w; outputs = tt }
-eventful (Serviced (book.Publish channel types)) c w = record { few = omega arith; apart = (refl, refl, tt); words = w; outputs = (refl, refl, tt) }
-eventful (Serviced (book.Subscribe channel types)) c w = record { few = omega arith; apart = (refl, refl, refl, tt); words = w; outputs = (refl, refl, tt) }
-eventful (Serviced book.Delay) c w = record { few = omega arith; apart = (refl, refl, refl, tt); words = w; outputs = (refl, tt) }
-eventful (Serviced book.Cycle) c w = record { few = omega arith; apart = (refl, refl, refl, tt); words = w; outputs = (refl, tt) }
+eventful (Serviced (book.Publish channel types)) c w = record { few = omega arith; apart = (refl, (refl, tt)); words = w; outputs = (refl, (refl, tt)) }
+eventful (Serviced (book.Subscribe channel types)) c w = record { few = omega arith; apart = (refl, (refl, (refl, tt))); words = w; outputs = (refl, (refl, tt)) }
+eventful (Serviced book.Delay) c w = record { few = omega arith; apart = (refl, (refl, (refl, tt))); words = w; outputs = (refl, tt) }
+eventful (Serviced book.Cycle) c w = record { few = omega arith; apart = (refl, (refl, (refl, tt))); words = w; outputs = (refl, tt) }
 eventful (Serviced book.Restart) c w = record { few = omega arith; apart = (refl, tt); words = w; outputs = (refl, tt) }
 
 -- a chart has few algorithms

@@ -26,7 +26,7 @@ fn block(
 {
     let path = seat.leaf.path.clone()?;
     let events = events(alloc, certificate, paths, seats, seat)?;
-    let outputs = outputs(alloc, paths, seats, seat)?;
+    let outputs = outputs(alloc, paths, seats, seat, &seat.leaf.outputs)?;
     let body = body(alloc, seat.own, &seat.leaf.body)?;
     Ok(Block {
         path,

@@ -16,7 +16,10 @@ fn again(alloc: Global, service: &Service) -> Result<Service, AllocError>
     ensures { IfOk result (λ s. service_of s ≡ service_of service.now) }
 {
     match service {
-        Service::Input(number, types) => Ok(Service::Input(*number, Vec::from_slice(alloc, types)?)),
+        Service::Input(number, types) => Ok(Service::Input(
+            *number,
+            Vec::from_slice(alloc, types)?,
+        )),
         Service::Output(number, types) => {
             Ok(Service::Output(*number, Vec::from_slice(alloc, types)?))
         }

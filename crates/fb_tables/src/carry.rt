@@ -19,7 +19,11 @@ fn one(alloc: Global, name: &str) -> Result<Vec<String>, AllocError>
 }
 
 /// The data inputs that an event input or arrival of a service is WITH.
-pub(crate) fn taken(alloc: Global, service: &Service, event: &str) -> Result<Vec<String>, AllocError>
+pub(crate) fn taken(
+    alloc: Global,
+    service: &Service,
+    event: &str,
+) -> Result<Vec<String>, AllocError>
     ensures { IsSmall (service_of service.now) → IfOk result (λ v. map string_bytes v.items ≡ service_takes (service_of service.now) event.now) }
 {
     match service {
@@ -50,7 +54,11 @@ pub(crate) fn taken(alloc: Global, service: &Service, event: &str) -> Result<Vec
 }
 
 /// The data outputs that an event output of a service is WITH.
-pub(crate) fn given(alloc: Global, service: &Service, event: &str) -> Result<Vec<String>, AllocError>
+pub(crate) fn given(
+    alloc: Global,
+    service: &Service,
+    event: &str,
+) -> Result<Vec<String>, AllocError>
     ensures { IsSmall (service_of service.now) → IfOk result (λ v. map string_bytes v.items ≡ service_gives (service_of service.now) event.now) }
 {
     match service {

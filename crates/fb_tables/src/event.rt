@@ -73,7 +73,15 @@ fn charted(
         let Some((name, carried)) = sources.get_index(index) else {
             return Ok(events);
         };
-        events.push(event(alloc, certificate, paths, seats, seat, name.as_str(), carried)?)?;
+        events.push(event(
+            alloc,
+            certificate,
+            paths,
+            seats,
+            seat,
+            name.as_str(),
+            carried,
+        )?)?;
     }
     Ok(events)
 }
@@ -167,7 +175,14 @@ pub(crate) fn events(
 {
     match &seat.leaf.body {
         Body::Basic(block) => {
-            charted(alloc, certificate, paths, seats, seat, &block.face.event_inputs)
+            charted(
+                alloc,
+                certificate,
+                paths,
+                seats,
+                seat,
+                &block.face.event_inputs,
+            )
         }
         Body::Served(service) => served(alloc, certificate, paths, seats, seat, service),
     }

@@ -112,17 +112,18 @@ fn output(
     })
 }
 
-/// The outputs of a leaf, in order.
+/// These outputs of a leaf, in order.
 pub(crate) fn outputs(
     alloc: Global,
     paths: &IndexSet<String>,
     seats: &[Seat],
     seat: &Seat,
+    sources: &[fb_flat::Output],
 ) -> Result<Vec<Output>, AllocError>
-    ensures { IfOk result (λ v. Each (IsOutputMade (names_of paths.now) (seats_of seats.now) (seat_of seat.now)) seat.now.leaf.now.outputs.items v.items) }
+    ensures { IfOk result (λ v. Each (IsOutputMade (names_of paths.now) (seats_of seats.now) (seat_of seat.now)) sources.now v.items) }
 {
     let mut outputs = Vec::new(alloc);
-    for source in &seat.leaf.outputs {
+    for source in sources {
         outputs.push(output(alloc, paths, seats, seat, source)?)?;
     }
     Ok(outputs)

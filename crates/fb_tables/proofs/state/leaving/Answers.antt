@@ -18,7 +18,7 @@ loop-source-preserved c =
     let tested : bytes_eq (string_bytes t.source) x ≡ c.eq.result = ap (λ y. bytes_eq y x) (sym c.as_str.ensures.value) ∙ sym c.eq.ensures in
     elim c.if-eq.branch [
       | then-eq+in_ok-transition+in_ok-push w ↦
-        each_leaving made x ts i t ys c.if-eq.transitions.items w.in_ok-transition.field-0 c.loop-source-test.true c.source-item.is (tested ∙ w.if-eq.true) (ap (λ v. v.items) w.transitions-is ∙ w.in_ok-push.ensures.items) c.loop-source.invariant w.in_ok-transition.ensures
+          each_leaving made x ts i t ys c.if-eq.transitions.items w.in_ok-transition.field-0 c.loop-source-test.true c.source-item.is (tested ∙ w.if-eq.true) (ap (λ v. v.items) w.transitions-is ∙ w.in_ok-push.ensures.items) c.loop-source.invariant w.in_ok-transition.ensures
       | else-eq w ↦ each_staying made x ts i t c.if-eq.transitions.items c.loop-source-test.true c.source-item.is (tested ∙ w.if-eq.false)
-        (subst (λ (zs : List Transition). Each made (leaving_from x (take i ts)) zs) (sym (ap (λ v. v.items) w.transitions-is)) c.loop-source.invariant)
+          (subst (λ (zs : List Transition). Each made (leaving_from x (take i ts)) zs) (sym (ap (λ v. v.items) w.transitions-is)) c.loop-source.invariant)
     ]

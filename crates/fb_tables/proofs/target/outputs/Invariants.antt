@@ -5,4 +5,4 @@ use Rattle.fb_tables.specs.Filling.{IsOutputMade, seat_of, seats_of}
 use Rattle.fb_tables.proofs.target.outputs.Given as goal
 
 abbrev pub invariant-loop-source : goal.invariant-loop-source
-invariant-loop-source l = Each (IsOutputMade (names_of l.paths) (seats_of l.seats) (seat_of l.seat)) (take l.source-index l.seat.leaf.now.outputs.items) l.outputs.items
+invariant-loop-source l = Each (IsOutputMade (names_of l.paths) (seats_of l.seats) (seat_of l.seat)) (take l.source-index l.sources) l.outputs.items
