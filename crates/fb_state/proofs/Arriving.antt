@@ -1,5 +1,5 @@
 -- An arrival by numbers is one of the book's machine.
-use Rattle.std.proofs.Common.{◌≡◌, ℕ, ℤ, zero, suc, ◌+◌, ◌-◌, ◌<◌, ◌≤◌, ◌^◌, List, [], ◌∷◌, ◌++◌, map, length, length-append, set, slice_get, Option, Some, None, true, string_bytes, eqb, eq-eqb, refl, sym, ◌∙◌, ap, subst, arith, inl, inr, tt}
+use Rattle.std.proofs.Common.{◌≡◌, ℕ, ℤ, zero, suc, ◌+◌, ◌-◌, ◌<◌, ◌≤◌, ◌^◌, List, [], ◌∷◌, ◌++◌, map, length, length-append, set, slice_get, Option, Some, None, true, string_bytes, eqb, eq-eqb, refl, sym, ◌∙◌, ap, subst, arith, inl, inr}
 use Rattle.std.specs.Prelude.{IfSome}
 use Rattle.std.specs.Option.{SomeIff}
 use Rattle.std.proofs.Math.Nat.{lt_of_not-le}

@@ -34,7 +34,10 @@ pub record Pair (cert : Certificate) (all : List Leaf) (issues owns rest : List 
 pub block_of : (cert : Certificate) (all : List Leaf) (issues owns rest : List (List Form)) (xs : List Block) (ps : List Ports) (ls : List Leaf) (i : ℕ) (leaf : Leaf) → AreBlocks cert all issues owns rest xs ps ls → slice_get ls i ≡ Some leaf
     → Pair cert all issues owns rest xs ps i leaf
 block_of cert all issues owns rest xs ps [] i leaf a h = cc
-block_of cert all issues [] rest xs ps (l ∷ ls) i leaf a h = absurd a
+block_of cert all issues [] [] [] [] (l ∷ ls) i leaf a h = absurd a
+block_of cert all issues [] [] [] (p ∷ ps) (l ∷ ls) i leaf a h = absurd a
+block_of cert all issues [] [] (x ∷ xs) ps (l ∷ ls) i leaf a h = absurd a
+block_of cert all issues [] (r ∷ rs) xs ps (l ∷ ls) i leaf a h = absurd a
 block_of cert all issues (o ∷ os) [] xs ps (l ∷ ls) i leaf a h = absurd a
 block_of cert all issues (o ∷ os) (r ∷ rs) [] ps (l ∷ ls) i leaf a h = absurd a
 block_of cert all issues (o ∷ os) (r ∷ rs) (x ∷ xs) [] (l ∷ ls) i leaf a h = absurd a
@@ -48,11 +51,17 @@ block_of cert all issues (o ∷ os) (r ∷ rs) (x ∷ xs) (p ∷ ps) (l ∷ ls) 
 pub block_count : (cert : Certificate) (all : List Leaf) (issues owns rest : List (List Form)) (xs : List Block) (ps : List Ports) (ls : List Leaf) → AreBlocks cert all issues owns rest xs ps ls → (length xs ≡ length ls) × (length ps ≡ length ls)
 block_count cert all issues [] [] [] [] [] a = (refl, refl)
 block_count cert all issues (o ∷ os) (r ∷ rs) (x ∷ xs) (p ∷ ps) (l ∷ ls) a = (let n = block_count cert all issues os rs xs ps ls a.1 in (ap suc n.0, ap suc n.1))
-block_count cert all issues [] rest xs ps (l ∷ ls) a = absurd a
+block_count cert all issues [] [] [] [] (l ∷ ls) a = absurd a
+block_count cert all issues [] [] [] (p ∷ ps) (l ∷ ls) a = absurd a
+block_count cert all issues [] [] (x ∷ xs) ps (l ∷ ls) a = absurd a
+block_count cert all issues [] (r ∷ rs) xs ps (l ∷ ls) a = absurd a
 block_count cert all issues (o ∷ os) [] xs ps (l ∷ ls) a = absurd a
 block_count cert all issues (o ∷ os) (r ∷ rs) [] ps (l ∷ ls) a = absurd a
 block_count cert all issues (o ∷ os) (r ∷ rs) (x ∷ xs) [] (l ∷ ls) a = absurd a
-block_count cert all issues (o ∷ os) rest xs ps [] a = absurd a
+block_count cert all issues (o ∷ os) [] xs ps [] a = absurd a
+block_count cert all issues (o ∷ os) (r ∷ rs) [] ps [] a = absurd a
+block_count cert all issues (o ∷ os) (r ∷ rs) (x ∷ xs) [] [] a = absurd a
+block_count cert all issues (o ∷ os) (r ∷ rs) (x ∷ xs) (p ∷ ps) [] a = absurd a
 block_count cert all issues [] (r ∷ rs) xs ps [] a = absurd a
 block_count cert all issues [] [] (x ∷ xs) ps [] a = absurd a
 block_count cert all issues [] [] [] (p ∷ ps) [] a = absurd a
