@@ -80,7 +80,7 @@ fn run<E: Emit>(
 /// Dispatches an event of a block at a moment of the clock: each data input that is WITH the event takes its value, and the block runs to its end.
 /// `values` are those of an arrival.
 ///
-/// It does not trap, and takes no more than the steps of the event's WEIGHT row. What its event outputs reach is emitted, for which there is room; the
+/// It does not trap. What its event outputs reach is emitted, for which there is room; the
 /// room falls by as many. It takes no memory.
 pub fn turn<E: Emit>(
     blocks: &[Block],
