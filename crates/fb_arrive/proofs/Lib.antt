@@ -4,3 +4,4 @@ pub mod Inputs
 pub mod Firing
 pub mod Ticking
 pub mod Beginning
+pub mod Ticks

@@ -12,3 +12,4 @@ pub mod Queued
 pub mod Kept
 pub mod Moved
 pub mod Arriving
+pub mod Few
