@@ -1,7 +1,7 @@
 -- Variables that are added one after another.
-use Rattle.std.proofs.Common.{◌≡◌, ◌∙◌, ℕ, zero, suc, ◌+◌, ◌<◌, ◌≤◌, ℤ, List, [], ◌∷◌, ◌++◌, map, take, length, get_or, slice_get, Some, refl, sym, ap, subst, string_bytes, Global, arith}
+use Rattle.std.proofs.Common.{◌≡◌, ◌∙◌, ℕ, zero, suc, ◌+◌, ◌<◌, ℤ, List, [], ◌∷◌, ◌++◌, map, take, length, get_or, slice_get, Some, refl, sym, ap, string_bytes, Global, arith}
 use Rattle.std.specs.declared.string.String.{String}
-use Rattle.std.proofs.lemmas.List.{take_all, take_more, map_push, append_assoc}
+use Rattle.std.proofs.lemmas.List.{take_more, map_push, append_assoc}
 use Rattle.fb_model.specs.Names.{Name}
 use Rattle.fb_model.specs.System.{start_of}
 use Rattle.fb_model.specs.BlockTyping.{variable_of}

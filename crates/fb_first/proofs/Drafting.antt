@@ -1,21 +1,20 @@
 -- The layout and the store that are made of variables, of each name the first.
-use Rattle.std.proofs.Common.{◌≡◌, ℕ, zero, suc, ◌+◌, ◌<◌, ℤ, pos, Bool, true, false, cond, ◌||◌, List, [], ◌∷◌, ◌++◌, map, take, drop, length, get_or, Option, None, refl, sym, ap, subst, ◌∙◌, string_bytes, arith}
+use Rattle.std.proofs.Common.{◌≡◌, ℕ, zero, suc, ◌+◌, ◌<◌, pos, Bool, true, false, cond, ◌||◌, List, [], ◌∷◌, ◌++◌, take, drop, length, get_or, None, refl, sym, ap, subst, ◌∙◌, string_bytes, arith}
 use Rattle.std.specs.Prelude.{if◌then◌else◌, not}
 use Rattle.std.specs.Str.{bytes_eq}
 use Rattle.std.proofs.lemmas.List.{take_more, map_push}
 use Rattle.std.proofs.Math.Seq.{drop-cons}
 use Rattle.fb_model.specs.Names.{Name, is_in}
-use Rattle.fb_model.specs.Values.{Value, One}
 use Rattle.fb_model.specs.Language.{setting}
 use Rattle.fb_model.proofs.Lists.{same_name}
 use Rattle.fb_model.proofs.Names.{eq_turned}
 use Rattle.fb_model.proofs.Placed.{name_same}
-use Rattle.st_exec.specs.Cells.{Cell, Form, values_of, forms_of, names_in, shape_in, shape_of, filled, declared}
+use Rattle.st_exec.specs.Cells.{Cell, Form, values_of, forms_of, names_in, shape_in, shape_of, filled}
 use Rattle.st_run.specs.Kept.{zeros_in}
 use Rattle.st_run.proofs.Slots.{shape_is}
 use Rattle.st_run.proofs.Zeros.{zeros_forms, zeros_values}
 use Rattle.fb_first.specs.declared.draft.Draft.{Draft}
-use Rattle.fb_first.specs.Drafts.{Holds, IsLaidOut, form_in, forms_in, cell_in, cells_in, number_at, IsSetFrom}
+use Rattle.fb_first.specs.Drafts.{Holds, IsLaidOut, form_in, forms_in, cells_in, number_at, IsSetFrom}
 
 -- ---- variables behind others
 

@@ -1,5 +1,5 @@
 -- Stores while they are filled: the variables of a leaf of the tables, with what each has at first.
-use Rattle.std.specs.Prelude.{ℕ, ℤ, ◌≡◌, ◌≤◌, pos, List, [], ◌∷◌, ◌++◌, map, flat_map, length, string_bytes, Option, None, Some}
+use Rattle.std.specs.Prelude.{ℕ, ℤ, ◌≤◌, pos, List, [], ◌∷◌, ◌++◌, map, flat_map, length, string_bytes, Option, None, Some}
 use Rattle.std.specs.Str.{bytes_eq}
 use Rattle.std.specs.declared.string.String.{String}
 use Rattle.std.specs.declared.alloc.Global.{Global}

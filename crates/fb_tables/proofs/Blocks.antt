@@ -18,7 +18,7 @@ use Rattle.fb_cert.specs.declared.certificate.Certificate.{Certificate}
 use Rattle.fb_cert.specs.Views.{certificate_of}
 use Rattle.fb_check.specs.fb_blocks.declared.typed.Block as from_block
 use Rattle.fb_check.specs.fb_blocks.Views.{block_of}
-use Rattle.fb_check.specs.fb_services.Views.{service_of, values_of}
+use Rattle.fb_check.specs.fb_services.Views.{values_of}
 use Rattle.fb_check.specs.fb_flat.declared.flat.Body as from_body
 use Rattle.fb_check.specs.fb_flat.declared.flat.Body.TheVariants as f
 use Rattle.fb_check.specs.fb_flat.declared.flat.Output as from_output

@@ -1,5 +1,5 @@
 -- The data outputs that are given, with their slots.
-use Rattle.std.proofs.Common.{◌≡◌, List, [], ◌∷◌, string_bytes, refl, ap, ◌∙◌}
+use Rattle.std.proofs.Common.{◌≡◌, List, [], ◌∷◌, refl, ap, ◌∙◌}
 use Rattle.std.specs.List.{AllByRecursion}
 use Rattle.fb_model.specs.Names.{Name}
 use Rattle.st_code.specs.Forms.{Form}

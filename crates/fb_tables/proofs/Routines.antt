@@ -4,7 +4,7 @@ use Rattle.std.specs.Str.{bytes_eq}
 use Rattle.std.proofs.lemmas.List.{length-map}
 use Rattle.fb_model.specs.Names.{Name}
 use Rattle.fb_model.specs.System as book
-use Rattle.fb_model.specs.Charts.{named, algorithm_of}
+use Rattle.fb_model.specs.Charts.{named}
 use Rattle.fb_model.proofs.Names.{eq_turned}
 use Rattle.st_types.specs.CommandViews.{commands_of}
 use Rattle.fb_check.specs.fb_blocks.declared.typed.Block.{Block}

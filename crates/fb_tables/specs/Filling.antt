@@ -38,7 +38,7 @@ use Rattle.fb_check.specs.fb_flat.Sites.{dotted}
 use Rattle.fb_check.specs.fb_flat.Leaves.{kind_of}
 use Rattle.fb_check.specs.fb_types.declared.typed.Resource as from_resource
 use Rattle.st_code.specs.declared.command.Procedure.{Procedure}
-use Rattle.st_code.specs.Forms.{Form, slot_in, plain_slot}
+use Rattle.st_code.specs.Forms.{Form, slot_in}
 use Rattle.st_code.specs.CodeViews.{code_term, code_commands}
 use Rattle.st_code.specs.Placed.{placed, placed_all}
 use Rattle.fb_chart.specs.declared.table.Point.{Point}

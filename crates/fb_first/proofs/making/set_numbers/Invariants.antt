@@ -1,4 +1,4 @@
-use Rattle.std.proofs.Common.{◌≡◌, drop}
+use Rattle.std.proofs.Common.{drop}
 use Rattle.st_exec.specs.Cells.{forms_of}
 use Rattle.fb_first.specs.Drafts.{IsLaidOut, IsSetFrom, forms_in}
 use Rattle.fb_first.proofs.making.set_numbers.Given as goal

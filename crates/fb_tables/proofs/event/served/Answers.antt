@@ -1,5 +1,4 @@
-use Rattle.std.proofs.Common.{◌≡◌, ◌++◌, [], ◌∷◌, List, Option, None, Some, map, sym, ap, subst, ◌∙◌, append-nil}
-use Rattle.fb_model.specs.Names.{Name}
+use Rattle.std.proofs.Common.{List, Option, None, Some, map, sym, subst, append-nil}
 use Rattle.fb_model.specs.System as book
 use Rattle.fb_model.specs.Services.{arrivals}
 use Rattle.fb_model.specs.Wires.{Serviced}

@@ -1,4 +1,4 @@
-use Rattle.std.proofs.Common.{◌≡◌, List, map, drop, string_bytes, IfOk, sym, ap, subst, ◌∙◌, arith}
+use Rattle.std.proofs.Common.{◌≡◌, List, map, drop, string_bytes, IfOk, ap, subst, ◌∙◌, arith}
 use Rattle.fb_model.specs.Names.{Name}
 use Rattle.fb_check.specs.fb_services.Views.{service_of, channel_of}
 use Rattle.fb_serve.specs.Ports.{slots_of}

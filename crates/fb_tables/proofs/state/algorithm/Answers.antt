@@ -1,8 +1,7 @@
-use Rattle.std.proofs.Common.{◌≡◌, ◌≤◌, Option, Some, None, length, string_bytes, sym, ap, subst, ◌∙◌}
+use Rattle.std.proofs.Common.{◌≡◌, Option, Some, None, sym, ap, subst, ◌∙◌}
 use Rattle.fb_model.specs.Names.{Name}
 use Rattle.fb_check.specs.fb_blocks.Views.{name_of, block_of}
 use Rattle.fb_chart.specs.Tables.{IsAlgorithm}
-use Rattle.fb_tables.specs.Filling.{most_numbers}
 use Rattle.fb_tables.proofs.Numbers.{placed}
 use Rattle.fb_tables.proofs.Routines.{routine_found, routine_missing}
 use Rattle.fb_tables.proofs.state.algorithm.Goals as goal

@@ -1,4 +1,4 @@
-use Rattle.std.proofs.Common.{◌≡◌, ◌∙◌, List, take, sym, ap, subst, true, false, string_bytes}
+use Rattle.std.proofs.Common.{◌≡◌, ◌∙◌, List, take, sym, ap, subst, string_bytes}
 use Rattle.std.specs.Str.{bytes_eq}
 use Rattle.fb_chart.specs.declared.table.Transition.{Transition}
 use Rattle.fb_chart.specs.Tables.{Each}

@@ -1,5 +1,5 @@
-use Rattle.std.proofs.Common.{◌≡◌, ◌<◌, ◌^◌, refl, sym, ap, ◌∙◌, rules, arith}
-use Rattle.st_code.specs.Forms.{slot_in, slot_count, bounds_in, size_of, IsDeclaredIn}
+use Rattle.std.proofs.Common.{◌≡◌, ◌<◌, ◌^◌, refl, sym, ap, rules, arith}
+use Rattle.st_code.specs.Forms.{slot_in, slot_count, bounds_in, IsDeclaredIn}
 use Rattle.st_run.proofs.Slots.{place_within}
 use Rattle.fb_tables.proofs.Slots.{none_bound}
 use Rattle.fb_tables.proofs.take.count.Goals as goal

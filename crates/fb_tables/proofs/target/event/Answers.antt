@@ -1,4 +1,4 @@
-use Rattle.std.proofs.Common.{List, sym, ap, subst, ◌∙◌}
+use Rattle.std.proofs.Common.{List, sym, subst}
 use Rattle.fb_model.specs.Names.{Name}
 use Rattle.fb_model.specs.Certificates.{events_of}
 use Rattle.fb_check.specs.fb_blocks.declared.typed.Block.{Block}

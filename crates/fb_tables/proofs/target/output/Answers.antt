@@ -1,4 +1,4 @@
-use Rattle.std.proofs.Common.{◌≡◌, List, map, string_bytes, sym, ap, subst, ◌∙◌}
+use Rattle.std.proofs.Common.{List, map, string_bytes, ap, subst, ◌∙◌}
 use Rattle.fb_model.specs.Names.{Name}
 use Rattle.fb_model.specs.Store.{gives}
 use Rattle.fb_check.specs.fb_flat.Leaves.{kind_of}
