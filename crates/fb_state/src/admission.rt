@@ -40,15 +40,15 @@ pub fn admit(
 {
     let block = &program.tables.blocks[point.block as usize];
     let needs = block.events[point.event as usize].places;
-    let queue = &mut running.queues[block.resource as usize];
-    let free = queue.free();
+    let home = block.resource as usize;
+    let free = running.queues[home].free();
     if needs > free {
         return Err(Shortage::Places { needs, free });
     }
     let Some(cause) = running.next else {
         return Err(Shortage::Numbers);
     };
-    queue.open(cause, point, needs, values);
+    running.queues[home].open(cause, point, needs, values);
     running.next = cause.checked_add(1);
     Ok(cause)
 }
