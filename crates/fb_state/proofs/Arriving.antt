@@ -1,5 +1,5 @@
 -- An arrival by numbers is one of the book's machine.
-use Rattle.std.proofs.Common.{◌≡◌, ℕ, ℤ, zero, suc, ◌+◌, ◌-◌, ◌<◌, ◌≤◌, ◌^◌, List, [], ◌∷◌, ◌++◌, map, length, length-append, set, slice_get, Option, Some, None, true, string_bytes, eqb, eq-eqb, refl, sym, ◌∙◌, ap, subst, arith, inl, inr}
+use Rattle.std.proofs.Common.{◌≡◌, ℕ, ℤ, ◌+◌, ◌-◌, ◌<◌, ◌≤◌, ◌^◌, List, [], ◌∷◌, ◌++◌, map, length, length-append, set, slice_get, Option, Some, None, true, string_bytes, eqb, eq-eqb, refl, sym, ◌∙◌, ap, subst, arith, inl, inr}
 use Rattle.std.specs.Prelude.{IfSome}
 use Rattle.std.specs.Option.{SomeIff}
 use Rattle.std.proofs.Math.Nat.{lt_of_not-le}
@@ -7,12 +7,12 @@ use Rattle.std.specs.List.{AllByRecursion}
 use Rattle.std.proofs.lemmas.List.{length-map, map-append}
 use Rattle.std.proofs.lemmas.Bool.{cond-true}
 use Rattle.arrayvec.specs.ArrayVec.{ArrayVec}
-use Rattle.fb_model.specs.Names.{Name, Place, at_place, is_in}
+use Rattle.fb_model.specs.Names.{Place, at_place, is_in}
 use Rattle.fb_model.specs.System as system
 use Rattle.fb_model.specs.System.{Device}
 use Rattle.fb_model.specs.Wires.{Leaf, leaves, leaf_at}
 use Rattle.fb_model.specs.Ranges.{IsMessage}
-use Rattle.fb_model.specs.Certificates.{Certificate, depth_of, events_of, IsWired}
+use Rattle.fb_model.specs.Certificates.{Certificate, events_of, IsWired}
 use Rattle.fb_model.specs.Devices as book
 use Rattle.fb_model.specs.Devices.{Machine, Arrival, HasRoom, put, held, places_row, place_of, admitted}
 use Rattle.fb_model.specs.Headline.{IsSound}
@@ -22,6 +22,8 @@ use Rattle.fb_model.proofs.Ending.{depth_le}
 use Rattle.fb_chart.proofs.Lists.{all_got}
 use Rattle.st_exec.specs.Cells.{Form, forms_of}
 use Rattle.fb_chart.specs.declared.table.Point.{Point}
+use Rattle.fb_chart.specs.declared.table.Event.{Event}
+use Rattle.fb_chart.specs.declared.table.Block.{Block}
 use Rattle.fb_tables.specs.declared.table.Resource.{Resource}
 use Rattle.fb_tables.specs.Views.{place_at}
 use Rattle.fb_tables.specs.Tables.{IsPoint, AreResources}
@@ -42,7 +44,8 @@ use Rattle.fb_state.specs.Sessions.{session_of, next_of}
 use Rattle.fb_state.specs.Machines.{device_in, cert_in, entries_in, standing, store_from, spent_in, machine, machine_of}
 use Rattle.fb_state.specs.Keeping.{AllStand, IsQueue, IsGood}
 use Rattle.fb_state.specs.Arrivals.{IsArrival, IsShort}
-use Rattle.fb_state.proofs.Blocks.{Known, known, places_are, within, named_is, is_in_at}
+use Rattle.fb_state.proofs.Lists.{same_at}
+use Rattle.fb_state.proofs.Blocks.{Known, known, places_are, within, is_in_at}
 use Rattle.fb_state.proofs.Queued.{queue_here, queues_is, spent_put, not_here, no_steps}
 use Rattle.fb_state.proofs.Kept.{set_cases, set_count, opens_placed}
 use Rattle.fb_state.proofs.Moved.{program_moved}
@@ -125,6 +128,29 @@ module _ (p : Program) (r : Running) (g : IsGood p r) (point : Point) (ws : Arra
   listed : is_in a.event (events_of a.leaf.kind) ≡ true
   listed = is_in_at (events_of a.leaf.kind) point.event a.event is.event
 
+  -- what stands at the numbers of the point
+  module _ (b : Block) (b_is : slice_get p.tables.blocks.items point.block ≡ Some b) where
+    same_block : k.at.block ≡ b
+    same_block = same_at p.tables.blocks.items point.block k.at.block b k.at.stands b_is
+
+    pub home_of : b.resource ≡ a.leaf.home
+    home_of = ap (λ (y : Block). y.resource) (sym same_block) ∙ home_is
+
+    pub event_in : point.event < length b.events.items
+    event_in = omega (arith, within k.at.block.events.items point.event k.event k.event_stands, ap (λ (y : Block). length y.events.items) same_block)
+
+    pub queue_in : b.resource < length r.queues.items
+    queue_in = omega (arith, home_of, in_queues)
+
+    pub places_of_event : (e : Event) → slice_get b.events.items point.event ≡ Some e → e.places ≡ k.event.places
+    places_of_event e h = ap (λ (y : Event). y.places) (same_at b.events.items point.event e k.event h (ap (λ (y : Block). slice_get y.events.items point.event) (sym same_block) ∙ k.event_stands))
+
+    pub queue_at_home : (x : Agenda) → slice_get r.queues.items b.resource ≡ Some x → slice_get r.queues.items a.leaf.home ≡ Some x
+    queue_at_home x h = ap (slice_get r.queues.items) (sym home_of) ∙ h
+
+  pub block_in : point.block < length p.tables.blocks.items
+  block_in = within p.tables.blocks.items point.block k.at.block k.at.stands
+
   module _ (x : Agenda) (x_is : slice_get r.queues.items a.leaf.home ≡ Some x) where
     pub queue : IsQueue cert device a.leaf.home x
     queue = g.queues a.leaf.home x x_is
@@ -137,6 +163,9 @@ module _ (p : Program) (r : Running) (g : IsGood p r) (point : Point) (ws : Arra
 
     pub lacks : (needs free : ℕ) → needs ≡ k.event.places → free ≡ x.room - all_places x.slots → free < needs → IsShort cert device m a (Places needs free)
     lacks needs free n f l = (n ∙ needs_is, omega (arith, f, queue.room, held_is), l)
+
+    pub credit_of : (needs free : ℕ) → needs ≡ k.event.places → free ≡ x.room - all_places x.slots → needs ≤ free → all_places x.slots + k.event.places ≤ x.room
+    credit_of needs free n f l = omega (arith, n, f, l, queue.agenda.credit)
 
     -- credit
     module _ (credit : all_places x.slots + k.event.places ≤ x.room) (fresh : next_of r.next < 2 ^ 64) where

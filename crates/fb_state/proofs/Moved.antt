@@ -1,6 +1,5 @@
 -- What was checked holds of a device whose values have the same forms.
-use Rattle.std.proofs.Common.{◌≡◌, ℕ, List, map, sym, subst}
-use Rattle.fb_model.specs.Wires.{leaves}
+use Rattle.std.proofs.Common.{◌≡◌, List, map, sym, subst}
 use Rattle.st_exec.specs.Cells.{Form, forms_of}
 use Rattle.fb_tables.specs.Tables.{AreTables}
 use Rattle.fb_state.specs.declared.program.Program.{Program}

@@ -1,5 +1,5 @@
 -- Queues by numbers, as queues of the book, and the steps of their causes.
-use Rattle.std.proofs.Common.{◌≡◌, ℕ, zero, suc, ◌+◌, ◌<◌, cond, List, [], ◌∷◌, map, set, slice_get, Option, Some, None, true, not, eqb, eq-eqb, refl, sym, ◌∙◌, ap, subst, arith, inl, inr}
+use Rattle.std.proofs.Common.{◌≡◌, ℕ, zero, suc, ◌+◌, ◌<◌, cond, List, [], ◌∷◌, set, slice_get, Option, Some, None, true, not, eqb, eq-eqb, refl, sym, ◌∙◌, ap, subst, arith, inl, inr}
 use Rattle.std.specs.List.{sum_by}
 use Rattle.std.proofs.Math.Path.{fun_ext}
 use Rattle.std.proofs.lemmas.Bool.{cond-true, cond-false, cases_eq, ne_eqb}
@@ -7,7 +7,6 @@ use Rattle.std.proofs.lemmas.List.Sums.{sum_by-cons}
 use Rattle.fb_model.specs.Wires.{Leaf, leaves}
 use Rattle.fb_model.specs.System.{Device}
 use Rattle.fb_model.specs.Certificates.{Certificate}
-use Rattle.fb_model.specs.Devices as book
 use Rattle.fb_model.specs.Devices.{Machine, put, is_pending}
 use Rattle.fb_model.specs.Headline.{IsSound}
 use Rattle.fb_model.proofs.Running.{known_pending}
