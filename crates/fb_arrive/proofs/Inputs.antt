@@ -30,7 +30,7 @@ use Rattle.fb_arrive.specs.declared.denied.Denied.{Denied}
 use Rattle.fb_arrive.specs.declared.denied.Denied.TheVariants.{UnknownInput, BadCount, BadValue, NoCredit, Spent}
 use Rattle.fb_arrive.specs.Offering.{input_at, IsOutside}
 use Rattle.fb_arrive.specs.Answers.{denial_of}
-use Rattle.fb_arrive.proofs.Kinds.{InputAt, an_input, same_kinds}
+use Rattle.fb_arrive.proofs.SameKinds.{InputAt, an_input, same_kinds}
 
 -- one value more has its type
 pub all_in_more : (ts : List ElemType) (vs : List ℤ) (k : ℕ) (t : ElemType) (v : ℤ) → slice_get ts k ≡ Some t → slice_get vs k ≡ Some v → all_in (take k ts) (take k vs) ≡ true → in_type t v ≡ true → all_in (take (suc k) ts) (take (suc k) vs) ≡ true

@@ -1,5 +1,5 @@
 pub use Rattle.fb_state.proofs as of_fb_state
-pub mod Kinds
+pub mod SameKinds
 pub mod Inputs
 pub mod Firing
 pub mod Ticking

@@ -10,49 +10,54 @@ use Rattle.fb_timers.specs.declared.armed.Armed.{Armed}
 use Rattle.fb_timers.specs.Order.{AreApart, due_of, due_at, without}
 use Rattle.fb_timers.specs.Expiry.{leaves_at, leaf_of, in_front}
 
--- a timer that is due is armed
-due_there : (clock : ℕ) (armed : List Armed) (i : ℕ) (x : Armed) → slice_get (due_at clock armed) i ≡ Some x → due_of armed x.block ≡ None → ⊥
-due_there clock [] i x h n = cc
-due_there clock (a ∷ as') i x h n = go (nat_le a.due clock) h
+-- a timer that is not armed is not the first of those that are, and none behind it
+not_first : (a x : Armed) (as' : List Armed) → cond (eqb a.block x.block) (Some a.due) (due_of as' x.block) ≡ None → a ≡ x → ⊥
+not_first a x as' n s = go (eqb a.block x.block) (ap (λ (y : Armed). eqb a.block y.block) (sym s) ∙ eq-eqb a.block a.block refl) n
   where
-    rest : (j : ℕ) → slice_get (due_at clock as') j ≡ Some x → cond (eqb a.block x.block) (Some a.due) (due_of as' x.block) ≡ None → ⊥
-    rest j e k = by (eqb a.block x.block) k
-      where
-        by : (b : Bool) → cond b (Some a.due) (due_of as' x.block) ≡ None → ⊥
-        by true f = cc
-        by false f = due_there clock as' j x e f
+    go : (b : Bool) → b ≡ true → cond b (Some a.due) (due_of as' x.block) ≡ None → ⊥
+    go true q k = cc
+    go false q k = cc
 
-    go : (b : Bool) → slice_get (cond b (a ∷ due_at clock as') []) i ≡ Some x → ⊥
+not_behind : (a x : Armed) (as' : List Armed) → cond (eqb a.block x.block) (Some a.due) (due_of as' x.block) ≡ None → due_of as' x.block ≡ None
+not_behind a x as' n = go (eqb a.block x.block) n
+  where
+    go : (b : Bool) → cond b (Some a.due) (due_of as' x.block) ≡ None → due_of as' x.block ≡ None
+    go true k = cc
+    go false k = k
+
+-- a timer that is due is armed
+pub due_there : (clock : ℕ) (armed : List Armed) (i : ℕ) (x : Armed) → slice_get (due_at clock armed) i ≡ Some x → due_of armed x.block ≡ None → ⊥
+due_there clock [] i x h n = cc
+due_there clock (a ∷ as') zero x h n = go (nat_le a.due clock) h
+  where
+    go : (b : Bool) → slice_get (cond b (a ∷ due_at clock as') []) 0 ≡ Some x → ⊥
     go false e = cc
-    go true e = by i e
-      where
-        by : (k : ℕ) → slice_get (a ∷ due_at clock as') k ≡ Some x → ⊥
-        by zero f = (let s : a ≡ x = cc in own (eqb a.block x.block) (ap (λ (y : Armed). eqb a.block y.block) (sym s) ∙ eq-eqb a.block a.block refl) n)
-          where
-            own : (b : Bool) → b ≡ true → cond b (Some a.due) (due_of as' x.block) ≡ None → ⊥
-            own true q k = cc
-            own false q k = cc
-        by (suc k) f = rest k f n
+    go true e = (let s : a ≡ x = cc in not_first a x as' n s)
+due_there clock (a ∷ as') (suc i) x h n = go (nat_le a.due clock) h (λ e. due_there clock as' i x e (not_behind a x as' n))
+  where
+    go : (b : Bool) → slice_get (cond b (a ∷ due_at clock as') []) (suc i) ≡ Some x → (slice_get (due_at clock as') i ≡ Some x → ⊥) → ⊥
+    go false e r = cc
+    go true e r = r e
 
 -- without a due timer those behind it are due, and they alone
 pub without_due : (clock : ℕ) (armed : List Armed) (i : ℕ) (x : Armed) → AreApart armed → slice_get (due_at clock armed) i ≡ Some x → drop i (due_at clock (without armed x.block)) ≡ drop (suc i) (due_at clock armed)
 without_due clock [] i x apart h = cc
-without_due clock (a ∷ as') i x apart h = go (nat_le a.due clock) refl h
+without_due clock (a ∷ as') zero x apart h = go (nat_le a.due clock) h
   where
-    go : (b : Bool) → nat_le a.due clock ≡ b → slice_get (cond b (a ∷ due_at clock as') []) i ≡ Some x → drop i (due_at clock (without (a ∷ as') x.block)) ≡ drop (suc i) (cond b (a ∷ due_at clock as') [])
-    go false q e = cc
-    go true q e = by i e
-      where
-        by : (k : ℕ) → slice_get (a ∷ due_at clock as') k ≡ Some x → drop k (due_at clock (without (a ∷ as') x.block)) ≡ drop (suc k) (a ∷ due_at clock as')
-        by zero f = (
-          let s : a ≡ x = cc in
-          let own : eqb a.block x.block ≡ true = ap (λ (y : Armed). eqb a.block y.block) (sym s) ∙ eq-eqb a.block a.block refl in
-          ap (λ b. due_at clock (cond b as' (a ∷ without as' x.block))) own
-        )
-        by (suc k) f = (
-          let other : eqb a.block x.block ≡ false = ne_eqb a.block x.block (λ s. due_there clock as' k x f (ap (due_of as') (sym s) ∙ apart.0)) in
-          ap (λ b. drop (suc k) (due_at clock (cond b as' (a ∷ without as' x.block)))) other ∙ ap (λ b. drop (suc k) (cond b (a ∷ due_at clock (without as' x.block)) [])) q ∙ without_due clock as' k x apart.1 f
-        )
+    go : (b : Bool) → slice_get (cond b (a ∷ due_at clock as') []) 0 ≡ Some x → due_at clock (without (a ∷ as') x.block) ≡ drop 1 (cond b (a ∷ due_at clock as') [])
+    go false e = cc
+    go true e =
+        let s : a ≡ x = cc in
+        let own : eqb a.block x.block ≡ true = ap (λ (y : Armed). eqb a.block y.block) (sym s) ∙ eq-eqb a.block a.block refl in
+        ap (λ b. due_at clock (cond b as' (a ∷ without as' x.block))) own
+without_due clock (a ∷ as') (suc i) x apart h = go (nat_le a.due clock) refl h (λ e. without_due clock as' i x apart.1 e) (λ e k. due_there clock as' i x e k)
+  where
+    go : (b : Bool) → nat_le a.due clock ≡ b → slice_get (cond b (a ∷ due_at clock as') []) (suc i) ≡ Some x → (slice_get (due_at clock as') i ≡ Some x → drop i (due_at clock (without as' x.block)) ≡ drop (suc i) (due_at clock as'))
+        → (slice_get (due_at clock as') i ≡ Some x → due_of as' x.block ≡ None → ⊥) → drop (suc i) (due_at clock (without (a ∷ as') x.block)) ≡ drop (suc (suc i)) (cond b (a ∷ due_at clock as') [])
+    go false q e r t = cc
+    go true q e r t =
+        let other : eqb a.block x.block ≡ false = ne_eqb a.block x.block (λ s. t e (ap (due_of as') (sym s) ∙ apart.0)) in
+        ap (λ b. drop (suc i) (due_at clock (cond b as' (a ∷ without as' x.block)))) other ∙ ap (λ b. drop (suc i) (cond b (a ∷ due_at clock (without as' x.block)) [])) q ∙ r e
 
 -- ---- what is left to try
 

@@ -96,10 +96,14 @@ ticks p first now moment g ordered apart is =
     record {
       good = g;
       apart = apart;
-      progress = λ count new t. subst (λ ls. Tries (cert_in (session_of p first)) (device_in (session_of p first)) ls (at_moment (machine_of (session_of p first)) moment) count new) (sym whole)
-          (subst (λ (m : Machine). Tries (cert_in (session_of p first)) (device_in (session_of p first)) (leaves_at all (due_at now.clock now.timers.armed)) m count new) is t);
+      progress = λ count new t. subst (λ n. Tries (cert_in (session_of p first)) (device_in (session_of p first)) (due_timers (machine_of (session_of p first)).store (at_moment (machine_of (session_of p first)) moment).clock all) (at_moment (machine_of (session_of p first)) moment) n new) (none_more count)
+          (subst (λ ls. Tries (cert_in (session_of p first)) (device_in (session_of p first)) ls (at_moment (machine_of (session_of p first)) moment) count new) (sym whole)
+          (subst (λ (m : Machine). Tries (cert_in (session_of p first)) (device_in (session_of p first)) (leaves_at all (due_at now.clock now.timers.armed)) m count new) is t));
       count = omega (arith, armed_few (machine_of (session_of p now)).store all now.timers.armed now.clock apart g.armed, g.program.tables.few);
     }
+  where
+    none_more : (n : ℕ) → n ≡ 0 + n
+    none_more n = omega arith
 
 pub ticked : (p : Program) (first now : Running) (moment fired waiting : ℕ) → Ticks p first now moment fired waiting → slice_get (due_at now.clock now.timers.armed) waiting ≡ None
     → Tries (cert_in (session_of p first)) (device_in (session_of p first)) (due_timers (machine_of (session_of p first)).store (at_moment (machine_of (session_of p first)) moment).clock (leaves (device_in (session_of p first)))) (at_moment (machine_of (session_of p first)) moment) fired (machine_of (session_of p now))

@@ -16,6 +16,10 @@ abbrev pub input_at : List Block → ℕ → Option ℕ
 input_at [] n = None
 input_at (x ∷ xs) n = if is_input_numbered n (kind_of x) then Some 0 else later (input_at xs n)
 
+abbrev pub moved_by : ℕ → Option ℕ → Option ℕ
+moved_by n None = None
+moved_by n (Some k) = Some (n + k)
+
 -- why values are not of these types
 abbrev pub IsOutside : List ElemType → List ℤ → Denied → Type 0
 IsOutside types values denied.BadCount = length values ≡ length types → ⊥

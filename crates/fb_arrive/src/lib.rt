@@ -1,13 +1,13 @@
 //! What comes to a device from outside: offers, the clock, and the start.
 #![tactic(auto)]
 
-mod begin;
+mod clock;
 mod denied;
-mod offer;
-mod tick;
+mod input;
+mod start;
 
-pub use begin::begin;
+pub use clock::tick;
 pub use denied::Denied;
 pub use fb_state;
-pub use offer::offer;
-pub use tick::tick;
+pub use input::offer;
+pub use start::begin;
