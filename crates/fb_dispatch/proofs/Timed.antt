@@ -8,18 +8,15 @@ use Rattle.fb_timers.proofs.Told.{due_cleared}
 
 -- ---- a timer more, and one less
 
-cleared_own : (l : List Armed) (k : ℕ) → AreApart l → due_of (without l k) k ≡ None
-cleared_own l k a = due_cleared l k k a ∙ cond-true (eqb k k) None (due_of l k) (eq-eqb k k refl)
+pub quiet : (l : List Armed) (k : ℕ) → AreApart l → due_of (without l k) k ≡ None
+quiet l k a = due_cleared l k k a ∙ cond-true (eqb k k) None (due_of l k) (eq-eqb k k refl)
 
 pub unarmed : (l : List Armed) (k j : ℕ) → AreApart l → due_of (without l k) j ≡ cond (eqb k j) None (due_of l j)
 unarmed l k j a = due_cleared l k j a
 
-pub quiet : (l : List Armed) (k : ℕ) → AreApart l → due_of (without l k) k ≡ None
-quiet = cleared_own
-
 pub armed_anew : (l : List Armed) (k due j : ℕ) → AreApart l → due_of (placed (record { due = due; block = k }) (without l k)) j ≡ cond (eqb k j) (Some due) (due_of l j)
 armed_anew l k due j a =
-    due_placed (record { due = due; block = k }) (without l k) j (cleared_own l k a) ∙ ap (λ o. cond (eqb k j) (Some due) o) (due_cleared l k j a) ∙ go (eqb k j)
+    due_placed (record { due = due; block = k }) (without l k) j (quiet l k a) ∙ ap (λ o. cond (eqb k j) (Some due) o) (due_cleared l k j a) ∙ go (eqb k j)
   where
     go : (b : Bool) → cond b (Some due) (cond b None (due_of l j)) ≡ cond b (Some due) (due_of l j)
     go true = refl
@@ -51,7 +48,7 @@ few (suc n) (x ∷ xs) a h = omega (arith, shorter (x ∷ xs) n, few n (without 
 
 -- there is room to arm one that is not armed
 pub room_for : (n : ℕ) (l : List Armed) (b : ℕ) → AreApart l → b < n → ((k d : ℕ) → due_of l k ≡ Some d → k < n) → length (without l b) < n
-room_for n l b a within h = few n (x ∷ without l b) (cleared_own l b a, apart_without l b a) below
+room_for n l b a within h = few n (x ∷ without l b) (quiet l b a, apart_without l b a) below
   where
     x : Armed
     x = record { due = 0; block = b }

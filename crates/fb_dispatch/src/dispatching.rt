@@ -45,13 +45,12 @@ pub fn dispatch(program: &Program, running: &mut Running, resource: usize) -> Tu
     ensures point { HasPoint (leaves (device_in (session_of program.now running.old))) result }
     ensures good { IsGood program.now running.new }
 {
-    let blocks = &program.tables.blocks;
     let Some(first) = take(&mut running.queues, resource) else {
         return Turned::Idle;
     };
     let point = first.point;
     let outcome = turn(
-        blocks,
+        &program.tables.blocks,
         &program.tables.ports,
         &mut running.memory,
         point,
@@ -62,7 +61,7 @@ pub fn dispatch(program: &Program, running: &mut Running, resource: usize) -> Tu
     let now = remembered(&running.memory, point.block);
     retime(
         &mut running.timers,
-        &blocks[point.block as usize].body,
+        &program.tables.blocks[point.block as usize].body,
         point.block,
         now,
     );
@@ -73,7 +72,7 @@ pub fn dispatch(program: &Program, running: &mut Running, resource: usize) -> Tu
         first.slot,
         outcome.steps,
     );
-    let bound = steps_at(blocks, reaction.opening);
+    let bound = steps_at(&program.tables.blocks, reaction.opening);
     Turned::Ran(Ran {
         cause: reaction.cause,
         block: point.block,

@@ -1,6 +1,6 @@
 //! The queues of resources.
 
-ghost use Rattle.std.specs.Prelude.{◌≡◌, [], MatchOption, Some};
+ghost use Rattle.std.specs.Prelude.{◌≡◌, ◌≤◌, [], length, MatchOption, Some};
 ghost use Rattle.fb_sched.specs.Agenda.{slot_at, IsOpen};
 ghost use Rattle.fb_state.specs.Numbers.{event_at, steps_in, IsKnown};
 ghost use Rattle.fb_dispatch.specs.Taking.{IsIdle, HasTaken, CanEnter, HasEntered};
@@ -41,6 +41,7 @@ pub(crate) fn enter(
     ensures entered { HasEntered queues.old.items resource outbox.old.items slot steps result.0 result.1 queues.new.items }
     ensures empty { outbox.new.items ≡ [] }
     ensures room { outbox.new.capacity ≡ outbox.old.capacity }
+    ensures within { length outbox.old.items ≤ outbox.old.capacity }
 {
     let queue = &mut queues[resource];
     outbox.deliver(queue, slot);
