@@ -1,9 +1,7 @@
 -- The armed timers of a store in which one leaf has come to another state.
-use Rattle.std.proofs.Common.{◌≡◌, ℕ, zero, suc, ◌+◌, ◌<◌, ◌≤◌, Bool, true, false, cond, eqb, eq-eqb, List, [], ◌∷◌, length, slice_get, Option, Some, None, refl, sym, ◌∙◌, ap, subst, arith, inl, inr}
+use Rattle.std.proofs.Common.{◌≡◌, ℕ, zero, suc, ◌<◌, ◌≤◌, Bool, true, false, cond, eqb, eq-eqb, List, [], ◌∷◌, length, slice_get, Option, Some, None, refl, sym, ◌∙◌, ap, subst, arith, inl, inr}
 use Rattle.std.proofs.lemmas.Bool.{cases_eq, ne_eqb, cond-true, cond-false}
-use Rattle.std.specs.List.{AllByRecursion}
 use Rattle.fb_model.specs.Names.{Path, path_eq}
-use Rattle.fb_model.specs.System as book
 use Rattle.fb_model.specs.Wires.{Kind, Charted, Serviced, Leaf}
 use Rattle.fb_model.specs.Store.{Store, LeafState, with_leaf}
 use Rattle.fb_model.specs.Devices.{due, is_timer}
@@ -16,12 +14,10 @@ use Rattle.fb_serve.specs.Turns.{condition_of}
 use Rattle.fb_turn.specs.declared.memory.Condition.{Condition}
 use Rattle.fb_turn.specs.declared.memory.Condition.TheVariants as c
 use Rattle.fb_turn.specs.Conditions.{condition_at, IsConditionOf}
-use Rattle.fb_timers.specs.declared.armed.Armed.{Armed}
-use Rattle.fb_timers.specs.Order.{AreApart as Apart, Timing, due_of, without}
+use Rattle.fb_timers.specs.Order.{Timing, due_of}
 use Rattle.fb_timers.specs.Expiry.{AreArmed, moment_of}
 use Rattle.fb_chart.proofs.Lists.{all_got}
 use Rattle.fb_state.proofs.Blocks.{within}
-use Rattle.fb_state.proofs.Lists.{same_at}
 use Rattle.fb_dispatch.specs.Rearming.{moment_in, CanRetime, HasRetimed}
 use Rattle.fb_dispatch.proofs.Timed.{room_for}
 

@@ -1,5 +1,5 @@
 -- What a queue comes to in a dispatch.
-use Rattle.std.proofs.Common.{◌≡◌, ℕ, ◌+◌, ◌-◌, Bool, true, false, cond, not, List, [], ◌∷◌, ◌++◌, map, length, set, slice_get, Option, Some, None, eqb, refl, sym, ◌∙◌, ap, subst, arith}
+use Rattle.std.proofs.Common.{◌≡◌, ℕ, ◌+◌, ◌-◌, Bool, true, false, cond, not, List, [], ◌∷◌, ◌++◌, map, length, Option, Some, None, eqb, refl, sym, ◌∙◌, ap}
 use Rattle.std.specs.List.{AllByRecursion}
 use Rattle.std.specs.Option.{option_map}
 use Rattle.std.proofs.lemmas.List.{map-append}
@@ -22,7 +22,6 @@ use Rattle.fb_sched.proofs.Pending.{takes_pending, puts_all_pending, settles_pen
 use Rattle.fb_state.specs.Machines.{entries_in}
 use Rattle.fb_state.specs.Keeping.{ArePlaced}
 use Rattle.fb_state.proofs.Kept.{puts_placed, settles_placed}
-use Rattle.fb_dispatch.specs.declared.answer.Ended.{Ended}
 use Rattle.fb_dispatch.specs.Answers.{end_of, end_by}
 
 -- a slot holds one reaction

@@ -1,6 +1,6 @@
 -- What a dispatch asks of its parts, and what they answer.
-use Rattle.std.proofs.Common.{◌≡◌, ℕ, ℤ, Bool, ◌+◌, ◌-◌, ◌<◌, ◌≤◌, ◌^◌, List, [], map, length, get_or, set, slice_get, Option, Some, None, refl, sym, ◌∙◌, ap, subst, arith}
-use Rattle.std.specs.Prelude.{IfSome}
+use Rattle.std.proofs.Common.{◌≡◌, ℕ, ℤ, Bool, ◌+◌, ◌-◌, ◌<◌, ◌≤◌, ◌^◌, List, map, length, get_or, slice_get, Option, Some, None, sym, ◌∙◌, ap, subst, arith}
+use Rattle.std.specs.Prelude.{IfSome, vec_len}
 use Rattle.std.specs.List.{AllByRecursion}
 use Rattle.fb_model.specs.Wires.{Kind, leaves}
 use Rattle.fb_model.specs.Devices.{Machine, is_timer, steps_row}
@@ -9,7 +9,6 @@ use Rattle.st_exec.specs.Cells.{forms_of}
 use Rattle.fb_chart.specs.declared.table.Point.{Point}
 use Rattle.fb_chart.specs.declared.table.Block.{Block}
 use Rattle.fb_chart.specs.Views.{kind_of}
-use Rattle.fb_chart.specs.Sending.{Points}
 use Rattle.fb_serve.specs.declared.standing.Effect.{Effect}
 use Rattle.fb_serve.specs.declared.standing.Ports.{Ports}
 use Rattle.fb_turn.specs.declared.memory.Condition.{Condition}
@@ -60,19 +59,26 @@ idle_good p r new g queues memory timers empty capacity clock next =
 pub capacity_same : (old new sent more : ℕ) → old - sent + sent ≡ new - more + more → sent ≡ 0 → more ≤ new → new ≡ old
 capacity_same old new sent more h none within = omega (arith, h, none, within)
 
--- the same of the lists that stand for these
-pub can_turn_at : (blocks blocks' : List Block) (slots slots' : List Ports) (m : Memory) (p : Point) (values values' : List ℤ) (room : ℕ) → blocks' ≡ blocks → slots' ≡ slots → values' ≡ values → CanTurn blocks slots m p values room → CanTurn blocks' slots' m p values' room
-can_turn_at blocks blocks' slots slots' m p values values' room b s v h =
-    subst (λ bs. CanTurn bs slots' m p values' room) (sym b) (subst (λ ss. CanTurn blocks ss m p values' room) (sym s) (subst (λ vs. CanTurn blocks slots m p vs room) (sym v) h))
-
-pub turned_at : (blocks blocks' : List Block) (slots slots' : List Ports) (m : Memory) (p : Point) (values values' : List ℤ) (clock : ℕ) (new : Memory) (steps : ℕ) (effect : Option Effect) (before after : Points) → blocks' ≡ blocks → slots' ≡ slots → values' ≡ values
-    → HasTurned blocks' slots' m p values' clock new steps effect before after → HasTurned blocks slots m p values clock new steps effect before after
-turned_at blocks blocks' slots slots' m p values values' clock new steps effect before after b s v h =
-    subst (λ bs. HasTurned bs slots m p values clock new steps effect before after) b (subst (λ ss. HasTurned blocks' ss m p values clock new steps effect before after) s (subst (λ vs. HasTurned blocks' slots' m p vs clock new steps effect before after) v h))
-
 module _ (p : Program) (r : Running) (g : IsGood p r) (q : ℕ) (first : Ticket) (qs : List Agenda) (t : HasTaken r.queues.items q first qs) where
-  pub block_within : first.point.block < length p.tables.blocks.items
-  block_within = within p.tables.blocks.items first.point.block (at.point p r g q first qs t).at.block (at.point p r g q first qs t).at.stands
+  -- what the block can do, by the lists that the code reads
+  pub can_turn_read : (blocks : List Block) (slots : List Ports) (values : List ℤ) → blocks ≡ p.tables.blocks.items → slots ≡ p.tables.ports.items → values ≡ first.values.items
+      → CanTurn blocks slots r.memory first.point values (r.outbox.capacity - length r.outbox.items)
+  can_turn_read blocks slots values b s v =
+      let room : ℕ = r.outbox.capacity - length r.outbox.items in
+      subst (λ bs. CanTurn bs slots r.memory first.point values room) (sym b)
+      (subst (λ ss. CanTurn p.tables.blocks.items ss r.memory first.point values room) (sym s)
+      (subst (λ vs. CanTurn p.tables.blocks.items p.tables.ports.items r.memory first.point vs room) (sym v) (at.can_turn p r g q first qs t)))
+
+  -- and what it did
+  pub turned_read : (blocks : List Block) (slots : List Ports) (values : List ℤ) → blocks ≡ p.tables.blocks.items → slots ≡ p.tables.ports.items → values ≡ first.values.items → (mem : Memory) (steps : ℕ) (effect : Option Effect) (points : List Point)
+      → HasTurned blocks slots r.memory first.point values r.clock mem steps effect r.outbox.items points → HasTurned p.tables.blocks.items p.tables.ports.items r.memory first.point first.values.items r.clock mem steps effect r.outbox.items points
+  turned_read blocks slots values b s v mem steps effect points h =
+      subst (λ bs. HasTurned bs p.tables.ports.items r.memory first.point first.values.items r.clock mem steps effect r.outbox.items points) b
+      (subst (λ ss. HasTurned blocks ss r.memory first.point first.values.items r.clock mem steps effect r.outbox.items points) s
+      (subst (λ vs. HasTurned blocks slots r.memory first.point vs r.clock mem steps effect r.outbox.items points) v h))
+
+  pub block_within : first.point.block < vec_len p.tables.blocks
+  block_within = omega (arith, within p.tables.blocks.items first.point.block (at.point p r g q first qs t).at.block (at.point p r g q first qs t).at.stands, p.tables.blocks.ok)
 
   -- the block that was read is that of the leaf
   kind_read : (block : Block) → block ≡ get_or p.tables.blocks.items first.point.block block → kind_of block ≡ (at.leaf p r g q first qs t).kind

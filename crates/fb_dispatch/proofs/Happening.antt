@@ -1,12 +1,12 @@
 -- A dispatch, from what stands at the numbers of its entry to what its block can do.
-use Rattle.std.proofs.Common.{◌≡◌, ℕ, zero, suc, ◌+◌, ◌-◌, ◌^◌, ◌<◌, ◌≤◌, List, [], ◌∷◌, map, length, slice_get, Some, string_bytes, refl, sym, ◌∙◌, ap, subst, arith}
+use Rattle.std.proofs.Common.{◌≡◌, ℕ, zero, suc, ◌+◌, ◌-◌, ◌^◌, ◌<◌, ◌≤◌, List, [], ◌∷◌, map, length, slice_get, Some, string_bytes, sym, ◌∙◌, ap, subst, arith}
 use Rattle.std.specs.List.{AllByRecursion}
-use Rattle.fb_model.specs.Names.{Name, Place, at_place}
+use Rattle.fb_model.specs.Names.{Place}
 use Rattle.fb_model.specs.System as book
 use Rattle.fb_model.specs.System.{Device}
 use Rattle.fb_model.specs.Services.{can_emit}
 use Rattle.fb_model.specs.Wires.{Kind, Charted, Serviced, Leaf, leaves, leaf_at}
-use Rattle.fb_model.specs.Store.{LeafState, sampled}
+use Rattle.fb_model.specs.Store.{sampled}
 use Rattle.fb_model.specs.Ranges.{IsMessage}
 use Rattle.fb_model.specs.Certificates.{Certificate, depth_of, reached}
 use Rattle.fb_model.specs.Devices.{Entry, Machine, steps_row}
@@ -34,7 +34,7 @@ use Rattle.fb_tables.specs.Tables.{IsPoint, IsBlock, AreResources}
 use Rattle.fb_sched.specs.declared.ticket.Ticket.{Ticket}
 use Rattle.fb_sched.specs.declared.reaction.Reaction.{Reaction}
 use Rattle.fb_sched.specs.Agenda.{Agenda}
-use Rattle.fb_sched.specs.Entries.{entry_by, booked}
+use Rattle.fb_sched.specs.Entries.{booked}
 use Rattle.fb_sched.proofs.Entries.{takes_entries}
 use Rattle.fb_state.specs.declared.program.Program.{Program}
 use Rattle.fb_state.specs.declared.program.Running.{Running}

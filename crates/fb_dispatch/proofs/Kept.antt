@@ -1,5 +1,5 @@
 -- A whole dispatch, from what the code reads to what it leaves.
-use Rattle.std.proofs.Common.{◌≡◌, ℕ, ◌+◌, ◌-◌, ◌<◌, ◌≤◌, ◌^◌, cond, List, [], ◌∷◌, ◌++◌, map, length, set, slice_get, Option, Some, None, refl, sym, ◌∙◌, ap, subst, arith, inl, inr}
+use Rattle.std.proofs.Common.{◌≡◌, ℕ, ◌+◌, ◌-◌, ◌<◌, ◌≤◌, ◌^◌, cond, List, [], ◌++◌, map, length, set, slice_get, Option, Some, None, sym, ◌∙◌, ap, subst, arith, inl, inr}
 use Rattle.std.specs.Prelude.{IfSome}
 use Rattle.std.specs.List.{AllByRecursion}
 use Rattle.std.specs.Option.{option_map}
@@ -26,7 +26,6 @@ use Rattle.fb_sched.specs.declared.reaction.Reaction.{Reaction}
 use Rattle.fb_sched.specs.Agenda.{Agenda}
 use Rattle.fb_sched.specs.Changes.{PutsAll}
 use Rattle.fb_sched.specs.Steps.{spent}
-use Rattle.fb_timers.specs.Order.{Timing}
 use Rattle.fb_timers.specs.Expiry.{AreArmed}
 use Rattle.fb_state.specs.declared.program.Program.{Program}
 use Rattle.fb_state.specs.declared.program.Running.{Running}
@@ -44,7 +43,7 @@ use Rattle.fb_dispatch.specs.Taking.{HasTaken, HasEntered}
 use Rattle.fb_dispatch.proofs.Lists.{map_set}
 use Rattle.fb_dispatch.proofs.Happening as at
 use Rattle.fb_dispatch.proofs.Outcomes as out
-use Rattle.fb_dispatch.proofs.Entered.{Passes, goes, mid_holds, one_reaction, pending_kept, placed_kept, entries_end, spent_end, ended_is}
+use Rattle.fb_dispatch.proofs.Entered.{Passes, mid_holds, one_reaction, pending_kept, placed_kept, entries_end, spent_end, ended_is}
 use Rattle.fb_dispatch.proofs.Armed.{armed_after, remembers_at}
 
 -- the other leaves stand as before

@@ -1,10 +1,10 @@
 -- What the book says of a dispatch whose block has run.
-use Rattle.std.proofs.Common.{◌≡◌, ℕ, ◌+◌, ◌-◌, ◌^◌, ◌<◌, ◌≤◌, true, cond, ◌||◌, List, [], ◌∷◌, ◌++◌, map, length, length-append, slice_get, Option, Some, None, eqb, eq-eqb, refl, sym, ◌∙◌, ap, subst, arith}
+use Rattle.std.proofs.Common.{◌≡◌, ℕ, ◌+◌, ◌^◌, ◌<◌, ◌≤◌, true, cond, ◌||◌, List, [], ◌++◌, map, length, length-append, Option, Some, None, eqb, eq-eqb, refl, sym, ◌∙◌, ap, subst, arith}
 use Rattle.std.specs.List.{AllByRecursion}
 use Rattle.std.proofs.lemmas.List.{length-map}
 use Rattle.std.proofs.lemmas.Bool.{cond-true}
 use Rattle.fb_model.specs.Names.{Name, Place}
-use Rattle.fb_model.specs.Wires.{Kind, Leaf}
+use Rattle.fb_model.specs.Wires.{Kind}
 use Rattle.fb_model.specs.Store.{LeafState, sampled, with_leaf}
 use Rattle.fb_model.specs.Serving.{Effect as Outside, Serves}
 use Rattle.fb_model.specs.Certificates.{depth_of, reached}
@@ -12,15 +12,13 @@ use Rattle.fb_model.specs.Devices as book
 use Rattle.fb_model.specs.Devices.{Entry, Machine, Runs, Dispatch, Ran, put, is_pending, follow_ups, steps_row}
 use Rattle.fb_model.specs.Headline.{IsSound, pending_of}
 use Rattle.fb_model.proofs.Holding.{pending-cons}
-use Rattle.fb_model.proofs.Running.{steps_le, queue_is as queue_of}
+use Rattle.fb_model.proofs.Running.{steps_le}
 use Rattle.fb_model.proofs.Admitting.{sound_next}
 use Rattle.fb_model.proofs.Ending.{depth_le}
-use Rattle.st_exec.specs.Cells.{Cell}
 use Rattle.fb_chart.specs.declared.table.Point.{Point}
-use Rattle.fb_chart.specs.Views.{named, event_names, kind_of}
+use Rattle.fb_chart.specs.Views.{named, event_names}
 use Rattle.fb_chart.specs.Sending.{Points, sent_to}
 use Rattle.fb_serve.specs.declared.standing.Effect.{Effect}
-use Rattle.fb_turn.specs.declared.memory.Condition.{Condition}
 use Rattle.fb_turn.specs.declared.memory.Memory.{Memory}
 use Rattle.fb_turn.specs.Conditions.{leaf_state, effect_at}
 use Rattle.fb_turn.specs.Turning.{HasTurned}
@@ -29,11 +27,10 @@ use Rattle.fb_tables.specs.Tables.{IsPoint}
 use Rattle.fb_sched.specs.declared.ticket.Ticket.{Ticket}
 use Rattle.fb_sched.specs.Agenda.{Agenda, slot_at}
 use Rattle.fb_sched.specs.Entries.{entries, entry_by, booked}
-use Rattle.fb_sched.specs.Steps.{spent}
 use Rattle.fb_sched.proofs.Steps.{steps_found}
 use Rattle.fb_state.specs.declared.program.Program.{Program}
 use Rattle.fb_state.specs.declared.program.Running.{Running}
-use Rattle.fb_state.specs.Machines.{entries_in, spent_in}
+use Rattle.fb_state.specs.Machines.{entries_in}
 use Rattle.fb_state.specs.Keeping.{IsGood}
 use Rattle.fb_state.proofs.Queued.{queue_here, NoneElse, spent_of, no_steps}
 use Rattle.fb_dispatch.specs.Taking.{HasTaken}

@@ -21,7 +21,6 @@ use Rattle.fb_model.proofs.Charting.{within_all, spent_le}
 use Rattle.fb_model.proofs.Holding.{places_le, length_le}
 use Rattle.fb_model.proofs.Running.{at_leaf, sampled_lies, openings, input_weight}
 use Rattle.fb_model.proofs.Starting.{fine}
-use Rattle.fb_chart.specs.declared.table.Point.{Point}
 use Rattle.fb_chart.specs.declared.table.Output.{Output}
 use Rattle.fb_chart.specs.Sending.{targets_of, sent_to}
 use Rattle.fb_chart.specs.Charting.{steps_at, IsFine}

@@ -1,5 +1,5 @@
 -- What a leaf samples, by its table and the stores of all leaves.
-use Rattle.std.proofs.Common.{◌≡◌, ℕ, ℤ, ◌+◌, Bool, true, false, cond, ◌||◌, List, [], ◌∷◌, ◌++◌, map, length, replicate, slice_get, Option, Some, None, string_bytes, refl, sym, ◌∙◌, ap, subst}
+use Rattle.std.proofs.Common.{◌≡◌, ℕ, ℤ, Bool, true, false, cond, ◌||◌, List, [], ◌∷◌, ◌++◌, map, replicate, slice_get, Option, Some, None, string_bytes, refl, sym, ◌∙◌, ap, subst}
 use Rattle.std.proofs.Math.Path.{fun_ext}
 use Rattle.std.specs.List.{AllByRecursion}
 use Rattle.std.specs.Option.{option_map}
@@ -18,7 +18,7 @@ use Rattle.fb_model.proofs.Lists.{same_name, all_weaker}
 use Rattle.fb_model.proofs.Placed.{name_same}
 use Rattle.fb_leaves.specs.Leaves.{AreApart}
 use Rattle.fb_clear.proofs.Taking.{TakesInputs}
-use Rattle.st_exec.specs.Cells.{Cell, Form, values_of, forms_of, names_in, shape_in, filled}
+use Rattle.st_exec.specs.Cells.{Cell, Form, values_of, forms_of, shape_in, filled}
 use Rattle.fb_chart.specs.st_code.Forms.{slot_in}
 use Rattle.fb_chart.specs.declared.table.Source.{Source}
 use Rattle.fb_chart.specs.declared.table.Source.TheVariants as s

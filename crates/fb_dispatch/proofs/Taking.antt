@@ -1,12 +1,11 @@
 -- What is taken off a queue.
-use Rattle.std.proofs.Common.{◌≡◌, ℕ, List, [], set, slice_get, Option, Some, None, refl, sym, ◌∙◌, ap}
+use Rattle.std.proofs.Common.{◌≡◌, ℕ, List, [], set, slice_get, Option, Some, None, refl, ◌∙◌, ap}
 use Rattle.std.specs.Prelude.{IfSome, IfNone, MatchOption}
 use Rattle.fb_sched.specs.declared.ticket.Ticket.{Ticket}
 use Rattle.fb_sched.specs.Agenda.{Agenda, IsAgenda}
 use Rattle.fb_sched.specs.Changes.{Takes}
 use Rattle.fb_dispatch.specs.Taking.{IsIdle, HasTaken}
 use Rattle.fb_state.proofs.Lists.{same_at}
-use Rattle.fb_state.proofs.Queued.{queue_here}
 use Rattle.fb_dispatch.proofs.Lists.{set_same}
 
 pub taken : (old : List Agenda) (q : ℕ) (was new : Agenda) → slice_get old q ≡ Some was → (o : Option Ticket) → IfNone o ((was.tickets ≡ []) × (new ≡ was)) → IfSome o (λ first. Takes was first new) → IsAgenda new

@@ -4,7 +4,6 @@ use Rattle.std.specs.Option.{option_map}
 use Rattle.fb_model.specs.Wires.{Leaf}
 use Rattle.fb_model.specs.Serving.{Effect as Outside}
 use Rattle.fb_model.specs.Devices as book
-use Rattle.fb_chart.specs.declared.table.Point.{Point}
 use Rattle.fb_serve.specs.declared.standing.Effect.{Effect}
 use Rattle.fb_sched.specs.declared.reaction.Reaction.{Reaction}
 use Rattle.fb_turn.specs.Conditions.{effect_at}

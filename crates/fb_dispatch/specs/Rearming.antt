@@ -1,6 +1,5 @@
 -- Armed timers after a dispatch.
 use Rattle.std.specs.Prelude.{ℕ, ◌≡◌, ◌==◌, ◌<◌, Bool, true, length, Option, None, Some, if◌then◌else◌}
-use Rattle.fb_serve.specs.declared.standing.Standing.{Standing}
 use Rattle.fb_serve.specs.declared.standing.Standing.TheVariants as s
 use Rattle.fb_turn.specs.declared.memory.Condition.{Condition}
 use Rattle.fb_turn.specs.declared.memory.Condition.TheVariants as c

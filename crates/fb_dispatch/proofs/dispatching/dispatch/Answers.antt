@@ -1,4 +1,4 @@
-use Rattle.std.proofs.Common.{◌≡◌, ◌<◌, Option, length, refl, sym, ◌∙◌, ap, subst, arith}
+use Rattle.std.proofs.Common.{Option, length, refl, sym, ◌∙◌, ap, subst}
 use Rattle.std.specs.Option.{option_map}
 use Rattle.fb_model.specs.Serving.{Effect as Outside}
 use Rattle.fb_model.specs.Wires.{leaves}
@@ -9,11 +9,11 @@ use Rattle.fb_state.specs.Sessions.{session_of}
 use Rattle.fb_state.specs.Machines.{device_in, cert_in, machine_of}
 use Rattle.fb_state.specs.Numbers.{event_at, steps_in, IsKnown}
 use Rattle.fb_turn.specs.Conditions.{effect_at}
-use Rattle.fb_dispatch.specs.Answers.{effect_in, end_of, end_by}
+use Rattle.fb_dispatch.specs.Answers.{effect_in, end_of}
 use Rattle.fb_dispatch.specs.declared.answer.Ended.{Ended}
 use Rattle.fb_dispatch.proofs.Happening as at
 use Rattle.fb_dispatch.proofs.Kept as kept
-use Rattle.fb_dispatch.proofs.Finished.{idle_good, can_turn_at, turned_at, block_within, can_retime_at, condition_within, can_enter, timed_as, opening_known, bound_is, capacity_same}
+use Rattle.fb_dispatch.proofs.Finished.{idle_good, can_turn_read, turned_read, block_within, can_retime_at, condition_within, can_enter, timed_as, opening_known, bound_is, capacity_same}
 use Rattle.fb_dispatch.proofs.dispatching.dispatch.Goals as goal
 
 pub returns-in_default-clause-good : goal.returns-in_default-clause-good
@@ -23,40 +23,38 @@ returns-in_default-clause-good c =
     c.requires c.in_default.ensures.same refl refl refl refl refl refl
 
 pub turn-outcome-requires : goal.turn-outcome-requires
-turn-outcome-requires c =
-    can_turn_at c.args.program.now.tables.blocks.items c.deref.result.now c.args.program.now.tables.ports.items c.deref-2.result.now c.args.running.now.memory c.in-Some.first.point c.in-Some.first.values.items c.deref-3.result.now _
-    c.deref.ensures.value c.deref-2.ensures.value c.deref-3.ensures.0 (at.can_turn c.args.program.now c.args.running.now c.requires c.args.resource c.in-Some.first c.take.new.queues.items c.in-Some.ensures)
+turn-outcome-requires c = can_turn_read c.args.program.now c.args.running.now c.requires c.args.resource c.in-Some.first c.take.new.queues.items c.in-Some.ensures c.deref.result.now c.deref-2.result.now c.deref-3.result.now c.deref.ensures.value c.deref-2.ensures.value c.deref-3.ensures.0
 
 pub remembered-now-requires : goal.remembered-now-requires
 remembered-now-requires c =
-    let h = turned_at c.args.program.now.tables.blocks.items c.deref.result.now c.args.program.now.tables.ports.items c.deref-2.result.now c.args.running.now.memory c.in-Some.first.point c.in-Some.first.values.items c.deref-3.result.now c.args.running.now.clock
-    c.turn-outcome.new.memory c.turn-outcome.result.steps c.turn-outcome.result.effect c.args.running.now.outbox.items c.turn-outcome.new.emit.items c.deref.ensures.value c.deref-2.ensures.value c.deref-3.ensures.0 c.turn-outcome.ensures.turned in
+    let h = turned_read c.args.program.now c.args.running.now c.requires c.args.resource c.in-Some.first c.take.new.queues.items c.in-Some.ensures c.deref.result.now c.deref-2.result.now c.deref-3.result.now c.deref.ensures.value c.deref-2.ensures.value c.deref-3.ensures.0
+    c.turn-outcome.new.memory c.turn-outcome.result.steps c.turn-outcome.result.effect c.turn-outcome.new.emit.items c.turn-outcome.ensures.turned in
     condition_within c.args.program.now c.args.running.now c.requires c.args.resource c.in-Some.first c.take.new.queues.items c.in-Some.ensures c.turn-outcome.new.memory c.turn-outcome.result.steps c.turn-outcome.result.effect c.turn-outcome.new.emit.items h
 
 pub index-requires : goal.index-requires
-index-requires c = omega (arith, block_within c.args.program.now c.args.running.now c.requires c.args.resource c.in-Some.first c.take.new.queues.items c.in-Some.ensures, c.args.program.now.tables.blocks.ok)
+index-requires c = block_within c.args.program.now c.args.running.now c.requires c.args.resource c.in-Some.first c.take.new.queues.items c.in-Some.ensures
 
 pub retime-requires : goal.retime-requires
 retime-requires c = can_retime_at c.args.program.now c.args.running.now c.requires c.args.resource c.in-Some.first c.take.new.queues.items c.in-Some.ensures _
 
 pub enter-ended-requires : goal.enter-ended-requires
 enter-ended-requires c =
-    let h = turned_at c.args.program.now.tables.blocks.items c.deref.result.now c.args.program.now.tables.ports.items c.deref-2.result.now c.args.running.now.memory c.in-Some.first.point c.in-Some.first.values.items c.deref-3.result.now c.args.running.now.clock
-    c.turn-outcome.new.memory c.turn-outcome.result.steps c.turn-outcome.result.effect c.args.running.now.outbox.items c.turn-outcome.new.emit.items c.deref.ensures.value c.deref-2.ensures.value c.deref-3.ensures.0 c.turn-outcome.ensures.turned in
+    let h = turned_read c.args.program.now c.args.running.now c.requires c.args.resource c.in-Some.first c.take.new.queues.items c.in-Some.ensures c.deref.result.now c.deref-2.result.now c.deref-3.result.now c.deref.ensures.value c.deref-2.ensures.value c.deref-3.ensures.0
+    c.turn-outcome.new.memory c.turn-outcome.result.steps c.turn-outcome.result.effect c.turn-outcome.new.emit.items c.turn-outcome.ensures.turned in
     can_enter c.args.program.now c.args.running.now c.requires c.args.resource c.in-Some.first c.take.new.queues.items c.in-Some.ensures c.turn-outcome.new.memory c.turn-outcome.result.steps c.turn-outcome.result.effect c.turn-outcome.new.emit.items h
 
 pub steps_at-bound-requires : goal.steps_at-bound-requires
 steps_at-bound-requires c =
-    let h = turned_at c.args.program.now.tables.blocks.items c.deref.result.now c.args.program.now.tables.ports.items c.deref-2.result.now c.args.running.now.memory c.in-Some.first.point c.in-Some.first.values.items c.deref-3.result.now c.args.running.now.clock
-    c.turn-outcome.new.memory c.turn-outcome.result.steps c.turn-outcome.result.effect c.args.running.now.outbox.items c.turn-outcome.new.emit.items c.deref.ensures.value c.deref-2.ensures.value c.deref-3.ensures.0 c.turn-outcome.ensures.turned in
+    let h = turned_read c.args.program.now c.args.running.now c.requires c.args.resource c.in-Some.first c.take.new.queues.items c.in-Some.ensures c.deref.result.now c.deref-2.result.now c.deref-3.result.now c.deref.ensures.value c.deref-2.ensures.value c.deref-3.ensures.0
+    c.turn-outcome.new.memory c.turn-outcome.result.steps c.turn-outcome.result.effect c.turn-outcome.new.emit.items c.turn-outcome.ensures.turned in
     subst (λ xs. IsKnown xs c.enter-ended.result.0.opening) (sym c.deref-4.ensures.value)
     (opening_known c.args.program.now c.args.running.now c.requires c.args.resource c.in-Some.first c.take.new.queues.items c.in-Some.ensures c.turn-outcome.new.memory c.turn-outcome.result.steps c.turn-outcome.result.effect c.turn-outcome.new.emit.items h
     c.enter-ended.result.0 c.enter-ended.result.1 c.enter-ended.new.queues.items c.enter-ended.ensures.entered)
 
 pub returns-clause-step : goal.returns-clause-step
 returns-clause-step c =
-    let h = turned_at c.args.program.now.tables.blocks.items c.deref.result.now c.args.program.now.tables.ports.items c.deref-2.result.now c.args.running.now.memory c.in-Some.first.point c.in-Some.first.values.items c.deref-3.result.now c.args.running.now.clock
-    c.turn-outcome.new.memory c.turn-outcome.result.steps c.turn-outcome.result.effect c.args.running.now.outbox.items c.turn-outcome.new.emit.items c.deref.ensures.value c.deref-2.ensures.value c.deref-3.ensures.0 c.turn-outcome.ensures.turned in
+    let h = turned_read c.args.program.now c.args.running.now c.requires c.args.resource c.in-Some.first c.take.new.queues.items c.in-Some.ensures c.deref.result.now c.deref-2.result.now c.deref-3.result.now c.deref.ensures.value c.deref-2.ensures.value c.deref-3.ensures.0
+    c.turn-outcome.new.memory c.turn-outcome.result.steps c.turn-outcome.result.effect c.turn-outcome.new.emit.items c.turn-outcome.ensures.turned in
     let new : Running = record { queues = c.enter-ended.new.queues; memory = c.turn-outcome.new.memory; timers = c.retime.new.timers; outbox = c.enter-ended.new.outbox; clock = c.args.running.now.clock; next = c.args.running.now.next } in
     let s = session_of c.args.program.now c.args.running.now in
     let leaf = (at.point c.args.program.now c.args.running.now c.requires c.args.resource c.in-Some.first c.take.new.queues.items c.in-Some.ensures).leaf in
@@ -74,8 +72,8 @@ returns-clause-point c = (at.placed c.args.program.now c.args.running.now c.requ
 
 pub returns-clause-good : goal.returns-clause-good
 returns-clause-good c =
-    let h = turned_at c.args.program.now.tables.blocks.items c.deref.result.now c.args.program.now.tables.ports.items c.deref-2.result.now c.args.running.now.memory c.in-Some.first.point c.in-Some.first.values.items c.deref-3.result.now c.args.running.now.clock
-    c.turn-outcome.new.memory c.turn-outcome.result.steps c.turn-outcome.result.effect c.args.running.now.outbox.items c.turn-outcome.new.emit.items c.deref.ensures.value c.deref-2.ensures.value c.deref-3.ensures.0 c.turn-outcome.ensures.turned in
+    let h = turned_read c.args.program.now c.args.running.now c.requires c.args.resource c.in-Some.first c.take.new.queues.items c.in-Some.ensures c.deref.result.now c.deref-2.result.now c.deref-3.result.now c.deref.ensures.value c.deref-2.ensures.value c.deref-3.ensures.0
+    c.turn-outcome.new.memory c.turn-outcome.result.steps c.turn-outcome.result.effect c.turn-outcome.new.emit.items c.turn-outcome.ensures.turned in
     let new : Running = record { queues = c.enter-ended.new.queues; memory = c.turn-outcome.new.memory; timers = c.retime.new.timers; outbox = c.enter-ended.new.outbox; clock = c.args.running.now.clock; next = c.args.running.now.next } in
     kept.good c.args.program.now c.args.running.now c.requires c.args.resource c.in-Some.first c.take.new.queues.items c.in-Some.ensures c.turn-outcome.new.memory c.turn-outcome.result.steps c.turn-outcome.result.effect c.turn-outcome.new.emit.items h
     c.enter-ended.result.0 c.enter-ended.result.1 c.enter-ended.new.queues.items c.enter-ended.ensures.entered new refl refl refl refl

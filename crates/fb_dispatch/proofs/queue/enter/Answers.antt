@@ -1,4 +1,4 @@
-use Rattle.std.proofs.Common.{◌≡◌, ◌<◌, length, refl, subst}
+use Rattle.std.proofs.Common.{◌≡◌, refl, subst}
 use Rattle.fb_sched.specs.Agenda.{Agenda}
 use Rattle.fb_sched.specs.Changes.{PutsAll}
 use Rattle.fb_turn.proofs.Standing.{read}

@@ -1,4 +1,4 @@
-use Rattle.std.proofs.Common.{◌≡◌, ℕ, cond, eqb, List, Option, Some, sym, ◌∙◌, ap}
+use Rattle.std.proofs.Common.{ℕ, cond, eqb, List, Option, ◌∙◌, ap}
 use Rattle.fb_timers.specs.declared.armed.Armed.{Armed}
 use Rattle.fb_timers.specs.Order.{due_of, placed}
 use Rattle.fb_dispatch.proofs.Timed.{unarmed, quiet, armed_anew}
