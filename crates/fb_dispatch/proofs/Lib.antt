@@ -1,0 +1,11 @@
+pub mod Lists
+pub mod Taking
+pub mod Timed
+pub mod Sampled
+pub mod Reaching
+pub mod Happening
+pub mod Outcomes
+pub mod Entered
+pub mod Armed
+pub mod Kept
+pub mod Finished

@@ -4,8 +4,8 @@ use Rattle.std.specs.Option.{option_map}
 use Rattle.fb_model.specs.Wires.{Leaf}
 use Rattle.fb_model.specs.Serving.{Effect as Outside}
 use Rattle.fb_model.specs.Devices as book
-use Rattle.fb_chart.specs.declared.table.Point.{Point}
 use Rattle.fb_serve.specs.declared.standing.Effect.{Effect}
+use Rattle.fb_sched.specs.declared.reaction.Reaction.{Reaction}
 use Rattle.fb_turn.specs.Conditions.{effect_at}
 use Rattle.fb_tables.specs.Views.{place_at}
 use Rattle.fb_tables.specs.Tables.{IsPoint}
@@ -15,6 +15,10 @@ use Rattle.fb_dispatch.specs.declared.answer.Turned.TheVariants.{Idle, Ran}
 
 abbrev pub end_of : Ended → book.Ended
 end_of e = record { cause = e.cause; total = e.total; bound = e.bound }
+
+-- the end of a cause, by its reaction and the bound on its steps
+abbrev pub end_by : ℕ → Reaction → Ended
+end_by bound r = record { cause = r.cause; total = r.steps; bound = bound }
 
 -- what a leaf has done outside of the device
 abbrev pub effect_in : Option Leaf → Option Effect → Option Outside

@@ -1,10 +1,9 @@
 -- Armed timers after a dispatch.
-use Rattle.std.specs.Prelude.{ℕ, ◌≡◌, ◌==◌, Option, None, Some, if◌then◌else◌}
-use Rattle.fb_serve.specs.declared.standing.Standing.{Standing}
+use Rattle.std.specs.Prelude.{ℕ, ◌≡◌, ◌==◌, ◌<◌, Bool, true, length, Option, None, Some, if◌then◌else◌}
 use Rattle.fb_serve.specs.declared.standing.Standing.TheVariants as s
 use Rattle.fb_turn.specs.declared.memory.Condition.{Condition}
 use Rattle.fb_turn.specs.declared.memory.Condition.TheVariants as c
-use Rattle.fb_timers.specs.Order.{Timing, due_of}
+use Rattle.fb_timers.specs.Order.{Timing, AreApart, due_of, without}
 
 -- the moment at which what is remembered is due
 abbrev pub moment_in : Condition → Option ℕ
@@ -19,3 +18,11 @@ moment_in (c.Service s.Plain) = None
 -- the timer of a block is due when it remembers, and the others as before
 abbrev pub IsRearmed : Timing → ℕ → Condition → Timing → Type 0
 IsRearmed old block now new = (k : ℕ) → due_of new.armed k ≡ (if block == k then moment_in now else due_of old.armed k)
+
+-- where the block is a timer, there is room to arm it once it is not armed
+abbrev pub CanRetime : Bool → Timing → ℕ → Type 0
+CanRetime timer old block = timer ≡ true → AreApart old.armed → length (without old.armed block) < old.room
+
+-- the moment at which each block is due afterwards
+abbrev pub HasRetimed : Bool → Timing → ℕ → Condition → Timing → Type 0
+HasRetimed timer old block now new = (k : ℕ) → due_of new.armed k ≡ (if timer then (if block == k then moment_in now else due_of old.armed k) else due_of old.armed k)

@@ -2,9 +2,10 @@
 #![tactic(auto)]
 
 mod answer;
-mod dispatch;
+mod dispatching;
+mod queue;
 mod timing;
 
 pub use answer::{Ended, Ran, Turned};
-pub use dispatch::dispatch;
+pub use dispatching::dispatch;
 pub use fb_state;

@@ -1,11 +1,15 @@
 //! Timers after a dispatch.
 
-ghost use Rattle.std.specs.Prelude.{◌≡◌, ◌<◌, ◌≤◌, length, None};
-ghost use Rattle.fb_timers.specs.Order.{due_of};
-ghost use Rattle.fb_dispatch.specs.Rearming.{moment_in, IsRearmed};
+ghost use Rattle.std.specs.Prelude.{◌≡◌, ◌<◌, ◌≤◌, length};
+ghost use Rattle.fb_model.specs.Devices.{is_timer};
+ghost use Rattle.fb_chart.specs.Views.{body_kind};
+ghost use Rattle.fb_timers.specs.Order.{without};
+ghost use Rattle.fb_dispatch.specs.Rearming.{moment_in, IsRearmed, CanRetime, HasRetimed};
 
+use fb_services::Service;
 use fb_state::fb_timers::Timers;
 use fb_state::fb_turn::Condition;
+use fb_state::fb_turn::fb_chart::Body;
 use fb_state::fb_turn::fb_serve::Standing;
 
 // The moment at which a timer that is armed is due.
@@ -18,18 +22,39 @@ fn moment(condition: Condition) -> Option<u64>
     }
 }
 
-/// Arms or disarms the timer of a block, by what the block remembered before a dispatch and what it remembers after it.
-pub(crate) fn rearm(timers: &mut Timers, block: u16, before: Condition, now: Condition)
-    requires was { due_of timers.old.armed block ≡ moment_in before }
-    requires room { moment_in before ≡ None → length timers.old.armed < timers.old.room }
+// Arms or disarms the timer of a block, by what the block remembers.
+fn rearm(timers: &mut Timers, block: u16, now: Condition)
+    requires { length (without timers.old.armed block) < timers.old.room }
     ensures armed { IsRearmed timers.old block now timers.new }
     ensures room { timers.old.room ≤ timers.new.room }
 {
     timers.keeps_order();
-    if moment(before).is_some() {
-        timers.disarm(block);
+    timers.disarm(block);
+    match moment(now) {
+        Some(due) => timers.arm(block, due),
+        None => {}
     }
-    if let Some(due) = moment(now) {
-        timers.arm(block, due);
+}
+
+// Whether a block is a timer.
+fn is_timer(body: &Body) -> bool
+    ensures { result ≡ is_timer (body_kind body.now) }
+{
+    match body {
+        Body::Served(Service::Delay) => true,
+        Body::Served(Service::Cycle) => true,
+        _ => false,
+    }
+}
+
+/// Arms or disarms the timer of a block, if it is one, by what the block remembers.
+pub(crate) fn retime(timers: &mut Timers, body: &Body, block: u16, now: Condition)
+    requires { CanRetime (is_timer (body_kind body.now)) timers.old block }
+    ensures timed { HasRetimed (is_timer (body_kind body.now)) timers.old block now timers.new }
+    ensures room { timers.old.room ≤ timers.new.room }
+{
+    timers.keeps_order();
+    if is_timer(body) {
+        rearm(timers, block, now);
     }
 }

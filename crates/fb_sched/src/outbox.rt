@@ -43,8 +43,9 @@ impl Outbox {
         ensures sound { IsAgenda queue.new }
         ensures empty { self.new.items ≡ [] }
         ensures room { self.new.capacity ≡ self.old.capacity }
+        ensures within { length self.old.items ≤ self.old.capacity }
     {
-        let _ = queue.len();
+        let _ = (queue.len(), self.points.len());
         while let Some(point) = self.points.pop_front() {
             queue.put(slot, point);
         }
