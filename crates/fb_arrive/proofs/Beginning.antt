@@ -1,27 +1,26 @@
 -- Every BEGIN is admitted, one after another.
-use Rattle.std.proofs.Common.{◌≡◌, ℕ, zero, suc, ◌+◌, ◌<◌, ◌≤◌, ◌^◌, ◌&&◌, Bool, true, false, cond, List, [], ◌∷◌, ◌++◌, drop, length, slice_get, Option, Some, None, Result, Ok, Err, eqb, eq-eqb, refl, sym, ◌∙◌, ap, subst, arith, inl}
+use Rattle.std.proofs.Common.{◌≡◌, ℕ, zero, suc, ◌+◌, ◌<◌, ◌≤◌, ◌^◌, ◌&&◌, Bool, true, false, cond, List, [], ◌∷◌, ◌++◌, drop, length, slice_get, Some, Result, Ok, Err, eqb, eq-eqb, refl, sym, ◌∙◌, ap, subst, arith, inl}
 use Rattle.std.specs.Prelude.{IfOk, IfErr}
-use Rattle.std.specs.List.{AllByRecursion}
-use Rattle.fb_model.specs.Names.{Place, at_place}
+use Rattle.fb_model.specs.Names.{at_place}
 use Rattle.fb_model.specs.System as system
 use Rattle.fb_model.specs.System.{Device}
 use Rattle.fb_model.specs.Services.{begin}
 use Rattle.fb_model.specs.Wires.{Kind, Charted, Serviced, Leaf, leaves}
 use Rattle.fb_model.specs.Certificates.{Certificate, depth_of, events_of, begin_places, is_restart}
-use Rattle.fb_model.specs.Devices.{Machine, Entry, HasRoom, held, put, places_row, admitted, beginning, begun, silent}
-use Rattle.fb_model.specs.Headline.{IsSound, IsKnown}
+use Rattle.fb_model.specs.Devices.{Machine, Entry, HasRoom, held, places_row, admitted, beginning, begun, silent}
+use Rattle.fb_model.specs.Headline.{IsKnown}
 use Rattle.fb_model.proofs.Lists.{all_weaker}
 use Rattle.fb_model.proofs.Holding.{held_offer}
 use Rattle.fb_model.proofs.Running.{put_all}
 use Rattle.fb_state.specs.declared.program.Program.{Program}
 use Rattle.fb_state.specs.declared.program.Running.{Running}
 use Rattle.fb_state.specs.declared.admission.Shortage.{Shortage}
-use Rattle.fb_state.specs.declared.admission.Shortage.TheVariants.{Places, Numbers}
 use Rattle.fb_state.specs.Sessions.{session_of, next_of}
 use Rattle.fb_state.specs.Machines.{device_in, cert_in, machine_of}
 use Rattle.fb_state.specs.Keeping.{IsGood}
 use Rattle.fb_state.specs.Arrivals.{IsArrival, Admits, IsShort}
 use Rattle.fb_arrive.proofs.Ticking.{drop_first}
+use Rattle.fb_arrive.proofs.Ticks.{no_room}
 
 -- an E_RESTART has one event
 begins_first : (kind : Kind) → is_restart kind ≡ true → slice_get (events_of kind) 0 ≡ Some begin
@@ -88,12 +87,12 @@ module _ (p : Program) (first now : Running) (k : ℕ) (b : Begins p first now k
   places_more q = subst (λ ls. held (places_row cert) (m.queues q) + begin_places cert ls q ≤ depth_of cert device q) more (b.room q)
 
   -- another leaf
-  pub passed : is_restart leaf.kind ≡ false → Begins p first now (k + 1)
-  passed h = subst (Begins p first now) next_up (record {
-    good = b.good;
-    left = ap (λ c. begun (drop (suc k) all) (cond c (admitted m (beginning leaf)) m)) (sym h) ∙ left_more;
-    room = λ q. (let none : cond (is_restart leaf.kind && eqb leaf.home q) (places_row cert (at_place leaf.path begin)) 0 ≡ 0 = ap (λ c. cond (c && eqb leaf.home q) (places_row cert (at_place leaf.path begin)) 0) h in omega (arith, places_more q, none));
-    numbers = omega (arith, b.numbers, ap length more);
+  passed_on : is_restart leaf.kind ≡ false → (new : Running) → IsGood p new → machine_of (session_of p new) ≡ m → Begins p first new (k + 1)
+  passed_on h new g is = subst (Begins p first new) next_up (record {
+    good = g;
+    left = ap (begun (drop (suc k) all)) is ∙ ap (λ c. begun (drop (suc k) all) (cond c (admitted m (beginning leaf)) m)) (sym h) ∙ left_more;
+    room = λ q. subst (λ (n : Machine). held (places_row cert) (n.queues q) + begin_places cert (drop (suc k) all) q ≤ depth_of cert device q) (sym is) (let none : cond (is_restart leaf.kind && eqb leaf.home q) (places_row cert (at_place leaf.path begin)) 0 ≡ 0 = ap (λ c. cond (c && eqb leaf.home q) (places_row cert (at_place leaf.path begin)) 0) h in omega (arith, places_more q, none));
+    numbers = (let next : next_of new.next ≡ m.next = ap (λ (n : Machine). n.next) is in omega (arith, b.numbers, ap length more, next));
   })
 
   module _ (h : is_restart leaf.kind ≡ true) where
@@ -104,7 +103,7 @@ module _ (p : Program) (first now : Running) (k : ℕ) (b : Begins p first now k
     has_room = record { credit = omega (arith, places_more leaf.home, own); number = omega (arith, b.numbers, ap length more) }
 
     -- it is admitted
-    pub begun_one : (new : Running) → IsGood p new → machine_of (session_of p new) ≡ admitted m (beginning leaf) → Begins p first new (k + 1)
+    begun_one : (new : Running) → IsGood p new → machine_of (session_of p new) ≡ admitted m (beginning leaf) → Begins p first new (k + 1)
     begun_one new g is = subst (Begins p first new) next_up (record {
       good = g;
       left = ap (begun (drop (suc k) all)) is ∙ ap (λ c. begun (drop (suc k) all) (cond c (admitted m (beginning leaf)) m)) (sym h) ∙ left_more;
@@ -121,12 +120,16 @@ module _ (p : Program) (first now : Running) (k : ℕ) (b : Begins p first now k
       numbers = (let next : next_of new.next ≡ m.next + 1 = ap (λ (n : Machine). n.next) is in omega (arith, b.numbers, ap length more, next));
     })
 
-    never_short : (why : Shortage) → IsShort cert device m (beginning leaf) why → ⊥
-    never_short (Places needs free) s = absurd (omega (arith, has_room.credit, s.0, s.1, s.2))
-    never_short Numbers s = absurd (omega (arith, has_room.number, s))
+  -- with the BEGIN of this leaf, where it has one
+  pub begun_next : (new : Running) → IsGood p new → machine_of (session_of p new) ≡ cond (is_restart leaf.kind) (admitted m (beginning leaf)) m → Begins p first new (k + 1)
+  begun_next new g is = go (is_restart leaf.kind) refl is
+    where
+      go : (c : Bool) → is_restart leaf.kind ≡ c → machine_of (session_of p new) ≡ cond c (admitted m (beginning leaf)) m → Begins p first new (k + 1)
+      go true h e = begun_one h new g e
+      go false h e = passed_on h new g e
 
-    -- an answer of the admission is an admission
-    pub admitted_one : (new : Running) (result : Result ℕ Shortage) → IsGood p new → IfOk result (λ cause. Admits cert device m (beginning leaf) cause (machine_of (session_of p new)))
-        → IfErr result (λ why. IsShort cert device m (beginning leaf) why × (machine_of (session_of p new) ≡ m)) → Begins p first new (k + 1)
-    admitted_one new (Ok cause) g ok err = begun_one new g ok.new_is
-    admitted_one new (Err why) g ok err = absurd (never_short why err.0)
+-- what is short of places or numbers has no room, so where there is room an arrival is admitted
+pub admitted_where_room : (cert : Certificate) (device : Device) (old : Machine) (leaf : Leaf) (new : Machine) (result : Result ℕ Shortage) → HasRoom cert device old (beginning leaf) → IfOk result (λ cause. Admits cert device old (beginning leaf) cause new)
+    → IfErr result (λ why. IsShort cert device old (beginning leaf) why × (new ≡ old)) → new ≡ admitted old (beginning leaf)
+admitted_where_room c d old leaf new (Ok cause) room ok err = ok.new_is
+admitted_where_room c d old leaf new (Err why) room ok err = absurd (no_room c d old (beginning leaf) why err.0 room)

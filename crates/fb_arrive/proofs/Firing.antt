@@ -1,9 +1,8 @@
 -- A timer that becomes fired.
-use Rattle.std.proofs.Common.{◌≡◌, ℕ, zero, suc, ◌+◌, ◌<◌, ◌≤◌, Bool, true, false, cond, List, [], ◌∷◌, map, length, set, slice_get, Option, Some, None, eqb, eq-eqb, refl, sym, ◌∙◌, ◌^◌, ap, subst, arith, inl, inr}
+use Rattle.std.proofs.Common.{◌≡◌, ℕ, zero, suc, ◌<◌, ◌≤◌, Bool, true, false, cond, List, [], ◌∷◌, map, length, set, slice_get, Option, Some, None, eq-eqb, refl, sym, ◌∙◌, ◌^◌, ap, subst, arith, inl, inr}
 use Rattle.std.specs.Prelude.{IfSome}
 use Rattle.std.specs.List.{AllByRecursion}
-use Rattle.std.proofs.lemmas.Bool.{cond-true, cond-false, cases_eq, ne_eqb}
-use Rattle.fb_model.specs.System as system
+use Rattle.std.proofs.lemmas.Bool.{cases_eq, ne_eqb}
 use Rattle.fb_model.specs.System.{Device}
 use Rattle.fb_model.specs.Wires.{Kind, Charted, Serviced, Leaf, leaves}
 use Rattle.fb_model.specs.Store as book
@@ -31,7 +30,7 @@ use Rattle.fb_state.specs.declared.program.Program.{Program}
 use Rattle.fb_state.specs.declared.program.Running.{Running}
 use Rattle.fb_state.specs.Sessions.{session_of, next_of}
 use Rattle.fb_state.specs.Machines.{device_in, cert_in, standing, store_from, machine, machine_of}
-use Rattle.fb_state.specs.Keeping.{IsStanding, AllStand, IsQueue, IsGood}
+use Rattle.fb_state.specs.Keeping.{IsStanding, AllStand, IsGood}
 use Rattle.fb_state.proofs.Lists.{get_other, set_stands, same_at}
 use Rattle.fb_state.proofs.Storing.{store_set, stored_at}
 use Rattle.fb_state.proofs.Moved.{program_moved}

@@ -1,15 +1,14 @@
 -- An offer, by the number of its block.
-use Rattle.std.proofs.Common.{◌≡◌, ℕ, ℤ, zero, suc, ◌&&◌, take, ◌+◌, ◌<◌, ◌≤◌, ◌^◌, Bool, true, false, List, [], ◌∷◌, length, slice_get, Option, Some, None, Result, Ok, Err, refl, sym, ◌∙◌, ap, subst, arith, inr}
+use Rattle.std.proofs.Common.{◌≡◌, ℕ, ℤ, zero, suc, ◌&&◌, take, ◌<◌, ◌≤◌, Bool, true, false, List, [], ◌∷◌, length, slice_get, Some, refl, ◌∙◌, ap, subst, arith, inr}
 use Rattle.fb_words.specs.declared.elem_type.ElemType.{ElemType}
 use Rattle.fb_model.specs.Values.{in_type, all_in}
 use Rattle.fb_model.specs.System as system
 use Rattle.fb_model.specs.Services.{arrive}
 use Rattle.fb_model.specs.Ranges.{types_of}
 use Rattle.fb_model.specs.Wires.{Kind, Charted, Serviced, Leaf, leaves}
-use Rattle.fb_model.specs.Certificates.{Certificate, events_of}
+use Rattle.fb_model.specs.Certificates.{events_of}
 use Rattle.fb_model.specs.Devices.{Machine, Offer, Happens, HasRoom, arriving, admitted, is_input_numbered, IsBad, IsDenied}
 use Rattle.fb_chart.specs.declared.table.Block.{Block}
-use Rattle.fb_chart.specs.declared.table.Point.{Point}
 use Rattle.fb_chart.specs.declared.table.Body.{Body}
 use Rattle.fb_chart.specs.declared.table.Body.TheVariants as b
 use Rattle.fb_services.specs.declared.service.Service.TheVariants as s

@@ -1,9 +1,9 @@
 -- Blocks of the tables and leaves of the book have the same kinds.
-use Rattle.std.proofs.Common.{◌≡◌, ℕ, zero, suc, ◌+◌, ◌<◌, ◌≤◌, Bool, true, false, cond, List, [], ◌∷◌, map, length, slice_get, Option, Some, None, refl, sym, ◌∙◌, ap, subst, arith}
+use Rattle.std.proofs.Common.{◌≡◌, ℕ, zero, suc, ◌+◌, Bool, true, false, cond, List, [], ◌∷◌, map, length, slice_get, Option, Some, None, refl, sym, ◌∙◌, ap, subst, arith}
 use Rattle.fb_model.specs.Wires.{Kind, Leaf, leaves}
 use Rattle.fb_model.specs.Certificates.{Certificate}
 use Rattle.fb_model.specs.Devices.{is_input_numbered, first_leaf}
-use Rattle.st_exec.specs.Cells.{Form, forms_of}
+use Rattle.st_exec.specs.Cells.{Form}
 use Rattle.fb_serve.specs.declared.standing.Ports.{Ports}
 use Rattle.fb_chart.specs.declared.table.Block.{Block}
 use Rattle.fb_chart.specs.Views.{kind_of}
@@ -21,14 +21,14 @@ leaf_kind leaf = leaf.kind
 kinds_of : (cert : Certificate) (all : List Leaf) (issues owns rest : List (List Form)) (xs : List Block) (ps : List Ports) (ls : List Leaf) → AreBlocks cert all issues owns rest xs ps ls → map kind_of xs ≡ map leaf_kind ls
 kinds_of cert all issues [] [] [] [] [] a = refl
 kinds_of cert all issues (o ∷ os) (r ∷ rs) (x ∷ xs) (p ∷ ps) (l ∷ ls) a = ap (λ k. k ∷ map kind_of xs) a.0.kind ∙ ap (λ ks. l.kind ∷ ks) (kinds_of cert all issues os rs xs ps ls a.1)
-kinds_of cert all issues [] rest xs ps (l ∷ ls) a = absurd a
-kinds_of cert all issues (o ∷ os) [] xs ps (l ∷ ls) a = absurd a
-kinds_of cert all issues (o ∷ os) (r ∷ rs) [] ps (l ∷ ls) a = absurd a
-kinds_of cert all issues (o ∷ os) (r ∷ rs) (x ∷ xs) [] (l ∷ ls) a = absurd a
-kinds_of cert all issues (o ∷ os) rest xs ps [] a = absurd a
-kinds_of cert all issues [] (r ∷ rs) xs ps [] a = absurd a
-kinds_of cert all issues [] [] (x ∷ xs) ps [] a = absurd a
-kinds_of cert all issues [] [] [] (p ∷ ps) [] a = absurd a
+kinds_of cert all issues [] [] [] [] (l ∷ ls) a = absurd a
+kinds_of cert all issues [] [] [] (p ∷ ps) ls a = absurd a
+kinds_of cert all issues [] [] (x ∷ xs) ps ls a = absurd a
+kinds_of cert all issues [] (r ∷ rs) xs ps ls a = absurd a
+kinds_of cert all issues (o ∷ os) [] xs ps ls a = absurd a
+kinds_of cert all issues (o ∷ os) (r ∷ rs) [] ps ls a = absurd a
+kinds_of cert all issues (o ∷ os) (r ∷ rs) (x ∷ xs) [] ls a = absurd a
+kinds_of cert all issues (o ∷ os) (r ∷ rs) (x ∷ xs) (p ∷ ps) [] a = absurd a
 
 pub same_kinds : (p : Program) (r : Running) → IsGood p r → map kind_of p.tables.blocks.items ≡ map leaf_kind (leaves (device_in (session_of p r)))
 same_kinds p r g = kinds_of _ _ _ _ _ p.tables.blocks.items p.tables.ports.items (leaves (device_in (session_of p r))) g.program.tables.blocks

@@ -1,14 +1,14 @@
 -- Timers that are due are tried in turn.
-use Rattle.std.proofs.Common.{◌≡◌, ℕ, zero, suc, ◌+◌, ◌<◌, ◌≤◌, Bool, true, false, cond, List, [], ◌∷◌, drop, length, slice_get, Option, Some, None, eqb, eq-eqb, refl, sym, ◌∙◌, ap, subst, arith, inl, inr}
+use Rattle.std.proofs.Common.{◌≡◌, ℕ, zero, suc, ◌+◌, ◌≤◌, Bool, true, false, cond, List, [], ◌∷◌, drop, length, slice_get, Option, Some, None, eqb, eq-eqb, refl, sym, ◌∙◌, ap, subst, arith, inl, inr}
 use Rattle.std.specs.Prelude.{nat_le}
-use Rattle.std.proofs.lemmas.Bool.{cases_eq, ne_eqb}
+use Rattle.std.proofs.lemmas.Bool.{ne_eqb}
 use Rattle.fb_model.specs.System.{Device}
 use Rattle.fb_model.specs.Wires.{Leaf}
 use Rattle.fb_model.specs.Certificates.{Certificate}
 use Rattle.fb_model.specs.Devices.{Machine, Tries, HasRoom, expiring, expired}
 use Rattle.fb_timers.specs.declared.armed.Armed.{Armed}
 use Rattle.fb_timers.specs.Order.{AreApart, due_of, due_at, without}
-use Rattle.fb_timers.specs.Expiry.{leaves_at, leaf_of, in_front}
+use Rattle.fb_timers.specs.Expiry.{leaves_at, in_front}
 
 -- a timer that is not armed is not the first of those that are, and none behind it
 not_first : (a x : Armed) (as' : List Armed) → cond (eqb a.block x.block) (Some a.due) (due_of as' x.block) ≡ None → a ≡ x → ⊥

@@ -1,5 +1,5 @@
 -- How far a tick has come.
-use Rattle.std.proofs.Common.{◌≡◌, ℕ, zero, suc, ◌+◌, ◌<◌, ◌≤◌, Bool, true, false, cond, List, [], ◌∷◌, drop, length, slice_get, Option, Some, None, refl, sym, ◌∙◌, ap, subst, arith, inl}
+use Rattle.std.proofs.Common.{◌≡◌, ℕ, suc, ◌+◌, ◌<◌, ◌≤◌, Bool, true, false, cond, List, [], ◌∷◌, drop, length, slice_get, Option, Some, None, refl, sym, ◌∙◌, ap, subst, arith, inl}
 use Rattle.std.specs.Prelude.{nat_le}
 use Rattle.fb_model.specs.System as system
 use Rattle.fb_model.specs.System.{Device}
@@ -25,7 +25,7 @@ use Rattle.fb_state.specs.Arrivals.{IsArrival, IsShort}
 use Rattle.fb_state.proofs.Blocks.{within}
 use Rattle.fb_state.proofs.Few.{few}
 use Rattle.fb_arrive.specs.Ticking.{IsTimer}
-use Rattle.fb_arrive.proofs.Ticking.{due_there, without_due, Progress, progress_fired, progress_waits, progress_ends, drop_first, drop_none, leaf_first, leaves_few}
+use Rattle.fb_arrive.proofs.Ticking.{due_there, without_due, Progress, progress_fired, progress_waits, progress_ends, drop_first, drop_none, leaf_first}
 
 -- EXPIRE is the third event of a timer
 expires_third : (kind : Kind) → is_timer kind ≡ true → slice_get (events_of kind) 2 ≡ Some expire
@@ -128,6 +128,21 @@ module _ (p : Program) (first now : Running) (moment fired waiting : ℕ) (t : T
       (leaf ∷ leaves_at all (drop (suc waiting) (due_at now.clock now.timers.armed))) (machine_of (session_of p now))
   progress = subst (λ ls. Progress (cert_in (session_of p first)) (device_in (session_of p first)) (due_timers (machine_of (session_of p first)).store (at_moment (machine_of (session_of p first)) moment).clock all) (at_moment (machine_of (session_of p first)) moment) fired ls (machine_of (session_of p now)))
       (ap (leaves_at all) more ∙ leaf_first all x (drop (suc waiting) (due_at now.clock now.timers.armed)) leaf stands) t.progress
+
+  pub fired_less : (new : Running) → new.timers.armed ≡ without now.timers.armed x.block → new.clock ≡ now.clock → length (drop waiting (due_at new.clock new.timers.armed)) < length (drop waiting (due_at now.clock now.timers.armed))
+  fired_less new armed clock =
+      let left : drop waiting (due_at new.clock new.timers.armed) ≡ drop (suc waiting) (due_at now.clock now.timers.armed) =
+      ap (λ c. drop waiting (due_at c new.timers.armed)) clock ∙ ap (λ l. drop waiting (due_at now.clock l)) armed ∙ without_due now.clock now.timers.armed waiting x t.apart at in
+      omega (arith, ap length more, ap length left)
+
+  pub waits_less : (new : Running) → new.timers.armed ≡ now.timers.armed → new.clock ≡ now.clock → length (drop (waiting + 1) (due_at new.clock new.timers.armed)) < length (drop waiting (due_at now.clock now.timers.armed))
+  waits_less new armed clock =
+      let left : drop (waiting + 1) (due_at new.clock new.timers.armed) ≡ drop (suc waiting) (due_at now.clock now.timers.armed) =
+      ap (λ c. drop (waiting + 1) (due_at c new.timers.armed)) clock ∙ ap (λ l. drop (waiting + 1) (due_at now.clock l)) armed ∙ ap (λ n. drop n (due_at now.clock now.timers.armed)) (sym next_is) in
+      omega (arith, ap length more, ap length left)
+
+  pub waiting_few : waiting + 1 ≤ 65535
+  waiting_few = omega (arith, within (due_at now.clock now.timers.armed) waiting x at, armed_few (machine_of (session_of p now)).store all now.timers.armed now.clock t.apart t.good.armed, t.good.program.tables.few)
 
   -- it is fired
   pub fired_one : (new : Running) → IsGood p new → new.timers.armed ≡ without now.timers.armed x.block → new.clock ≡ now.clock → HasRoom (cert_in (session_of p first)) (device_in (session_of p first)) (machine_of (session_of p now)) (expiring leaf)

@@ -1,12 +1,12 @@
 //! The start of a device.
 
-ghost use Rattle.std.specs.Prelude.{◌≡◌, ◌≤◌, ◌+◌, ◌^◌, length};
-ghost use Rattle.fb_model.specs.Wires.{leaves};
+ghost use Rattle.std.specs.Prelude.{◌≡◌, ◌≤◌, ◌<◌, ◌+◌, ◌^◌, true, length, Some, slice_get, if◌then◌else◌};
+ghost use Rattle.fb_model.specs.Wires.{Leaf, leaves};
 ghost use Rattle.fb_model.specs.Certificates.{is_restart};
-ghost use Rattle.fb_model.specs.Devices.{begun, silent};
+ghost use Rattle.fb_model.specs.Devices.{HasRoom, admitted, beginning, begun, silent};
 ghost use Rattle.fb_chart.specs.Views.{body_kind};
 ghost use Rattle.fb_state.specs.Sessions.{session_of, next_of};
-ghost use Rattle.fb_state.specs.Machines.{device_in, machine_of};
+ghost use Rattle.fb_state.specs.Machines.{device_in, cert_in, machine_of};
 ghost use Rattle.fb_state.specs.Keeping.{IsGood};
 
 use fb_services::Service;
@@ -23,6 +23,21 @@ fn begins(body: &Body) -> bool
     }
 }
 
+// Admits the BEGIN of a block, where it is an E_RESTART.
+fn begin_one(program: &Program, running: &mut Running, block: u16)
+    requires good { IsGood program.now running.old }
+    requires within { block < length (leaves (device_in (session_of program.now running.old))) }
+    requires room { (leaf : Leaf) → slice_get (leaves (device_in (session_of program.now running.old))) block ≡ Some leaf → is_restart leaf.kind ≡ true
+        → HasRoom (cert_in (session_of program.now running.old)) (device_in (session_of program.now running.old)) (machine_of (session_of program.now running.old)) (beginning leaf) }
+    ensures begun { (leaf : Leaf) → slice_get (leaves (device_in (session_of program.now running.old))) block ≡ Some leaf
+        → machine_of (session_of program.now running.new) ≡ (if is_restart leaf.kind then admitted (machine_of (session_of program.now running.old)) (beginning leaf) else machine_of (session_of program.now running.old)) }
+    ensures good { IsGood program.now running.new }
+{
+    if begins(&program.tables.blocks[block as usize].body) {
+        let _ = admit(program, running, Point { block, event: 0 }, Values::new());
+    }
+}
+
 /// Admits every BEGIN of a device to which nothing has happened, in resource and block order. There is room for all: the certificate pays for them.
 pub fn begin(program: &Program, running: &mut Running)
     requires good { IsGood program.now running.old }
@@ -32,12 +47,6 @@ pub fn begin(program: &Program, running: &mut Running)
     ensures good { IsGood program.now running.new }
 {
     for at in 0..program.tables.blocks.len() {
-        if begins(&program.tables.blocks[at].body) {
-            let point = Point {
-                block: at as u16,
-                event: 0,
-            };
-            let _ = admit(program, running, point, Values::new());
-        }
+        begin_one(program, running, at as u16);
     }
 }

@@ -1,4 +1,4 @@
-use Rattle.std.proofs.Common.{rules, ℤ, ◌≡◌, ◌<◌, ◌+◌, ◌++◌, ◌∷◌, [], suc, true, pos, Some, length, take, slice_get, slice_index_or, w64, to_z, of_z, sym, refl, ◌∙◌, ap, subst, arith}
+use Rattle.std.proofs.Common.{rules, ℤ, ◌≡◌, ◌<◌, ◌+◌, ◌++◌, ◌∷◌, [], suc, true, pos, length, take, slice_index_or, w64, to_z, of_z, sym, refl, ◌∙◌, ap, subst, arith}
 use Rattle.std.specs.Int.{w128}
 use Rattle.std.proofs.lemmas.Int.{to_z-of_z, ints}
 use Rattle.fb_words.specs.declared.elem_type.ElemType.{ElemType}
