@@ -1,0 +1,32 @@
+use Rattle.std.proofs.Common.{ℕ, ◌≡◌, Some, slice_get, ap, sym, subst, arith}
+use Rattle.fb_chart.proofs.Lists.{stands_at}
+use Rattle.fb_sched.specs.declared.reaction.Reaction.{Reaction}
+use Rattle.fb_sched.specs.Agenda.{Agenda, slot_at}
+use Rattle.fb_state.specs.Numbers.{IsKnown}
+use Rattle.fb_state.proofs.Blocks.{within}
+use Rattle.fb_state.proofs.Lists.{all_at}
+use Rattle.fb_device.specs.declared.answer.Opening.{Opening}
+use Rattle.fb_device.specs.Openings.{opening_at}
+use Rattle.fb_device.proofs.Opened.{one_more_without}
+use Rattle.fb_device.proofs.names.opening.Goals as goal
+
+pub steps_at-requires : goal.steps_at-requires
+steps_at-requires c =
+    let known = all_at (λ (a : Agenda). (slot : ℕ) (r : Reaction) → slot_at a.slots slot ≡ Some r → IsKnown c.args.blocks.now r.opening) c.args.queues.now c.loop-queue.queue-index c.queue-item.result c.loop-queue-test.true c.requires in
+    let here = subst (λ (a : Agenda). (slot : ℕ) (r : Reaction) → slot_at a.slots slot ≡ Some r → IsKnown c.args.blocks.now r.opening) (sym c.queue-item.is) known in
+    here c.in-Some.ensures.found.0 c.in-Some.reaction c.in-Some.ensures.found.1
+
+pub returns-in-Some : goal.returns-in-Some
+returns-in-Some c =
+    let stands = stands_at c.args.queues.now c.loop-queue.queue-index c.queue-item.result c.queue-item.result c.loop-queue-test.true c.queue-item.is in
+    let same : ◌≡◌ {A = Opening} (record { block = c.in-Some.reaction.opening.block; event = c.in-Some.reaction.opening.event; weight = c.steps_at.result }) (opening_at c.args.blocks.now c.in-Some.reaction.opening) =
+    ap {B = Opening} (λ (n : ℕ). record { block = c.in-Some.reaction.opening.block; event = c.in-Some.reaction.opening.event; weight = n }) c.steps_at.ensures in
+    (c.loop-queue.queue-index, c.queue-item.result, c.in-Some.reaction, stands, c.in-Some.ensures.found, same)
+
+pub loop-queue-preserved : goal.loop-queue-preserved
+loop-queue-preserved c =
+    one_more_without c.args.queues.now c.args.cause c.loop-queue.queue-index c.queue-item.result
+    (stands_at c.args.queues.now c.loop-queue.queue-index c.queue-item.result c.queue-item.result c.loop-queue-test.true c.queue-item.is) c.in_default.ensures.none c.loop-queue.invariant
+
+pub returns : goal.returns
+returns c = λ q a e. c.loop-queue.invariant q a (omega (arith, within c.args.queues.now q a e, c.loop-queue-test.false)) e
