@@ -125,15 +125,15 @@ module _ (p : Program) (r : Running) (g : IsGood p r) (block : ℕ) (t : IsTimer
             }
             )
         | inr n ↦ record {
-            own = old.own;
-            issued = old.issued;
-            condition = old.condition;
-            own_is = old.own_is;
-            issued_is = old.issued_is;
-            condition_is = get_other r.memory.conditions.items block k (Service s.Fired) n ∙ old.condition_is;
-            stores = old.stores;
-            fits = old.fits;
-          }
+          own = old.own;
+          issued = old.issued;
+          condition = old.condition;
+          own_is = old.own_is;
+          issued_is = old.issued_is;
+          condition_is = get_other r.memory.conditions.items block k (Service s.Fired) n ∙ old.condition_is;
+          stores = old.stores;
+          fits = old.fits;
+        }
       ]
 
   -- its timer is armed no longer

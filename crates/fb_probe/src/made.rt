@@ -3,9 +3,9 @@
 use crate::case::Case;
 use crate::terms::term;
 use crate::texts::{ended, refused, text_of};
+use fb_chart::{Block, Body, Chart, Event, Output, Source, Store};
 use fb_check::{Verified, check_text};
 use fb_first::first_values;
-use fb_chart::{Block, Body, Chart, Event, Output, Source, Store};
 use fb_services::Service;
 use fb_tables::{Tables, tables};
 use fb_words::ElemType;

@@ -18,7 +18,10 @@ pub enum Line<'a> {
         values: Vec<i64>,
     },
     /// `tick DEVICE NOW`: the clock comes to a moment, in milliseconds.
-    Tick { device: &'a str, now: u64 },
+    Tick {
+        device: &'a str,
+        now: u64,
+    },
     /// `dispatch DEVICE RESOURCE`: the first pending entry of a resource is to run.
     Dispatch {
         device: &'a str,
