@@ -269,8 +269,11 @@ module _ (v : Verified) (k : ℕ) (t : Tables) (first : FirstValues) (r : Runnin
     holds = holds;
     tables = are;
     device = omega (arith, within, length-map v.typed.devices.items device_of);
-    few = omega (arith, resource_count cert device 0 t.resources.items device.resources are.resources,
-        (all_got (λ (d : Device). (length (leaves d) ≤ 16384) × (length d.resources ≤ 16)) (system_in v).devices k device (devices_few checked.written.1.typed.library checked.written.1.source (system_in v) checked.written.1.typed.typed) stands).1);
+    few = omega (
+      arith,
+      resource_count cert device 0 t.resources.items device.resources are.resources,
+      (all_got (λ (d : Device). (length (leaves d) ≤ 16384) × (length d.resources ≤ 16)) (system_in v).devices k device (devices_few checked.written.1.typed.library checked.written.1.source (system_in v) checked.written.1.typed.typed) stands).1,
+    );
   }
 
   pub good_at_first : IsGood program r
