@@ -1,4 +1,4 @@
-use Rattle.std.proofs.Common.{◌≡◌, ◌+◌, take, ◌++◌, ◌∷◌, [], sym, ◌∙◌, subst, arith, ap}
+use Rattle.std.proofs.Common.{◌≡◌, ◌+◌, take, ◌++◌, ◌∷◌, [], sym, ◌∙◌, subst, ap}
 use Rattle.std.proofs.lemmas.List.{take_more}
 use Rattle.fb_tables.specs.declared.table.Resource.{Resource}
 use Rattle.fb_device.specs.Starting.{AreEmpty}

@@ -1,4 +1,4 @@
-use Rattle.std.proofs.Common.{ℕ, ◌≡◌, Some, slice_get, ap, sym, subst, arith}
+use Rattle.std.proofs.Common.{ℕ, ◌≡◌, Some, ap, sym, subst, arith}
 use Rattle.fb_chart.proofs.Lists.{stands_at}
 use Rattle.fb_sched.specs.declared.reaction.Reaction.{Reaction}
 use Rattle.fb_sched.specs.Agenda.{Agenda, slot_at}

@@ -1,6 +1,5 @@
 use Rattle.std.proofs.Common.{◌≡◌, ℕ, Some, sym, subst}
 use Rattle.std.specs.List.{AllByRecursion}
-use Rattle.fb_chart.specs.declared.table.Block.{Block}
 use Rattle.fb_sched.specs.declared.reaction.Reaction.{Reaction}
 use Rattle.fb_sched.specs.Agenda.{Agenda, slot_at}
 use Rattle.fb_state.specs.Numbers.{IsKnown}
