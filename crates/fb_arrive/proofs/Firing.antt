@@ -14,18 +14,18 @@ use Rattle.fb_model.specs.Headline.{IsSound}
 use Rattle.fb_model.proofs.Running.{at_leaf, with_leaf_lies}
 use Rattle.fb_model.proofs.Admitting.{sound_but}
 use Rattle.fb_leaves.specs.Leaves.{AreApart}
-use Rattle.fb_chart.proofs.Lists.{all_got}
-use Rattle.st_exec.specs.Cells.{Cell, forms_of}
-use Rattle.fb_serve.specs.declared.standing.Standing.TheVariants as s
-use Rattle.fb_tables.specs.declared.table.Resource.{Resource}
-use Rattle.fb_turn.specs.declared.memory.Condition.{Condition}
-use Rattle.fb_turn.specs.declared.memory.Condition.TheVariants.{Service}
-use Rattle.fb_turn.specs.Conditions.{leaf_state, IsConditionOf}
-use Rattle.fb_timers.specs.declared.armed.Armed.{Armed}
-use Rattle.fb_timers.specs.Order.{due_of, without}
-use Rattle.fb_timers.specs.Order as order
-use Rattle.fb_timers.specs.Expiry.{AreArmed, moment_of}
-use Rattle.fb_timers.proofs.Told.{due_cleared}
+use Rattle.fb_state.proofs.of_fb_chart.Lists.{all_got}
+use Rattle.fb_state.specs.st_exec.Cells.{Cell, forms_of}
+use Rattle.fb_state.specs.fb_serve.declared.standing.Standing.TheVariants as s
+use Rattle.fb_state.specs.fb_tables.declared.table.Resource.{Resource}
+use Rattle.fb_state.specs.fb_turn.declared.memory.Condition.{Condition}
+use Rattle.fb_state.specs.fb_turn.declared.memory.Condition.TheVariants.{Service}
+use Rattle.fb_state.specs.fb_turn.Conditions.{leaf_state, IsConditionOf}
+use Rattle.fb_state.specs.fb_timers.declared.armed.Armed.{Armed}
+use Rattle.fb_state.specs.fb_timers.Order.{due_of, without}
+use Rattle.fb_state.specs.fb_timers.Order as order
+use Rattle.fb_state.specs.fb_timers.Expiry.{AreArmed, moment_of}
+use Rattle.fb_state.proofs.of_fb_timers.Told.{due_cleared}
 use Rattle.fb_state.specs.declared.program.Program.{Program}
 use Rattle.fb_state.specs.declared.program.Running.{Running}
 use Rattle.fb_state.specs.Sessions.{session_of, next_of}

@@ -8,13 +8,13 @@ use Rattle.fb_model.specs.Ranges.{types_of}
 use Rattle.fb_model.specs.Wires.{Kind, Charted, Serviced, Leaf, leaves}
 use Rattle.fb_model.specs.Certificates.{events_of}
 use Rattle.fb_model.specs.Devices.{Machine, Offer, Happens, HasRoom, arriving, admitted, is_input_numbered, IsBad, IsDenied}
-use Rattle.fb_chart.specs.declared.table.Block.{Block}
-use Rattle.fb_chart.specs.declared.table.Body.{Body}
-use Rattle.fb_chart.specs.declared.table.Body.TheVariants as b
+use Rattle.fb_state.specs.fb_chart.declared.table.Block.{Block}
+use Rattle.fb_state.specs.fb_chart.declared.table.Body.{Body}
+use Rattle.fb_state.specs.fb_chart.declared.table.Body.TheVariants as b
 use Rattle.fb_services.specs.declared.service.Service.TheVariants as s
-use Rattle.fb_chart.specs.Views.{kind_of, body_kind, event_names, output_names}
-use Rattle.fb_chart.specs.Tables.{IsBody}
-use Rattle.st_exec.specs.Cells.{Form}
+use Rattle.fb_state.specs.fb_chart.Views.{kind_of, body_kind, event_names, output_names}
+use Rattle.fb_state.specs.fb_chart.Tables.{IsBody}
+use Rattle.fb_state.specs.st_exec.Cells.{Form}
 use Rattle.fb_state.specs.declared.program.Program.{Program}
 use Rattle.fb_state.specs.declared.program.Running.{Running}
 use Rattle.fb_state.specs.declared.admission.Shortage.{Shortage}

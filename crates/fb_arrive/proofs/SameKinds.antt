@@ -3,11 +3,11 @@ use Rattle.std.proofs.Common.{◌≡◌, ℕ, zero, suc, ◌+◌, Bool, true, fa
 use Rattle.fb_model.specs.Wires.{Kind, Leaf, leaves}
 use Rattle.fb_model.specs.Certificates.{Certificate}
 use Rattle.fb_model.specs.Devices.{is_input_numbered, first_leaf}
-use Rattle.st_exec.specs.Cells.{Form}
-use Rattle.fb_serve.specs.declared.standing.Ports.{Ports}
-use Rattle.fb_chart.specs.declared.table.Block.{Block}
-use Rattle.fb_chart.specs.Views.{kind_of}
-use Rattle.fb_tables.specs.Tables.{AreBlocks}
+use Rattle.fb_state.specs.st_exec.Cells.{Form}
+use Rattle.fb_state.specs.fb_serve.declared.standing.Ports.{Ports}
+use Rattle.fb_state.specs.fb_chart.declared.table.Block.{Block}
+use Rattle.fb_state.specs.fb_chart.Views.{kind_of}
+use Rattle.fb_state.specs.fb_tables.Tables.{AreBlocks}
 use Rattle.fb_state.specs.declared.program.Program.{Program}
 use Rattle.fb_state.specs.declared.program.Running.{Running}
 use Rattle.fb_state.specs.Sessions.{session_of}

@@ -6,9 +6,9 @@ use Rattle.fb_model.specs.System.{Device}
 use Rattle.fb_model.specs.Wires.{Leaf}
 use Rattle.fb_model.specs.Certificates.{Certificate}
 use Rattle.fb_model.specs.Devices.{Machine, Tries, HasRoom, expiring, expired}
-use Rattle.fb_timers.specs.declared.armed.Armed.{Armed}
-use Rattle.fb_timers.specs.Order.{AreApart, due_of, due_at, without}
-use Rattle.fb_timers.specs.Expiry.{leaves_at, in_front}
+use Rattle.fb_state.specs.fb_timers.declared.armed.Armed.{Armed}
+use Rattle.fb_state.specs.fb_timers.Order.{AreApart, due_of, due_at, without}
+use Rattle.fb_state.specs.fb_timers.Expiry.{leaves_at, in_front}
 
 -- a timer that is not armed is not the first of those that are, and none behind it
 not_first : (a x : Armed) (as' : List Armed) → cond (eqb a.block x.block) (Some a.due) (due_of as' x.block) ≡ None → a ≡ x → ⊥

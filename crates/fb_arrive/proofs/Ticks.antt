@@ -8,12 +8,12 @@ use Rattle.fb_model.specs.Wires.{Kind, Charted, Serviced, Leaf, leaves}
 use Rattle.fb_model.specs.Store.{Store}
 use Rattle.fb_model.specs.Certificates.{Certificate, events_of}
 use Rattle.fb_model.specs.Devices.{Machine, Arrival, HasRoom, Tries, due, due_timers, is_timer, at_moment, expiring, expired}
-use Rattle.fb_timers.specs.declared.armed.Armed.{Armed}
-use Rattle.fb_timers.specs.Order as order
-use Rattle.fb_timers.specs.Order.{IsOrdered, due_of, due_at, without}
-use Rattle.fb_timers.specs.Expiry.{AreArmed, moment_of, leaves_at}
-use Rattle.fb_timers.proofs.Leaves.{due_leaves}
-use Rattle.fb_timers.proofs.Ordered.{apart_without}
+use Rattle.fb_state.specs.fb_timers.declared.armed.Armed.{Armed}
+use Rattle.fb_state.specs.fb_timers.Order as order
+use Rattle.fb_state.specs.fb_timers.Order.{IsOrdered, due_of, due_at, without}
+use Rattle.fb_state.specs.fb_timers.Expiry.{AreArmed, moment_of, leaves_at}
+use Rattle.fb_state.proofs.of_fb_timers.Leaves.{due_leaves}
+use Rattle.fb_state.proofs.of_fb_timers.Ordered.{apart_without}
 use Rattle.fb_state.specs.declared.program.Program.{Program}
 use Rattle.fb_state.specs.declared.program.Running.{Running}
 use Rattle.fb_state.specs.declared.admission.Shortage.{Shortage}

@@ -2,8 +2,8 @@
 use Rattle.std.specs.Prelude.{ℕ, ℤ, ◌≡◌, ◌+◌, List, [], ◌∷◌, length, Option, None, Some, slice_get, if◌then◌else◌}
 use Rattle.fb_words.specs.declared.elem_type.ElemType.{ElemType}
 use Rattle.fb_model.specs.Devices.{is_input_numbered, IsBad}
-use Rattle.fb_chart.specs.declared.table.Block.{Block}
-use Rattle.fb_chart.specs.Views.{kind_of}
+use Rattle.fb_state.specs.fb_chart.declared.table.Block.{Block}
+use Rattle.fb_state.specs.fb_chart.Views.{kind_of}
 use Rattle.fb_arrive.specs.declared.denied.Denied.{Denied}
 use Rattle.fb_arrive.specs.declared.denied.Denied.TheVariants as denied
 

@@ -4,7 +4,7 @@ ghost use Rattle.std.specs.Prelude.{◌≡◌, true, false, Some, slice_get, if�
 ghost use Rattle.fb_model.specs.Wires.{Leaf, leaves};
 ghost use Rattle.fb_model.specs.Store.{Fired, with_leaf};
 ghost use Rattle.fb_model.specs.Devices.{Happens, Tick, Expired, HasRoom, at_moment, expired, expiring};
-ghost use Rattle.fb_timers.specs.Order.{without};
+ghost use Rattle.fb_state.specs.fb_timers.Order.{without};
 ghost use Rattle.fb_state.specs.Sessions.{session_of};
 ghost use Rattle.fb_state.specs.Machines.{device_in, cert_in, machine_of};
 ghost use Rattle.fb_state.specs.Keeping.{IsGood};

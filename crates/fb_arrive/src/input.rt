@@ -4,7 +4,7 @@ ghost use Rattle.std.specs.Prelude.{◌≡◌, ◌≤◌, true, length, IfOk, If
 ghost use Rattle.fb_model.specs.Values.{all_in};
 ghost use Rattle.fb_model.specs.Ranges.{types_of};
 ghost use Rattle.fb_model.specs.Devices.{Happens, Offer, is_input_numbered};
-ghost use Rattle.fb_chart.specs.Views.{body_kind};
+ghost use Rattle.fb_state.specs.fb_chart.Views.{body_kind};
 ghost use Rattle.fb_state.specs.Sessions.{session_of};
 ghost use Rattle.fb_state.specs.Machines.{device_in, cert_in, machine_of};
 ghost use Rattle.fb_state.specs.Keeping.{IsGood};

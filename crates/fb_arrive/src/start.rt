@@ -4,7 +4,7 @@ ghost use Rattle.std.specs.Prelude.{◌≡◌, ◌≤◌, ◌<◌, ◌+◌, ◌^
 ghost use Rattle.fb_model.specs.Wires.{Leaf, leaves};
 ghost use Rattle.fb_model.specs.Certificates.{is_restart};
 ghost use Rattle.fb_model.specs.Devices.{HasRoom, admitted, beginning, begun, silent};
-ghost use Rattle.fb_chart.specs.Views.{body_kind};
+ghost use Rattle.fb_state.specs.fb_chart.Views.{body_kind};
 ghost use Rattle.fb_state.specs.Sessions.{session_of, next_of};
 ghost use Rattle.fb_state.specs.Machines.{device_in, cert_in, machine_of};
 ghost use Rattle.fb_state.specs.Keeping.{IsGood};

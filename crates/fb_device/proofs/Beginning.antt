@@ -16,38 +16,38 @@ use Rattle.fb_model.specs.Certificates.{Certificate, DeviceHolds, names, depth_o
 use Rattle.fb_model.specs.Devices as machines
 use Rattle.fb_model.specs.Devices.{silent}
 use Rattle.fb_model.specs.Headline.{IsSound}
-use Rattle.fb_tables.proofs.of_fb_check.Composed.{devices_hold}
+use Rattle.fb_arrive.proofs.of_fb_state.of_fb_tables.of_fb_check.Composed.{devices_hold}
 use Rattle.fb_leaves.proofs.Few.{devices_few}
-use Rattle.fb_tables.specs.fb_check.declared.verified.Verified.{Verified}
-use Rattle.fb_tables.specs.fb_check.Verdicts.{system_in, certificate_in, IsChecked}
-use Rattle.fb_tables.specs.fb_types.Views.{device_of}
-use Rattle.st_exec.specs.Cells.{Cell, Form, values_of, forms_of}
-use Rattle.fb_chart.specs.declared.table.Block.{Block}
-use Rattle.fb_chart.specs.Views.{named, kind_of}
-use Rattle.fb_chart.specs.Sampling.{AreStores}
-use Rattle.fb_chart.proofs.Lists.{all_got}
-use Rattle.fb_tables.specs.declared.table.Resource.{Resource}
-use Rattle.fb_tables.specs.declared.table.Tables.{Tables}
-use Rattle.fb_tables.specs.Tables.{AreTables, AreResources}
-use Rattle.fb_turn.specs.declared.memory.Condition.{Condition}
-use Rattle.fb_turn.specs.declared.memory.Condition.TheVariants.{State}
-use Rattle.fb_turn.specs.Conditions.{condition_at, leaf_state, IsConditionOf}
-use Rattle.fb_sched.specs.declared.reaction.Reaction.{Reaction}
-use Rattle.fb_sched.specs.Agenda.{Agenda, IsAgenda, slot_at}
-use Rattle.fb_sched.specs.Steps.{spent}
-use Rattle.fb_timers.specs.declared.armed.Armed.{Armed}
-use Rattle.fb_timers.specs.Expiry.{AreArmed}
-use Rattle.fb_first.specs.First.{AreFirst}
-use Rattle.fb_first.specs.declared.first.FirstValues.{FirstValues}
-use Rattle.fb_state.specs.declared.program.Program.{Program}
-use Rattle.fb_state.specs.declared.program.Running.{Running}
-use Rattle.fb_state.specs.Sessions.{session_of, next_of}
-use Rattle.fb_state.specs.Machines.{device_at, queue_at, entries_in, standing, store_from, spent_in, machine, machine_of}
-use Rattle.fb_state.specs.Keeping.{IsStanding, ArePlaced, IsQueue, IsProgram, IsGood}
-use Rattle.fb_state.proofs.Devices.{device_stands}
-use Rattle.fb_state.proofs.Storing.{standing_at}
-use Rattle.fb_state.proofs.Blocks.{Pair, block_of, block_count, mapped}
-use Rattle.fb_state.proofs.Arriving.{resource_count}
+use Rattle.fb_arrive.specs.fb_state.fb_tables.fb_check.declared.verified.Verified.{Verified}
+use Rattle.fb_arrive.specs.fb_state.fb_tables.fb_check.Verdicts.{system_in, certificate_in, IsChecked}
+use Rattle.fb_arrive.specs.fb_state.fb_tables.fb_types.Views.{device_of}
+use Rattle.fb_arrive.specs.fb_state.st_exec.Cells.{Cell, Form, values_of, forms_of}
+use Rattle.fb_arrive.specs.fb_state.fb_chart.declared.table.Block.{Block}
+use Rattle.fb_arrive.specs.fb_state.fb_chart.Views.{named, kind_of}
+use Rattle.fb_arrive.specs.fb_state.fb_chart.Sampling.{AreStores}
+use Rattle.fb_arrive.proofs.of_fb_state.of_fb_chart.Lists.{all_got}
+use Rattle.fb_arrive.specs.fb_state.fb_tables.declared.table.Resource.{Resource}
+use Rattle.fb_arrive.specs.fb_state.fb_tables.declared.table.Tables.{Tables}
+use Rattle.fb_arrive.specs.fb_state.fb_tables.Tables.{AreTables, AreResources}
+use Rattle.fb_arrive.specs.fb_state.fb_turn.declared.memory.Condition.{Condition}
+use Rattle.fb_arrive.specs.fb_state.fb_turn.declared.memory.Condition.TheVariants.{State}
+use Rattle.fb_arrive.specs.fb_state.fb_turn.Conditions.{condition_at, leaf_state, IsConditionOf}
+use Rattle.fb_arrive.specs.fb_state.fb_sched.declared.reaction.Reaction.{Reaction}
+use Rattle.fb_arrive.specs.fb_state.fb_sched.Agenda.{Agenda, IsAgenda, slot_at}
+use Rattle.fb_arrive.specs.fb_state.fb_sched.Steps.{spent}
+use Rattle.fb_arrive.specs.fb_state.fb_timers.declared.armed.Armed.{Armed}
+use Rattle.fb_arrive.specs.fb_state.fb_timers.Expiry.{AreArmed}
+use Rattle.fb_arrive.specs.fb_state.fb_tables.fb_first.First.{AreFirst}
+use Rattle.fb_arrive.specs.fb_state.fb_tables.fb_first.declared.first.FirstValues.{FirstValues}
+use Rattle.fb_arrive.specs.fb_state.declared.program.Program.{Program}
+use Rattle.fb_arrive.specs.fb_state.declared.program.Running.{Running}
+use Rattle.fb_arrive.specs.fb_state.Sessions.{session_of, next_of}
+use Rattle.fb_arrive.specs.fb_state.Machines.{device_at, queue_at, entries_in, standing, store_from, spent_in, machine, machine_of}
+use Rattle.fb_arrive.specs.fb_state.Keeping.{IsStanding, ArePlaced, IsQueue, IsProgram, IsGood}
+use Rattle.fb_arrive.proofs.of_fb_state.Devices.{device_stands}
+use Rattle.fb_arrive.proofs.of_fb_state.Storing.{standing_at}
+use Rattle.fb_arrive.proofs.of_fb_state.Blocks.{Pair, block_of, block_count, mapped}
+use Rattle.fb_arrive.proofs.of_fb_state.Arriving.{resource_count}
 use Rattle.fb_device.specs.Starting.{first_of, AreEmpty, IsAtRest}
 use Rattle.fb_device.proofs.Silent.{silent_sound, none_armed}
 

@@ -9,7 +9,7 @@ use Rattle.fb_model.specs.Ranges.{Range, CellsLie, LeafLies}
 use Rattle.fb_model.specs.Certificates.{Certificate, IsWired, DeviceHolds}
 use Rattle.fb_model.specs.Devices.{due, is_timer, silent}
 use Rattle.fb_model.specs.Headline.{IsSound}
-use Rattle.fb_timers.specs.Expiry.{moment_of, AreArmed}
+use Rattle.fb_arrive.specs.fb_state.fb_timers.Expiry.{moment_of, AreArmed}
 
 first_store_at : (all : List Leaf) (path : Path) (leaf : Leaf) → leaf_at all path ≡ Some leaf → (first_store all path).cells ≡ first_cells leaf
 first_store_at [] path leaf h = cc

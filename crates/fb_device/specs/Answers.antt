@@ -8,8 +8,8 @@ use Rattle.fb_model.specs.CertificateText.{names_in}
 use Rattle.fb_model.specs.Devices as book
 use Rattle.fb_model.specs.Devices.{Machine, steps_row, is_pending}
 use Rattle.fb_model.specs.Headline.{IsOpen}
-use Rattle.fb_tables.specs.fb_check.Lookups.{is_same_path}
-use Rattle.fb_tables.specs.Views.{place_at}
+use Rattle.fb_arrive.specs.fb_state.fb_tables.fb_check.Lookups.{is_same_path}
+use Rattle.fb_arrive.specs.fb_state.fb_tables.Views.{place_at}
 use Rattle.fb_arrive.specs.Answers.{admission_of}
 use Rattle.fb_dispatch.specs.Answers.{turned_of, HasPoint}
 use Rattle.fb_device.specs.declared.answer.Opening.{Opening}

@@ -5,14 +5,14 @@ use Rattle.std.specs.Prelude.{string_bytes}
 use Rattle.fb_model.specs.System.{Device, System}
 use Rattle.fb_model.specs.Spelling.{upper}
 use Rattle.fb_model.specs.Devices.{silent}
-use Rattle.fb_tables.specs.fb_check.Verdicts.{system_in, IsSystemOf, IsOfTexts, IsFaultOf}
-use Rattle.fb_tables.specs.fb_check.Lookups.{is_same_path}
+use Rattle.fb_arrive.specs.fb_state.fb_tables.fb_check.Verdicts.{system_in, IsSystemOf, IsOfTexts, IsFaultOf}
+use Rattle.fb_arrive.specs.fb_state.fb_tables.fb_check.Lookups.{is_same_path}
 use Rattle.fb_device.specs.declared.refusal.Refusal.{Refusal}
 use Rattle.fb_device.specs.declared.refusal.Refusal.TheVariants.{Checked, NoDevice}
-use Rattle.fb_tables.specs.fb_check.declared.verified.Verified.{Verified}
-use Rattle.fb_tables.specs.fb_check.declared.refusal.Refusal.TheVariants as checks
-use Rattle.fb_state.specs.Sessions.{Session}
-use Rattle.fb_state.specs.Machines.{machine_of}
+use Rattle.fb_arrive.specs.fb_state.fb_tables.fb_check.declared.verified.Verified.{Verified}
+use Rattle.fb_arrive.specs.fb_state.fb_tables.fb_check.declared.refusal.Refusal.TheVariants as checks
+use Rattle.fb_arrive.specs.fb_state.Sessions.{Session}
+use Rattle.fb_arrive.specs.fb_state.Machines.{machine_of}
 
 -- the texts are spelled, well typed and fit, the device is one of this name in them, and nothing has happened yet
 pub record IsLoaded (text certificate name : List ℕ) (s : Session) : Type 0 where

@@ -3,19 +3,19 @@ use Rattle.std.specs.Prelude.{ℕ, ◌≡◌, ◌≤◌, List, [], ◌∷◌, ma
 use Rattle.std.specs.List.{AllByRecursion}
 use Rattle.fb_model.specs.System.{Device, Input, Output, Publish, Subscribe, Delay, Cycle, Restart}
 use Rattle.fb_model.specs.Wires.{Kind, Charted, Serviced, leaves}
-use Rattle.fb_tables.specs.fb_check.Verdicts.{system_in}
-use Rattle.fb_tables.specs.fb_check.declared.verified.Verified.{Verified}
-use Rattle.fb_chart.specs.declared.table.Block.{Block}
-use Rattle.fb_chart.specs.Views.{kind_of}
-use Rattle.fb_serve.specs.declared.standing.Standing.TheVariants.{Closed, Quiet, Plain}
-use Rattle.fb_first.specs.First.{AreFirst}
-use Rattle.fb_first.specs.declared.first.FirstValues.{FirstValues}
-use Rattle.fb_tables.specs.declared.table.Resource.{Resource}
-use Rattle.fb_tables.specs.declared.table.Tables.{Tables}
-use Rattle.fb_turn.specs.declared.memory.Condition.{Condition}
-use Rattle.fb_turn.specs.declared.memory.Condition.TheVariants.{State, Service}
-use Rattle.fb_sched.specs.Agenda.{Agenda, IsAgenda}
-use Rattle.fb_state.specs.declared.program.Running.{Running}
+use Rattle.fb_arrive.specs.fb_state.fb_tables.fb_check.Verdicts.{system_in}
+use Rattle.fb_arrive.specs.fb_state.fb_tables.fb_check.declared.verified.Verified.{Verified}
+use Rattle.fb_arrive.specs.fb_state.fb_chart.declared.table.Block.{Block}
+use Rattle.fb_arrive.specs.fb_state.fb_chart.Views.{kind_of}
+use Rattle.fb_arrive.specs.fb_state.fb_serve.declared.standing.Standing.TheVariants.{Closed, Quiet, Plain}
+use Rattle.fb_arrive.specs.fb_state.fb_tables.fb_first.First.{AreFirst}
+use Rattle.fb_arrive.specs.fb_state.fb_tables.fb_first.declared.first.FirstValues.{FirstValues}
+use Rattle.fb_arrive.specs.fb_state.fb_tables.declared.table.Resource.{Resource}
+use Rattle.fb_arrive.specs.fb_state.fb_tables.declared.table.Tables.{Tables}
+use Rattle.fb_arrive.specs.fb_state.fb_turn.declared.memory.Condition.{Condition}
+use Rattle.fb_arrive.specs.fb_state.fb_turn.declared.memory.Condition.TheVariants.{State, Service}
+use Rattle.fb_arrive.specs.fb_state.fb_sched.Agenda.{Agenda, IsAgenda}
+use Rattle.fb_arrive.specs.fb_state.declared.program.Running.{Running}
 
 -- what a leaf remembers at first: a chart its initial state
 abbrev pub first_of : Kind → Condition

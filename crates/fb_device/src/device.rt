@@ -6,15 +6,15 @@ ghost use Rattle.fb_model.specs.Headline.{KeepsBounds, StaysWithinAll};
 ghost use Rattle.fb_model.specs.Wires.{leaves};
 ghost use Rattle.fb_arrive.specs.Answers.{admission_of};
 ghost use Rattle.fb_dispatch.specs.Answers.{turned_of, HasPoint};
-ghost use Rattle.fb_state.specs.Machines.{device_in, cert_in, machine_of};
+ghost use Rattle.fb_arrive.specs.fb_state.Machines.{device_in, cert_in, machine_of};
 ghost use Rattle.fb_device.specs.Answers.{answer_of, event_of, IsOpening, IsNamed, IsNoPoint, IsNumberOf, IsNoNumber};
 ghost use Rattle.fb_device.specs.Promises.{IsBounded};
 
 use crate::answer::{Answer, Opening, Step};
 use crate::names::{name, opening, path, resource};
+use fb_arrive::fb_state::{Program, Running};
 use fb_arrive::{Denied, offer, tick};
 use fb_dispatch::{Turned, dispatch};
-use fb_state::{Program, Running};
 use std::marker::Model;
 
 /// A device that runs a checked application. Its calls take no memory.
@@ -27,9 +27,9 @@ pub struct Device {
 }
 
 impl Model for Device {
-    ghost use Rattle.fb_state.specs.Sessions.{Session, session_of};
-    ghost use Rattle.fb_state.specs.Keeping.{IsGood};
-    ghost use Rattle.fb_tables.specs.fb_check.contracts.verified.Verified as checked;
+    ghost use Rattle.fb_arrive.specs.fb_state.Sessions.{Session, session_of};
+    ghost use Rattle.fb_arrive.specs.fb_state.Keeping.{IsGood};
+    ghost use Rattle.fb_arrive.specs.fb_state.fb_tables.fb_check.contracts.verified.Verified as checked;
     ghost use Rattle.std.specs.Coded.{codes};
 
     ghost Value = { Session };

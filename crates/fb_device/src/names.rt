@@ -4,24 +4,24 @@ ghost use Rattle.std.specs.Prelude.{ℕ, ◌≡◌, ◌<◌, ◌≤◌, length, 
 ghost use Rattle.std.specs.List.{AllByRecursion};
 ghost use Rattle.fb_model.specs.Wires.{Leaf};
 ghost use Rattle.fb_model.specs.Certificates.{Certificate};
-ghost use Rattle.st_exec.specs.Cells.{Form};
-ghost use Rattle.fb_serve.specs.declared.standing.Ports.{Ports};
-ghost use Rattle.fb_tables.specs.fb_check.Verdicts.{system_in};
-ghost use Rattle.fb_tables.specs.fb_check.Lookups.{is_same_path};
-ghost use Rattle.fb_tables.specs.Tables.{AreBlocks};
-ghost use Rattle.fb_sched.specs.declared.reaction.Reaction.{Reaction};
-ghost use Rattle.fb_sched.specs.Agenda.{Agenda, slot_at};
-ghost use Rattle.fb_state.specs.Machines.{device_at};
-ghost use Rattle.fb_state.specs.Numbers.{event_at, steps_in, IsKnown};
+ghost use Rattle.fb_arrive.specs.fb_state.st_exec.Cells.{Form};
+ghost use Rattle.fb_arrive.specs.fb_state.fb_serve.declared.standing.Ports.{Ports};
+ghost use Rattle.fb_arrive.specs.fb_state.fb_tables.fb_check.Verdicts.{system_in};
+ghost use Rattle.fb_arrive.specs.fb_state.fb_tables.fb_check.Lookups.{is_same_path};
+ghost use Rattle.fb_arrive.specs.fb_state.fb_tables.Tables.{AreBlocks};
+ghost use Rattle.fb_arrive.specs.fb_state.fb_sched.declared.reaction.Reaction.{Reaction};
+ghost use Rattle.fb_arrive.specs.fb_state.fb_sched.Agenda.{Agenda, slot_at};
+ghost use Rattle.fb_arrive.specs.fb_state.Machines.{device_at};
+ghost use Rattle.fb_arrive.specs.fb_state.Numbers.{event_at, steps_in, IsKnown};
 ghost use Rattle.fb_device.specs.Answers.{IsNamed, IsNoPoint};
 ghost use Rattle.fb_device.specs.Finding.{first_named};
 ghost use Rattle.fb_device.specs.Openings.{IsOpeningIn};
 
 use crate::answer::Opening;
-use fb_state::Program;
-use fb_state::fb_sched::Queue;
-use fb_state::fb_tables::Resource;
-use fb_state::fb_turn::fb_chart::{Block, Point};
+use fb_arrive::fb_state::Program;
+use fb_arrive::fb_state::fb_sched::Queue;
+use fb_arrive::fb_state::fb_tables::Resource;
+use fb_arrive::fb_state::fb_turn::fb_chart::{Block, Point};
 
 /// The name of the device.
 pub fn name(program: &Program) -> &str

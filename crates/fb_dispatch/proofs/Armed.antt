@@ -8,15 +8,15 @@ use Rattle.fb_model.specs.Devices.{due, is_timer}
 use Rattle.fb_model.proofs.Lists.{same_path}
 use Rattle.fb_model.proofs.Placed.{path_same}
 use Rattle.fb_leaves.specs.Leaves.{AreApart}
-use Rattle.fb_serve.specs.declared.standing.Standing.{Standing}
-use Rattle.fb_serve.specs.declared.standing.Standing.TheVariants as s
-use Rattle.fb_serve.specs.Turns.{condition_of}
-use Rattle.fb_turn.specs.declared.memory.Condition.{Condition}
-use Rattle.fb_turn.specs.declared.memory.Condition.TheVariants as c
-use Rattle.fb_turn.specs.Conditions.{condition_at, IsConditionOf}
-use Rattle.fb_timers.specs.Order.{Timing, due_of}
-use Rattle.fb_timers.specs.Expiry.{AreArmed, moment_of}
-use Rattle.fb_chart.proofs.Lists.{all_got}
+use Rattle.fb_state.specs.fb_serve.declared.standing.Standing.{Standing}
+use Rattle.fb_state.specs.fb_serve.declared.standing.Standing.TheVariants as s
+use Rattle.fb_state.specs.fb_serve.Turns.{condition_of}
+use Rattle.fb_state.specs.fb_turn.declared.memory.Condition.{Condition}
+use Rattle.fb_state.specs.fb_turn.declared.memory.Condition.TheVariants as c
+use Rattle.fb_state.specs.fb_turn.Conditions.{condition_at, IsConditionOf}
+use Rattle.fb_state.specs.fb_timers.Order.{Timing, due_of}
+use Rattle.fb_state.specs.fb_timers.Expiry.{AreArmed, moment_of}
+use Rattle.fb_state.proofs.of_fb_chart.Lists.{all_got}
 use Rattle.fb_state.proofs.Blocks.{within}
 use Rattle.fb_dispatch.specs.Rearming.{moment_in, CanRetime, HasRetimed}
 use Rattle.fb_dispatch.proofs.Timed.{room_for}

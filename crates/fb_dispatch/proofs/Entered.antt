@@ -7,18 +7,18 @@ use Rattle.fb_model.specs.Wires.{Leaf}
 use Rattle.fb_model.specs.Certificates.{Certificate}
 use Rattle.fb_model.specs.Devices as book
 use Rattle.fb_model.specs.Devices.{Entry, put, is_pending, follow_ups}
-use Rattle.fb_chart.specs.declared.table.Point.{Point}
-use Rattle.fb_tables.specs.Views.{place_at}
-use Rattle.fb_tables.specs.Tables.{IsPoint}
-use Rattle.fb_sched.specs.declared.ticket.Ticket.{Ticket}
-use Rattle.fb_sched.specs.declared.reaction.Reaction.{Reaction}
-use Rattle.fb_sched.specs.Agenda.{Agenda, IsAgenda, slot_at}
-use Rattle.fb_sched.specs.Changes.{Takes, PutsAll, Settles}
-use Rattle.fb_sched.specs.Entries.{AllPending, entries, sent_entry, booked}
-use Rattle.fb_sched.specs.Steps.{spent}
-use Rattle.fb_sched.proofs.Entries.{puts_all_entries, settles_entries, pending_is}
-use Rattle.fb_sched.proofs.Steps.{takes_steps, puts_all_steps, settles_steps}
-use Rattle.fb_sched.proofs.Pending.{takes_pending, puts_all_pending, settles_pending}
+use Rattle.fb_state.specs.fb_chart.declared.table.Point.{Point}
+use Rattle.fb_state.specs.fb_tables.Views.{place_at}
+use Rattle.fb_state.specs.fb_tables.Tables.{IsPoint}
+use Rattle.fb_state.specs.fb_sched.declared.ticket.Ticket.{Ticket}
+use Rattle.fb_state.specs.fb_sched.declared.reaction.Reaction.{Reaction}
+use Rattle.fb_state.specs.fb_sched.Agenda.{Agenda, IsAgenda, slot_at}
+use Rattle.fb_state.specs.fb_sched.Changes.{Takes, PutsAll, Settles}
+use Rattle.fb_state.specs.fb_sched.Entries.{AllPending, entries, sent_entry, booked}
+use Rattle.fb_state.specs.fb_sched.Steps.{spent}
+use Rattle.fb_state.proofs.of_fb_sched.Entries.{puts_all_entries, settles_entries, pending_is}
+use Rattle.fb_state.proofs.of_fb_sched.Steps.{takes_steps, puts_all_steps, settles_steps}
+use Rattle.fb_state.proofs.of_fb_sched.Pending.{takes_pending, puts_all_pending, settles_pending}
 use Rattle.fb_state.specs.Machines.{entries_in}
 use Rattle.fb_state.specs.Keeping.{ArePlaced}
 use Rattle.fb_state.proofs.Kept.{puts_placed, settles_placed}

@@ -5,29 +5,29 @@ use Rattle.std.specs.List.{AllByRecursion}
 use Rattle.fb_model.specs.Wires.{Kind, leaves}
 use Rattle.fb_model.specs.Devices.{Machine, is_timer, steps_row}
 use Rattle.fb_model.specs.Headline.{IsSound}
-use Rattle.st_exec.specs.Cells.{forms_of}
-use Rattle.fb_chart.specs.declared.table.Point.{Point}
-use Rattle.fb_chart.specs.declared.table.Block.{Block}
-use Rattle.fb_chart.specs.Views.{kind_of}
-use Rattle.fb_serve.specs.declared.standing.Effect.{Effect}
-use Rattle.fb_serve.specs.declared.standing.Ports.{Ports}
-use Rattle.fb_turn.specs.declared.memory.Condition.{Condition}
-use Rattle.fb_turn.specs.declared.memory.Memory.{Memory}
-use Rattle.fb_turn.specs.Turning.{CanTurn, HasTurned}
-use Rattle.fb_tables.specs.declared.table.Resource.{Resource}
-use Rattle.fb_tables.specs.Views.{place_at}
-use Rattle.fb_sched.specs.declared.ticket.Ticket.{Ticket}
-use Rattle.fb_sched.specs.declared.reaction.Reaction.{Reaction}
-use Rattle.fb_sched.specs.Agenda.{Agenda}
-use Rattle.fb_timers.specs.Order.{Timing}
-use Rattle.fb_timers.specs.Expiry.{AreArmed}
+use Rattle.fb_state.specs.st_exec.Cells.{forms_of}
+use Rattle.fb_state.specs.fb_chart.declared.table.Point.{Point}
+use Rattle.fb_state.specs.fb_chart.declared.table.Block.{Block}
+use Rattle.fb_state.specs.fb_chart.Views.{kind_of}
+use Rattle.fb_state.specs.fb_serve.declared.standing.Effect.{Effect}
+use Rattle.fb_state.specs.fb_serve.declared.standing.Ports.{Ports}
+use Rattle.fb_state.specs.fb_turn.declared.memory.Condition.{Condition}
+use Rattle.fb_state.specs.fb_turn.declared.memory.Memory.{Memory}
+use Rattle.fb_state.specs.fb_turn.Turning.{CanTurn, HasTurned}
+use Rattle.fb_state.specs.fb_tables.declared.table.Resource.{Resource}
+use Rattle.fb_state.specs.fb_tables.Views.{place_at}
+use Rattle.fb_state.specs.fb_sched.declared.ticket.Ticket.{Ticket}
+use Rattle.fb_state.specs.fb_sched.declared.reaction.Reaction.{Reaction}
+use Rattle.fb_state.specs.fb_sched.Agenda.{Agenda}
+use Rattle.fb_state.specs.fb_timers.Order.{Timing}
+use Rattle.fb_state.specs.fb_timers.Expiry.{AreArmed}
 use Rattle.fb_state.specs.declared.program.Program.{Program}
 use Rattle.fb_state.specs.declared.program.Running.{Running}
 use Rattle.fb_state.specs.Sessions.{session_of}
 use Rattle.fb_state.specs.Machines.{device_in, cert_in, machine_of}
 use Rattle.fb_state.specs.Numbers.{event_at, steps_in, IsKnown}
 use Rattle.fb_state.specs.Keeping.{AllStand, IsGood}
-use Rattle.fb_turn.proofs.Standing.{read}
+use Rattle.fb_state.proofs.of_fb_turn.Standing.{read}
 use Rattle.fb_state.proofs.Lists.{same_at, set_stands}
 use Rattle.fb_state.proofs.Blocks.{steps_are, is_known, within}
 use Rattle.fb_state.proofs.Moved.{program_moved}

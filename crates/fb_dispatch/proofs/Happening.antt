@@ -15,34 +15,34 @@ use Rattle.fb_leaves.proofs.Closed.{all_charts_closed}
 use Rattle.fb_shapes.specs.Shaped.{IsShapely}
 use Rattle.fb_shapes.proofs.Blocks.{all_charts_shapely}
 use Rattle.fb_clear.proofs.Taking.{TakesInputs, all_take_inputs}
-use Rattle.st_exec.specs.Cells.{Cell, Form, values_of, forms_of}
-use Rattle.fb_chart.specs.declared.table.Event.{Event}
-use Rattle.fb_chart.specs.declared.table.Block.{Block}
-use Rattle.fb_chart.specs.Views.{named, event_names, kind_of}
-use Rattle.fb_chart.specs.Tables.{IsTable}
-use Rattle.fb_chart.specs.Sampling.{CanTake, AreStores, sampled_by}
-use Rattle.fb_serve.specs.declared.standing.Ports.{Ports}
-use Rattle.fb_serve.specs.Ports.{ServesPorts}
-use Rattle.fb_turn.specs.declared.memory.Condition.{Condition}
-use Rattle.fb_turn.specs.Conditions.{IsConditionOf, leaf_state}
-use Rattle.fb_turn.specs.Turning.{HasRoom, CanRun, Stand, CanTurn}
-use Rattle.fb_tables.specs.fb_check.Verdicts.{system_in}
-use Rattle.fb_tables.proofs.of_fb_check.of_fb_columns.Small.{weights_at_most}
-use Rattle.fb_tables.specs.declared.table.Resource.{Resource}
-use Rattle.fb_tables.specs.Views.{place_at}
-use Rattle.fb_tables.specs.Tables.{IsPoint, IsBlock, AreResources}
-use Rattle.fb_sched.specs.declared.ticket.Ticket.{Ticket}
-use Rattle.fb_sched.specs.declared.reaction.Reaction.{Reaction}
-use Rattle.fb_sched.specs.Agenda.{Agenda}
-use Rattle.fb_sched.specs.Entries.{booked}
-use Rattle.fb_sched.proofs.Entries.{takes_entries}
+use Rattle.fb_state.specs.st_exec.Cells.{Cell, Form, values_of, forms_of}
+use Rattle.fb_state.specs.fb_chart.declared.table.Event.{Event}
+use Rattle.fb_state.specs.fb_chart.declared.table.Block.{Block}
+use Rattle.fb_state.specs.fb_chart.Views.{named, event_names, kind_of}
+use Rattle.fb_state.specs.fb_chart.Tables.{IsTable}
+use Rattle.fb_state.specs.fb_chart.Sampling.{CanTake, AreStores, sampled_by}
+use Rattle.fb_state.specs.fb_serve.declared.standing.Ports.{Ports}
+use Rattle.fb_state.specs.fb_serve.Ports.{ServesPorts}
+use Rattle.fb_state.specs.fb_turn.declared.memory.Condition.{Condition}
+use Rattle.fb_state.specs.fb_turn.Conditions.{IsConditionOf, leaf_state}
+use Rattle.fb_state.specs.fb_turn.Turning.{HasRoom, CanRun, Stand, CanTurn}
+use Rattle.fb_state.specs.fb_tables.fb_check.Verdicts.{system_in}
+use Rattle.fb_state.proofs.of_fb_tables.of_fb_check.of_fb_columns.Small.{weights_at_most}
+use Rattle.fb_state.specs.fb_tables.declared.table.Resource.{Resource}
+use Rattle.fb_state.specs.fb_tables.Views.{place_at}
+use Rattle.fb_state.specs.fb_tables.Tables.{IsPoint, IsBlock, AreResources}
+use Rattle.fb_state.specs.fb_sched.declared.ticket.Ticket.{Ticket}
+use Rattle.fb_state.specs.fb_sched.declared.reaction.Reaction.{Reaction}
+use Rattle.fb_state.specs.fb_sched.Agenda.{Agenda}
+use Rattle.fb_state.specs.fb_sched.Entries.{booked}
+use Rattle.fb_state.proofs.of_fb_sched.Entries.{takes_entries}
 use Rattle.fb_state.specs.declared.program.Program.{Program}
 use Rattle.fb_state.specs.declared.program.Running.{Running}
 use Rattle.fb_state.specs.Sessions.{session_of}
 use Rattle.fb_state.specs.Machines.{device_in, cert_in, entries_in, machine_of}
 use Rattle.fb_state.specs.Keeping.{IsStanding, IsQueue, ArePlaced, IsGood}
 use Rattle.fb_dispatch.specs.Taking.{HasTaken}
-use Rattle.fb_chart.proofs.Lists.{all_got}
+use Rattle.fb_state.proofs.of_fb_chart.Lists.{all_got}
 use Rattle.fb_state.proofs.Lists.{same_at}
 use Rattle.fb_state.proofs.Devices.{device_here}
 use Rattle.fb_state.proofs.Blocks.{Known, known, found, steps_are, within, standing, mapped}

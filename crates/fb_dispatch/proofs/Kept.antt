@@ -10,23 +10,23 @@ use Rattle.fb_model.specs.Serving.{Effect as Outside}
 use Rattle.fb_model.specs.Devices as book
 use Rattle.fb_model.specs.Devices.{Entry, Machine, Runs, put, is_pending, is_timer, follow_ups, steps_row}
 use Rattle.fb_model.specs.Headline.{IsSound}
-use Rattle.st_exec.specs.Cells.{Cell, forms_of}
-use Rattle.fb_chart.specs.declared.table.Point.{Point}
-use Rattle.fb_chart.specs.Sampling.{AreStores}
-use Rattle.fb_serve.specs.declared.standing.Effect.{Effect}
-use Rattle.fb_turn.specs.declared.memory.Condition.{Condition}
-use Rattle.fb_turn.specs.declared.memory.Memory.{Memory}
-use Rattle.fb_turn.specs.Conditions.{IsConditionOf}
-use Rattle.fb_turn.specs.Turning.{HasTurned}
-use Rattle.fb_turn.proofs.Standing.{set_twice}
-use Rattle.fb_tables.specs.declared.table.Resource.{Resource}
-use Rattle.fb_tables.specs.Views.{place_at}
-use Rattle.fb_sched.specs.declared.ticket.Ticket.{Ticket}
-use Rattle.fb_sched.specs.declared.reaction.Reaction.{Reaction}
-use Rattle.fb_sched.specs.Agenda.{Agenda}
-use Rattle.fb_sched.specs.Changes.{PutsAll}
-use Rattle.fb_sched.specs.Steps.{spent}
-use Rattle.fb_timers.specs.Expiry.{AreArmed}
+use Rattle.fb_state.specs.st_exec.Cells.{Cell, forms_of}
+use Rattle.fb_state.specs.fb_chart.declared.table.Point.{Point}
+use Rattle.fb_state.specs.fb_chart.Sampling.{AreStores}
+use Rattle.fb_state.specs.fb_serve.declared.standing.Effect.{Effect}
+use Rattle.fb_state.specs.fb_turn.declared.memory.Condition.{Condition}
+use Rattle.fb_state.specs.fb_turn.declared.memory.Memory.{Memory}
+use Rattle.fb_state.specs.fb_turn.Conditions.{IsConditionOf}
+use Rattle.fb_state.specs.fb_turn.Turning.{HasTurned}
+use Rattle.fb_state.proofs.of_fb_turn.Standing.{set_twice}
+use Rattle.fb_state.specs.fb_tables.declared.table.Resource.{Resource}
+use Rattle.fb_state.specs.fb_tables.Views.{place_at}
+use Rattle.fb_state.specs.fb_sched.declared.ticket.Ticket.{Ticket}
+use Rattle.fb_state.specs.fb_sched.declared.reaction.Reaction.{Reaction}
+use Rattle.fb_state.specs.fb_sched.Agenda.{Agenda}
+use Rattle.fb_state.specs.fb_sched.Changes.{PutsAll}
+use Rattle.fb_state.specs.fb_sched.Steps.{spent}
+use Rattle.fb_state.specs.fb_timers.Expiry.{AreArmed}
 use Rattle.fb_state.specs.declared.program.Program.{Program}
 use Rattle.fb_state.specs.declared.program.Running.{Running}
 use Rattle.fb_state.specs.Sessions.{session_of, next_of}

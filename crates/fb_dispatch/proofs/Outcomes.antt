@@ -15,19 +15,19 @@ use Rattle.fb_model.proofs.Holding.{pending-cons}
 use Rattle.fb_model.proofs.Running.{steps_le}
 use Rattle.fb_model.proofs.Admitting.{sound_next}
 use Rattle.fb_model.proofs.Ending.{depth_le}
-use Rattle.fb_chart.specs.declared.table.Point.{Point}
-use Rattle.fb_chart.specs.Views.{named, event_names}
-use Rattle.fb_chart.specs.Sending.{Points, sent_to}
-use Rattle.fb_serve.specs.declared.standing.Effect.{Effect}
-use Rattle.fb_turn.specs.declared.memory.Memory.{Memory}
-use Rattle.fb_turn.specs.Conditions.{leaf_state, effect_at}
-use Rattle.fb_turn.specs.Turning.{HasTurned}
-use Rattle.fb_tables.specs.Views.{place_at}
-use Rattle.fb_tables.specs.Tables.{IsPoint}
-use Rattle.fb_sched.specs.declared.ticket.Ticket.{Ticket}
-use Rattle.fb_sched.specs.Agenda.{Agenda, slot_at}
-use Rattle.fb_sched.specs.Entries.{entries, entry_by, booked}
-use Rattle.fb_sched.proofs.Steps.{steps_found}
+use Rattle.fb_state.specs.fb_chart.declared.table.Point.{Point}
+use Rattle.fb_state.specs.fb_chart.Views.{named, event_names}
+use Rattle.fb_state.specs.fb_chart.Sending.{Points, sent_to}
+use Rattle.fb_state.specs.fb_serve.declared.standing.Effect.{Effect}
+use Rattle.fb_state.specs.fb_turn.declared.memory.Memory.{Memory}
+use Rattle.fb_state.specs.fb_turn.Conditions.{leaf_state, effect_at}
+use Rattle.fb_state.specs.fb_turn.Turning.{HasTurned}
+use Rattle.fb_state.specs.fb_tables.Views.{place_at}
+use Rattle.fb_state.specs.fb_tables.Tables.{IsPoint}
+use Rattle.fb_state.specs.fb_sched.declared.ticket.Ticket.{Ticket}
+use Rattle.fb_state.specs.fb_sched.Agenda.{Agenda, slot_at}
+use Rattle.fb_state.specs.fb_sched.Entries.{entries, entry_by, booked}
+use Rattle.fb_state.proofs.of_fb_sched.Steps.{steps_found}
 use Rattle.fb_state.specs.declared.program.Program.{Program}
 use Rattle.fb_state.specs.declared.program.Running.{Running}
 use Rattle.fb_state.specs.Machines.{entries_in}

@@ -21,11 +21,11 @@ use Rattle.fb_model.proofs.Charting.{within_all, spent_le}
 use Rattle.fb_model.proofs.Holding.{places_le, length_le}
 use Rattle.fb_model.proofs.Running.{at_leaf, sampled_lies, openings, input_weight}
 use Rattle.fb_model.proofs.Starting.{fine}
-use Rattle.fb_chart.specs.declared.table.Output.{Output}
-use Rattle.fb_chart.specs.Sending.{targets_of, sent_to}
-use Rattle.fb_chart.specs.Charting.{steps_at, IsFine}
-use Rattle.fb_tables.specs.Views.{place_at}
-use Rattle.fb_tables.specs.Tables.{IsPoint, LeadsTo}
+use Rattle.fb_state.specs.fb_chart.declared.table.Output.{Output}
+use Rattle.fb_state.specs.fb_chart.Sending.{targets_of, sent_to}
+use Rattle.fb_state.specs.fb_chart.Charting.{steps_at, IsFine}
+use Rattle.fb_state.specs.fb_tables.Views.{place_at}
+use Rattle.fb_state.specs.fb_tables.Tables.{IsPoint, LeadsTo}
 
 -- ---- what outputs reach, by the table and by the leaf
 

@@ -18,22 +18,22 @@ use Rattle.fb_model.proofs.Lists.{same_name, all_weaker}
 use Rattle.fb_model.proofs.Placed.{name_same}
 use Rattle.fb_leaves.specs.Leaves.{AreApart}
 use Rattle.fb_clear.proofs.Taking.{TakesInputs}
-use Rattle.st_exec.specs.Cells.{Cell, Form, values_of, forms_of, shape_in, filled}
-use Rattle.fb_chart.specs.st_code.Forms.{slot_in}
-use Rattle.fb_chart.specs.declared.table.Source.{Source}
-use Rattle.fb_chart.specs.declared.table.Source.TheVariants as s
-use Rattle.fb_chart.specs.declared.table.Take.{Take}
-use Rattle.fb_chart.specs.declared.table.Event.{Event}
-use Rattle.fb_chart.specs.declared.table.Block.{Block}
-use Rattle.fb_chart.specs.Views.{taken_by, kind_of}
-use Rattle.fb_chart.specs.Sampling.{length_among, IsSource, CanTake, output_in, given_to, sampled_by}
-use Rattle.fb_serve.specs.declared.standing.Ports.{Ports}
-use Rattle.fb_turn.specs.declared.memory.Condition.{Condition}
-use Rattle.fb_turn.specs.Conditions.{leaf_state}
-use Rattle.fb_tables.specs.Tables.{IsFilled, IsOrigin, IsTaken, IsBlock}
+use Rattle.fb_state.specs.st_exec.Cells.{Cell, Form, values_of, forms_of, shape_in, filled}
+use Rattle.fb_state.specs.fb_chart.st_code.Forms.{slot_in}
+use Rattle.fb_state.specs.fb_chart.declared.table.Source.{Source}
+use Rattle.fb_state.specs.fb_chart.declared.table.Source.TheVariants as s
+use Rattle.fb_state.specs.fb_chart.declared.table.Take.{Take}
+use Rattle.fb_state.specs.fb_chart.declared.table.Event.{Event}
+use Rattle.fb_state.specs.fb_chart.declared.table.Block.{Block}
+use Rattle.fb_state.specs.fb_chart.Views.{taken_by, kind_of}
+use Rattle.fb_state.specs.fb_chart.Sampling.{length_among, IsSource, CanTake, output_in, given_to, sampled_by}
+use Rattle.fb_state.specs.fb_serve.declared.standing.Ports.{Ports}
+use Rattle.fb_state.specs.fb_turn.declared.memory.Condition.{Condition}
+use Rattle.fb_state.specs.fb_turn.Conditions.{leaf_state}
+use Rattle.fb_state.specs.fb_tables.Tables.{IsFilled, IsOrigin, IsTaken, IsBlock}
 use Rattle.fb_state.specs.Machines.{standing, store_from}
 use Rattle.fb_state.specs.Keeping.{IsStanding, AllStand}
-use Rattle.fb_chart.proofs.Lists.{all_got}
+use Rattle.fb_state.proofs.of_fb_chart.Lists.{all_got}
 use Rattle.fb_state.proofs.Storing.{stored_at}
 use Rattle.fb_state.proofs.Blocks.{mapped}
 

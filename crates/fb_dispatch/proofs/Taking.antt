@@ -1,9 +1,9 @@
 -- What is taken off a queue.
 use Rattle.std.proofs.Common.{◌≡◌, ℕ, List, [], set, slice_get, Option, Some, None, refl, ◌∙◌, ap}
 use Rattle.std.specs.Prelude.{IfSome, IfNone, MatchOption}
-use Rattle.fb_sched.specs.declared.ticket.Ticket.{Ticket}
-use Rattle.fb_sched.specs.Agenda.{Agenda, IsAgenda}
-use Rattle.fb_sched.specs.Changes.{Takes}
+use Rattle.fb_state.specs.fb_sched.declared.ticket.Ticket.{Ticket}
+use Rattle.fb_state.specs.fb_sched.Agenda.{Agenda, IsAgenda}
+use Rattle.fb_state.specs.fb_sched.Changes.{Takes}
 use Rattle.fb_dispatch.specs.Taking.{IsIdle, HasTaken}
 use Rattle.fb_state.proofs.Lists.{same_at}
 use Rattle.fb_dispatch.proofs.Lists.{set_same}

@@ -1,10 +1,10 @@
 -- Timers that are armed once a dispatch has ended.
 use Rattle.std.proofs.Common.{◌≡◌, ℕ, zero, suc, ◌≤◌, ◌<◌, Bool, true, false, cond, eqb, eq-eqb, List, [], ◌∷◌, length, Some, None, refl, sym, ◌∙◌, ap, arith, inl, inr}
 use Rattle.std.proofs.lemmas.Bool.{cases_eq, ne_eqb, cond-true, cond-false}
-use Rattle.fb_timers.specs.declared.armed.Armed.{Armed}
-use Rattle.fb_timers.specs.Order.{AreApart, due_of, placed, without}
-use Rattle.fb_timers.proofs.Ordered.{due_placed, apart_without}
-use Rattle.fb_timers.proofs.Told.{due_cleared}
+use Rattle.fb_state.specs.fb_timers.declared.armed.Armed.{Armed}
+use Rattle.fb_state.specs.fb_timers.Order.{AreApart, due_of, placed, without}
+use Rattle.fb_state.proofs.of_fb_timers.Ordered.{due_placed, apart_without}
+use Rattle.fb_state.proofs.of_fb_timers.Told.{due_cleared}
 
 -- ---- a timer more, and one less
 

@@ -4,11 +4,11 @@ use Rattle.std.specs.Option.{option_map}
 use Rattle.fb_model.specs.Wires.{Leaf}
 use Rattle.fb_model.specs.Serving.{Effect as Outside}
 use Rattle.fb_model.specs.Devices as book
-use Rattle.fb_serve.specs.declared.standing.Effect.{Effect}
-use Rattle.fb_sched.specs.declared.reaction.Reaction.{Reaction}
-use Rattle.fb_turn.specs.Conditions.{effect_at}
-use Rattle.fb_tables.specs.Views.{place_at}
-use Rattle.fb_tables.specs.Tables.{IsPoint}
+use Rattle.fb_state.specs.fb_serve.declared.standing.Effect.{Effect}
+use Rattle.fb_state.specs.fb_sched.declared.reaction.Reaction.{Reaction}
+use Rattle.fb_state.specs.fb_turn.Conditions.{effect_at}
+use Rattle.fb_state.specs.fb_tables.Views.{place_at}
+use Rattle.fb_state.specs.fb_tables.Tables.{IsPoint}
 use Rattle.fb_dispatch.specs.declared.answer.Ended.{Ended}
 use Rattle.fb_dispatch.specs.declared.answer.Turned.{Turned}
 use Rattle.fb_dispatch.specs.declared.answer.Turned.TheVariants.{Idle, Ran}

@@ -1,9 +1,9 @@
 -- Armed timers after a dispatch.
 use Rattle.std.specs.Prelude.{ℕ, ◌≡◌, ◌==◌, ◌<◌, Bool, true, length, Option, None, Some, if◌then◌else◌}
-use Rattle.fb_serve.specs.declared.standing.Standing.TheVariants as s
-use Rattle.fb_turn.specs.declared.memory.Condition.{Condition}
-use Rattle.fb_turn.specs.declared.memory.Condition.TheVariants as c
-use Rattle.fb_timers.specs.Order.{Timing, AreApart, due_of, without}
+use Rattle.fb_state.specs.fb_serve.declared.standing.Standing.TheVariants as s
+use Rattle.fb_state.specs.fb_turn.declared.memory.Condition.{Condition}
+use Rattle.fb_state.specs.fb_turn.declared.memory.Condition.TheVariants as c
+use Rattle.fb_state.specs.fb_timers.Order.{Timing, AreApart, due_of, without}
 
 -- the moment at which what is remembered is due
 abbrev pub moment_in : Condition → Option ℕ

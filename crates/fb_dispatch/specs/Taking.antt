@@ -1,10 +1,10 @@
 -- What a dispatch takes from its queue, and what it enters there.
 use Rattle.std.specs.Prelude.{ℕ, ◌≡◌, ◌+◌, ◌≤◌, ◌<◌, ◌^◌, List, [], length, set, Option, Some, slice_get}
-use Rattle.fb_chart.specs.declared.table.Point.{Point}
-use Rattle.fb_sched.specs.declared.ticket.Ticket.{Ticket}
-use Rattle.fb_sched.specs.declared.reaction.Reaction.{Reaction}
-use Rattle.fb_sched.specs.Agenda.{Agenda, IsAgenda, slot_at}
-use Rattle.fb_sched.specs.Changes.{Takes, PutsAll, Settles}
+use Rattle.fb_state.specs.fb_chart.declared.table.Point.{Point}
+use Rattle.fb_state.specs.fb_sched.declared.ticket.Ticket.{Ticket}
+use Rattle.fb_state.specs.fb_sched.declared.reaction.Reaction.{Reaction}
+use Rattle.fb_state.specs.fb_sched.Agenda.{Agenda, IsAgenda, slot_at}
+use Rattle.fb_state.specs.fb_sched.Changes.{Takes, PutsAll, Settles}
 
 -- the queue of the resource is empty, or there is no such resource; nothing changes
 pub record IsIdle (old : List Agenda) (q : ℕ) (new : List Agenda) : Type 0 where

@@ -1,7 +1,7 @@
 //! The queues of resources.
 
 ghost use Rattle.std.specs.Prelude.{◌≡◌, ◌≤◌, [], length, MatchOption, Some};
-ghost use Rattle.fb_sched.specs.Agenda.{slot_at, IsOpen};
+ghost use Rattle.fb_state.specs.fb_sched.Agenda.{slot_at, IsOpen};
 ghost use Rattle.fb_state.specs.Numbers.{event_at, steps_in, IsKnown};
 ghost use Rattle.fb_dispatch.specs.Taking.{IsIdle, HasTaken, CanEnter, HasEntered};
 

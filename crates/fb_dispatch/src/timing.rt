@@ -2,8 +2,8 @@
 
 ghost use Rattle.std.specs.Prelude.{◌≡◌, ◌<◌, ◌≤◌, length};
 ghost use Rattle.fb_model.specs.Devices.{is_timer};
-ghost use Rattle.fb_chart.specs.Views.{body_kind};
-ghost use Rattle.fb_timers.specs.Order.{without};
+ghost use Rattle.fb_state.specs.fb_chart.Views.{body_kind};
+ghost use Rattle.fb_state.specs.fb_timers.Order.{without};
 ghost use Rattle.fb_dispatch.specs.Rearming.{moment_in, IsRearmed, CanRetime, HasRetimed};
 
 use fb_services::Service;

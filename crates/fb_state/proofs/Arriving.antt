@@ -19,11 +19,11 @@ use Rattle.fb_model.specs.Headline.{IsSound}
 use Rattle.fb_model.proofs.Homes.{homes}
 use Rattle.fb_model.proofs.Admitting.{sound_admitted}
 use Rattle.fb_model.proofs.Ending.{depth_le}
-use Rattle.fb_chart.proofs.Lists.{all_got}
-use Rattle.st_exec.specs.Cells.{Form, forms_of}
-use Rattle.fb_chart.specs.declared.table.Point.{Point}
-use Rattle.fb_chart.specs.declared.table.Event.{Event}
-use Rattle.fb_chart.specs.declared.table.Block.{Block}
+use Rattle.fb_turn.proofs.of_fb_chart.Lists.{all_got}
+use Rattle.fb_turn.specs.st_exec.Cells.{Form, forms_of}
+use Rattle.fb_turn.specs.fb_chart.declared.table.Point.{Point}
+use Rattle.fb_turn.specs.fb_chart.declared.table.Event.{Event}
+use Rattle.fb_turn.specs.fb_chart.declared.table.Block.{Block}
 use Rattle.fb_tables.specs.declared.table.Resource.{Resource}
 use Rattle.fb_tables.specs.Views.{place_at}
 use Rattle.fb_tables.specs.Tables.{IsPoint, AreResources}

@@ -8,16 +8,16 @@ use Rattle.fb_model.specs.Wires.{Leaf, leaf_at}
 use Rattle.fb_model.specs.Certificates.{Certificate, events_of, has_event, is_input, IsWired}
 use Rattle.fb_model.specs.Devices.{steps_row, places_row}
 use Rattle.fb_model.proofs.Placed.{name_same}
-use Rattle.fb_chart.specs.declared.table.Point.{Point}
-use Rattle.fb_chart.specs.declared.table.Event.{Event}
-use Rattle.fb_chart.specs.declared.table.Block.{Block}
-use Rattle.fb_chart.specs.Views.{named, event_names}
-use Rattle.fb_serve.specs.declared.standing.Ports.{Ports}
-use Rattle.st_exec.specs.Cells.{Form}
+use Rattle.fb_turn.specs.fb_chart.declared.table.Point.{Point}
+use Rattle.fb_turn.specs.fb_chart.declared.table.Event.{Event}
+use Rattle.fb_turn.specs.fb_chart.declared.table.Block.{Block}
+use Rattle.fb_turn.specs.fb_chart.Views.{named, event_names}
+use Rattle.fb_turn.specs.fb_serve.declared.standing.Ports.{Ports}
+use Rattle.fb_turn.specs.st_exec.Cells.{Form}
 use Rattle.fb_tables.specs.Views.{place_in, place_at}
 use Rattle.fb_tables.specs.Tables.{IsPoint, IsWeighed, IsBlock, AreBlocks}
 use Rattle.fb_state.specs.Numbers.{IsKnown}
-use Rattle.fb_chart.proofs.Lists.{all_got}
+use Rattle.fb_turn.proofs.of_fb_chart.Lists.{all_got}
 
 -- a block, its ports and the forms of its stores have the number of its leaf
 pub record Pair (cert : Certificate) (all : List Leaf) (issues owns rest : List (List Form)) (xs : List Block) (ps : List Ports) (i : ℕ) (leaf : Leaf) : Type 0 where

@@ -6,7 +6,7 @@ use Rattle.fb_model.specs.Wires.{Leaf}
 use Rattle.fb_model.specs.Certificates.{Certificate}
 use Rattle.fb_model.specs.Devices.{places_row}
 use Rattle.fb_model.proofs.Lists.{all_append}
-use Rattle.fb_chart.specs.declared.table.Point.{Point}
+use Rattle.fb_turn.specs.fb_chart.declared.table.Point.{Point}
 use Rattle.fb_tables.specs.Views.{place_at}
 use Rattle.fb_tables.specs.Tables.{IsPoint}
 use Rattle.fb_sched.specs.declared.ticket.Ticket.{Ticket}

@@ -1,6 +1,6 @@
 -- What was checked holds of a device whose values have the same forms.
 use Rattle.std.proofs.Common.{◌≡◌, List, map, sym, subst}
-use Rattle.st_exec.specs.Cells.{Form, forms_of}
+use Rattle.fb_turn.specs.st_exec.Cells.{Form, forms_of}
 use Rattle.fb_tables.specs.Tables.{AreTables}
 use Rattle.fb_state.specs.declared.program.Program.{Program}
 use Rattle.fb_state.specs.declared.program.Running.{Running}

@@ -8,12 +8,12 @@ use Rattle.fb_model.specs.Store.{LeafState, with_leaf}
 use Rattle.fb_model.proofs.Lists.{same_path}
 use Rattle.fb_model.proofs.Placed.{path_same}
 use Rattle.fb_leaves.specs.Leaves.{AreApart}
-use Rattle.st_exec.specs.Cells.{Cell}
+use Rattle.fb_turn.specs.st_exec.Cells.{Cell}
 use Rattle.fb_turn.specs.declared.memory.Condition.{Condition}
 use Rattle.fb_turn.specs.declared.memory.Condition.TheVariants as c
 use Rattle.fb_turn.specs.Conditions.{leaf_state}
 use Rattle.fb_state.specs.Machines.{cells_at, remembered, standing, store_from}
-use Rattle.fb_chart.proofs.Lists.{all_got}
+use Rattle.fb_turn.proofs.of_fb_chart.Lists.{all_got}
 use Rattle.fb_state.proofs.Lists.{get_other, set_stands}
 
 -- a leaf is in the state of its number

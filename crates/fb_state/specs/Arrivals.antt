@@ -5,7 +5,7 @@ use Rattle.fb_model.specs.Wires.{Leaf}
 use Rattle.fb_model.specs.Ranges.{IsMessage}
 use Rattle.fb_model.specs.Certificates.{Certificate, events_of, depth_of}
 use Rattle.fb_model.specs.Devices.{Arrival, Machine, HasRoom, admitted, held, place_of, places_row}
-use Rattle.fb_chart.specs.declared.table.Point.{Point}
+use Rattle.fb_turn.specs.fb_chart.declared.table.Point.{Point}
 use Rattle.fb_state.specs.declared.admission.Shortage.{Shortage}
 use Rattle.fb_state.specs.declared.admission.Shortage.TheVariants.{Places, Numbers}
 

@@ -6,8 +6,8 @@ use Rattle.fb_model.specs.Wires.{Leaf, leaves}
 use Rattle.fb_model.specs.Certificates.{Certificate, DeviceHolds, depth_of}
 use Rattle.fb_model.specs.Devices.{places_row}
 use Rattle.fb_model.specs.Headline.{IsSound}
-use Rattle.st_exec.specs.Cells.{Cell, forms_of}
-use Rattle.fb_chart.specs.Sampling.{AreStores}
+use Rattle.fb_turn.specs.st_exec.Cells.{Cell, forms_of}
+use Rattle.fb_turn.specs.fb_chart.Sampling.{AreStores}
 use Rattle.fb_tables.specs.fb_check.Verdicts.{IsChecked}
 use Rattle.fb_tables.specs.declared.table.Resource.{Resource}
 use Rattle.fb_tables.specs.Views.{place_at}

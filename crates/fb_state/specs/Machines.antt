@@ -7,7 +7,7 @@ use Rattle.fb_model.specs.Store.{LeafState, Store, first_store}
 use Rattle.fb_model.specs.Certificates.{Certificate}
 use Rattle.fb_model.specs.Devices as book
 use Rattle.fb_model.specs.Devices.{Machine}
-use Rattle.st_exec.specs.Cells.{Cell}
+use Rattle.fb_turn.specs.st_exec.Cells.{Cell}
 use Rattle.fb_tables.specs.fb_check.Verdicts.{system_in, certificate_in}
 use Rattle.fb_tables.specs.Views.{place_at}
 use Rattle.fb_turn.specs.declared.memory.Condition.{Condition}

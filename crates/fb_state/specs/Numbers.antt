@@ -1,8 +1,8 @@
 -- Events by numbers.
 use Rattle.std.specs.Prelude.{ℕ, ◌≡◌, ◌<◌, List, length, Option, None, Some, slice_get}
-use Rattle.fb_chart.specs.declared.table.Point.{Point}
-use Rattle.fb_chart.specs.declared.table.Event.{Event}
-use Rattle.fb_chart.specs.declared.table.Block.{Block}
+use Rattle.fb_turn.specs.fb_chart.declared.table.Point.{Point}
+use Rattle.fb_turn.specs.fb_chart.declared.table.Event.{Event}
+use Rattle.fb_turn.specs.fb_chart.declared.table.Block.{Block}
 
 abbrev pub event_at : List Block → Point → Option Event
 event_at blocks p = elim (slice_get blocks p.block) [ None ↦ None | Some x ↦ slice_get x.events.items p.event ]

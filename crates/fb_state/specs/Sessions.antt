@@ -1,6 +1,6 @@
 -- What contracts see of a device: what was checked, and how far the device has come, in lists.
 use Rattle.std.specs.Prelude.{ℕ, ◌^◌, List, Option, None, Some}
-use Rattle.st_exec.specs.Cells.{Cell}
+use Rattle.fb_turn.specs.st_exec.Cells.{Cell}
 use Rattle.fb_tables.specs.fb_check.declared.verified.Verified.{Verified}
 use Rattle.fb_turn.specs.declared.memory.Condition.{Condition}
 use Rattle.fb_sched.specs.Agenda.{Agenda}

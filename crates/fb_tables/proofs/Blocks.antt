@@ -16,16 +16,16 @@ use Rattle.fb_model.specs.Devices.{steps_row, places_row}
 use Rattle.fb_leaves.specs.Leaves.{IsClosed, OnChart}
 use Rattle.fb_cert.specs.declared.certificate.Certificate.{Certificate}
 use Rattle.fb_cert.specs.Views.{certificate_of}
-use Rattle.fb_check.specs.fb_blocks.declared.typed.Block as from_block
-use Rattle.fb_check.specs.fb_blocks.Views.{block_of}
-use Rattle.fb_check.specs.fb_services.Views.{values_of}
-use Rattle.fb_check.specs.fb_flat.declared.flat.Body as from_body
-use Rattle.fb_check.specs.fb_flat.declared.flat.Body.TheVariants as f
-use Rattle.fb_check.specs.fb_flat.declared.flat.Output as from_output
-use Rattle.fb_check.specs.fb_flat.Sites.{dotted}
-use Rattle.fb_check.specs.fb_flat.Leaves.{kind_of}
-use Rattle.fb_check.specs.fb_flat.Leaves as flat
-use Rattle.fb_check.proofs.of_fb_flat.Dotted.{names_dotted}
+use Rattle.fb_first.specs.fb_check.fb_blocks.declared.typed.Block as from_block
+use Rattle.fb_first.specs.fb_check.fb_blocks.Views.{block_of}
+use Rattle.fb_first.specs.fb_check.fb_services.Views.{values_of}
+use Rattle.fb_first.specs.fb_check.fb_flat.declared.flat.Body as from_body
+use Rattle.fb_first.specs.fb_check.fb_flat.declared.flat.Body.TheVariants as f
+use Rattle.fb_first.specs.fb_check.fb_flat.declared.flat.Output as from_output
+use Rattle.fb_first.specs.fb_check.fb_flat.Sites.{dotted}
+use Rattle.fb_first.specs.fb_check.fb_flat.Leaves.{kind_of}
+use Rattle.fb_first.specs.fb_check.fb_flat.Leaves as flat
+use Rattle.fb_first.proofs.of_fb_check.of_fb_flat.Dotted.{names_dotted}
 use Rattle.fb_chart.specs.declared.table.Event.{Event}
 use Rattle.fb_chart.specs.declared.table.Output.{Output}
 use Rattle.fb_chart.specs.declared.table.Body.{Body}
@@ -36,7 +36,7 @@ use Rattle.fb_chart.specs.Tables.{Each, IsChart, IsBody, IsPlacedOutput, IsTable
 use Rattle.st_code.specs.Forms.{Form}
 use Rattle.fb_serve.specs.declared.standing.Ports.{Ports}
 use Rattle.fb_serve.specs.Ports.{ServesPorts}
-use Rattle.fb_check.proofs.of_fb_flat.Few.{IsSmallKind}
+use Rattle.fb_first.proofs.of_fb_check.of_fb_flat.Few.{IsSmallKind}
 use Rattle.fb_tables.specs.Filling as made
 use Rattle.fb_tables.specs.Tables.{IsWeighed, IsTaken, IsBlock, AreBlocks}
 use Rattle.fb_tables.specs.Filling.{Seated, paths_of, events_with, IsTakeMade, IsRowMade, IsEventMade, IsOutputMade, IsBodyMade, IsBlockMade, IsPortsMade}

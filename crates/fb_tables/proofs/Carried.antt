@@ -7,7 +7,7 @@ use Rattle.std.specs.declared.vec.Vec.{Vec}
 use Rattle.fb_model.specs.Names.{Name}
 use Rattle.fb_model.specs.Store.{carried}
 use Rattle.fb_model.proofs.Names.{eq_turned}
-use Rattle.fb_check.specs.fb_blocks.Views.{event_of}
+use Rattle.fb_first.specs.fb_check.fb_blocks.Views.{event_of}
 
 abbrev pub carried_at : Option (Vec (String Global) Global) → List Name
 carried_at None = []

@@ -8,12 +8,12 @@ use Rattle.fb_model.specs.Names.{Name, is_in}
 use Rattle.fb_model.specs.System as book
 use Rattle.fb_model.specs.Certificates.{event_names, names}
 use Rattle.fb_leaves.specs.Leaves.{IsListed, IsClosedBlock}
-use Rattle.fb_check.specs.fb_blocks.declared.typed.Action as from_action
-use Rattle.fb_check.specs.fb_blocks.declared.typed.Transition as from_transition
-use Rattle.fb_check.specs.fb_blocks.declared.typed.Block.{Block}
-use Rattle.fb_check.specs.fb_blocks.Views as source
-use Rattle.fb_check.specs.fb_blocks.Views.{name_of, event_of, block_of}
-use Rattle.fb_check.specs.fb_blocks.Answers.{names_in_map}
+use Rattle.fb_first.specs.fb_check.fb_blocks.declared.typed.Action as from_action
+use Rattle.fb_first.specs.fb_check.fb_blocks.declared.typed.Transition as from_transition
+use Rattle.fb_first.specs.fb_check.fb_blocks.declared.typed.Block.{Block}
+use Rattle.fb_first.specs.fb_check.fb_blocks.Views as source
+use Rattle.fb_first.specs.fb_check.fb_blocks.Views.{name_of, event_of, block_of}
+use Rattle.fb_first.specs.fb_check.fb_blocks.Answers.{names_in_map}
 use Rattle.fb_chart.specs.declared.table.Action.{Action}
 use Rattle.fb_chart.specs.declared.table.State.{State}
 use Rattle.fb_chart.specs.declared.table.Transition.{Transition}

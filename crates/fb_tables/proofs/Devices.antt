@@ -18,28 +18,28 @@ use Rattle.fb_first.specs.First.{AreFirst}
 use Rattle.fb_model.specs.Certificates.{DeviceHolds, IsWired, name_at, depth_at}
 use Rattle.fb_model.specs.CertificateText.{names_in}
 use Rattle.fb_spelled.specs.Words.{IsWordyLeaf, IsWordyDevice}
-use Rattle.fb_check.proofs.Composed.{devices_hold}
+use Rattle.fb_first.proofs.of_fb_check.Composed.{devices_hold}
 use Rattle.fb_leaves.specs.Leaves.{AreApart, IsClosed, OnChart}
 use Rattle.fb_leaves.proofs.Charts.{on_charts}
 use Rattle.fb_clear.proofs.Taking.{TakesInputs, all_take_inputs}
-use Rattle.fb_check.specs.fb_flat.Sources.{written_inputs}
-use Rattle.fb_check.proofs.of_fb_flat.Few.{IsSmallKind, services_small, inputs_written}
+use Rattle.fb_first.specs.fb_check.fb_flat.Sources.{written_inputs}
+use Rattle.fb_first.proofs.of_fb_check.of_fb_flat.Few.{IsSmallKind, services_small, inputs_written}
 use Rattle.fb_leaves.proofs.Paths.{all_apart}
 use Rattle.fb_leaves.proofs.Closed.{all_charts_closed}
 use Rattle.fb_leaves.proofs.Few.{devices_few}
 use Rattle.fb_cert.specs.declared.certificate.Certificate.{Certificate}
 use Rattle.fb_cert.specs.Views.{certificate_of}
-use Rattle.fb_check.specs.fb_types.declared.typed.Resource as from_resource
-use Rattle.fb_check.specs.fb_types.declared.typed.Device as from_device
-use Rattle.fb_check.specs.fb_types.Views.{resource_of, device_of}
-use Rattle.fb_check.specs.fb_flat.declared.flat.FlatDevice.{FlatDevice}
-use Rattle.fb_check.specs.fb_flat.Tables.{IsDevice, AreDevices}
-use Rattle.fb_check.specs.fb_flat.Sites.{dotted}
-use Rattle.fb_check.proofs.of_fb_flat.Dotted.{names_dotted, word_alone}
-use Rattle.fb_check.specs.declared.verified.Verified.{Verified}
-use Rattle.fb_check.specs.Verdicts.{system_in, certificate_in, IsChecked}
-use Rattle.fb_check.proofs.Reading.{words}
-use Rattle.fb_check.proofs.Composed as composed
+use Rattle.fb_first.specs.fb_check.fb_types.declared.typed.Resource as from_resource
+use Rattle.fb_first.specs.fb_check.fb_types.declared.typed.Device as from_device
+use Rattle.fb_first.specs.fb_check.fb_types.Views.{resource_of, device_of}
+use Rattle.fb_first.specs.fb_check.fb_flat.declared.flat.FlatDevice.{FlatDevice}
+use Rattle.fb_first.specs.fb_check.fb_flat.Tables.{IsDevice, AreDevices}
+use Rattle.fb_first.specs.fb_check.fb_flat.Sites.{dotted}
+use Rattle.fb_first.proofs.of_fb_check.of_fb_flat.Dotted.{names_dotted, word_alone}
+use Rattle.fb_first.specs.fb_check.declared.verified.Verified.{Verified}
+use Rattle.fb_first.specs.fb_check.Verdicts.{system_in, certificate_in, IsChecked}
+use Rattle.fb_first.proofs.of_fb_check.Reading.{words}
+use Rattle.fb_first.proofs.of_fb_check.Composed as composed
 use Rattle.fb_tables.specs.declared.table.Resource.{Resource}
 use Rattle.fb_tables.specs.declared.table.Tables.{Tables}
 use Rattle.fb_tables.specs.Tables.{AreBlocks, AreResources, AreTables}

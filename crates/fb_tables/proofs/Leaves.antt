@@ -11,9 +11,9 @@ use Rattle.fb_model.proofs.Lists.{all_both}
 use Rattle.fb_model.proofs.Homes.{resource_homes}
 use Rattle.fb_leaves.specs.Leaves.{AreApart}
 use Rattle.fb_cert.proofs.Places.{path_same}
-use Rattle.fb_check.specs.fb_flat.declared.flat.Leaf.{Leaf}
-use Rattle.fb_check.specs.fb_flat.declared.flat.FlatResource.{FlatResource}
-use Rattle.fb_check.specs.fb_flat.Tables.{IsLeaf, AreLeaves, AreResources}
+use Rattle.fb_first.specs.fb_check.fb_flat.declared.flat.Leaf.{Leaf}
+use Rattle.fb_first.specs.fb_check.fb_flat.declared.flat.FlatResource.{FlatResource}
+use Rattle.fb_first.specs.fb_check.fb_flat.Tables.{IsLeaf, AreLeaves, AreResources}
 use Rattle.fb_chart.specs.Tables.{Each}
 use Rattle.fb_tables.specs.Filling.{Numbered, numbered, numbered_from, Seated, numbered_leaf, paths_of}
 use Rattle.fb_tables.proofs.Lists.{each_append}

@@ -4,8 +4,8 @@ use Rattle.std.specs.List.{AllByRecursion}
 use Rattle.std.specs.Str.{bytes_eq}
 use Rattle.std.proofs.lemmas.List.{take_more, append-nil}
 use Rattle.fb_model.specs.Names.{Name}
-use Rattle.fb_check.specs.fb_blocks.declared.typed.Transition.{Transition}
-use Rattle.fb_check.specs.fb_blocks.Views.{transition_of}
+use Rattle.fb_first.specs.fb_check.fb_blocks.declared.typed.Transition.{Transition}
+use Rattle.fb_first.specs.fb_check.fb_blocks.Views.{transition_of}
 use Rattle.fb_chart.specs.Tables.{Each, leaving}
 use Rattle.fb_tables.specs.Filling.{leaving_from}
 use Rattle.fb_tables.proofs.Lists.{each_push}

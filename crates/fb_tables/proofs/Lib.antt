@@ -1,8 +1,8 @@
-pub use Rattle.fb_check.proofs.of_fb_blocks as of_fb_blocks
-pub use Rattle.fb_check.proofs as of_fb_check
-pub use Rattle.fb_check.proofs.of_fb_flat as of_fb_flat
-pub use Rattle.fb_check.proofs.of_fb_text as of_fb_text
-pub use Rattle.fb_check.proofs.of_fb_types as of_fb_types
+pub use Rattle.fb_first.proofs.of_fb_check.of_fb_blocks as of_fb_blocks
+pub use Rattle.fb_first.proofs.of_fb_check as of_fb_check
+pub use Rattle.fb_first.proofs.of_fb_check.of_fb_flat as of_fb_flat
+pub use Rattle.fb_first.proofs.of_fb_check.of_fb_text as of_fb_text
+pub use Rattle.fb_first.proofs.of_fb_check.of_fb_types as of_fb_types
 pub mod Lists
 pub mod Numbers
 pub mod Slots

@@ -9,9 +9,9 @@ use Rattle.fb_model.specs.System as book
 use Rattle.fb_model.specs.Services.{init, req, rsp, start, stop, arrive, expire, begin, service_events}
 use Rattle.fb_model.specs.Certificates.{event_names, names}
 use Rattle.fb_model.proofs.Lists.{same_name}
-use Rattle.fb_check.specs.fb_blocks.Views.{event_of, action_of}
-use Rattle.fb_check.specs.fb_blocks.Answers.{names_in_map}
-use Rattle.fb_check.proofs.of_fb_networks.Places.{place, place_below, position_is, position_map}
+use Rattle.fb_first.specs.fb_check.fb_blocks.Views.{event_of, action_of}
+use Rattle.fb_first.specs.fb_check.fb_blocks.Answers.{names_in_map}
+use Rattle.fb_first.proofs.of_fb_check.of_fb_networks.Places.{place, place_below, position_is, position_map}
 use Rattle.fb_tables.specs.Filling.{IsNumber, Entry, service_event, most_numbers}
 
 -- ---- places

@@ -20,15 +20,15 @@ use Rattle.fb_spelled.specs.Words.{IsWordyLeaf}
 use Rattle.fb_leaves.specs.Leaves.{IsClosed, OnChart}
 use Rattle.fb_clear.proofs.Taking.{TakesInputs}
 use Rattle.fb_model.specs.Store.{variable_names, inputs}
-use Rattle.fb_check.specs.fb_flat.Sources.{written_inputs}
-use Rattle.fb_check.proofs.of_fb_flat.Few.{IsSmallKind}
+use Rattle.fb_first.specs.fb_check.fb_flat.Sources.{written_inputs}
+use Rattle.fb_first.proofs.of_fb_check.of_fb_flat.Few.{IsSmallKind}
 use Rattle.fb_cert.proofs.Places.{path_same}
-use Rattle.fb_check.specs.fb_flat.declared.flat.Target.{Target}
-use Rattle.fb_check.specs.fb_flat.declared.flat.Output as from_output
-use Rattle.fb_check.specs.fb_flat.Leaves.{kind_of, outputs_of}
-use Rattle.fb_check.specs.fb_flat.Tables.{IsLeaf, target_place, targets_of}
-use Rattle.fb_check.specs.fb_flat.Tables as flat
-use Rattle.fb_check.proofs.of_fb_blocks.Lists.{new_split, new_second}
+use Rattle.fb_first.specs.fb_check.fb_flat.declared.flat.Target.{Target}
+use Rattle.fb_first.specs.fb_check.fb_flat.declared.flat.Output as from_output
+use Rattle.fb_first.specs.fb_check.fb_flat.Leaves.{kind_of, outputs_of}
+use Rattle.fb_first.specs.fb_check.fb_flat.Tables.{IsLeaf, target_place, targets_of}
+use Rattle.fb_first.specs.fb_check.fb_flat.Tables as flat
+use Rattle.fb_first.proofs.of_fb_check.of_fb_blocks.Lists.{new_split, new_second}
 use Rattle.fb_chart.specs.declared.table.Point.{Point}
 use Rattle.fb_chart.specs.declared.table.Output.{Output}
 use Rattle.fb_chart.specs.Tables.{Each}

@@ -7,10 +7,10 @@ use Rattle.fb_model.specs.System as book
 use Rattle.fb_model.specs.Charts.{named}
 use Rattle.fb_model.proofs.Names.{eq_turned}
 use Rattle.st_types.specs.CommandViews.{commands_of}
-use Rattle.fb_check.specs.fb_blocks.declared.typed.Block.{Block}
-use Rattle.fb_check.specs.fb_blocks.Views.{block_of}
-use Rattle.fb_check.specs.fb_blocks.Answers.{names_in_map}
-use Rattle.fb_check.proofs.of_fb_networks.Places.{place, place_below}
+use Rattle.fb_first.specs.fb_check.fb_blocks.declared.typed.Block.{Block}
+use Rattle.fb_first.specs.fb_check.fb_blocks.Views.{block_of}
+use Rattle.fb_first.specs.fb_check.fb_blocks.Answers.{names_in_map}
+use Rattle.fb_first.proofs.of_fb_check.of_fb_networks.Places.{place, place_below}
 use Rattle.fb_chart.specs.Tables.{IsAlgorithm}
 use Rattle.fb_tables.specs.Filling.{Routine, most_numbers}
 use Rattle.fb_tables.proofs.Numbers.{suc_of}

@@ -16,11 +16,11 @@ use Rattle.fb_model.specs.Certificates.{event_names, events_of}
 use Rattle.fb_model.specs.BlockTyping.{extent}
 use Rattle.fb_model.proofs.Lists.{all_both, all_weaker}
 use Rattle.fb_model.proofs.Placed.{Apart, apart, name_same}
-use Rattle.fb_check.specs.fb_flat.declared.flat.Source as from_source
-use Rattle.fb_check.specs.fb_flat.declared.flat.Source.TheVariants as g
-use Rattle.fb_check.specs.fb_flat.declared.flat.Input.{Input}
-use Rattle.fb_check.specs.fb_flat.Sources.{written_inputs}
-use Rattle.fb_check.specs.fb_flat.Tables.{IsLeaf, book_source, source_at, input_names}
+use Rattle.fb_first.specs.fb_check.fb_flat.declared.flat.Source as from_source
+use Rattle.fb_first.specs.fb_check.fb_flat.declared.flat.Source.TheVariants as g
+use Rattle.fb_first.specs.fb_check.fb_flat.declared.flat.Input.{Input}
+use Rattle.fb_first.specs.fb_check.fb_flat.Sources.{written_inputs}
+use Rattle.fb_first.specs.fb_check.fb_flat.Tables.{IsLeaf, book_source, source_at, input_names}
 use Rattle.fb_chart.specs.declared.table.Source.{Source}
 use Rattle.fb_chart.specs.declared.table.Source.TheVariants as s
 use Rattle.fb_chart.specs.declared.table.Take.{Take}

@@ -19,24 +19,24 @@ use Rattle.fb_cert.specs.Views.{certificate_of}
 use Rattle.st_types.specs.declared.whole.Algo.{Algo}
 use Rattle.st_types.specs.CommandViews.{commands_of}
 use Rattle.st_types.specs.Views.{term_of}
-use Rattle.fb_check.specs.fb_blocks.declared.typed.Action as from_action
-use Rattle.fb_check.specs.fb_blocks.declared.typed.Transition as from_transition
-use Rattle.fb_check.specs.fb_blocks.declared.typed.Block as from_block
-use Rattle.fb_check.specs.fb_blocks.Views.{name_of, block_of}
-use Rattle.fb_check.specs.fb_blocks.Answers.{names_in_map}
-use Rattle.fb_check.specs.fb_services.Views.{service_of, values_of}
-use Rattle.fb_check.specs.fb_flat.declared.flat.Body as from_body
-use Rattle.fb_check.specs.fb_flat.declared.flat.Body.TheVariants as f
-use Rattle.fb_check.specs.fb_flat.declared.flat.Target.{Target}
-use Rattle.fb_check.specs.fb_flat.declared.flat.Output as from_output
-use Rattle.fb_check.specs.fb_flat.declared.flat.Source as from_source
-use Rattle.fb_check.specs.fb_flat.declared.flat.Source.TheVariants as g
-use Rattle.fb_check.specs.fb_flat.declared.flat.Input.{Input}
-use Rattle.fb_check.specs.fb_flat.declared.flat.Leaf.{Leaf}
-use Rattle.fb_check.specs.fb_flat.declared.flat.FlatResource.{FlatResource}
-use Rattle.fb_check.specs.fb_flat.Sites.{dotted}
-use Rattle.fb_check.specs.fb_flat.Leaves.{kind_of}
-use Rattle.fb_check.specs.fb_types.declared.typed.Resource as from_resource
+use Rattle.fb_first.specs.fb_check.fb_blocks.declared.typed.Action as from_action
+use Rattle.fb_first.specs.fb_check.fb_blocks.declared.typed.Transition as from_transition
+use Rattle.fb_first.specs.fb_check.fb_blocks.declared.typed.Block as from_block
+use Rattle.fb_first.specs.fb_check.fb_blocks.Views.{name_of, block_of}
+use Rattle.fb_first.specs.fb_check.fb_blocks.Answers.{names_in_map}
+use Rattle.fb_first.specs.fb_check.fb_services.Views.{service_of, values_of}
+use Rattle.fb_first.specs.fb_check.fb_flat.declared.flat.Body as from_body
+use Rattle.fb_first.specs.fb_check.fb_flat.declared.flat.Body.TheVariants as f
+use Rattle.fb_first.specs.fb_check.fb_flat.declared.flat.Target.{Target}
+use Rattle.fb_first.specs.fb_check.fb_flat.declared.flat.Output as from_output
+use Rattle.fb_first.specs.fb_check.fb_flat.declared.flat.Source as from_source
+use Rattle.fb_first.specs.fb_check.fb_flat.declared.flat.Source.TheVariants as g
+use Rattle.fb_first.specs.fb_check.fb_flat.declared.flat.Input.{Input}
+use Rattle.fb_first.specs.fb_check.fb_flat.declared.flat.Leaf.{Leaf}
+use Rattle.fb_first.specs.fb_check.fb_flat.declared.flat.FlatResource.{FlatResource}
+use Rattle.fb_first.specs.fb_check.fb_flat.Sites.{dotted}
+use Rattle.fb_first.specs.fb_check.fb_flat.Leaves.{kind_of}
+use Rattle.fb_first.specs.fb_check.fb_types.declared.typed.Resource as from_resource
 use Rattle.st_code.specs.declared.command.Procedure.{Procedure}
 use Rattle.st_code.specs.Forms.{Form, slot_in}
 use Rattle.st_code.specs.CodeViews.{code_term, code_commands}

@@ -1,7 +1,7 @@
 //! Blocks with their events, outputs and bodies.
 
 ghost use Rattle.std.specs.Prelude.{◌≡◌, IfOk};
-ghost use Rattle.fb_check.specs.fb_blocks.Views.{names_of};
+ghost use Rattle.fb_first.specs.fb_check.fb_blocks.Views.{names_of};
 ghost use Rattle.fb_chart.specs.Tables.{Each};
 ghost use Rattle.fb_tables.specs.Filling.{IsBlockMade, seat_of, seats_of};
 

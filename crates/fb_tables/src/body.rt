@@ -1,13 +1,13 @@
 //! What blocks are made of.
 
 ghost use Rattle.std.specs.Prelude.{◌≡◌, IfOk};
-ghost use Rattle.fb_check.specs.fb_services.Views.{service_of};
+ghost use Rattle.fb_first.specs.fb_check.fb_services.Views.{service_of};
 ghost use Rattle.fb_tables.specs.Filling.{IsBodyMade};
 
 use crate::chart::chart;
 use fb_chart::Body;
-use fb_check::fb_columns::fb_flat;
-use fb_check::fb_columns::fb_flat::fb_types::fb_networks::fb_services::Service;
+use fb_first::fb_check::fb_columns::fb_flat;
+use fb_first::fb_check::fb_columns::fb_flat::fb_types::fb_networks::fb_services::Service;
 use st_code::Layout;
 use std::alloc::{AllocError, Global};
 

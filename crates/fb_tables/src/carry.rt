@@ -3,10 +3,10 @@
 ghost use Rattle.std.specs.Prelude.{◌≡◌, [], ◌∷◌, map, string_bytes, IfOk};
 ghost use Rattle.fb_model.specs.Names.{Name};
 ghost use Rattle.fb_model.specs.Services.{service_takes, service_gives};
-ghost use Rattle.fb_check.specs.fb_services.Views.{service_of};
+ghost use Rattle.fb_first.specs.fb_check.fb_services.Views.{service_of};
 ghost use Rattle.fb_tables.specs.Filling.{IsSmall};
 
-use fb_check::fb_columns::fb_flat::fb_types::fb_networks::fb_services::Service;
+use fb_first::fb_check::fb_columns::fb_flat::fb_types::fb_networks::fb_services::Service;
 use std::alloc::{AllocError, Global};
 
 // One name.

@@ -6,7 +6,7 @@ ghost use Rattle.fb_tables.specs.Filling.{IsProcedureMade, IsChartMade};
 
 use crate::state::states;
 use fb_chart::Chart;
-use fb_check::fb_columns::fb_flat::fb_types::fb_networks::fb_services::fb_blocks::Block;
+use fb_first::fb_check::fb_columns::fb_flat::fb_types::fb_networks::fb_services::fb_blocks::Block;
 use st_code::{Layout, Procedure, coded_algorithm};
 use std::alloc::{AllocError, Global};
 use std::rc::Rc;

@@ -3,9 +3,9 @@
 ghost use Rattle.std.specs.Prelude.{◌≡◌, ◌++◌, [], ◌∷◌, map, string_bytes, IfOk, OnOk};
 ghost use Rattle.fb_model.specs.Wires.{Serviced};
 ghost use Rattle.fb_cert.specs.Views.{steps_in, places_in};
-ghost use Rattle.fb_check.specs.fb_blocks.Views.{names_of, events_of};
-ghost use Rattle.fb_check.specs.fb_services.Views.{service_of, listed};
-ghost use Rattle.fb_check.specs.fb_flat.Leaves.{kind_of};
+ghost use Rattle.fb_first.specs.fb_check.fb_blocks.Views.{names_of, events_of};
+ghost use Rattle.fb_first.specs.fb_check.fb_services.Views.{service_of, listed};
+ghost use Rattle.fb_first.specs.fb_check.fb_flat.Leaves.{kind_of};
 ghost use Rattle.fb_chart.specs.Tables.{Each};
 ghost use Rattle.fb_tables.specs.Filling.{IsSmall, IsSmallKind, events_with, served_with, IsEventMade, IsArrivalMade, seat_of, seats_of};
 
@@ -14,9 +14,9 @@ use crate::seat::Seat;
 use crate::take::takes;
 use fb_cert::{Amount, Certificate};
 use fb_chart::Event;
-use fb_check::fb_columns::fb_flat::fb_types::fb_networks::fb_services::Service;
-use fb_check::fb_columns::fb_flat::fb_types::fb_networks::fb_services::fb_blocks::Events;
-use fb_check::fb_columns::fb_flat::{Body, joined};
+use fb_first::fb_check::fb_columns::fb_flat::fb_types::fb_networks::fb_services::Service;
+use fb_first::fb_check::fb_columns::fb_flat::fb_types::fb_networks::fb_services::fb_blocks::Events;
+use fb_first::fb_check::fb_columns::fb_flat::{Body, joined};
 use indexmap::IndexSet;
 use std::alloc::{AllocError, Global};
 

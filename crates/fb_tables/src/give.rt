@@ -2,16 +2,16 @@
 
 ghost use Rattle.std.specs.Prelude.{◌≡◌, map, string_bytes, IfOk};
 ghost use Rattle.fb_model.specs.Store as store;
-ghost use Rattle.fb_check.specs.fb_blocks.Views.{events_of};
-ghost use Rattle.fb_check.specs.fb_flat.Leaves.{kind_of};
+ghost use Rattle.fb_first.specs.fb_check.fb_blocks.Views.{events_of};
+ghost use Rattle.fb_first.specs.fb_check.fb_flat.Leaves.{kind_of};
 ghost use Rattle.fb_chart.specs.Tables.{Each};
 ghost use Rattle.fb_tables.specs.Filling.{IsSmallKind, IsGiveMade};
 
 use crate::carry;
 use crate::take::count;
 use fb_chart::Give;
-use fb_check::fb_columns::fb_flat::Body;
-use fb_check::fb_columns::fb_flat::fb_types::fb_networks::fb_services::fb_blocks::Events;
+use fb_first::fb_check::fb_columns::fb_flat::Body;
+use fb_first::fb_check::fb_columns::fb_flat::fb_types::fb_networks::fb_services::fb_blocks::Events;
 use st_code::Layout;
 use std::alloc::{AllocError, Global};
 

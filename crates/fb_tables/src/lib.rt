@@ -16,6 +16,7 @@ mod table;
 mod take;
 mod target;
 
-pub use fb_check;
+pub use fb_first;
+pub use fb_first::fb_check;
 pub use number::tables;
 pub use table::{Resource, Tables};

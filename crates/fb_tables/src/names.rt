@@ -1,8 +1,8 @@
 //! Names and their numbers.
 
 ghost use Rattle.std.specs.Prelude.{◌≡◌, ◌≤◌};
-ghost use Rattle.fb_check.specs.fb_blocks.Answers.{names_in_map};
-ghost use Rattle.fb_check.specs.fb_blocks.Views.{names_of};
+ghost use Rattle.fb_first.specs.fb_check.fb_blocks.Answers.{names_in_map};
+ghost use Rattle.fb_first.specs.fb_check.fb_blocks.Views.{names_of};
 ghost use Rattle.fb_tables.specs.Filling.{IsNumber, IsOptionalNumber, most_numbers};
 
 use indexmap::{IndexMap, IndexSet};

@@ -5,7 +5,7 @@ ghost use Rattle.fb_model.specs.System.{Device};
 ghost use Rattle.fb_model.specs.Wires.{leaves};
 ghost use Rattle.st_exec.specs.Cells.{forms_of};
 ghost use Rattle.fb_cert.specs.Views.{count_in};
-ghost use Rattle.fb_check.specs.Verdicts.{system_in, certificate_in};
+ghost use Rattle.fb_first.specs.fb_check.Verdicts.{system_in, certificate_in};
 ghost use Rattle.fb_first.specs.First.{AreFirst};
 ghost use Rattle.fb_tables.specs.Tables.{AreTables};
 ghost use Rattle.fb_chart.specs.Tables.{Each};
@@ -16,9 +16,9 @@ use crate::port::ports;
 use crate::seat::{homes, paths, seats};
 use crate::table::{Resource, Tables};
 use fb_cert::Certificate;
-use fb_check::Verified;
-use fb_check::fb_columns::fb_flat::{fb_types, joined};
 use fb_first::FirstValues;
+use fb_first::fb_check::Verified;
+use fb_first::fb_check::fb_columns::fb_flat::{fb_types, joined};
 use std::alloc::{AllocError, Global};
 
 // The depth of a row, 0 where there is none.

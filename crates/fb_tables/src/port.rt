@@ -2,14 +2,14 @@
 
 ghost use Rattle.std.specs.Prelude.{◌≡◌, map, drop, string_bytes, IfOk};
 ghost use Rattle.fb_model.specs.Services.{sent, received, numbered};
-ghost use Rattle.fb_check.specs.fb_services.Views.{service_of};
+ghost use Rattle.fb_first.specs.fb_check.fb_services.Views.{service_of};
 ghost use Rattle.fb_chart.specs.Tables.{Each};
 ghost use Rattle.fb_serve.specs.Ports.{slots_of, sends, receives, ArePorts};
 ghost use Rattle.fb_tables.specs.Filling.{IsSmall, IsPortsMade, seat_of, seats_of};
 
 use crate::seat::Seat;
-use fb_check::fb_columns::fb_flat::Body;
-use fb_check::fb_columns::fb_flat::fb_types::fb_networks::fb_services::Service;
+use fb_first::fb_check::fb_columns::fb_flat::Body;
+use fb_first::fb_check::fb_columns::fb_flat::fb_types::fb_networks::fb_services::Service;
 use fb_serve::Ports;
 use st_code::Layout;
 use std::alloc::{AllocError, Global};

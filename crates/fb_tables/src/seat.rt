@@ -3,13 +3,13 @@
 ghost use Rattle.std.specs.Prelude.{◌≡◌, ◌≤◌, ◌++◌, length, map, IfOk, OnOk};
 ghost use Rattle.fb_model.specs.Typing.{AreDistinct};
 ghost use Rattle.st_exec.specs.Cells.{forms_of};
-ghost use Rattle.fb_check.specs.fb_blocks.Views.{names_of};
+ghost use Rattle.fb_first.specs.fb_check.fb_blocks.Views.{names_of};
 ghost use Rattle.fb_tables.specs.Filling.{homes_of, seats_of, numbered, numbered_from, paths_of, most_numbers, AreSeats};
 
 use crate::names::short;
 use fb_chart::Store;
-use fb_check::fb_columns::fb_flat::fb_types::fb_networks::fb_services::fb_blocks::insert;
-use fb_check::fb_columns::fb_flat::{FlatResource, Leaf};
+use fb_first::fb_check::fb_columns::fb_flat::fb_types::fb_networks::fb_services::fb_blocks::insert;
+use fb_first::fb_check::fb_columns::fb_flat::{FlatResource, Leaf};
 use indexmap::IndexSet;
 use st_code::Layout;
 use std::alloc::{AllocError, Global};

@@ -5,14 +5,14 @@ ghost use Rattle.std.specs.Option.{option_map};
 ghost use Rattle.st_types.specs.Views.{term_of};
 ghost use Rattle.st_code.specs.CodeViews.{code_term};
 ghost use Rattle.st_code.specs.Placed.{placed};
-ghost use Rattle.fb_check.specs.fb_blocks.Views.{name_of, block_of};
+ghost use Rattle.fb_first.specs.fb_check.fb_blocks.Views.{name_of, block_of};
 ghost use Rattle.fb_chart.specs.Tables.{Each, IsAlgorithm};
 ghost use Rattle.fb_tables.specs.Filling.{most_numbers, leaving_from, IsActionMade, IsStateMade, IsTransitionMade};
 
 use crate::names::{number_in, optional, short};
 use fb_chart::{Action, State, Transition};
-use fb_check::fb_columns::fb_flat::fb_types::fb_networks::fb_services::fb_blocks;
-use fb_check::fb_columns::fb_flat::fb_types::fb_networks::fb_services::fb_blocks::Block;
+use fb_first::fb_check::fb_columns::fb_flat::fb_types::fb_networks::fb_services::fb_blocks;
+use fb_first::fb_check::fb_columns::fb_flat::fb_types::fb_networks::fb_services::fb_blocks::Block;
 use st_code::{Code, Layout, coded_term};
 use st_types::TypedExpr;
 use std::alloc::{AllocError, Global};

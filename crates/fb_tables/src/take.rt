@@ -2,7 +2,7 @@
 
 ghost use Rattle.std.specs.Prelude.{◌≡◌, map, string_bytes, Some, slice_get, IfOk};
 ghost use Rattle.std.specs.Option.{option_map};
-ghost use Rattle.fb_check.specs.fb_blocks.Views.{names_of};
+ghost use Rattle.fb_first.specs.fb_check.fb_blocks.Views.{names_of};
 ghost use Rattle.fb_chart.specs.Tables.{Each};
 ghost use Rattle.fb_chart.specs.Sampling.{count_among};
 ghost use Rattle.fb_tables.specs.Filling.{source_named, seats_of, IsSlotAt, IsSourceMade, IsTakeMade};
@@ -10,8 +10,8 @@ ghost use Rattle.fb_tables.specs.Filling.{source_named, seats_of, IsSlotAt, IsSo
 use crate::names::number;
 use crate::seat::Seat;
 use fb_chart::{Source, Take};
-use fb_check::fb_columns::fb_flat;
-use fb_check::fb_columns::fb_flat::Input;
+use fb_first::fb_check::fb_columns::fb_flat;
+use fb_first::fb_check::fb_columns::fb_flat::Input;
 use indexmap::IndexSet;
 use st_code::Layout;
 use std::alloc::{AllocError, Global};

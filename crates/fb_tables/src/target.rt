@@ -3,9 +3,9 @@
 ghost use Rattle.std.specs.Prelude.{◌≡◌, IfOk, if◌then◌else◌};
 ghost use Rattle.std.specs.Str.{bytes_eq};
 ghost use Rattle.fb_model.specs.Certificates.{events_of};
-ghost use Rattle.fb_check.specs.fb_blocks.Views.{names_of};
-ghost use Rattle.fb_check.specs.fb_services.Views.{service_of};
-ghost use Rattle.fb_check.specs.fb_flat.Leaves.{kind_of};
+ghost use Rattle.fb_first.specs.fb_check.fb_blocks.Views.{names_of};
+ghost use Rattle.fb_first.specs.fb_check.fb_services.Views.{service_of};
+ghost use Rattle.fb_first.specs.fb_check.fb_flat.Leaves.{kind_of};
 ghost use Rattle.fb_chart.specs.Tables.{Each};
 ghost use Rattle.fb_tables.specs.Filling.{service_event, IsNumber, IsPointMade, IsOutputMade, seat_of, seats_of};
 
@@ -13,9 +13,9 @@ use crate::give::{given, gives};
 use crate::names::{number, number_in};
 use crate::seat::Seat;
 use fb_chart::{Output, Point};
-use fb_check::fb_columns::fb_flat;
-use fb_check::fb_columns::fb_flat::fb_types::fb_networks::fb_services::Service;
-use fb_check::fb_columns::fb_flat::{Body, Target};
+use fb_first::fb_check::fb_columns::fb_flat;
+use fb_first::fb_check::fb_columns::fb_flat::fb_types::fb_networks::fb_services::Service;
+use fb_first::fb_check::fb_columns::fb_flat::{Body, Target};
 use indexmap::IndexSet;
 use std::alloc::{AllocError, Global};
 

@@ -2,8 +2,8 @@ use Rattle.std.proofs.Common.{◌≡◌, refl, subst, arith}
 use Rattle.std.specs.Vec.{with_item}
 use Rattle.fb_model.specs.Wires.{Leaf, leaves}
 use Rattle.fb_model.specs.Store.{Fired, with_leaf}
-use Rattle.fb_serve.specs.declared.standing.Standing.TheVariants as s
-use Rattle.fb_turn.specs.declared.memory.Condition.TheVariants.{Service}
+use Rattle.fb_state.specs.fb_serve.declared.standing.Standing.TheVariants as s
+use Rattle.fb_state.specs.fb_turn.declared.memory.Condition.TheVariants.{Service}
 use Rattle.fb_state.specs.declared.program.Running.{Running}
 use Rattle.fb_state.specs.Sessions.{session_of}
 use Rattle.fb_state.specs.Machines.{device_in, machine_of}

@@ -1,6 +1,6 @@
 use Rattle.std.proofs.Common.{cond, sym, ◌∙◌, ap, arith}
 use Rattle.fb_model.specs.Wires.{leaves}
-use Rattle.fb_timers.specs.Order.{without}
+use Rattle.fb_state.specs.fb_timers.Order.{without}
 use Rattle.fb_state.specs.Sessions.{session_of}
 use Rattle.fb_state.specs.Machines.{device_in, machine_of}
 use Rattle.fb_arrive.proofs.Ticks.{ticks, ticked, due_timer, fired_one, fired_less, waits_one, waits_less, waiting_few}

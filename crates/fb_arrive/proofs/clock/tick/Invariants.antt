@@ -1,5 +1,5 @@
 use Rattle.std.proofs.Common.{length, drop}
-use Rattle.fb_timers.specs.Order.{due_at}
+use Rattle.fb_state.specs.fb_timers.Order.{due_at}
 use Rattle.fb_arrive.proofs.Ticks.{Ticks}
 use Rattle.fb_arrive.proofs.clock.tick.Given as goal
 

@@ -2,7 +2,7 @@ use Rattle.std.proofs.Common.{◌≡◌, ◌<◌, length, ℤ, List, true, false
 use Rattle.fb_model.specs.Wires.{Leaf, leaves}
 use Rattle.fb_model.specs.Certificates.{is_restart}
 use Rattle.fb_model.specs.Devices.{admitted, beginning}
-use Rattle.fb_chart.proofs.Lists.{stands_at}
+use Rattle.fb_state.proofs.of_fb_chart.Lists.{stands_at}
 use Rattle.fb_state.specs.Sessions.{session_of}
 use Rattle.fb_state.specs.Machines.{device_in, cert_in, machine_of}
 use Rattle.fb_state.specs.Arrivals.{IsArrival}

@@ -1,12 +1,12 @@
 use Rattle.std.proofs.lemmas.Result.{IfOk-weaker, IfErr-weaker}
 use Rattle.std.proofs.Common.{sym, ◌∙◌, ap, slice_get, ◌≡◌}
-use Rattle.fb_tables.specs.fb_check.declared.verified.Verified.{Verified}
-use Rattle.fb_tables.specs.fb_check.Verdicts.{system_in}
+use Rattle.fb_arrive.specs.fb_state.fb_tables.fb_check.declared.verified.Verified.{Verified}
+use Rattle.fb_arrive.specs.fb_state.fb_tables.fb_check.Verdicts.{system_in}
 use Rattle.fb_model.specs.Devices.{silent}
-use Rattle.fb_state.specs.Machines.{device_in, device_at}
-use Rattle.fb_state.proofs.Blocks.{within}
-use Rattle.fb_state.proofs.Lists.{same_at}
-use Rattle.fb_state.proofs.Devices.{device_stands}
+use Rattle.fb_arrive.specs.fb_state.Machines.{device_in, device_at}
+use Rattle.fb_arrive.proofs.of_fb_state.Blocks.{within}
+use Rattle.fb_arrive.proofs.of_fb_state.Lists.{same_at}
+use Rattle.fb_arrive.proofs.of_fb_state.Devices.{device_stands}
 use Rattle.fb_device.proofs.Found.{found_device, no_device_named, missing_so, missing_memory}
 use Rattle.fb_device.proofs.loading.made_ready.Goals as goal
 

@@ -1,6 +1,6 @@
 use Rattle.std.proofs.Common.{◌≡◌, ◌+◌, take, ◌++◌, ◌∷◌, [], sym, ◌∙◌, subst, ap}
 use Rattle.std.proofs.lemmas.List.{take_more}
-use Rattle.fb_tables.specs.declared.table.Resource.{Resource}
+use Rattle.fb_arrive.specs.fb_state.fb_tables.declared.table.Resource.{Resource}
 use Rattle.fb_device.specs.Starting.{AreEmpty}
 use Rattle.fb_device.proofs.Beginning.{empty_more}
 use Rattle.fb_device.proofs.loading.queues.Goals as goal

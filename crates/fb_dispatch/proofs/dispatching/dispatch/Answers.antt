@@ -3,12 +3,12 @@ use Rattle.std.specs.Option.{option_map}
 use Rattle.fb_model.specs.Serving.{Effect as Outside}
 use Rattle.fb_model.specs.Wires.{leaves}
 use Rattle.fb_model.specs.Devices.{Runs}
-use Rattle.fb_tables.specs.Views.{place_at}
+use Rattle.fb_state.specs.fb_tables.Views.{place_at}
 use Rattle.fb_state.specs.declared.program.Running.{Running}
 use Rattle.fb_state.specs.Sessions.{session_of}
 use Rattle.fb_state.specs.Machines.{device_in, cert_in, machine_of}
 use Rattle.fb_state.specs.Numbers.{event_at, steps_in, IsKnown}
-use Rattle.fb_turn.specs.Conditions.{effect_at}
+use Rattle.fb_state.specs.fb_turn.Conditions.{effect_at}
 use Rattle.fb_dispatch.specs.Answers.{effect_in, end_of}
 use Rattle.fb_dispatch.specs.declared.answer.Ended.{Ended}
 use Rattle.fb_dispatch.proofs.Happening as at

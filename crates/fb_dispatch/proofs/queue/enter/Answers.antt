@@ -1,7 +1,7 @@
 use Rattle.std.proofs.Common.{◌≡◌, refl, subst}
-use Rattle.fb_sched.specs.Agenda.{Agenda}
-use Rattle.fb_sched.specs.Changes.{PutsAll}
-use Rattle.fb_turn.proofs.Standing.{read}
+use Rattle.fb_state.specs.fb_sched.Agenda.{Agenda}
+use Rattle.fb_state.specs.fb_sched.Changes.{PutsAll}
+use Rattle.fb_state.proofs.of_fb_turn.Standing.{read}
 use Rattle.fb_dispatch.proofs.queue.enter.Goals as goal
 
 pub returns-clause-entered : goal.returns-clause-entered

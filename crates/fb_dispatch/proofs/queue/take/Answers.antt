@@ -1,5 +1,5 @@
 use Rattle.std.proofs.Common.{◌<◌, length, arith}
-use Rattle.fb_chart.proofs.Lists.{stands_at}
+use Rattle.fb_state.proofs.of_fb_chart.Lists.{stands_at}
 use Rattle.fb_dispatch.proofs.Taking.{taken}
 use Rattle.fb_dispatch.proofs.queue.take.Goals as goal
 

@@ -1,6 +1,6 @@
 use Rattle.std.proofs.Common.{ℕ, cond, eqb, List, Option, ◌∙◌, ap}
-use Rattle.fb_timers.specs.declared.armed.Armed.{Armed}
-use Rattle.fb_timers.specs.Order.{due_of, placed}
+use Rattle.fb_state.specs.fb_timers.declared.armed.Armed.{Armed}
+use Rattle.fb_state.specs.fb_timers.Order.{due_of, placed}
 use Rattle.fb_dispatch.proofs.Timed.{unarmed, quiet, armed_anew}
 use Rattle.fb_dispatch.proofs.timing.rearm.Goals as goal
 

@@ -1,6 +1,6 @@
 use Rattle.std.proofs.Common.{◌≡◌, length, ◌+◌, ◌<◌, ◌≤◌, ◌^◌, set, refl, sym, ◌∙◌, ap, subst, arith}
 use Rattle.std.specs.Vec.{with_item}
-use Rattle.fb_chart.proofs.Lists.{stands_at}
+use Rattle.fb_turn.proofs.of_fb_chart.Lists.{stands_at}
 use Rattle.fb_sched.specs.Agenda.{Agenda, IsNew, all_places, reactions_in}
 use Rattle.fb_sched.specs.Changes.{Opens}
 use Rattle.fb_state.specs.Sessions.{next_of}

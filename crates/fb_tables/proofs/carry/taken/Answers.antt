@@ -1,6 +1,6 @@
 use Rattle.std.proofs.Common.{◌≡◌, List, map, string_bytes, IfOk, sym, ap, subst, ◌∙◌, arith}
 use Rattle.fb_model.specs.Names.{Name}
-use Rattle.fb_check.specs.fb_services.Views.{service_of, channel_of}
+use Rattle.fb_first.specs.fb_check.fb_services.Views.{service_of, channel_of}
 use Rattle.fb_tables.proofs.Ports.{output_takes, publish_takes}
 use Rattle.fb_tables.proofs.carry.taken.Goals as goal
 

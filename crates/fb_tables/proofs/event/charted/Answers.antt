@@ -1,6 +1,6 @@
 use Rattle.std.proofs.Common.{map, string_bytes, subst}
 use Rattle.fb_model.specs.Names.{Name}
-use Rattle.fb_check.specs.fb_blocks.Views.{names_of, event_of, events_of}
+use Rattle.fb_first.specs.fb_check.fb_blocks.Views.{names_of, event_of, events_of}
 use Rattle.fb_tables.specs.Filling.{IsEventMade, seat_of, seats_of}
 use Rattle.fb_tables.proofs.Lists.{each_more, got_at}
 use Rattle.fb_tables.proofs.event.charted.Goals as goal

@@ -1,5 +1,5 @@
 use Rattle.std.proofs.Common.{take}
-use Rattle.fb_check.specs.fb_blocks.Views.{names_of, events_of}
+use Rattle.fb_first.specs.fb_check.fb_blocks.Views.{names_of, events_of}
 use Rattle.fb_chart.specs.Tables.{Each}
 use Rattle.fb_tables.specs.Filling.{IsEventMade, seat_of, seats_of}
 use Rattle.fb_tables.proofs.event.charted.Given as goal

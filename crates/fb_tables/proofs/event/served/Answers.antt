@@ -2,8 +2,8 @@ use Rattle.std.proofs.Common.{List, Option, None, Some, map, sym, subst, append-
 use Rattle.fb_model.specs.System as book
 use Rattle.fb_model.specs.Services.{arrivals}
 use Rattle.fb_model.specs.Wires.{Serviced}
-use Rattle.fb_check.specs.fb_blocks.Views.{names_of}
-use Rattle.fb_check.specs.fb_services.Views.{service_of}
+use Rattle.fb_first.specs.fb_check.fb_blocks.Views.{names_of}
+use Rattle.fb_first.specs.fb_check.fb_services.Views.{service_of}
 use Rattle.fb_chart.specs.declared.table.Event.{Event}
 use Rattle.fb_chart.specs.Tables.{Each}
 use Rattle.fb_tables.specs.Filling.{IsEventMade, events_with, served_with, arrived, seat_of, seats_of}

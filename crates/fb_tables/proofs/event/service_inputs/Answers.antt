@@ -1,7 +1,7 @@
 use denote.Ref.{Bor}
 use Rattle.fb_model.specs.Names.{Name}
-use Rattle.fb_check.specs.fb_blocks.Views.{names_of}
-use Rattle.fb_check.specs.fb_services.Views.{service_of}
+use Rattle.fb_first.specs.fb_check.fb_blocks.Views.{names_of}
+use Rattle.fb_first.specs.fb_check.fb_services.Views.{service_of}
 use Rattle.fb_tables.specs.Filling.{IsEventMade, served_with, seat_of, seats_of}
 use Rattle.fb_tables.proofs.Lists.{each_image_more}
 use Rattle.fb_tables.proofs.event.service_inputs.Goals as goal

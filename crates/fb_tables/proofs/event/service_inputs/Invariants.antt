@@ -1,6 +1,6 @@
 use Rattle.std.proofs.Common.{map, take}
-use Rattle.fb_check.specs.fb_blocks.Views.{names_of}
-use Rattle.fb_check.specs.fb_services.Views.{service_of}
+use Rattle.fb_first.specs.fb_check.fb_blocks.Views.{names_of}
+use Rattle.fb_first.specs.fb_check.fb_services.Views.{service_of}
 use Rattle.fb_chart.specs.Tables.{Each}
 use Rattle.fb_tables.specs.Filling.{IsSmall, IsEventMade, served_with, seat_of, seats_of}
 use Rattle.fb_tables.proofs.event.service_inputs.Given as goal

@@ -1,7 +1,7 @@
 use Rattle.std.proofs.Common.{sym, ◌∙◌, string_bytes}
 use Rattle.std.specs.Str.{bytes_eq}
-use Rattle.fb_check.specs.fb_blocks.Views.{names_of}
-use Rattle.fb_check.proofs.of_fb_networks.Places.{position_is, position_map}
+use Rattle.fb_first.specs.fb_check.fb_blocks.Views.{names_of}
+use Rattle.fb_first.proofs.of_fb_check.of_fb_networks.Places.{position_is, position_map}
 use Rattle.fb_tables.proofs.Numbers.{number_some, number_none}
 use Rattle.fb_tables.proofs.names.number.Goals as goal
 

@@ -1,5 +1,5 @@
 use Rattle.std.proofs.Common.{sym, ◌∙◌}
-use Rattle.fb_check.specs.fb_blocks.Answers.{names_in_map}
+use Rattle.fb_first.specs.fb_check.fb_blocks.Answers.{names_in_map}
 use Rattle.fb_tables.proofs.Numbers.{placed, number_some, number_none}
 use Rattle.fb_tables.proofs.names.number_in.Goals as goal
 

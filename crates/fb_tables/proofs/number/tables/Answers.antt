@@ -1,7 +1,7 @@
 use Rattle.std.proofs.Common.{◌≡◌, List, sym, ap, subst, ◌∙◌, length, map, get_or, arith}
 use Rattle.std.proofs.lemmas.List.{length-map}
 use Rattle.st_exec.specs.Cells.{Cell, forms_of}
-use Rattle.fb_check.specs.fb_blocks.Views.{names_of}
+use Rattle.fb_first.specs.fb_check.fb_blocks.Views.{names_of}
 use Rattle.fb_tables.specs.declared.seat.Home.{Home}
 use Rattle.fb_tables.specs.Filling.{home_of, homes_of, seats_of, AreSeats}
 use Rattle.fb_tables.proofs.Devices.{as_many_devices, stores_many, tables_are}

@@ -1,6 +1,6 @@
 use Rattle.std.proofs.Common.{◌≡◌, List, map, drop, string_bytes, IfOk, ap, subst, ◌∙◌, arith}
 use Rattle.fb_model.specs.Names.{Name}
-use Rattle.fb_check.specs.fb_services.Views.{service_of, channel_of}
+use Rattle.fb_first.specs.fb_check.fb_services.Views.{service_of, channel_of}
 use Rattle.fb_serve.specs.Ports.{slots_of}
 use Rattle.fb_tables.proofs.Ports.{behind_names, input_receives, subscribe_receives}
 use Rattle.fb_tables.proofs.port.received.Goals as goal

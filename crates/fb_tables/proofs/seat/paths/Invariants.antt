@@ -1,5 +1,5 @@
 use Rattle.std.proofs.Common.{◌≡◌, ◌++◌, drop}
-use Rattle.fb_check.specs.fb_blocks.Views.{names_of}
+use Rattle.fb_first.specs.fb_check.fb_blocks.Views.{names_of}
 use Rattle.fb_model.specs.Typing.{AreNew, AreDistinct}
 use Rattle.fb_tables.specs.Filling.{seats_of, paths_of}
 use Rattle.fb_tables.proofs.seat.paths.Given as goal

@@ -1,6 +1,6 @@
 use Rattle.std.proofs.Common.{◌≡◌, Option, Some, None, sym, ap, subst, ◌∙◌}
 use Rattle.fb_model.specs.Names.{Name}
-use Rattle.fb_check.specs.fb_blocks.Views.{name_of, block_of}
+use Rattle.fb_first.specs.fb_check.fb_blocks.Views.{name_of, block_of}
 use Rattle.fb_chart.specs.Tables.{IsAlgorithm}
 use Rattle.fb_tables.proofs.Numbers.{placed}
 use Rattle.fb_tables.proofs.Routines.{routine_found, routine_missing}

@@ -1,5 +1,5 @@
 use Rattle.std.proofs.Common.{map, string_bytes}
-use Rattle.fb_check.specs.fb_blocks.Views.{names_of}
+use Rattle.fb_first.specs.fb_check.fb_blocks.Views.{names_of}
 use Rattle.fb_tables.specs.Filling.{IsTakeMade, seats_of}
 use Rattle.fb_tables.proofs.Lists.{each_more, there}
 use Rattle.fb_tables.proofs.take.takes.Goals as goal

@@ -1,10 +1,10 @@
 use Rattle.std.proofs.Common.{List, sym, subst}
 use Rattle.fb_model.specs.Names.{Name}
 use Rattle.fb_model.specs.Certificates.{events_of}
-use Rattle.fb_check.specs.fb_blocks.declared.typed.Block.{Block}
-use Rattle.fb_check.specs.fb_services.Views.{service_of}
-use Rattle.fb_check.specs.fb_flat.declared.flat.Body.{Body}
-use Rattle.fb_check.specs.fb_flat.Leaves.{kind_of}
+use Rattle.fb_first.specs.fb_check.fb_blocks.declared.typed.Block.{Block}
+use Rattle.fb_first.specs.fb_check.fb_services.Views.{service_of}
+use Rattle.fb_first.specs.fb_check.fb_flat.declared.flat.Body.{Body}
+use Rattle.fb_first.specs.fb_check.fb_flat.Leaves.{kind_of}
 use Rattle.fb_tables.specs.Filling.{IsNumber}
 use Rattle.fb_tables.proofs.Numbers.{service_number}
 use Rattle.fb_tables.proofs.Charts.{inputs_in, inputs_are}

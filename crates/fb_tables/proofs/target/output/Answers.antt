@@ -1,7 +1,7 @@
 use Rattle.std.proofs.Common.{List, map, string_bytes, ap, subst, ◌∙◌}
 use Rattle.fb_model.specs.Names.{Name}
 use Rattle.fb_model.specs.Store.{gives}
-use Rattle.fb_check.specs.fb_flat.Leaves.{kind_of}
+use Rattle.fb_first.specs.fb_check.fb_flat.Leaves.{kind_of}
 use Rattle.fb_chart.specs.Tables.{Each}
 use Rattle.fb_tables.specs.Filling.{IsGiveMade, seat_of}
 use Rattle.fb_tables.proofs.Giving.{gives_named, gives_placed}

@@ -1,4 +1,4 @@
-use Rattle.fb_check.specs.fb_blocks.Views.{names_of}
+use Rattle.fb_first.specs.fb_check.fb_blocks.Views.{names_of}
 use Rattle.fb_tables.specs.Filling.{IsPointMade, seats_of}
 use Rattle.fb_tables.proofs.Lists.{each_more}
 use Rattle.fb_tables.proofs.target.points.Goals as goal

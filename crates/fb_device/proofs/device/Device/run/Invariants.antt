@@ -1,7 +1,7 @@
 use Rattle.std.proofs.Common.{◌≡◌, map, take, drop, length}
 use Rattle.fb_model.specs.Devices.{Run}
 use Rattle.fb_model.specs.Wires.{leaves}
-use Rattle.fb_state.specs.Machines.{device_in, cert_in, machine_of}
+use Rattle.fb_arrive.specs.fb_state.Machines.{device_in, cert_in, machine_of}
 use Rattle.fb_device.specs.Answers.{event_of, answer_of}
 use Rattle.fb_device.proofs.device.Device.run.Given as goal
 
