@@ -9,6 +9,11 @@ loop-line-init g c = start c.args.script.now c.args.device.now (g.W.Write.conten
 pub overflow_add-number : goal.overflow_add-number
 overflow_add-number g c = omega (arith, c.loop-line.invariant.counted, lines_le c.args.script.now, c.requires)
 
+pub step-requires : goal.step-requires
+step-requires g c =
+    let t = turn {t = c.next.new.self} c.in-Some.line c.loop-line.invariant c.in-Some.ensures.steps in
+    omega (arith, t.few, t.counted, lines_le c.args.script.now, c.requires)
+
 pub loop-line-preserved : goal.loop-line-preserved
 loop-line-preserved g c = next (turn c.in-Some.line c.loop-line.invariant c.in-Some.ensures.steps) (rw c.in-Ok-Ok.field-0-is at c.in-Ok-Ok.ensures.steps) c.step.ensures.same.0 c.step.ensures.same.1
 
