@@ -25,7 +25,6 @@ ghost use Rattle.fb_device.specs.Loads.{IsLoaded, IsLoadFault, IsThere, IsReadyO
 use crate::device::Device;
 use crate::names::is_same;
 use crate::refusal::Refusal;
-use fb_arrive::begin;
 use fb_first::{FirstValues, first_values};
 use fb_services::Service;
 use fb_state::fb_sched::{Outbox, Queue};
@@ -70,7 +69,7 @@ impl Ready {
         ensures same { (result.verified ≡ self.verified) × (result.number ≡ self.number) }
     {
         let Ready { mut device } = self;
-        begin(&device.program, &mut device.running);
+        device.begin();
         device
     }
 }
