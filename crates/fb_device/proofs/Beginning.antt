@@ -1,10 +1,9 @@
 -- A device to which nothing has happened.
-use Rattle.std.proofs.Common.{◌≡◌, ℕ, zero, suc, ◌+◌, ◌<◌, ◌≤◌, ◌^◌, cond, List, [], ◌∷◌, ◌++◌, map, length, slice_get, Option, Some, None, Vec, refl, sym, ◌∙◌, ap, subst, arith}
+use Rattle.std.proofs.Common.{◌≡◌, ℕ, zero, suc, ◌+◌, ◌<◌, ◌≤◌, ◌^◌, cond, List, [], ◌∷◌, ◌++◌, map, take, get_or, length, slice_get, Option, Some, Vec, refl, sym, ◌∙◌, ap, subst, arith}
 use Rattle.std.proofs.Math.Path.{fun_ext}
 use Rattle.std.specs.Prelude.{IfSome}
-use Rattle.std.specs.List.{AllByRecursion, sum_by}
 use Rattle.std.specs.declared.alloc.Global.{Global}
-use Rattle.std.proofs.lemmas.List.{length-map}
+use Rattle.std.proofs.lemmas.List.{length-map, take_more}
 use Rattle.std.proofs.lemmas.List.Sums.{sum_by-cons}
 use Rattle.fb_model.specs.Names.{Path, path_eq}
 use Rattle.fb_model.specs.System as book
@@ -21,7 +20,7 @@ use Rattle.fb_leaves.proofs.Few.{devices_few}
 use Rattle.fb_arrive.specs.fb_state.fb_tables.fb_check.declared.verified.Verified.{Verified}
 use Rattle.fb_arrive.specs.fb_state.fb_tables.fb_check.Verdicts.{system_in, certificate_in, IsChecked}
 use Rattle.fb_arrive.specs.fb_state.fb_tables.fb_types.Views.{device_of}
-use Rattle.fb_arrive.specs.fb_state.st_exec.Cells.{Cell, Form, values_of, forms_of}
+use Rattle.fb_arrive.specs.fb_state.st_exec.Cells.{Cell, values_of, forms_of}
 use Rattle.fb_arrive.specs.fb_state.fb_chart.declared.table.Block.{Block}
 use Rattle.fb_arrive.specs.fb_state.fb_chart.Views.{named, kind_of}
 use Rattle.fb_arrive.specs.fb_state.fb_chart.Sampling.{AreStores}
@@ -30,19 +29,17 @@ use Rattle.fb_arrive.specs.fb_state.fb_tables.declared.table.Resource.{Resource}
 use Rattle.fb_arrive.specs.fb_state.fb_tables.declared.table.Tables.{Tables}
 use Rattle.fb_arrive.specs.fb_state.fb_tables.Tables.{AreTables, AreResources}
 use Rattle.fb_arrive.specs.fb_state.fb_turn.declared.memory.Condition.{Condition}
-use Rattle.fb_arrive.specs.fb_state.fb_turn.declared.memory.Condition.TheVariants.{State}
 use Rattle.fb_arrive.specs.fb_state.fb_turn.Conditions.{condition_at, leaf_state, IsConditionOf}
 use Rattle.fb_arrive.specs.fb_state.fb_sched.declared.reaction.Reaction.{Reaction}
 use Rattle.fb_arrive.specs.fb_state.fb_sched.Agenda.{Agenda, IsAgenda, slot_at}
 use Rattle.fb_arrive.specs.fb_state.fb_sched.Steps.{spent}
-use Rattle.fb_arrive.specs.fb_state.fb_timers.declared.armed.Armed.{Armed}
 use Rattle.fb_arrive.specs.fb_state.fb_timers.Expiry.{AreArmed}
 use Rattle.fb_arrive.specs.fb_state.fb_tables.fb_first.First.{AreFirst}
 use Rattle.fb_arrive.specs.fb_state.fb_tables.fb_first.declared.first.FirstValues.{FirstValues}
 use Rattle.fb_arrive.specs.fb_state.declared.program.Program.{Program}
 use Rattle.fb_arrive.specs.fb_state.declared.program.Running.{Running}
 use Rattle.fb_arrive.specs.fb_state.Sessions.{session_of, next_of}
-use Rattle.fb_arrive.specs.fb_state.Machines.{device_at, queue_at, entries_in, standing, store_from, spent_in, machine, machine_of}
+use Rattle.fb_arrive.specs.fb_state.Machines.{device_at, queue_at, entries_in, standing, store_from, spent_in, machine_of}
 use Rattle.fb_arrive.specs.fb_state.Keeping.{IsStanding, ArePlaced, IsQueue, IsProgram, IsGood}
 use Rattle.fb_arrive.proofs.of_fb_state.Devices.{device_stands}
 use Rattle.fb_arrive.proofs.of_fb_state.Storing.{standing_at}
@@ -56,11 +53,18 @@ use Rattle.fb_device.proofs.Silent.{silent_sound, none_armed}
 abbrev empty : ℕ → Agenda
 empty room = record { tickets = []; slots = []; room = room }
 
-pub empty_more : (xs : List Resource) (qs : List Agenda) (x : Resource) (a : Agenda) → AreEmpty xs qs → a ≡ record { tickets = []; slots = []; room = x.depth } → IsAgenda a → AreEmpty (xs ++ x ∷ []) (qs ++ a ∷ [])
+empty_more : (xs : List Resource) (qs : List Agenda) (x : Resource) (a : Agenda) → AreEmpty xs qs → a ≡ record { tickets = []; slots = []; room = x.depth } → IsAgenda a → AreEmpty (xs ++ x ∷ []) (qs ++ a ∷ [])
 empty_more [] [] x a h e s = (e, s, tt)
 empty_more (y ∷ ys) (b ∷ bs) x a h e s = (h.0, h.1, empty_more ys bs x a h.2 e s)
 empty_more [] (b ∷ bs) x a h e s = absurd h
 empty_more (y ∷ ys) [] x a h e s = absurd h
+
+-- the first so many resources and one more
+pub empty_taken : (xs : List Resource) (qs new : List Agenda) (n : ℕ) (x : Resource) (a : Agenda) → n < length xs → x ≡ get_or xs n x → AreEmpty (take n xs) qs → a ≡ record { tickets = []; slots = []; room = x.depth } → IsAgenda a → new ≡ qs ++ a ∷ []
+    → AreEmpty (take (n + 1) xs) new
+empty_taken xs qs new n x a l is h e s pushed =
+    let more : take (n + 1) xs ≡ take n xs ++ x ∷ [] = take_more xs n x l ∙ ap (λ (y : Resource). take n xs ++ y ∷ []) (sym is) in
+    subst (λ ys. AreEmpty ys new) (sym more) (subst (AreEmpty (take n xs ++ x ∷ [])) (sym pushed) (empty_more (take n xs) qs x a h e s))
 
 empty_count : (xs : List Resource) (qs : List Agenda) → AreEmpty xs qs → length qs ≡ length xs
 empty_count [] [] h = refl

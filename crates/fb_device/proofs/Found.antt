@@ -1,7 +1,7 @@
 -- The device of a name in what was checked.
 use Rattle.std.proofs.Common.{◌≡◌, ℕ, true, false, List, [], ◌∷◌, map, slice_get, Some, None, refl, sym, ◌∙◌, ap, subst, string_bytes}
 use Rattle.std.specs.List.{AllByRecursion}
-use Rattle.fb_model.specs.System.{Device, System}
+use Rattle.fb_model.specs.System.{Device}
 use Rattle.fb_arrive.specs.fb_state.fb_tables.fb_types.declared.typed.Device.{Device as RustDevice}
 use Rattle.fb_arrive.specs.fb_state.fb_tables.fb_types.Views.{device_of}
 use Rattle.fb_arrive.specs.fb_state.fb_tables.fb_check.declared.verified.Verified.{Verified}

@@ -1,9 +1,8 @@
 -- The arrival that opened a cause.
-use Rattle.std.proofs.Common.{◌≡◌, ◌≢◌, ℕ, suc, ◌+◌, ◌<◌, false, ◌||◌, List, [], ◌∷◌, map, slice_get, Option, Some, None, eqb, refl, sym, ◌∙◌, ap, subst, arith, inl, inr}
+use Rattle.std.proofs.Common.{◌≡◌, ◌≢◌, ℕ, suc, ◌+◌, ◌<◌, false, ◌||◌, List, [], ◌∷◌, map, slice_get, Option, Some, None, refl, sym, ◌∙◌, ap, subst, arith, inl, inr}
 use Rattle.std.specs.List.{AllByRecursion}
 use Rattle.std.proofs.lemmas.Bool.{cases_eq, ne_eqb}
 use Rattle.fb_model.specs.Names.{Place}
-use Rattle.fb_model.specs.System.{Device}
 use Rattle.fb_model.specs.Wires.{Leaf, leaves}
 use Rattle.fb_model.specs.Certificates.{Certificate}
 use Rattle.fb_model.specs.Devices as book
@@ -11,14 +10,13 @@ use Rattle.fb_model.specs.Devices.{is_pending}
 use Rattle.fb_model.specs.Headline as headline
 use Rattle.fb_arrive.specs.fb_state.st_exec.Cells.{Form, forms_of}
 use Rattle.fb_arrive.specs.fb_state.fb_chart.declared.table.Point.{Point}
-use Rattle.fb_arrive.specs.fb_state.fb_chart.declared.table.Event.{Event}
 use Rattle.fb_arrive.specs.fb_state.fb_chart.declared.table.Block.{Block}
 use Rattle.fb_arrive.specs.fb_state.fb_tables.Views.{place_at}
 use Rattle.fb_arrive.specs.fb_state.fb_tables.Tables.{IsPoint}
 use Rattle.fb_arrive.specs.fb_state.fb_sched.declared.ticket.Ticket.{Ticket}
 use Rattle.fb_arrive.specs.fb_state.fb_sched.declared.reaction.Reaction.{Reaction}
-use Rattle.fb_arrive.specs.fb_state.fb_sched.Agenda.{Agenda, IsAgenda, IsNew, IsReactionOf, IsOpen, slot_at, tickets_for}
-use Rattle.fb_arrive.specs.fb_state.fb_sched.Entries.{AllPending, entries, entry_by, booked}
+use Rattle.fb_arrive.specs.fb_state.fb_sched.Agenda.{Agenda, IsNew, IsOpen, slot_at, tickets_for}
+use Rattle.fb_arrive.specs.fb_state.fb_sched.Entries.{entry_by, booked}
 use Rattle.fb_arrive.proofs.of_fb_state.of_fb_sched.Slots.{reaction_there}
 use Rattle.fb_arrive.proofs.of_fb_state.of_fb_sched.Kept.{for_other}
 use Rattle.fb_arrive.specs.fb_state.declared.program.Program.{Program}
@@ -31,7 +29,7 @@ use Rattle.fb_arrive.proofs.of_fb_state.Blocks.{Known, known, is_known, steps_ar
 use Rattle.fb_arrive.proofs.of_fb_state.Lists.{same_at}
 use Rattle.fb_arrive.proofs.of_fb_state.Queued.{queue_here}
 use Rattle.fb_device.specs.declared.answer.Opening.{Opening}
-use Rattle.fb_device.specs.Openings.{opening_at, IsOpeningIn}
+use Rattle.fb_device.specs.Openings.{IsOpeningIn}
 use Rattle.fb_device.specs.Answers.{IsOpening}
 
 -- the entries of these tickets, in the book

@@ -4,7 +4,7 @@ use Rattle.std.specs.List.{AllByRecursion}
 use Rattle.fb_model.specs.Names.{Path, at_place, path_eq}
 use Rattle.fb_model.specs.System.{Device, Input, Output, Publish, Subscribe, Delay, Cycle, Restart}
 use Rattle.fb_model.specs.Wires.{Kind, Charted, Serviced, Leaf, leaves, leaf_at}
-use Rattle.fb_model.specs.Store.{Store, LeafState, Condition, first_store, first_cells, first_condition}
+use Rattle.fb_model.specs.Store.{first_store, first_cells, first_condition}
 use Rattle.fb_model.specs.Ranges.{Range, CellsLie, LeafLies}
 use Rattle.fb_model.specs.Certificates.{Certificate, IsWired, DeviceHolds}
 use Rattle.fb_model.specs.Devices.{due, is_timer, silent}

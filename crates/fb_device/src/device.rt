@@ -1,7 +1,7 @@
 //! A device that runs.
 
 ghost use Rattle.std.specs.Prelude.{◌≡◌, ◌≤◌, length, map, take, drop, MatchOption};
-ghost use Rattle.fb_model.specs.Devices.{Happens, Offer, Tick, Dispatch, Expired, Run};
+ghost use Rattle.fb_model.specs.Devices.{Happens, Offer, Tick, Dispatch, Expired, Run, begun, silent};
 ghost use Rattle.fb_model.specs.Headline.{KeepsBounds, StaysWithinAll};
 ghost use Rattle.fb_model.specs.Wires.{leaves};
 ghost use Rattle.fb_arrive.specs.Answers.{admission_of};
@@ -13,7 +13,7 @@ ghost use Rattle.fb_device.specs.Promises.{IsBounded};
 use crate::answer::{Answer, Opening, Step};
 use crate::names::{name, opening, path, resource};
 use fb_arrive::fb_state::{Program, Running};
-use fb_arrive::{Denied, offer, tick};
+use fb_arrive::{Denied, begin, offer, tick};
 use fb_dispatch::{Turned, dispatch};
 use std::marker::Model;
 
@@ -53,6 +53,16 @@ impl Device {
         verified.let_go();
         tables.let_go();
         drop(running);
+    }
+
+    // Admits every BEGIN of a device to which nothing has happened.
+    pub(crate) fn begin(&mut self)
+        requires { machine_of self.old ≡ silent (device_in self.old) 1 }
+        ensures first { machine_of self.new ≡ begun (leaves (device_in self.old)) (machine_of self.old) }
+        ensures bounded { IsBounded (cert_in self.old) (device_in self.old) (machine_of self.new) }
+        ensures same { (self.new.verified ≡ self.old.verified) × (self.new.number ≡ self.old.number) }
+    {
+        begin(&self.program, &mut self.running)
     }
 
     /// Dispatches the first pending entry of a resource, which runs one block to its end.

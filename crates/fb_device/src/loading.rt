@@ -25,7 +25,6 @@ ghost use Rattle.fb_device.specs.Loads.{IsLoaded, IsLoadFault, IsThere, IsReadyO
 use crate::device::Device;
 use crate::names::is_same;
 use crate::refusal::Refusal;
-use fb_arrive::begin;
 use fb_arrive::fb_state::fb_sched::{Outbox, Queue};
 use fb_arrive::fb_state::fb_tables::fb_check::{Verified, check_text};
 use fb_arrive::fb_state::fb_tables::fb_first::{FirstValues, first_values};
@@ -70,7 +69,7 @@ impl Ready {
         ensures same { (result.verified ≡ self.verified) × (result.number ≡ self.number) }
     {
         let Ready { mut device } = self;
-        begin(&device.program, &mut device.running);
+        device.begin();
         device
     }
 }
