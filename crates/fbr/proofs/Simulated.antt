@@ -5,7 +5,7 @@ use Rattle.fb_script.specs.fb_check.declared.verified.Verified.{Verified}
 use Rattle.fbr.specs.declared.fault.Fault.{Fault}
 use Rattle.fbr.specs.declared.fault.Fault.TheVariants.{Memory, Usage}
 use Rattle.fbr.specs.Outcomes.{Tells, refusal, IsFilesOutcome}
-use Rattle.fbr.specs.Simulation.{IsVerified, IsScript, IsScriptFault, TellsEnd, IsSilent, IsFresh, HasOneDevice, TellsRun, a_run, no_load, no_device, TellsRunFrom, TellsScript, TellsSim}
+use Rattle.fbr.specs.Simulation.{IsVerified, IsScript, IsScriptFault, TellsEnd, IsSilent, IsFresh, HasOneDevice, TellsRun, a_run, no_device, TellsRunFrom, TellsScript, TellsSim}
 use Rattle.fb_script.specs.fb_device.Sessions.{Session}
 use Rattle.fb_script.specs.fb_device.Machines.{device_at, device_in, machine_of}
 use Rattle.fb_model.specs.Wires.{leaves}
@@ -40,11 +40,6 @@ pub script_read : {E : Type 0} (v : Verified) (held : Option (List ℕ)) (script
     → IsScript held script → IfOk r (λ status. TellsRun v script old new status) → IfOk r (λ status. TellsScript v held old new status)
 script_read v held script old new (Ok status) is h = inr (script, is.contents, h)
 script_read v held script old new (Err e) is h = tt
-
--- a device that is not loaded
-pub not_loaded : {E : Type 0} (v : Verified) (script : List ℕ) (old new : Option (List ℕ)) (r : Result ℕ E) → HasOneDevice v → IfOk r (λ status. Tells (refusal Memory) old new status) → IfOk r (λ status. TellsRun v script old new status)
-not_loaded v script old new (Ok status) one h = no_load one h
-not_loaded v script old new (Err e) one h = tt
 
 -- no device, or several
 pub not_one : {E : Type 0} (v : Verified) (script : List ℕ) (old new : Option (List ℕ)) (r : Result ℕ E) → (HasOneDevice v → ⊥) → IfOk r (λ status. Tells (refusal Usage) old new status) → IfOk r (λ status. TellsRun v script old new status)
