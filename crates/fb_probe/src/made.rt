@@ -68,8 +68,7 @@ fn states(out: &mut String, chart: &Chart) -> Result<(), AllocError> {
 
 // The transitions that leave each state, in text order.
 fn transitions(out: &mut String, chart: &Chart) -> Result<(), AllocError> {
-    let mut source = 0;
-    for state in &chart.states {
+    for (source, state) in chart.states.iter().enumerate() {
         let mut left = state.transitions.iter();
         for named in &chart.block.transitions {
             if named.source.as_str() != state.name.as_str() {
@@ -88,7 +87,6 @@ fn transitions(out: &mut String, chart: &Chart) -> Result<(), AllocError> {
             }
             out.push('\n')?;
         }
-        source += 1;
     }
     Ok(())
 }
