@@ -1,11 +1,6 @@
-pub mod Laying
 pub mod Reading
 pub mod Writing
 pub mod Chaining
 pub mod Turns
 pub mod Serving
 pub mod Runs
-pub mod Branching
-pub mod Adding
-pub mod Declared
-pub mod Sampled

@@ -1,5 +1,5 @@
 -- Runs in pieces, as the loops of the program make them.
-use Rattle.std.proofs.Common.{◌≡◌, ℕ, zero, suc, ◌+◌, ◌≤◌, ℤ, pos, ◌+ℤ◌, ◌*ℤ◌, ◌≤ℤ◌, int_le, ◌&&◌, Bool, true, false, Option, Some, None, IsSome, refl, sym, ◌∙◌, ap, subst, arith, add_assoc, zero-add}
+use Rattle.std.proofs.Common.{◌≡◌, ℕ, zero, suc, ◌+◌, ◌≤◌, ℤ, pos, ◌+ℤ◌, ◌*ℤ◌, ◌≤ℤ◌, int_le, ◌&&◌, Bool, true, false, Option, Some, refl, sym, ◌∙◌, ap, subst, arith, add_assoc, zero-add}
 use Rattle.std.specs.Prelude.{if◌then◌else◌}
 use Rattle.std.proofs.lemmas.Int.{ints}
 use Rattle.fb_words.proofs.Types.{le_is}
@@ -8,11 +8,11 @@ use Rattle.fb_model.specs.Values.{One, Values}
 use Rattle.fb_model.specs.Language.{Outcome, Done, Trap, more, after, with_value, setting, setting_part, turn_count, turns}
 use Rattle.st_exec.specs.Runs.{IsWithin}
 
-pub more_zero : (o : Outcome) → more 0 o ≡ o
+more_zero : (o : Outcome) → more 0 o ≡ o
 more_zero (Done values n) = ap (Done values) (zero-add n)
 more_zero Trap = refl
 
-pub more_more : (m n : ℕ) (o : Outcome) → more m (more n o) ≡ more (m + n) o
+more_more : (m n : ℕ) (o : Outcome) → more m (more n o) ≡ more (m + n) o
 more_more m n (Done values k) = ap (Done values) (sym (add_assoc m n k))
 more_more m n Trap = refl
 
@@ -36,22 +36,14 @@ part_within limit n o whole f e h = within_after limit n o f (subst (IsWithin li
 pub one_more : (n m : ℕ) (o whole : Outcome) (f : Values → Outcome) (values : Values) → more n (after o f) ≡ whole → o ≡ Done values m → more (n + m) (f values) ≡ whole
 one_more n m o whole f values e d = sym (more_more n m (f values)) ∙ ap (λ x. more n (after x f)) (sym d) ∙ e
 
-pub done_within : (limit n : ℕ) (o : Outcome) → IsWithin limit (more n o) → n ≤ limit
+done_within : (limit n : ℕ) (o : Outcome) → IsWithin limit (more n o) → n ≤ limit
 done_within limit n (Done values k) h = omega arith
 done_within limit n Trap h = absurd h
 
-pub steps_within : (limit n : ℕ) (o whole : Outcome) → more n o ≡ whole → IsWithin limit whole → n ≤ limit
+steps_within : (limit n : ℕ) (o whole : Outcome) → more n o ≡ whole → IsWithin limit whole → n ≤ limit
 steps_within limit n o whole e h = done_within limit n o (subst (IsWithin limit) (sym e) h)
 
--- the steps of a run that is done
-pub done_steps : (limit : ℕ) (o : Outcome) (values : Values) (n : ℕ) → IsWithin limit o → o ≡ Done values n → n ≤ limit
-done_steps limit o values n h e = subst (IsWithin limit) e h
-
 -- ---- one statement
-
-pub value_within : (limit : ℕ) (o : Option ℤ) (f : ℤ → Outcome) → IsWithin limit (with_value o f) → IsSome o
-value_within limit None f h = absurd h
-value_within limit (Some v) f h = refl
 
 pub given_within : (limit : ℕ) (o : Option ℤ) (v : ℤ) (f : ℤ → Outcome) → o ≡ Some v → IsWithin limit (with_value o f) → IsWithin limit (f v)
 given_within limit o v f e h = subst (λ p. IsWithin limit (with_value p f)) e h

@@ -2,10 +2,9 @@
 use Rattle.std.proofs.Common.{◌≡◌, ℤ, Bool, true, false, ◌||◌, List, [], ◌∷◌, ◌++◌, Option, None, Some, refl, sym, ap, ◌∙◌}
 use Rattle.std.specs.Option.{option_map}
 use Rattle.std.specs.Str.{bytes_eq}
-use Rattle.fb_words.specs.declared.elem_type.ElemType.{ElemType}
 use Rattle.fb_model.specs.Names.{Name, is_in}
 use Rattle.fb_model.proofs.Placed.{name_same}
-use Rattle.fb_model.specs.TypedText.{Term, constant, Command, set, set_part, choose, match_on, count, Commands, then_do, Choices, no_choice, choice, Cases, no_case, a_case}
+use Rattle.fb_model.specs.TypedText.{Term, constant, Command, set, set_part, choose, match_on, Commands, then_do, Choices, no_choice, choice, Cases, no_case, a_case}
 use Rattle.fb_model.specs.BlockTyping.{extent}
 use Rattle.fb_model.specs.Shapes.{written, written_choices, written_cases}
 use Rattle.st_exec.specs.Cells.{Form, shape_in, names_in}
@@ -88,9 +87,3 @@ module _ (forms : List Form) where
 
   pub selected_served : (e : Term) (k : ℤ) (cases : Cases) (other : Commands) → ServesOne forms (match_on e cases other) → ServesOne forms (match_on (constant k) cases other)
   selected_served e k cases other s = (s.0, s.1, (tt, s.2.1, s.2.2), s.3)
-
-  -- ---- a FOR
-
-  pub count_served : (x : Name) (a : ElemType) (e g : Term) (k : ℤ) (plain : Bool) (body : Commands) → ServesOne forms (count x a e g k plain body) → (is_in x (names_in forms) ≡ true) × (shape_in forms x ≡ None) × Serves forms body
-  count_served x a e g k plain body s =
-      (first_among x (written body) (names_in forms) s.3, plain_alike (s.0 x) (shape_in forms x) (s.1 x) s.2.0, (s.0, s.1, s.2.4, among_back (x ∷ []) (written body) (names_in forms) s.3))

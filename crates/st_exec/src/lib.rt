@@ -1,14 +1,5 @@
-//! Running Structured Text: typed algorithms and guards over the values of one block.
+//! Operations on numbers of a type, and what contracts see of the store over which an algorithm runs: its variables with their values (`specs/Cells`), and
+//! what is asked of an algorithm that runs over it (`specs/Runs`). Its lemmas are of runs in pieces and of numbers in a row.
 #![tactic(auto)]
 
 pub mod arithmetic;
-mod evaluate;
-mod execute;
-mod place;
-mod store;
-#[cfg(test)]
-mod tests;
-
-pub use evaluate::{eval, truth};
-pub use execute::exec;
-pub use store::Store;

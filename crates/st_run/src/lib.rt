@@ -5,6 +5,8 @@ mod evaluate;
 mod execute;
 mod row;
 mod store;
+#[cfg(test)]
+mod tests;
 mod turns;
 
 pub use evaluate::{eval, truth};
