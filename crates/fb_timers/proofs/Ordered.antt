@@ -8,19 +8,19 @@ use Rattle.fb_timers.specs.Order.{is_ahead, IsOrdered, AreApart, placed, without
 use Rattle.fb_timers.proofs.Ahead.{ahead_on, ahead_else, ahead_before, IsBefore}
 
 -- the block of another timer is another
-other_block : (a x : Armed) (l : List Armed) → due_of (a ∷ l) x.block ≡ None → (a.block == x.block) ≡ false
+pub other_block : (a x : Armed) (l : List Armed) → due_of (a ∷ l) x.block ≡ None → (a.block == x.block) ≡ false
 other_block a x l h = by (a.block == x.block) h where
   by : (b : Bool) → (if b then Some a.due else due_of l x.block) ≡ None → b ≡ false
   by true g = absurd (cc)
   by false g = refl
 
-other_rest : (a x : Armed) (l : List Armed) → due_of (a ∷ l) x.block ≡ None → due_of l x.block ≡ None
+pub other_rest : (a x : Armed) (l : List Armed) → due_of (a ∷ l) x.block ≡ None → due_of l x.block ≡ None
 other_rest a x l h = by (a.block == x.block) h where
   by : (b : Bool) → (if b then Some a.due else due_of l x.block) ≡ None → due_of l x.block ≡ None
   by true g = absurd (cc)
   by false g = g
 
-differ : (m n : ℕ) → (m == n) ≡ false → n ≢ m
+pub differ : (m n : ℕ) → (m == n) ≡ false → n ≢ m
 differ m n f e = by (eqb_tells m n) where
   by : (((m == n) ≡ true) × (m ≡ n)) ⊎ (((m == n) ≡ false) × (m ≢ n)) → ⊥
   by (inl p) = absurd (cc)

@@ -1,89 +1,78 @@
--- Where a timer has its place among others, and where the timer of a block stands, by index.
-use Rattle.std.proofs.Common.{◌≡◌, ℕ, suc, ◌+◌, ◌<◌, ◌≤◌, Bool, true, false, List, [], ◌∷◌, length, drop, drop-cons, Some, refl, sym, ap, ◌∙◌, arith, insert, remove}
+-- How many timers stand before one: a search by halving finds it, and there one is put in and taken out.
+use Rattle.std.proofs.Common.{◌≡◌, ℕ, zero, suc, ◌<◌, ◌≤◌, Bool, true, false, List, [], ◌∷◌, length, Some, None, refl, sym, ap, subst, ◌∙◌, ◌⊎◌, inl, inr, arith, insert, remove}
 use Rattle.std.specs.Prelude.{◌==◌, if◌then◌else◌, slice_index_or}
+use Rattle.std.specs.List.{AllByRecursion}
+use Rattle.std.specs.List.Sorted.{IsPartitionedBy, IsPartitionPoint}
 use Rattle.fb_timers.specs.declared.armed.Armed.{Armed}
-use Rattle.fb_timers.specs.Order.{is_ahead, placed, without, due_of}
+use Rattle.fb_timers.specs.Order.{is_ahead, IsOrdered, place, placed, without, due_of}
+use Rattle.fb_timers.proofs.Ahead.{IsBefore, ahead_tells, ahead_on, ahead_else}
+use Rattle.fb_timers.proofs.Ordered.{other_block, other_rest, differ}
+use Rattle.fb_timers.proofs.Told.{equal_tells, equal_is, same_timer, all_told, never_both}
 
-step : (l : List Armed) (i : ℕ) (d : Armed) → i < length l → drop i l ≡ slice_index_or l i d ∷ drop (i + 1) l
-step l i d h =
-    let n : suc i ≡ i + 1 = omega arith in
-    drop-cons l i d h ∙ ap (λ k. slice_index_or l i d ∷ drop k l) n
+-- ---- the search
 
--- how many stand before its place
-abbrev pub seat : Armed → List Armed → ℕ
-seat x [] = 0
-seat x (a ∷ as') = if is_ahead x a then 0 else suc (seat x as')
+-- what holds of all holds of the one of an index
+all_at : (P : Armed → Type 0) (l : List Armed) (j : ℕ) (d : Armed) → AllByRecursion P l → j < length l → P (slice_index_or l j d)
+all_at P [] j d all h = absurd (omega (arith, h))
+all_at P (a ∷ l) zero d all h = all.0
+all_at P (a ∷ l) (suc j) d all h = all_at P l j d all.1 (omega (arith, h))
 
-pub seat_within : (x : Armed) (l : List Armed) → seat x l ≤ length l
-seat_within x [] = omega arith
-seat_within x (a ∷ as') = by (is_ahead x a) (seat_within x as') where
-  by : (b : Bool) → seat x as' ≤ length as' → (if b then 0 else suc (seat x as')) ≤ suc (length as')
-  by true again = omega arith
-  by false again = omega (arith, again)
+-- those that stand before one come first
+pub parted : (x : Armed) (l : List Armed) → IsOrdered l → IsPartitionedBy (λ (y : Armed). is_ahead y x) l
+parted x [] o i j d le h t = absurd (omega (arith, h))
+parted x (a ∷ l) o zero zero d le h t = t
+parted x (a ∷ l) o zero (suc j) d le h t = ahead_on a (slice_index_or l j d) x (all_at (λ (b : Armed). is_ahead a b ≡ true) l j d o.0 (omega (arith, h))) t
+parted x (a ∷ l) o (suc i) zero d le h t = absurd (omega (arith, le))
+parted x (a ∷ l) o (suc i) (suc j) d le h t = parted x l o.1 i j d (omega (arith, le)) (omega (arith, h)) t
 
-pub seat_places : (x : Armed) (l : List Armed) → insert l (seat x l) x ≡ placed x l
-seat_places x [] = refl
-seat_places x (a ∷ as') = by (is_ahead x a) (seat_places x as') where
-  by : (b : Bool) → insert as' (seat x as') x ≡ placed x as' → insert (a ∷ as') (if b then 0 else suc (seat x as')) x ≡ (if b then x ∷ a ∷ as' else a ∷ placed x as')
-  by true again = refl
-  by false again = ap (λ l. a ∷ l) again
+-- so their number is where the others begin
+pub place_found : (x : Armed) (l : List Armed) (i : ℕ) → i ≤ length l → IsPartitionPoint (λ (y : Armed). is_ahead y x ≡ true) (λ (y : Armed). is_ahead y x ≡ false) l i → i ≡ place x l
+place_found x [] i h p = omega (arith, h)
+place_found x (a ∷ l) zero h p = sym (ap (λ b. if b then suc (place x l) else 0) (p.1 0 a (omega arith) (omega arith)))
+place_found x (a ∷ l) (suc i) h p =
+    ap suc (place_found x l i (omega (arith, h)) ((λ k d low high. p.0 (suc k) d (omega arith) (omega (arith, high))), (λ k d low high. p.1 (suc k) d (omega (arith, low)) (omega (arith, high)))))
+    ∙ sym (ap (λ b. if b then suc (place x l) else 0) (p.0 0 a (omega arith) (omega arith)))
 
--- one step of the search for it
-pub seat_step : (x : Armed) (l : List Armed) (i : ℕ) (e : Armed) → i < length l → is_ahead x (slice_index_or l i e) ≡ false → i + seat x (drop i l) ≡ i + 1 + seat x (drop (i + 1) l)
-seat_step x l i e h f =
-    let a = slice_index_or l i e in
-    let d : drop i l ≡ a ∷ drop (i + 1) l = step l i e h in
-    let s : seat x (a ∷ drop (i + 1) l) ≡ suc (seat x (drop (i + 1) l)) = ap (λ b. if b then 0 else suc (seat x (drop (i + 1) l))) f in
-    omega (arith, ap (seat x) d, s)
+-- ---- one is put in, and one is taken out
 
-pub seat_here : (x : Armed) (l : List Armed) (i : ℕ) (e : Armed) → i < length l → is_ahead x (slice_index_or l i e) ≡ true → seat x (drop i l) ≡ 0
-seat_here x l i e h t =
-    let a = slice_index_or l i e in
-    let d : drop i l ≡ a ∷ drop (i + 1) l = step l i e h in
-    ap (seat x) d ∙ ap (λ b. if b then 0 else suc (seat x (drop (i + 1) l))) t
+-- of two timers one alone comes before the other
+not_both : (a b : Armed) → is_ahead a b ≡ true → is_ahead b a ≡ false
+not_both a b t = by (ahead_tells a b) (ahead_tells b a) where
+  by : ((is_ahead a b ≡ true) × IsBefore a b) ⊎ ((is_ahead a b ≡ false) × (IsBefore a b → ⊥)) → ((is_ahead b a ≡ true) × IsBefore b a) ⊎ ((is_ahead b a ≡ false) × (IsBefore b a → ⊥)) → is_ahead b a ≡ false
+  by (inl p) (inl q) = absurd (never_both a b p.1 q.1)
+  by (inl p) (inr q) = q.0
+  by (inr p) q = absurd (cc)
 
--- ---- the timer of a block
+pub place_inserts : (x : Armed) (l : List Armed) → due_of l x.block ≡ None → insert l (place x l) x ≡ placed x l
+place_inserts x [] n = refl
+place_inserts x (a ∷ l) n = by (is_ahead a x) refl (place_inserts x l (other_rest a x l n)) where
+  by : (b : Bool) → is_ahead a x ≡ b → insert l (place x l) x ≡ placed x l → insert (a ∷ l) (if b then suc (place x l) else 0) x ≡ (if is_ahead x a then x ∷ a ∷ l else a ∷ placed x l)
+  by true t again = ap (λ m. a ∷ m) again ∙ sym (ap (λ c. if c then x ∷ a ∷ l else a ∷ placed x l) (not_both a x t))
+  by false f again = sym (ap (λ c. if c then x ∷ a ∷ l else a ∷ placed x l) (ahead_else a x f (λ e. differ a.block x.block (other_block a x l n) (sym e))))
 
--- how many stand before it
-abbrev pub spot : ℕ → List Armed → ℕ
-spot k [] = 0
-spot k (a ∷ as') = if a.block == k then 0 else suc (spot k as')
+-- none comes before itself
+not_self : (a x : Armed) → a ≡ x → is_ahead a x ≡ false
+not_self a x e = by (is_ahead a x) refl where
+  by : (b : Bool) → is_ahead a x ≡ b → is_ahead a x ≡ false
+  by true t =
+      let s : is_ahead x x ≡ true = subst (λ (y : Armed). is_ahead y x ≡ true) e t in
+      let f : is_ahead x x ≡ false = not_both x x s in
+      absurd (cc)
+  by false f = f
 
-pub spot_removes : (k : ℕ) (l : List Armed) → spot k l < length l → remove l (spot k l) ≡ without l k
-spot_removes k [] h = absurd (omega (arith, h))
-spot_removes k (a ∷ as') h = by (a.block == k) h (spot_removes k as') where
-  by : (b : Bool) → (if b then 0 else suc (spot k as')) < suc (length as') → (spot k as' < length as' → remove as' (spot k as') ≡ without as' k) → remove (a ∷ as') (if b then 0 else suc (spot k as')) ≡ (if b then as' else a ∷ without as' k)
-  by true l again = refl
-  by false l again = ap (λ r. a ∷ r) (again (omega (arith, l)))
-
-pub spot_none : (k : ℕ) (l : List Armed) → length l ≤ spot k l → without l k ≡ l
-spot_none k [] h = refl
-spot_none k (a ∷ as') h = by (a.block == k) h (spot_none k as') where
-  by : (b : Bool) → suc (length as') ≤ (if b then 0 else suc (spot k as')) → (length as' ≤ spot k as' → without as' k ≡ as') → (if b then as' else a ∷ without as' k) ≡ a ∷ as'
-  by true l again = absurd (omega (arith, l))
-  by false l again = ap (λ r. a ∷ r) (again (omega (arith, l)))
-
-pub spot_step : (k : ℕ) (l : List Armed) (i : ℕ) (e : Armed) → i < length l → ((slice_index_or l i e).block == k) ≡ false → i + spot k (drop i l) ≡ i + 1 + spot k (drop (i + 1) l)
-spot_step k l i e h f =
-    let a = slice_index_or l i e in
-    let d : drop i l ≡ a ∷ drop (i + 1) l = step l i e h in
-    let s : spot k (a ∷ drop (i + 1) l) ≡ suc (spot k (drop (i + 1) l)) = ap (λ b. if b then 0 else suc (spot k (drop (i + 1) l))) f in
-    omega (arith, ap (spot k) d, s)
-
-pub spot_here : (k : ℕ) (l : List Armed) (i : ℕ) (e : Armed) → i < length l → ((slice_index_or l i e).block == k) ≡ true → spot k (drop i l) ≡ 0
-spot_here k l i e h t =
-    let a = slice_index_or l i e in
-    let d : drop i l ≡ a ∷ drop (i + 1) l = step l i e h in
-    ap (spot k) d ∙ ap (λ b. if b then 0 else suc (spot k (drop (i + 1) l))) t
-
-pub due_step : (k : ℕ) (l : List Armed) (i : ℕ) (e : Armed) → i < length l → ((slice_index_or l i e).block == k) ≡ false → due_of (drop (i + 1) l) k ≡ due_of (drop i l) k
-due_step k l i e h f =
-    let a = slice_index_or l i e in
-    let d : drop i l ≡ a ∷ drop (i + 1) l = step l i e h in
-    sym (ap (λ m. due_of m k) d ∙ ap (λ b. if b then Some (slice_index_or l i e).due else due_of (drop (i + 1) l) k) f)
-
-pub due_here : (k : ℕ) (l : List Armed) (i : ℕ) (e : Armed) → i < length l → ((slice_index_or l i e).block == k) ≡ true → due_of (drop i l) k ≡ Some (slice_index_or l i e).due
-due_here k l i e h t =
-    let a = slice_index_or l i e in
-    let d : drop i l ≡ a ∷ drop (i + 1) l = step l i e h in
-    ap (λ m. due_of m k) d ∙ ap (λ b. if b then Some (slice_index_or l i e).due else due_of (drop (i + 1) l) k) t
+pub place_removes : (x : Armed) (l : List Armed) → IsOrdered l → due_of l x.block ≡ Some x.due → (place x l < length l) × (remove l (place x l) ≡ without l x.block)
+place_removes x [] o h = absurd (cc)
+place_removes x (a ∷ l) o h = by (equal_tells a.block x.block) (λ g. place_removes x l o.1 g) where
+  by : ((a.block == x.block) ≡ true) ⊎ ((a.block == x.block) ≡ false) → (due_of l x.block ≡ Some x.due → (place x l < length l) × (remove l (place x l) ≡ without l x.block))
+      → (place x (a ∷ l) < suc (length l)) × (remove (a ∷ l) (place x (a ∷ l)) ≡ without (a ∷ l) x.block)
+  by (inl t) again =
+      let s : Some a.due ≡ Some x.due = sym (ap (λ b. if b then Some a.due else due_of l x.block) t) ∙ h in
+      let e : a.due ≡ x.due = cc in
+      let here : place x (a ∷ l) ≡ 0 = ap (λ b. if b then suc (place x l) else 0) (not_self a x (same_timer a x e (equal_is a.block x.block t))) in
+      (omega (arith, here), ap (λ i. remove (a ∷ l) i) here ∙ sym (ap (λ b. if b then l else a ∷ without l x.block) t))
+  by (inr f) again =
+      let g : due_of l x.block ≡ Some x.due = sym (ap (λ b. if b then Some a.due else due_of l x.block) f) ∙ h in
+      let t : is_ahead a x ≡ true = all_told (λ (b : Armed). is_ahead a b ≡ true) l x.block x.due o.0 g in
+      let past : place x (a ∷ l) ≡ suc (place x l) = ap (λ b. if b then suc (place x l) else 0) t in
+      let rest = again g in
+      (omega (arith, past, rest.0), ap (λ i. remove (a ∷ l) i) past ∙ ap (λ m. a ∷ m) rest.1 ∙ sym (ap (λ b. if b then l else a ∷ without l x.block) f))

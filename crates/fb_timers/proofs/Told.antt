@@ -63,7 +63,7 @@ due_cleared (a ∷ l) k j p = by (eqb_tells a.block k) (due_cleared l k j p.1) w
 -- ---- timers that tell the same
 
 -- a timer is its moment and its block
-same_timer : (a b : Armed) → a.due ≡ b.due → a.block ≡ b.block → a ≡ b
+pub same_timer : (a b : Armed) → a.due ≡ b.due → a.block ≡ b.block → a ≡ b
 same_timer a b d k = subst (λ m. a ≡ record { due = m; block = b.block }) d (subst (λ n. a ≡ record { due = a.due; block = n }) k refl)
 
 -- what holds of all holds of the timer of a block
@@ -100,7 +100,7 @@ first_or a b m o h = by (equal_tells b.block a.block) where
   by (inr f) = inr (ahead_before b a (all_told (λ (c : Armed). is_ahead b c ≡ true) m a.block a.due o.0 (sym (told_rest b m a.block f) ∙ h)))
 
 -- of two timers one alone comes before the other
-never_both : (a b : Armed) → IsBefore a b → IsBefore b a → ⊥
+pub never_both : (a b : Armed) → IsBefore a b → IsBefore b a → ⊥
 never_both a b (inl p) (inl q) = omega (arith, p, q)
 never_both a b (inl p) (inr q) = omega (arith, p, q.0)
 never_both a b (inr p) (inl q) = omega (arith, p.0, q)

@@ -1,6 +1,6 @@
 -- Armed timers in the order in which they expire: by due moment, then in the order of their blocks, which is that of resources first.
 -- This project's profile of IEC 61499-1 edition 2, annex A (E_DELAY and E_CYCLE).
-use Rattle.std.specs.Prelude.{ℕ, ◌≡◌, ◌==◌, nat_lt, nat_le, Bool, true, ◌&&◌, ◌||◌, List, [], ◌∷◌, Option, None, Some, if◌then◌else◌}
+use Rattle.std.specs.Prelude.{ℕ, suc, ◌≡◌, ◌==◌, nat_lt, nat_le, Bool, true, ◌&&◌, ◌||◌, List, [], ◌∷◌, Option, None, Some, if◌then◌else◌, slice_index_or}
 use Rattle.std.specs.List.{AllByRecursion}
 use Rattle.fb_timers.specs.declared.armed.Armed.{Armed}
 
@@ -23,6 +23,11 @@ abbrev pub AreApart : List Armed → Type 0
 AreApart [] = Unit {0}
 AreApart (a ∷ as') = (due_of as' a.block ≡ None) × AreApart as'
 
+-- how many timers of an order stand before one
+abbrev pub place : Armed → List Armed → ℕ
+place x [] = 0
+place x (a ∷ as') = if is_ahead a x then suc (place x as') else 0
+
 -- a timer in its place among others
 abbrev pub placed : Armed → List Armed → List Armed
 placed x [] = x ∷ []
@@ -43,7 +48,11 @@ abbrev pub if_due : ℕ → Option Armed → Option Armed
 if_due clock None = None
 if_due clock (Some a) = if nat_le a.due clock then Some a else None
 
--- what contracts see of timers, with room for so many
+-- under the number of each block stands the moment at which its timer is due, and behind these no block has one
+abbrev pub AreTold : List (Option ℕ) → List Armed → Type 0
+AreTold moments armed = (k : ℕ) → slice_index_or moments k None ≡ due_of armed k
+
+-- what contracts see of timers, with room for those of so many blocks
 pub record Timing : Type 0 where
   pub armed : List Armed
   pub room : ℕ

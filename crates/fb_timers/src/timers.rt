@@ -1,53 +1,56 @@
 //! All timers of a device that are armed.
 
-ghost use Rattle.std.specs.Prelude.{◌≡◌, ◌≤◌, ◌<◌, [], length, insert, remove, slice_get, Option, None, IfOk, MatchOption};
-ghost use Rattle.fb_timers.specs.Order.{placed, without, due_of, due_at, if_due, IsOrdered, AreApart};
+ghost use Rattle.std.specs.Prelude.{ℕ, ◌≡◌, ◌≤◌, ◌<◌, [], length, slice_get, slice_set, slice_index_or, Option, None, Some, IfOk};
+ghost use Rattle.fb_timers.specs.Order.{place, placed, without, due_of, due_at, if_due, IsOrdered, AreApart};
 
 use crate::armed::Armed;
 use std::alloc::{AllocError, Global};
 use std::marker::Model;
 
 /// The timers of a device that are armed, in the order in which they expire: by due moment, and of those due at one moment in the order of their blocks.
-/// Each block has one at most. Only `new` takes memory.
+/// Each block has one at most, and the moment at which it is due stands under the number of its block as well. Only `new` takes memory.
 #[derive(Drop)]
 pub struct Timers {
     armed: Vec<Armed>,
+    moments: Vec<Option<u64>>,
 }
 
 impl Model for Timers {
-    ghost use Rattle.fb_timers.specs.Order.{Timing, IsOrdered, AreApart};
-    ghost use Rattle.std.specs.Prelude.{vec_capacity};
+    ghost use Rattle.fb_timers.specs.Order.{Timing, IsOrdered, AreApart, AreTold};
+    ghost use Rattle.std.specs.Prelude.{◌≤◌, length, vec_capacity};
 
     ghost Value = { Timing };
 
-    ghost view = { λ t. record { armed = t.armed.items; room = vec_capacity t.armed } };
+    ghost view = { λ t. record { armed = t.armed.items; room = length t.moments.items } };
 
-    ghost invariant = { λ t. IsOrdered t.armed.items × AreApart t.armed.items };
+    ghost invariant = { λ t. IsOrdered t.armed.items × AreApart t.armed.items × AreTold t.moments.items t.armed.items × (length t.moments.items ≤ vec_capacity t.armed) };
 }
 
-// Where a timer has its place among others.
+// How many timers stand before one.
 fn place_of(armed: &[Armed], one: &Armed) -> usize
-    ensures place { insert armed.now result one.now ≡ placed one.now armed.now }
+    requires { IsOrdered armed.now }
+    ensures place { result ≡ place one.now armed.now }
     ensures within { result ≤ length armed.now }
 {
-    for at in 0..armed.len() {
-        if one.is_ahead(&armed[at]) {
-            return at;
-        }
-    }
-    armed.len()
+    armed.partition_point(|other| other.is_ahead(one))
 }
 
-// Where the timer of a block stands.
-fn found_at(armed: &[Armed], block: u16) -> Option<usize>
-    ensures { MatchOption result (without armed.now block ≡ armed.now) (λ at. (at < length armed.now) × (remove armed.now at ≡ without armed.now block)) }
+// What is told of a block; none where nothing is.
+fn told_of(moments: &[Option<u64>], block: u16) -> Option<u64>
+    ensures { result ≡ slice_index_or moments.now block None }
 {
-    for at in 0..armed.len() {
-        if armed[at].block == block {
-            return Some(at);
-        }
+    if usize::from(block) < moments.len() {
+        return moments[usize::from(block)];
     }
     None
+}
+
+// Tells of a block when its timer is due, or that it is not armed.
+fn tell(moments: &mut [Option<u64>], block: u16, moment: Option<u64>)
+    requires { block < length moments.old }
+    ensures { moments.new ≡ slice_set moments.old block moment }
+{
+    moments[usize::from(block)] = moment;
 }
 
 // The timer of an index, where it is due at a moment.
@@ -61,19 +64,21 @@ fn due_in(armed: &[Armed], clock: u64, index: usize) -> Option<Armed>
 }
 
 impl Timers {
-    /// No timers, and room for so many.
+    /// No timers, and room for one of each of so many blocks.
     pub fn new(alloc: Global, count: usize) -> Result<Timers, AllocError>
         ensures empty { IfOk result (λ timers. timers.armed ≡ []) }
-        ensures room { IfOk result (λ timers. count ≤ timers.room) }
+        ensures room { IfOk result (λ timers. timers.room ≡ count) }
     {
-        Ok(Timers {
-            armed: Vec::with_capacity(alloc, count)?,
-        })
+        let armed = Vec::with_capacity(alloc, count)?;
+        let mut moments = Vec::new(alloc);
+        moments.resize(count, None)?;
+        Ok(Timers { armed, moments })
     }
 
-    /// The timers stand in the order in which they expire, and each block has one at most.
+    /// The timers stand in the order in which they expire, each block has one at most, and there is room for that of each block that has one.
     pub fn keeps_order(&self)
-        ensures { IsOrdered self.now.armed × AreApart self.now.armed }
+        ensures order { IsOrdered self.now.armed × AreApart self.now.armed }
+        ensures within { (k due : ℕ) → due_of self.now.armed k ≡ Some due → k < self.now.room }
     {
         let _ = &self.armed;
     }
@@ -81,9 +86,9 @@ impl Timers {
     /// Arms the timer of a block for a moment.
     pub fn arm(&mut self, block: u16, due: u64)
         requires quiet { due_of self.old.armed block ≡ None }
-        requires room { length self.old.armed < self.old.room }
+        requires known { block < self.old.room }
         ensures armed { self.new.armed ≡ placed (record { due = due; block = block }) self.old.armed }
-        ensures room { self.old.room ≤ self.new.room }
+        ensures room { self.new.room ≡ self.old.room }
     {
         let one = Armed { due, block };
         let at = place_of(&self.armed, &one);
@@ -91,15 +96,18 @@ impl Timers {
             Ok(()) => {}
             Err(_) => unreachable!(),
         }
+        tell(&mut self.moments, block, Some(due));
     }
 
     /// Disarms the timer of a block, if it is armed.
     pub fn disarm(&mut self, block: u16)
         ensures armed { self.new.armed ≡ without self.old.armed block }
-        ensures room { self.old.room ≤ self.new.room }
+        ensures room { self.new.room ≡ self.old.room }
     {
-        if let Some(at) = found_at(&self.armed, block) {
+        if let Some(due) = told_of(&self.moments, block) {
+            let at = place_of(&self.armed, &Armed { due, block });
             let _ = self.armed.remove(at);
+            tell(&mut self.moments, block, None);
         }
     }
 
@@ -107,12 +115,7 @@ impl Timers {
     pub fn due(&self, block: u16) -> Option<u64>
         ensures { result ≡ due_of self.now.armed block }
     {
-        for one in &self.armed {
-            if one.block == block {
-                return Some(one.due);
-            }
-        }
-        None
+        told_of(&self.moments, block)
     }
 
     /// Of the timers that are due at a moment, in the order in which they expire, the one of an index.

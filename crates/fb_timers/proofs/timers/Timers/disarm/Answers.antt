@@ -1,12 +1,55 @@
-use Rattle.std.proofs.Common.{◌≡◌, List, remove, sym, subst, ◌∙◌}
+use Rattle.std.proofs.Common.{ℕ, ◌≡◌, ◌<◌, List, Option, Some, None, length, remove, set, sym, ap, subst, ◌∙◌, arith}
+use Rattle.std.proofs.lemmas.List.{length-set, with_items_is}
+use Rattle.std.specs.Vec.{with_items}
 use Rattle.fb_timers.specs.declared.armed.Armed.{Armed}
-use Rattle.fb_timers.specs.Order.{IsOrdered, AreApart, without}
+use Rattle.fb_timers.specs.Order.{IsOrdered, AreApart, AreTold, place, without, due_of}
 use Rattle.fb_timers.proofs.Ordered.{ordered_without, apart_without}
+use Rattle.fb_timers.proofs.Seats.{place_removes}
+use Rattle.fb_timers.proofs.Moments.{told_is, told_without, told_within, none_without}
 use Rattle.fb_timers.proofs.timers.Timers.disarm.Goals as goal
+
+pub remove-requires : goal.remove-requires
+remove-requires c =
+    let x : Armed = record { due = c.in-Some.due; block = c.args.block } in
+    let old = c.self.inside.armed.items in
+    let due : due_of old c.args.block ≡ Some c.in-Some.due = told_is c.self.inside.moments.items c.deref.result.now c.self.inside.armed.items c.args.block (Some c.in-Some.due) c.self.invariant.2 c.deref.ensures.value c.in-Some.ensures in
+    let at : c.place_of-at.result ≡ place x old = c.place_of-at.ensures.place ∙ ap (place x) c.deref-in-Some.ensures.value in
+    omega (arith, at, (place_removes x old c.self.invariant.0 due).0, ap length c.deref-in-Some.ensures.value, c.deref-in-Some.ensures.len)
+
+pub tell-requires : goal.tell-requires
+tell-requires c =
+    let due : due_of c.self.inside.armed.items c.args.block ≡ Some c.in-Some.due = told_is c.self.inside.moments.items c.deref.result.now c.self.inside.armed.items c.args.block (Some c.in-Some.due) c.self.invariant.2 c.deref.ensures.value c.in-Some.ensures in
+    omega (arith, told_within c.self.inside.moments.items c.self.inside.armed.items c.args.block c.in-Some.due c.self.invariant.2 due, ap length c.deref_mut.ensures.value)
 
 pub invariant_of-self : goal.invariant_of-self
 invariant_of-self c =
+    let x : Armed = record { due = c.in-Some.due; block = c.args.block } in
     let old = c.self.inside.armed.items in
-    let found : remove old c.in-Some.at ≡ without old c.args.block = subst (λ (l : List Armed). remove l c.in-Some.at ≡ without l c.args.block) c.deref.ensures.value c.in-Some.ensures.1 in
-    let is : c.remove.new.self.items ≡ without old c.args.block = c.remove.ensures.items ∙ found in
-    subst (λ (l : List Armed). IsOrdered l × AreApart l) (sym is) (ordered_without old c.args.block c.self.invariant.0, apart_without old c.args.block c.self.invariant.1)
+    let moments = c.self.inside.moments.items in
+    let due : due_of old c.args.block ≡ Some c.in-Some.due = told_is c.self.inside.moments.items c.deref.result.now c.self.inside.armed.items c.args.block (Some c.in-Some.due) c.self.invariant.2 c.deref.ensures.value c.in-Some.ensures in
+    let at : c.place_of-at.result ≡ place x old = c.place_of-at.ensures.place ∙ ap (place x) c.deref-in-Some.ensures.value in
+    let is : c.remove.new.self.items ≡ without old c.args.block = c.remove.ensures.items ∙ ap (remove old) at ∙ (place_removes x old c.self.invariant.0 due).1 in
+    let new : c.tell.new.moments ≡ set moments c.args.block None = c.tell.ensures ∙ ap (λ (ms : List (Option ℕ)). set ms c.args.block None) c.deref_mut.ensures.value in
+    let long : length c.tell.new.moments ≡ length moments = ap length new ∙ length-set moments c.args.block None in
+    let back : (with_items c.self.inside.moments c.tell.new.moments).items ≡ c.tell.new.moments =
+    with_items_is c.self.inside.moments c.tell.new.moments (omega (arith, long, ap length c.deref_mut.ensures.value, c.deref_mut.ensures.len)) in
+    let known : c.args.block < length moments = told_within moments old c.args.block c.in-Some.due c.self.invariant.2 due in
+    let told : AreTold (set moments c.args.block None) (without old c.args.block) = told_without moments c.args.block old c.self.invariant.2 c.self.invariant.1 known in (
+      subst IsOrdered (sym is) (ordered_without old c.args.block c.self.invariant.0),
+      subst AreApart (sym is) (apart_without old c.args.block c.self.invariant.1),
+      subst (λ (ms : List (Option ℕ)). AreTold ms c.remove.new.self.items) (sym (back ∙ new)) (subst (AreTold (set moments c.args.block None)) (sym is) told),
+      omega (arith, ap length back, long, c.self.invariant.3, c.remove.ensures.capacity),
+    )
+
+pub returns-in-Some-clause-armed : goal.returns-in-Some-clause-armed
+returns-in-Some-clause-armed c =
+    let x : Armed = record { due = c.in-Some.due; block = c.args.block } in
+    let old = c.self.inside.armed.items in
+    let due : due_of old c.args.block ≡ Some c.in-Some.due = told_is c.self.inside.moments.items c.deref.result.now c.self.inside.armed.items c.args.block (Some c.in-Some.due) c.self.invariant.2 c.deref.ensures.value c.in-Some.ensures in
+    let at : c.place_of-at.result ≡ place x old = c.place_of-at.ensures.place ∙ ap (place x) c.deref-in-Some.ensures.value in
+    c.remove.ensures.items ∙ ap (remove old) at ∙ (place_removes x old c.self.invariant.0 due).1 ∙ ap (λ t. without t.armed c.args.block) c.self.view_is
+
+pub returns-in_default-clause-armed : goal.returns-in_default-clause-armed
+returns-in_default-clause-armed c =
+    let none : due_of c.self.inside.armed.items c.args.block ≡ None = told_is c.self.inside.moments.items c.deref.result.now c.self.inside.armed.items c.args.block None c.self.invariant.2 c.deref.ensures.value c.in_default.ensures in
+    sym (none_without c.args.self.now.armed c.args.block (sym (ap (λ t. due_of t.armed c.args.block) c.self.view_is) ∙ none))
