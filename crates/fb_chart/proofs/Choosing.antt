@@ -117,18 +117,18 @@ module _ (forms : List Form) (c : Chart) (is : IsChart forms (events_in c) (outp
   left_first = choice_leaving (block_in c).transitions (named (states_in c) n) (option_map (named (events_in c)) w) values
 
   -- there is no state
-  pub stays : IsClosedBlock (block_in c) → IsStateNumber n (block_in c) → length c.states.items ≤ n → whole ≡ Stay
+  pub stays : IsClosedBlock (block_in c) → IsStateNumber n (block_in c) → length c.code.value.states.items ≤ n → whole ≡ Stay
   stays closed state_in h =
-      let none : length (block_in c).states ≡ 0 = few (length (block_in c).states) state_in (omega (arith, h, each_length (IsState forms (events_in c) (outputs_in c) (block_in c)) (block_in c).states c.states.items is.states)) in
+      let none : length (block_in c).states ≡ 0 = few (length (block_in c).states) state_in (omega (arith, h, each_length (IsState forms (events_in c) (outputs_in c) (block_in c)) (block_in c).states c.code.value.states.items is.states)) in
       ap (choice_in forms (states_in c) (events_in c) (named (states_in c) n) w values apart_events event_in) (no_transitions (block_in c).states (block_in c).transitions none closed.sources)
     where
       few : (k : ℕ) → (0 < k → n < k) → k ≤ n → k ≡ 0
       few zero f g = refl
       few (suc k) f g = absurd (omega (arith, f (omega arith), g))
 
-  module _ (x : State) (x_at : slice_get c.states.items n ≡ Some x) where
+  module _ (x : State) (x_at : slice_get c.code.value.states.items n ≡ Some x) where
     it : Both (IsState forms (events_in c) (outputs_in c) (block_in c)) (block_in c).states n x
-    it = each_at (IsState forms (events_in c) (outputs_in c) (block_in c)) (block_in c).states c.states.items n x is.states x_at
+    it = each_at (IsState forms (events_in c) (outputs_in c) (block_in c)) (block_in c).states c.code.value.states.items n x is.states x_at
 
     its_name : it.x.name ≡ named (states_in c) n
     its_name = sym (named_is (states_in c) n it.x.name (names_at (block_in c).states n it.x it.at))

@@ -48,10 +48,10 @@ module _ (c : Chart) (outs : List Output) (own0 issued0 : List Cell) (ready : Is
   abbrev pub Come : List Cell → List Cell → List book.Action → ℕ → Points → Type 0
   Come own issued left steps sent = HasCome (block_in c) outs (entered c state (cells_of own0 issued0) before) s (cells_of own issued) (Acting left) steps old sent
 
-  pub first_actions : (x : State) (items : List Action) → slice_get c.states.items state ≡ Some x → items ≡ x.actions.items → Each (IsAction (block_in c) (outputs_in c)) (actions_of (block_in c).states s) items
+  pub first_actions : (x : State) (items : List Action) → slice_get c.code.value.states.items state ≡ Some x → items ≡ x.actions.items → Each (IsAction (block_in c) (outputs_in c)) (actions_of (block_in c).states s) items
   first_actions x items at e =
       subst (Each (IsAction (block_in c) (outputs_in c)) (actions_of (block_in c).states s)) (sym e)
-      (actions_stand (forms_of own0) (events_in c) (outputs_in c) (block_in c) (block_in c).states c.states.items state x (apart (states_in c) ready.chart.apart) ready.chart.states at)
+      (actions_stand (forms_of own0) (events_in c) (outputs_in c) (block_in c) (block_in c).states c.code.value.states.items state x (apart (states_in c) ready.chart.apart) ready.chart.states at)
 
   -- at an action
   module _ (own issued : List Cell) (left : List book.Action) (steps : ℕ) (sent : Points) (come : Come own issued left steps sent) (own_forms : forms_of own ≡ forms_of own0) (issued_forms : forms_of issued ≡ forms_of issued0)
@@ -62,18 +62,18 @@ module _ (c : Chart) (outs : List Output) (own0 issued0 : List Cell) (ready : Is
     run : Reaches (block_in c) (entered c state (cells_of own0 issued0) before) (At s (cells_of own issued) (Acting (it.x ∷ it.left)) steps come.outs)
     run = subst (λ (l : List book.Action). Reaches (block_in c) (entered c state (cells_of own0 issued0) before) (At s (cells_of own issued) (Acting l) steps come.outs)) it.is come.run
 
-    algorithm : algorithm_of (block_in c) it.x.algorithm ≡ numbered c.procedures.items x.algorithm
-    algorithm = algorithm_is (forms_of own0) (block_in c) c.procedures.items it.x.algorithm x.algorithm ready.chart.procedures it.so.algorithm
+    algorithm : algorithm_of (block_in c) it.x.algorithm ≡ numbered c.code.value.procedures.items x.algorithm
+    algorithm = algorithm_is (forms_of own0) (block_in c) c.code.value.procedures.items it.x.algorithm x.algorithm ready.chart.procedures it.so.algorithm
 
-    pub within_now : IfSome x.algorithm (λ n. n < length c.procedures.items)
-    within_now = algorithm_in (forms_of own0) (block_in c) c.procedures.items it.x.algorithm x.algorithm ready.chart.procedures it.so.algorithm
+    pub within_now : IfSome x.algorithm (λ n. n < length c.code.value.procedures.items)
+    within_now = algorithm_in (forms_of own0) (block_in c) c.code.value.procedures.items it.x.algorithm x.algorithm ready.chart.procedures it.so.algorithm
 
-    pub works_now : AllByRecursion (CanWork (forms_of own)) c.procedures.items
+    pub works_now : AllByRecursion (CanWork (forms_of own)) c.code.value.procedures.items
     works_now =
-        subst (λ (fs : List Form). AllByRecursion (CanWork fs) c.procedures.items) (sym own_forms)
-        (all_work (forms_of own0) (block_in c).procedures c.procedures.items ready.chart.procedures (algorithms_serve (block_in c) (forms_of own0) (forms_of issued0) ready.shaped ready.stores))
+        subst (λ (fs : List Form). AllByRecursion (CanWork fs) c.code.value.procedures.items) (sym own_forms)
+        (all_work (forms_of own0) (block_in c).procedures c.code.value.procedures.items ready.chart.procedures (algorithms_serve (block_in c) (forms_of own0) (forms_of issued0) ready.shaped ready.stores))
 
-    pub small_now : IsWithin (10 ^ 12) (work (numbered c.procedures.items x.algorithm) (values_of own))
+    pub small_now : IsWithin (10 ^ 12) (work (numbered c.code.value.procedures.items x.algorithm) (values_of own))
     small_now =
         subst (λ (a : Option Algorithm). IsWithin (10 ^ 12) (work a (values_of own))) algorithm
         (small (block_in c) outs most room (entered c state (cells_of own0 issued0) before) fine s (cells_of own issued) it.x it.left steps come.outs run few)
@@ -85,7 +85,7 @@ module _ (c : Chart) (outs : List Output) (own0 issued0 : List Cell) (ready : Is
     output_now = output_in outs it.x.output x.output optional
 
     -- after its algorithm was run
-    module _ (own' : List Cell) (m : ℕ) (done : work (numbered c.procedures.items x.algorithm) (values_of own) ≡ Done (values_of own') m) where
+    module _ (own' : List Cell) (m : ℕ) (done : work (numbered c.code.value.procedures.items x.algorithm) (values_of own) ≡ Done (values_of own') m) where
       ran : work (algorithm_of (block_in c) it.x.algorithm) (values_of own) ≡ Done (values_of own') m
       ran = ap (λ (a : Option Algorithm). work a (values_of own)) algorithm ∙ done
 

@@ -19,6 +19,7 @@ use Rattle.st_exec.specs.Cells.{Form}
 use Rattle.fb_chart.specs.declared.table.Action.{Action}
 use Rattle.fb_chart.specs.declared.table.State.{State}
 use Rattle.fb_chart.specs.declared.table.Transition.{Transition}
+use Rattle.fb_chart.specs.declared.table.ChartCode.{ChartCode}
 use Rattle.fb_chart.specs.declared.table.Chart.{Chart}
 use Rattle.fb_chart.specs.declared.table.Event.{Event}
 use Rattle.fb_chart.specs.declared.table.Output.{Output}
@@ -75,12 +76,16 @@ pub record IsState (forms : List Form) (events outputs : List Name) (block : boo
   pub actions : Each (IsAction block outputs) s.actions x.actions.items
   pub transitions : Each (IsTransition forms (names block.states) events) (leaving s.name block.transitions) x.transitions.items
 
--- a chart by numbers and slots is that of this block; the names of its states are few, and all different
-pub record IsChart (forms : List Form) (events outputs : List Name) (block : book.Block) (c : Chart) : Type 0 where
+-- what runs of a chart, by numbers and slots, is that of this block; the names of its states are few, and all different
+pub record IsCode (forms : List Form) (events outputs : List Name) (block : book.Block) (x : ChartCode) : Type 0 where
   pub few : length (names block.states) ≤ 65535
   pub apart : AreDistinct (names block.states)
-  pub states : Each (IsState forms events outputs block) block.states c.states.items
-  pub procedures : Each (IsProcedure forms) block.procedures c.procedures.items
+  pub states : Each (IsState forms events outputs block) block.states x.states.items
+  pub procedures : Each (IsProcedure forms) block.procedures x.procedures.items
+
+-- the same of a chart
+abbrev pub IsChart : List Form → List Name → List Name → book.Block → Chart → Type 0
+IsChart forms events outputs block c = IsCode forms events outputs block c.code.value
 
 -- the most values of one event
 abbrev pub most_values : ℕ

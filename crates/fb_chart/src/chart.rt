@@ -56,7 +56,7 @@ fn next_state(chart: &Chart, state: u16, event: Option<u16>, own: &Store) -> Opt
     ensures chosen { choice (block_in chart.now).transitions (named (states_in chart.now) state) (option_map (named (events_in chart.now)) event) (values_of own.now) ≡ chosen (states_in chart.now) result }
     ensures within { IfSome result (λ u. u < length (states_in chart.now)) }
 {
-    let Some(current) = chart.states.get(state as usize) else {
+    let Some(current) = chart.code.states.get(state as usize) else {
         return None;
     };
     for transition in &current.transitions {
@@ -103,8 +103,8 @@ fn act<E: Emit>(
     ensures same_reference { E.reference emit.new ≡ E.reference emit.old }
 {
     let mut steps = before;
-    for action in &chart.states[state as usize].actions {
-        steps += work(&chart.procedures, action.algorithm, own);
+    for action in &chart.code.states[state as usize].actions {
+        steps += work(&chart.code.procedures, action.algorithm, own);
         send(outputs, action.output, own, issued, emit);
     }
     steps

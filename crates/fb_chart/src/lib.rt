@@ -13,6 +13,6 @@ pub use emit::{Emit, send};
 pub use sampling::sample;
 pub use st_run::Store;
 pub use table::{
-    Action, Block, Body, Chart, Event, Give, MOST_VALUES, Output, Point, Source, State, Take,
-    Transition, Values,
+    Action, Block, Body, Chart, ChartCode, Event, Give, MOST_VALUES, Output, Point, Source, State,
+    Take, Transition, Values,
 };

@@ -87,12 +87,19 @@ pub struct State {
     pub transitions: Vec<Transition>,
 }
 
-/// An execution control chart: IEC 61499-1 edition 2, 5.2.1.2. State 0 is the initial one. Algorithms are in the order of the block type's.
+/// What runs of a chart: its states, of which the first is the initial one, and its algorithms in the order of the block type's. Instances of one
+/// block type share it.
+#[derive(Drop)]
+pub struct ChartCode {
+    pub states: Vec<State>,
+    pub procedures: Vec<Procedure>,
+}
+
+/// An execution control chart: IEC 61499-1 edition 2, 5.2.1.2.
 #[derive(Drop)]
 pub struct Chart {
     pub block: Rc<BlockType>,
-    pub states: Vec<State>,
-    pub procedures: Vec<Procedure>,
+    pub code: Rc<ChartCode>,
 }
 
 /// What a block is made of.

@@ -11,8 +11,10 @@ ghost use Rattle.fb_first.specs.Filling.{AreFilled, leaves_in};
 use crate::leaf::{issued_values, own_values};
 use fb_check::Verified;
 use fb_check::fb_columns::fb_flat::{FlatResource, Leaf};
+use st_code::Layout;
 use st_run::Store;
 use std::alloc::{AllocError, Global};
+use std::rc::Rc;
 
 /// The first values of all blocks of a device, by their numbers: working values of all variables, and issued values of outputs.
 #[derive(Drop)]
@@ -22,12 +24,17 @@ pub struct FirstValues {
 }
 
 // Adds the values of leaves at the end.
-fn add_leaves(alloc: Global, values: &mut FirstValues, leaves: &[Leaf]) -> Result<(), AllocError>
+fn add_leaves(
+    alloc: Global,
+    known: &mut Vec<Rc<Layout>>,
+    values: &mut FirstValues,
+    leaves: &[Leaf],
+) -> Result<(), AllocError>
     ensures { OnOk result ((before : List flat.Leaf) → AreFilled before values.old.own.items values.old.issued.items → AreFilled (before ++ leaves.now) values.new.own.items values.new.issued.items) }
 {
     for leaf in leaves {
-        values.own.push(own_values(alloc, leaf)?)?;
-        values.issued.push(issued_values(alloc, leaf)?)?;
+        values.own.push(own_values(alloc, known, leaf)?)?;
+        values.issued.push(issued_values(alloc, known, leaf)?)?;
     }
     Ok(())
 }
@@ -36,12 +43,13 @@ fn add_leaves(alloc: Global, values: &mut FirstValues, leaves: &[Leaf]) -> Resul
 fn leaf_values(alloc: Global, resources: &[FlatResource]) -> Result<FirstValues, AllocError>
     ensures { IfOk result (λ f. AreFilled (leaves_in resources.now) f.own.items f.issued.items) }
 {
+    let mut known = Vec::new(alloc);
     let mut values = FirstValues {
         own: Vec::new(alloc),
         issued: Vec::new(alloc),
     };
     for resource in resources {
-        add_leaves(alloc, &mut values, &resource.leaves)?;
+        add_leaves(alloc, &mut known, &mut values, &resource.leaves)?;
     }
     Ok(values)
 }

@@ -9,8 +9,10 @@ use crate::draft::Draft;
 use crate::making::store_of;
 use crate::port::add_outputs;
 use fb_check::fb_columns::fb_flat::{Body, Leaf};
+use st_code::Layout;
 use st_run::Store;
 use std::alloc::{AllocError, Global};
+use std::rc::Rc;
 
 // Adds the outputs of a leaf.
 fn add_given(alloc: Global, drafts: &mut Vec<Draft>, body: &Body) -> Result<(), AllocError>
@@ -53,17 +55,25 @@ fn output_drafts(alloc: Global, body: &Body) -> Result<Vec<Draft>, AllocError>
 }
 
 /// The working values of a leaf, of all its variables.
-pub(crate) fn own_values(alloc: Global, leaf: &Leaf) -> Result<Store, AllocError>
+pub(crate) fn own_values(
+    alloc: Global,
+    known: &mut Vec<Rc<Layout>>,
+    leaf: &Leaf,
+) -> Result<Store, AllocError>
     ensures { IsSmall leaf.now.body → IfOk result (λ s. Holds s (own_cells leaf.now)) }
 {
     let drafts = own_drafts(alloc, leaf)?;
-    store_of(alloc, &drafts)
+    store_of(alloc, known, &drafts)
 }
 
 /// The issued values of a leaf, of its outputs.
-pub(crate) fn issued_values(alloc: Global, leaf: &Leaf) -> Result<Store, AllocError>
+pub(crate) fn issued_values(
+    alloc: Global,
+    known: &mut Vec<Rc<Layout>>,
+    leaf: &Leaf,
+) -> Result<Store, AllocError>
     ensures { IsSmall leaf.now.body → IfOk result (λ s. Holds s (output_cells leaf.now.body)) }
 {
     let drafts = output_drafts(alloc, &leaf.body)?;
-    store_of(alloc, &drafts)
+    store_of(alloc, known, &drafts)
 }

@@ -33,11 +33,34 @@ fn set_numbers(drafts: &[Draft], store: &mut Store)
     }
 }
 
-/// A store of variables with their numbers, of each name the first.
-pub(crate) fn store_of(alloc: Global, drafts: &[Draft]) -> Result<Store, AllocError>
+// A layout that others may have as well: where one of these is like it, that one.
+fn shared(
+    alloc: Global,
+    known: &mut Vec<Rc<Layout>>,
+    layout: Layout,
+) -> Result<Rc<Layout>, AllocError>
+    ensures { IfOk result (λ l. l.value ≡ layout) }
+{
+    for one in known.iter() {
+        if one.is_like(&layout) {
+            return one.clone();
+        }
+    }
+    let layout = Rc::new(alloc, layout)?;
+    known.push(layout.clone()?)?;
+    Ok(layout)
+}
+
+/// A store of variables with their numbers, of each name the first. Stores whose variables are the same share their layout.
+pub(crate) fn store_of(
+    alloc: Global,
+    known: &mut Vec<Rc<Layout>>,
+    drafts: &[Draft],
+) -> Result<Store, AllocError>
     ensures { IfOk result (λ s. Holds s (cells_in drafts.now)) }
 {
-    let layout = Rc::new(alloc, layout_of(alloc, drafts)?)?;
+    let own = layout_of(alloc, drafts)?;
+    let layout = shared(alloc, known, own)?;
     let mut store = Store::zeros(alloc, layout)?;
     set_numbers(drafts, &mut store);
     Ok(store)

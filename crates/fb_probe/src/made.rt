@@ -52,7 +52,7 @@ fn algorithm<'a>(chart: &'a Chart, number: Option<u16>) -> &'a str {
 }
 
 fn states(out: &mut String, chart: &Chart) -> Result<(), AllocError> {
-    for state in &chart.states {
+    for state in &chart.code.states {
         write!(out, "  state {}", state.name)?;
         for action in &state.actions {
             write!(out, ", {} ", algorithm(chart, action.algorithm))?;
@@ -68,7 +68,7 @@ fn states(out: &mut String, chart: &Chart) -> Result<(), AllocError> {
 
 // The transitions that leave each state, in text order.
 fn transitions(out: &mut String, chart: &Chart) -> Result<(), AllocError> {
-    for (source, state) in chart.states.iter().enumerate() {
+    for (source, state) in chart.code.states.iter().enumerate() {
         let mut left = state.transitions.iter();
         for named in &chart.block.transitions {
             if named.source.as_str() != state.name.as_str() {

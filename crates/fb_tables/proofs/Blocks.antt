@@ -41,7 +41,6 @@ use Rattle.fb_tables.specs.Filling as made
 use Rattle.fb_tables.specs.Tables.{IsWeighed, IsTaken, IsBlock, AreBlocks}
 use Rattle.fb_tables.specs.Filling.{Seated, paths_of, events_with, IsTakeMade, IsRowMade, IsEventMade, IsOutputMade, IsBodyMade, IsBlockMade, IsPortsMade}
 use Rattle.fb_tables.proofs.Lists.{each_map, each_weaker, each_same, each_second}
-use Rattle.fb_tables.proofs.Charts.{chart_done}
 use Rattle.fb_tables.proofs.Leaves.{IsSeated}
 use Rattle.fb_tables.proofs.Points.{IsEventful, HasFew, IsKnownLeaf, AreKnown, known_events, names_same, outputs_lead}
 use Rattle.fb_tables.proofs.Takes.{with_takes, with_names, with_all, all_taken, inputs_taken}
@@ -87,7 +86,7 @@ body_done own (f.Basic block) (b.Chart c) small few closed m =
     let k = block.value in
     record {
       kind_is = ap (λ (j : from_block.Block). Charted (block_of j)) m.block;
-      numbers = subst (λ (j : from_block.Block). IsChart own (event_names_of (block_of k).event_inputs) (event_names_of (block_of k).event_outputs) (block_of j) c) (sym m.block) (chart_done own k c closed few m);
+      numbers = subst (λ (j : from_block.Block). IsChart own (event_names_of (block_of k).event_inputs) (event_names_of (block_of k).event_outputs) (block_of j) c) (sym m.block) (m.code closed few);
     }
 body_done own (f.Served service) (b.Served x) small few closed m = record { kind_is = ap Serviced m; numbers = subst (λ (s : book.Service). length (values_of s) ≤ 16) (sym m) small }
 body_done own (f.Basic block) (b.Served x) small few closed m = absurd m

@@ -17,11 +17,12 @@ use Rattle.fb_first.specs.fb_check.fb_blocks.Answers.{names_in_map}
 use Rattle.fb_chart.specs.declared.table.Action.{Action}
 use Rattle.fb_chart.specs.declared.table.State.{State}
 use Rattle.fb_chart.specs.declared.table.Transition.{Transition}
-use Rattle.fb_chart.specs.declared.table.Chart.{Chart}
+use Rattle.fb_chart.specs.declared.table.ChartCode.{ChartCode}
 use Rattle.st_code.specs.declared.command.Procedure.{Procedure}
 use Rattle.st_code.specs.Forms.{Form}
-use Rattle.fb_chart.specs.Tables.{Each, IsOptional, IsProcedure, IsAction, IsState, IsTransition, IsChart, leaving}
-use Rattle.fb_tables.specs.Filling.{Entry, Routine, IsOptionalNumber, IsActionMade, IsStateMade, IsTransitionMade, IsProcedureMade, IsChartMade, leaving_from, most_numbers}
+use Rattle.fb_chart.specs.Tables.{Each, IsOptional, IsProcedure, IsAction, IsState, IsTransition, leaving}
+use Rattle.fb_tables.specs.declared.chart.Shared.{Shared}
+use Rattle.fb_tables.specs.Filling.{Entry, Routine, IsOptionalNumber, IsActionMade, IsStateMade, IsTransitionMade, IsProcedureMade, IsCodeMade, IsCodeOf, IsShared, leaving_from, most_numbers}
 use Rattle.fb_tables.proofs.Lists.{each_map, each_weaker, each_image, all_source}
 use Rattle.fb_tables.proofs.Routines.{routine_of}
 use Rattle.fb_tables.proofs.Leaving.{leaving_map, all_leaving}
@@ -153,18 +154,22 @@ module _ (own : List Form) (k : Block) (f : IsFew k) (procedures : length k.proc
 procedure_done : (own : List Form) (r : Routine) (x : Procedure) → IsProcedureMade own r x → IsProcedure own (routine_of r) x
 procedure_done own r x m = record { same = m.0; placed = m.1 }
 
-pub chart_done : (own : List Form) (k : Block) (c : Chart) → IsClosedBlock (block_of k) → length (block_of k).procedures ≤ 256 → IsChartMade own k c → IsChart own (event_names (block_of k).event_inputs) (event_names (block_of k).event_outputs) (block_of k) c
-chart_done own k c closed procedures m =
+pub code_done : (own : List Form) (k : Block) (x : ChartCode) → IsCodeMade own k x → IsCodeOf own (block_of k) x
+code_done own k x m closed procedures =
     let f = few k closed in
     let rs = k.procedures.entries in
-    let made = states_done own k f (omega (arith, procedures, length-map rs routine_of)) (tabled k closed) c.states.items m.states in
+    let made = states_done own k f (omega (arith, procedures, length-map rs routine_of)) (tabled k closed) x.states.items m.states in
     record {
       few = subst (λ (names : List Name). length names ≤ 65535) (sym (states_are k)) (omega (arith, f.few_states));
       apart = closed.states_apart;
       states =
-          subst (λ (names : List Name). Each (IsState own names (event_names (block_of k).event_outputs) (block_of k)) (block_of k).states c.states.items) (sym (inputs_are k))
-          (subst (λ (names : List Name). Each (IsState own (inputs_in k) names (block_of k)) (block_of k).states c.states.items) (sym (outputs_are k)) made);
+          subst (λ (names : List Name). Each (IsState own names (event_names (block_of k).event_outputs) (block_of k)) (block_of k).states x.states.items) (sym (inputs_are k))
+          (subst (λ (names : List Name). Each (IsState own (inputs_in k) names (block_of k)) (block_of k).states x.states.items) (sym (outputs_are k)) made);
       procedures =
-          each_image (IsProcedure own) routine_of rs c.procedures.items
-          (each_map (IsProcedureMade own) (λ (r : Routine) (x : Procedure). IsProcedure own (routine_of r) x) rs c.procedures.items (procedure_done own) m.procedures);
+          each_image (IsProcedure own) routine_of rs x.procedures.items
+          (each_map (IsProcedureMade own) (λ (r : Routine) (p : Procedure). IsProcedure own (routine_of r) p) rs x.procedures.items (procedure_done own) m.procedures);
     }
+
+-- what runs of a block runs of one that is the same, with the same layout
+pub shares : (s : Shared) (own : List Form) (k : Block) → s.own.now ≡ own → block_of s.block.now.value ≡ block_of k → IsShared s → IsCodeOf own (block_of k) s.code.value
+shares s own k o b h = subst (λ (fs : List Form). IsCodeOf fs (block_of k) s.code.value) o (subst (λ (x : book.Block). IsCodeOf s.own.now x s.code.value) b h)

@@ -11,9 +11,10 @@ use Rattle.fb_model.specs.System as book
 use Rattle.fb_model.specs.Services.{init, rsp, start, stop, arrivals, service_events, service_takes}
 use Rattle.fb_model.specs.Wires.{Kind, Charted, Serviced}
 use Rattle.fb_model.specs.Store.{gives}
-use Rattle.fb_model.specs.Certificates.{events_of, depth_at}
+use Rattle.fb_model.specs.Certificates.{event_names, events_of, depth_at}
 use Rattle.fb_model.specs.CertificateText.{place_of, names_in}
 use Rattle.fb_model.specs.Devices.{steps_row, places_row}
+use Rattle.fb_leaves.specs.Leaves.{IsClosedBlock}
 use Rattle.fb_cert.specs.declared.certificate.Certificate as rows
 use Rattle.fb_cert.specs.Views.{certificate_of}
 use Rattle.st_types.specs.declared.whole.Algo.{Algo}
@@ -51,16 +52,18 @@ use Rattle.fb_chart.specs.declared.table.Output.{Output}
 use Rattle.fb_chart.specs.declared.table.Action.{Action}
 use Rattle.fb_chart.specs.declared.table.State.{State}
 use Rattle.fb_chart.specs.declared.table.Transition.{Transition}
+use Rattle.fb_chart.specs.declared.table.ChartCode.{ChartCode}
 use Rattle.fb_chart.specs.declared.table.Chart.{Chart}
 use Rattle.fb_chart.specs.declared.table.Body.{Body}
 use Rattle.fb_chart.specs.declared.table.Body.TheVariants as b
 use Rattle.fb_chart.specs.declared.table.Block.{Block}
 use Rattle.fb_chart.specs.Views.{given_by}
-use Rattle.fb_chart.specs.Tables.{Each, IsAlgorithm, IsPlacedOutput}
+use Rattle.fb_chart.specs.Tables.{Each, IsAlgorithm, IsCode, IsPlacedOutput}
 use Rattle.fb_chart.specs.Sampling.{count_among, IsPlacedGive}
 use Rattle.fb_serve.specs.declared.standing.Ports.{Ports}
 use Rattle.fb_serve.specs.Ports.{ServesPorts}
 use Rattle.fb_tables.specs.declared.table.Resource.{Resource}
+use Rattle.fb_tables.specs.declared.chart.Shared.{Shared}
 use Rattle.fb_tables.specs.declared.seat.Home.{Home}
 use Rattle.fb_tables.specs.declared.seat.Seat.{Seat}
 
@@ -132,10 +135,21 @@ pub record IsStateMade (own : List Form) (k : from_block.Block) (s : Entry) (x :
 abbrev pub IsProcedureMade : List Form → Routine → Procedure → Type 0
 IsProcedureMade own r x = (code_commands x.statements.items ≡ commands_of r.1.statements.items) × (placed_all own x.statements.items ≡ true)
 
+pub record IsCodeMade (own : List Form) (k : from_block.Block) (x : ChartCode) : Type 0 where
+  pub states : Each (IsStateMade own k) k.states.entries x.states.items
+  pub procedures : Each (IsProcedureMade own) k.procedures.entries x.procedures.items
+
+-- what runs of a chart is that of a block, if this names what it has alone and has few algorithms; another instance of the same block may have made it
+abbrev pub IsCodeOf : List Form → book.Block → ChartCode → Type 0
+IsCodeOf own block x = IsClosedBlock block → length block.procedures ≤ 256 → IsCode own (event_names block.event_inputs) (event_names block.event_outputs) block x
+
+-- what an instance shares runs of its block
+abbrev pub IsShared : Shared → Type 0
+IsShared s = IsCodeOf s.own.now (block_of s.block.now.value) s.code.value
+
 pub record IsChartMade (own : List Form) (k : from_block.Block) (c : Chart) : Type 0 where
   pub block : c.block.value ≡ k
-  pub states : Each (IsStateMade own k) k.states.entries c.states.items
-  pub procedures : Each (IsProcedureMade own) k.procedures.entries c.procedures.items
+  pub code : IsCodeOf own (block_of k) c.code.value
 
 -- ---- bodies
 

@@ -1,10 +1,11 @@
 //! What blocks are made of.
 
-ghost use Rattle.std.specs.Prelude.{◌≡◌, IfOk};
+ghost use Rattle.std.specs.Prelude.{◌≡◌, IfOk, OnOk};
+ghost use Rattle.std.specs.List.{AllByRecursion};
 ghost use Rattle.fb_first.specs.fb_check.fb_services.Views.{service_of};
-ghost use Rattle.fb_tables.specs.Filling.{IsBodyMade};
+ghost use Rattle.fb_tables.specs.Filling.{IsShared, IsBodyMade};
 
-use crate::chart::chart;
+use crate::chart::{Shared, chart};
 use fb_chart::Body;
 use fb_first::fb_check::fb_columns::fb_flat;
 use fb_first::fb_check::fb_columns::fb_flat::fb_types::fb_networks::fb_services::Service;
@@ -36,11 +37,18 @@ fn again(alloc: Global, service: &Service) -> Result<Service, AllocError>
 }
 
 /// What a block is made of, whose working values lie so.
-pub(crate) fn body(alloc: Global, own: &Layout, source: &fb_flat::Body) -> Result<Body, AllocError>
-    ensures { IfOk result (λ x. IsBodyMade own.now source.now x) }
+pub(crate) fn body<'a>(
+    alloc: Global,
+    known: &mut Vec<Shared<'a>>,
+    own: &'a Layout,
+    source: &'a fb_flat::Body,
+) -> Result<Body, AllocError>
+    requires { AllByRecursion IsShared known.old.items }
+    ensures body { IfOk result (λ x. IsBodyMade own.now source.now x) }
+    ensures known { OnOk result (AllByRecursion IsShared known.new.items) }
 {
     match source {
-        fb_flat::Body::Basic(block) => Ok(Body::Chart(chart(alloc, own, block)?)),
+        fb_flat::Body::Basic(block) => Ok(Body::Chart(chart(alloc, known, own, block)?)),
         fb_flat::Body::Served(service) => Ok(Body::Served(again(alloc, service)?)),
     }
 }

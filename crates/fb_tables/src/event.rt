@@ -68,7 +68,7 @@ fn charted(
 ) -> Result<Vec<Event>, AllocError>
     ensures { IfOk result (λ v. Each (IsEventMade certificate.now (names_of paths.now) (seats_of seats.now) (seat_of seat.now)) (events_of sources.now) v.items) }
 {
-    let mut events = Vec::new(alloc);
+    let mut events = Vec::with_capacity(alloc, sources.len())?;
     for index in 0..sources.len() {
         let Some((name, carried)) = sources.get_index(index) else {
             return Ok(events);

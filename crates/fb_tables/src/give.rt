@@ -67,7 +67,7 @@ pub(crate) fn gives(
 ) -> Result<Vec<Give>, AllocError>
     ensures { IfOk result (λ v. Each (IsGiveMade own.now issued.now) (map string_bytes names.now) v.items) }
 {
-    let mut gives = Vec::new(alloc);
+    let mut gives = Vec::with_capacity(alloc, names.len())?;
     for name in names {
         gives.push(give(own, issued, name)?)?;
     }

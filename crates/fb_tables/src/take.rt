@@ -101,7 +101,7 @@ pub(crate) fn takes(
 ) -> Result<Vec<Take>, AllocError>
     ensures { IfOk result (λ v. Each (IsTakeMade (names_of paths.now) (seats_of seats.now) own.now inputs.now) (map string_bytes names.now) v.items) }
 {
-    let mut takes = Vec::new(alloc);
+    let mut takes = Vec::with_capacity(alloc, names.len())?;
     for name in names {
         takes.push(taken(paths, seats, own, inputs, name)?)?;
     }

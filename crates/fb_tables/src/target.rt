@@ -84,7 +84,7 @@ fn points(
 ) -> Result<Vec<Point>, AllocError>
     ensures { IfOk result (λ v. Each (IsPointMade (names_of paths.now) (seats_of seats.now)) targets.now v.items) }
 {
-    let mut points = Vec::new(alloc);
+    let mut points = Vec::with_capacity(alloc, targets.len())?;
     for target in targets {
         points.push(point(paths, seats, target))?;
     }
@@ -122,7 +122,7 @@ pub(crate) fn outputs(
 ) -> Result<Vec<Output>, AllocError>
     ensures { IfOk result (λ v. Each (IsOutputMade (names_of paths.now) (seats_of seats.now) (seat_of seat.now)) sources.now v.items) }
 {
-    let mut outputs = Vec::new(alloc);
+    let mut outputs = Vec::with_capacity(alloc, sources.len())?;
     for source in sources {
         outputs.push(output(alloc, paths, seats, seat, source)?)?;
     }

@@ -1,11 +1,11 @@
 //! Where the numbers of a block's variables lie.
 
-ghost use Rattle.std.specs.Prelude.{◌≡◌, ◌++◌, [], ◌∷◌, false, not, if◌then◌else◌, MatchOption, IfOk, OnErr};
+ghost use Rattle.std.specs.Prelude.{◌≡◌, ◌++◌, [], ◌∷◌, true, false, not, if◌then◌else◌, MatchOption, IfOk, OnErr};
 ghost use Rattle.fb_model.specs.Names.{is_in};
 ghost use Rattle.st_code.specs.Forms.{slot_in, plain_slot, size_of, bounds_in, names_in, IsDeclaredIn};
 ghost use Rattle.st_code.specs.Laid.{found};
 
-use crate::place::{Place, find, give};
+use crate::place::{Place, find, give, same_places};
 use indexmap::IndexMap;
 use std::alloc::{AllocError, Global};
 use std::marker::Model;
@@ -64,6 +64,13 @@ impl Layout {
             }
             Err(fault) => Err(fault),
         }
+    }
+
+    /// Whether another layout has the same variables in the same order.
+    pub fn is_like(&self, other: &Layout) -> bool
+        ensures { result ≡ true → self.now ≡ other.now }
+    {
+        same_places(&self.places, &other.places)
     }
 
     /// How many slots there are.

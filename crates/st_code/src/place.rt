@@ -1,6 +1,6 @@
 //! Where the numbers of one variable lie.
 
-ghost use Rattle.std.specs.Prelude.{◌≡◌, ◌<◌, ◌^◌, ◌+◌, ◌++◌, [], ◌∷◌, None, IfSome, IfOk, OnOk, OnErr};
+ghost use Rattle.std.specs.Prelude.{◌≡◌, ◌<◌, ◌^◌, ◌+◌, ◌++◌, [], ◌∷◌, true, None, IfSome, IfOk, OnOk, OnErr};
 ghost use Rattle.st_code.specs.Forms.{slot_count};
 ghost use Rattle.st_code.specs.Laid.{found, forms_in, IsLaid};
 
@@ -71,4 +71,23 @@ pub(crate) fn give(
         Ok(_) => Ok(end),
         Err(_) => Err(AllocError),
     }
+}
+
+/// Whether two tables have the same variables in the same order.
+pub(crate) fn same_places(one: &IndexMap<String, Place>, other: &IndexMap<String, Place>) -> bool
+    ensures { result ≡ true → forms_in one.now.entries ≡ forms_in other.now.entries }
+{
+    if one.len() != other.len() {
+        return false;
+    }
+    for at in 0..one.len() {
+        let (Some((name, place)), Some((next, like))) = (one.get_index(at), other.get_index(at))
+        else {
+            return false;
+        };
+        if name != next || place.bounds != like.bounds {
+            return false;
+        }
+    }
+    true
 }

@@ -1,5 +1,6 @@
 use Rattle.std.proofs.Common.{◌≤◌, length, slice_get, Some, sym, ap, subst, ◌∙◌}
 use Rattle.st_exec.specs.Cells.{values_of, forms_of}
+use Rattle.fb_chart.specs.declared.table.ChartCode.{ChartCode}
 use Rattle.fb_chart.proofs.Lists.{stands_at}
 use Rattle.fb_chart.proofs.Choosing.{stays, left_first, left_last, step_placed, step_passed, step_asked, step_refused, step_taken, step_target}
 use Rattle.fb_chart.proofs.chart.next_state.Goals.{else-is_open-via-then-is_open+else-is_true, else-is_open-via-else-is_open}
@@ -7,7 +8,7 @@ use Rattle.fb_chart.proofs.chart.next_state.Goals as goal
 
 pub returns-in_default-clause-chosen : goal.returns-in_default-clause-chosen
 returns-in_default-clause-chosen c =
-    let few = subst (λ l. length l ≤ c.args.state) c.deref.ensures.value c.in_default.ensures.lookup.3 in
+    let few = subst (λ l. length l ≤ c.args.state) (c.deref-2.ensures.value ∙ ap (λ (x : ChartCode). x.states.items) c.deref.ensures) c.in_default.ensures.lookup.3 in
     stays (forms_of c.args.own.now) c.args.chart.now c.requires.chart c.requires.apart c.args.state c.args.event (values_of c.args.own.now) c.requires.event c.requires.closed c.requires.state few
 
 pub loop-transition-init : goal.loop-transition-init
@@ -19,7 +20,7 @@ is_true-requires-clause-placed c =
     let forms = forms_of c.args.own.now in
     let V = values_of c.args.own.now in
     let x = c.in-Some.current.now in
-    let x_at = ap (λ l. slice_get l c.args.state) (sym c.deref.ensures.value) ∙ stands_at c.deref.result.now c.args.state x x c.in-Some.ensures.lookup.3.0 c.in-Some.ensures.lookup.1 in
+    let x_at = ap (λ l. slice_get l c.args.state) (sym (c.deref-2.ensures.value ∙ ap (λ (x : ChartCode). x.states.items) c.deref.ensures)) ∙ stands_at c.deref-2.result.now c.args.state x x c.in-Some.ensures.lookup.3.0 c.in-Some.ensures.lookup.1 in
     let items = c.deref-transition-items.result.now in
     let i = c.loop-transition.transition-index in
     let y = c.transition-item.result in
@@ -32,7 +33,7 @@ is_true-requires-clause-clear c =
     let forms = forms_of c.args.own.now in
     let V = values_of c.args.own.now in
     let x = c.in-Some.current.now in
-    let x_at = ap (λ l. slice_get l c.args.state) (sym c.deref.ensures.value) ∙ stands_at c.deref.result.now c.args.state x x c.in-Some.ensures.lookup.3.0 c.in-Some.ensures.lookup.1 in
+    let x_at = ap (λ l. slice_get l c.args.state) (sym (c.deref-2.ensures.value ∙ ap (λ (x : ChartCode). x.states.items) c.deref.ensures)) ∙ stands_at c.deref-2.result.now c.args.state x x c.in-Some.ensures.lookup.3.0 c.in-Some.ensures.lookup.1 in
     let items = c.deref-transition-items.result.now in
     let i = c.loop-transition.transition-index in
     let y = c.transition-item.result in
@@ -46,7 +47,7 @@ returns-then-is_true-clause-chosen c =
     let forms = forms_of c.args.own.now in
     let V = values_of c.args.own.now in
     let x = c.in-Some.current.now in
-    let x_at = ap (λ l. slice_get l c.args.state) (sym c.deref.ensures.value) ∙ stands_at c.deref.result.now c.args.state x x c.in-Some.ensures.lookup.3.0 c.in-Some.ensures.lookup.1 in
+    let x_at = ap (λ l. slice_get l c.args.state) (sym (c.deref-2.ensures.value ∙ ap (λ (x : ChartCode). x.states.items) c.deref.ensures)) ∙ stands_at c.deref-2.result.now c.args.state x x c.in-Some.ensures.lookup.3.0 c.in-Some.ensures.lookup.1 in
     let items = c.deref-transition-items.result.now in
     let i = c.loop-transition.transition-index in
     let y = c.transition-item.result in
@@ -60,7 +61,7 @@ returns-then-is_true-clause-within c =
     let forms = forms_of c.args.own.now in
     let V = values_of c.args.own.now in
     let x = c.in-Some.current.now in
-    let x_at = ap (λ l. slice_get l c.args.state) (sym c.deref.ensures.value) ∙ stands_at c.deref.result.now c.args.state x x c.in-Some.ensures.lookup.3.0 c.in-Some.ensures.lookup.1 in
+    let x_at = ap (λ l. slice_get l c.args.state) (sym (c.deref-2.ensures.value ∙ ap (λ (x : ChartCode). x.states.items) c.deref.ensures)) ∙ stands_at c.deref-2.result.now c.args.state x x c.in-Some.ensures.lookup.3.0 c.in-Some.ensures.lookup.1 in
     let items = c.deref-transition-items.result.now in
     let i = c.loop-transition.transition-index in
     let y = c.transition-item.result in
@@ -73,7 +74,7 @@ loop-transition-preserved c =
     let forms = forms_of c.args.own.now in
     let V = values_of c.args.own.now in
     let x = c.in-Some.current.now in
-    let x_at = ap (λ l. slice_get l c.args.state) (sym c.deref.ensures.value) ∙ stands_at c.deref.result.now c.args.state x x c.in-Some.ensures.lookup.3.0 c.in-Some.ensures.lookup.1 in
+    let x_at = ap (λ l. slice_get l c.args.state) (sym (c.deref-2.ensures.value ∙ ap (λ (x : ChartCode). x.states.items) c.deref.ensures)) ∙ stands_at c.deref-2.result.now c.args.state x x c.in-Some.ensures.lookup.3.0 c.in-Some.ensures.lookup.1 in
     let items = c.deref-transition-items.result.now in
     let i = c.loop-transition.transition-index in
     let y = c.transition-item.result in
@@ -93,7 +94,7 @@ returns-clause-chosen c =
     let forms = forms_of c.args.own.now in
     let V = values_of c.args.own.now in
     let x = c.in-Some.current.now in
-    let x_at = ap (λ l. slice_get l c.args.state) (sym c.deref.ensures.value) ∙ stands_at c.deref.result.now c.args.state x x c.in-Some.ensures.lookup.3.0 c.in-Some.ensures.lookup.1 in
+    let x_at = ap (λ l. slice_get l c.args.state) (sym (c.deref-2.ensures.value ∙ ap (λ (x : ChartCode). x.states.items) c.deref.ensures)) ∙ stands_at c.deref-2.result.now c.args.state x x c.in-Some.ensures.lookup.3.0 c.in-Some.ensures.lookup.1 in
     let items = c.deref-transition-items.result.now in
     let i = c.loop-transition.transition-index in
     sym c.loop-transition.invariant ∙ left_last forms k c.requires.chart c.requires.apart c.args.state c.args.event V c.requires.event x x_at items c.deref-transition-items.ensures.value i c.loop-transition-test.false
