@@ -3,6 +3,7 @@
 use Rattle.std.specs.Prelude.{ℕ, ℤ, ◌≡◌, List, [], ◌∷◌, Option, None, Some}
 use Rattle.std.specs.Option.{option_map}
 use Rattle.fb_words.specs.declared.elem_type.ElemType.{ElemType}
+use Rattle.fb_words.specs.declared.elem_type.ElemType.TheVariants as t
 use Rattle.fb_model.specs.Names.{Name}
 use Rattle.fb_model.specs.Values.{Values}
 use Rattle.fb_model.specs.System.{Service}
@@ -29,9 +30,10 @@ condition_of (s.Armed due) = st.Armed due
 condition_of s.Fired = st.Fired
 condition_of s.Plain = st.Plain
 
--- values with their types
+-- values with their types, one by one; where there are more values than types, the others are seen too, each as a LINT
 abbrev pub typed : List ElemType → List ℤ → List Typed
-typed [] vs = []
+typed [] [] = []
+typed [] (v ∷ vs) = record { type = t.Lint; value = v } ∷ typed [] vs
 typed (t ∷ ts) [] = []
 typed (t ∷ ts) (v ∷ vs) = record { type = t; value = v } ∷ typed ts vs
 
