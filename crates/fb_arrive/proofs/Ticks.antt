@@ -12,6 +12,7 @@ use Rattle.fb_state.specs.fb_timers.declared.armed.Armed.{Armed}
 use Rattle.fb_state.specs.fb_timers.Order as order
 use Rattle.fb_state.specs.fb_timers.Order.{IsOrdered, due_of, due_at, without}
 use Rattle.fb_state.specs.fb_timers.Expiry.{AreArmed, moment_of, leaves_at}
+use Rattle.fb_state.proofs.of_fb_timers.Few.{few}
 use Rattle.fb_state.proofs.of_fb_timers.Leaves.{due_leaves}
 use Rattle.fb_state.proofs.of_fb_timers.Ordered.{apart_without}
 use Rattle.fb_state.specs.declared.program.Program.{Program}
@@ -23,7 +24,6 @@ use Rattle.fb_state.specs.Machines.{device_in, cert_in, machine_of}
 use Rattle.fb_state.specs.Keeping.{IsGood}
 use Rattle.fb_state.specs.Arrivals.{IsArrival, IsShort}
 use Rattle.fb_state.proofs.Blocks.{within}
-use Rattle.fb_state.proofs.Few.{few}
 use Rattle.fb_arrive.specs.Ticking.{IsTimer}
 use Rattle.fb_arrive.proofs.Ticking.{due_there, without_due, Progress, progress_fired, progress_waits, progress_ends, drop_first, drop_none, leaf_first}
 

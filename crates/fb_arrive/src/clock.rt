@@ -1,12 +1,11 @@
 //! The clock: E_DELAY and E_CYCLE of IEC 61499-1 edition 2, annex A, this project's profile.
 
 ghost use Rattle.std.specs.Prelude.{◌≡◌, true, false, Some, slice_get, if◌then◌else◌};
-ghost use Rattle.fb_model.specs.Wires.{Leaf, leaves};
+ghost use Rattle.fb_model.specs.Wires.{Leaf};
 ghost use Rattle.fb_model.specs.Store.{Fired, with_leaf};
-ghost use Rattle.fb_model.specs.Devices.{Happens, Tick, Expired, HasRoom, at_moment, expired, expiring};
+ghost use Rattle.fb_model.specs.Devices.{Tick, Expired, HasRoom, at_moment, expired, expiring};
 ghost use Rattle.fb_state.specs.fb_timers.Order.{without};
-ghost use Rattle.fb_state.specs.Sessions.{session_of};
-ghost use Rattle.fb_state.specs.Machines.{device_in, cert_in, machine_of};
+ghost use Rattle.fb_state.specs.Machines.{running_rows, running_device, running_leaves, running_state, Steps};
 ghost use Rattle.fb_state.specs.Keeping.{IsGood};
 ghost use Rattle.fb_arrive.specs.Ticking.{IsTimer};
 
@@ -21,7 +20,7 @@ const EXPIRE: u16 = 2;
 // Sets the clock, unless the moment is earlier.
 fn advance(program: &Program, running: &mut Running, now: u64)
     requires { IsGood program.now running.old }
-    ensures machine { machine_of (session_of program.now running.new) ≡ at_moment (machine_of (session_of program.now running.old)) now }
+    ensures machine { running_state program.now running.new ≡ at_moment (running_state program.now running.old) now }
     ensures good { IsGood program.now running.new }
     ensures timers { running.new.timers ≡ running.old.timers }
 {
@@ -34,9 +33,9 @@ fn advance(program: &Program, running: &mut Running, now: u64)
 // A timer becomes fired, and is armed no longer.
 fn fire(program: &Program, running: &mut Running, block: u16)
     requires good { IsGood program.now running.old }
-    requires timer { IsTimer (leaves (device_in (session_of program.now running.old))) block }
-    ensures machine { (leaf : Leaf) → slice_get (leaves (device_in (session_of program.now running.old))) block ≡ Some leaf
-        → machine_of (session_of program.now running.new) ≡ record (machine_of (session_of program.now running.old)) { store = with_leaf (machine_of (session_of program.now running.old)).store leaf.path (record { cells = ((machine_of (session_of program.now running.old)).store leaf.path).cells; condition = Fired }) } }
+    requires timer { IsTimer (running_leaves program.now running.old) block }
+    ensures machine { (leaf : Leaf) → slice_get (running_leaves program.now running.old) block ≡ Some leaf
+        → running_state program.now running.new ≡ record (running_state program.now running.old) { store = with_leaf (running_state program.now running.old).store leaf.path (record { cells = ((running_state program.now running.old).store leaf.path).cells; condition = Fired }) } }
     ensures good { IsGood program.now running.new }
     ensures timers { running.new.timers.armed ≡ without running.old.timers.armed block }
     ensures clock { running.new.clock ≡ running.old.clock }
@@ -50,11 +49,11 @@ fn fire(program: &Program, running: &mut Running, block: u16)
 // Admits the EXPIRE of a timer that is due, where its resource has the places and a cause number is left; the timer is fired then.
 fn expire(program: &Program, running: &mut Running, block: u16) -> bool
     requires good { IsGood program.now running.old }
-    requires timer { IsTimer (leaves (device_in (session_of program.now running.old))) block }
-    ensures fires { (leaf : Leaf) → slice_get (leaves (device_in (session_of program.now running.old))) block ≡ Some leaf → result ≡ true
-        → HasRoom (cert_in (session_of program.now running.old)) (device_in (session_of program.now running.old)) (machine_of (session_of program.now running.old)) (expiring leaf) × (machine_of (session_of program.now running.new) ≡ expired (machine_of (session_of program.now running.old)) leaf) }
-    ensures stays { (leaf : Leaf) → slice_get (leaves (device_in (session_of program.now running.old))) block ≡ Some leaf → result ≡ false
-        → (HasRoom (cert_in (session_of program.now running.old)) (device_in (session_of program.now running.old)) (machine_of (session_of program.now running.old)) (expiring leaf) → ⊥) × (machine_of (session_of program.now running.new) ≡ machine_of (session_of program.now running.old)) }
+    requires timer { IsTimer (running_leaves program.now running.old) block }
+    ensures fires { (leaf : Leaf) → slice_get (running_leaves program.now running.old) block ≡ Some leaf → result ≡ true
+        → HasRoom (running_rows program.now running.old) (running_device program.now running.old) (running_state program.now running.old) (expiring leaf) × (running_state program.now running.new ≡ expired (running_state program.now running.old) leaf) }
+    ensures stays { (leaf : Leaf) → slice_get (running_leaves program.now running.old) block ≡ Some leaf → result ≡ false
+        → (HasRoom (running_rows program.now running.old) (running_device program.now running.old) (running_state program.now running.old) (expiring leaf) → ⊥) × (running_state program.now running.new ≡ running_state program.now running.old) }
     ensures armed { running.new.timers.armed ≡ (if result then without running.old.timers.armed block else running.old.timers.armed) }
     ensures good { IsGood program.now running.new }
     ensures clock { running.new.clock ≡ running.old.clock }
@@ -76,7 +75,7 @@ fn expire(program: &Program, running: &mut Running, block: u16) -> bool
 /// resource has the places, where a cause number is left, is fired, and its EXPIRE is admitted; any other stays armed. Answers how many were admitted.
 pub fn tick(program: &Program, running: &mut Running, now: u64) -> u32
     requires { IsGood program.now running.old }
-    ensures step { Happens (cert_in (session_of program.now running.old)) (device_in (session_of program.now running.old)) (machine_of (session_of program.now running.old)) (Tick now) (Expired result) (machine_of (session_of program.now running.new)) }
+    ensures step { Steps program.now running.old (Tick now) (Expired result) running.new }
     ensures good { IsGood program.now running.new }
 {
     advance(program, running, now);

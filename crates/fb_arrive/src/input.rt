@@ -3,10 +3,9 @@
 ghost use Rattle.std.specs.Prelude.{◌≡◌, ◌≤◌, true, length, IfOk, IfErr};
 ghost use Rattle.fb_model.specs.Values.{all_in};
 ghost use Rattle.fb_model.specs.Ranges.{types_of};
-ghost use Rattle.fb_model.specs.Devices.{Happens, Offer, is_input_numbered};
+ghost use Rattle.fb_model.specs.Devices.{Offer, is_input_numbered};
 ghost use Rattle.fb_state.specs.fb_chart.Views.{body_kind};
-ghost use Rattle.fb_state.specs.Sessions.{session_of};
-ghost use Rattle.fb_state.specs.Machines.{device_in, cert_in, machine_of};
+ghost use Rattle.fb_state.specs.Machines.{Steps};
 ghost use Rattle.fb_state.specs.Keeping.{IsGood};
 ghost use Rattle.fb_arrive.specs.Answers.{admission_of};
 ghost use Rattle.fb_arrive.specs.Offering.{input_at, IsOutside};
@@ -77,7 +76,7 @@ pub fn offer(
     values: &[i64],
 ) -> Result<u64, Denied>
     requires { IsGood program.now running.old }
-    ensures step { Happens (cert_in (session_of program.now running.old)) (device_in (session_of program.now running.old)) (machine_of (session_of program.now running.old)) (Offer number values.now) (admission_of result) (machine_of (session_of program.now running.new)) }
+    ensures step { Steps program.now running.old (Offer number values.now) (admission_of result) running.new }
     ensures good { IsGood program.now running.new }
 {
     let Some(at) = input(&program.tables.blocks, number) else {

@@ -1,12 +1,12 @@
 //! The start of a device.
 
 ghost use Rattle.std.specs.Prelude.{◌≡◌, ◌≤◌, ◌<◌, ◌+◌, ◌^◌, true, length, Some, slice_get, if◌then◌else◌};
-ghost use Rattle.fb_model.specs.Wires.{Leaf, leaves};
+ghost use Rattle.fb_model.specs.Wires.{Leaf};
 ghost use Rattle.fb_model.specs.Certificates.{is_restart};
 ghost use Rattle.fb_model.specs.Devices.{HasRoom, admitted, beginning, begun, silent};
 ghost use Rattle.fb_state.specs.fb_chart.Views.{body_kind};
-ghost use Rattle.fb_state.specs.Sessions.{session_of, next_of};
-ghost use Rattle.fb_state.specs.Machines.{device_in, cert_in, machine_of};
+ghost use Rattle.fb_state.specs.Sessions.{next_of};
+ghost use Rattle.fb_state.specs.Machines.{running_rows, running_device, running_leaves, running_state};
 ghost use Rattle.fb_state.specs.Keeping.{IsGood};
 
 use fb_services::Service;
@@ -26,11 +26,11 @@ fn begins(body: &Body) -> bool
 // Admits the BEGIN of a block, where it is an E_RESTART.
 fn begin_one(program: &Program, running: &mut Running, block: u16)
     requires good { IsGood program.now running.old }
-    requires within { block < length (leaves (device_in (session_of program.now running.old))) }
-    requires room { (leaf : Leaf) → slice_get (leaves (device_in (session_of program.now running.old))) block ≡ Some leaf → is_restart leaf.kind ≡ true
-        → HasRoom (cert_in (session_of program.now running.old)) (device_in (session_of program.now running.old)) (machine_of (session_of program.now running.old)) (beginning leaf) }
-    ensures begun { (leaf : Leaf) → slice_get (leaves (device_in (session_of program.now running.old))) block ≡ Some leaf
-        → machine_of (session_of program.now running.new) ≡ (if is_restart leaf.kind then admitted (machine_of (session_of program.now running.old)) (beginning leaf) else machine_of (session_of program.now running.old)) }
+    requires within { block < length (running_leaves program.now running.old) }
+    requires room { (leaf : Leaf) → slice_get (running_leaves program.now running.old) block ≡ Some leaf → is_restart leaf.kind ≡ true
+        → HasRoom (running_rows program.now running.old) (running_device program.now running.old) (running_state program.now running.old) (beginning leaf) }
+    ensures begun { (leaf : Leaf) → slice_get (running_leaves program.now running.old) block ≡ Some leaf
+        → running_state program.now running.new ≡ (if is_restart leaf.kind then admitted (running_state program.now running.old) (beginning leaf) else running_state program.now running.old) }
     ensures good { IsGood program.now running.new }
 {
     if begins(&program.tables.blocks[block as usize].body) {
@@ -41,9 +41,9 @@ fn begin_one(program: &Program, running: &mut Running, block: u16)
 /// Admits every BEGIN of a device to which nothing has happened, in resource and block order. There is room for all: the certificate pays for them.
 pub fn begin(program: &Program, running: &mut Running)
     requires good { IsGood program.now running.old }
-    requires silent { machine_of (session_of program.now running.old) ≡ silent (device_in (session_of program.now running.old)) (next_of running.old.next) }
-    requires numbers { next_of running.old.next + length (leaves (device_in (session_of program.now running.old))) ≤ 2 ^ 64 }
-    ensures begun { machine_of (session_of program.now running.new) ≡ begun (leaves (device_in (session_of program.now running.old))) (machine_of (session_of program.now running.old)) }
+    requires silent { running_state program.now running.old ≡ silent (running_device program.now running.old) (next_of running.old.next) }
+    requires numbers { next_of running.old.next + length (running_leaves program.now running.old) ≤ 2 ^ 64 }
+    ensures begun { running_state program.now running.new ≡ begun (running_leaves program.now running.old) (running_state program.now running.old) }
     ensures good { IsGood program.now running.new }
 {
     for at in 0..program.tables.blocks.len() {

@@ -1,5 +1,5 @@
 -- The armed timers of a store in which one leaf has come to another state.
-use Rattle.std.proofs.Common.{◌≡◌, ℕ, zero, suc, ◌<◌, ◌≤◌, Bool, true, false, cond, eqb, eq-eqb, List, [], ◌∷◌, length, slice_get, Option, Some, None, refl, sym, ◌∙◌, ap, subst, arith, inl, inr}
+use Rattle.std.proofs.Common.{◌≡◌, ℕ, zero, suc, ◌≤◌, Bool, true, false, cond, eqb, eq-eqb, List, [], ◌∷◌, length, slice_get, Option, Some, None, refl, sym, ◌∙◌, ap, subst, arith, inl, inr}
 use Rattle.std.proofs.lemmas.Bool.{cases_eq, ne_eqb, cond-true, cond-false}
 use Rattle.fb_model.specs.Names.{Path, path_eq}
 use Rattle.fb_model.specs.Wires.{Kind, Charted, Serviced, Leaf}
@@ -19,7 +19,6 @@ use Rattle.fb_state.specs.fb_timers.Expiry.{AreArmed, moment_of}
 use Rattle.fb_state.proofs.of_fb_chart.Lists.{all_got}
 use Rattle.fb_state.proofs.Blocks.{within}
 use Rattle.fb_dispatch.specs.Rearming.{moment_in, CanRetime, HasRetimed}
-use Rattle.fb_dispatch.proofs.Timed.{room_for}
 
 -- ---- leaves of different numbers
 
@@ -88,12 +87,6 @@ module _ (store : Store) (all : List Leaf) (apart : AreApart all) (i : ℕ) (lea
             )
       ]
 
--- only timers of leaves are armed
-armed_within : (store : Store) (all : List Leaf) (k d : ℕ) (o : Option Leaf) → slice_get all k ≡ o → moment_of store o ≡ Some d → k < length all
-armed_within store all k d None h e = absurd cc
-armed_within store all k d (Some leaf) h e = within all k leaf h
-
 -- there is room to arm the timer of a leaf
-pub can_retime : (timer : Bool) (store : Store) (all : List Leaf) (old : Timing) (i : ℕ) (leaf : Leaf) → AreArmed store all old.armed → length all ≤ old.room → slice_get all i ≡ Some leaf → CanRetime timer old i
-can_retime timer store all old i leaf h room stands t apart =
-    omega (arith, room, room_for (length all) old.armed i apart (within all i leaf stands) (λ k d e. armed_within store all k d (slice_get all k) refl (sym (h k) ∙ e)))
+pub can_retime : (timer : Bool) (all : List Leaf) (old : Timing) (i : ℕ) (leaf : Leaf) → length all ≤ old.room → slice_get all i ≡ Some leaf → CanRetime timer old i
+can_retime timer all old i leaf room stands t = omega (arith, room, within all i leaf stands)

@@ -85,7 +85,7 @@ module _ (p : Program) (r : Running) (g : IsGood p r) (q : ℕ) (first : Ticket)
   kind_read block e = ap kind_of (read p.tables.blocks.items first.point.block (at.point p r g q first qs t).at.block block (at.point p r g q first qs t).at.stands e) ∙ (at.point p r g q first qs t).at.is.kind
 
   pub can_retime_at : (timer : Bool) → CanRetime timer r.timers first.point.block
-  can_retime_at timer = can_retime timer (machine_of (session_of p r)).store (at.all p r g q first qs t) r.timers first.point.block (at.leaf p r g q first qs t) g.armed g.timers (at.point p r g q first qs t).leaf_stands
+  can_retime_at timer = can_retime timer (at.all p r g q first qs t) r.timers first.point.block (at.leaf p r g q first qs t) g.timers (at.point p r g q first qs t).leaf_stands
 
   module _ (mem : Memory) (steps : ℕ) (effect : Option Effect) (points : List Point)
       (h : HasTurned p.tables.blocks.items p.tables.ports.items r.memory first.point first.values.items r.clock mem steps effect r.outbox.items points) where

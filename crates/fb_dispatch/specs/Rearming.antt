@@ -1,9 +1,9 @@
 -- Armed timers after a dispatch.
-use Rattle.std.specs.Prelude.{ℕ, ◌≡◌, ◌==◌, ◌<◌, Bool, true, length, Option, None, Some, if◌then◌else◌}
+use Rattle.std.specs.Prelude.{ℕ, ◌≡◌, ◌==◌, ◌<◌, Bool, true, Option, None, Some, if◌then◌else◌}
 use Rattle.fb_state.specs.fb_serve.declared.standing.Standing.TheVariants as s
 use Rattle.fb_state.specs.fb_turn.declared.memory.Condition.{Condition}
 use Rattle.fb_state.specs.fb_turn.declared.memory.Condition.TheVariants as c
-use Rattle.fb_state.specs.fb_timers.Order.{Timing, AreApart, due_of, without}
+use Rattle.fb_state.specs.fb_timers.Order.{Timing, due_of}
 
 -- the moment at which what is remembered is due
 abbrev pub moment_in : Condition → Option ℕ
@@ -19,9 +19,9 @@ moment_in (c.Service s.Plain) = None
 abbrev pub IsRearmed : Timing → ℕ → Condition → Timing → Type 0
 IsRearmed old block now new = (k : ℕ) → due_of new.armed k ≡ (if block == k then moment_in now else due_of old.armed k)
 
--- where the block is a timer, there is room to arm it once it is not armed
+-- where the block is a timer, it is one of those for which there is room
 abbrev pub CanRetime : Bool → Timing → ℕ → Type 0
-CanRetime timer old block = timer ≡ true → AreApart old.armed → length (without old.armed block) < old.room
+CanRetime timer old block = timer ≡ true → block < old.room
 
 -- the moment at which each block is due afterwards
 abbrev pub HasRetimed : Bool → Timing → ℕ → Condition → Timing → Type 0

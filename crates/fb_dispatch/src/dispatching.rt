@@ -2,10 +2,8 @@
 
 ghost use Rattle.std.specs.Prelude.{◌≡◌, ◌<◌, length, Some, slice_get};
 ghost use Rattle.std.specs.Option.{option_map};
-ghost use Rattle.fb_model.specs.Devices.{Happens, Dispatch};
-ghost use Rattle.fb_model.specs.Wires.{leaves};
-ghost use Rattle.fb_state.specs.Sessions.{session_of};
-ghost use Rattle.fb_state.specs.Machines.{device_in, cert_in, machine_of};
+ghost use Rattle.fb_model.specs.Devices.{Dispatch};
+ghost use Rattle.fb_state.specs.Machines.{running_leaves, Steps};
 ghost use Rattle.fb_state.specs.Keeping.{IsGood};
 ghost use Rattle.fb_dispatch.specs.Answers.{turned_of, HasPoint, end_by};
 
@@ -41,8 +39,8 @@ fn end_of(ended: Option<Reaction>, bound: u64) -> Option<Ended>
 /// Takes the first entry of a resource, and runs its block to its end. `Idle` where nothing is pending or there is no such resource.
 pub fn dispatch(program: &Program, running: &mut Running, resource: usize) -> Turned
     requires { IsGood program.now running.old }
-    ensures step { Happens (cert_in (session_of program.now running.old)) (device_in (session_of program.now running.old)) (machine_of (session_of program.now running.old)) (Dispatch resource) (turned_of (leaves (device_in (session_of program.now running.old))) result) (machine_of (session_of program.now running.new)) }
-    ensures point { HasPoint (leaves (device_in (session_of program.now running.old))) result }
+    ensures step { Steps program.now running.old (Dispatch resource) (turned_of (running_leaves program.now running.old) result) running.new }
+    ensures point { HasPoint (running_leaves program.now running.old) result }
     ensures good { IsGood program.now running.new }
 {
     let Some(first) = take(&mut running.queues, resource) else {

@@ -1,9 +1,8 @@
 //! Timers after a dispatch.
 
-ghost use Rattle.std.specs.Prelude.{◌≡◌, ◌<◌, ◌≤◌, length};
+ghost use Rattle.std.specs.Prelude.{◌≡◌, ◌<◌};
 ghost use Rattle.fb_model.specs.Devices.{is_timer};
 ghost use Rattle.fb_state.specs.fb_chart.Views.{body_kind};
-ghost use Rattle.fb_state.specs.fb_timers.Order.{without};
 ghost use Rattle.fb_dispatch.specs.Rearming.{moment_in, IsRearmed, CanRetime, HasRetimed};
 
 use fb_services::Service;
@@ -24,9 +23,9 @@ fn moment(condition: Condition) -> Option<u64>
 
 // Arms or disarms the timer of a block, by what the block remembers.
 fn rearm(timers: &mut Timers, block: u16, now: Condition)
-    requires { length (without timers.old.armed block) < timers.old.room }
+    requires { block < timers.old.room }
     ensures armed { IsRearmed timers.old block now timers.new }
-    ensures room { timers.old.room ≤ timers.new.room }
+    ensures room { timers.new.room ≡ timers.old.room }
 {
     timers.keeps_order();
     timers.disarm(block);
@@ -51,7 +50,7 @@ fn is_timer(body: &Body) -> bool
 pub(crate) fn retime(timers: &mut Timers, body: &Body, block: u16, now: Condition)
     requires { CanRetime (is_timer (body_kind body.now)) timers.old block }
     ensures timed { HasRetimed (is_timer (body_kind body.now)) timers.old block now timers.new }
-    ensures room { timers.old.room ≤ timers.new.room }
+    ensures room { timers.new.room ≡ timers.old.room }
 {
     timers.keeps_order();
     if is_timer(body) {

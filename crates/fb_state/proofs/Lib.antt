@@ -12,4 +12,3 @@ pub mod Queued
 pub mod Kept
 pub mod Moved
 pub mod Arriving
-pub mod Few

@@ -16,7 +16,9 @@ use Rattle.fb_turn.specs.Conditions.{leaf_state}
 use Rattle.fb_sched.specs.Agenda.{Agenda}
 use Rattle.fb_sched.specs.Entries.{entries, booked}
 use Rattle.fb_sched.specs.Steps.{spent}
-use Rattle.fb_state.specs.Sessions.{Session}
+use Rattle.fb_state.specs.declared.program.Program.{Program}
+use Rattle.fb_state.specs.declared.program.Running.{Running}
+use Rattle.fb_state.specs.Sessions.{Session, session_of}
 
 -- ---- the device and its certificate
 
@@ -74,3 +76,21 @@ machine all queues f clock next =
 
 abbrev pub machine_of : Session → Machine
 machine_of s = machine (leaves (device_in s)) s.queues (standing s.own s.issued s.conditions) s.clock s.next
+
+-- ---- a device in the course of its run: its certificate, itself, its leaves, and where its machine stands
+
+abbrev pub running_rows : Program → Running → Certificate
+running_rows p r = cert_in (session_of p r)
+
+abbrev pub running_device : Program → Running → Device
+running_device p r = device_in (session_of p r)
+
+abbrev pub running_leaves : Program → Running → List Leaf
+running_leaves p r = leaves (running_device p r)
+
+abbrev pub running_state : Program → Running → Machine
+running_state p r = machine_of (session_of p r)
+
+-- what happens takes it from one moment of its run to another, with this answer
+abbrev pub Steps : Program → Running → book.Event → book.Answer → Running → Type 0
+Steps p r happens answer r' = book.Happens (running_rows p r) (running_device p r) (running_state p r) happens answer (running_state p r')

@@ -1,10 +1,8 @@
 //! Admission of arrivals: credit and cause numbers are this project's profile.
 
 ghost use Rattle.std.specs.Prelude.{◌≡◌, IfOk, IfErr};
-ghost use Rattle.fb_model.specs.Wires.{leaves};
 ghost use Rattle.fb_model.specs.Devices.{Arrival};
-ghost use Rattle.fb_state.specs.Sessions.{session_of};
-ghost use Rattle.fb_state.specs.Machines.{device_in, cert_in, machine_of};
+ghost use Rattle.fb_state.specs.Machines.{running_rows, running_device, running_leaves, running_state};
 ghost use Rattle.fb_state.specs.Keeping.{IsGood};
 ghost use Rattle.fb_state.specs.Arrivals.{IsArrival, Admits, IsShort};
 
@@ -28,11 +26,11 @@ pub fn admit(
     values: Values,
 ) -> Result<u64, Shortage>
     requires good { IsGood program.now running.old }
-    requires arrival { (a : Arrival) × IsArrival (leaves (device_in (session_of program.now running.old))) point values.items a }
-    ensures admits { (a : Arrival) → IsArrival (leaves (device_in (session_of program.now running.old))) point values.items a
-        → IfOk result (λ cause. Admits (cert_in (session_of program.now running.old)) (device_in (session_of program.now running.old)) (machine_of (session_of program.now running.old)) a cause (machine_of (session_of program.now running.new))) }
-    ensures short { (a : Arrival) → IsArrival (leaves (device_in (session_of program.now running.old))) point values.items a
-        → IfErr result (λ why. IsShort (cert_in (session_of program.now running.old)) (device_in (session_of program.now running.old)) (machine_of (session_of program.now running.old)) a why × (machine_of (session_of program.now running.new) ≡ machine_of (session_of program.now running.old))) }
+    requires arrival { (a : Arrival) × IsArrival (running_leaves program.now running.old) point values.items a }
+    ensures admits { (a : Arrival) → IsArrival (running_leaves program.now running.old) point values.items a
+        → IfOk result (λ cause. Admits (running_rows program.now running.old) (running_device program.now running.old) (running_state program.now running.old) a cause (running_state program.now running.new)) }
+    ensures short { (a : Arrival) → IsArrival (running_leaves program.now running.old) point values.items a
+        → IfErr result (λ why. IsShort (running_rows program.now running.old) (running_device program.now running.old) (running_state program.now running.old) a why × (running_state program.now running.new ≡ running_state program.now running.old)) }
     ensures good { IsGood program.now running.new }
     ensures memory { running.new.memory ≡ running.old.memory }
     ensures timers { running.new.timers ≡ running.old.timers }

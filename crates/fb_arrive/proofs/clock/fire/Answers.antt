@@ -23,9 +23,9 @@ returns-clause-machine c = λ leaf at.
     let new : Running = (record { queues = c.args.running.now.queues; memory = record { own = c.args.running.now.memory.own; issued = c.args.running.now.memory.issued; conditions = with_item c.args.running.now.memory.conditions c.args.block (Service s.Fired) }; timers = c.disarm.new.self; outbox = c.args.running.now.outbox; clock = c.args.running.now.clock; next = c.args.running.now.next }) in
     subst (λ (l : Leaf). machine_of (session_of c.args.program.now new) ≡ record { queues = m.queues; store = with_leaf m.store l.path (record { cells = (m.store l.path).cells; condition = Fired }); spent = m.spent; clock = m.clock; next = m.next })
     (same_at (leaves (device_in (session_of c.args.program.now c.args.running.now))) c.args.block c.requires.timer.leaf leaf c.requires.timer.stands at)
-    (machine_is c.args.program.now c.args.running.now c.requires.good c.args.block c.requires.timer c.keeps_order.ensures.1 new refl refl refl refl c.disarm.ensures.armed c.disarm.ensures.room refl refl refl)
+    (machine_is c.args.program.now c.args.running.now c.requires.good c.args.block c.requires.timer c.keeps_order.ensures.order.1 new refl refl refl refl c.disarm.ensures.armed (omega (arith, c.disarm.ensures.room)) refl refl refl)
 
 pub returns-clause-good : goal.returns-clause-good
 returns-clause-good c =
     let new : Running = (record { queues = c.args.running.now.queues; memory = record { own = c.args.running.now.memory.own; issued = c.args.running.now.memory.issued; conditions = with_item c.args.running.now.memory.conditions c.args.block (Service s.Fired) }; timers = c.disarm.new.self; outbox = c.args.running.now.outbox; clock = c.args.running.now.clock; next = c.args.running.now.next }) in
-    good_after c.args.program.now c.args.running.now c.requires.good c.args.block c.requires.timer c.keeps_order.ensures.1 new refl refl refl refl c.disarm.ensures.armed c.disarm.ensures.room refl refl refl
+    good_after c.args.program.now c.args.running.now c.requires.good c.args.block c.requires.timer c.keeps_order.ensures.order.1 new refl refl refl refl c.disarm.ensures.armed (omega (arith, c.disarm.ensures.room)) refl refl refl

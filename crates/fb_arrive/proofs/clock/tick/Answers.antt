@@ -7,7 +7,7 @@ use Rattle.fb_arrive.proofs.Ticks.{ticks, ticked, due_timer, fired_one, fired_le
 use Rattle.fb_arrive.proofs.clock.tick.Goals as goal
 
 pub loop-due-init : goal.loop-due-init
-loop-due-init c = ticks c.args.program.now c.args.running.now c.advance.new.running c.args.now c.advance.ensures.good c.keeps_order.ensures.0 c.keeps_order.ensures.1 c.advance.ensures.machine
+loop-due-init c = ticks c.args.program.now c.args.running.now c.advance.new.running c.args.now c.advance.ensures.good c.keeps_order.ensures.order.0 c.keeps_order.ensures.order.1 c.advance.ensures.machine
 
 pub expire-requires-clause-timer : goal.expire-requires-clause-timer
 expire-requires-clause-timer c =

@@ -1,4 +1,4 @@
-use Rattle.std.proofs.Common.{Option, length, refl, sym, ◌∙◌, ap, subst}
+use Rattle.std.proofs.Common.{Option, length, refl, sym, ◌∙◌, ap, subst, arith}
 use Rattle.std.specs.Option.{option_map}
 use Rattle.fb_model.specs.Serving.{Effect as Outside}
 use Rattle.fb_model.specs.Wires.{leaves}
@@ -79,5 +79,5 @@ returns-clause-good c =
     c.enter-ended.result.0 c.enter-ended.result.1 c.enter-ended.new.queues.items c.enter-ended.ensures.entered new refl refl refl refl
     (timed_as c.args.program.now c.args.running.now c.requires c.args.resource c.in-Some.first c.take.new.queues.items c.in-Some.ensures c.turn-outcome.new.memory c.turn-outcome.result.steps c.turn-outcome.result.effect c.turn-outcome.new.emit.items h
     c.index.result.now c.index.ensures c.remembered-now.result c.remembered-now.ensures c.retime.new.timers c.retime.ensures.timed)
-    c.retime.ensures.room c.enter-ended.ensures.empty
+    (omega (arith, c.retime.ensures.room)) c.enter-ended.ensures.empty
     (c.enter-ended.ensures.room ∙ capacity_same c.args.running.now.outbox.capacity c.turn-outcome.new.emit.capacity (length c.args.running.now.outbox.items) (length c.turn-outcome.new.emit.items) c.turn-outcome.ensures.room (ap length c.requires.outbox) c.enter-ended.ensures.within)
