@@ -75,10 +75,6 @@ pub fn meaning_of(code: u8) -> Option<Meaning> {
             "the system has no device of this name (calls of the library; `fbr sim` takes the one device)",
             "give the name of one of its devices",
         ),
-        22 => said(
-            "devices do not run this so far: services other than INPUT and OUTPUT",
-            "check it with `fbr check`; it runs with a later version",
-        ),
         30 => said(
             "this line of the certificate is no row",
             "steps 0 to 10^12, places 0 to 4,096, depth 1 to 4,096, REPEATS 1 to 255, a channel 0 to 65,535; of a RANGE two numbers of LINT, the second no less than the first",
