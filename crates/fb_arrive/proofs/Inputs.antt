@@ -27,7 +27,8 @@ use Rattle.fb_state.proofs.Lists.{same_at}
 use Rattle.fb_state.proofs.Blocks.{within, block_of}
 use Rattle.fb_arrive.specs.declared.denied.Denied.{Denied}
 use Rattle.fb_arrive.specs.declared.denied.Denied.TheVariants.{UnknownInput, BadCount, BadValue, NoCredit, Spent}
-use Rattle.fb_arrive.specs.Offering.{input_at, IsOutside}
+use Rattle.fb_state.specs.fb_tables.Tables.{input_at}
+use Rattle.fb_arrive.specs.Offering.{IsOutside}
 use Rattle.fb_arrive.specs.Answers.{denial_of}
 use Rattle.fb_arrive.proofs.SameKinds.{InputAt, an_input, same_kinds}
 
