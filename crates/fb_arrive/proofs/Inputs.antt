@@ -27,7 +27,8 @@ use Rattle.fb_state.proofs.Lists.{same_at}
 use Rattle.fb_state.proofs.Blocks.{within, block_of}
 use Rattle.fb_arrive.specs.declared.denied.Denied.{Denied}
 use Rattle.fb_arrive.specs.declared.denied.Denied.TheVariants.{UnknownInput, BadCount, BadValue, NoCredit, Spent}
-use Rattle.fb_arrive.specs.Offering.{input_at, IsOutside}
+use Rattle.fb_state.specs.fb_tables.Tables.{input_at}
+use Rattle.fb_arrive.specs.Offering.{IsOutside}
 use Rattle.fb_arrive.specs.Answers.{denial_of}
 use Rattle.fb_arrive.proofs.SameKinds.{InputAt, an_input, same_kinds}
 
@@ -78,9 +79,6 @@ module _ (p : Program) (r : Running) (g : IsGood p r) (n k : ℕ) (found : input
 
   pub inside : k < length p.tables.blocks.items
   inside = within p.tables.blocks.items k at.block at.block_stands
-
-  pub few : k < 65536
-  few = omega (arith, within all k at.leaf at.leaf_stands, g.program.tables.few)
 
   pub types_are : (x : Block) → slice_get p.tables.blocks.items k ≡ Some x → types_of (kind_of x) ≡ types_of at.leaf.kind
   types_are x h = ap (λ (y : Block). types_of (kind_of y)) (same_at p.tables.blocks.items k x at.block h at.block_stands) ∙ ap types_of at.kind

@@ -13,7 +13,7 @@ use Rattle.fb_state.specs.declared.program.Running.{Running}
 use Rattle.fb_state.specs.Sessions.{session_of}
 use Rattle.fb_state.specs.Machines.{device_in}
 use Rattle.fb_state.specs.Keeping.{IsGood}
-use Rattle.fb_arrive.specs.Offering.{input_at, later}
+use Rattle.fb_state.specs.fb_tables.Tables.{input_at, later}
 
 abbrev pub leaf_kind : Leaf → Kind
 leaf_kind leaf = leaf.kind

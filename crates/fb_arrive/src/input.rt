@@ -3,40 +3,18 @@
 ghost use Rattle.std.specs.Prelude.{◌≡◌, ◌≤◌, true, length, IfOk, IfErr};
 ghost use Rattle.fb_model.specs.Values.{all_in};
 ghost use Rattle.fb_model.specs.Ranges.{types_of};
-ghost use Rattle.fb_model.specs.Devices.{Offer, is_input_numbered};
+ghost use Rattle.fb_model.specs.Devices.{Offer};
 ghost use Rattle.fb_state.specs.fb_chart.Views.{body_kind};
 ghost use Rattle.fb_state.specs.Machines.{Steps};
 ghost use Rattle.fb_state.specs.Keeping.{IsGood};
 ghost use Rattle.fb_arrive.specs.Answers.{admission_of};
-ghost use Rattle.fb_arrive.specs.Offering.{input_at, IsOutside};
+ghost use Rattle.fb_arrive.specs.Offering.{IsOutside};
 
 use crate::denied::Denied;
 use fb_services::Service;
-use fb_state::fb_turn::fb_chart::{Block, Body, Point, Values};
+use fb_state::fb_turn::fb_chart::{Body, Point, Values};
 use fb_state::{Program, Running, Shortage, admit};
 use fb_words::ElemType;
-
-// Whether a body is the INPUT of a number.
-fn is_input(body: &Body, number: u16) -> bool
-    ensures { result ≡ is_input_numbered number (body_kind body.now) }
-{
-    match body {
-        Body::Served(Service::Input(own, _)) => *own == number,
-        _ => false,
-    }
-}
-
-// The block of the first INPUT of a number.
-fn input(blocks: &[Block], number: u16) -> Option<usize>
-    ensures { result ≡ input_at blocks.now number }
-{
-    for at in 0..blocks.len() {
-        if is_input(&blocks[at].body, number) {
-            return Some(at);
-        }
-    }
-    None
-}
 
 // The types of the values that come to a block from outside.
 fn arriving(body: &Body) -> &[ElemType]
@@ -79,17 +57,15 @@ pub fn offer(
     ensures step { Steps program.now running.old (Offer number values.now) (admission_of result) running.new }
     ensures good { IsGood program.now running.new }
 {
-    let Some(at) = input(&program.tables.blocks, number) else {
+    let Some(block) = program.tables.input(number) else {
         return Err(Denied::UnknownInput);
     };
+    let at = block as usize;
     let values = match taken(arriving(&program.tables.blocks[at].body), values) {
         Ok(values) => values,
         Err(denied) => return Err(denied),
     };
-    let point = Point {
-        block: at as u16,
-        event: 0,
-    };
+    let point = Point { block, event: 0 };
     match admit(program, running, point, values) {
         Ok(cause) => Ok(cause),
         Err(Shortage::Places { needs, free }) => Err(Denied::NoCredit { needs, free }),

@@ -16,7 +16,7 @@ use Rattle.fb_arrive.specs.fb_state.fb_serve.declared.standing.Ports.{Ports}
 use Rattle.fb_arrive.specs.fb_state.st_exec.Cells.{Form}
 use Rattle.fb_arrive.specs.fb_state.fb_tables.Tables.{IsBlock, AreBlocks, AreResources}
 use Rattle.fb_device.specs.Answers.{IsNamed, IsNoPoint, IsNumberOf, IsNoNumber}
-use Rattle.fb_arrive.specs.Offering.{later}
+use Rattle.fb_arrive.specs.fb_state.fb_tables.Tables.{later}
 use Rattle.fb_device.specs.Finding.{first_named}
 use Rattle.fb_arrive.proofs.of_fb_state.Lists.{same_at}
 use Rattle.fb_arrive.proofs.of_fb_state.Blocks.{Pair, block_of, block_count, leaf_of, within, mapped, events_same}

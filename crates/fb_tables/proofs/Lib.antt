@@ -17,3 +17,4 @@ pub mod Ports
 pub mod Giving
 pub mod Blocks
 pub mod Devices
+pub mod Numbered

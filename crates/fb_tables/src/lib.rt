@@ -7,6 +7,7 @@ mod carry;
 mod chart;
 mod event;
 mod give;
+mod input;
 mod names;
 mod number;
 mod port;

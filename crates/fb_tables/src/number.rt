@@ -12,6 +12,7 @@ ghost use Rattle.fb_chart.specs.Tables.{Each};
 ghost use Rattle.fb_tables.specs.Filling.{IsResourceMade};
 
 use crate::block::blocks;
+use crate::input::inputs;
 use crate::port::ports;
 use crate::seat::{homes, paths, seats};
 use crate::table::{Resource, Tables};
@@ -85,10 +86,12 @@ pub fn tables(
     let paths = paths(alloc, &seats)?;
     let blocks = blocks(alloc, certificate, &paths, &seats)?;
     let ports = ports(alloc, &seats)?;
+    let inputs = inputs(alloc, &blocks)?;
     let resources = resources(alloc, certificate, typed.name.as_str(), &typed.resources)?;
     Ok(Tables {
         blocks,
         ports,
         resources,
+        inputs,
     })
 }

@@ -1,7 +1,11 @@
 //! A device by numbers.
 
+ghost use Rattle.std.specs.Prelude.{◌≡◌, nat_eq};
+ghost use Rattle.indexmap.specs.IndexMap.{get};
+
 use fb_chart::Block;
 use fb_serve::Ports;
+use indexmap::IndexMap;
 
 /// A resource, with its DEPTH.
 #[derive(Drop)]
@@ -10,15 +14,24 @@ pub struct Resource {
     pub depth: u64,
 }
 
-/// A device: its blocks by resource and then in text order, the ports of each of them (which mean nothing of a chart), and its resources in text order.
+/// A device: its blocks by resource and then in text order, the ports of each of them (which mean nothing of a chart), its resources in text order, and
+/// the number of the block of each INPUT, by the INPUT's number.
 #[derive(Drop)]
 pub struct Tables {
     pub blocks: Vec<Block>,
     pub ports: Vec<Ports>,
     pub resources: Vec<Resource>,
+    pub inputs: IndexMap<u16, u16>,
 }
 
 impl Tables {
+    /// The number of the block of the INPUT of a number. It takes constant time.
+    pub fn input(&self, number: u16) -> Option<u16>
+        ensures { result ≡ get nat_eq self.now.inputs number }
+    {
+        self.inputs.get(&number).copied()
+    }
+
     /// Lets the tables go. (A crate that lets them go by itself proves the end of each of their parts anew; this call is proved once.)
     pub fn let_go(self) {}
 }
