@@ -5,32 +5,35 @@ ghost use Rattle.fb_timers.specs.Order.{place, placed, without, due_of, due_at, 
 
 use crate::armed::Armed;
 use std::alloc::{AllocError, Global};
+use std::collections::VecDeque;
 use std::marker::Model;
 
 /// The timers of a device that are armed, in the order in which they expire: by due moment, and of those due at one moment in the order of their blocks.
-/// Each block has one at most, and the moment at which it is due stands under the number of its block as well. Only `new` takes memory.
+/// Each block has one at most, and the moment at which it is due stands under the number of its block as well. Where one comes or goes, those on its shorter
+/// side move. Only `new` takes memory.
 #[derive(Drop)]
 pub struct Timers {
-    armed: Vec<Armed>,
+    armed: VecDeque<Armed>,
     moments: Vec<Option<u64>>,
 }
 
 impl Model for Timers {
     ghost use Rattle.fb_timers.specs.Order.{Timing, IsOrdered, AreApart, AreTold};
-    ghost use Rattle.std.specs.Prelude.{◌≤◌, length, vec_capacity};
+    ghost use Rattle.std.specs.Prelude.{◌≤◌, length};
+    ghost use Rattle.std.specs.VecDeque.{deque_capacity};
 
     ghost Value = { Timing };
 
     ghost view = { λ t. record { armed = t.armed.items; room = length t.moments.items } };
 
-    ghost invariant = { λ t. IsOrdered t.armed.items × AreApart t.armed.items × AreTold t.moments.items t.armed.items × (length t.moments.items ≤ vec_capacity t.armed) };
+    ghost invariant = { λ t. IsOrdered t.armed.items × AreApart t.armed.items × AreTold t.moments.items t.armed.items × (length t.moments.items ≤ deque_capacity t.armed) };
 }
 
 // How many timers stand before one.
-fn place_of(armed: &[Armed], one: &Armed) -> usize
-    requires { IsOrdered armed.now }
-    ensures place { result ≡ place one.now armed.now }
-    ensures within { result ≤ length armed.now }
+fn place_of(armed: &VecDeque<Armed>, one: &Armed) -> usize
+    requires { IsOrdered armed.now.items }
+    ensures place { result ≡ place one.now armed.now.items }
+    ensures within { result ≤ length armed.now.items }
 {
     armed.partition_point(|other| other.is_ahead(one))
 }
@@ -54,8 +57,8 @@ fn tell(moments: &mut [Option<u64>], block: u16, moment: Option<u64>)
 }
 
 // The timer of an index, where it is due at a moment.
-fn due_in(armed: &[Armed], clock: u64, index: usize) -> Option<Armed>
-    ensures { result ≡ if_due clock (slice_get armed.now index) }
+fn due_in(armed: &VecDeque<Armed>, clock: u64, index: usize) -> Option<Armed>
+    ensures { result ≡ if_due clock (slice_get armed.now.items index) }
 {
     if index < armed.len() && armed[index].due <= clock {
         return Some(armed[index]);
@@ -69,7 +72,7 @@ impl Timers {
         ensures empty { IfOk result (λ timers. timers.armed ≡ []) }
         ensures room { IfOk result (λ timers. timers.room ≡ count) }
     {
-        let armed = Vec::with_capacity(alloc, count)?;
+        let armed = VecDeque::with_capacity(alloc, count)?;
         let mut moments = Vec::new(alloc);
         moments.resize(count, None)?;
         Ok(Timers { armed, moments })

@@ -1,4 +1,4 @@
-use Rattle.std.proofs.Common.{rules}
+use Rattle.std.proofs.Common.{rules, arith}
 use Rattle.std.proofs.lemmas.List.Sorted.{IsPartitionPoint-from_clause}
 use Rattle.fb_timers.specs.declared.armed.Armed.{Armed}
 use Rattle.fb_timers.specs.Order.{is_ahead}
@@ -8,6 +8,6 @@ use Rattle.fb_timers.proofs.timers.place_of.Goals as goal
 pub returns-clause-place : goal.returns-clause-place
 returns-clause-place c =
     let x = c.args.one.now in
-    let l = c.args.armed.now in
+    let l = c.args.armed.now.items in
     let point = IsPartitionPoint-from_clause (λ (y : Armed). is_ahead y x) l c.partition_point.result c.partition_point.ensures.partitioned (parted x l c.requires) (λ a r q k. search rules) in
-    place_found x l c.partition_point.result c.partition_point.ensures.bound point
+    place_found x l c.partition_point.result (omega (arith, c.partition_point.ensures.bound, c.args.armed.now.ok.0)) point

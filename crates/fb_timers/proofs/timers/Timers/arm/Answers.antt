@@ -16,7 +16,7 @@ unreachable-requires c =
     let quiet : due_of old c.args.block ≡ None = ap (λ t. due_of t.armed c.args.block) c.self.view_is ∙ c.requires.quiet in
     let known : c.args.block < length moments = subst (λ t. c.args.block < t.room) (sym c.self.view_is) c.requires.known in
     let few : length old < length moments = room_for (length moments) old c.args.block c.self.invariant.1 quiet known (λ k d e. told_within moments old k d c.self.invariant.2 e) in
-    omega (arith, few, c.self.invariant.3, c.in-Err.ensures.full, ap length c.deref.ensures.value, c.deref.ensures.len)
+    omega (arith, few, c.self.invariant.3, c.in-Err.ensures.full, c.self.inside.armed.ok.0)
 
 pub tell-requires : goal.tell-requires
 tell-requires c =
@@ -30,7 +30,7 @@ invariant_of-self c =
     let moments = c.self.inside.moments.items in
     let quiet : due_of old c.args.block ≡ None = ap (λ t. due_of t.armed c.args.block) c.self.view_is ∙ c.requires.quiet in
     let known : c.args.block < length moments = subst (λ t. c.args.block < t.room) (sym c.self.view_is) c.requires.known in
-    let at : c.place_of-at.result ≡ place x old = c.place_of-at.ensures.place ∙ ap (place x) c.deref.ensures.value in
+    let at : c.place_of-at.result ≡ place x old = c.place_of-at.ensures.place in
     let is : c.insert.new.self.items ≡ placed x old = c.in-Ok.ensures.items ∙ ap (λ i. insert old i x) at ∙ place_inserts x old quiet in
     let new : c.tell.new.moments ≡ set moments c.args.block (Some c.args.due) = c.tell.ensures ∙ ap (λ (ms : List (Option ℕ)). set ms c.args.block (Some c.args.due)) c.deref_mut.ensures.value in
     let long : length c.tell.new.moments ≡ length moments = ap length new ∙ length-set moments c.args.block (Some c.args.due) in
@@ -48,5 +48,5 @@ returns-clause-armed c =
     let x : Armed = record { due = c.args.due; block = c.args.block } in
     let old = c.args.self.now.armed in
     let view = ap (λ t. t.armed) c.self.view_is in
-    let at : c.place_of-at.result ≡ place x old = c.place_of-at.ensures.place ∙ ap (place x) (c.deref.ensures.value ∙ view) in
+    let at : c.place_of-at.result ≡ place x old = c.place_of-at.ensures.place ∙ ap (place x) view in
     c.in-Ok.ensures.items ∙ ap (λ (l : List Armed). insert l c.place_of-at.result x) view ∙ ap (λ i. insert old i x) at ∙ place_inserts x old c.requires.quiet
