@@ -1,7 +1,7 @@
 //! The kinds of cases.
 
 use crate::case::Case;
-use crate::{devices, made, systems, texts, verdicts, walks};
+use crate::{datagrams, devices, made, systems, texts, verdicts, walks};
 use std::alloc::{AllocError, Global};
 
 /// What the product's calls answer for a case of a kind.
@@ -13,6 +13,7 @@ pub fn answer(alloc: Global, kind: &str, case: &Case<'_>) -> Result<String, Allo
         "stages" => verdicts::stages(alloc, case),
         "tables" => made::tables_of(alloc, case),
         "verified" => verdicts::verified(alloc, case),
+        "datagrams" => datagrams::datagrams(alloc, case),
         "tokens" => texts::tokens(alloc, case),
         "expressions" => texts::expressions(alloc, case),
         "statements" => texts::statements(alloc, case),

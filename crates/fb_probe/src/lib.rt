@@ -2,6 +2,7 @@
 #![tactic(auto)]
 
 mod case;
+mod datagrams;
 mod declared;
 mod devices;
 mod kinds;

@@ -1,0 +1,187 @@
+-- Messages of which all is read, and how far reading has come.
+use Rattle.std.proofs.Common.{ℕ, zero, suc, ◌≡◌, ◌<◌, ◌≤◌, ◌-◌, ◌+◌, ◌*◌, ◌^◌, ◌++◌, true, List, [], ◌∷◌, length, map, take, get_or, Some, None, refl, sym, ◌∙◌, ap, subst, arith}
+use Rattle.std.specs.List.{AllByRecursion}
+use Rattle.std.proofs.lemmas.List.{length-map, length-append, length-take, map-append, append-nil, append_assoc}
+use Rattle.fb_words.specs.Numbers.{in_type}
+use Rattle.fb_model.specs.Messages as book
+use Rattle.fb_model.specs.Messages.{Message, Spells, spelling}
+use Rattle.fb_wire.specs.declared.message.Purpose.{Purpose}
+use Rattle.fb_wire.specs.declared.message.Purpose.TheVariants.{ToChannel, ToInput}
+use Rattle.fb_wire.specs.declared.message.Typed.{Typed}
+use Rattle.fb_wire.specs.declared.fault.WireFault.{WireFault}
+use Rattle.fb_wire.specs.declared.fault.WireFault.TheVariants.{Trailing}
+use Rattle.fb_wire.specs.Views.{purpose_of, typed_of, value_bytes, all_bytes, head_bytes}
+use Rattle.fb_wire.specs.Fields.{first_fault, values_in, fault_in}
+use Rattle.fb_wire.proofs.Reading.{head_right, value_right}
+use Rattle.fb_wire.proofs.Spelled.{in_64, spelled}
+
+abbrev pub AreFitting : List Typed → Type 0
+AreFitting vs = AllByRecursion (λ (v : Typed). in_type v.elem v.value ≡ true) vs
+
+-- ---- nothing is at fault with a spelling
+
+all_right : (vs : List Typed) → AreFitting vs → first_fault (values_in (length vs) (all_bytes vs)) (all_bytes vs) ≡ None
+all_right [] h = refl
+all_right (v ∷ vs) h = value_right v.elem v.value (length vs) (all_bytes vs) (in_64 v.elem v.value h.0) h.0 ∙ all_right vs h.1
+
+right_bytes : (p : Purpose) (n : ℕ) (vs : List Typed) → length vs ≤ 16 → AreFitting vs → fault_in (head_bytes p n (length vs) ++ all_bytes vs) ≡ None
+right_bytes p n vs few h = head_right p n (length vs) (values_in (length vs) (all_bytes vs)) (all_bytes vs) few ∙ all_right vs h
+
+abbrev pub untyped : book.Typed → Typed
+untyped v = record { elem = v.type; value = v.value }
+
+pub typed_again : (vs : List book.Typed) → map typed_of (map untyped vs) ≡ vs
+typed_again [] = refl
+typed_again (v ∷ vs) = ap (λ us. v ∷ us) (typed_again vs)
+
+pub still_fitting : (vs : List book.Typed) → AllByRecursion (λ (v : book.Typed). in_type v.type v.value ≡ true) vs → AreFitting (map untyped vs)
+still_fitting [] h = tt
+still_fitting (v ∷ vs) h = (h.0, still_fitting vs h.1)
+
+nothing_at_fault : (p : Purpose) (n : ℕ) (vs : List book.Typed) → length vs ≤ 16 → AllByRecursion (λ (v : book.Typed). in_type v.type v.value ≡ true) vs → fault_in (spelling (record { purpose = purpose_of p; number = n; values = vs })) ≡ None
+nothing_at_fault p n vs few h =
+    ap (λ (us : List book.Typed). fault_in (spelling (record { purpose = purpose_of p; number = n; values = us }))) (sym (typed_again vs))
+    ∙ ap fault_in (sym (spelled p n (map untyped vs) (still_fitting vs h)))
+    ∙ right_bytes p n (map untyped vs) (omega (arith, few, length-map vs untyped)) (still_fitting vs h)
+
+right_spelling : (p : book.Purpose) (n : ℕ) (vs : List book.Typed) → length vs ≤ 16 → AllByRecursion (λ (v : book.Typed). in_type v.type v.value ≡ true) vs → fault_in (spelling (record { purpose = p; number = n; values = vs })) ≡ None
+right_spelling book.To_channel n vs few h = nothing_at_fault ToChannel n vs few h
+right_spelling book.To_input n vs few h = nothing_at_fault ToInput n vs few h
+
+pub spells_rightly : (m : Message) (bytes : List ℕ) → Spells m bytes → fault_in bytes ≡ None
+spells_rightly m bytes s = ap fault_in s.bytes_are ∙ right_spelling m.purpose m.number m.values s.count s.values
+
+typed_fitting : (vs : List Typed) → AreFitting vs → AllByRecursion (λ (v : book.Typed). in_type v.type v.value ≡ true) (map typed_of vs)
+typed_fitting [] h = tt
+typed_fitting (v ∷ vs) h = (h.0, typed_fitting vs h.1)
+
+-- ---- how far reading has come
+
+-- k of count values are read, and what is left is at fault as the whole is
+pub record Coming (bytes : List ℕ) (count k : ℕ) (message : Message) (rest : List ℕ) : Type 0 where
+  pub purpose : Purpose
+  pub number : ℕ
+  pub values : List Typed
+  pub message_is : message ≡ record { purpose = purpose_of purpose; number = number; values = map typed_of values }
+  pub bytes_are : bytes ≡ head_bytes purpose number count ++ all_bytes values ++ rest
+  pub small : number < 2 ^ 16
+  pub few : count ≤ 16
+  pub many : length values ≡ k
+  pub fitting : AllByRecursion (λ (v : Typed). in_type v.elem v.value ≡ true) values
+  pub goes_on : fault_in bytes ≡ first_fault (values_in (count - k) rest) rest
+
+pub begins : (bytes rest : List ℕ) (p : Purpose) (n count : ℕ) → bytes ≡ head_bytes p n count ++ rest → count ≤ 16 → n < 2 ^ 16 → Coming bytes count 0 (record { purpose = purpose_of p; number = n; values = [] }) rest
+begins bytes rest p n count is few small =
+    record {
+      purpose = p;
+      number = n;
+      values = [];
+      message_is = refl;
+      bytes_are = is;
+      small = small;
+      few = few;
+      many = refl;
+      fitting = tt;
+      goes_on = ap fault_in is ∙ head_right p n count (values_in count rest) rest few ∙ ap (λ n. first_fault (values_in n rest) rest) (let e : count ≡ count - 0 = omega arith in e);
+    }
+
+one_more : (vs : List Typed) (v : Typed) (rest : List ℕ) → all_bytes vs ++ (value_bytes v ++ rest) ≡ all_bytes (vs ++ v ∷ []) ++ rest
+one_more [] v rest = refl
+one_more (u ∷ vs) v rest = ap (λ bs. value_bytes u ++ bs) (one_more vs v rest)
+
+fitting_more : (vs : List Typed) (v : Typed) → AreFitting vs → in_type v.elem v.value ≡ true → AreFitting (vs ++ v ∷ [])
+fitting_more [] v h f = (f, tt)
+fitting_more (u ∷ vs) v h f = (h.0, fitting_more vs v h.1 f)
+
+module _ (bytes rest : List ℕ) (count k : ℕ) (m : Message) (more : k < count) (c : Coming bytes count k m rest) where
+  left : count - k ≡ suc (count - (k + 1))
+  left = omega (arith, more)
+
+  -- the next value is at fault
+  pub at_fault : (fault : WireFault) → ((n : ℕ) → first_fault (values_in (suc n) rest) rest ≡ Some fault) → fault_in bytes ≡ Some fault
+  at_fault fault h = c.goes_on ∙ ap (λ n. first_fault (values_in n rest) rest) left ∙ h (count - (k + 1))
+
+  pub room : length m.values < 16
+  room = omega (arith, more, c.few, c.many, ap (λ (x : Message). length x.values) c.message_is, length-map c.values typed_of)
+
+  -- it is read
+  pub next : (behind : List ℕ) (v : Typed) (after : Message) → rest ≡ value_bytes v ++ behind → in_type v.elem v.value ≡ true → after ≡ record { purpose = m.purpose; number = m.number; values = m.values ++ typed_of v ∷ [] } → Coming bytes count (k + 1) after behind
+  next behind v after is f e =
+      record {
+        purpose = c.purpose;
+        number = c.number;
+        values = c.values ++ v ∷ [];
+        message_is = e ∙ ap (λ (x : Message). record { purpose = x.purpose; number = x.number; values = x.values ++ typed_of v ∷ [] }) c.message_is ∙ ap (λ vs. record { purpose = purpose_of c.purpose; number = c.number; values = vs }) (sym (map-append typed_of c.values (v ∷ [])));
+        bytes_are = c.bytes_are ∙ ap (λ bs. head_bytes c.purpose c.number count ++ bs) (ap (λ bs. all_bytes c.values ++ bs) is ∙ one_more c.values v behind);
+        small = c.small;
+        few = c.few;
+        many = length-append c.values (v ∷ []) ∙ ap (λ n. n + 1) c.many;
+        fitting = fitting_more c.values v c.fitting f;
+        goes_on =
+            c.goes_on ∙ ap (λ n. first_fault (values_in n rest) rest) left ∙ ap (λ bs. first_fault (values_in (suc (count - (k + 1))) bs) bs) is
+            ∙ value_right v.elem v.value (count - (k + 1)) behind (in_64 v.elem v.value f) f;
+      }
+
+-- all are read, and something follows
+pub follows : (bytes : List ℕ) (count k : ℕ) (m : Message) (rest : List ℕ) → Coming bytes count k m rest → count ≤ k → k ≤ count → (rest ≡ [] → ⊥) → fault_in bytes ≡ Some Trailing
+follows bytes count k m rest c a b some = c.goes_on ∙ ap (λ n. first_fault (values_in n rest) rest) (let e : count - k ≡ 0 = omega (arith, a, b) in e) ∙ trailing rest some
+  where
+    trailing : (bs : List ℕ) → (bs ≡ [] → ⊥) → first_fault [] bs ≡ Some Trailing
+    trailing [] h = absurd (h refl)
+    trailing (b ∷ bs) h = refl
+
+-- all are read, and nothing follows
+pub ends : (bytes : List ℕ) (count k : ℕ) (m : Message) (rest : List ℕ) → Coming bytes count k m rest → count ≤ k → k ≤ count → length rest ≡ 0 → Spells m bytes
+ends bytes count k m rest c a b none =
+    let same : length c.values ≡ count = omega (arith, c.many, a, b) in
+    let all : all_bytes c.values ++ rest ≡ all_bytes c.values = ap (λ bs. all_bytes c.values ++ bs) (nothing rest none) ∙ append-nil (all_bytes c.values) in
+    subst (λ (x : Message). Spells x bytes) (sym c.message_is) record {
+      number = c.small;
+      count = omega (arith, same, c.few, length-map c.values typed_of);
+      values = typed_fitting c.values c.fitting;
+      bytes_are = c.bytes_are ∙ ap (λ bs. head_bytes c.purpose c.number count ++ bs) all ∙ ap (λ n. head_bytes c.purpose c.number n ++ all_bytes c.values) (sym same) ∙ spelled c.purpose c.number c.values c.fitting;
+    }
+  where
+    nothing : (bs : List ℕ) → length bs ≡ 0 → bs ≡ []
+    nothing [] h = refl
+    nothing (b ∷ bs) h = absurd (omega (arith, h))
+
+-- ---- a message as bytes
+
+pub all_bytes_long : (vs : List Typed) → length (all_bytes vs) ≡ 9 * length vs
+all_bytes_long [] = refl
+all_bytes_long (v ∷ vs) = omega (arith, all_bytes_long vs)
+
+bytes_more : (vs : List Typed) (k : ℕ) (d : Typed) → k < length vs → all_bytes (take k vs) ++ value_bytes (get_or vs k d) ≡ all_bytes (take (k + 1) vs)
+bytes_more vs k d h = go vs k h ∙ ap (λ n. all_bytes (take n vs)) (let e : suc k ≡ k + 1 = omega arith in e)
+  where
+    go : (us : List Typed) (k : ℕ) → k < length us → all_bytes (take k us) ++ value_bytes (get_or us k d) ≡ all_bytes (take (suc k) us)
+    go [] k h = absurd (omega (arith, h))
+    go (u ∷ us) zero h = refl
+    go (u ∷ us) (suc k) h = ap (λ bs. value_bytes u ++ bs) (go us k (omega (arith, h)))
+
+pub one_written : (d : Typed) (bytes new start : List ℕ) (vs : List Typed) (k : ℕ) → new ≡ bytes ++ value_bytes (get_or vs k d) → bytes ≡ start ++ all_bytes (take k vs) → k < length vs → new ≡ start ++ all_bytes (take (k + 1) vs)
+one_written d bytes new start vs k is so_far h =
+    is ∙ ap (λ (bs : List ℕ). bs ++ value_bytes (get_or vs k d)) so_far ∙ append_assoc start (all_bytes (take k vs)) (value_bytes (get_or vs k d)) ∙ ap (λ (bs : List ℕ). start ++ bs) (bytes_more vs k d h)
+
+-- what a message is for
+abbrev pub of_book : book.Purpose → Purpose
+of_book book.To_channel = ToChannel
+of_book book.To_input = ToInput
+
+pub as_in_book : (p : book.Purpose) → purpose_of (of_book p) ≡ p
+as_in_book book.To_channel = refl
+as_in_book book.To_input = refl
+
+pub encoded : (m : Message) (p : Purpose) (vs : List Typed) → purpose_of p ≡ m.purpose → map typed_of vs ≡ m.values → m.number < 2 ^ 16 → length vs ≤ 16 → AllByRecursion (λ (v : Typed). in_type v.elem v.value ≡ true) vs → Spells m (head_bytes p m.number (length vs) ++ all_bytes vs)
+encoded m p vs purpose values small few h =
+    let same : record { purpose = purpose_of p; number = m.number; values = map typed_of vs } ≡ m = ap (λ q. record { purpose = q; number = m.number; values = map typed_of vs }) purpose ∙ ap (λ us. record { purpose = m.purpose; number = m.number; values = us }) values in
+    record {
+      number = small;
+      count = omega (arith, few, length-map vs typed_of, ap length values);
+      values = subst (AllByRecursion (λ (v : book.Typed). in_type v.type v.value ≡ true)) values (typed_fitting vs h);
+      bytes_are = spelled p m.number vs h ∙ ap spelling same;
+    }
+
+pub room_left : (bytes start : List ℕ) (vs : List Typed) (k : ℕ) → bytes ≡ start ++ all_bytes (take k vs) → length start ≡ 7 → length vs ≤ 16 → length bytes + 9 ≤ 160
+room_left bytes start vs k is seven few = omega (arith, ap length is, length-append start (all_bytes (take k vs)), seven, all_bytes_long (take k vs), length-take k vs, few)

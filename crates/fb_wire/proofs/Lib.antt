@@ -1,0 +1,4 @@
+pub mod Reading
+pub mod Spelled
+pub mod Coming
+pub mod Unique

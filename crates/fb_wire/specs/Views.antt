@@ -1,0 +1,43 @@
+-- Messages in the terms of the book.
+use Rattle.std.specs.Prelude.{ℕ, ◌/◌, ◌%◌, List, [], ◌∷◌, ◌++◌}
+use Rattle.std.specs.Int.{w64, cast_unsigned, to_be_bytes}
+use Rattle.fb_words.specs.declared.elem_type.ElemType.{ElemType}
+use Rattle.fb_words.specs.declared.elem_type.ElemType.TheVariants as t
+use Rattle.fb_model.specs.Messages as book
+use Rattle.fb_wire.specs.declared.message.Purpose.{Purpose}
+use Rattle.fb_wire.specs.declared.message.Purpose.TheVariants.{ToChannel, ToInput}
+use Rattle.fb_wire.specs.declared.message.Typed.{Typed}
+
+abbrev pub purpose_of : Purpose → book.Purpose
+purpose_of ToChannel = book.To_channel
+purpose_of ToInput = book.To_input
+
+abbrev pub typed_of : Typed → book.Typed
+typed_of v = record { type = v.elem; value = v.value }
+
+abbrev pub purpose_code : Purpose → ℕ
+purpose_code ToChannel = 1
+purpose_code ToInput = 2
+
+abbrev pub code_of : ElemType → ℕ
+code_of t.Bool = 0
+code_of t.Sint = 1
+code_of t.Int = 2
+code_of t.Dint = 3
+code_of t.Lint = 4
+code_of t.Usint = 5
+code_of t.Uint = 6
+code_of t.Udint = 7
+code_of t.Time = 8
+
+-- a value: the code of its type, and eight bytes in two's complement, high byte first
+abbrev pub value_bytes : Typed → List ℕ
+value_bytes v = code_of v.elem ∷ to_be_bytes w64 (cast_unsigned w64 v.value)
+
+abbrev pub all_bytes : List Typed → List ℕ
+all_bytes [] = []
+all_bytes (v ∷ vs) = value_bytes v ++ all_bytes vs
+
+-- the bytes before the values
+abbrev pub head_bytes : Purpose → ℕ → ℕ → List ℕ
+head_bytes purpose number count = 70 ∷ 66 ∷ 1 ∷ purpose_code purpose ∷ number / 256 ∷ number % 256 ∷ count ∷ []

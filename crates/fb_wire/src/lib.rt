@@ -1,0 +1,14 @@
+//! Datagrams: messages between devices, and how they are spelled in bytes.
+#![tactic(auto)]
+
+mod decoding;
+mod encoding;
+mod fault;
+mod law;
+mod message;
+
+pub use decoding::decode;
+pub use encoding::{Datagram, encode};
+pub use fault::WireFault;
+pub use law::{bytes_spell_one_message, faulty_bytes_spell_nothing};
+pub use message::{Message, Purpose, Typed};
