@@ -1,0 +1,42 @@
+-- What calls of links and sinks do. This project's profile.
+use Rattle.std.specs.Prelude.{ℕ, ℤ, ◌≤◌, List, ◌++◌, Bool, take, codes}
+use Rattle.std.specs.Fmt.{decimal}
+use Rattle.fb_link.specs.declared.udp.SocketFault.{SocketFault}
+use Rattle.fb_link.specs.declared.link.Received.{Received}
+use Rattle.fb_link.specs.declared.link.Received.TheVariants.{Nothing, Got, Failed}
+
+-- one call of a link, with what it answered
+pub data LinkCall : Type 0 where
+  -- a receive into this much room gave these bytes
+  Handed : (room : ℕ) → (bytes : List ℕ) → LinkCall
+  -- a receive gave nothing
+  Silent : LinkCall
+  -- a receive failed
+  Broken : LinkCall
+  -- a send of these bytes, and whether it was done
+  Sent : (bytes : List ℕ) → (ok : Bool) → LinkCall
+
+-- the receive that gave this answer and left these bytes in the buffer
+abbrev pub receipt : Received → List ℕ → ℕ → LinkCall
+receipt Nothing buffer room = Silent
+receipt (Got n) buffer room = Handed room (take n buffer)
+receipt Failed buffer room = Broken
+
+-- what a receive answers fits the buffer
+abbrev pub IsWithin : Received → ℕ → Type 0
+IsWithin (Got n) room = n ≤ room
+IsWithin _ room = Unit {0}
+
+-- by how much an answer raises the count of failures
+abbrev pub failures_of : Received → ℕ
+failures_of Failed = 1
+failures_of _ = 0
+
+-- one call of a sink
+pub record Written : Type 0 where
+  pub number : ℕ
+  pub values : List ℤ
+
+-- the code, and the port
+abbrev pub socket_line : SocketFault → List ℕ
+socket_line fault = codes "62 " ++ decimal fault.0
