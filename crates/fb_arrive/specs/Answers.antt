@@ -1,6 +1,7 @@
 -- What an offer or a datagram answers, in the book, and the numbers of denials: this project's profile.
 use Rattle.std.specs.Prelude.{ℕ, Result, Ok, Err}
 use Rattle.fb_model.specs.Devices as book
+use Rattle.fb_wire.specs.Views.{fault_of}
 use Rattle.fb_arrive.specs.declared.denied.Denied.{Denied}
 use Rattle.fb_arrive.specs.declared.denied.Denied.TheVariants.{UnknownInput, BadCount, BadValue, NoCredit, Spent, Wire, NoSubscriber, Shape, Closed}
 
@@ -10,7 +11,7 @@ denial_of BadCount = book.BadCount
 denial_of (BadValue number) = book.BadValue number
 denial_of (NoCredit needs free) = book.NoCredit needs free
 denial_of Spent = book.Spent
-denial_of (Wire fault) = book.NotAMessage
+denial_of (Wire fault) = book.NotAMessage (fault_of fault)
 denial_of NoSubscriber = book.NoSubscriber
 denial_of Shape = book.Shape
 denial_of Closed = book.NotReady

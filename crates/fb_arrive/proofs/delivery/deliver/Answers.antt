@@ -6,13 +6,12 @@ use Rattle.fb_state.specs.Sessions.{session_of}
 use Rattle.fb_state.specs.Machines.{device_in, machine_of}
 use Rattle.fb_state.specs.Arrivals.{IsArrival}
 use Rattle.fb_arrive.specs.Delivering.{numbers_taken}
-use Rattle.fb_wire.proofs.Coming.{spells_rightly}
 use Rattle.fb_state.proofs.of_fb_chart.Lists.{stands_at}
 use Rattle.fb_arrive.proofs.Deliveries as deliveries
 use Rattle.fb_arrive.proofs.delivery.deliver.Goals as goal
 
 pub returns-in-Err-clause-step : goal.returns-in-Err-clause-step
-returns-in-Err-clause-step c = ((λ m s. (let e = sym (spells_rightly m c.args.bytes.now s) ∙ c.in-Err.ensures.fault in absurd cc)), refl)
+returns-in-Err-clause-step c = (c.in-Err.ensures.fault, refl)
 
 pub returns-in-ToChannel-clause-step : goal.returns-in-ToChannel-clause-step
 returns-in-ToChannel-clause-step c = ((c.in-Ok.message, c.in-Ok.ensures.spelled, sym c.purpose-purpose.ensures ∙ ap purpose_of c.in-ToChannel.is, deliveries.none_meant c.args.program.now c.args.running.now c.requires c.in-Ok.message (sym c.meant.ensures ∙ c.in_default.is)), refl)
