@@ -26,11 +26,11 @@ use Rattle.fb_state.specs.Arrivals.{IsArrival, Admits, IsShort}
 use Rattle.fb_state.proofs.Lists.{same_at}
 use Rattle.fb_state.proofs.Blocks.{within, block_of}
 use Rattle.fb_arrive.specs.declared.denied.Denied.{Denied}
-use Rattle.fb_arrive.specs.declared.denied.Denied.TheVariants.{UnknownInput, BadCount, BadValue, NoCredit, Spent}
-use Rattle.fb_state.specs.fb_tables.Tables.{input_at}
+use Rattle.fb_arrive.specs.declared.denied.Denied.TheVariants.{UnknownInput, BadCount, BadValue, NoCredit, Spent, Wire, NoSubscriber, Shape, Closed}
+use Rattle.fb_state.specs.fb_tables.Tables.{first_at}
 use Rattle.fb_arrive.specs.Offering.{IsOutside}
 use Rattle.fb_arrive.specs.Answers.{denial_of}
-use Rattle.fb_arrive.proofs.SameKinds.{InputAt, an_input, same_kinds}
+use Rattle.fb_arrive.proofs.SameKinds.{FirstAt, found_at, same_kinds}
 
 -- one value more has its type
 pub all_in_more : (ts : List ElemType) (vs : List ℤ) (k : ℕ) (t : ElemType) (v : ℤ) → slice_get ts k ≡ Some t → slice_get vs k ≡ Some v → all_in (take k ts) (take k vs) ≡ true → in_type t v ≡ true → all_in (take (suc k) ts) (take (suc k) vs) ≡ true
@@ -47,7 +47,7 @@ all_in_more (x ∷ xs) (y ∷ ys) (suc k) t v a b h f = go (in_type x y) h (all_
     go false h r = cc
 
 -- ARRIVE is the one event of an INPUT
-arrives : (kind : Kind) (n : ℕ) → is_input_numbered n kind ≡ true → events_of kind ≡ arrive ∷ []
+pub arrives : (kind : Kind) (n : ℕ) → is_input_numbered n kind ≡ true → events_of kind ≡ arrive ∷ []
 arrives (Charted block) n h = cc
 arrives (Serviced (system.Input number types)) n h = refl
 arrives (Serviced (system.Output number types)) n h = cc
@@ -57,7 +57,7 @@ arrives (Serviced system.Delay) n h = cc
 arrives (Serviced system.Cycle) n h = cc
 arrives (Serviced system.Restart) n h = cc
 
-few_types : (forms : List Form) (events outputs : List (List ℕ)) (x : Body) → IsBody forms events outputs x → length (types_of (body_kind x)) ≤ 16
+pub few_types : (forms : List Form) (events outputs : List (List ℕ)) (x : Body) → IsBody forms events outputs x → length (types_of (body_kind x)) ≤ 16
 few_types forms events outputs (b.Chart c) h = omega arith
 few_types forms events outputs (b.Served (s.Input n types)) h = h
 few_types forms events outputs (b.Served (s.Output n types)) h = omega arith
@@ -67,15 +67,15 @@ few_types forms events outputs (b.Served s.Delay) h = omega arith
 few_types forms events outputs (b.Served s.Cycle) h = omega arith
 few_types forms events outputs (b.Served s.Restart) h = omega arith
 
-module _ (p : Program) (r : Running) (g : IsGood p r) (n k : ℕ) (found : input_at p.tables.blocks.items n ≡ Some k) where
+module _ (p : Program) (r : Running) (g : IsGood p r) (n k : ℕ) (found : first_at (is_input_numbered n) p.tables.blocks.items ≡ Some k) where
   abbrev all : List Leaf
   all = leaves (device_in (session_of p r))
 
   abbrev m : Machine
   m = machine_of (session_of p r)
 
-  pub at : InputAt p.tables.blocks.items (leaves (device_in (session_of p r))) n k
-  at = an_input p.tables.blocks.items all n k (same_kinds p r g) found
+  pub at : FirstAt (is_input_numbered n) p.tables.blocks.items (leaves (device_in (session_of p r))) k
+  at = found_at (is_input_numbered n) p.tables.blocks.items all k (same_kinds p r g) found
 
   pub inside : k < length p.tables.blocks.items
   inside = within p.tables.blocks.items k at.block at.block_stands
@@ -90,7 +90,7 @@ module _ (p : Program) (r : Running) (g : IsGood p r) (n k : ℕ) (found : input
 
   -- values of its types are an arrival
   pub arrival : (vs : List ℤ) → all_in (types_of at.leaf.kind) vs ≡ true → IsArrival (leaves (device_in (session_of p r))) (record { block = k; event = 0 }) vs (arriving at.leaf vs)
-  arrival vs fit = record { leaf = at.leaf_stands; event = ap (λ ns. slice_get ns 0) (arrives at.leaf.kind n at.input); same = refl; message = inr fit }
+  arrival vs fit = record { leaf = at.leaf_stands; event = ap (λ ns. slice_get ns 0) (arrives at.leaf.kind n at.so); same = refl; message = inr fit }
 
   -- values that are not of its types
   pub outside : (vs : List ℤ) (why : Denied) → IsOutside (types_of at.leaf.kind) vs why → IsDenied (cert_in (session_of p r)) (device_in (session_of p r)) (machine_of (session_of p r)) (Offer n vs) (denial_of why)
@@ -99,6 +99,10 @@ module _ (p : Program) (r : Running) (g : IsGood p r) (n k : ℕ) (found : input
   outside vs UnknownInput o = absurd o
   outside vs (NoCredit needs free) o = absurd o
   outside vs Spent o = absurd o
+  outside vs (Wire fault) o = absurd o
+  outside vs NoSubscriber o = absurd o
+  outside vs Shape o = absurd o
+  outside vs Closed o = absurd o
 
   -- it is admitted
   pub offered : (vs : List ℤ) (cause : ℕ) (new : Machine) → all_in (types_of at.leaf.kind) vs ≡ true → Admits (cert_in (session_of p r)) (device_in (session_of p r)) (machine_of (session_of p r)) (arriving at.leaf vs) cause new

@@ -1,6 +1,7 @@
 pub use Rattle.fb_state.proofs as of_fb_state
 pub mod SameKinds
 pub mod Inputs
+pub mod Deliveries
 pub mod Firing
 pub mod Ticking
 pub mod Beginning

@@ -2,7 +2,7 @@
 use Rattle.std.proofs.Common.{◌≡◌, ℕ, zero, suc, ◌+◌, Bool, true, false, cond, List, [], ◌∷◌, map, length, slice_get, Option, Some, None, refl, sym, ◌∙◌, ap, subst, arith}
 use Rattle.fb_model.specs.Wires.{Kind, Leaf, leaves}
 use Rattle.fb_model.specs.Certificates.{Certificate}
-use Rattle.fb_model.specs.Devices.{is_input_numbered, first_leaf}
+use Rattle.fb_model.specs.Devices.{first_leaf}
 use Rattle.fb_state.specs.st_exec.Cells.{Form}
 use Rattle.fb_state.specs.fb_serve.declared.standing.Ports.{Ports}
 use Rattle.fb_state.specs.fb_chart.declared.table.Block.{Block}
@@ -13,7 +13,7 @@ use Rattle.fb_state.specs.declared.program.Running.{Running}
 use Rattle.fb_state.specs.Sessions.{session_of}
 use Rattle.fb_state.specs.Machines.{device_in}
 use Rattle.fb_state.specs.Keeping.{IsGood}
-use Rattle.fb_state.specs.fb_tables.Tables.{input_at, later}
+use Rattle.fb_state.specs.fb_tables.Tables.{first_at, later}
 
 abbrev pub leaf_kind : Leaf → Kind
 leaf_kind leaf = leaf.kind
@@ -52,15 +52,15 @@ kind_count (x ∷ xs) (l ∷ ls) e = ap suc (kind_count xs ls (tails e))
     tails : (kind_of x ∷ map kind_of xs) ≡ (l.kind ∷ map leaf_kind ls) → map kind_of xs ≡ map leaf_kind ls
     tails f = cc
 
--- ---- the INPUT of a number
+-- ---- the first block of a kind
 
--- no INPUT has the number
-pub no_input : (xs : List Block) (ls : List Leaf) (n : ℕ) → map kind_of xs ≡ map leaf_kind ls → input_at xs n ≡ None → first_leaf (is_input_numbered n) ls ≡ None
-no_input [] [] n e h = refl
-no_input [] (l ∷ ls) n e h = cc
-no_input (x ∷ xs) [] n e h = cc
-no_input (x ∷ xs) (l ∷ ls) n e h =
-    ap (λ k. cond (is_input_numbered n k) (Some l) (first_leaf (is_input_numbered n) ls)) (sym (heads e)) ∙ go (is_input_numbered n (kind_of x)) (input_at xs n) h (no_input xs ls n (tails e))
+-- no block is of the kind
+pub none_at : (is : Kind → Bool) (xs : List Block) (ls : List Leaf) → map kind_of xs ≡ map leaf_kind ls → first_at is xs ≡ None → first_leaf is ls ≡ None
+none_at is [] [] e h = refl
+none_at is [] (l ∷ ls) e h = cc
+none_at is (x ∷ xs) [] e h = cc
+none_at is (x ∷ xs) (l ∷ ls) e h =
+    ap (λ k. cond (is k) (Some l) (first_leaf is ls)) (sym (heads e)) ∙ go (is (kind_of x)) (first_at is xs) h (none_at is xs ls (tails e))
   where
     heads : (kind_of x ∷ map kind_of xs) ≡ (l.kind ∷ map leaf_kind ls) → kind_of x ≡ l.kind
     heads f = cc
@@ -68,25 +68,25 @@ no_input (x ∷ xs) (l ∷ ls) n e h =
     tails : (kind_of x ∷ map kind_of xs) ≡ (l.kind ∷ map leaf_kind ls) → map kind_of xs ≡ map leaf_kind ls
     tails f = cc
 
-    go : (b : Bool) (o : Option ℕ) → cond b (Some 0) (later o) ≡ None → (o ≡ None → first_leaf (is_input_numbered n) ls ≡ None) → cond b (Some l) (first_leaf (is_input_numbered n) ls) ≡ None
+    go : (b : Bool) (o : Option ℕ) → cond b (Some 0) (later o) ≡ None → (o ≡ None → first_leaf is ls ≡ None) → cond b (Some l) (first_leaf is ls) ≡ None
     go true o f r = cc
     go false None f r = r refl
     go false (Some k) f r = cc
 
--- the INPUT of a number, and its leaf
-pub record InputAt (xs : List Block) (ls : List Leaf) (n k : ℕ) : Type 0 where
+-- the first block of the kind, and its leaf
+pub record FirstAt (is : Kind → Bool) (xs : List Block) (ls : List Leaf) (k : ℕ) : Type 0 where
   pub leaf : Leaf
   pub block : Block
   pub leaf_stands : slice_get ls k ≡ Some leaf
   pub block_stands : slice_get xs k ≡ Some block
   pub kind : kind_of block ≡ leaf.kind
-  pub first : first_leaf (is_input_numbered n) ls ≡ Some leaf
-  pub input : is_input_numbered n leaf.kind ≡ true
+  pub first : first_leaf is ls ≡ Some leaf
+  pub so : is leaf.kind ≡ true
 
-pub an_input : (xs : List Block) (ls : List Leaf) (n k : ℕ) → map kind_of xs ≡ map leaf_kind ls → input_at xs n ≡ Some k → InputAt xs ls n k
-an_input [] ls n k e h = cc
-an_input (x ∷ xs) [] n k e h = cc
-an_input (x ∷ xs) (l ∷ ls) n k e h = go (is_input_numbered n (kind_of x)) refl (input_at xs n) h (λ j f. an_input xs ls n j (tails e) f)
+pub found_at : (is : Kind → Bool) (xs : List Block) (ls : List Leaf) (k : ℕ) → map kind_of xs ≡ map leaf_kind ls → first_at is xs ≡ Some k → FirstAt is xs ls k
+found_at is [] ls k e h = cc
+found_at is (x ∷ xs) [] k e h = cc
+found_at is (x ∷ xs) (l ∷ ls) k e h = go (is (kind_of x)) refl (first_at is xs) h (λ j f. found_at is xs ls j (tails e) f)
   where
     heads : (kind_of x ∷ map kind_of xs) ≡ (l.kind ∷ map leaf_kind ls) → kind_of x ≡ l.kind
     heads f = cc
@@ -94,27 +94,27 @@ an_input (x ∷ xs) (l ∷ ls) n k e h = go (is_input_numbered n (kind_of x)) re
     tails : (kind_of x ∷ map kind_of xs) ≡ (l.kind ∷ map leaf_kind ls) → map kind_of xs ≡ map leaf_kind ls
     tails f = cc
 
-    numbered : (b : Bool) → is_input_numbered n (kind_of x) ≡ b → is_input_numbered n l.kind ≡ b
-    numbered b f = ap (is_input_numbered n) (sym (heads e)) ∙ f
+    numbered : (b : Bool) → is (kind_of x) ≡ b → is l.kind ≡ b
+    numbered b f = ap is (sym (heads e)) ∙ f
 
-    next : (j : ℕ) → is_input_numbered n (kind_of x) ≡ false → InputAt xs ls n j → InputAt (x ∷ xs) (l ∷ ls) n (suc j)
+    next : (j : ℕ) → is (kind_of x) ≡ false → FirstAt is xs ls j → FirstAt is (x ∷ xs) (l ∷ ls) (suc j)
     next j f i = record {
       leaf = i.leaf;
       block = i.block;
       leaf_stands = i.leaf_stands;
       block_stands = i.block_stands;
       kind = i.kind;
-      first = ap (λ b. cond b (Some l) (first_leaf (is_input_numbered n) ls)) (numbered false f) ∙ i.first;
-      input = i.input;
+      first = ap (λ b. cond b (Some l) (first_leaf is ls)) (numbered false f) ∙ i.first;
+      so = i.so;
     }
 
-    go : (b : Bool) → is_input_numbered n (kind_of x) ≡ b → (o : Option ℕ) → cond b (Some 0) (later o) ≡ Some k → ((j : ℕ) → o ≡ Some j → InputAt xs ls n j) → InputAt (x ∷ xs) (l ∷ ls) n k
+    go : (b : Bool) → is (kind_of x) ≡ b → (o : Option ℕ) → cond b (Some 0) (later o) ≡ Some k → ((j : ℕ) → o ≡ Some j → FirstAt is xs ls j) → FirstAt is (x ∷ xs) (l ∷ ls) k
     go true t o f r =
         let z : 0 ≡ k = cc in
-        subst (InputAt (x ∷ xs) (l ∷ ls) n) z
-        (record { leaf = l; block = x; leaf_stands = refl; block_stands = refl; kind = heads e; first = ap (λ b. cond b (Some l) (first_leaf (is_input_numbered n) ls)) (numbered true t); input = numbered true t })
+        subst (FirstAt is (x ∷ xs) (l ∷ ls)) z
+        (record { leaf = l; block = x; leaf_stands = refl; block_stands = refl; kind = heads e; first = ap (λ b. cond b (Some l) (first_leaf is ls)) (numbered true t); so = numbered true t })
     go false t None f r = cc
     go false t (Some j) f r =
         let z : j + 1 ≡ k = cc in
         let s : suc j ≡ k = omega (arith, z) in
-        subst (InputAt (x ∷ xs) (l ∷ ls) n) s (next j t (r j refl))
+        subst (FirstAt is (x ∷ xs) (l ∷ ls)) s (next j t (r j refl))

@@ -12,3 +12,7 @@ IsOutside types values (denied.BadValue number) = (k : ℕ) × (number ≡ k + 1
 IsOutside types values denied.UnknownInput = ⊥
 IsOutside types values (denied.NoCredit needs free) = ⊥
 IsOutside types values denied.Spent = ⊥
+IsOutside types values (denied.Wire fault) = ⊥
+IsOutside types values denied.NoSubscriber = ⊥
+IsOutside types values denied.Shape = ⊥
+IsOutside types values denied.Closed = ⊥

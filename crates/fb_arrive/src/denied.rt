@@ -1,8 +1,10 @@
-//! Why an offer is refused.
+//! Why an offer or a datagram is refused.
 
 ghost use Rattle.std.specs.Prelude.{◌≡◌};
 
-/// Why an offer is refused.
+use fb_wire::WireFault;
+
+/// Why an offer or a datagram is refused.
 #[derive(Clone, Copy)]
 pub enum Denied {
     /// The device has no INPUT of this number. Code 50.
@@ -15,6 +17,14 @@ pub enum Denied {
     NoCredit { needs: u64, free: u64 },
     /// No cause number is left. Code 54.
     Spent,
+    /// The bytes are no message. Code 55.
+    Wire(WireFault),
+    /// The device has no SUBSCRIBE of this channel. Code 56.
+    NoSubscriber,
+    /// The values are not as many as the block takes, or of other types. Code 57.
+    Shape,
+    /// The SUBSCRIBE is closed. Code 58.
+    Closed,
 }
 
 impl Denied {
@@ -30,6 +40,10 @@ impl Denied {
             Denied::BadValue(_) => 52,
             Denied::NoCredit { needs: _, free: _ } => 53,
             Denied::Spent => 54,
+            Denied::Wire(_) => 55,
+            Denied::NoSubscriber => 56,
+            Denied::Shape => 57,
+            Denied::Closed => 58,
         }
     }
 }

@@ -17,7 +17,7 @@ use fb_state::{Program, Running, Shortage, admit};
 use fb_words::ElemType;
 
 // The types of the values that come to a block from outside.
-fn arriving(body: &Body) -> &[ElemType]
+pub(crate) fn arriving(body: &Body) -> &[ElemType]
     ensures { result.now ≡ types_of (body_kind body.now) }
 {
     match body {

@@ -1,12 +1,14 @@
-//! What comes to a device from outside: offers, the clock, and the start.
+//! What comes to a device from outside: offers, datagrams, the clock, and the start.
 #![tactic(auto)]
 
 mod clock;
+mod delivery;
 mod denied;
 mod input;
 mod start;
 
 pub use clock::tick;
+pub use delivery::deliver;
 pub use denied::Denied;
 pub use fb_state;
 pub use input::offer;

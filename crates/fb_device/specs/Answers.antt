@@ -14,7 +14,7 @@ use Rattle.fb_arrive.specs.Answers.{admission_of}
 use Rattle.fb_dispatch.specs.Answers.{turned_of, HasPoint}
 use Rattle.fb_device.specs.declared.answer.Opening.{Opening}
 use Rattle.fb_device.specs.declared.answer.Step.{Step}
-use Rattle.fb_device.specs.declared.answer.Step.TheVariants.{Offer, Tick, Dispatch}
+use Rattle.fb_device.specs.declared.answer.Step.TheVariants.{Offer, Deliver, Tick, Dispatch}
 use Rattle.fb_device.specs.declared.answer.Answer.{Answer}
 use Rattle.fb_device.specs.declared.answer.Answer.TheVariants.{Admitted, Fired, Served}
 
@@ -25,6 +25,7 @@ answer_of all (Served turned) = turned_of all turned
 
 abbrev pub event_of : Step → book.Event
 event_of (Offer input values) = book.Offer input values.items
+event_of (Deliver bytes) = book.Deliver bytes.items
 event_of (Tick now) = book.Tick now
 event_of (Dispatch resource) = book.Dispatch resource
 

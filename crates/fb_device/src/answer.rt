@@ -16,6 +16,8 @@ pub struct Opening {
 pub enum Step {
     /// An offer at the INPUT of a number, with its values.
     Offer(u16, Vec<i64>),
+    /// Bytes that come in.
+    Deliver(Vec<u8>),
     /// A moment of the clock, in milliseconds.
     Tick(u64),
     /// A dispatch of the resource of a number.
@@ -25,7 +27,7 @@ pub enum Step {
 /// What a call answered.
 #[derive(Drop)]
 pub enum Answer {
-    /// The cause that an offer opened, or why it was refused.
+    /// The cause that an offer or a datagram opened, or why it was refused.
     Admitted(Result<u64, Denied>),
     /// How many timers a tick has fired.
     Fired(u32),

@@ -1,7 +1,7 @@
 //! A device that runs.
 
 ghost use Rattle.std.specs.Prelude.{◌≡◌, ◌≤◌, length, map, take, drop, MatchOption};
-ghost use Rattle.fb_model.specs.Devices.{Happens, Offer, Tick, Dispatch, Expired, Run, begun, silent};
+ghost use Rattle.fb_model.specs.Devices.{Happens, Offer, Deliver, Tick, Dispatch, Expired, Run, begun, silent};
 ghost use Rattle.fb_model.specs.Headline.{KeepsBounds, StaysWithinAll};
 ghost use Rattle.fb_model.specs.Wires.{leaves};
 ghost use Rattle.fb_arrive.specs.Answers.{admission_of};
@@ -13,7 +13,7 @@ ghost use Rattle.fb_device.specs.Promises.{IsBounded};
 use crate::answer::{Answer, Opening, Step};
 use crate::names::{name, opening, path, resource};
 use fb_arrive::fb_state::{Program, Running};
-use fb_arrive::{Denied, begin, offer, tick};
+use fb_arrive::{Denied, begin, deliver, offer, tick};
 use fb_dispatch::{Turned, dispatch};
 use std::marker::Model;
 
@@ -86,6 +86,16 @@ impl Device {
         offer(&self.program, &mut self.running, input, values)
     }
 
+    /// Delivers bytes. A message to a channel arrives at the SUBSCRIBE of the channel, one to an INPUT at the INPUT of the number. It is admitted as the next
+    /// cause just where no line of [`Denied`] holds.
+    pub fn deliver(&mut self, bytes: &[u8]) -> Result<u64, Denied>
+        ensures step { Happens (cert_in self.old) (device_in self.old) (machine_of self.old) (Deliver bytes.now) (admission_of result) (machine_of self.new) }
+        ensures bounded { IsBounded (cert_in self.old) (device_in self.old) (machine_of self.new) }
+        ensures same { (self.new.verified ≡ self.old.verified) × (self.new.number ≡ self.old.number) }
+    {
+        deliver(&self.program, &mut self.running, bytes)
+    }
+
     /// Sets the clock to a moment in milliseconds, unless it stands later already, and tries the timers that are due: by due moment, then in the order of
     /// resources and blocks. Answers how many were fired: their EXPIRE is admitted. A timer without credit or cause number stays armed.
     pub fn tick(&mut self, now: u64) -> u32
@@ -103,6 +113,7 @@ impl Device {
     {
         match step {
             Step::Offer(input, values) => Answer::Admitted(self.offer(*input, values.as_slice())),
+            Step::Deliver(bytes) => Answer::Admitted(self.deliver(bytes.as_slice())),
             Step::Tick(now) => Answer::Fired(self.tick(*now)),
             Step::Dispatch(resource) => Answer::Served(self.dispatch(*resource)),
         }

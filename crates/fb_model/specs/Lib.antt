@@ -23,6 +23,7 @@ pub mod EventBlocks
 pub mod Store
 pub mod Charts
 pub mod Messages
+pub mod Fields
 pub mod Serving
 pub mod Spans
 pub mod Clear

@@ -26,12 +26,23 @@ fn small(found: &[i64], at: usize) -> u16 {
     }
 }
 
-// An offer, a moment or a dispatch: `offer NUMBER VALUES`, `tick NOW`, `dispatch NUMBER`.
+// The bytes of hexadecimal digits; none where these are none.
+fn bytes(alloc: Global, digits: &str) -> Result<Vec<u8>, AllocError> {
+    match hex::decode(alloc, digits.replace(alloc, " ", "")?.as_str()) {
+        Ok(bytes) => Ok(bytes),
+        Err(_) => Ok(Vec::new(alloc)),
+    }
+}
+
+// An offer, bytes, a moment or a dispatch: `offer NUMBER VALUES`, `deliver DIGITS`, `tick NOW`, `dispatch NUMBER`.
 fn step(alloc: Global, line: &str) -> Result<Step, AllocError> {
     let mut found = numbers(alloc, line)?;
     let first = small(found.as_slice(), 0);
     if line.starts_with("dispatch") {
         return Ok(Step::Dispatch(first));
+    }
+    if let Some(digits) = line.strip_prefix("deliver ") {
+        return Ok(Step::Deliver(bytes(alloc, digits)?));
     }
     if let Some(now) = line.strip_prefix("tick ") {
         return Ok(Step::Tick(now.parse::<u64>().unwrap_or(0)));
@@ -95,11 +106,16 @@ fn call(
     device: &mut Device,
     line: &str,
 ) -> Result<(), AllocError> {
-    if !line.starts_with("offer") && !line.starts_with("tick") && !line.starts_with("dispatch") {
+    if !line.starts_with("offer")
+        && !line.starts_with("deliver")
+        && !line.starts_with("tick")
+        && !line.starts_with("dispatch")
+    {
         return asked(alloc, out, device, line);
     }
     let answer = match step(alloc, line)? {
         Step::Offer(number, values) => Answer::Admitted(device.offer(number, values.as_slice())),
+        Step::Deliver(bytes) => Answer::Admitted(device.deliver(bytes.as_slice())),
         Step::Tick(now) => Answer::Fired(device.tick(now)),
         Step::Dispatch(number) => Answer::Served(device.dispatch(number)),
     };

@@ -19,6 +19,7 @@ use Rattle.fb_device.specs.fb_dispatch.Answers.{turned_of, end_of, effect_in}
 use Rattle.fb_device.specs.fb_arrive.Answers.{denial_of}
 use Rattle.fb_device.specs.fb_arrive.declared.denied.Denied.{Denied}
 use Rattle.fb_device.specs.fb_arrive.declared.denied.Denied.TheVariants as d
+use Rattle.fb_device.specs.fb_arrive.fb_wire.declared.fault.WireFault.TheVariants as w
 use Rattle.fb_device.specs.fb_dispatch.declared.answer.Ended.{Ended}
 use Rattle.fb_device.specs.fb_serve.declared.standing.Effect.{Effect as Outside}
 use Rattle.fb_device.specs.fb_serve.declared.standing.Effect.TheVariants as outside
@@ -79,6 +80,17 @@ same_why d.BadCount = refl
 same_why (d.BadValue n) = refl
 same_why (d.NoCredit needs free) = refl
 same_why d.Spent = refl
+same_why (d.Wire w.Short) = refl
+same_why (d.Wire w.Magic) = refl
+same_why (d.Wire w.Version) = refl
+same_why (d.Wire w.Kind) = refl
+same_why (d.Wire w.Count) = refl
+same_why (d.Wire w.TypeCode) = refl
+same_why (d.Wire w.Value) = refl
+same_why (d.Wire w.Trailing) = refl
+same_why d.NoSubscriber = refl
+same_why d.Shape = refl
+same_why d.Closed = refl
 
 -- ---- devices and resources that are named
 

@@ -5,7 +5,9 @@ use Rattle.std.specs.Fmt.{decimal, signed_decimal}
 use Rattle.std.specs.List.{join_with_byte}
 use Rattle.fb_model.specs.Names.{Place}
 use Rattle.fb_model.specs.Serving.{Effect, Write, Send}
-use Rattle.fb_model.specs.Devices.{Ended as End, Denial, UnknownInput, BadCount, BadValue, NoCredit, Spent, Answer, Admitted, Denied, Expired, Idle, Ran}
+use Rattle.fb_model.specs.Devices.{Ended as End, Denial, UnknownInput, BadCount, BadValue, NoCredit, Spent, NotAMessage, NoSubscriber, Shape, NotReady, Answer, Admitted, Denied, Expired, Idle, Ran}
+use Rattle.fb_model.specs.Fields.{Fault, Short, Magic, Version, Kind, Count, TypeCode, Value, Trailing}
+use Rattle.fb_device.specs.fb_arrive.fb_wire.Faults.{line_of}
 use Rattle.fb_device.specs.fb_arrive.declared.denied.Denied.{Denied as RustDenied}
 use Rattle.fb_device.specs.fb_arrive.declared.denied.Denied.TheVariants as d
 use Rattle.fb_device.specs.fb_dispatch.declared.answer.Ended.{Ended}
@@ -16,14 +18,28 @@ use Rattle.fb_script.specs.declared.told.Told.TheVariants as told
 
 -- ---- answers of the book
 
--- why an offer is denied; denials of messages come with their lines
+-- what is at fault with bytes that are no message
+abbrev pub fault_text : Fault → List ℕ
+fault_text Short = codes "55 Short"
+fault_text Magic = codes "55 Magic"
+fault_text Version = codes "55 Version"
+fault_text Kind = codes "55 Kind"
+fault_text Count = codes "55 Count"
+fault_text TypeCode = codes "55 TypeCode"
+fault_text Value = codes "55 Value"
+fault_text Trailing = codes "55 Trailing"
+
+-- why an offer or a message is denied
 abbrev pub denial_text : Denial → List ℕ
 denial_text UnknownInput = codes "50"
 denial_text BadCount = codes "51"
 denial_text (BadValue number) = codes "52 " ++ decimal number
 denial_text (NoCredit needs free) = codes "53 needs " ++ decimal needs ++ codes " free " ++ decimal free
 denial_text Spent = codes "54"
-denial_text other = []
+denial_text (NotAMessage fault) = fault_text fault
+denial_text NoSubscriber = codes "56"
+denial_text Shape = codes "57"
+denial_text NotReady = codes "58"
 
 -- a path and its event, joined by dots
 abbrev pub place_text : Place → List ℕ
@@ -74,6 +90,10 @@ why_text d.BadCount = codes "51"
 why_text (d.BadValue number) = codes "52 " ++ decimal number
 why_text (d.NoCredit needs free) = codes "53 needs " ++ decimal needs ++ codes " free " ++ decimal free
 why_text d.Spent = codes "54"
+why_text (d.Wire fault) = line_of fault
+why_text d.NoSubscriber = codes "56"
+why_text d.Shape = codes "57"
+why_text d.Closed = codes "58"
 
 abbrev pub ended_text : Option Ended → List ℕ
 ended_text None = []

@@ -111,6 +111,10 @@ impl fmt::Display for Told<'_> {
             Told::Denied(Denied::UnknownInput) => write!(f, "denied 50"),
             Told::Denied(Denied::BadCount) => write!(f, "denied 51"),
             Told::Denied(Denied::Spent) => write!(f, "denied 54"),
+            Told::Denied(Denied::Wire(fault)) => write!(f, "denied {fault}"),
+            Told::Denied(Denied::NoSubscriber) => write!(f, "denied 56"),
+            Told::Denied(Denied::Shape) => write!(f, "denied 57"),
+            Told::Denied(Denied::Closed) => write!(f, "denied 58"),
             Told::Fired(count) => write!(f, "fired {count}"),
             Told::Idle => write!(f, "idle"),
             Told::Ran {

@@ -40,9 +40,10 @@ use Rattle.fb_first.specs.fb_check.declared.verified.Verified.{Verified}
 use Rattle.fb_first.specs.fb_check.Verdicts.{system_in, certificate_in, IsChecked}
 use Rattle.fb_first.proofs.of_fb_check.Reading.{words}
 use Rattle.fb_first.proofs.of_fb_check.Composed as composed
+use Rattle.fb_model.specs.Devices.{is_input_numbered, is_subscriber}
 use Rattle.fb_tables.specs.declared.table.Resource.{Resource}
 use Rattle.fb_tables.specs.declared.table.Tables.{Tables}
-use Rattle.fb_tables.specs.Tables.{AreBlocks, AreResources, AreInputs, AreTables}
+use Rattle.fb_tables.specs.Tables.{AreBlocks, AreResources, AreNumbered, AreTables}
 use Rattle.fb_chart.specs.Tables.{Each}
 use Rattle.fb_tables.specs.Filling.{Numbered, numbered_from, Seated, AreSeats, paths_of, IsBlockMade, IsPortsMade, IsResourceMade, most_numbers}
 use Rattle.fb_chart.proofs.Lists.{all_got, each_length}
@@ -178,13 +179,14 @@ stores_many v n f hs owns issues checked within g homes first =
 -- tables that are made of a device that was checked are its tables
 pub tables_are : (v : Verified) (n : ℕ) (f : FlatDevice) (t : from_device.Device) (d : book.Device) (hs : List Numbered) (owns issues : List (List Form)) (ss : List Seated) (names : List Name) (x : Tables) → IsChecked v → slice_get (system_in v).devices n ≡ Some d
     → f ≡ get_or v.flat.devices.items n f → t ≡ get_or v.typed.devices.items n t → (length f.resources.items ≤ most_numbers → hs ≡ numbered_from 0 f.resources.items) → AreSeats hs owns issues ss → (AreDistinct (paths_of ss) → names ≡ paths_of ss)
-    → Each (IsBlockMade v.certificate names ss) ss x.blocks.items → Each IsPortsMade ss x.ports.items → Each (IsResourceMade v.certificate (string_bytes t.name)) t.resources.items x.resources.items → (length x.blocks.items ≤ most_numbers → AreInputs x.inputs x.blocks.items)
+    → Each (IsBlockMade v.certificate names ss) ss x.blocks.items → Each IsPortsMade ss x.ports.items → Each (IsResourceMade v.certificate (string_bytes t.name)) t.resources.items x.resources.items → (length x.blocks.items ≤ most_numbers → AreNumbered is_input_numbered x.inputs x.blocks.items) → (length x.blocks.items ≤ most_numbers → AreNumbered is_subscriber x.subscribers x.blocks.items)
     → AreTables (certificate_in v) d owns issues x
-tables_are v n f t d hs owns issues ss names x checked e g h homes seats paths blocks ports resources inputs =
+tables_are v n f t d hs owns issues ss names x checked e g h homes seats paths blocks ports resources inputs subscribers =
     let k = known_at v n f d checked e g in
     let seated : Each IsSeated ss (leaves d) = seats_from ss (leaves d) (subst (λ (us : List Numbered). Each IsNumbered us (leaves d)) (sym (seats.leaves_are ∙ homes k.few_resources)) k.numbered) in
     let known : AreKnown (certificate_in v).ranges ss (leaves d) = record { seated = seated; leaves = known_leaves (leaves d) k.small k.closed k.procedures k.words.leaves k.written k.takes; wired = k.wired; lies = k.lies; few = k.few } in
     let named : names ≡ paths_of ss = paths (paths_apart ss (leaves d) seated k.apart) in
+    let few : length x.blocks.items ≤ most_numbers = omega (arith, each_length (IsBlockMade v.certificate names ss) ss x.blocks.items blocks, each_length IsSeated ss (leaves d) seated, k.few) in
     let typed : device_of t ≡ d = typed_at v.typed.devices.items n t d e h in
     let all = blocks_are v.certificate ss (leaves d) x.blocks.items x.ports.items known (subst (λ (ns : List Name). Each (IsBlockMade v.certificate ns ss) ss x.blocks.items) named blocks) ports in
     record {
@@ -196,5 +198,6 @@ tables_are v n f t d hs owns issues ss names x checked e g h homes seats paths b
           (resources_are v.certificate t x.resources.items (subst IsWordyDevice (sym typed) k.words) resources);
       few = k.few;
       apart = k.apart;
-      inputs = inputs (omega (arith, each_length (IsBlockMade v.certificate names ss) ss x.blocks.items blocks, each_length IsSeated ss (leaves d) seated, k.few));
+      inputs = inputs few;
+      subscribers = subscribers few;
     }

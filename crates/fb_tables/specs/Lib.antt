@@ -7,3 +7,4 @@ pub use Rattle.fb_first.specs.fb_check.fb_types as fb_types
 pub mod Views
 pub mod Tables
 pub mod Filling
+pub mod Takers

@@ -1,16 +1,16 @@
 -- When tables are those of a device of the book.
 -- IEC 61499-1 edition 2, 5.2 (charts), 5.3 (instances and their connections), 6.1 (service interfaces) and 7 (devices and resources).
-use Rattle.std.specs.Prelude.{ℕ, ℤ, ◌≡◌, ◌<◌, ◌≤◌, ◌+◌, nat_eq, List, [], ◌∷◌, map, length, replicate, string_bytes, Option, None, Some, slice_get, if◌then◌else◌}
+use Rattle.std.specs.Prelude.{ℕ, ℤ, ◌≡◌, ◌<◌, ◌≤◌, ◌+◌, nat_eq, List, [], ◌∷◌, map, length, replicate, string_bytes, Option, None, Some, Bool, slice_get, if◌then◌else◌}
 use Rattle.std.specs.List.{AllByRecursion}
 use Rattle.indexmap.specs.IndexMap.{IndexMap, get}
 use Rattle.fb_model.specs.Names.{Path, at_place}
 use Rattle.fb_model.specs.Values.{Value, One, Many}
 use Rattle.fb_model.specs.System as book
 use Rattle.fb_model.specs.Wires as wires
-use Rattle.fb_model.specs.Wires.{Leaf, leaves}
+use Rattle.fb_model.specs.Wires.{Kind, Leaf, leaves}
 use Rattle.fb_model.specs.CertificateText.{names_in}
 use Rattle.fb_model.specs.Certificates.{Certificate, events_of, depth_of}
-use Rattle.fb_model.specs.Devices.{steps_row, places_row, is_input_numbered}
+use Rattle.fb_model.specs.Devices.{steps_row, places_row, is_input_numbered, is_subscriber}
 use Rattle.fb_leaves.specs.Leaves.{AreApart}
 use Rattle.st_code.specs.Forms.{Form, slot_in}
 use Rattle.fb_chart.specs.declared.table.Point.{Point}
@@ -102,14 +102,14 @@ abbrev pub later : Option ℕ → Option ℕ
 later None = None
 later (Some k) = Some (k + 1)
 
--- the number of the first block that is the INPUT of a number
-abbrev pub input_at : List Block → ℕ → Option ℕ
-input_at [] n = None
-input_at (x ∷ xs) n = if is_input_numbered n (kind_of x) then Some 0 else later (input_at xs n)
+-- the number of the first block of a kind
+abbrev pub first_at : (Kind → Bool) → List Block → Option ℕ
+first_at is [] = None
+first_at is (x ∷ xs) = if is (kind_of x) then Some 0 else later (first_at is xs)
 
--- the blocks of INPUTs by their numbers
-abbrev pub AreInputs : {S : Type 0} → IndexMap ℕ ℕ S → List Block → Type 0
-AreInputs m blocks = (n : ℕ) → get nat_eq m n ≡ input_at blocks n
+-- the blocks of a kind, such as INPUTs or SUBSCRIBEs, by their numbers; of each number the first
+abbrev pub AreNumbered : {S : Type 0} → (ℕ → Kind → Bool) → IndexMap ℕ ℕ S → List Block → Type 0
+AreNumbered is m blocks = (n : ℕ) → get nat_eq m n ≡ first_at (is n) blocks
 
 -- the tables are those of a device, with the numbers of a certificate; the working and the issued values of its leaves have these forms
 pub record AreTables (cert : Certificate) (device : book.Device) (owns issues : List (List Form)) (t : Tables) : Type 0 where
@@ -117,4 +117,5 @@ pub record AreTables (cert : Certificate) (device : book.Device) (owns issues : 
   pub resources : AreResources cert device 0 t.resources.items device.resources
   pub few : length (leaves device) ≤ 65535
   pub apart : AreApart (leaves device)
-  pub inputs : AreInputs t.inputs t.blocks.items
+  pub inputs : AreNumbered is_input_numbered t.inputs t.blocks.items
+  pub subscribers : AreNumbered is_subscriber t.subscribers t.blocks.items

@@ -7,7 +7,6 @@ mod carry;
 mod chart;
 mod event;
 mod give;
-mod input;
 mod names;
 mod number;
 mod port;
@@ -15,6 +14,7 @@ mod seat;
 mod state;
 mod table;
 mod take;
+mod taker;
 mod target;
 
 pub use fb_first;

@@ -12,10 +12,10 @@ ghost use Rattle.fb_chart.specs.Tables.{Each};
 ghost use Rattle.fb_tables.specs.Filling.{IsResourceMade};
 
 use crate::block::blocks;
-use crate::input::inputs;
 use crate::port::ports;
 use crate::seat::{homes, paths, seats};
 use crate::table::{Resource, Tables};
+use crate::taker::{Taker, numbered};
 use fb_cert::Certificate;
 use fb_first::FirstValues;
 use fb_first::fb_check::Verified;
@@ -86,12 +86,14 @@ pub fn tables(
     let paths = paths(alloc, &seats)?;
     let blocks = blocks(alloc, certificate, &paths, &seats)?;
     let ports = ports(alloc, &seats)?;
-    let inputs = inputs(alloc, &blocks)?;
+    let inputs = numbered(alloc, &blocks, Taker::Input)?;
+    let subscribers = numbered(alloc, &blocks, Taker::Subscriber)?;
     let resources = resources(alloc, certificate, typed.name.as_str(), &typed.resources)?;
     Ok(Tables {
         blocks,
         ports,
         resources,
         inputs,
+        subscribers,
     })
 }

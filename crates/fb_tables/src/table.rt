@@ -15,13 +15,14 @@ pub struct Resource {
 }
 
 /// A device: its blocks by resource and then in text order, the ports of each of them (which mean nothing of a chart), its resources in text order, and
-/// the number of the block of each INPUT, by the INPUT's number.
+/// the number of the block of each INPUT, by the INPUT's number, and of the SUBSCRIBE of each channel.
 #[derive(Drop)]
 pub struct Tables {
     pub blocks: Vec<Block>,
     pub ports: Vec<Ports>,
     pub resources: Vec<Resource>,
     pub inputs: IndexMap<u16, u16>,
+    pub subscribers: IndexMap<u16, u16>,
 }
 
 impl Tables {
@@ -30,6 +31,13 @@ impl Tables {
         ensures { result ≡ get nat_eq self.now.inputs number }
     {
         self.inputs.get(&number).copied()
+    }
+
+    /// The number of the block of the SUBSCRIBE of a channel. It takes constant time.
+    pub fn subscriber(&self, channel: u16) -> Option<u16>
+        ensures { result ≡ get nat_eq self.now.subscribers channel }
+    {
+        self.subscribers.get(&channel).copied()
     }
 
     /// Lets the tables go. (A crate that lets them go by itself proves the end of each of their parts anew; this call is proved once.)

@@ -8,10 +8,10 @@ use Rattle.fb_model.specs.Messages.{Message, Spells, spelling}
 use Rattle.fb_wire.specs.declared.message.Purpose.{Purpose}
 use Rattle.fb_wire.specs.declared.message.Purpose.TheVariants.{ToChannel, ToInput}
 use Rattle.fb_wire.specs.declared.message.Typed.{Typed}
-use Rattle.fb_wire.specs.declared.fault.WireFault.{WireFault}
-use Rattle.fb_wire.specs.declared.fault.WireFault.TheVariants.{Trailing}
+use Rattle.fb_model.specs.Fields.{Fault}
+use Rattle.fb_model.specs.Fields.{Trailing}
 use Rattle.fb_wire.specs.Views.{purpose_of, typed_of, value_bytes, all_bytes, head_bytes}
-use Rattle.fb_wire.specs.Fields.{first_fault, values_in, fault_in}
+use Rattle.fb_model.specs.Fields.{first_fault, values_in, fault_in}
 use Rattle.fb_wire.proofs.Reading.{head_right, value_right}
 use Rattle.fb_wire.proofs.Spelled.{in_64, spelled}
 
@@ -98,7 +98,7 @@ module _ (bytes rest : List ℕ) (count k : ℕ) (m : Message) (more : k < count
   left = omega (arith, more)
 
   -- the next value is at fault
-  pub at_fault : (fault : WireFault) → ((n : ℕ) → first_fault (values_in (suc n) rest) rest ≡ Some fault) → fault_in bytes ≡ Some fault
+  pub at_fault : (fault : Fault) → ((n : ℕ) → first_fault (values_in (suc n) rest) rest ≡ Some fault) → fault_in bytes ≡ Some fault
   at_fault fault h = c.goes_on ∙ ap (λ n. first_fault (values_in n rest) rest) left ∙ h (count - (k + 1))
 
   pub room : length m.values < 16

@@ -12,11 +12,11 @@ use Rattle.fb_words.specs.declared.elem_type.ElemType.{ElemType}
 use Rattle.fb_words.specs.declared.elem_type.ElemType.TheVariants as t
 use Rattle.fb_words.specs.Numbers.{in_type}
 use Rattle.fb_wire.specs.declared.message.Typed.{Typed}
-use Rattle.fb_wire.specs.declared.fault.WireFault.TheVariants.{Value}
+use Rattle.fb_model.specs.Fields.{Value}
 use Rattle.fb_wire.specs.declared.message.Purpose.{Purpose}
 use Rattle.fb_wire.specs.declared.message.Purpose.TheVariants.{ToChannel, ToInput}
 use Rattle.fb_wire.specs.Views.{purpose_code, code_of, value_bytes, head_bytes}
-use Rattle.fb_wire.specs.Fields.{Field, first_fault, type_of, is_in, is_type, number_in, mark, version, kind, number, count, head, code, value, values_in}
+use Rattle.fb_model.specs.Fields.{Field, first_fault, type_of, is_in, is_type, number_in, mark, version, kind, number, count, head, code, value, values_in}
 
 taken : (p rest : List ℕ) (n : ℕ) → length p ≡ n → take n (p ++ rest) ≡ p
 taken p rest n h = subst (λ k. take k (p ++ rest) ≡ p) h (take-append_seam p rest)

@@ -11,7 +11,7 @@ use Rattle.fb_wire.specs.declared.message.Purpose.{Purpose}
 use Rattle.fb_wire.specs.declared.message.Purpose.TheVariants.{ToChannel, ToInput}
 use Rattle.fb_wire.specs.declared.message.Typed.{Typed}
 use Rattle.fb_wire.specs.Views.{purpose_of, purpose_code, typed_of, code_of, value_bytes, all_bytes, head_bytes}
-use Rattle.fb_wire.specs.Fields.{byte, type_of, number_in}
+use Rattle.fb_model.specs.Fields.{byte, type_of, number_in}
 use Rattle.fb_wire.proofs.Reading.{type_of_code, read_again}
 use Rattle.fb_wire.proofs.Spelled.{in_64, spelled}
 use Rattle.fb_wire.proofs.Coming.{AreFitting, untyped, typed_again, still_fitting, of_book, as_in_book}

@@ -2,8 +2,10 @@
 use Rattle.std.specs.Prelude.{ℕ, ◌/◌, ◌%◌, List, [], ◌∷◌, ◌++◌}
 use Rattle.std.specs.Int.{w64, cast_unsigned, to_be_bytes}
 use Rattle.fb_words.specs.declared.elem_type.ElemType.{ElemType}
-use Rattle.fb_words.specs.declared.elem_type.ElemType.TheVariants as t
 use Rattle.fb_model.specs.Messages as book
+use Rattle.fb_model.specs.Fields as book_fault
+use Rattle.fb_wire.specs.declared.fault.WireFault.{WireFault}
+use Rattle.fb_wire.specs.declared.fault.WireFault.TheVariants.{Short, Magic, Version, Kind, Count, TypeCode, Value, Trailing}
 use Rattle.fb_wire.specs.declared.message.Purpose.{Purpose}
 use Rattle.fb_wire.specs.declared.message.Purpose.TheVariants.{ToChannel, ToInput}
 use Rattle.fb_wire.specs.declared.message.Typed.{Typed}
@@ -16,19 +18,20 @@ abbrev pub typed_of : Typed → book.Typed
 typed_of v = record { type = v.elem; value = v.value }
 
 abbrev pub purpose_code : Purpose → ℕ
-purpose_code ToChannel = 1
-purpose_code ToInput = 2
+purpose_code p = book.purpose_code (purpose_of p)
 
 abbrev pub code_of : ElemType → ℕ
-code_of t.Bool = 0
-code_of t.Sint = 1
-code_of t.Int = 2
-code_of t.Dint = 3
-code_of t.Lint = 4
-code_of t.Usint = 5
-code_of t.Uint = 6
-code_of t.Udint = 7
-code_of t.Time = 8
+code_of type = book.code type
+
+abbrev pub fault_of : WireFault → book_fault.Fault
+fault_of Short = book_fault.Short
+fault_of Magic = book_fault.Magic
+fault_of Version = book_fault.Version
+fault_of Kind = book_fault.Kind
+fault_of Count = book_fault.Count
+fault_of TypeCode = book_fault.TypeCode
+fault_of Value = book_fault.Value
+fault_of Trailing = book_fault.Trailing
 
 -- a value: the code of its type, and eight bytes in two's complement, high byte first
 abbrev pub value_bytes : Typed → List ℕ

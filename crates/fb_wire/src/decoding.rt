@@ -5,8 +5,8 @@ ghost use Rattle.std.specs.Int.{w64, cast_unsigned, to_be_bytes};
 ghost use Rattle.fb_words.specs.Numbers.{in_type};
 ghost use Rattle.fb_model.specs.Messages.{Spells};
 ghost use Rattle.fb_wire.specs.declared.fault.WireFault.TheVariants.{Short};
-ghost use Rattle.fb_wire.specs.Views.{code_of, value_bytes, head_bytes};
-ghost use Rattle.fb_wire.specs.Fields.{Field, first_fault, type_of, head, values_in, fault_in};
+ghost use Rattle.fb_wire.specs.Views.{fault_of, code_of, value_bytes, head_bytes};
+ghost use Rattle.fb_model.specs.Fields.{Field, first_fault, type_of, head, values_in, fault_in};
 
 use crate::fault::WireFault;
 use crate::message::{Message, Purpose, Typed};
@@ -61,7 +61,7 @@ fn number(bytes: &[u8; 8]) -> i64
 fn opening(bytes: &[u8]) -> Result<(Head, &[u8]), WireFault>
     ensures spelled { IfOk result (λ r. bytes.now ≡ head_bytes r.0.purpose r.0.number r.0.count ++ r.1.now) }
     ensures few { IfOk result (λ r. r.0.count ≤ 16) }
-    ensures fault { IfErr result (λ fault. (fs : List Field) → first_fault (head ++ fs) bytes.now ≡ Some fault) }
+    ensures fault { IfErr result (λ fault. (fs : List Field) → first_fault (head ++ fs) bytes.now ≡ Some (fault_of fault)) }
 {
     let (mark, rest) = field(bytes, 2)?;
     if mark[0] != b'F' || mark[1] != b'B' {
@@ -96,7 +96,7 @@ fn opening(bytes: &[u8]) -> Result<(Head, &[u8]), WireFault>
 fn value(bytes: &[u8]) -> Result<(Typed, &[u8]), WireFault>
     ensures spelled { IfOk result (λ r. bytes.now ≡ value_bytes r.0 ++ r.1.now) }
     ensures fits { IfOk result (λ r. in_type r.0.elem r.0.value ≡ true) }
-    ensures fault { IfErr result (λ fault. (n : ℕ) → first_fault (values_in (suc n) bytes.now) bytes.now ≡ Some fault) }
+    ensures fault { IfErr result (λ fault. (n : ℕ) → first_fault (values_in (suc n) bytes.now) bytes.now ≡ Some (fault_of fault)) }
 {
     let (code, rest) = field(bytes, 1)?;
     let Some(elem) = elem(code[0]) else {
@@ -116,7 +116,7 @@ fn value(bytes: &[u8]) -> Result<(Typed, &[u8]), WireFault>
 /// INPUT, its number, how many values follow, and of each value the code of its type and itself. Nothing may follow.
 pub fn decode(bytes: &[u8]) -> Result<Message, WireFault>
     ensures spelled { IfOk result (λ message. Spells message bytes.now) }
-    ensures fault { IfErr result (λ fault. fault_in bytes.now ≡ Some fault) }
+    ensures fault { IfErr result (λ fault. fault_in bytes.now ≡ Some (fault_of fault)) }
 {
     let (head, behind) = opening(bytes)?;
     let mut message = Message::new(head.purpose, head.number);

@@ -2,12 +2,11 @@
 
 ghost use Rattle.std.specs.Prelude.{ℕ, List, [], ◌++◌, ◌≡◌, Some};
 ghost use Rattle.fb_model.specs.Messages.{Message, Spells};
-ghost use Rattle.fb_wire.specs.declared.fault.WireFault.{WireFault};
-ghost use Rattle.fb_wire.specs.Fields.{fault_in};
+ghost use Rattle.fb_model.specs.Fields.{Fault, fault_in};
 
 /// Bytes that are at fault spell no message.
 pub fn faulty_bytes_spell_nothing()
-    ensures { (bytes : List ℕ) (fault : WireFault) (m : Message) → fault_in bytes ≡ Some fault → Spells m bytes → ⊥ }
+    ensures { (bytes : List ℕ) (fault : Fault) (m : Message) → fault_in bytes ≡ Some fault → Spells m bytes → ⊥ }
 {}
 
 /// Bytes spell one message at most, and those of a message begin those of no other.

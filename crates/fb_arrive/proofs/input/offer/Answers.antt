@@ -2,20 +2,20 @@ use Rattle.std.proofs.Common.{◌≡◌, ℤ, List, true, length, refl, sym, ◌
 use Rattle.fb_model.specs.Wires.{leaves}
 use Rattle.fb_model.specs.Values.{all_in}
 use Rattle.fb_model.specs.Ranges.{types_of}
-use Rattle.fb_model.specs.Devices.{arriving}
+use Rattle.fb_model.specs.Devices.{arriving, is_input_numbered}
 use Rattle.fb_state.proofs.of_fb_chart.Lists.{stands_at}
 use Rattle.fb_state.specs.declared.admission.Shortage.TheVariants.{Places, Numbers}
 use Rattle.fb_state.specs.Sessions.{session_of}
 use Rattle.fb_state.specs.Machines.{device_in, cert_in, machine_of}
 use Rattle.fb_state.specs.Arrivals.{Admits}
 use Rattle.fb_arrive.specs.Offering.{IsOutside}
-use Rattle.fb_arrive.proofs.SameKinds.{no_input, same_kinds}
+use Rattle.fb_arrive.proofs.SameKinds.{none_at, same_kinds}
 use Rattle.fb_arrive.proofs.Inputs as inputs
 use Rattle.fb_arrive.proofs.input.offer.Goals as goal
 
 pub returns-in_default-clause-step : goal.returns-in_default-clause-step
 returns-in_default-clause-step c = (
-  no_input c.args.program.now.tables.blocks.items (leaves (device_in (session_of c.args.program.now c.args.running.now))) c.args.number (same_kinds c.args.program.now c.args.running.now c.requires)
+  none_at (is_input_numbered c.args.number) c.args.program.now.tables.blocks.items (leaves (device_in (session_of c.args.program.now c.args.running.now))) (same_kinds c.args.program.now c.args.running.now c.requires)
       (sym (c.requires.program.tables.inputs c.args.number) ∙ sym c.input.ensures ∙ c.in_default.is),
   refl,
 )

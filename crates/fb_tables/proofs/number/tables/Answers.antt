@@ -49,5 +49,6 @@ returns c =
     (rw c.deref-5.ensures.value at c.in_ok-paths.ensures)
     (rw c.certificate-certificate.ensures at (rw c.deref-6.ensures.value at c.in_ok-blocks.ensures))
     (rw c.deref-7.ensures.value at c.in_ok-ports.ensures)
-    (rw c.certificate-certificate.ensures at (rw c.as_str.ensures.value at (rw c.deref-9.ensures.value at c.in_ok-resources.ensures)))
+    (rw c.certificate-certificate.ensures at (rw c.as_str.ensures.value at (rw c.deref-10.ensures.value at c.in_ok-resources.ensures)))
     (rw c.deref-8.ensures.value at c.in_ok-inputs.ensures)
+    (rw c.deref-9.ensures.value at c.in_ok-subscribers.ensures)

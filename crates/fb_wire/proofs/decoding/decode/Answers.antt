@@ -5,7 +5,8 @@ use Rattle.std.proofs.lemmas.Bool.{eqb-true, lt-ltb}
 use Rattle.fb_words.specs.Numbers.{in_type}
 use Rattle.fb_model.specs.Messages.{Message}
 use Rattle.fb_wire.specs.Views.{typed_of}
-use Rattle.fb_wire.specs.Fields.{fault_in}
+use Rattle.fb_wire.specs.Views.{fault_of}
+use Rattle.fb_model.specs.Fields.{fault_in}
 use Rattle.fb_wire.proofs.Coming.{Coming, begins, at_fault, room, next, ends, follows}
 use Rattle.fb_wire.proofs.decoding.decode.Goals as goal
 
@@ -17,8 +18,8 @@ loop-init c =
 pub returns-in_err-typed-clause-fault : goal.returns-in_err-typed-clause-fault
 returns-in_err-typed-clause-fault c =
     let p = err_from_is_err_and c.from_residual-in_err-typed.result c.from_residual-in_err-typed.ensures.1 in
-    let f = at_fault c.args.bytes.now c.loop.rest.now c.in_ok-head.head.count c.loop.counter c.loop.message c.loop-test.true c.loop.invariant c.in_err-typed.field-0.0 c.in_err-typed.ensures.fault in
-    subst (λ r. IfErr r (λ fault. fault_in c.args.bytes.now ≡ Some fault)) (sym (p.1 ∙ ap Err p.2)) f
+    let f = at_fault c.args.bytes.now c.loop.rest.now c.in_ok-head.head.count c.loop.counter c.loop.message c.loop-test.true c.loop.invariant (fault_of c.in_err-typed.field-0.0) c.in_err-typed.ensures.fault in
+    subst (λ r. IfErr r (λ fault. fault_in c.args.bytes.now ≡ Some (fault_of fault))) (sym (p.1 ∙ ap Err p.2)) f
 
 pub loop-preserved : goal.loop-preserved
 loop-preserved c =

@@ -5,8 +5,8 @@ use Rattle.std.specs.Prelude.{Some}
 use Rattle.std.proofs.lemmas.Int.{to_z-of_z}
 use Rattle.std.proofs.lemmas.List.{take-append-drop}
 use Rattle.fb_wire.specs.Views.{value_bytes}
-use Rattle.fb_wire.specs.Fields.{first_fault, values_in}
-use Rattle.fb_wire.specs.declared.fault.WireFault.TheVariants.{Value}
+use Rattle.fb_model.specs.Fields.{first_fault, values_in}
+use Rattle.fb_model.specs.Fields.{Value}
 use Rattle.fb_wire.proofs.Reading.{spelled, value_wrong}
 use Rattle.fb_wire.proofs.decoding.value.Goals as goal
 

@@ -1,21 +1,37 @@
--- The fields of a datagram, from the left, and which is at fault.
+-- What is at fault with bytes that spell no message: the first field, from the left, that is not whole or not right.
 -- This project's profile.
 use Rattle.std.specs.Prelude.{ℕ, zero, suc, ◌==◌, nat_lt, nat_le, ℤ, length, take, drop, slice_index_or, Bool, true, false, ◌&&◌, ◌||◌, ◌++◌, List, [], ◌∷◌, Option, Some, None, if◌then◌else◌}
 use Rattle.std.specs.Int.{w64, cast_signed, from_be_bytes}
 use Rattle.fb_words.specs.declared.elem_type.ElemType.{ElemType}
 use Rattle.fb_words.specs.declared.elem_type.ElemType.TheVariants as t
-use Rattle.fb_words.specs.Numbers.{in_type}
-use Rattle.fb_wire.specs.declared.fault.WireFault.{WireFault}
-use Rattle.fb_wire.specs.declared.fault.WireFault.TheVariants.{Short, Magic, Version, Kind, Count, TypeCode, Value, Trailing}
+use Rattle.fb_model.specs.Values.{in_type}
+
+pub data Fault : Type 0 where
+  -- the field is not whole
+  Short : Fault
+  -- the first two bytes are not `FB`
+  Magic : Fault
+  -- the version is not 1
+  Version : Fault
+  -- the message is for neither a channel nor an INPUT
+  Kind : Fault
+  -- more than 16 values are announced
+  Count : Fault
+  -- no type has this code
+  TypeCode : Fault
+  -- the value is not in its type
+  Value : Fault
+  -- something follows the last value
+  Trailing : Fault
 
 -- a field: how many bytes it has, which of them are right, and the fault of others
 pub record Field : Type 0 where
   pub width : ℕ
   pub is_right : List ℕ → Bool
-  pub fault : WireFault
+  pub fault : Fault
 
 -- the fault of the first field that is not whole or not right; what follows the last is one too
-abbrev pub first_fault : List Field → List ℕ → Option WireFault
+abbrev pub first_fault : List Field → List ℕ → Option Fault
 first_fault [] [] = None
 first_fault [] (b ∷ bs) = Some Trailing
 first_fault (f ∷ fs) bs = if nat_lt (length bs) f.width then Some Short else if f.is_right (take f.width bs) then first_fault fs (drop f.width bs) else Some f.fault
@@ -88,5 +104,5 @@ abbrev pub fields : List ℕ → List Field
 fields bs = head ++ values_in (byte bs 6) (drop 7 bs)
 
 -- what is at fault with bytes that are no message
-abbrev pub fault_in : List ℕ → Option WireFault
+abbrev pub fault_in : List ℕ → Option Fault
 fault_in bs = first_fault (fields bs) bs

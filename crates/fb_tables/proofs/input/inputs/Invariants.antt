@@ -1,9 +1,0 @@
-use Rattle.std.proofs.Common.{◌≡◌, ◌≤◌, ℕ, nat_eq, length, drop}
-use Rattle.indexmap.specs.IndexMap.{get}
-use Rattle.fb_tables.specs.Tables.{input_at}
-use Rattle.fb_tables.specs.Filling.{most_numbers}
-use Rattle.fb_tables.proofs.Numbered.{moved_by}
-use Rattle.fb_tables.proofs.input.inputs.Given as goal
-
-abbrev pub invariant-loop-at : goal.invariant-loop-at
-invariant-loop-at l = length l.blocks ≤ most_numbers → (n : ℕ) → get nat_eq l.inputs n ≡ moved_by l.at (input_at (drop l.at l.blocks) n)
