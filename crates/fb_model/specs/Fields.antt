@@ -1,6 +1,6 @@
 -- What is at fault with bytes that spell no message: the first field, from the left, that is not whole or not right.
 -- This project's profile.
-use Rattle.std.specs.Prelude.{ℕ, zero, suc, ◌==◌, nat_lt, nat_le, ℤ, length, take, drop, slice_index_or, Bool, true, false, ◌&&◌, ◌||◌, ◌++◌, List, [], ◌∷◌, Option, Some, None, if◌then◌else◌}
+use Rattle.std.specs.Prelude.{ℕ, zero, suc, ◌+◌, ◌==◌, nat_lt, nat_le, ℤ, length, take, drop, slice_index_or, Bool, true, false, ◌&&◌, ◌||◌, ◌++◌, List, [], ◌∷◌, Option, Some, None, if◌then◌else◌}
 use Rattle.std.specs.Int.{w64, cast_signed, from_be_bytes}
 use Rattle.fb_words.specs.declared.elem_type.ElemType.{ElemType}
 use Rattle.fb_words.specs.declared.elem_type.ElemType.TheVariants as t
@@ -11,9 +11,9 @@ pub data Fault : Type 0 where
   Short : Fault
   -- the first two bytes are not `FB`
   Magic : Fault
-  -- the version is not 1
+  -- the version is neither 1 nor 2
   Version : Fault
-  -- the message is for neither a channel nor an INPUT
+  -- the message is for neither a channel nor an INPUT, or is stamped and for an INPUT
   Kind : Fault
   -- more than 16 values are announced
   Count : Fault
@@ -70,11 +70,11 @@ abbrev pub mark : Field
 mark = record { width = 2; is_right = λ bs. (byte bs 0 == 70) && (byte bs 1 == 66); fault = Magic }
 
 abbrev pub version : Field
-version = record { width = 1; is_right = λ bs. byte bs 0 == 1; fault = Version }
+version = record { width = 1; is_right = λ bs. (byte bs 0 == 1) || (byte bs 0 == 2); fault = Version }
 
--- what the message is for: 1 a channel, 2 an INPUT
-abbrev pub kind : Field
-kind = record { width = 1; is_right = λ bs. (byte bs 0 == 1) || (byte bs 0 == 2); fault = Kind }
+-- what the message is for: 1 a channel, 2 an INPUT, to which no message of version 2 goes
+abbrev pub kind : ℕ → Field
+kind v = record { width = 1; is_right = λ bs. (byte bs 0 == 1) || ((byte bs 0 == 2) && (v == 1)); fault = Kind }
 
 -- the number of the channel or INPUT, which is right whatever it is
 abbrev pub number : Field
@@ -84,8 +84,21 @@ number = record { width = 2; is_right = λ bs. true; fault = Short }
 abbrev pub count : Field
 count = record { width = 1; is_right = λ bs. nat_le (byte bs 0) 16; fault = Count }
 
-abbrev pub head : List Field
-head = mark ∷ version ∷ kind ∷ number ∷ count ∷ []
+-- a number of a stamp, which is right whatever it is
+abbrev pub stamping : Field
+stamping = record { width = 4; is_right = λ bs. true; fault = Short }
+
+-- the boot and the sequence number, in version 2
+abbrev pub stamp : ℕ → List Field
+stamp v = if v == 2 then stamping ∷ stamping ∷ [] else []
+
+-- the fields before the values, in a version
+abbrev pub head : ℕ → List Field
+head v = mark ∷ version ∷ kind v ∷ number ∷ stamp v ++ count ∷ []
+
+-- how many bytes stand before the count of values
+abbrev pub before_count : ℕ → ℕ
+before_count v = if v == 2 then 14 else 6
 
 -- the code of a type, and a value of the type
 abbrev pub code : Field
@@ -99,9 +112,9 @@ abbrev pub values_in : ℕ → List ℕ → List Field
 values_in zero bs = []
 values_in (suc n) bs = code ∷ value (type_of (byte bs 0)) ∷ values_in n (drop 9 bs)
 
--- the fields of a datagram, which has as many values as its seventh byte says
+-- the fields of a datagram, by its version, which is its third byte, and its count of values
 abbrev pub fields : List ℕ → List Field
-fields bs = head ++ values_in (byte bs 6) (drop 7 bs)
+fields bs = let v = byte bs 2 in head v ++ values_in (byte bs (before_count v)) (drop (before_count v + 1) bs)
 
 -- what is at fault with bytes that are no message
 abbrev pub fault_in : List ℕ → Option Fault
