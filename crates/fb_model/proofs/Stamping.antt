@@ -1,19 +1,17 @@
 -- What leaves keep of stamps stays of their format, whatever happens.
-use Rattle.std.specs.Prelude.{nat_lt}
-use Rattle.std.proofs.Common.{◌≡◌, ℕ, ◌+◌, ◌-◌, ◌<◌, ◌≤◌, ◌^◌, Bool, true, false, cond, ◌==◌, ◌&&◌, ℤ, max, List, [], ◌∷◌, Option, Some, None, refl, sym, ◌∙◌, ap, subst, arith}
+use Rattle.std.proofs.Common.{◌≡◌, ℕ, ◌+◌, ◌<◌, ◌^◌, Bool, true, false, cond, ◌==◌, ◌&&◌, ℤ, List, [], ◌∷◌, Option, Some, None, refl, sym, ◌∙◌, ap, subst, arith}
 use Rattle.std.specs.List.{AllByRecursion}
 use Rattle.std.specs.Str.{bytes_eq}
 use Rattle.std.proofs.lemmas.Bool.{cond_both}
-use Rattle.fb_words.specs.declared.elem_type.ElemType.{ElemType}
 use Rattle.fb_words.specs.declared.format.Format.{Format}
 use Rattle.fb_words.specs.declared.format.Format.TheVariants.{First, Second}
 use Rattle.fb_model.specs.Names.{Name, Path, path_eq}
-use Rattle.fb_model.specs.System.{Channel, Service, Input, Output, Publish, Subscribe, Delay, Cycle, Restart}
+use Rattle.fb_model.specs.System.{Service, Input, Output, Publish, Subscribe, Delay, Cycle, Restart}
 use Rattle.fb_model.specs.Services.{init, rsp, ind, qi, qo}
 use Rattle.fb_model.specs.Messages.{Stamp, IsStamp, IsStamped, Purpose, To_channel, To_input}
 use Rattle.fb_model.specs.Wires.{Kind, Charted, Serviced, Leaf, leaf_at}
 use Rattle.fb_model.specs.Store.{Store, with_leaf, LeafState, Stamps, Unstamped, Upcoming, Exhausted, Latest, Condition, AtState, Closed, Ready, Quiet, Armed, Fired, Plain, first_cells, first_upcoming, first_latest, first_condition, first_store}
-use Rattle.fb_model.specs.Serving.{Effect, Reply, bit, set_value, receive, set_own, emits, is_true, is_ready, stamps_of, last_sequence, after_send, can_send, opened, published, subscribed, reply, Serves}
+use Rattle.fb_model.specs.Serving.{Effect, bit, set_value, receive, set_own, emits, is_true, is_ready, stamps_of, last_sequence, after_send, can_send, opened, published, subscribed, reply, Serves}
 use Rattle.fb_model.specs.Certificates.{IsWired}
 use Rattle.fb_model.specs.Devices.{is_timer, format_in, format_of, keeping}
 use Rattle.fb_model.specs.Headline.{IsUpcoming, IsLatest, KeepsStamps}
