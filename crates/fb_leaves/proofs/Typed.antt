@@ -32,6 +32,7 @@ use Rattle.fb_leaves.specs.Leaves.{HasType, IsWider, StartsFit, AreFirst, IsGood
 use Rattle.fb_model.specs.System.{instance_names}
 use Rattle.fb_model.proofs.Lists.{all_append, same_name}
 use Rattle.fb_model.proofs.Placed.{Apart, apart, name_same, all_left, all_right}
+use Rattle.fb_model.proofs.Ports.{first_each}
 use Rattle.fb_leaves.proofs.Made.{in_body, end_variable, body_has, end_known, IsEventLink, IsValueLink, IsParameter, IsWellMade, AreWellMade, IsWellResource, IsWellDevice}
 
 -- ---- types
@@ -154,14 +155,6 @@ eq_sym m n b h = by b (bytes_eq n m) refl h where
   by false false e h = refl
   by true false e h = let s : m ≡ n = same_name m n h in let f : bytes_eq n m ≡ true = subst (λ x. bytes_eq n x ≡ true) (sym s) (name_same n) in cc
   by false true e h = let s : n ≡ m = same_name n m e in let f : bytes_eq m n ≡ true = subst (λ x. bytes_eq m x ≡ true) (sym s) (name_same m) in cc
-
-passed : (v : Variable) (vs ws : List Variable) → AllByRecursion (λ n. bytes_eq v.name n ≡ false) (variable_names ws) → AreFirst vs ws → AreFirst (v ∷ vs) ws
-passed v vs [] a h = tt
-passed v vs (w ∷ ws) a h = (ap (λ b. if b then Some v else variable_named vs w.name) (eq_sym v.name w.name false a.0) ∙ h.0, passed v vs ws a.1 h.1)
-
-pub first_each : (vs : List Variable) → Apart (variable_names vs) → AreFirst vs vs
-first_each [] a = tt
-first_each (v ∷ vs) a = (ap (λ b. if b then Some v else variable_named vs v.name) (name_same v.name), passed v vs vs a.0 (first_each vs a.1))
 
 -- the kind of variables whose names differ
 pub good : (kind : Kind) → Apart (variable_names (variables kind)) → StartsFit (inputs kind) → StartsFit (outputs kind) → StartsFit (internals kind) → IsGoodKind kind

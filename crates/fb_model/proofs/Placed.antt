@@ -12,7 +12,7 @@ use Rattle.fb_model.proofs.Lists.{same_name}
 pub name_same : (n : Name) → bytes_eq n n ≡ true
 name_same n = (bytes_eq-Decides n n).1 refl
 
-apart_sym : (m n : Name) → bytes_eq m n ≡ false → bytes_eq n m ≡ false
+pub apart_sym : (m n : Name) → bytes_eq m n ≡ false → bytes_eq n m ≡ false
 apart_sym m n h = by (bytes_eq n m) refl where
   by : (b : Bool) → bytes_eq n m ≡ b → b ≡ false
   by true e = let s : n ≡ m = same_name n m e in let t : bytes_eq m n ≡ true = subst (λ x. bytes_eq m x ≡ true) (sym s) (name_same m) in absurd cc
