@@ -6,4 +6,5 @@ pub mod Ports
 pub mod Values
 pub mod Charts
 pub mod Closed
+pub mod Numbered
 pub mod Few

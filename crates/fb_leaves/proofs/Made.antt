@@ -1,14 +1,11 @@
 -- What is known of the bodies of well typed systems, without the trees that they come from.
-use Rattle.std.specs.Prelude.{◌≡◌, ◌≤ℤ◌, Bool, true, false, List, ◌++◌, Option, None, Some, map}
+use Rattle.std.specs.Prelude.{◌≡◌, Bool, true, false, List, Option, None, Some, map}
 use Rattle.std.specs.List.{AllByRecursion}
-use Rattle.fb_words.specs.declared.elem_type.ElemType.{ElemType}
 use Rattle.fb_model.specs.Names.{Name, is_in}
-use Rattle.fb_model.specs.Values.{Value, lowest, highest, numbers_of}
-use Rattle.fb_model.specs.System.{Variable, Connection, Parameter, Face, Body, Basic, Served, Composite, Instances, nothing, instance, Resource, Device, start_of}
+use Rattle.fb_model.specs.System.{Variable, Connection, Parameter, Face, Body, Basic, Served, Composite, Instances, nothing, instance, Resource, Device}
 use Rattle.fb_model.specs.Typing.{names_of, event_inputs_of, body_named}
 use Rattle.fb_model.specs.NetworkTyping.{variable_named, outputs_of, no_face}
-use Rattle.fb_model.specs.Wires.{Kind, Charted, inputs_of}
-use Rattle.fb_model.specs.Store.{inputs, outputs, internals}
+use Rattle.fb_model.specs.Wires.{Charted, inputs_of}
 use Rattle.fb_leaves.specs.Leaves.{HasType, IsWider, StartsFit, IsGoodKind}
 use Rattle.fb_model.specs.System.{instance_names}
 use Rattle.fb_model.proofs.Placed.{Apart}

@@ -1,21 +1,18 @@
 -- The variables of services: their names differ, and what services write has their types.
-use Rattle.std.proofs.Common.{◌≡◌, ℕ, ◌+◌, ◌-◌, ◌*◌, ◌/◌, ◌%◌, ◌<◌, pos, sym, ap, subst, refl, Bool, true, false, ◌||◌, List, [], ◌∷◌, ◌++◌, None, Some, ◌∙◌, nat_lt, arith}
-use Rattle.std.specs.Prelude.{if◌then◌else◌}
-use Rattle.std.specs.List.{AllByRecursion}
+use Rattle.std.proofs.Common.{◌≡◌, ℕ, ◌+◌, sym, ap, refl, true, false, ◌||◌, List, [], ◌∷◌, None, Some, ◌∙◌}
 use Rattle.std.specs.Str.{bytes_eq}
 use Rattle.fb_words.specs.declared.elem_type.ElemType.{ElemType}
 use Rattle.fb_words.specs.declared.elem_type.ElemType.TheVariants as t
 use Rattle.fb_model.specs.Names.{Name, is_in}
-use Rattle.fb_model.specs.Values.{One}
 use Rattle.fb_model.specs.System.{Variable, Service, Input, Output, Publish, Subscribe, Delay, Cycle, Restart}
-use Rattle.fb_model.specs.Services.{qi, qo, digits, received, sent, ports, service_inputs, service_outputs}
+use Rattle.fb_model.specs.Services.{qo, received, sent, ports, service_inputs, service_outputs}
 use Rattle.fb_model.specs.NetworkTyping.{variable_named}
 use Rattle.fb_model.specs.Wires.{Serviced}
 use Rattle.fb_model.specs.Store.{variable_names}
 use Rattle.fb_model.specs.Ranges.{types_of}
 use Rattle.fb_model.proofs.Ports.{NoneIs, service_apart}
 use Rattle.fb_model.specs.Ranges.{variables}
-use Rattle.fb_leaves.specs.Leaves.{HasType, StartsFit, AreFirst, IsGoodKind}
+use Rattle.fb_leaves.specs.Leaves.{StartsFit, AreFirst, IsGoodKind}
 use Rattle.fb_leaves.proofs.Typed.{good, zero_fits}
 
 -- ---- services

@@ -1,6 +1,6 @@
 -- Well typed systems are well made.
 use Rattle.std.proofs.Common.{◌≡◌, ℕ, zero, suc, ℤ, pos, sym, ap, ap₂, subst, refl, Bool, true, false, ◌&&◌, ◌||◌, List, [], ◌∷◌, ◌++◌, map, replicate, Option, None, Some, ◌∙◌, append_assoc, arith}
-use Rattle.std.specs.Prelude.{◌≤ℤ◌, int_le, if◌then◌else◌}
+use Rattle.std.specs.Prelude.{◌≤ℤ◌, int_le}
 use Rattle.std.specs.List.{AllByRecursion}
 use Rattle.std.specs.Int.Signed.{≤ℤ_refl, le_z_yes}
 use Rattle.std.proofs.lemmas.Int.{ints}
@@ -28,7 +28,7 @@ use Rattle.fb_model.specs.Store.{variable_names, inputs, outputs, internals}
 use Rattle.fb_model.specs.Spans.{whole}
 use Rattle.fb_model.specs.Shapes.{IsIn}
 use Rattle.fb_model.specs.Ranges.{variables}
-use Rattle.fb_leaves.specs.Leaves.{HasType, IsWider, StartsFit, AreFirst, IsGoodKind}
+use Rattle.fb_leaves.specs.Leaves.{HasType, IsWider, StartsFit, IsGoodKind}
 use Rattle.fb_model.specs.System.{instance_names}
 use Rattle.fb_model.proofs.Lists.{all_append, same_name}
 use Rattle.fb_model.proofs.Placed.{Apart, apart, name_same, all_left, all_right}

@@ -1,28 +1,25 @@
 -- What leaves hold and take lies in their types.
-use Rattle.std.proofs.Common.{◌≡◌, ℕ, ◌+◌, ℤ, pos, sym, ap, ap₂, subst, refl, Bool, true, false, ◌||◌, List, [], ◌∷◌, ◌++◌, Option, None, Some, inl, inr, ◌∙◌}
+use Rattle.std.proofs.Common.{◌≡◌, ℕ, ◌+◌, ℤ, pos, sym, ap, ap₂, subst, refl, Bool, true, false, List, [], ◌∷◌, ◌++◌, Option, None, Some, ◌∙◌}
 use Rattle.std.specs.Prelude.{if◌then◌else◌}
 use Rattle.std.specs.List.{AllByRecursion}
 use Rattle.std.specs.Int.Signed.{≤ℤ_refl}
 use Rattle.std.specs.Str.{bytes_eq}
 use Rattle.fb_words.specs.declared.elem_type.ElemType.{ElemType}
-use Rattle.fb_model.specs.Names.{Name, Path, Place, path_eq, is_in}
-use Rattle.fb_model.specs.Values.{Value, One, Values, lowest, highest, numbers_of, in_type, all_in}
+use Rattle.fb_model.specs.Names.{Name, Path, Place}
+use Rattle.fb_model.specs.Values.{Value, One, lowest, highest, numbers_of}
 use Rattle.fb_model.specs.Declarations.{BlockTree, SourceTree}
-use Rattle.fb_model.specs.System.{Variable, Service, Connection, Parameter, Face, Body, Basic, Served, Composite, Instances, nothing, instance, Resource, Device, System, start_of, start_in, constant}
-use Rattle.fb_model.specs.Services.{qo, received, ports}
+use Rattle.fb_model.specs.System.{Variable, Connection, Parameter, Face, Body, Basic, Served, Composite, Instances, nothing, instance, Resource, Device, System, start_of, start_in, constant}
 use Rattle.fb_model.specs.Typing.{body_named}
 use Rattle.fb_model.specs.NetworkTyping.{variable_named, outputs_of, ElaboratesWith}
-use Rattle.fb_model.specs.Wires.{is_own, is_end, Source, Output_of, Constant, Charted, Serviced, Leaf, leaf_at, followed, entered_in, fed, given_by, given_in, inputs_of, leaves_of, leaves_in, resource_leaves, leaves_from, leaves}
-use Rattle.fb_model.specs.Store.{variable_names, inputs, outputs, internals, first_input, first_cells}
+use Rattle.fb_model.specs.Wires.{is_own, is_end, Source, Output_of, Constant, Charted, Serviced, Leaf, followed, entered_in, fed, given_by, given_in, inputs_of, leaves_of, leaves_in, resource_leaves, leaves_from, leaves}
 use Rattle.fb_model.specs.Spans.{whole}
 use Rattle.fb_model.specs.Shapes.{IsIn}
-use Rattle.fb_model.specs.Serving.{bit, set_value, receive}
 use Rattle.fb_model.specs.System.{instance_names}
-use Rattle.fb_model.proofs.Lists.{all_append, all_weaker, same_name, same_path}
+use Rattle.fb_model.proofs.Lists.{all_append, all_weaker, same_name}
 use Rattle.fb_model.proofs.Placed.{Apart, name_same, all_left, all_right}
-use Rattle.fb_leaves.specs.Leaves.{AreApart, HasType, IsWider, StartsFit, IsGivenBy, Yields, Feeds, IsFed}
+use Rattle.fb_leaves.specs.Leaves.{HasType, IsWider, StartsFit, Yields, Feeds, IsFed}
 use Rattle.fb_leaves.proofs.Made.{in_body, end_variable, IsValueLink, IsParameter, IsWellMade, AreWellMade, IsWellResource, IsWellDevice}
-use Rattle.fb_leaves.proofs.Typed.{both, eq_sym, in_range, in_wider, le_through, devices_made}
+use Rattle.fb_leaves.proofs.Typed.{both, eq_sym, in_wider, le_through, devices_made}
 use Rattle.fb_leaves.proofs.Paths.{resource_body, device_apart, AreFound, all_found}
 use Rattle.fb_leaves.proofs.Wired.{eq_turned}
 use Rattle.fb_leaves.proofs.Ports.{inputs_start, service_good}

@@ -7,7 +7,7 @@ ghost use Rattle.fb_model.specs.Declarations.{BlockTree, SourceTree};
 ghost use Rattle.fb_model.specs.System.{Device, System};
 ghost use Rattle.fb_model.specs.NetworkTyping.{ElaboratesWith};
 ghost use Rattle.fb_model.specs.Wires.{Leaf, leaves};
-ghost use Rattle.fb_model.specs.Certificates.{IsWired};
+ghost use Rattle.fb_model.specs.Certificates.{IsWired, IsNumbered};
 ghost use Rattle.fb_leaves.specs.Leaves.{AreApart, IsFed, IsClosed};
 
 /// The paths of a device's leaves are all different.
@@ -29,6 +29,11 @@ pub fn inputs_take_their_types()
 /// The charts of a device's leaves name states, events and outputs of their own block alone, which are few and apart.
 pub fn charts_are_closed()
     ensures { (library : List BlockTree) (source : SourceTree) (system : System) → ElaboratesWith library source system → AllByRecursion (λ (d : Device). AllByRecursion (λ (leaf : Leaf). IsClosed leaf.kind) (leaves d)) system.devices }
+{}
+
+/// The numbers of a device's INPUT and OUTPUT, and the channels of its PUBLISH and SUBSCRIBE, have two bytes, and each has at most 16 value types.
+pub fn services_are_numbered()
+    ensures { (library : List BlockTree) (source : SourceTree) (system : System) → ElaboratesWith library source system → AllByRecursion (λ (d : Device). AllByRecursion (λ (leaf : Leaf). IsNumbered leaf.kind) (leaves d)) system.devices }
 {}
 
 /// A device has at most 16 resources, and at most 1,024 leaves for each of 16.
