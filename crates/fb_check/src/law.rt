@@ -6,7 +6,8 @@ ghost use Rattle.fb_model.specs.Certificates.{Certificate, Fits, DeviceHolds};
 ghost use Rattle.fb_check.specs.Verdicts.{IsWritten};
 
 /// Where a certificate fits a system that stands in texts, each device holds: its leaves are found by their paths, their outputs lead to event
-/// inputs, they keep their values in the rows, whatever happens, and the certificate pays for them.
+/// inputs, their numbers and value types have room in messages, they keep their values in the rows, whatever happens, and the certificate pays for
+/// them.
 pub fn devices_hold()
     ensures { (system : System) (cert : Certificate) → IsWritten system → Fits system cert → AllByRecursion (DeviceHolds cert) system.devices }
 {}

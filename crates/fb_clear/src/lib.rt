@@ -23,7 +23,8 @@ pub fn clear_systems_lie()
 {}
 
 /// Where a certificate fits a system that stands in texts, each device holds: its leaves are found by their paths, their outputs lead to event
-/// inputs, they keep their values in the rows, whatever happens, and the certificate pays for them.
+/// inputs, their numbers and value types have room in messages, they keep their values in the rows, whatever happens, and the certificate pays for
+/// them.
 pub fn fitting_devices_hold()
     ensures { (ts us : List Token) (n k m l : ℕ) (library source : SourceTree) (system : System)
         → IsFile (IsExpression n) (IsAlgorithm n k) ts library → IsFile (IsExpression m) (IsAlgorithm m l) us source → ElaboratesWith library.blocks source system
