@@ -1,9 +1,9 @@
 -- The bounds of FOR, where the text's tokens are seen as the book's.
-use Rattle.std.proofs.Common.{◌≡◌, ℕ, ◌-◌, Bool, List, length, take, map, Ok, ap, ap₂, sym, ◌∙◌}
+use Rattle.std.proofs.Common.{◌≡◌, ℕ, ◌-◌, Bool, List, length, take, Ok, ap, ap₂, sym, ◌∙◌}
 use Rattle.std.proofs.lemmas.List.{length-map, take-map}
 use Rattle.fb_lex.specs.declared.token.Token.{Token}
 use Rattle.fb_lex.specs.Views.{token_of, tokens_of}
-use Rattle.fb_model.specs.StructuredText.{Expression, Bound}
+use Rattle.fb_model.specs.StructuredText.{Expression}
 use Rattle.fb_model.specs.StructuredTextGrammar.{is_number}
 use Rattle.fb_read.specs.Reading.{Read, ◌>>=◌}
 use Rattle.st_parse.specs.Reading.{bound_at}
