@@ -1,6 +1,6 @@
 -- A root that opens may cost the FAR of its opening, and no more.
-use Rattle.std.proofs.Common.{◌-◌, ◌≡◌, ℕ, zero, suc, ◌+◌, ◌≤◌, ◌<◌, cond, eqb, ℤ, List, [], ◌∷◌, ◌++◌, Some, length, refl, sym, ◌∙◌, ap, subst, arith, inl, inr}
-use Rattle.std.specs.Prelude.{slice_get, nat_lt}
+use Rattle.std.proofs.Common.{Bool, true, false, ◌-◌, ◌≡◌, ℕ, zero, suc, ◌+◌, ◌≤◌, ◌<◌, cond, eqb, ℤ, List, [], ◌∷◌, ◌++◌, Some, length, refl, sym, ◌∙◌, ap, subst, arith, inl, inr}
+use Rattle.std.specs.Prelude.{slice_get, nat_lt, ◌&&◌, ◌⊎◌}
 use Rattle.std.specs.List.{AllByRecursion}
 use Rattle.std.proofs.lemmas.Bool.{eq-eqb, ne_eqb, lt-ltb, le-ltb}
 use Rattle.std.proofs.lemmas.List.Sums.{sum_by-cons}
@@ -8,10 +8,10 @@ use Rattle.fb_model.specs.Names.{Place}
 use Rattle.fb_model.specs.System.{System, Device}
 use Rattle.fb_model.specs.Wires.{Leaf, leaves}
 use Rattle.fb_model.specs.Store.{with_leaf, Fired}
-use Rattle.fb_model.specs.Certificates.{Certificate, far_of}
-use Rattle.fb_model.specs.Devices.{Entry, Machine, Arrival, place_of, admitted, arriving, Offers, Tries, expiring, expired, at_moment, due_timers}
+use Rattle.fb_model.specs.Certificates.{Certificate, far_of, is_restart}
+use Rattle.fb_model.specs.Devices.{Entry, Machine, Arrival, place_of, admitted, arriving, Offers, Tries, expiring, expired, at_moment, due_timers, beginning, begun, silent, first_stamp, at_first}
 use Rattle.fb_model.specs.Headline.{IsOpen, IsKnown, IsSound}
-use Rattle.fb_model.specs.World.{Opens, roots_from, Datagram, World, over_devices, still_allowed, far_datagrams, far_entries, far_queues, far_devices, far_left}
+use Rattle.fb_model.specs.World.{Opens, roots_from, Datagram, World, over_devices, still_allowed, far_datagrams, far_entries, far_queues, far_devices, far_left, machine_at, roots_before, IsFirst}
 use Rattle.fb_model.proofs.Lists.{all_weaker}
 use Rattle.fb_model.proofs.Bounding.{extends_admitted}
 use Rattle.fb_model.proofs.Far.{far-append, far-cons, far-none, queues_rise, over_rises}
@@ -248,3 +248,136 @@ module _ (system : System) (cert : Certificate) (repeats : ℕ) (old new : World
           ap (λ r. (far_of cert).weight r.opening) opened',
         ),
       )
+
+-- ---- the first world
+
+pub admits_begun : (cert : Certificate) (ls : List Leaf) (m : Machine) → (ps : List Place) × Admits cert m (begun ls m) ps
+admits_begun cert [] m = ([], admits_none cert m m refl refl)
+admits_begun cert (leaf ∷ rest) m = by (is_restart leaf.kind) (admits_begun cert rest (admitted m (beginning leaf))) (admits_begun cert rest m) where
+  by : (t : Bool) → (ps : List Place) × Admits cert (admitted m (beginning leaf)) (begun rest (admitted m (beginning leaf))) ps → (ps : List Place) × Admits cert m (begun rest m) ps
+      → (ps : List Place) × Admits cert m (begun rest (cond t (admitted m (beginning leaf)) m)) ps
+  by true x y = (place_of (beginning leaf) ∷ x.0, admits_more cert m (beginning leaf) (begun rest (admitted m (beginning leaf))) x.0 x.1)
+  by false x y = y
+
+none_above : (cert : Certificate) (of : ℕ → ℕ) (root c r : ℕ) (ps : List Place) → r + length ps ≤ root → ((j : ℕ) → j < length ps → of (c + j) ≡ r + j) → arrived cert of root c ps ≡ 0
+none_above cert of root c r [] l h = refl
+none_above cert of root c r (p ∷ ps) l h =
+    let here : of c ≡ r = subst (λ i. of i ≡ r + 0) (let e : c + 0 ≡ c = omega arith in e) (h 0 (omega arith)) ∙ (let e : r + 0 ≡ r = omega arith in e) in
+    let no : cond (eqb (of c) root) ((far_of cert).weight p) 0 ≡ 0 = ap (λ t. cond t ((far_of cert).weight p) 0) (ne_eqb (of c) root (λ e. omega (arith, e, here, l))) in
+    omega (arith, no, none_above cert of root (c + 1) (r + 1) ps (omega (arith, l)) (λ j b. subst (λ i. of i ≡ (r + 1) + j) (let e : c + suc j ≡ (c + 1) + j = omega arith in e) (h (suc j) (omega (arith, b)) ∙ (let e : r + suc j ≡ (r + 1) + j = omega arith in e))))
+
+-- how many BEGIN a device has, and the roots of its first causes
+abbrev begins : Device → ℕ
+begins device = (at_first device 1 first_stamp).next - 1
+
+abbrev Roots : (ℕ → ℕ) → Device → ℕ → Type 0
+Roots of device base = (c : ℕ) → 0 < c → c < (at_first device 1 first_stamp).next → of c ≡ base + c
+
+module _ (cert : Certificate) (device : Device) (of : ℕ → ℕ) (base : ℕ) (roots : Roots of device base) where
+  all_begun : (ps : List Place) × Admits cert (silent device 1 first_stamp) (at_first device 1 first_stamp) ps
+  all_begun = admits_begun cert (leaves device) (silent device 1 first_stamp)
+
+  numbers : (j : ℕ) → j < length all_begun.0 → of (1 + j) ≡ (base + 1) + j
+  numbers j l = roots (1 + j) (omega arith) (omega (arith, l, all_begun.1.next)) ∙ (let e : base + (1 + j) ≡ (base + 1) + j = omega arith in e)
+
+  counted : begins device ≡ length all_begun.0
+  counted = omega (arith, all_begun.1.next)
+
+  first_far : (root n : ℕ) → far_queues cert of root (at_first device 1 first_stamp) n ≤ arrived cert of root 1 all_begun.0
+  first_far root n = omega (arith, all_begun.1.far of root n, queues_none cert of root (silent device 1 first_stamp) (λ q. tt) n)
+
+  lower : (root n : ℕ) → root ≤ base → far_queues cert of root (at_first device 1 first_stamp) n ≡ 0
+  lower root n l = omega (arith, first_far root n, none_arrived cert of root 1 (base + 1) all_begun.0 (omega (arith, l)) numbers)
+
+  higher : (root n : ℕ) → base + begins device < root → far_queues cert of root (at_first device 1 first_stamp) n ≡ 0
+  higher root n l = omega (arith, first_far root n, none_above cert of root 1 (base + 1) all_begun.0 (omega (arith, l, counted)) numbers)
+
+  own_root : (k n : ℕ) → k < begins device → (p : Place) × (q : ℕ) × IsOpen ((at_first device 1 first_stamp).queues q) (1 + k) p × (far_queues cert of ((base + 1) + k) (at_first device 1 first_stamp) n ≤ (far_of cert).weight p)
+  own_root k n l =
+      let (p, is) = got all_begun.0 k (omega (arith, l, counted)) in
+      let it = all_begun.1.there k p is in
+      (p, it.0, it.1, omega (arith, first_far ((base + 1) + k) n, one_arrived cert of 1 (base + 1) k all_begun.0 p is numbers))
+
+-- the devices from one on have these machines and roots
+record Begin (ds : List Device) (base k : ℕ) (w : World) : Type 0 where
+  machines : (i : ℕ) → w.machines (k + i) ≡ machine_at ds i
+  roots : (i c : ℕ) → 0 < c → c < (machine_at ds i).next → w.root_of (k + i) c ≡ (base + roots_before ds i) + c
+
+begin_rest : (x : Device) (xs : List Device) (base k : ℕ) (w : World) → Begin (x ∷ xs) base k w → Begin xs (base + begins x) (k + 1) w
+begin_rest x xs base k w b = record {
+  machines = λ i. ap w.machines (let e : (k + 1) + i ≡ k + suc i = omega arith in e) ∙ b.machines (suc i);
+  roots = λ i c l m. ap (λ j. w.root_of j c) (let e : (k + 1) + i ≡ k + suc i = omega arith in e) ∙ b.roots (suc i) c l m ∙ (let e : (base + (begins x + roots_before xs i)) + c ≡ ((base + begins x) + roots_before xs i) + c = omega arith in e);
+}
+
+begin_machine : (x : Device) (xs : List Device) (base k : ℕ) (w : World) → Begin (x ∷ xs) base k w → w.machines k ≡ at_first x 1 first_stamp
+begin_machine x xs base k w b = ap w.machines (let e : k ≡ k + 0 = omega arith in e) ∙ b.machines 0
+
+begin_roots : (x : Device) (xs : List Device) (base k : ℕ) (w : World) → Begin (x ∷ xs) base k w → Roots (w.root_of k) x base
+begin_roots x xs base k w b c l m = ap (λ j. w.root_of j c) (let e : k ≡ k + 0 = omega arith in e) ∙ b.roots 0 c l m ∙ (let e : (base + 0) + c ≡ base + c = omega arith in e)
+
+module _ (cert : Certificate) (w : World) where
+  rest_lower : (ds : List Device) (base k root : ℕ) → Begin ds base k w → root ≤ base → far_devices cert w root ds k ≡ 0
+  rest_lower [] base k root b l = refl
+  rest_lower (x ∷ xs) base k root b l =
+      omega (
+        arith,
+        ap (λ m. far_queues cert (w.root_of k) root m (length x.resources)) (begin_machine x xs base k w b),
+        lower cert x (w.root_of k) base (begin_roots x xs base k w b) root (length x.resources) l,
+        rest_lower xs (base + begins x) (k + 1) root (begin_rest x xs base k w b) (omega (arith, l)),
+      )
+
+  -- a root of one of these devices is that of one BEGIN, and may cost what this costs
+  some_root : (ds : List Device) (base k root : ℕ) → Begin ds base k w → base < root → root ≤ base + roots_before ds (length ds)
+      → (p : Place) × (d : ℕ) × (q : ℕ) × (c : ℕ) × IsOpen ((w.machines d).queues q) c p × (w.root_of d c ≡ root) × (far_devices cert w root ds k ≤ (far_of cert).weight p)
+  some_root [] base k root b l m = absurd (omega (arith, l, m))
+  some_root (x ∷ xs) base k root b l m = elim (le_or root (base + begins x)) [
+    | inl h ↦ (
+        let r = begin_roots x xs base k w b in
+        let i : ℕ = root - (base + 1) in
+        let root_is : (base + 1) + (root - (base + 1)) ≡ root = omega (arith, l) in
+        let o = own_root cert x (w.root_of k) base r (root - (base + 1)) (length x.resources) (omega (arith, h, l)) in
+        let small : 1 + (root - (base + 1)) < (at_first x 1 first_stamp).next = omega (arith, h, l) in
+        let far : far_queues cert (w.root_of k) root (w.machines k) (length x.resources) ≤ (far_of cert).weight o.0 =
+        omega (arith, ap (λ m. far_queues cert (w.root_of k) root m (length x.resources)) (begin_machine x xs base k w b), ap (λ j. far_queues cert (w.root_of k) j (at_first x 1 first_stamp) (length x.resources)) root_is, o.3) in (
+          o.0,
+          k,
+          o.1,
+          1 + (root - (base + 1)),
+          subst (λ (m : Machine). IsOpen (m.queues o.1) (1 + (root - (base + 1))) o.0) (sym (begin_machine x xs base k w b)) o.2,
+          r (1 + (root - (base + 1))) (omega arith) small ∙ (let e : base + (1 + (root - (base + 1))) ≡ root = omega (arith, l) in e),
+          omega (arith, far, rest_lower xs (base + begins x) (k + 1) root (begin_rest x xs base k w b) h),
+        )
+        )
+    | inr h ↦ (
+        let s = some_root xs (base + begins x) (k + 1) root (begin_rest x xs base k w b) h (omega (arith, m)) in
+        let none : far_queues cert (w.root_of k) root (w.machines k) (length x.resources) ≡ 0 =
+        ap (λ m. far_queues cert (w.root_of k) root m (length x.resources)) (begin_machine x xs base k w b) ∙ higher cert x (w.root_of k) base (begin_roots x xs base k w b) root (length x.resources) h in
+        (s.0, s.1, s.2, s.3, s.4, s.5, omega (arith, s.6, none))
+        )
+  ]
+    where
+      le_or : (m n : ℕ) → (m ≤ n) ⊎ (n < m)
+      le_or m n = by (nat_lt n m) refl where
+        by : (t : Bool) → nat_lt n m ≡ t → (m ≤ n) ⊎ (n < m)
+        by true e = inr (grind arith)
+        by false e = inl (grind arith)
+
+-- each root of the first world has no steps, and may cost what its opening costs
+pub first_begins : (system : System) (cert : Certificate) (repeats : ℕ) (w : World) → IsFirst system w → (root : ℕ) → 0 < root → root < w.next → ((w.roots root).steps ≡ 0) × (far_left system cert repeats w root ≤ (far_of cert).weight (w.roots root).opening)
+first_begins system cert repeats w first root l m =
+    let begin : Begin system.devices 0 0 w = record {
+      machines = λ i. ap (λ f. f (0 + i)) first.machines ∙ ap (machine_at system.devices) (let e : 0 + i ≡ i = omega arith in e);
+      roots = λ i c a b. roots i c a b;
+    } in
+    let s = some_root cert w system.devices 0 0 root begin l (omega (arith, m, first.next)) in
+    let opened : w.roots (w.root_of s.1 s.3) ≡ record { opening = s.0; steps = 0 } = open_is (λ c o. w.roots (w.root_of s.1 c) ≡ record { opening = o; steps = 0 }) ((w.machines s.1).queues s.2) s.3 s.0 (first.roots s.1 s.2) s.4 in
+    let opened' : w.roots root ≡ record { opening = s.0; steps = 0 } = ap w.roots (sym s.5) ∙ opened in
+    (ap (λ r. r.steps) opened', omega (arith, s.6, ap (λ r. (far_of cert).weight r.opening) opened', ap (far_datagrams cert repeats system.devices root) first.datagrams))
+  where
+    roots : (i c : ℕ) → 0 < c → c < (machine_at system.devices i).next → w.root_of (0 + i) c ≡ (0 + roots_before system.devices i) + c
+    roots i c a b =
+        ap (λ j. w.root_of j c) (let e : 0 + i ≡ i = omega arith in e)
+        ∙ first.root_of i c
+        ∙ ap (λ t. cond (t && nat_lt c (machine_at system.devices i).next) (roots_before system.devices i + c) 0) (lt-ltb 0 c a)
+        ∙ ap (λ t. cond t (roots_before system.devices i + c) 0) (lt-ltb c (machine_at system.devices i).next b)
+        ∙ (let e : roots_before system.devices i + c ≡ (0 + roots_before system.devices i) + c = omega arith in e)
