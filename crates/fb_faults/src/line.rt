@@ -121,7 +121,7 @@ impl<'a> Line<'a> {
     /// The first value of a FOR.
     pub fn first(self) -> Site<'a> {
         match self.source {
-            Some(Stmt::For(_, _, first, _, _, _)) => self.site(Some(first)),
+            Some(Stmt::For(_, _, first, _, _, _)) => self.site(Some(&first.value)),
             _ => self.site(None),
         }
     }
@@ -129,7 +129,7 @@ impl<'a> Line<'a> {
     /// The last value of a FOR.
     pub fn last(self) -> Site<'a> {
         match self.source {
-            Some(Stmt::For(_, _, _, last, _, _)) => self.site(Some(last)),
+            Some(Stmt::For(_, _, _, last, _, _)) => self.site(Some(&last.value)),
             _ => self.site(None),
         }
     }

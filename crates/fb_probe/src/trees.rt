@@ -166,9 +166,9 @@ fn one(out: &mut String, statement: &Stmt) -> Result<(), AllocError> {
             write!(out, "FOR@{at} ")?;
             name(out, variable)?;
             out.push_str(" := ")?;
-            expression(out, first)?;
+            expression(out, &first.value)?;
             out.push_str(" TO ")?;
-            expression(out, last)?;
+            expression(out, &last.value)?;
             if let Some(step) = step {
                 out.push_str(" BY ")?;
                 constant(out, *step)?;

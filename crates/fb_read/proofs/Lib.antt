@@ -5,4 +5,5 @@ pub mod Repetitions
 pub mod Steady
 pub mod SteadyLists
 pub mod Nesting
+pub mod Viable
 pub mod Whole

@@ -9,12 +9,13 @@ use Rattle.fb_read.specs.declared.stop.Stop.{Stop}
 use Rattle.fb_read.specs.declared.stop.Stop.TheVariants.{Memory, Syntax, TooDeep}
 use Rattle.fb_read.specs.Reading.{Wrong, syntax, too_deep, Answer, Read, ◌>>=◌, ended, whole_of}
 use Rattle.fb_read.specs.Answers.{Fails}
-use Rattle.fb_read.specs.Faults.{start_or, offset_of, Says}
-use Rattle.fb_read.specs.Whole.{Tells, Finds, IfSyntax, CannotStand, PlacesSyntax, PlacesTooDeep}
+use Rattle.fb_read.specs.Faults.{start_or, start_of, offset_of, Says}
+use Rattle.fb_read.specs.Whole.{Tells, Finds, IfSyntax, CannotStand, OpensTooMany, PlacesSyntax, PlacesTooDeep}
 use Rattle.fb_read.proofs.Fronts.{front, same_front}
 use Rattle.fb_read.proofs.Nesting.{AtToken, Opens, at_then}
-use Rattle.fb_read.proofs.Readers.{Meets, Sound, Gets, Complete, gets_then}
+use Rattle.fb_read.proofs.Readers.{Meets, Sound, Gets, Complete, NotDeep, gets_then}
 use Rattle.fb_read.proofs.Steady.{Same, here, there, Within, Goes, Steady, IsStuck, IsDeep}
+use Rattle.fb_read.proofs.Viable.{Span, Begun, GoesOn, Viable, goes_done}
 
 -- ---- what is found
 
@@ -48,6 +49,10 @@ module _ {A : Type 0} where
   ended_shallow : (x : A) (rest : List Token) (left : ℕ) → ended x rest ≡ Err (too_deep left) → ⊥
   ended_shallow x [] left e = absurd cc
   ended_shallow x (u ∷ rest) left e = absurd cc
+
+  shallow_ended : (x : A) (rest : List Token) → NotDeep (ended x rest)
+  shallow_ended x [] = tt
+  shallow_ended x (t ∷ rest) = tt
 
   ended_same : (x : A) {t : Token} {q q' ts us : List Token} → Same t q q' ts us → IsStuck (ended x us)
   ended_same x here = tt
@@ -116,6 +121,48 @@ stands_not Kind end ts left offset o refused = by (drop (length ts - left) ts) r
         never = λ others x h. refused (token k s e) q others (p.0 ++ token k s e ∷ others) (subst (λ l. Same (token k s e) q others l (p.0 ++ token k s e ∷ others)) (sym whole) (same_front p.0)) (omega arith) x h;
       })
 
+-- what stands before a token
+front_of : {t : Token} {q q' ts us : List Token} → Same t q q' ts us → (p : List Token) × (ts ≡ p ++ t ∷ q) × (us ≡ p ++ t ∷ q')
+front_of here = ([], refl, refl)
+front_of (there {u = u} s) = let f = front_of s in (u ∷ f.0, ap (λ l. u ∷ l) f.1, ap (λ l. u ∷ l) f.2)
+
+some_more : (p : List Token) (t : Token) (q : List Token) → suc (length q) ≤ length (p ++ t ∷ q)
+some_more [] t q = omega arith
+some_more (u ∷ p) t q = let a = some_more p t q in omega arith
+
+-- where a token begins that has so many behind it
+begins_at : (end : ℕ) (p : List Token) (t : Token) (q : List Token) → offset_of end (p ++ t ∷ q) (suc (length q)) ≡ start_of t
+begins_at end p (token k s e) q = ap (start_or end) (drops p) where
+  drops : (p : List Token) → drop (length (p ++ token k s e ∷ q) - suc (length q)) (p ++ token k s e ∷ q) ≡ token k s e ∷ q
+  drops [] = let none : suc (length q) - suc (length q) ≡ 0 = omega arith in ap (λ n. drop n (token k s e ∷ q)) none
+  drops (u ∷ p) =
+      let le : suc (length q) ≤ length (p ++ token k s e ∷ q) = some_more p (token k s e) q in
+      let less : suc (length (p ++ token k s e ∷ q)) - suc (length q) ≡ suc (length (p ++ token k s e ∷ q) - suc (length q)) = omega arith in
+      ap (λ n. drop n (u ∷ (p ++ token k s e ∷ q))) less ∙ drops p
+
+-- The token before which the nesting is at its end opens one too many.
+opens_too_many : {A : Type 0} (Kind Deeper : List Token → A → Type 0) (end : ℕ) (ts : List Token) (left offset : ℕ) → offset ≡ offset_of end ts left → (P : Span) (b : Begun P ts left) → ((us : List Token) → P us [] → (x : A) × Deeper us x)
+    → ((q' us : List Token) → Same b.opener b.behind q' ts us → (x : A) → Kind us x → ⊥) → OpensTooMany Kind Deeper ts offset
+opens_too_many Kind Deeper end ts left offset o P b deeper refused =
+    let f = b.ends [] in
+    let p = front_of f.same in
+    let d = deeper f.all f.done in
+    record {
+      before = p.0;
+      opener = b.opener;
+      behind = b.behind;
+      tokens_are = p.1;
+      begins = o ∙ (ap (λ n. offset_of end ts n) b.left_is ∙ (ap (λ l. offset_of end l (suc (length b.behind))) p.1 ∙ begins_at end p.0 b.opener b.behind));
+      never = λ others x h. refused others (p.0 ++ b.opener ∷ others) (subst (λ l. Same b.opener b.behind others l (p.0 ++ b.opener ∷ others)) (sym p.1) (same_front p.0)) x h;
+      others = f.others;
+      tree = d.0;
+      goes_on = subst (λ l. Deeper l d.0) p.2 d.1;
+    }
+
+-- what goes on goes on where all of the tokens are to be read
+pub whole_viable : {A : Type 0} (P : Span) (read : Read A) → Viable P read → Viable P (whole_of read)
+whole_viable P read h ts = goes_done P ts (λ x. ended x.0 x.1) (read ts) (λ x. shallow_ended x.0 x.1) (h ts)
+
 -- ---- in the words of the answers
 
 -- the fault that a stop becomes
@@ -151,14 +198,12 @@ module _ {X Y : Type 0} (view : X → Y) (end : ℕ) (ts : List Token) (fault : 
       by (faults.Syntax offset) p = elim (stands_not Kind end ts p.0 offset p.2 (λ t q q' us s lt x h. refused us x (points.stuck_stays t q q' ts us s p.0 p.1 lt) h)) [ inl a ↦ inl a.1 | inr c ↦ inr c ]
       by f p = tt
 
-    pub reads_deep : ((us : List Token) (x : Y) → IsDeep (read us) → Kind us x → ⊥) → Tells view (read ts) end ts (Err fault) → PlacesTooDeep {X = X} Kind ts (Err fault)
-    reads_deep refused e = by fault e where
-      by : (f : TextFault) → Tells view (read ts) end ts (Err f) → PlacesTooDeep {X = X} Kind ts (Err f)
-      by (faults.TooDeep offset) p = elim (stands_not Kind end ts p.0 offset p.2 (λ t q q' us s lt x h. refused us x (points.deep_stays t q q' ts us s p.0 p.1 lt) h)) [
-        | inl a ↦
-            let some = points.deep_at ts p.0 p.1 in
-            let none : 0 ≡ length ts - (length ts - p.0) = ap length (sym a.0) ∙ length-drop (length ts - p.0) ts in
-            absurd (omega arith)
-        | inr c ↦ c
-      ]
+    pub reads_deep : (Deeper : List Token → Y → Type 0) (P : Span) → ((us : List Token) → GoesOn P us (read us)) → ((us : List Token) → P us [] → (x : Y) × Deeper us x) → ((us : List Token) (x : Y) → IsDeep (read us) → Kind us x → ⊥)
+        → Tells view (read ts) end ts (Err fault) → PlacesTooDeep {X = X} Kind Deeper ts (Err fault)
+    reads_deep Deeper P viable deeper refused e = by fault e where
+      by : (f : TextFault) → Tells view (read ts) end ts (Err f) → PlacesTooDeep {X = X} Kind Deeper ts (Err f)
+      by (faults.TooDeep offset) p =
+          let b : Begun P ts p.0 = subst (λ r. GoesOn P ts r) p.1 (viable ts) in
+          opens_too_many Kind Deeper end ts p.0 offset p.2 P b deeper
+          (λ q' us s x h. refused us x (points.deep_stays b.opener b.behind q' ts us s p.0 p.1 (let n = b.left_is in omega arith)) h)
       by f p = tt

@@ -5,13 +5,13 @@ use Rattle.fb_words.specs.declared.mark.Mark.TheVariants as m
 use Rattle.fb_model.specs.Tokens.{Token, token, mark}
 use Rattle.fb_model.specs.Productions.{Gram, Word, IsName, a_name, IsMany, none, more}
 use Rattle.fb_model.specs.Trees.{Constant}
-use Rattle.fb_model.specs.StructuredText.{Expression, Statement, select, branch, repeat, Statements, statement, statements, Branch, branches, Arm, arms}
-use Rattle.fb_model.specs.StructuredTextGrammar.{IsStep, no_step, a_step, IsList, end, lone, next, IsBranch, a_condition, IsArm, a_labelled, IsElse, absent, present, IsStatement, an_assignment, to_element, an_if, a_case, a_for, IsBody}
+use Rattle.fb_model.specs.StructuredText.{Expression, Bound, Statement, select, branch, repeat, Statements, statement, statements, Branch, branches, Arm, arms}
+use Rattle.fb_model.specs.StructuredTextGrammar.{IsStep, no_step, a_step, IsBound, a_bound, IsList, end, lone, next, IsBranch, a_condition, IsArm, a_labelled, IsElse, absent, present, IsStatement, an_assignment, to_element, an_if, a_case, a_for, IsBody}
 use Rattle.fb_read.specs.Reading.{Read, ◌>>=◌, next_is, after, expect, all_at, list_at}
 use Rattle.fb_read.proofs.Readers.{Gets, Complete, never, Shorter, Avoids, gets_then, gets_wider}
 use Rattle.fb_read.proofs.Repetitions.{stops_at, while_complete}
 use Rattle.st_expr.specs.Reading.{continues}
-use Rattle.st_parse.specs.Reading.{headed, begins_integer, begins_block, begins_entry, label_at, step_at, assign_at, element_at, assignment_at, branch_at, else_at, elsifs_at, if_at, arm_at, arms_at, case_at, head_at, for_at, block_at, statement_at, entry_at, statements_in, entries_at, nested_at, body_at}
+use Rattle.st_parse.specs.Reading.{headed, begins_integer, begins_block, begins_entry, label_at, step_at, assign_at, element_at, assignment_at, branch_at, else_at, elsifs_at, if_at, arm_at, arms_at, case_at, bound_at, head_at, for_at, block_at, statement_at, entry_at, statements_in, entries_at, nested_at, body_at}
 use Rattle.st_parse.proofs.Headed.{headed_complete}
 use Rattle.st_parse.proofs.Labels.{labels_complete, step_complete, integer_apart}
 use Rattle.st_parse.proofs.Sound.{IsEntry, a_lone, an_entry}
@@ -95,21 +95,25 @@ module _ (Deep : Type 0) (E : Gram Expression) (expr : Read Expression) (short :
         (headed_complete Deep (IsArm E IsInner) (arm_at list) (arm_shorter E short IsInner no_longer) begins_integer begins_entry arm_complete (arm_first E IsInner) integer_apart a ts₂ ts₃ others r label entry)
         (gets_then _ _ (else_at list ts₃) (xs, token (mark m.EndCase) s'' e'' ∷ rest) (else_complete m.EndCase refl (λ s e l. refl) s'' e'' ts₃ rest xs t) (inl refl))))
 
+    bound_complete : Complete Deep continues (IsBound E) (bound_at expr)
+    unfolding bound_at
+    bound_complete ts x rest (a_bound {x = y} p) st = gets_then _ _ (expr ts) (y, rest) (whole ts y rest p st) (inl refl)
+
     -- no expression goes on where a step stands, or DO
     step_stops : {s e : ℕ} {ts rest : List Token} {c : Option Constant} → IsStep ts c (token (mark m.Do) s e ∷ rest) → continues ts ≡ false
     step_stops no_step = refl
     step_stops (a_step p) = refl
 
-    head_complete : {s₁ e₁ s₂ e₂ s₃ e₃ : ℕ} {ts ts₁ ts₂ ts₃ ts₄ : List Token} {x : Word} {a b : Expression} {c : Option Constant}
-        → IsName ts x (token (mark m.Assign) s₁ e₁ ∷ ts₁) → E ts₁ a (token (mark m.To) s₂ e₂ ∷ ts₂) → E ts₂ b ts₃ → IsStep ts₃ c (token (mark m.Do) s₃ e₃ ∷ ts₄) → Gets Deep (head_at expr ts) ((x, a, b, c), ts₄)
+    head_complete : {s₁ e₁ s₂ e₂ s₃ e₃ : ℕ} {ts ts₁ ts₂ ts₃ ts₄ : List Token} {x : Word} {a b : Bound} {c : Option Constant}
+        → IsName ts x (token (mark m.Assign) s₁ e₁ ∷ ts₁) → IsBound E ts₁ a (token (mark m.To) s₂ e₂ ∷ ts₂) → IsBound E ts₂ b ts₃ → IsStep ts₃ c (token (mark m.Do) s₃ e₃ ∷ ts₄) → Gets Deep (head_at expr ts) ((x, a, b, c), ts₄)
     unfolding head_at
     head_complete {s₂ = s₂} {e₂ = e₂} {s₃ = s₃} {e₃ = e₃} {ts₁ = ts₁} {ts₂ = ts₂} {ts₃ = ts₃} {ts₄ = ts₄} {a = a} {b = b} {c = c} a_name p q r =
-        gets_then _ _ (expr ts₁) (a, token (mark m.To) s₂ e₂ ∷ ts₂) (whole ts₁ a (token (mark m.To) s₂ e₂ ∷ ts₂) p refl)
-        (gets_then _ _ (expr ts₂) (b, ts₃) (whole ts₂ b ts₃ q (step_stops r))
+        gets_then _ _ (bound_at expr ts₁) (a, token (mark m.To) s₂ e₂ ∷ ts₂) (bound_complete ts₁ a (token (mark m.To) s₂ e₂ ∷ ts₂) p refl)
+        (gets_then _ _ (bound_at expr ts₂) (b, ts₃) (bound_complete ts₂ b ts₃ q (step_stops r))
         (gets_then _ _ (step_at ts₃) (c, token (mark m.Do) s₃ e₃ ∷ ts₄) (step_complete Deep ts₃ c (token (mark m.Do) s₃ e₃ ∷ ts₄) r refl) (inl refl)))
 
-    for_complete : (s e : ℕ) {s₁ e₁ s₂ e₂ s₃ e₃ s₄ e₄ : ℕ} {ts ts₁ ts₂ ts₃ ts₄ rest : List Token} {x : Word} {a b : Expression} {c : Option Constant} {xs : Statements}
-        → IsName ts x (token (mark m.Assign) s₁ e₁ ∷ ts₁) → E ts₁ a (token (mark m.To) s₂ e₂ ∷ ts₂) → E ts₂ b ts₃ → IsStep ts₃ c (token (mark m.Do) s₃ e₃ ∷ ts₄) → IsInner ts₄ xs (token (mark m.EndFor) s₄ e₄ ∷ rest)
+    for_complete : (s e : ℕ) {s₁ e₁ s₂ e₂ s₃ e₃ s₄ e₄ : ℕ} {ts ts₁ ts₂ ts₃ ts₄ rest : List Token} {x : Word} {a b : Bound} {c : Option Constant} {xs : Statements}
+        → IsName ts x (token (mark m.Assign) s₁ e₁ ∷ ts₁) → IsBound E ts₁ a (token (mark m.To) s₂ e₂ ∷ ts₂) → IsBound E ts₂ b ts₃ → IsStep ts₃ c (token (mark m.Do) s₃ e₃ ∷ ts₄) → IsInner ts₄ xs (token (mark m.EndFor) s₄ e₄ ∷ rest)
         → Gets Deep (for_at expr list (token (mark m.For) s e ∷ ts)) (repeat s x a b c xs, rest)
     unfolding for_at
     for_complete s e {s₄ = s₄} {e₄ = e₄} {ts = ts} {ts₄ = ts₄} {rest = rest} {x = x} {a = a} {b = b} {c = c} {xs = xs} p q r t f =

@@ -1,6 +1,7 @@
 pub mod Entries
 pub mod Headed
 pub mod Labels
+pub mod Bounds
 pub mod Sound
 pub mod Shorter
 pub mod Complete

@@ -10,7 +10,7 @@ use Rattle.fb_read.proofs.Readers.{Shallow, shallow_then, shallow_if, shallow_na
 use Rattle.fb_read.proofs.Nesting.{AtToken, Opens, at_then, at_if, at_shallow, at_mark, while_opens}
 use Rattle.fb_read.proofs.Repetitions.{separated_shallow}
 use Rattle.st_parse.proofs.Headed.{headed_opens}
-use Rattle.st_parse.specs.Reading.{headed, begins_integer, begins_block, begins_entry, number_at, integer_at, optional_at, label_at, step_at, assign_at, element_at, assignment_at, branch_at, else_at, elsifs_at, if_at, arm_at, arms_at, case_at, head_at, for_at, block_at, statement_at, entry_at, entries_at, nested_at, body_at}
+use Rattle.st_parse.specs.Reading.{headed, begins_integer, begins_block, begins_entry, number_at, integer_at, optional_at, label_at, step_at, assign_at, element_at, assignment_at, branch_at, else_at, elsifs_at, if_at, arm_at, arms_at, case_at, bound_at, head_at, for_at, block_at, statement_at, entry_at, entries_at, nested_at, body_at}
 
 -- ---- labels and steps
 
@@ -89,11 +89,15 @@ module _ (expr : Read Expression) (opens : Opens expr) where
         at_then _ (headed a.0 (arms_at list a.1)) (headed_opens begins_integer (arm_at list) arm_opens a.0 a.1) (λ others.
         at_then _ (else_at list others.1) (else_opens others.1) (λ xs. at_mark _ m.EndCase xs.1 (λ last. tt)))))))
 
+    bound_opens : Opens (bound_at expr)
+    unfolding bound_at
+    bound_opens ts = at_then _ (expr ts) (opens ts) (λ x. tt)
+
     head_opens : Opens (head_at expr)
     unfolding head_at
     head_opens ts = at_then _ (name_at ts) (at_shallow (name_at ts) (shallow_name ts)) (λ x. at_mark _ m.Assign x.1 (λ begin.
-        at_then _ (expr begin) (opens begin) (λ a. at_mark _ m.To a.1 (λ rest.
-        at_then _ (expr rest) (opens rest) (λ b.
+        at_then _ (bound_at expr begin) (bound_opens begin) (λ a. at_mark _ m.To a.1 (λ rest.
+        at_then _ (bound_at expr rest) (bound_opens rest) (λ b.
         at_then _ (step_at b.1) (at_shallow (step_at b.1) (option_shallow m.By b.1)) (λ c. at_mark _ m.Do c.1 (λ body. tt)))))))
 
     for_opens : Opens (for_at expr list)

@@ -5,7 +5,7 @@ use Rattle.fb_words.specs.declared.mark.Mark.TheVariants as m
 use Rattle.fb_model.specs.Tokens.{Token, token, mark}
 use Rattle.fb_model.specs.Productions.{Gram, a_name}
 use Rattle.fb_model.specs.StructuredText.{Expression, Statement, Statements, Branch, Arm}
-use Rattle.fb_model.specs.StructuredTextGrammar.{IsLabel, IsList, end, lone, next, IsBranch, a_condition, IsArm, a_labelled, IsElse, absent, present, IsStatement, an_assignment, to_element, an_if, a_case, a_for, IsBody}
+use Rattle.fb_model.specs.StructuredTextGrammar.{IsLabel, IsBound, a_bound, IsList, end, lone, next, IsBranch, a_condition, IsArm, a_labelled, IsElse, absent, present, IsStatement, an_assignment, to_element, an_if, a_case, a_for, IsBody}
 use Rattle.fb_read.specs.Reading.{next_is}
 use Rattle.fb_read.proofs.Readers.{Shorter, Avoids, seen}
 use Rattle.fb_read.proofs.Repetitions.{many_shrinks, separated_shorter}
@@ -52,6 +52,9 @@ module _ (E : Gram Expression) (short : Shorter E) where
     else_shrinks absent = omega arith
     else_shrinks (present {ts = ts} {rest = rest} {xs = xs} p) = let a = inner ts xs rest p in omega arith
 
+    bound_shorter : Shorter (IsBound E)
+    bound_shorter ts b rest (a_bound {x = x} p) = short ts x rest p
+
     pub statement_shorter : Shorter (IsStatement E IsInner)
     statement_shorter ts x rest (an_assignment {mid = mid} {v = v} a_name p) = let a = short mid v rest p in omega arith
     statement_shorter ts x rest (to_element {s' = s'} {e' = e'} {s'' = s''} {e'' = e''} {mid = mid} {on = on} {i = i} {v = v} a_name p q) =
@@ -70,8 +73,8 @@ module _ (E : Gram Expression) (short : Shorter E) where
         let d = else_shrinks t in
         omega arith
     statement_shorter ts x rest (a_for {s₂ = s₂} {e₂ = e₂} {s₃ = s₃} {e₃ = e₃} {s₄ = s₄} {e₄ = e₄} {ts₁ = ts₁} {ts₂ = ts₂} {ts₃ = ts₃} {ts₄ = ts₄} {a = first} {b = final} {xs = xs} a_name p q r t) =
-        let a = short ts₁ first (token (mark m.To) s₂ e₂ ∷ ts₂) p in
-        let b = short ts₂ final ts₃ q in
+        let a = bound_shorter ts₁ first (token (mark m.To) s₂ e₂ ∷ ts₂) p in
+        let b = bound_shorter ts₂ final ts₃ q in
         let c = step_shrinks r in
         let d = inner ts₄ xs (token (mark m.EndFor) s₄ e₄ ∷ rest) t in
         omega arith

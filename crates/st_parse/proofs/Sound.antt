@@ -5,12 +5,12 @@ use Rattle.fb_words.specs.declared.mark.Mark.TheVariants as m
 use Rattle.fb_model.specs.Tokens.{Token, token, mark}
 use Rattle.fb_model.specs.Productions.{Gram, Word, IsName, IsMany, none, more, IsSeparated}
 use Rattle.fb_model.specs.Trees.{Constant}
-use Rattle.fb_model.specs.StructuredText.{Expression, Statement, assign, assign_element, branch, select, repeat, Statements, statements, Branch, branches, Arm, arms}
-use Rattle.fb_model.specs.StructuredTextGrammar.{IsLabel, IsStep, IsList, end, lone, next, IsBranch, a_condition, IsArm, a_labelled, IsElse, absent, present, IsStatement, an_assignment, to_element, an_if, a_case, a_for, IsBody}
+use Rattle.fb_model.specs.StructuredText.{Expression, Bound, Statement, assign, assign_element, branch, select, repeat, Statements, statements, Branch, branches, Arm, arms}
+use Rattle.fb_model.specs.StructuredTextGrammar.{IsLabel, IsStep, IsBound, a_bound, IsList, end, lone, next, IsBranch, a_condition, IsArm, a_labelled, IsElse, absent, present, IsStatement, an_assignment, to_element, an_if, a_case, a_for, IsBody}
 use Rattle.fb_read.specs.Reading.{Answer, Read, ◌>>=◌, next_is, after, expect, place_at, name_at, all_at, list_at}
 use Rattle.fb_read.proofs.Readers.{Meets, Sound, meets_if, meets_then, meets_as, expect_then, may_open, name_sound}
 use Rattle.fb_read.proofs.Repetitions.{while_sound}
-use Rattle.st_parse.specs.Reading.{headed, begins_integer, begins_block, begins_entry, label_at, step_at, assign_at, element_at, assignment_at, branch_at, else_at, elsifs_at, if_at, arm_at, arms_at, case_at, head_at, for_at, block_at, statement_at, entry_at, statements_in, entries_at, nested_at, body_at}
+use Rattle.st_parse.specs.Reading.{headed, begins_integer, begins_block, begins_entry, label_at, step_at, assign_at, element_at, assignment_at, branch_at, else_at, elsifs_at, if_at, arm_at, arms_at, case_at, bound_at, head_at, for_at, block_at, statement_at, entry_at, statements_in, entries_at, nested_at, body_at}
 use Rattle.st_parse.proofs.Headed.{IsHeaded, a_head, headed_sound}
 use Rattle.st_parse.proofs.Labels.{labels_sound, step_sound}
 
@@ -117,22 +117,26 @@ module _ (E : Gram Expression) (expr : Read Expression) (sound : Sound E expr) w
         meets_then _ _ (else_at list ts₃) (else_sound ts₃) (λ xs last t.
         expect_then (λ l. IsElse E IsInner ts₃ xs l) _ _ m.EndCase last t (λ s'' e'' rest t'. case_of p' q r t')))))))
 
+    bound_sound : Sound (IsBound E) (bound_at expr)
+    unfolding bound_at
+    bound_sound ts = meets_then _ _ (expr ts) (sound ts) (λ x rest p. a_bound p)
+
     -- what stands between FOR and DO
-    data IsHead : List Token → Word × Expression × Expression × Option Constant → List Token → Type 0 where
-      a_front : {s₁ e₁ s₂ e₂ s₃ e₃ : ℕ} {ts ts₁ ts₂ ts₃ ts₄ : List Token} {x : Word} {a b : Expression} {c : Option Constant}
-          → IsName ts x (token (mark m.Assign) s₁ e₁ ∷ ts₁) → E ts₁ a (token (mark m.To) s₂ e₂ ∷ ts₂) → E ts₂ b ts₃ → IsStep ts₃ c (token (mark m.Do) s₃ e₃ ∷ ts₄) → IsHead ts (x, a, b, c) ts₄
+    data IsHead : List Token → Word × Bound × Bound × Option Constant → List Token → Type 0 where
+      a_front : {s₁ e₁ s₂ e₂ s₃ e₃ : ℕ} {ts ts₁ ts₂ ts₃ ts₄ : List Token} {x : Word} {a b : Bound} {c : Option Constant}
+          → IsName ts x (token (mark m.Assign) s₁ e₁ ∷ ts₁) → IsBound E ts₁ a (token (mark m.To) s₂ e₂ ∷ ts₂) → IsBound E ts₂ b ts₃ → IsStep ts₃ c (token (mark m.Do) s₃ e₃ ∷ ts₄) → IsHead ts (x, a, b, c) ts₄
 
     head_sound : Sound IsHead (head_at expr)
     unfolding head_at
     head_sound ts = meets_then _ _ (name_at ts) (name_sound ts) (λ x sign p.
         expect_then (λ l. IsName ts x l) _ _ m.Assign sign p (λ s₁ e₁ ts₁ p'.
-        meets_then _ _ (expr ts₁) (sound ts₁) (λ a mid q.
-        expect_then (λ l. E ts₁ a l) _ _ m.To mid q (λ s₂ e₂ ts₂ q'.
-        meets_then _ _ (expr ts₂) (sound ts₂) (λ b ts₃ r.
+        meets_then _ _ (bound_at expr ts₁) (bound_sound ts₁) (λ a mid q.
+        expect_then (λ l. IsBound E ts₁ a l) _ _ m.To mid q (λ s₂ e₂ ts₂ q'.
+        meets_then _ _ (bound_at expr ts₂) (bound_sound ts₂) (λ b ts₃ r.
         meets_then _ _ (step_at ts₃) (step_sound ts₃) (λ c on t.
         expect_then (λ l. IsStep ts₃ c l) _ _ m.Do on t (λ s₃ e₃ ts₄ t'. a_front p' q' r t')))))))
 
-    for_of : {s e s' e' : ℕ} {ts mid rest : List Token} {xs : Statements} (h : Word × Expression × Expression × Option Constant) → IsHead ts h mid → IsInner mid xs (token (mark m.EndFor) s' e' ∷ rest) → IsStatement E IsInner (token (mark m.For) s e ∷ ts) (repeat s h.0 h.1 h.2 h.3 xs) rest
+    for_of : {s e s' e' : ℕ} {ts mid rest : List Token} {xs : Statements} (h : Word × Bound × Bound × Option Constant) → IsHead ts h mid → IsInner mid xs (token (mark m.EndFor) s' e' ∷ rest) → IsStatement E IsInner (token (mark m.For) s e ∷ ts) (repeat s h.0 h.1 h.2 h.3 xs) rest
     for_of h (a_front p q r t) g = a_for p q r t g
 
     for_sound : Sound (IsStatement E IsInner) (for_at expr list)

@@ -1,19 +1,49 @@
 -- Each production of statements stops at the same token whatever stands behind it, where that is so of expressions.
-use Rattle.std.proofs.Common.{ℕ, zero, suc, cond, None, Some, Ok}
+use Rattle.std.proofs.Common.{◌≡◌, ℕ, zero, suc, ◌+◌, ◌-◌, ◌<◌, cond, List, ◌∷◌, length, take, None, Some, Ok, refl, sym, ap, ◌∙◌, arith, inr}
 use Rattle.fb_words.specs.declared.mark.Mark.{Mark}
 use Rattle.fb_words.specs.declared.mark.Mark.TheVariants as m
+use Rattle.fb_model.specs.Tokens.{Token}
 use Rattle.fb_model.specs.Productions.{Gram, Word}
 use Rattle.fb_model.specs.StructuredText.{Expression, Statement, assign, assign_element, branch, select, repeat, Statements, no_statement, statements, branches, arms}
-use Rattle.fb_model.specs.StructuredTextGrammar.{IsBranch, IsArm, IsStatement, IsBody}
+use Rattle.fb_model.specs.StructuredTextGrammar.{is_number, IsBranch, IsArm, IsStatement, IsBody}
 use Rattle.fb_read.specs.Reading.{Read, ◌>>=◌, next_is, expect, place_at, name_at, all_at, list_at}
 use Rattle.fb_read.proofs.Readers.{Sound, Shorter}
-use Rattle.fb_read.proofs.Steady.{Steady, next_sees, steady_then, steady_done, steady_deep, steady_name, steady_test, steady_choice, steady_if, steady_expect, steady_place}
+use Rattle.fb_read.proofs.Steady.{Same, here, there, Steady, within_then, goes_then, next_sees, steady_then, steady_done, steady_deep, steady_name, steady_test, steady_choice, steady_if, steady_expect, steady_place}
 use Rattle.fb_read.proofs.SteadyLists.{Shrinks, shrinks_of, steady_all}
-use Rattle.st_parse.specs.Reading.{headed, begins_integer, begins_block, begins_entry, label_at, step_at, assign_at, element_at, assignment_at, branch_at, else_at, elsifs_at, if_at, arm_at, arms_at, case_at, head_at, for_at, block_at, statement_at, entry_at, statements_in, entries_at, nested_at, body_at}
+use Rattle.st_parse.specs.Reading.{headed, begins_integer, begins_block, begins_entry, label_at, step_at, assign_at, element_at, assignment_at, branch_at, else_at, elsifs_at, if_at, arm_at, arms_at, case_at, bound_at, head_at, for_at, block_at, statement_at, entry_at, statements_in, entries_at, nested_at, body_at}
 use Rattle.st_parse.proofs.Headed.{steady_headed}
 use Rattle.st_parse.proofs.Labels.{labels_steady, step_steady, integer_sees, block_sees, entry_sees}
 use Rattle.st_parse.proofs.Sound.{IsEntry, entry_sound, branch_sound, arm_sound, statement_sound, block_sound, body_sound}
 use Rattle.st_parse.proofs.Shorter.{NoLonger, entry_shorter, branch_shorter, arm_shorter, statement_shorter, body_no_longer}
+
+-- ---- what was taken
+
+-- Two texts that are the same up to a token are equally long before it, and have the same tokens there.
+same_length : {t : Token} {q q' ts us : List Token} → Same t q q' ts us → (length ts + length q' ≡ length us + length q) × (length q < length ts)
+same_length here = (omega arith, omega arith)
+same_length (there s) = let p = same_length s in (omega (arith, p.0), omega (arith, p.1))
+
+same_taken : {t : Token} {q q' ts us : List Token} → Same t q q' ts us → (n : ℕ) → n + length q < length ts → take n ts ≡ take n us
+same_taken here zero h = refl
+same_taken {t = t} {q = q} here (suc n) h = absurd (omega (arith, h))
+same_taken (there s) zero h = refl
+same_taken (there {u = u} s) (suc n) h = ap (λ l. u ∷ l) (same_taken s n (omega (arith, h)))
+
+same_before : {t : Token} {q q' ts us rest rest' : List Token} → Same t q q' ts us → Same t q q' rest rest' → take (length ts - length rest) ts ≡ take (length us - length rest') us
+same_before {ts = ts} {us = us} {rest = rest} {rest' = rest'} s r =
+    let a = same_length s in
+    let b = same_length r in
+    let n : length ts - length rest ≡ length us - length rest' = omega (arith, a.0, b.0) in
+    same_taken s (length ts - length rest) (omega (arith, a.1, b.1)) ∙ ap (λ k. take k us) n
+
+-- what is made of the tokens that were taken too
+steady_taken : {A B : Type 0} (r : Read A) (f : A → List Token → B) → Steady r → Steady (λ ts. r ts >>= λ x. Ok (f x.0 (take (length ts - length x.1) ts), x.1))
+steady_taken r f h =
+    record {
+      bounded = λ ts. within_then (length ts) (λ x. Ok (f x.0 (take (length ts - length x.1) ts), x.1)) (r ts) (h.bounded ts) (λ x rest le. le);
+      local = λ t q q' ts us s. goes_then t q q' (λ x. Ok (f x.0 (take (length ts - length x.1) ts), x.1)) (λ x. Ok (f x.0 (take (length us - length x.1) us), x.1)) (r ts) (r us) (h.local t q q' ts us s) (λ x rest le. le)
+          (λ x rest rest' e e' s'. inr (rest', s', ap (λ ws. Ok (f x ws, rest')) (sym (same_before s s'))));
+    }
 
 -- ---- lists
 
@@ -94,12 +124,16 @@ module _ (E : Gram Expression) (expr : Read Expression) (sound : Sound E expr) (
         steady_then (λ ts. headed a (arms_at list ts)) _ (steady_headed begins_integer integer_sees (arm_at list) arm_steady arm_shrinks a) (λ others.
         steady_then (else_at list) _ else_steady (λ xs. steady_expect m.EndCase _ (steady_done (select at x (arms others) xs)))))))))
 
+    bound_steady : Steady (bound_at expr)
+    unfolding bound_at
+    bound_steady = steady_taken expr (λ x ws. record { value = x; plain = is_number ws }) steady
+
     head_steady : Steady (head_at expr)
     unfolding head_at
     head_steady =
         steady_then name_at _ steady_name (λ x. steady_expect m.Assign _
-        (steady_then expr _ steady (λ a. steady_expect m.To _
-        (steady_then expr _ steady (λ b.
+        (steady_then (bound_at expr) _ bound_steady (λ a. steady_expect m.To _
+        (steady_then (bound_at expr) _ bound_steady (λ b.
         steady_then step_at _ step_steady (λ c. steady_expect m.Do _ (steady_done (x, a, b, c))))))))
 
     for_steady : Steady (for_at expr list)

@@ -1,12 +1,12 @@
 -- Reading algorithms of Structured Text from left to right, production by production.
-use Rattle.std.specs.Prelude.{ℕ, zero, suc, List, [], ◌∷◌, length, Bool, true, false, Option, None, Some, Result, Ok, Err, if◌then◌else◌}
+use Rattle.std.specs.Prelude.{ℕ, zero, suc, ◌-◌, List, [], ◌∷◌, length, take, Bool, true, false, Option, None, Some, Result, Ok, Err, if◌then◌else◌}
 use Rattle.fb_words.specs.declared.mark.Mark.{Mark}
 use Rattle.fb_words.specs.declared.mark.Mark.TheVariants as m
 use Rattle.fb_model.specs.Tokens.{Token, token, number}
 use Rattle.fb_model.specs.Productions.{Word}
 use Rattle.fb_model.specs.Trees.{Whole, Constant}
-use Rattle.fb_model.specs.StructuredText.{Expression, Label, Statement, assign, assign_element, branch, select, repeat, Statements, no_statement, statements, Branch, branches, Arm, arms}
-use Rattle.fb_model.specs.StructuredTextGrammar.{begins_number, most_nested, most_nested_statements}
+use Rattle.fb_model.specs.StructuredText.{Expression, Label, Bound, Statement, assign, assign_element, branch, select, repeat, Statements, no_statement, statements, Branch, branches, Arm, arms}
+use Rattle.fb_model.specs.StructuredTextGrammar.{begins_number, is_number, most_nested, most_nested_statements}
 use Rattle.fb_read.specs.Reading.{Wrong, too_deep, stuck, Answer, Read, ◌>>=◌, next_is, after, expect, place_at, name_at, begins_name, all_at, list_at, whole_of}
 use Rattle.st_expr.specs.Reading.{expression_at}
 
@@ -132,14 +132,18 @@ case_at expr list ts = do
   end ← expect m.EndCase xs.1
   Ok (select (place_at ts) x.0 (arms others.0) xs.0, end)
 
--- name ':=' expression TO expression [BY integer] DO, with the variable, the first and the last value, and the step
-unfoldable pub head_at : Read Expression → Read (Word × Expression × Expression × Option Constant)
+-- the first or the last value of a FOR, which is plain where the tokens that it takes are a number
+unfoldable pub bound_at : Read Expression → Read Bound
+bound_at expr ts = expr ts >>= λ x. Ok (record { value = x.0; plain = is_number (take (length ts - length x.1) ts) }, x.1)
+
+-- name ':=' bound TO bound [BY integer] DO, with the variable, the first and the last value, and the step
+unfoldable pub head_at : Read Expression → Read (Word × Bound × Bound × Option Constant)
 head_at expr ts = do
   x ← name_at ts
   begin ← expect m.Assign x.1
-  a ← expr begin
+  a ← bound_at expr begin
   rest ← expect m.To a.1
-  b ← expr rest
+  b ← bound_at expr rest
   c ← step_at b.1
   body ← expect m.Do c.1
   Ok ((x.0, a.0, b.0, c.0), body)

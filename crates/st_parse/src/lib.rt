@@ -8,4 +8,4 @@ mod statement;
 pub use algorithm::{body, one_algorithm, parse_algorithm};
 pub use label::integer;
 pub use st_expr::parse_expr;
-pub use st_tree::{Arm, Branch, Constant, Expr, Label, Link, Literal, Stmt};
+pub use st_tree::{Arm, Bound, Branch, Constant, Expr, Label, Link, Literal, Stmt};

@@ -4,17 +4,17 @@ ghost use Rattle.std.specs.Prelude.{◌≡◌, map, string_bytes};
 ghost use Rattle.fb_lex.specs.Views.{tokens_of};
 ghost use Rattle.fb_read.specs.Answers.{Gives, word_of, optional};
 ghost use Rattle.fb_words.specs.declared.mark.Mark.TheVariants as m;
-ghost use Rattle.fb_model.specs.StructuredTextGrammar.{most_nested};
-ghost use Rattle.st_tree.specs.Views.{expr_of, constant_of, stmt_of, branch_of, arm_of, body_of};
+ghost use Rattle.fb_model.specs.StructuredTextGrammar.{is_number, most_nested};
+ghost use Rattle.st_tree.specs.Views.{expr_of, bound_of, constant_of, stmt_of, branch_of, arm_of, body_of};
 ghost use Rattle.st_expr.specs.Reading.{expression_at};
-ghost use Rattle.st_parse.specs.Reading.{headed, begins_block, begins_entry, step_at, assign_at, element_at, assignment_at, branch_at, else_at, elsifs_at, if_at, arm_at, arms_at, case_at, head_at, for_at, block_at, statement_at, entry_at, entries_at, nested_at, body_at};
+ghost use Rattle.st_parse.specs.Reading.{headed, begins_block, begins_entry, step_at, assign_at, element_at, assignment_at, branch_at, else_at, elsifs_at, if_at, arm_at, arms_at, case_at, bound_at, head_at, for_at, block_at, statement_at, entry_at, entries_at, nested_at, body_at};
 
 use crate::label::{begins_integer, labels, optional};
 use fb_lex::Token;
-use fb_read::{Name, Stop, begins_name, expect, next_is, place, read_name};
+use fb_read::{Name, Stop, begins_name, begins_number, expect, next_is, place, read_name};
 use fb_words::Mark;
 use st_expr::expression;
-use st_tree::{Arm, Branch, Constant, Expr, Stmt};
+use st_tree::{Arm, Bound, Branch, Constant, Stmt};
 use std::alloc::Global;
 
 // Whether IF, CASE or FOR stands next.
@@ -269,19 +269,41 @@ fn arms(
     Ok((arms, rest))
 }
 
+// Whether tokens are a number without a type, perhaps with a `-` directly before it.
+fn is_number(tokens: &[Token]) -> bool
+    ensures { result ≡ is_number (tokens_of tokens.now) }
+{
+    match tokens {
+        [_] => begins_number(tokens),
+        [_, _] => next_is(tokens, Mark::Minus) && begins_number(&tokens[1..]),
+        _ => false,
+    }
+}
+
+// The first or the last value of FOR.
+#[tactic(auto, unfolding(crate::specs::Reading::bound_at))]
+fn bound(alloc: Global, tokens: &[Token]) -> Result<(Bound, &[Token]), Stop>
+    ensures { Gives (λ x. (bound_of x.0, tokens_of x.1.now)) result (bound_at (expression_at most_nested) (tokens_of tokens.now)) }
+{
+    let (value, rest) = expression(alloc, tokens)?;
+    let taken = tokens.len().saturating_sub(rest.len());
+    let plain = is_number(&tokens[..taken]);
+    Ok((Bound { value, plain }, rest))
+}
+
 // The variable, the first and the last value and the step of FOR, up to DO.
 #[tactic(auto, unfolding(crate::specs::Reading::head_at))]
 fn head(
     alloc: Global,
     tokens: &[Token],
-) -> Result<((Name, Expr, Expr, Option<Constant>), &[Token]), Stop>
-    ensures { Gives (λ x. ((word_of x.0.0, expr_of x.0.1, expr_of x.0.2, optional constant_of x.0.3), tokens_of x.1.now)) result (head_at (expression_at most_nested) (tokens_of tokens.now)) }
+) -> Result<((Name, Bound, Bound, Option<Constant>), &[Token]), Stop>
+    ensures { Gives (λ x. ((word_of x.0.0, bound_of x.0.1, bound_of x.0.2, optional constant_of x.0.3), tokens_of x.1.now)) result (head_at (expression_at most_nested) (tokens_of tokens.now)) }
 {
     let (variable, rest) = read_name(tokens)?;
     let rest = expect(rest, Mark::Assign)?;
-    let (first, rest) = expression(alloc, rest)?;
+    let (first, rest) = bound(alloc, rest)?;
     let rest = expect(rest, Mark::To)?;
-    let (last, rest) = expression(alloc, rest)?;
+    let (last, rest) = bound(alloc, rest)?;
     let (step, rest) = optional(rest, Mark::By)?;
     let rest = expect(rest, Mark::Do)?;
     Ok(((variable, first, last, step), rest))

@@ -11,9 +11,9 @@ use Rattle.fb_model.specs.Spelling.{is_integer}
 use Rattle.fb_model.specs.Values.{signed, in_type}
 use Rattle.fb_model.specs.Productions.{Word}
 use Rattle.fb_model.specs.Trees.{Literal, Whole, Typed, Duration, Truth, Constant}
-use Rattle.fb_model.specs.StructuredText.{Expression, Label, Statement, assign, assign_element, branch, select, repeat, Statements, no_statement, statement, Branches, no_branch, a_branch, Arms, no_arm, an_arm}
+use Rattle.fb_model.specs.StructuredText.{Expression, Label, Bound, Statement, assign, assign_element, branch, select, repeat, Statements, no_statement, statement, Branches, no_branch, a_branch, Arms, no_arm, an_arm}
 use Rattle.fb_model.specs.TypedText.{Term, Command, set, set_part, choose, match_on, count, Commands, done, then_do, Choices, no_choice, choice, Cases, no_case, a_case}
-use Rattle.fb_model.specs.TextTyping.{same_type, Entry, found, Operand, fixed, free, whole, is_plain, IsTyped, IsAsked, IsCondition, IsAssignable, IsNumber, a_number, IsLabel, one, from_to, AreLabels, no_label, a_label, IsStep, no_step, a_step, IsSelector, an_integer, a_free_one, IsCommand, an_assignment, to_element, a_choice, a_selection, an_iteration, AreCommands, no_command, a_command, AreChoices, no_choices, more_choices, AreCases, no_cases, more_cases}
+use Rattle.fb_model.specs.TextTyping.{same_type, Entry, found, Operand, fixed, free, whole, IsTyped, IsAsked, IsCondition, IsAssignable, IsNumber, a_number, IsLabel, one, from_to, AreLabels, no_label, a_label, IsStep, no_step, a_step, IsSelector, an_integer, a_free_one, IsCommand, an_assignment, to_element, a_choice, a_selection, an_iteration, AreCommands, no_command, a_command, AreChoices, no_choices, more_choices, AreCases, no_cases, more_cases}
 use Rattle.fb_model.specs.TextFaults.{type_mismatch, bad_literal, not_writable}
 use Rattle.st_types.specs.Elaborating.{◌>>=◌, known, bounds_by, settled, integer_of, truth_of, typed, taken, asked, condition}
 use Rattle.st_types.specs.Commanding.{idle_by, assignable, scalar_by, scalar, counter, number_by, number_of, high_of, label_of, labels_of, is_nought, step_of, Counted, counted, commanded, all_commanded, chosen, cased}
@@ -173,17 +173,17 @@ selector_complete s p a x (a_free_one {l = l} k) = rw (settled_complete t.Lint l
 -- ---- how a FOR counts
 
 -- what it counts with, and what the rules say of it
-abbrev Counts : List Entry → List Name → Word → Expression → Expression → Option Constant → Counted → Type 0
-Counts env busy x e g step k = (v : Entry) × IsAssignable env busy x.text v × (v.bounds ≡ None) × (is_integer v.type ≡ true) × IsAsked env v.type e k.first × IsAsked env v.type g k.last × IsStep v.type step k.step
-    × (record { variable = x.text; type = v.type; first = k.first; last = k.last; step = k.step; plain = is_plain e && is_plain g } ≡ k)
+abbrev Counts : List Entry → List Name → Word → Bound → Bound → Option Constant → Counted → Type 0
+Counts env busy x e g step k = (v : Entry) × IsAssignable env busy x.text v × (v.bounds ≡ None) × (is_integer v.type ≡ true) × IsAsked env v.type e.value k.first × IsAsked env v.type g.value k.last × IsStep v.type step k.step
+    × (record { variable = x.text; type = v.type; first = k.first; last = k.last; step = k.step; plain = e.plain && g.plain } ≡ k)
 
-counted_sound : (env : List Entry) (busy : List Name) (s : ℕ) (x : Word) (e g : Expression) (step : Option Constant) (k : Counted) → counted env busy s x e g step ≡ Ok k → Counts env busy x e g step k
+counted_sound : (env : List Entry) (busy : List Name) (s : ℕ) (x : Word) (e g : Bound) (step : Option Constant) (k : Counted) → counted env busy s x e g step ≡ Ok k → Counts env busy x e g step k
 counted_sound env busy s x e g step k h =
-    let given : ElemType → Term → Term → ℤ → Counted = λ a y z n. record { variable = x.text; type = a; first = y; last = z; step = n; plain = is_plain e && is_plain g } in
-    let p = bind_ok (assignable env busy x) (λ v. counter s v >>= λ a. asked env a s e >>= λ y. asked env a s g >>= λ z. step_of a step >>= λ n. Ok (given a y z n)) k h in
-    let q = bind_ok (counter s p.0) (λ a. asked env a s e >>= λ y. asked env a s g >>= λ z. step_of a step >>= λ n. Ok (given a y z n)) k p.2 in
-    let i = bind_ok (asked env q.0 s e) (λ y. asked env q.0 s g >>= λ z. step_of q.0 step >>= λ n. Ok (given q.0 y z n)) k q.2 in
-    let j = bind_ok (asked env q.0 s g) (λ z. step_of q.0 step >>= λ n. Ok (given q.0 i.0 z n)) k i.2 in
+    let given : ElemType → Term → Term → ℤ → Counted = λ a y z n. record { variable = x.text; type = a; first = y; last = z; step = n; plain = e.plain && g.plain } in
+    let p = bind_ok (assignable env busy x) (λ v. counter s v >>= λ a. asked env a s e.value >>= λ y. asked env a s g.value >>= λ z. step_of a step >>= λ n. Ok (given a y z n)) k h in
+    let q = bind_ok (counter s p.0) (λ a. asked env a s e.value >>= λ y. asked env a s g.value >>= λ z. step_of a step >>= λ n. Ok (given a y z n)) k p.2 in
+    let i = bind_ok (asked env q.0 s e.value) (λ y. asked env q.0 s g.value >>= λ z. step_of q.0 step >>= λ n. Ok (given q.0 y z n)) k q.2 in
+    let j = bind_ok (asked env q.0 s g.value) (λ z. step_of q.0 step >>= λ n. Ok (given q.0 i.0 z n)) k i.2 in
     let m = bind_ok (step_of q.0 step) (λ n. Ok (given q.0 i.0 j.0 n)) k j.2 in
     let c = counter_ok s p.0 q.0 q.1 in
     let back = sym c.2 in
@@ -192,16 +192,16 @@ counted_sound env busy s x e g step k h =
       assignable_sound env busy x p.0 p.1,
       c.0,
       c.1,
-      subst (λ a. IsAsked env a e i.0) back (asked_sound env q.0 s e i.0 i.1),
-      subst (λ a. IsAsked env a g j.0) back (asked_sound env q.0 s g j.0 j.1),
+      subst (λ a. IsAsked env a e.value i.0) back (asked_sound env q.0 s e.value i.0 i.1),
+      subst (λ a. IsAsked env a g.value j.0) back (asked_sound env q.0 s g.value j.0 j.1),
       subst (λ a. IsStep a step m.0) back (step_sound q.0 step m.0 m.1),
       ap (λ a. given a i.0 j.0 m.0) c.2,
     )
 
-counted_complete : (env : List Entry) (busy : List Name) (s : ℕ) (x : Word) (e g : Expression) (step : Option Constant) (v : Entry) (y z : Term) (n : ℤ) → IsAssignable env busy x.text v → v.bounds ≡ None → is_integer v.type ≡ true → IsAsked env v.type e y → IsAsked env v.type g z → IsStep v.type step n
-    → counted env busy s x e g step ≡ Ok (record { variable = x.text; type = v.type; first = y; last = z; step = n; plain = is_plain e && is_plain g })
+counted_complete : (env : List Entry) (busy : List Name) (s : ℕ) (x : Word) (e g : Bound) (step : Option Constant) (v : Entry) (y z : Term) (n : ℤ) → IsAssignable env busy x.text v → v.bounds ≡ None → is_integer v.type ≡ true → IsAsked env v.type e.value y → IsAsked env v.type g.value z → IsStep v.type step n
+    → counted env busy s x e g step ≡ Ok (record { variable = x.text; type = v.type; first = y; last = z; step = n; plain = e.plain && g.plain })
 counted_complete env busy s x e g step v y z n h k m i j d =
-    rw (assignable_complete env busy x v h, k, m, asked_complete env v.type s e y i, asked_complete env v.type s g z j, step_complete v.type step n d) refl
+    rw (assignable_complete env busy x v h, k, m, asked_complete env v.type s e.value y i, asked_complete env v.type s g.value z j, step_complete v.type step n d) refl
 
 -- ---- statements
 

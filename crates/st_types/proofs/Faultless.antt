@@ -276,8 +276,8 @@ mutual
   command_faultless env busy (repeat s x e g step xs) c w (an_iteration {v = v} h b i j k m o) (bad_counter n) = assignable_faultless env busy x v w h n
   command_faultless env busy (repeat s x e g step xs) c w (an_iteration {v = v} h b i j k m o) (array_counter {v = u} {r = r} d n) = array_or_not u v r d n h.known b
   command_faultless env busy (repeat s x e g step xs) c w (an_iteration h b i j k m o) (no_integer d n) = not_both i (subst (λ (z : Entry). is_integer z.type ≡ false) (one_answer d h.known) n)
-  command_faultless env busy (repeat s x e g step xs) c w (an_iteration {v = v} {y = y} h b i j k m o) (bad_first {v = u} d n) = asked_by_variable env v u s e y w h.known j d n
-  command_faultless env busy (repeat s x e g step xs) c w (an_iteration {v = v} {z = z} h b i j k m o) (bad_last {v = u} d n) = asked_by_variable env v u s g z w h.known k d n
+  command_faultless env busy (repeat s x e g step xs) c w (an_iteration {v = v} {y = y} h b i j k m o) (bad_first {v = u} d n) = asked_by_variable env v u s e.value y w h.known j d n
+  command_faultless env busy (repeat s x e g step xs) c w (an_iteration {v = v} {z = z} h b i j k m o) (bad_last {v = u} d n) = asked_by_variable env v u s g.value z w h.known k d n
   command_faultless env busy (repeat s x e g step xs) c w (an_iteration {v = v} {n = q} h b i j k m o) (wrong_step {c = l} {v = u} d n) = step_by_variable v u l q w h.known m d n
   command_faultless env busy (repeat s x e g step xs) c w (an_iteration {c = d} h b i j k m o) (in_turn n) = commands_faultless env (busy ++ x.text ∷ []) xs d w o n
 

@@ -7,9 +7,9 @@ use Rattle.fb_model.specs.Spelling.{is_integer}
 use Rattle.fb_model.specs.Values.{signed, in_type}
 use Rattle.fb_model.specs.Productions.{Word}
 use Rattle.fb_model.specs.Trees.{Literal, Whole, Typed, Duration, Truth, Constant}
-use Rattle.fb_model.specs.StructuredText.{Expression, Label, Statement, assign, assign_element, branch, select, repeat, Statements, no_statement, statement, Branches, no_branch, a_branch, Arms, no_arm, an_arm}
+use Rattle.fb_model.specs.StructuredText.{Expression, Label, Bound, Statement, assign, assign_element, branch, select, repeat, Statements, no_statement, statement, Branches, no_branch, a_branch, Arms, no_arm, an_arm}
 use Rattle.fb_model.specs.TypedText.{Term, set, set_part, choose, match_on, count, done, then_do, no_choice, choice, no_case, a_case}
-use Rattle.fb_model.specs.TextTyping.{same_type, Entry, found, Operand, fixed, free, whole, is_plain, IsNumber, a_number}
+use Rattle.fb_model.specs.TextTyping.{same_type, Entry, found, Operand, fixed, free, whole, IsNumber, a_number}
 use Rattle.fb_model.specs.TextFaults.{Fault, type_mismatch, bad_literal, not_writable, IsNotAsked, in_it, not_taken, is_truth, IsNoCondition, in_condition, no_truth, IsNotAssignable, unknown, read_only, counted_with, IsNoNumber, not_fitting, not_whole, IsNoLabel, bad_low, bad_high, SomeNoLabel, this_label, later_label, IsNoStep, bad_step, no_progress, IsMisdone, bad_target, whole_array, bad_value, bad_element, no_array, wrong_index, no_index, bad_element_value, in_branches, in_else, in_selector, bad_selector, in_arms, in_other_arm, bad_counter, array_counter, no_integer, bad_first, bad_last, wrong_step, in_turn, SomeMisdone, this_one, later_one, SomeBranchWrong, bad_condition, in_branch, later_branch, SomeArmWrong, bad_label, in_arm, later_arm}
 use Rattle.st_types.specs.Elaborating.{◌>>=◌, known, bounds_by, integer_of, truth_of, typed, taken, asked, condition}
 use Rattle.st_types.specs.Commanding.{idle_by, assignable, scalar_by, scalar, counter, number_by, number_of, high_of, label_of, labels_of, is_nought, step_of, Counted, counted, commanded, all_commanded, chosen, cased}
@@ -148,23 +148,23 @@ element_assignment_refused env busy x b i s e w h =
     (λ p n. step (integer_of b p) (λ j. asked env v.type s e >>= λ y. Ok (set_part x.text r.0 r.1 j.1 y)) w Q (λ d. no_index (sound env i p n) (not_integer_of b p w d))
     (λ j d. last_step (asked env v.type s e) (λ y. set_part x.text r.0 r.1 j.1 y) w Q (λ g. bad_element_value there (asked_refused env v.type s e w g)))))) h
 
-counter_refused : (env : List Entry) (busy : List Name) (s : ℕ) (x : Word) (e g : Expression) (o : Option Constant) (xs : Statements) (v : Entry) (w : Fault) → found env x.text ≡ Some v → counter s v ≡ Err w → IsMisdone env busy (repeat s x e g o xs) w
+counter_refused : (env : List Entry) (busy : List Name) (s : ℕ) (x : Word) (e g : Bound) (o : Option Constant) (xs : Statements) (v : Entry) (w : Fault) → found env x.text ≡ Some v → counter s v ≡ Err w → IsMisdone env busy (repeat s x e g o xs) w
 counter_refused env busy s x e g o xs v w there h =
     step (scalar s v) (λ a. cond (is_integer a) (Ok a) (Err (type_mismatch s))) w (IsMisdone env busy (repeat s x e g o xs) w)
     (λ k. let p = scalar_err s v.type v.bounds w k in subst (IsMisdone env busy (repeat s x e g o xs)) p.2 (array_counter there p.1))
     (λ a k. let same = (scalar_ok s v.type a v.bounds k).1 in
     test_step (is_integer a) (Ok a) (type_mismatch s) w (IsMisdone env busy (repeat s x e g o xs)) (λ m. no_integer there (subst (λ b. is_integer b ≡ false) (sym same) m)) (λ m n. absurd (never_err a w n))) h
 
-counted_refused : (env : List Entry) (busy : List Name) (s : ℕ) (x : Word) (e g : Expression) (o : Option Constant) (xs : Statements) (w : Fault) → counted env busy s x e g o ≡ Err w → IsMisdone env busy (repeat s x e g o xs) w
+counted_refused : (env : List Entry) (busy : List Name) (s : ℕ) (x : Word) (e g : Bound) (o : Option Constant) (xs : Statements) (w : Fault) → counted env busy s x e g o ≡ Err w → IsMisdone env busy (repeat s x e g o xs) w
 counted_refused env busy s x e g o xs w h =
     let Q = IsMisdone env busy (repeat s x e g o xs) w in
-    let given : ElemType → Term → Term → ℤ → Counted = λ a y z n. record { variable = x.text; type = a; first = y; last = z; step = n; plain = is_plain e && is_plain g } in
-    step (assignable env busy x) (λ v. counter s v >>= λ a. asked env a s e >>= λ y. asked env a s g >>= λ z. step_of a o >>= λ n. Ok (given a y z n)) w Q (λ k. bad_counter (assignable_refused env busy x w k))
+    let given : ElemType → Term → Term → ℤ → Counted = λ a y z n. record { variable = x.text; type = a; first = y; last = z; step = n; plain = e.plain && g.plain } in
+    step (assignable env busy x) (λ v. counter s v >>= λ a. asked env a s e.value >>= λ y. asked env a s g.value >>= λ z. step_of a o >>= λ n. Ok (given a y z n)) w Q (λ k. bad_counter (assignable_refused env busy x w k))
     (λ v k. let there = (assignable_sound env busy x v k).known in
-    step (counter s v) (λ a. asked env a s e >>= λ y. asked env a s g >>= λ z. step_of a o >>= λ n. Ok (given a y z n)) w Q (λ m. counter_refused env busy s x e g o xs v w there m)
+    step (counter s v) (λ a. asked env a s e.value >>= λ y. asked env a s g.value >>= λ z. step_of a o >>= λ n. Ok (given a y z n)) w Q (λ m. counter_refused env busy s x e g o xs v w there m)
     (λ a m. let back = sym (counter_ok s v a m).2 in
-    step (asked env a s e) (λ y. asked env a s g >>= λ z. step_of a o >>= λ n. Ok (given a y z n)) w Q (λ n. bad_first there (subst (λ b. IsNotAsked env b s e w) back (asked_refused env a s e w n)))
-    (λ y n. step (asked env a s g) (λ z. step_of a o >>= λ d. Ok (given a y z d)) w Q (λ d. bad_last there (subst (λ b. IsNotAsked env b s g w) back (asked_refused env a s g w d)))
+    step (asked env a s e.value) (λ y. asked env a s g.value >>= λ z. step_of a o >>= λ n. Ok (given a y z n)) w Q (λ n. bad_first there (subst (λ b. IsNotAsked env b s e.value w) back (asked_refused env a s e.value w n)))
+    (λ y n. step (asked env a s g.value) (λ z. step_of a o >>= λ d. Ok (given a y z d)) w Q (λ d. bad_last there (subst (λ b. IsNotAsked env b s g.value w) back (asked_refused env a s g.value w d)))
     (λ z d. last_step (step_of a o) (λ i. given a y z i) w Q
     (λ i. let p = step_refused a o w i in subst (λ q. IsMisdone env busy (repeat s x e g q xs) w) (sym p.1) (wrong_step there (subst (λ b. IsNoStep b p.0 w) back p.2))))))) h
 

@@ -1,4 +1,4 @@
--- Chains are no numbers, and branches and arms a part at a time.
+-- Branches and arms a part at a time.
 use Rattle.std.proofs.Common.{◌≡◌, ◌≢◌, ℕ, ℤ, true, false, List, [], ◌∷◌, length, map, Ok, refl, sym, ap, subst, ◌∙◌, rules, Vec, arith}
 use Rattle.std.proofs.lemmas.Bool.{eq-eqb}
 use Rattle.std.specs.declared.alloc.Global.{Global}
@@ -6,7 +6,7 @@ use Rattle.fb_model.specs.StructuredText.{Expression, binary, Link, grouped, sta
 use Rattle.fb_model.specs.StructuredText as text
 use Rattle.fb_model.specs.Names.{Name}
 use Rattle.fb_model.specs.TypedText.{Term, Commands}
-use Rattle.fb_model.specs.TextTyping.{Entry, is_plain}
+use Rattle.fb_model.specs.TextTyping.{Entry}
 use Rattle.st_types.specs.declared.fault.TypingFault.{TypingFault}
 use Rattle.st_types.specs.declared.term.TypedExpr.{TypedExpr}
 use Rattle.st_types.specs.declared.command.TypedStmt.{TypedStmt}
@@ -22,7 +22,7 @@ use Rattle.st_types.proofs.Steps.{fails_then}
 use denote.Param.Weighed.{most}
 use Rattle.std.specs.Prelude.{◌+◌, ◌≤◌, Option}
 use Rattle.fb_read.specs.declared.token.Name.{Name as Name_}
-use Rattle.st_tree.specs.declared.expression.Expr.{Expr}
+use Rattle.st_tree.specs.declared.statement.Bound.{Bound}
 use Rattle.st_tree.specs.declared.literal.Constant.{Constant}
 use Rattle.st_tree.specs.declared.statement.Stmt as source_stmt
 use Rattle.st_tree.proofs.statement.Stmt.TheLaws.{the_size as stmt_size}
@@ -34,27 +34,11 @@ use Rattle.st_tree.specs.declared.statement.Branch.{Branch}
 use Rattle.st_tree.specs.declared.statement.Arm.{Arm}
 use Rattle.st_tree.specs.Views.{expr_of, branch_of, arm_of, label_of, body_of, link_of}
 
-operation_is_none : (l : Link) (x : Expression) (ls : List Link) → is_plain (grouped (binary l.0 l.1 x l.2) ls) ≡ false
-operation_is_none l x [] = refl
-operation_is_none l x (k ∷ ls) = operation_is_none k (binary l.0 l.1 x l.2) ls
-
--- some operations make no number
-pub chain_is_none : (x : Expression) (ls : List Link) → (length ls ≡ 0 → ⊥) → is_plain (grouped x ls) ≡ false
-chain_is_none x [] h = absurd (h refl)
-chain_is_none x (l ∷ ls) h = operation_is_none l x ls
-
 pub view_branch : (b : Branch) → branch_of b ≡ (b.at, expr_of b.condition, body_of b.body.items)
 view_branch b = search (rules, the_lemmas)
 
 pub view_arm : (a : Arm) → arm_of a ≡ (map label_of a.labels.items, body_of a.body.items)
 view_arm a = search (rules, the_lemmas)
-
-some_links : (ls : List source.Link) → length ls ≢ 0 → length (map link_of ls) ≢ 0
-some_links [] h e = h e
-some_links (l ∷ ls) h e = absurd (omega (arith, e))
-
-pub links_left : (v : Vec source.Link Global) → (vec_len v == 0) ≡ false → length (map link_of v.items) ≡ 0 → ⊥
-links_left v h = some_links v.items (λ e. let f : vec_len v ≡ 0 = grind (arith, rules) in let g : (vec_len v == 0) ≡ true = eq-eqb (vec_len v) 0 f in cc)
 
 pub view_choice : (e : TypedExpr) (v : Vec TypedStmt Global) → choice_of (roll-TypedBranch (record { condition = e; body = v })) ≡ (term_of e, commands_of v.items)
 view_choice e v = search (rules, typed.the_lemmas)
@@ -74,5 +58,5 @@ pub choice_is : (env : List Entry) (busy : List Name) (s : ℕ) (e : Expression)
 choice_is env busy s e xs y c h f = ap (λ r. r >>= λ y. all_commanded env busy xs >>= λ c. Ok (y, c)) h ∙ ap (λ r. r >>= λ c. Ok (y, c)) f
 
 -- the body of a FOR is smaller than the FOR
-pub for_size : (s : ℕ) (x : Name_) (a b : Expr) (c : Option Constant) (v : Vec Stmt Global) → most stmt_size v.items + 1 ≤ stmt_size (source_stmt.For s x a b c v)
+pub for_size : (s : ℕ) (x : Name_) (a b : Bound) (c : Option Constant) (v : Vec Stmt Global) → most stmt_size v.items + 1 ≤ stmt_size (source_stmt.For s x a b c v)
 for_size s x a b c v = search (rules, the_lemmas)

@@ -6,9 +6,9 @@ use Rattle.fb_model.specs.Spelling.{is_integer}
 use Rattle.fb_model.specs.Values.{signed, in_type}
 use Rattle.fb_model.specs.Productions.{Word}
 use Rattle.fb_model.specs.Trees.{Literal, Whole, Constant}
-use Rattle.fb_model.specs.StructuredText.{Expression, Label, Statement, assign, assign_element, branch, select, repeat, Statements, no_statement, statement, Branches, no_branch, a_branch, Branch, Arms, no_arm, an_arm, Arm}
+use Rattle.fb_model.specs.StructuredText.{Expression, Label, Bound, Statement, assign, assign_element, branch, select, repeat, Statements, no_statement, statement, Branches, no_branch, a_branch, Branch, Arms, no_arm, an_arm, Arm}
 use Rattle.fb_model.specs.TypedText.{Term, Command, set, set_part, choose, match_on, count, Commands, done, then_do, Choices, no_choice, choice, Cases, no_case, a_case}
-use Rattle.fb_model.specs.TextTyping.{Entry, is_plain}
+use Rattle.fb_model.specs.TextTyping.{Entry}
 use Rattle.fb_model.specs.TextFaults.{Fault, type_mismatch, bad_literal, not_writable}
 use Rattle.st_types.specs.Elaborating.{◌>>=◌, known, bounds_by, integer_of, typed, asked, condition}
 
@@ -72,10 +72,10 @@ pub record Counted : Type 0 where
   pub step : ℤ
   pub plain : Bool
 
-abbrev pub counted : List Entry → List Name → ℕ → Word → Expression → Expression → Option Constant → Result Counted Fault
+abbrev pub counted : List Entry → List Name → ℕ → Word → Bound → Bound → Option Constant → Result Counted Fault
 counted env busy s x e g step =
-    assignable env busy x >>= λ v. counter s v >>= λ a. asked env a s e >>= λ y. asked env a s g >>= λ z. step_of a step >>= λ n.
-    Ok (record { variable = x.text; type = a; first = y; last = z; step = n; plain = is_plain e && is_plain g })
+    assignable env busy x >>= λ v. counter s v >>= λ a. asked env a s e.value >>= λ y. asked env a s g.value >>= λ z. step_of a step >>= λ n.
+    Ok (record { variable = x.text; type = a; first = y; last = z; step = n; plain = e.plain && g.plain })
 
 -- ---- statements
 

@@ -3,7 +3,6 @@
 ghost use Rattle.std.specs.Prelude.{◌≡◌, ◌&&◌, ◌++◌, [], ◌∷◌, map, string_bytes, IfOk};
 ghost use Rattle.fb_read.specs.Answers.{word_of, optional};
 ghost use Rattle.fb_model.specs.Names.{is_in};
-ghost use Rattle.fb_model.specs.TextTyping.{is_plain};
 ghost use Rattle.fb_model.specs.StructuredText as text;
 ghost use Rattle.st_tree.specs.Views as tree;
 ghost use Rattle.st_types.specs.Answers.{Gives};
@@ -20,7 +19,7 @@ use crate::scope::{Scope, Variable};
 use crate::types::is_integer;
 use fb_read::Name;
 use fb_words::ElemType;
-use st_tree::{Arm, Branch, Constant, Expr, Label, Literal, Stmt};
+use st_tree::{Arm, Bound, Branch, Constant, Expr, Label, Literal, Stmt};
 use std::alloc::{AllocError, Global};
 
 fn is_busy(busy: &[String], name: &str) -> bool
@@ -133,20 +132,6 @@ fn step(of: ElemType, constant: &Option<Constant>) -> Result<i64, TypingFault>
     }
 }
 
-fn is_plain(expr: &Expr) -> bool
-    ensures { result ≡ is_plain (tree.expr_of expr.now) }
-{
-    match expr {
-        Expr::Literal(constant) => matches!(constant.value, Literal::Whole(_, _)),
-        Expr::Chain(first, links) => links.is_empty() && is_plain(first),
-        Expr::Variable(_)
-        | Expr::Element(_, _, _)
-        | Expr::Call(_, _)
-        | Expr::Negative(_, _)
-        | Expr::Inverse(_, _) => false,
-    }
-}
-
 fn assignment(
     alloc: Global,
     scope: &Scope,
@@ -199,17 +184,17 @@ fn counting(
     busy: &[String],
     at: usize,
     name: &Name,
-    first: &Expr,
-    last: &Expr,
+    first: &Bound,
+    last: &Bound,
     by: &Option<Constant>,
 ) -> Result<Counting, TypingFault>
-    ensures { Gives counting_of result (book.counted (entries scope.now) (busy_of busy.now) at (word_of name.now) (tree.expr_of first.now) (tree.expr_of last.now) (optional tree.constant_of by.now)) }
+    ensures { Gives counting_of result (book.counted (entries scope.now) (busy_of busy.now) at (word_of name.now) (tree.bound_of first.now) (tree.bound_of last.now) (optional tree.constant_of by.now)) }
 {
     let variable = assignable(scope, busy, name)?;
     let of_type = counter(name, at, variable)?;
-    let plain = is_plain(first) && is_plain(last);
-    let first = asked(alloc, scope, of_type, at, first)?;
-    let last = asked(alloc, scope, of_type, at, last)?;
+    let plain = first.plain && last.plain;
+    let first = asked(alloc, scope, of_type, at, &first.value)?;
+    let last = asked(alloc, scope, of_type, at, &last.value)?;
     let step = step(of_type, by)?;
     Ok(Counting {
         variable: name.text.clone()?,
