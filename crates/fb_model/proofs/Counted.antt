@@ -1,10 +1,13 @@
 -- How many turns a FOR takes: up to the last number that is not past its last value.
-use Rattle.std.proofs.Common.{◌≡◌, ◌≢◌, ℕ, zero, suc, ◌+◌, ◌*◌, ◌/◌, ◌<◌, ◌≤◌, inl, inr, ℤ, pos, negsuc, ◌+ℤ◌, ◌-ℤ◌, ◌*ℤ◌, ◌<ℤ◌, unsigned_abs, refl, arith}
+use Rattle.std.proofs.Common.{◌∷◌, map, sym, ap, ap₂, ◌∙◌, ◌≡◌, ◌≢◌, ℕ, zero, suc, ◌+◌, ◌*◌, ◌/◌, ◌<◌, ◌≤◌, inl, inr, ℤ, pos, negsuc, ◌+ℤ◌, ◌-ℤ◌, ◌*ℤ◌, ◌<ℤ◌, unsigned_abs, refl, arith}
 use Rattle.std.proofs.Math.Nat.{mul-le-mul_right, lt-div-mul-add}
 use Rattle.std.proofs.lemmas.Bool.{cases_order}
 use Rattle.std.proofs.lemmas.Int.{ints, by_lt_z}
-use Rattle.fb_model.specs.Language.{turn_count}
-use Rattle.fb_model.specs.Counts.{Ends}
+use Rattle.std.specs.List.{range_with_len}
+use Rattle.fb_model.specs.Names.{Name}
+use Rattle.fb_model.specs.Values.{Values, One}
+use Rattle.fb_model.specs.Language.{Outcome, Done, Trap, more, after, setting, turn_count, turns}
+use Rattle.fb_model.specs.Counts.{Ends, numbers, with_each}
 use Rattle.fb_words.proofs.Types.{lt_false}
 use Rattle.fb_model.proofs.Turns.{between_up, between_down}
 
@@ -62,3 +65,24 @@ only u v (negsuc m) n h = same_end u v (negsuc m) n (turn_count u v (negsuc m)) 
 
 pub still : (u v : ℤ) → turn_count u v (pos 0) ≡ 0
 still u v = refl
+
+-- ---- a turn for each number
+
+-- the numbers from the next one on
+next_numbers : (u k : ℤ) (a n : ℕ) → map (λ i. u +ℤ pos i *ℤ k) (range_with_len (a + 1) n) ≡ map (λ i. (u +ℤ k) +ℤ pos i *ℤ k) (range_with_len a n)
+next_numbers u k a zero = refl
+next_numbers u k a (suc n) = let e : u +ℤ pos (a + 1) *ℤ k ≡ (u +ℤ k) +ℤ pos a *ℤ k = omega (arith, ints) in ap₂ (λ v vs. v ∷ vs) e (next_numbers u k (a + 1) n)
+
+more_numbers : (u k : ℤ) (n : ℕ) → numbers u k (suc n) ≡ u ∷ numbers (u +ℤ k) k n
+more_numbers u k n = let e : u +ℤ pos 0 *ℤ k ≡ u = omega (arith, ints) in ap₂ (λ v vs. v ∷ vs) e (next_numbers u k 0 n)
+
+-- what goes on alike from all values ends alike
+after_alike : (o : Outcome) (f g : Values → Outcome) → ((values : Values) → f values ≡ g values) → after o f ≡ after o g
+after_alike (Done values n) f g h = ap (more n) (h values)
+after_alike Trap f g h = refl
+
+pub each_number : (body : Values → Outcome) (x : Name) (u k : ℤ) (n : ℕ) (values : Values) → turns n body x u k values ≡ with_each body x (numbers u k n) values
+each_number body x u k zero values = refl
+each_number body x u k (suc n) values =
+    ap (more 1) (after_alike (body (setting values x (One u))) (turns n body x (u +ℤ k) k) (with_each body x (numbers (u +ℤ k) k n)) (each_number body x (u +ℤ k) k n))
+    ∙ ap (λ vs. with_each body x vs values) (sym (more_numbers u k n))

@@ -1,7 +1,10 @@
 -- What is said of FOR: the turns that it takes, and the numbers of its variable.
-use Rattle.std.specs.Prelude.{ℕ, zero, suc, ◌<◌, ◌≤◌, ◌≡◌, ℤ, pos, negsuc, ◌+ℤ◌, ◌*ℤ◌}
+use Rattle.std.specs.Prelude.{List, [], ◌∷◌, map, ℕ, zero, suc, ◌<◌, ◌≤◌, ◌≡◌, ℤ, pos, negsuc, ◌+ℤ◌, ◌*ℤ◌}
 use Rattle.std.specs.Int.Signed.{◌<ℤ◌}
-use Rattle.fb_model.specs.Language.{turn_count}
+use Rattle.std.specs.List.{range_with_len}
+use Rattle.fb_model.specs.Names.{Name}
+use Rattle.fb_model.specs.Values.{Values, One}
+use Rattle.fb_model.specs.Language.{Outcome, Done, more, after, setting, turn_count}
 use Rattle.fb_model.specs.Spans.{Span}
 use Rattle.fb_model.specs.Clear.{taken, left_with}
 use Rattle.fb_model.specs.Shapes.{IsIn}
@@ -27,3 +30,12 @@ pub record Ends (u v k : ℤ) (n : ℕ) : Type 0 where
   pub within : (i : ℕ) → i < n → IsPast k v (u +ℤ pos i *ℤ k) → ⊥
   -- the next one is, and so are all further on
   pub beyond : (i : ℕ) → n ≤ i → IsPast k v (u +ℤ pos i *ℤ k)
+
+-- the first n numbers of a FOR from u on in steps of k: u, u + k, u + 2 k and so on
+abbrev pub numbers : (u k : ℤ) (n : ℕ) → List ℤ
+numbers u k n = map (λ i. u +ℤ pos i *ℤ k) (range_with_len 0 n)
+
+-- a body done with each of these numbers in the variable, one after the other, a step each
+abbrev pub with_each : (Values → Outcome) → Name → List ℤ → Values → Outcome
+with_each body x [] values = Done values 0
+with_each body x (v ∷ vs) values = more 1 (after (body (setting values x (One v))) (with_each body x vs))

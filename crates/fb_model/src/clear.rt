@@ -4,12 +4,13 @@ ghost use Rattle.std.specs.Prelude.{◌≡◌, ◌≢◌, ◌≤◌, ℕ, suc, �
 ghost use Rattle.fb_words.specs.declared.elem_type.ElemType.{ElemType};
 ghost use Rattle.fb_model.specs.StructuredText.{Expression, Statements};
 ghost use Rattle.fb_model.specs.TextTyping.{AreCommands, Entry, IsAsked, IsCondition};
+ghost use Rattle.fb_model.specs.Names.{Name};
 ghost use Rattle.fb_model.specs.Values.{Values};
 ghost use Rattle.fb_model.specs.TypedText.{Term};
-ghost use Rattle.fb_model.specs.Language.{Algorithm, Guard, greatest, holds, is_zero, least, remainder, run, turn_count, value_of};
+ghost use Rattle.fb_model.specs.Language.{Algorithm, Guard, Outcome, greatest, holds, is_zero, least, remainder, run, turn_count, turns, value_of};
 ghost use Rattle.fb_model.specs.Spans.{Span, corners, differences, maxima, minima, opposites, rests, sizes, sums};
 ghost use Rattle.fb_model.specs.Clear.{Clear, Spans, examined, guard_range, most_turns, narrowed, range_of};
-ghost use Rattle.fb_model.specs.Counts.{Ends, Taken};
+ghost use Rattle.fb_model.specs.Counts.{Ends, Taken, numbers, with_each};
 ghost use Rattle.fb_model.specs.Exact.{HoldsOne, HoldsQuotients, HoldsTwo, ReachesOne, ReachesQuotients, ReachesTwo, size_of};
 ghost use Rattle.fb_model.specs.Shapes.{AlgorithmFits, HasShape, IsIn, Keeps, Lies, Shape, TermFits, written};
 ghost use Rattle.fb_model.specs.Shapes.{shape_of};
@@ -40,6 +41,11 @@ pub fn counts_end_at_the_last()
     ensures ends { (u v k : ℤ) → k ≢ pos 0 → Ends u v k (turn_count u v k) }
     ensures only { (u v k : ℤ) (n : ℕ) → Ends u v k n → n ≡ turn_count u v k }
     ensures still { (u v : ℤ) → turn_count u v (pos 0) ≡ 0 }
+{}
+
+/// The turns of a FOR do its body with each of its numbers, from the first one on.
+pub fn turns_take_each_number()
+    ensures { (body : Values → Outcome) (x : Name) (u k : ℤ) (n : ℕ) (values : Values) → turns n body x u k values ≡ with_each body x (numbers u k n) values }
 {}
 
 /// An algorithm that is clear, run from any values in the rows, neither traps nor leaves them, writes nothing else, and takes at most its cost.

@@ -6,7 +6,7 @@ use Rattle.fb_model.specs.Tokens.{Token}
 use Rattle.fb_model.specs.Productions as p
 use Rattle.fb_model.specs.Productions.{Gram}
 use Rattle.fb_model.specs.StructuredText.{Expression, Statement, Statements}
-use Rattle.fb_model.specs.StructuredTextGrammar.{IsLink, a_link, IsChain, a_chain, IsLevel, levels, IsOperand, a_literal, a_variable, an_element, a_call, in_parentheses, a_negative, a_minus, a_not, IsNested, IsExpression, IsInteger, unsigned, signed, IsLabel, one, from_to, IsStep, no_step, a_step, IsList, end, lone, next, IsBranch, a_condition, IsArm, a_labelled, IsElse, absent, present, IsStatement, an_assignment, to_element, an_if, a_case, a_for, IsBody, IsAlgorithm}
+use Rattle.fb_model.specs.StructuredTextGrammar.{IsLink, a_link, IsChain, a_chain, IsLevel, levels, IsOperand, a_literal, a_variable, an_element, a_call, in_parentheses, a_negative, a_minus, a_not, IsNested, IsExpression, IsInteger, unsigned, signed, IsLabel, one, from_to, IsStep, no_step, a_step, IsBound, a_bound, IsList, end, lone, next, IsBranch, a_condition, IsArm, a_labelled, IsElse, absent, present, IsStatement, an_assignment, to_element, an_if, a_case, a_for, IsBody, IsAlgorithm}
 use Rattle.fb_spelled.proofs.Capitals.{AreCapitalTokens, Takes, Any, takes_many, takes_separated}
 
 -- ---- expressions
@@ -69,6 +69,9 @@ module _ (E : Gram Expression) (expr : Takes Any E) (L : Gram Statements) (list 
   else_takes ts xs rest absent h = (tt, h)
   else_takes ts xs rest (present {ts = on} i) h = (tt, (list on xs rest i h.1).1)
 
+  bound_takes : Takes Any (IsBound E)
+  bound_takes ts b rest (a_bound {x = x} g) h = (tt, (expr ts x rest g h).1)
+
   statement_takes : Takes Any (IsStatement E L)
   statement_takes ts x rest (an_assignment {mid = mid} {v = v} p.a_name g) h = (tt, (expr mid v rest g h.1.1).1)
   statement_takes ts x rest (to_element {mid = mid} {on = on} {i = i} {v = v} p.a_name g e) h = (tt, (expr on v rest e (expr mid i _ g h.1.1).1.1.1).1)
@@ -82,8 +85,8 @@ module _ (E : Gram Expression) (expr : Takes Any E) (L : Gram Statements) (list 
       let d = takes_many Any arm_takes gs c.1 in
       (tt, (else_takes ts₃ xs _ e d.1).1.1)
   statement_takes ts x rest (a_for {ts₁ = ts₁} {ts₂ = ts₂} {ts₃ = ts₃} {ts₄ = ts₄} {a = a} {b = b} {c = c} {xs = xs} p.a_name g i s j) h =
-      let q = expr ts₁ a _ g h.1.1.1 in
-      let r = expr ts₂ b _ i q.1.1 in
+      let q = bound_takes ts₁ a _ g h.1.1.1 in
+      let r = bound_takes ts₂ b _ i q.1.1 in
       let u = step_takes ts₃ c _ s r.1 in
       (tt, (list ts₄ xs _ j u.1.1).1.1)
 

@@ -1,6 +1,5 @@
 -- Branches and arms a part at a time.
-use Rattle.std.proofs.Common.{◌≡◌, ◌≢◌, ℕ, ℤ, true, false, List, [], ◌∷◌, length, map, Ok, refl, sym, ap, subst, ◌∙◌, rules, Vec, arith}
-use Rattle.std.proofs.lemmas.Bool.{eq-eqb}
+use Rattle.std.proofs.Common.{◌≡◌, ℕ, ℤ, List, map, Ok, sym, ap, subst, ◌∙◌, rules, Vec}
 use Rattle.std.specs.declared.alloc.Global.{Global}
 use Rattle.fb_model.specs.StructuredText.{Expression, binary, Link, grouped, statements}
 use Rattle.fb_model.specs.StructuredText as text
@@ -26,13 +25,10 @@ use Rattle.st_tree.specs.declared.statement.Bound.{Bound}
 use Rattle.st_tree.specs.declared.literal.Constant.{Constant}
 use Rattle.st_tree.specs.declared.statement.Stmt as source_stmt
 use Rattle.st_tree.proofs.statement.Stmt.TheLaws.{the_size as stmt_size}
-use Rattle.st_tree.specs.declared.expression.Link as source
-use Rattle.std.specs.Vec.{vec_len}
-use Rattle.std.specs.Prelude.{◌==◌}
 use Rattle.st_tree.specs.declared.statement.Stmt.{Stmt, the_lemmas}
 use Rattle.st_tree.specs.declared.statement.Branch.{Branch}
 use Rattle.st_tree.specs.declared.statement.Arm.{Arm}
-use Rattle.st_tree.specs.Views.{expr_of, branch_of, arm_of, label_of, body_of, link_of}
+use Rattle.st_tree.specs.Views.{expr_of, branch_of, arm_of, label_of, body_of}
 
 pub view_branch : (b : Branch) → branch_of b ≡ (b.at, expr_of b.condition, body_of b.body.items)
 view_branch b = search (rules, the_lemmas)
