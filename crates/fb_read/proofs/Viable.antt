@@ -1,11 +1,11 @@
 -- Where the nesting is at its end, a deeper tree begins with what was read and with the token that opens one more.
-use Rattle.std.proofs.Common.{◌≡◌, ℕ, zero, suc, ◌<◌, ◌≤◌, ◌⊎◌, Bool, true, false, cond, List, [], ◌∷◌, length, Result, Ok, Err, refl, sym, ap, subst, arith, inl, inr}
+use Rattle.std.proofs.Common.{◌≡◌, ℕ, zero, suc, ◌<◌, ◌≤◌, Bool, true, false, cond, List, [], ◌∷◌, length, Result, Ok, Err, refl, sym, ap, subst, arith, inl, inr}
 use Rattle.std.proofs.lemmas.Bool.{cases_lt}
 use Rattle.fb_words.specs.declared.mark.Mark.{Mark}
 use Rattle.fb_model.specs.Tokens.{Token, token, mark}
 use Rattle.fb_model.specs.Productions.{Gram, Word, IsName, IsMany, none, more, IsSeparated, last, before}
 use Rattle.fb_read.specs.Reading.{Wrong, syntax, too_deep, stuck, Answer, Read, ◌>>=◌, next_is, after, expect, name_at, many_step, many_at, while_step, while_at, separated_step, separated_at}
-use Rattle.fb_read.proofs.Readers.{Meets, Sound, NotDeep, seen, shallow_expect, name_sound}
+use Rattle.fb_read.proofs.Readers.{Meets, Sound, NotDeep, seen, shallow_expect, shallow_then, name_sound}
 use Rattle.fb_read.proofs.Steady.{Same, here, there, Within, Goes, Steady}
 
 -- what stands from these tokens up to a rest
@@ -118,6 +118,25 @@ goes_done P ts f (Ok x) g h = goes_shallow P ts (f x) (g x)
 goes_done P ts f (Err (syntax left)) g h = tt
 goes_done P ts f (Err (too_deep left)) g h = h
 
+-- a mark that stands next and that some tokens go on with
+pub begun_at : (P : Span) (k : Mark) (ts : List Token) → next_is k ts ≡ true → ((rest : List Token) → (q : List Token) × Marked k P q rest) → Begun P ts (length ts)
+begun_at P k ts e finish =
+    let first = seen (λ l. ts ≡ l) k ts e refl in
+    record { opener = token (mark k) first.0 first.1; behind = after ts; left_is = ap length first.2; ends = ends first.0 first.1 first.2 } where
+  ends : (s e : ℕ) → ts ≡ token (mark k) s e ∷ after ts → (rest : List Token) → Finished P (token (mark k) s e) (after ts) ts rest
+  ends s e d rest =
+      let t = token (mark k) s e in
+      let g = finish rest in
+      record { all = t ∷ g.0; others = g.0; same = subst (λ l. Same t (after ts) g.0 l (t ∷ g.0)) (sym d) here; done = g.1 s e }
+
+-- what stands behind a token
+pub goes_next : {A : Type 0} (P : Span) (t : Token) (ts : List Token) (r : Result A Wrong) → GoesOn (λ us rest. P (t ∷ us) rest) ts r → GoesOn P (t ∷ ts) r
+goes_next P t ts (Ok x) h = tt
+goes_next P t ts (Err (syntax left)) h = tt
+goes_next P t ts (Err (too_deep left)) h = record { opener = h.opener; behind = h.behind; left_is = h.left_is; ends = ends } where
+  ends : (rest : List Token) → Finished P h.opener h.behind (t ∷ ts) rest
+  ends rest = let b = h.ends rest in record { all = t ∷ b.all; others = b.others; same = there b.same; done = b.done }
+
 -- what stands behind a mark that a test has seen
 pub goes_marked : {A : Type 0} (P : Span) (k : Mark) (ts : List Token) → next_is k ts ≡ true → (r : Result A Wrong) → GoesOn (Marked k P) (after ts) r → GoesOn P ts r
 goes_marked P k ts e (Ok x) h = tt
@@ -169,6 +188,10 @@ is_read G r sound ts x rest e = subst (λ z. Meets (G ts) z) e (sound ts)
 
 pub is_name : (ts : List Token) (x : Word) (rest : List Token) → name_at ts ≡ Ok (x, rest) → IsName ts x rest
 is_name = is_read IsName name_at name_sound
+
+-- a closing mark, and what is done behind it
+pub shallow_closing : {A : Type 0} (k : Mark) (ts : List Token) (f : List Token → A) → NotDeep (expect k ts >>= λ end. Ok (f end))
+shallow_closing k ts f = shallow_then (λ end. Ok (f end)) (expect k ts) (shallow_expect k ts) (λ end. tt)
 
 -- ---- lists of items
 

@@ -1,5 +1,5 @@
 -- What reading tells of expressions.
-use Rattle.std.proofs.Common.{◌≡◌, ◌<◌, ◌≤◌, ℕ, List, [], Ok, Err, refl, sym, ap, subst, ◌∙◌, arith, inl, inr}
+use Rattle.std.proofs.Common.{◌≡◌, ◌<◌, ◌≤◌, ℕ, suc, List, [], Ok, Err, refl, sym, ap, subst, ◌∙◌, arith, inl, inr}
 use Rattle.std.proofs.lemmas.Bool.{cases_lt}
 use Rattle.fb_lex.specs.declared.fault.TextFault.{TextFault}
 use Rattle.fb_model.specs.Tokens.{Token}
@@ -12,7 +12,8 @@ use Rattle.fb_read.specs.Faults.{end_of, Says}
 use Rattle.fb_read.specs.Whole.{IfSyntax}
 use Rattle.fb_read.proofs.Readers.{Sound, Gets, Complete, Shorter}
 use Rattle.fb_read.proofs.Steady.{Steady, IsStuck, IsDeep}
-use Rattle.fb_read.proofs.Whole.{Points, whole_sound, whole_complete, whole_points}
+use Rattle.fb_read.proofs.Viable.{Any, Viable}
+use Rattle.fb_read.proofs.Whole.{Points, whole_sound, whole_complete, whole_points, whole_viable}
 use Rattle.fb_read.proofs.Whole as answers
 use Rattle.st_tree.specs.declared.expression.Expr.{Expr}
 use Rattle.st_tree.specs.Views.{expr_of}
@@ -22,6 +23,7 @@ use Rattle.st_expr.proofs.Sound as sound
 use Rattle.st_expr.proofs.Complete as complete
 use Rattle.st_expr.proofs.Steady as steady
 use Rattle.st_expr.proofs.Nesting.{expression_opens}
+use Rattle.st_expr.proofs.Viable.{expression_viable}
 
 -- ---- the reader of expressions
 
@@ -71,6 +73,11 @@ pub expression_points : Points whole_at
 unfolding whole_at
 expression_points = whole_points (expression_at most_nested) (expression_steady most_nested) (expression_opens most_nested)
 
+-- Where an expression is too deep, a deeper one goes on.
+whole_goes_on : Viable (Any (IsExpression (suc most_nested))) whole_at
+unfolding whole_at
+whole_goes_on = whole_viable (Any (IsExpression (suc most_nested))) (expression_at most_nested) (expression_viable most_nested)
+
 -- ---- no tokens are two expressions
 
 expression_found : (n : ℕ) (ts : List Token) (x : Expression) → IsExpression n ts x [] → expression_at n ts ≡ Ok (x, [])
@@ -108,4 +115,4 @@ pub reads_place : (ts : List Token) (fault : TextFault) → Reads ts (Err fault)
 reads_place ts fault e = answers.reads_place expr_of (end_of ts) ts fault IsSomeExpression whole_at expression_points not_stuck e
 
 pub reads_deep : (ts : List Token) (fault : TextFault) → Reads ts (Err fault) → DeepAt ts (Err fault)
-reads_deep ts fault e = answers.reads_deep expr_of (end_of ts) ts fault IsWithinLimit whole_at expression_points not_deep e
+reads_deep ts fault e = answers.reads_deep expr_of (end_of ts) ts fault IsWithinLimit whole_at expression_points IsSomeExpression (Any (IsExpression (suc most_nested))) whole_goes_on (λ us h. (h.0, (suc most_nested, h.1))) not_deep e

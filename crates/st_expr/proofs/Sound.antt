@@ -85,7 +85,7 @@ opens_nesting Q f k zero ts g = by (next_is k ts) where
 opens_nesting Q f k (suc depth) ts g = expect_then (λ l. ts ≡ l) Q f k ts refl (g (omega arith))
 
 -- a number without a type, which may have a sign before it
-abbrev Accepts : Gram Expression → Type 0
+abbrev pub Accepts : Gram Expression → Type 0
 Accepts G = (n s e : ℕ) (ts : List Token) → G (token (number n) s e ∷ ts) (literal (record { value = Whole false n; at = s })) ts
 
 module _ (G : Gram Expression) (inner : Read Expression) (sound : Sound G inner) where
@@ -161,14 +161,14 @@ module _ (G : Gram Expression) (inner : Read Expression) (sound : Sound G inner)
       meets_then _ _ (name_at ts) (name_sound ts)
       (λ x mid p. meets_if (IsOperand G ts) (next_is m.LBracket mid) _ _ (element_sound depth ts x mid p) (meets_if (IsOperand G ts) (next_is m.LParen mid) _ _ (call_sound depth ts x mid p) (a_variable p)))
 
-  operand_sound : (depth : ℕ) → (0 < depth → Accepts G) → Sound (IsOperand G) (operand_of depth inner)
+  pub operand_sound : (depth : ℕ) → (0 < depth → Accepts G) → Sound (IsOperand G) (operand_of depth inner)
   unfolding operand_of
   operand_sound depth accepts ts =
       let Q = IsOperand G ts in
       meets_if Q (begins_name ts) _ _ (named_sound depth ts)
       (meets_if Q (next_is m.Minus ts) _ _ (negative_sound depth accepts ts) (meets_if Q (next_is m.Not ts) _ _ (inverse_sound depth ts) (meets_if Q (next_is m.LParen ts) _ _ (parentheses_sound depth ts) (literal_sound ts))))
 
-accepts_number : (depth : ℕ) → 0 < depth → Accepts (IsNested depth)
+pub accepts_number : (depth : ℕ) → 0 < depth → Accepts (IsNested depth)
 accepts_number zero lt = absurd (omega arith)
 accepts_number (suc depth) lt = λ n s e ts. a_literal plain
 

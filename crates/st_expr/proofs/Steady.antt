@@ -64,7 +64,7 @@ module _ (level : ℕ) (G : Gram Expression) (item : Read Expression) (sound : S
   link_begins (token (duration b n) s e) = inr (λ ts. refl)
   link_begins (token (mark k) s e) = mark_begins k s e
 
-  link_steady : Steady (link_at level item)
+  pub link_steady : Steady (link_at level item)
   unfolding link_at
   link_steady = steady_head (link_at level item) (omega arith) link_begins
 
@@ -76,7 +76,7 @@ module _ (level : ℕ) (G : Gram Expression) (item : Read Expression) (sound : S
       (steady_all (link_at level item) link_steady (shrinks_of (IsLink level G) (link_at level item) (link_sound level G item sound) (link_shorter level G short)) (begins_link level) (link_sees level))
       (λ links. steady_done (grouped x links)))
 
-level_steady : (G : Gram Expression) (item : Read Expression) → Sound G item → Shorter G → Steady item → (level : ℕ) → Steady (level_at item level)
+pub level_steady : (G : Gram Expression) (item : Read Expression) → Sound G item → Shorter G → Steady item → (level : ℕ) → Steady (level_at item level)
 unfolding level_at
 level_steady G item sound short steady zero = steady
 level_steady G item sound short steady (suc level) =
@@ -171,7 +171,7 @@ module _ (G : Gram Expression) (inner : Read Expression) (sound : Sound G inner)
       let item = level_at inner levels in
       steady_test begins_name name_sees (named_at depth item) (unnamed_at depth inner item) (named_steady depth) (unnamed_steady depth)
 
-nested_steady : (depth : ℕ) → Steady (nested_at depth)
+pub nested_steady : (depth : ℕ) → Steady (nested_at depth)
 unfolding nested_at
 nested_steady zero = steady_stuck
 nested_steady (suc depth) = operand_steady (IsNested depth) (nested_at depth) (nested_sound depth) (nested_shorter depth) (nested_steady depth) depth

@@ -1,21 +1,24 @@
 -- What the answers about algorithms say, in the words of the grammar.
-use Rattle.std.proofs.Common.{◌≡◌, ℕ, List, [], Ok, Err, sym, subst, ◌∙◌, inl, inr}
+use Rattle.std.proofs.Common.{◌≡◌, ℕ, suc, List, [], Ok, Err, sym, subst, ◌∙◌, inl, inr}
 use Rattle.std.specs.Prelude.{Vec}
 use Rattle.std.specs.Global.{Global}
 use Rattle.fb_lex.specs.declared.fault.TextFault.{TextFault}
 use Rattle.fb_model.specs.Tokens.{Token}
 use Rattle.fb_model.specs.StructuredText.{Statements}
-use Rattle.fb_model.specs.StructuredTextGrammar.{IsAlgorithm}
+use Rattle.fb_model.specs.StructuredTextGrammar.{IsAlgorithm, most_nested, most_nested_statements}
 use Rattle.fb_read.specs.declared.stop.Stop.{Stop}
 use Rattle.fb_read.specs.Answers.{Fails}
 use Rattle.fb_read.specs.Faults.{end_of, Says}
 use Rattle.fb_read.specs.Whole.{IfSyntax}
 use Rattle.fb_read.proofs.Steady.{IsStuck, IsDeep}
+use Rattle.fb_read.proofs.Viable.{Any, Viable}
+use Rattle.fb_read.proofs.Whole.{whole_viable}
 use Rattle.fb_read.proofs.Whole as answers
 use Rattle.st_tree.specs.declared.statement.Stmt.{Stmt}
-use Rattle.st_parse.specs.Reading.{whole_at}
+use Rattle.st_parse.specs.Reading.{algorithm_at, whole_at}
 use Rattle.st_parse.specs.Answers.{listed, Reads, FindsAlgorithm, IsSomeAlgorithm, IsWithinLimits, SyntaxAt, TooDeepAt}
 use Rattle.st_parse.proofs.Laws.{whole_read, whole_any, algorithm_points}
+use Rattle.st_parse.proofs.Viable.{algorithm_viable}
 
 pub same_read : {ts : List Token} {x y : Statements} → whole_at ts ≡ Ok x → IsWithinLimits ts y → x ≡ y
 same_read {x = x} {y = y} e h = let f : Ok x ≡ Ok y = sym e ∙ whole_read h in cc
@@ -26,6 +29,11 @@ not_stuck ts x r h = elim (whole_any h.0 h.1 ts x h.2) [ inl e ↦ subst (λ z. 
 
 not_deep : (ts : List Token) (x : Statements) → IsDeep (whole_at ts) → IsWithinLimits ts x → ⊥
 not_deep ts x r h = subst (λ z. IsDeep z) (whole_read h) r
+
+-- where an algorithm is too deep, a deeper one goes on
+whole_goes_on : Viable (Any (IsAlgorithm (suc most_nested) (suc most_nested_statements))) whole_at
+unfolding whole_at
+whole_goes_on = whole_viable (Any (IsAlgorithm (suc most_nested) (suc most_nested_statements))) (algorithm_at most_nested most_nested_statements) (algorithm_viable most_nested most_nested_statements)
 
 -- the fault that a stop becomes
 pub reads_of : (end : ℕ) (ts : List Token) (stop : Stop) (fault : TextFault) → end ≡ end_of ts → Says end ts stop fault → Fails stop (whole_at ts) → Reads ts (Err fault)
@@ -41,4 +49,4 @@ pub reads_place : (ts : List Token) (fault : TextFault) → Reads ts (Err fault)
 reads_place ts fault e = answers.reads_place listed (end_of ts) ts fault IsSomeAlgorithm whole_at algorithm_points not_stuck e
 
 pub reads_deep : (ts : List Token) (fault : TextFault) → Reads ts (Err fault) → TooDeepAt ts (Err fault)
-reads_deep ts fault e = answers.reads_deep listed (end_of ts) ts fault IsWithinLimits whole_at algorithm_points not_deep e
+reads_deep ts fault e = answers.reads_deep listed (end_of ts) ts fault IsWithinLimits whole_at algorithm_points IsSomeAlgorithm (Any (IsAlgorithm (suc most_nested) (suc most_nested_statements))) whole_goes_on (λ us h. (h.0, (suc most_nested, suc most_nested_statements, h.1))) not_deep e

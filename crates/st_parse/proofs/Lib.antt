@@ -7,5 +7,6 @@ pub mod Shorter
 pub mod Complete
 pub mod Steady
 pub mod Places
+pub mod Viable
 pub mod Laws
 pub mod Faults

@@ -26,11 +26,11 @@ pub integer_shallow : Shallow integer_at
 unfolding integer_at
 integer_shallow ts = shallow_if (next_is m.Minus ts) (number_at true (after ts)) (number_at false ts) (number_shallow true (after ts)) (number_shallow false ts)
 
-option_shallow : (k : Mark) → Shallow (optional_at k)
+pub option_shallow : (k : Mark) → Shallow (optional_at k)
 unfolding optional_at
 option_shallow k ts = shallow_if (next_is k ts) (integer_at (after ts) >>= λ c. Ok (Some c.0, c.1)) (Ok (None, ts)) (shallow_then _ (integer_at (after ts)) (integer_shallow (after ts)) (λ c. tt)) tt
 
-label_shallow : Shallow label_at
+pub label_shallow : Shallow label_at
 unfolding label_at
 label_shallow ts = shallow_then _ (integer_at ts) (integer_shallow ts) (λ c. shallow_then _ (optional_at m.DotDot c.1) (option_shallow m.DotDot c.1) (λ d. tt))
 

@@ -23,7 +23,7 @@ pub data IsEntry (G : Gram Statement) : List Token → Option Statement → List
   a_lone : {s e : ℕ} {ts : List Token} → IsEntry G (token (mark m.Semicolon) s e ∷ ts) None ts
   an_entry : {s e : ℕ} {ts rest : List Token} {x : Statement} → G ts x (token (mark m.Semicolon) s e ∷ rest) → IsEntry G ts (Some x) rest
 
-list_of : {G : Gram Statement} {ts rest : List Token} {es : List (Option Statement)} → IsMany (IsEntry G) ts es rest → IsList G ts (statements (statements_in es)) rest
+pub list_of : {G : Gram Statement} {ts rest : List Token} {es : List (Option Statement)} → IsMany (IsEntry G) ts es rest → IsList G ts (statements (statements_in es)) rest
 list_of none = end
 list_of (more a_lone t) = lone (list_of t)
 list_of (more (an_entry p) t) = next p (list_of t)
@@ -85,7 +85,7 @@ module _ (E : Gram Expression) (expr : Read Expression) (sound : Sound E expr) w
     unfolding else_at
     else_sound ts = may_open (IsElse E IsInner) m.Else ts _ _ (λ s e. meets_as _ (list (after ts)) (inner (after ts)) (λ xs rest p. present p)) (λ h. absent)
 
-    if_of : {s e : ℕ} {ts mid on rest : List Token} {b : Branch} {bs : List Branch} {xs : Statements} → IsBranch E IsInner m.If ts b mid → IsHeaded b (IsBranch E IsInner m.Elsif) mid bs on → IsElse E IsInner on xs (token (mark m.EndIf) s e ∷ rest) → IsStatement E IsInner ts (branch (branches bs) xs) rest
+    pub if_of : {s e : ℕ} {ts mid on rest : List Token} {b : Branch} {bs : List Branch} {xs : Statements} → IsBranch E IsInner m.If ts b mid → IsHeaded b (IsBranch E IsInner m.Elsif) mid bs on → IsElse E IsInner on xs (token (mark m.EndIf) s e ∷ rest) → IsStatement E IsInner ts (branch (branches bs) xs) rest
     if_of p (a_head q) r = an_if p q r
 
     if_sound : Sound (IsStatement E IsInner) (if_at expr list)
@@ -101,7 +101,7 @@ module _ (E : Gram Expression) (expr : Read Expression) (sound : Sound E expr) w
         expect_then (λ l. IsSeparated m.Comma IsLabel ts ls l) _ _ m.Colon mid p (λ s e on p'.
         meets_then _ _ (list on) (inner on) (λ xs rest q. a_labelled p' q)))
 
-    case_of : {s e s' e' s'' e'' : ℕ} {ts ts₁ ts₂ ts₃ rest : List Token} {x : Expression} {a : Arm} {others : List Arm} {xs : Statements}
+    pub case_of : {s e s' e' s'' e'' : ℕ} {ts ts₁ ts₂ ts₃ rest : List Token} {x : Expression} {a : Arm} {others : List Arm} {xs : Statements}
         → E ts x (token (mark m.Of) s' e' ∷ ts₁) → IsArm E IsInner ts₁ a ts₂ → IsHeaded a (IsArm E IsInner) ts₂ others ts₃ → IsElse E IsInner ts₃ xs (token (mark m.EndCase) s'' e'' ∷ rest)
         → IsStatement E IsInner (token (mark m.Case) s e ∷ ts) (select s x (arms others) xs) rest
     case_of p q (a_head r) t = a_case p q r t
@@ -122,11 +122,11 @@ module _ (E : Gram Expression) (expr : Read Expression) (sound : Sound E expr) w
     bound_sound ts = meets_then _ _ (expr ts) (sound ts) (λ x rest p. a_bound p)
 
     -- what stands between FOR and DO
-    data IsHead : List Token → Word × Bound × Bound × Option Constant → List Token → Type 0 where
+    pub data IsHead : List Token → Word × Bound × Bound × Option Constant → List Token → Type 0 where
       a_front : {s₁ e₁ s₂ e₂ s₃ e₃ : ℕ} {ts ts₁ ts₂ ts₃ ts₄ : List Token} {x : Word} {a b : Bound} {c : Option Constant}
           → IsName ts x (token (mark m.Assign) s₁ e₁ ∷ ts₁) → IsBound E ts₁ a (token (mark m.To) s₂ e₂ ∷ ts₂) → IsBound E ts₂ b ts₃ → IsStep ts₃ c (token (mark m.Do) s₃ e₃ ∷ ts₄) → IsHead ts (x, a, b, c) ts₄
 
-    head_sound : Sound IsHead (head_at expr)
+    pub head_sound : Sound IsHead (head_at expr)
     unfolding head_at
     head_sound ts = meets_then _ _ (name_at ts) (name_sound ts) (λ x sign p.
         expect_then (λ l. IsName ts x l) _ _ m.Assign sign p (λ s₁ e₁ ts₁ p'.
@@ -136,7 +136,7 @@ module _ (E : Gram Expression) (expr : Read Expression) (sound : Sound E expr) w
         meets_then _ _ (step_at ts₃) (step_sound ts₃) (λ c on t.
         expect_then (λ l. IsStep ts₃ c l) _ _ m.Do on t (λ s₃ e₃ ts₄ t'. a_front p' q' r t')))))))
 
-    for_of : {s e s' e' : ℕ} {ts mid rest : List Token} {xs : Statements} (h : Word × Bound × Bound × Option Constant) → IsHead ts h mid → IsInner mid xs (token (mark m.EndFor) s' e' ∷ rest) → IsStatement E IsInner (token (mark m.For) s e ∷ ts) (repeat s h.0 h.1 h.2 h.3 xs) rest
+    pub for_of : {s e s' e' : ℕ} {ts mid rest : List Token} {xs : Statements} (h : Word × Bound × Bound × Option Constant) → IsHead ts h mid → IsInner mid xs (token (mark m.EndFor) s' e' ∷ rest) → IsStatement E IsInner (token (mark m.For) s e ∷ ts) (repeat s h.0 h.1 h.2 h.3 xs) rest
     for_of h (a_front p q r t) g = a_for p q r t g
 
     for_sound : Sound (IsStatement E IsInner) (for_at expr list)

@@ -48,7 +48,7 @@ steady_taken r f h =
 -- ---- lists
 
 module _ (G : Gram Statement) (one : Read Statement) (sound : Sound G one) (short : Shorter G) (steady : Steady one) where
-  entry_steady : Steady (entry_at one)
+  pub entry_steady : Steady (entry_at one)
   unfolding entry_at
   entry_steady =
       steady_if m.Semicolon (λ ts. Ok (None, ts)) (λ ts. one ts >>= λ x. expect m.Semicolon x.1 >>= λ rest. Ok (Some x.0, rest))
@@ -87,17 +87,17 @@ module _ (E : Gram Expression) (expr : Read Expression) (sound : Sound E expr) (
   -- ---- IF, CASE and FOR
 
   module _ (IsInner : Gram Statements) (list : Read Statements) (inner_sound : Sound IsInner list) (no_longer : NoLonger IsInner) (inner : Steady list) where
-    branch_steady : (opening : Mark) → Steady (branch_at expr list opening)
+    pub branch_steady : (opening : Mark) → Steady (branch_at expr list opening)
     unfolding branch_at
     branch_steady opening =
         steady_place (λ at ts. expect opening ts >>= λ begin. expr begin >>= λ c. expect m.Then c.1 >>= λ rest. list rest >>= λ xs. Ok ((at, c.0, xs.0), xs.1)) (λ at.
         steady_expect opening _ (steady_then expr _ steady (λ c. steady_expect m.Then _ (steady_then list _ inner (λ xs. steady_done (at, c, xs))))))
 
-    else_steady : Steady (else_at list)
+    pub else_steady : Steady (else_at list)
     unfolding else_at
     else_steady = steady_if m.Else list (λ ts. Ok (no_statement, ts)) inner (steady_done no_statement)
 
-    elsif_shrinks : Shrinks (branch_at expr list m.Elsif)
+    pub elsif_shrinks : Shrinks (branch_at expr list m.Elsif)
     elsif_shrinks = shrinks_of (IsBranch E IsInner m.Elsif) (branch_at expr list m.Elsif) (branch_sound E expr sound IsInner list inner_sound m.Elsif) (branch_shorter E short IsInner no_longer m.Elsif)
 
     if_steady : Steady (if_at expr list)
@@ -107,11 +107,11 @@ module _ (E : Gram Expression) (expr : Read Expression) (sound : Sound E expr) (
         steady_then (λ ts. headed b (elsifs_at expr list ts)) _ (steady_headed (next_is m.Elsif) (next_sees m.Elsif) (branch_at expr list m.Elsif) (branch_steady m.Elsif) elsif_shrinks b) (λ bs.
         steady_then (else_at list) _ else_steady (λ xs. steady_expect m.EndIf _ (steady_done (branch (branches bs) xs)))))
 
-    arm_steady : Steady (arm_at list)
+    pub arm_steady : Steady (arm_at list)
     unfolding arm_at
     arm_steady = steady_then (list_at m.Comma label_at) _ labels_steady (λ ls. steady_expect m.Colon _ (steady_then list _ inner (λ xs. steady_done (ls, xs))))
 
-    arm_shrinks : Shrinks (arm_at list)
+    pub arm_shrinks : Shrinks (arm_at list)
     arm_shrinks = shrinks_of (IsArm E IsInner) (arm_at list) (arm_sound E expr sound IsInner list inner_sound) (arm_shorter E short IsInner no_longer)
 
     case_steady : Steady (case_at expr list)
@@ -128,7 +128,7 @@ module _ (E : Gram Expression) (expr : Read Expression) (sound : Sound E expr) (
     unfolding bound_at
     bound_steady = steady_taken expr (λ x ws. record { value = x; plain = is_number ws }) steady
 
-    head_steady : Steady (head_at expr)
+    pub head_steady : Steady (head_at expr)
     unfolding head_at
     head_steady =
         steady_then name_at _ steady_name (λ x. steady_expect m.Assign _
@@ -144,7 +144,7 @@ module _ (E : Gram Expression) (expr : Read Expression) (sound : Sound E expr) (
         (steady_then (head_at expr) _ head_steady (λ h.
         steady_then list _ inner (λ xs. steady_expect m.EndFor _ (steady_done (repeat at h.0 h.1 h.2 h.3 xs))))))
 
-    block_steady : Steady (block_at expr list)
+    pub block_steady : Steady (block_at expr list)
     unfolding block_at
     block_steady =
         steady_choice m.If (if_at expr list) (λ ts. cond (next_is m.Case ts) (case_at expr list ts) (for_at expr list ts)) if_steady
@@ -152,7 +152,7 @@ module _ (E : Gram Expression) (expr : Read Expression) (sound : Sound E expr) (
 
   -- ---- lists that nest
 
-  statement_steady : (block : Read Statement) → Steady block → Steady (statement_at expr block)
+  pub statement_steady : (block : Read Statement) → Steady block → Steady (statement_at expr block)
   unfolding statement_at
   statement_steady block h = steady_test begins_block block_sees block (assignment_at expr) h assignment_steady
 
