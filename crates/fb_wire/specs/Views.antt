@@ -1,5 +1,5 @@
 -- Messages in the terms of the book.
-use Rattle.std.specs.Prelude.{ℕ, ◌/◌, ◌%◌, List, [], ◌∷◌, ◌++◌}
+use Rattle.std.specs.Prelude.{ℕ, ◌/◌, ◌%◌, List, [], ◌∷◌, ◌++◌, Option, None, Some}
 use Rattle.std.specs.Int.{w64, cast_unsigned, to_be_bytes}
 use Rattle.fb_words.specs.declared.elem_type.ElemType.{ElemType}
 use Rattle.fb_model.specs.Messages as book
@@ -8,11 +8,19 @@ use Rattle.fb_wire.specs.declared.fault.WireFault.{WireFault}
 use Rattle.fb_wire.specs.declared.fault.WireFault.TheVariants.{Short, Magic, Version, Kind, Count, TypeCode, Value, Trailing}
 use Rattle.fb_wire.specs.declared.message.Purpose.{Purpose}
 use Rattle.fb_wire.specs.declared.message.Purpose.TheVariants.{ToChannel, ToInput}
+use Rattle.fb_wire.specs.declared.message.Stamp.{Stamp}
 use Rattle.fb_wire.specs.declared.message.Typed.{Typed}
 
 abbrev pub purpose_of : Purpose → book.Purpose
 purpose_of ToChannel = book.To_channel
 purpose_of ToInput = book.To_input
+
+abbrev pub stamped_of : Stamp → book.Stamp
+stamped_of s = record { boot = s.boot; sequence = s.sequence }
+
+abbrev pub stamp_of : Option Stamp → Option book.Stamp
+stamp_of None = None
+stamp_of (Some s) = Some (stamped_of s)
 
 abbrev pub typed_of : Typed → book.Typed
 typed_of v = record { type = v.elem; value = v.value }
@@ -41,6 +49,10 @@ abbrev pub all_bytes : List Typed → List ℕ
 all_bytes [] = []
 all_bytes (v ∷ vs) = value_bytes v ++ all_bytes vs
 
+-- the bytes before the stamp
+abbrev pub opening_bytes : ℕ → Purpose → ℕ → List ℕ
+opening_bytes version purpose number = 70 ∷ 66 ∷ version ∷ purpose_code purpose ∷ number / 256 ∷ number % 256 ∷ []
+
 -- the bytes before the values
-abbrev pub head_bytes : Purpose → ℕ → ℕ → List ℕ
-head_bytes purpose number count = 70 ∷ 66 ∷ 1 ∷ purpose_code purpose ∷ number / 256 ∷ number % 256 ∷ count ∷ []
+abbrev pub head_bytes : Purpose → ℕ → Option book.Stamp → ℕ → List ℕ
+head_bytes purpose number stamp count = opening_bytes (book.version stamp) purpose number ++ book.stamp_bytes stamp ++ count ∷ []
