@@ -1,5 +1,5 @@
 -- Messages in the terms of the book.
-use Rattle.std.specs.Prelude.{ℕ, ◌/◌, ◌%◌, List, [], ◌∷◌, ◌++◌, Option, None, Some}
+use Rattle.std.specs.Prelude.{ℕ, ◌≡◌, ◌<◌, ◌/◌, ◌%◌, ◌^◌, List, [], ◌∷◌, ◌++◌, Option, None, Some}
 use Rattle.std.specs.Int.{w64, cast_unsigned, to_be_bytes}
 use Rattle.fb_words.specs.declared.elem_type.ElemType.{ElemType}
 use Rattle.fb_model.specs.Messages as book
@@ -49,10 +49,14 @@ abbrev pub all_bytes : List Typed → List ℕ
 all_bytes [] = []
 all_bytes (v ∷ vs) = value_bytes v ++ all_bytes vs
 
--- the bytes before the stamp
-abbrev pub opening_bytes : ℕ → Purpose → ℕ → List ℕ
-opening_bytes version purpose number = 70 ∷ 66 ∷ version ∷ purpose_code purpose ∷ number / 256 ∷ number % 256 ∷ []
+-- what stands behind the version: what a message is for, its number, and its stamp
+abbrev pub aim_bytes : book.Message → List ℕ
+aim_bytes m = book.purpose_code m.purpose ∷ m.number / 256 ∷ m.number % 256 ∷ book.stamp_bytes m.stamp
 
--- the bytes before the values
-abbrev pub head_bytes : Purpose → ℕ → Option book.Stamp → ℕ → List ℕ
-head_bytes purpose number stamp count = opening_bytes (book.version stamp) purpose number ++ book.stamp_bytes stamp ++ count ∷ []
+-- what stands before the values, which are so many
+abbrev pub head_bytes : book.Message → ℕ → List ℕ
+head_bytes m count = 70 ∷ 66 ∷ book.version m.stamp ∷ aim_bytes m ++ count ∷ []
+
+-- a message to which no value was added
+abbrev pub IsBegun : book.Message → Type 0
+IsBegun m = (m.number < 2 ^ 16) × book.IsStamped m.purpose m.stamp × (m.values ≡ [])
