@@ -1,6 +1,6 @@
 //! Certificate texts, line by line.
 
-ghost use Rattle.std.specs.Prelude.{◌≡◌, ◌≤◌, length, IfOk, IfErr, false};
+ghost use Rattle.std.specs.Prelude.{◌≡◌, ◌≤◌, ◌<◌, length, IfOk, IfErr, Err, false};
 ghost use Rattle.std.specs.Str.Lines.{lines};
 ghost use Rattle.fb_model.specs.CertificateText.{words, most_characters, Spells};
 ghost use Rattle.fb_model.specs.Certificates as book;
@@ -8,6 +8,7 @@ ghost use Rattle.fb_cert.specs.Views.{rows_in, book_of, no_rows, texts, certific
 ghost use Rattle.fb_cert.specs.Reading.{read, row_at, words_at, lines_at, whole, text_at};
 ghost use Rattle.fb_cert.specs.Sayable.{AreSayable};
 ghost use Rattle.fb_cert.specs.declared.fault.CertFault.{CertFault};
+ghost use Rattle.fb_cert.specs.declared.fault.CertFault.TheVariants.{TooLong};
 ghost use Rattle.fb_cert.specs.Answers.{Gives, Makes, Finds, Faulty, Refuses, Tells};
 
 use crate::certificate::Certificate;
@@ -96,7 +97,8 @@ fn read_lines(alloc: Global, text: &str) -> Result<Lists, CertFault>
 }
 
 fn read_text(alloc: Global, text: &str) -> Result<Lists, CertFault>
-    ensures { Gives rows_in result (text_at text.now) }
+    ensures read { Gives rows_in result (text_at text.now) }
+    ensures long { most_characters < length text.now → result ≡ Err TooLong }
 {
     if text.len() > MOST_BYTES {
         return Err(CertFault::TooLong);
@@ -110,6 +112,7 @@ fn read_spelled(alloc: Global, text: &str) -> Result<Lists, CertFault>
     ensures found { IfOk result (λ c. Spells text.now (book_of (rows_in c))) }
     ensures sayable { IfOk result (λ c. AreSayable (rows_in c)) }
     ensures within { IfOk result (λ c. length text.now ≤ most_characters) }
+    ensures long { most_characters < length text.now → result ≡ Err TooLong }
     ensures only { (certificate : book.Certificate) → length text.now ≤ most_characters → Spells text.now certificate → Finds (λ c. book_of (rows_in c)) result certificate }
     ensures refused { IfErr result (Refuses text.now) }
     ensures told { (fault : CertFault) → Faulty text.now fault → Tells fault result }
@@ -124,9 +127,10 @@ fn read_spelled(alloc: Global, text: &str) -> Result<Lists, CertFault>
 /// at most 4096; a depth is 1 to 4096, a number of `REPEATS` 1 to 255, that of a channel at most 65,535. Words stand between spaces,
 /// and lines without words have no meaning but are counted.
 pub fn parse_cert(alloc: Global, text: &str) -> Result<Certificate, CertFault>
-    // What is answered is what the text spells, and the text is not too long.
+    // What is answered is what the text spells, and the text is not too long; a text that is too long is refused as such.
     ensures found { IfOk result (λ c. Spells text.now (certificate_of c)) }
     ensures within { IfOk result (λ c. length text.now ≤ most_characters) }
+    ensures long { most_characters < length text.now → result ≡ Err TooLong }
     // What a text spells that is not too long is answered, unless memory runs out.
     ensures only { (certificate : book.Certificate) → length text.now ≤ most_characters → Spells text.now certificate → Finds certificate_of result certificate }
     // A refusal tells the first fault of the text, and its line.

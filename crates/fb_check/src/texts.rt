@@ -1,17 +1,20 @@
 //! From texts to a system and a certificate.
 
-ghost use Rattle.std.specs.Prelude.{◌≡◌, ◌≤◌, length, IfOk, IfErr, MatchResult};
+ghost use Rattle.std.specs.Prelude.{◌≡◌, ◌≤◌, ◌<◌, length, IfOk, IfErr, Err, MatchResult};
 ghost use Rattle.fb_model.specs.Certificates as book;
 ghost use Rattle.fb_model.specs.CertificateText.{Spells, most_characters};
+ghost use Rattle.fb_model.specs.Spelling.{text_limit};
 ghost use Rattle.fb_model.specs.System.{System};
 ghost use Rattle.fb_model.specs.Declarations.{SourceTree};
 ghost use Rattle.fb_model.specs.EventBlocks.{Elaborates};
+ghost use Rattle.fb_lex.specs.declared.fault.TextFault.TheVariants as texts;
+ghost use Rattle.fb_cert.specs.declared.fault.CertFault.TheVariants as certs;
 ghost use Rattle.fb_cert.specs.Views.{certificate_of};
 ghost use Rattle.fb_columns.specs.fb_text.Answers.{IsSource};
 ghost use Rattle.fb_columns.specs.fb_text.Views.{source_of};
 ghost use Rattle.fb_columns.specs.fb_types.Views.{system_of, system_places, all_places};
 ghost use Rattle.fb_check.specs.Verdicts.{IsTypedOf, IsTextFault, IsTypingFault, IsCertificateFault};
-ghost use Rattle.fb_check.specs.declared.refusal.Refusal.TheVariants.{OutOfMemory};
+ghost use Rattle.fb_check.specs.declared.refusal.Refusal.TheVariants.{OutOfMemory, Text, Certificate};
 
 use crate::refusal::Refusal;
 use fb_cert::{Certificate, parse_cert};
@@ -35,8 +38,10 @@ fn resolved(alloc: Global, source: &Source) -> Result<Typed, Refusal>
 /// The system of an application's text, whose resources have the places of their names.
 pub fn read_system(alloc: Global, text: &str) -> Result<Typed, Refusal>
     ensures typed { IfOk result (IsTypedOf text.now) }
+    ensures within { IfOk result (λ t. length text.now ≤ text_limit) }
+    ensures long { text_limit < length text.now → result ≡ Err (Text texts.TooLong) }
     ensures refused { IfErr result (IsTextFault text.now) }
-    ensures accepts { (source : SourceTree) (system : System) → length text.now ≤ 1048576 → IsSource text.now source → Elaborates source system → MatchResult result (λ t. system_of t ≡ system) (λ f. f ≡ OutOfMemory) }
+    ensures accepts { (source : SourceTree) (system : System) → length text.now ≤ text_limit → IsSource text.now source → Elaborates source system → MatchResult result (λ t. system_of t ≡ system) (λ f. f ≡ OutOfMemory) }
 {
     match parse(alloc, text) {
         Ok(source) => {
@@ -51,6 +56,8 @@ pub fn read_system(alloc: Global, text: &str) -> Result<Typed, Refusal>
 /// The certificate of a text.
 pub fn read_certificate(alloc: Global, text: &str) -> Result<Certificate, Refusal>
     ensures spelled { IfOk result (λ c. Spells text.now (certificate_of c)) }
+    ensures within { IfOk result (λ c. length text.now ≤ most_characters) }
+    ensures long { most_characters < length text.now → result ≡ Err (Certificate certs.TooLong) }
     ensures refused { IfErr result (IsCertificateFault text.now) }
     ensures accepts { (certificate : book.Certificate) → length text.now ≤ most_characters → Spells text.now certificate → MatchResult result (λ c. certificate_of c ≡ certificate) (λ f. f ≡ OutOfMemory) }
 {

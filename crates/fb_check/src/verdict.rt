@@ -1,7 +1,8 @@
 //! The verdict over a system and a certificate.
 
-ghost use Rattle.std.specs.Prelude.{◌≡◌, ◌≤◌, ℕ, Some, length, map, IfOk, IfErr, OnOk};
+ghost use Rattle.std.specs.Prelude.{◌≡◌, ◌≤◌, ◌<◌, ℕ, Some, length, map, IfOk, IfErr, Err, OnOk};
 ghost use Rattle.std.specs.List.{AllByRecursion};
+ghost use Rattle.fb_model.specs.Spelling.{text_limit};
 ghost use Rattle.fb_model.specs.System.{System};
 ghost use Rattle.fb_model.specs.Declarations.{SourceTree};
 ghost use Rattle.fb_model.specs.EventBlocks.{Elaborates};
@@ -21,7 +22,8 @@ ghost use Rattle.fb_check.specs.Fitting.{FitsAlone};
 ghost use Rattle.fb_check.specs.Refusals.{of_far};
 ghost use Rattle.fb_check.specs.Faults.{IsFitFault};
 ghost use Rattle.fb_check.specs.Verdicts.{system_in, certificate_in, IsWritten, IsOfTexts, IsFaultOf};
-ghost use Rattle.fb_check.specs.declared.refusal.Refusal.TheVariants.{OutOfMemory};
+ghost use Rattle.fb_lex.specs.declared.fault.TextFault.TheVariants as texts;
+ghost use Rattle.fb_check.specs.declared.refusal.Refusal.TheVariants.{OutOfMemory, Text};
 
 use crate::refusal::Refusal;
 use crate::texts::{read_certificate, read_system};
@@ -167,8 +169,10 @@ pub fn check(alloc: Global, typed: Typed, certificate: Certificate) -> Result<Ve
 /// too long. What a refusal says is so.
 pub fn check_text(alloc: Global, text: &str, certificate: &str) -> Result<Verified, Refusal>
     ensures accepted { IfOk result (IsOfTexts text.now certificate.now) }
+    ensures within { IfOk result (λ v. (length text.now ≤ text_limit) × (length certificate.now ≤ most_characters)) }
+    ensures long { text_limit < length text.now → result ≡ Err (Text texts.TooLong) }
     ensures refused { IfErr result (IsFaultOf text.now certificate.now) }
-    ensures accepts { (source : SourceTree) (system : System) (rows : book.Certificate) → length text.now ≤ 1048576 → length certificate.now ≤ most_characters
+    ensures accepts { (source : SourceTree) (system : System) (rows : book.Certificate) → length text.now ≤ text_limit → length certificate.now ≤ most_characters
         → IsSource text.now source → Elaborates source system → Spells certificate.now rows → Fits system rows → IfErr result (λ f. f ≡ OutOfMemory) }
 {
     match read_system(alloc, text) {

@@ -2,6 +2,7 @@
 
 ghost use Rattle.std.specs.Prelude.{◌≡◌, ◌≤◌, ◌<◌, List, map, string_bytes, length, Some, slice_get, IfOk, IfErr};
 ghost use Rattle.std.specs.List.{AllByRecursion};
+ghost use Rattle.fb_model.specs.Spelling.{text_limit};
 ghost use Rattle.fb_model.specs.System.{System, Device as book};
 ghost use Rattle.fb_model.specs.Declarations.{SourceTree};
 ghost use Rattle.fb_model.specs.Certificates as certs;
@@ -232,8 +233,9 @@ fn made_ready(alloc: Global, verified: Verified, device: &str) -> Result<Ready, 
 /// Refused as [`check_text`](fb_check::check_text) refuses, and with `NoDevice` where the text has no such device.
 pub fn load(alloc: Global, text: &str, certificate: &str, device: &str) -> Result<Ready, Refusal>
     ensures loaded { IfOk result (IsLoaded text.now certificate.now device.now) }
+    ensures within { IfOk result (λ d. (length text.now ≤ text_limit) × (length certificate.now ≤ most_characters)) }
     ensures refused { IfErr result (IsLoadFault text.now certificate.now device.now) }
-    ensures accepts { (source : SourceTree) (system : System) (rows : certs.Certificate) → length text.now ≤ 1048576 → length certificate.now ≤ most_characters
+    ensures accepts { (source : SourceTree) (system : System) (rows : certs.Certificate) → length text.now ≤ text_limit → length certificate.now ≤ most_characters
         → IsSource text.now source → Elaborates source system → Spells certificate.now rows → certs.Fits system rows
         → ((s : System) → IsSystemOf text.now s → IsThere s device.now) → IfErr result (λ f. f ≡ no_memory) }
 {

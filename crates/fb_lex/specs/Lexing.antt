@@ -4,7 +4,7 @@ use Rattle.std.specs.Borrow.{Bor}
 use Rattle.std.specs.Prelude.{Vec}
 use Rattle.std.specs.Global.{Global}
 use Rattle.fb_model.specs.Tokens as book
-use Rattle.fb_model.specs.Spelling.{IsBad, IsBig, FirstAt}
+use Rattle.fb_model.specs.Spelling.{IsBad, IsBig, FirstAt, text_limit}
 use Rattle.fb_lex.specs.declared.token.Token.{Token}
 use Rattle.fb_lex.specs.declared.token.Kind.{Kind}
 use Rattle.fb_lex.specs.declared.span.Unit.{Unit as TimeUnit}
@@ -117,4 +117,4 @@ Refuses (BadCharacter at) text = FirstAt IsBad text at
 Refuses (BigNumber at) text = FirstAt IsBig text at
 Refuses (Syntax at) text = ⊥
 Refuses (TooDeep at) text = ⊥
-Refuses TooLong text = 1048576 < length text
+Refuses TooLong text = text_limit < length text

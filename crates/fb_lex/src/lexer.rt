@@ -2,7 +2,7 @@
 
 ghost use Rattle.std.specs.Prelude.{◌≡◌, ℕ, ◌≤◌, ◌<◌, List, length, IfOk, IfErr, Err};
 ghost use Rattle.fb_model.specs.Tokens as book;
-ghost use Rattle.fb_model.specs.Spelling.{Spells, FirstAt, IsBad, IsBig};
+ghost use Rattle.fb_model.specs.Spelling.{Spells, FirstAt, IsBad, IsBig, text_limit};
 ghost use Rattle.fb_lex.specs.declared.fault.TextFault.TheVariants.{TooLong};
 ghost use Rattle.fb_lex.specs.Lexing.{Steps, Finds, Refuses};
 ghost use Rattle.fb_lex.specs.Views.{tokens_of};
@@ -41,9 +41,10 @@ fn step<'a>(
 /// Refused are a text of more than 1,048,576 bytes, and else the first place where no token and no layout stands, or a number beyond its limit.
 pub fn lex(alloc: Global, text: &str) -> Result<Vec<Token>, TextFault>
     ensures found { IfOk result (λ v. Spells 0 text.now (tokens_of v.items)) }
-    ensures only { (ts : List book.Token) → Spells 0 text.now ts → length text.now ≤ 1048576 → Finds result ts }
+    ensures within { IfOk result (λ v. length text.now ≤ text_limit) }
+    ensures only { (ts : List book.Token) → Spells 0 text.now ts → length text.now ≤ text_limit → Finds result ts }
     ensures refused { IfErr result (λ f. Refuses f text.now) }
-    ensures long { 1048576 < length text.now → result ≡ Err TooLong }
+    ensures long { text_limit < length text.now → result ≡ Err TooLong }
 {
     let bytes = text.as_bytes();
     if bytes.len() > LONGEST_TEXT {

@@ -25,8 +25,12 @@ joined_number = decimal (whole refl (joined refl no_more))
 -- ---- datagrams
 
 -- channel 7 with one INT, 5
-datagram : spelling (record { purpose = To_channel; number = 7; values = record { type = t.Int; value = pos 5 } ∷ [] }) ≡ 70 ∷ 66 ∷ 1 ∷ 1 ∷ 0 ∷ 7 ∷ 1 ∷ 2 ∷ 0 ∷ 0 ∷ 0 ∷ 0 ∷ 0 ∷ 0 ∷ 0 ∷ 5 ∷ []
+datagram : spelling (record { purpose = To_channel; number = 7; stamp = None; values = record { type = t.Int; value = pos 5 } ∷ [] }) ≡ 70 ∷ 66 ∷ 1 ∷ 1 ∷ 0 ∷ 7 ∷ 1 ∷ 2 ∷ 0 ∷ 0 ∷ 0 ∷ 0 ∷ 0 ∷ 0 ∷ 0 ∷ 5 ∷ []
 datagram = refl
+
+-- the same with the stamp 3 1
+stamped_datagram : spelling (record { purpose = To_channel; number = 7; stamp = Some (record { boot = 3; sequence = 1 }); values = record { type = t.Int; value = pos 5 } ∷ [] }) ≡ 70 ∷ 66 ∷ 2 ∷ 1 ∷ 0 ∷ 7 ∷ 0 ∷ 0 ∷ 0 ∷ 3 ∷ 0 ∷ 0 ∷ 0 ∷ 1 ∷ 1 ∷ 2 ∷ 0 ∷ 0 ∷ 0 ∷ 0 ∷ 0 ∷ 0 ∷ 0 ∷ 5 ∷ []
+stamped_datagram = refl
 
 -- ---- a button, a fork and two cells
 

@@ -4,16 +4,13 @@ use Rattle.std.proofs.Common.{ℕ, ◌≡◌, ◌+◌, ◌*◌, ◌<◌, ◌≤�
 use Rattle.std.specs.List.{list_any, AllByRecursion}
 use Rattle.std.proofs.lemmas.Bool.{eqb-true}
 use Rattle.std.proofs.lemmas.List.Sums.{sum_by-cons, sum_by-append}
-use Rattle.fb_words.specs.declared.format.Format.{Format}
-use Rattle.fb_words.specs.declared.format.Format.TheVariants.{First, Second}
 use Rattle.fb_model.specs.Names.{at_place}
 use Rattle.fb_model.specs.Services.{arrive}
 use Rattle.fb_model.specs.System.{Device, System, Service}
 use Rattle.fb_model.specs.Wires.{Kind, Charted, Serviced, Leaf, leaves}
 use Rattle.fb_model.specs.Certificates.{Certificate, Column, far_of, all_leaves, admissions, channel_load, FarFits, channel_in, with_number, channels_of}
 use Rattle.fb_model.specs.Devices.{is_subscriber, first_leaf, subscriber_of}
-use Rattle.fb_model.specs.World.{far_arrival, over_devices, IsOfFirst, PaysFar}
-use Rattle.fb_model.proofs.Placed.{all_left, all_right}
+use Rattle.fb_model.specs.World.{far_arrival, over_devices, allowed, PaysFar}
 
 -- ---- numbers that go upwards
 
@@ -166,38 +163,29 @@ unnamed_load col r c (leaf ∷ rest) h =
 
 -- ---- one device
 
-device_load : (cert : Certificate) (r c : ℕ) (all : List Leaf) → AllByRecursion (λ (leaf : Leaf). IsOfFirst leaf.kind) all → r * far_arrival cert (first_leaf (is_subscriber c) all) ≤ channel_load (far_of cert) r c all
-device_load cert r c [] h = omega arith
-device_load cert r c (leaf ∷ rest) h =
+device_load : (cert : Certificate) (r c : ℕ) (all : List Leaf) → allowed r c (first_leaf (is_subscriber c) all) * far_arrival cert (first_leaf (is_subscriber c) all) ≤ channel_load (far_of cert) r c all
+device_load cert r c [] = omega arith
+device_load cert r c (leaf ∷ rest) =
     let here = sum_by-cons (λ (leaf : Leaf). admissions r c leaf.kind * (far_of cert).weight (at_place leaf.path arrive)) leaf rest in
-    by (is_subscriber c leaf.kind) refl here (device_load cert r c rest h.1)
+    by (is_subscriber c leaf.kind) here (device_load cert r c rest)
   where
-    times : (kind : Kind) → IsOfFirst kind → is_subscriber c kind ≡ true → admissions r c kind ≡ r
-    times (Charted block) f e = absurd cc
-    times (Serviced (Service.Input number types)) f e = absurd cc
-    times (Serviced (Service.Output number types)) f e = absurd cc
-    times (Serviced (Service.Publish channel types)) f e = absurd cc
-    times (Serviced (Service.Subscribe channel types)) f e = rw e (ap (λ (x : Format). elim x [ First ↦ r | Second ↦ 1 ]) f)
-    times (Serviced Service.Delay) f e = absurd cc
-    times (Serviced Service.Cycle) f e = absurd cc
-    times (Serviced Service.Restart) f e = absurd cc
+    by : (b : Bool) → channel_load (far_of cert) r c (leaf ∷ rest) ≡ admissions r c leaf.kind * (far_of cert).weight (at_place leaf.path arrive) + channel_load (far_of cert) r c rest
+        → allowed r c (first_leaf (is_subscriber c) rest) * far_arrival cert (first_leaf (is_subscriber c) rest) ≤ channel_load (far_of cert) r c rest
+        → allowed r c (if b then Some leaf else first_leaf (is_subscriber c) rest) * far_arrival cert (if b then Some leaf else first_leaf (is_subscriber c) rest) ≤ channel_load (far_of cert) r c (leaf ∷ rest)
+    by true s k = omega (arith, s)
+    by false s k = omega (arith, s, k)
 
-    by : (b : Bool) → is_subscriber c leaf.kind ≡ b → channel_load (far_of cert) r c (leaf ∷ rest) ≡ admissions r c leaf.kind * (far_of cert).weight (at_place leaf.path arrive) + channel_load (far_of cert) r c rest
-        → r * far_arrival cert (first_leaf (is_subscriber c) rest) ≤ channel_load (far_of cert) r c rest → r * far_arrival cert (if b then Some leaf else first_leaf (is_subscriber c) rest) ≤ channel_load (far_of cert) r c (leaf ∷ rest)
-    by true e s k = let t : admissions r c leaf.kind * (far_of cert).weight (at_place leaf.path arrive) ≡ r * (far_of cert).weight (at_place leaf.path arrive) = ap (λ n. n * (far_of cert).weight (at_place leaf.path arrive)) (times leaf.kind h.0 e) in omega (arith, s, t)
-    by false e s k = omega (arith, s, k)
-
-devices_load : (cert : Certificate) (r c : ℕ) (ds : List Device) (d : ℕ) → AllByRecursion (λ (leaf : Leaf). IsOfFirst leaf.kind) (all_leaves ds) → r * over_devices (λ device d. far_arrival cert (subscriber_of device c)) ds d ≤ channel_load (far_of cert) r c (all_leaves ds)
-devices_load cert r c [] d h = omega arith
-devices_load cert r c (x ∷ xs) d h =
-    let here = device_load cert r c (leaves x) (all_left (λ (leaf : Leaf). IsOfFirst leaf.kind) (leaves x) (all_leaves xs) h) in
-    let rest = devices_load cert r c xs (d + 1) (all_right (λ (leaf : Leaf). IsOfFirst leaf.kind) (leaves x) (all_leaves xs) h) in
+devices_load : (cert : Certificate) (r c : ℕ) (ds : List Device) (d : ℕ) → over_devices (λ device d. allowed r c (subscriber_of device c) * far_arrival cert (subscriber_of device c)) ds d ≤ channel_load (far_of cert) r c (all_leaves ds)
+devices_load cert r c [] d = omega arith
+devices_load cert r c (x ∷ xs) d =
+    let here = device_load cert r c (leaves x) in
+    let rest = devices_load cert r c xs (d + 1) in
     let both = sum_by-append (λ (leaf : Leaf). admissions r c leaf.kind * (far_of cert).weight (at_place leaf.path arrive)) (leaves x) (all_leaves xs) in
     omega (arith, here, rest, both)
 
--- what fits pays for the deliveries of channels of format 1
-pub fits_pays : (system : System) (cert : Certificate) (repeats : ℕ) → AllByRecursion (λ (leaf : Leaf). IsOfFirst leaf.kind) (all_leaves system.devices) → FarFits cert repeats system → PaysFar system cert repeats
-fits_pays system cert repeats first fits = record {
+-- what fits pays for the deliveries of its channels
+pub fits_pays : (system : System) (cert : Certificate) (repeats : ℕ) → FarFits cert repeats system → PaysFar system cert repeats
+fits_pays system cert repeats fits = record {
   devices = fits.devices;
-  channels = λ c. let a = devices_load cert repeats c system.devices 0 first in let b = fits.channels c in omega (arith, a, b);
+  channels = λ c. let a = devices_load cert repeats c system.devices 0 in let b = fits.channels c in omega (arith, a, b);
 }

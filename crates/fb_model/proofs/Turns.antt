@@ -18,7 +18,7 @@ up_to : (d n i : ℕ) → i < suc (d / suc n) → i * suc n ≤ d
 up_to d n i h = let le : i ≤ d / suc n = omega arith in omega (arith, mul-le-mul_right (suc n) le)
 
 -- the taken numbers of an upward FOR lie between its bounds
-between_up : (a b : ℤ) (n i : ℕ) → i < turn_count a b (pos (suc n)) → IsIn (span a b) (a +ℤ pos i *ℤ pos (suc n))
+pub between_up : (a b : ℤ) (n i : ℕ) → i < turn_count a b (pos (suc n)) → IsIn (span a b) (a +ℤ pos i *ℤ pos (suc n))
 between_up a b n i h =
     by_lt_z b a
     (λ lt. absurd (let e = rw (lt_true b a lt) at h in omega arith))
@@ -29,7 +29,7 @@ between_up a b n i h =
     record { least = omega (arith, ints); most = omega (arith, ints) })
 
 -- and of a downward one
-between_down : (a b : ℤ) (n i : ℕ) → i < turn_count a b (negsuc n) → IsIn (span b a) (a +ℤ pos i *ℤ negsuc n)
+pub between_down : (a b : ℤ) (n i : ℕ) → i < turn_count a b (negsuc n) → IsIn (span b a) (a +ℤ pos i *ℤ negsuc n)
 between_down a b n i h =
     by_lt_z a b
     (λ lt. absurd (let e = rw (lt_true a b lt) at h in omega arith))

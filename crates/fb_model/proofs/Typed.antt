@@ -123,7 +123,7 @@ module _ (env : List Entry) where
         ((selector_fits p type z (typed_fits e p t) s, a.0, b.0), left_both busy (assigned_cases cs) (assigned c) a.1 b.1)
     command_fits busy _ _ (an_iteration {x = x} {e = e} {g = g} {xs = xs} {v = v} {y = z} {z = w} {n = n} {c = c} a b i t u k h) =
         let d = commands_fit (busy ++ x.text ∷ []) xs c h in
-        ((bounds_are x.text v None a.known b, d.1 x.text (last_busy x.text busy), asked_fits v.type e z t, asked_fits v.type g w u, d.0), left_loop busy x.text (assigned c) _ a.idle d.1)
+        ((bounds_are x.text v None a.known b, d.1 x.text (last_busy x.text busy), asked_fits v.type e.value z t, asked_fits v.type g.value w u, d.0), left_loop busy x.text (assigned c) _ a.idle d.1)
 
     pub commands_fit : (busy : List Name) (xs : Statements) (c : Algorithm) → AreCommands env busy xs c → AlgorithmFits (shape_of env) c × AreLeft busy (assigned c)
     commands_fit busy _ _ no_command = (tt, λ y h. refl)

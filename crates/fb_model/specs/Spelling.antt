@@ -188,3 +188,7 @@ pub record IsBig (bytes : List ℕ) : Type 0 where
 -- what is wrong stands first at this place of the text
 abbrev pub FirstAt : (List ℕ → Type 0) → List ℕ → ℕ → Type 0
 FirstAt P text at = (left : List ℕ) × Leads 0 text at left × P left
+
+-- the text of an application has at most so many bytes
+abbrev pub text_limit : ℕ
+text_limit = 1048576

@@ -1,6 +1,6 @@
 -- Source trees of Structured Text, without where they lie in memory. A number after a word is the place of its token.
 -- IEC 61131-3 edition 3, 7.3 (Structured Text), this project's profile.
-use Rattle.std.specs.Prelude.{ℕ, List, [], ◌∷◌, Option}
+use Rattle.std.specs.Prelude.{ℕ, List, [], ◌∷◌, Bool, Option}
 use Rattle.fb_words.specs.declared.operator.Operator.{Operator}
 use Rattle.fb_model.specs.Productions.{Word}
 use Rattle.fb_model.specs.Trees.{Constant}
@@ -43,6 +43,11 @@ pub record Label : Type 0 where
   pub low : Constant
   pub high : Option Constant
 
+-- the first or the last value of a FOR, and whether it is spelled as a number without a type
+pub record Bound : Type 0 where
+  pub value : Expression
+  pub plain : Bool
+
 mutual
   pub data Statement : Type 0 where
     -- an assignment, with the place of its `:=`
@@ -54,7 +59,7 @@ mutual
     -- CASE, with what is done where no label has the value
     select : (at : ℕ) → Expression → Arms → Statements → Statement
     -- FOR, from a first value to a last one
-    repeat : (at : ℕ) → Word → Expression → Expression → Option Constant → Statements → Statement
+    repeat : (at : ℕ) → Word → Bound → Bound → Option Constant → Statements → Statement
 
   pub data Statements : Type 0 where
     no_statement : Statements

@@ -1,6 +1,6 @@
 -- The grammar of Structured Text, one case a production.
 -- IEC 61131-3 edition 3, 7.3 (Structured Text) and annex A, this project's profile.
-use Rattle.std.specs.Prelude.{◌≡◌, ℕ, zero, suc, List, [], ◌∷◌, Bool, true, false, Option, None, Some}
+use Rattle.std.specs.Prelude.{◌≡◌, ℕ, zero, suc, ◌-◌, List, [], ◌∷◌, length, take, Bool, true, false, Option, None, Some}
 use Rattle.fb_words.specs.declared.mark.Mark.{Mark}
 use Rattle.fb_words.specs.declared.mark.Mark.TheVariants as m
 use Rattle.fb_words.specs.declared.elem_type.ElemType.{ElemType}
@@ -9,7 +9,7 @@ use Rattle.fb_words.specs.declared.operator.Operator.TheVariants as o
 use Rattle.fb_model.specs.Tokens.{Token, token, number, typed, duration, mark}
 use Rattle.fb_model.specs.Productions.{Gram, Word, IsName, IsMany, IsSeparated}
 use Rattle.fb_model.specs.Trees.{Constant, Whole, Typed, Duration, Truth}
-use Rattle.fb_model.specs.StructuredText.{Expression, literal, variable, element, call, negative, inverse, expressions, Link, grouped, Label, Statement, assign, assign_element, branch, select, repeat, Statements, no_statement, statement, Branch, branches, Arm, arms}
+use Rattle.fb_model.specs.StructuredText.{Expression, literal, variable, element, call, negative, inverse, expressions, Link, grouped, Label, Bound, Statement, assign, assign_element, branch, select, repeat, Statements, no_statement, statement, Branch, branches, Arm, arms}
 
 -- ---- operators
 
@@ -105,6 +105,16 @@ pub data IsStep : List Token → Option Constant → List Token → Type 0 where
   no_step : {ts : List Token} → IsStep ts None ts
   a_step : {s e : ℕ} {ts rest : List Token} {c : Constant} → IsInteger ts c rest → IsStep (token (mark m.By) s e ∷ ts) (Some c) rest
 
+-- whether tokens are a number without a type, perhaps with a `-` directly before it
+abbrev pub is_number : List Token → Bool
+is_number (token (number n) s e ∷ []) = true
+is_number (token (mark m.Minus) s e ∷ token (number n) s' e' ∷ []) = true
+is_number other = false
+
+-- the first or the last value of a FOR is any expression. It is plain where all of its own tokens, so no parentheses, are a number without a type
+pub data IsBound (E : Gram Expression) : List Token → Bound → List Token → Type 0 where
+  a_bound : {ts rest : List Token} {x : Expression} → E ts x rest → IsBound E ts (record { value = x; plain = is_number (take (length ts - length rest) ts) }) rest
+
 -- list = {[statement] ';'}. Lone semicolons are no statements
 pub data IsList (IsOne : Gram Statement) : List Token → Statements → List Token → Type 0 where
   end : {ts : List Token} → IsList IsOne ts no_statement ts
@@ -141,9 +151,9 @@ module _ (E : Gram Expression) (IsInner : Gram Statements) where
     a_case : {s e s' e' s'' e'' : ℕ} {ts ts₁ ts₂ ts₃ rest : List Token} {x : Expression} {a : Arm} {others : List Arm} {xs : Statements}
         → E ts x (token (mark m.Of) s' e' ∷ ts₁) → IsArm ts₁ a ts₂ → IsMany IsArm ts₂ others ts₃ → IsElse ts₃ xs (token (mark m.EndCase) s'' e'' ∷ rest)
         → IsStatement (token (mark m.Case) s e ∷ ts) (select s x (arms (a ∷ others)) xs) rest
-    -- FOR name ':=' expr TO expr [BY int] DO list END_FOR
-    a_for : {s e s₁ e₁ s₂ e₂ s₃ e₃ s₄ e₄ : ℕ} {ts ts₁ ts₂ ts₃ ts₄ rest : List Token} {x : Word} {a b : Expression} {c : Option Constant} {xs : Statements}
-        → IsName ts x (token (mark m.Assign) s₁ e₁ ∷ ts₁) → E ts₁ a (token (mark m.To) s₂ e₂ ∷ ts₂) → E ts₂ b ts₃ → IsStep ts₃ c (token (mark m.Do) s₃ e₃ ∷ ts₄) → IsInner ts₄ xs (token (mark m.EndFor) s₄ e₄ ∷ rest)
+    -- FOR name ':=' bound TO bound [BY int] DO list END_FOR
+    a_for : {s e s₁ e₁ s₂ e₂ s₃ e₃ s₄ e₄ : ℕ} {ts ts₁ ts₂ ts₃ ts₄ rest : List Token} {x : Word} {a b : Bound} {c : Option Constant} {xs : Statements}
+        → IsName ts x (token (mark m.Assign) s₁ e₁ ∷ ts₁) → IsBound E ts₁ a (token (mark m.To) s₂ e₂ ∷ ts₂) → IsBound E ts₂ b ts₃ → IsStep ts₃ c (token (mark m.Do) s₃ e₃ ∷ ts₄) → IsInner ts₄ xs (token (mark m.EndFor) s₄ e₄ ∷ rest)
         → IsStatement (token (mark m.For) s e ∷ ts) (repeat s x a b c xs) rest
 
 -- list, with IF, CASE and FOR nested at most so deep

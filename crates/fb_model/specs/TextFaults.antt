@@ -12,7 +12,7 @@ use Rattle.fb_model.specs.Spelling.{is_integer}
 use Rattle.fb_model.specs.Values.{signed, in_type}
 use Rattle.fb_model.specs.Productions.{Word}
 use Rattle.fb_model.specs.Trees.{Literal, Whole, Typed, Duration, Constant}
-use Rattle.fb_model.specs.StructuredText.{Expression, literal, variable, element, call, negative, inverse, binary, Expressions, no_expression, expression, Label, Statement, assign, assign_element, branch, select, repeat, Statements, statement, Branches, a_branch, Arms, an_arm}
+use Rattle.fb_model.specs.StructuredText.{Expression, literal, variable, element, call, negative, inverse, binary, Expressions, no_expression, expression, Label, Bound, Statement, assign, assign_element, branch, select, repeat, Statements, statement, Branches, a_branch, Arms, an_arm}
 use Rattle.fb_model.specs.TypedText.{Term}
 use Rattle.fb_model.specs.TextTyping.{same_type, allows, stays_free, called, arity, Entry, found, Loose, loose_number, loose_single, loose_double, Operand, fixed, free, whole, widens, may_be, is_free, IsOneOf, Brings, IsTyped, IsSelector, is_whole}
 
@@ -154,13 +154,13 @@ mutual
     bad_selector : {busy : List Name} {s : ℕ} {e : Expression} {bs : Arms} {xs : Statements} {p : Operand} {w : Fault} → IsTyped env e p → NotInteger s p w → IsMisdone env busy (select s e bs xs) w
     in_arms : {busy : List Name} {s : ℕ} {e : Expression} {bs : Arms} {xs : Statements} {p : Operand} {a : ElemType} {y : Term} {w : Fault} → IsTyped env e p → IsSelector p a y → SomeArmWrong env busy a bs w → IsMisdone env busy (select s e bs xs) w
     in_other_arm : {busy : List Name} {s : ℕ} {e : Expression} {bs : Arms} {xs : Statements} {w : Fault} → SomeMisdone env busy xs w → IsMisdone env busy (select s e bs xs) w
-    bad_counter : {busy : List Name} {s : ℕ} {x : Word} {e g : Expression} {step : Option Constant} {xs : Statements} {w : Fault} → IsNotAssignable env busy x w → IsMisdone env busy (repeat s x e g step xs) w
-    array_counter : {busy : List Name} {s : ℕ} {x : Word} {e g : Expression} {step : Option Constant} {xs : Statements} {v : Entry} {r : ℤ × ℤ} → found env x.text ≡ Some v → v.bounds ≡ Some r → IsMisdone env busy (repeat s x e g step xs) (type_mismatch s)
-    no_integer : {busy : List Name} {s : ℕ} {x : Word} {e g : Expression} {step : Option Constant} {xs : Statements} {v : Entry} → found env x.text ≡ Some v → is_integer v.type ≡ false → IsMisdone env busy (repeat s x e g step xs) (type_mismatch s)
-    bad_first : {busy : List Name} {s : ℕ} {x : Word} {e g : Expression} {step : Option Constant} {xs : Statements} {v : Entry} {w : Fault} → found env x.text ≡ Some v → IsNotAsked env v.type s e w → IsMisdone env busy (repeat s x e g step xs) w
-    bad_last : {busy : List Name} {s : ℕ} {x : Word} {e g : Expression} {step : Option Constant} {xs : Statements} {v : Entry} {w : Fault} → found env x.text ≡ Some v → IsNotAsked env v.type s g w → IsMisdone env busy (repeat s x e g step xs) w
-    wrong_step : {busy : List Name} {s : ℕ} {x : Word} {e g : Expression} {c : Constant} {xs : Statements} {v : Entry} {w : Fault} → found env x.text ≡ Some v → IsNoStep v.type c w → IsMisdone env busy (repeat s x e g (Some c) xs) w
-    in_turn : {busy : List Name} {s : ℕ} {x : Word} {e g : Expression} {step : Option Constant} {xs : Statements} {w : Fault} → SomeMisdone env (busy ++ x.text ∷ []) xs w → IsMisdone env busy (repeat s x e g step xs) w
+    bad_counter : {busy : List Name} {s : ℕ} {x : Word} {e g : Bound} {step : Option Constant} {xs : Statements} {w : Fault} → IsNotAssignable env busy x w → IsMisdone env busy (repeat s x e g step xs) w
+    array_counter : {busy : List Name} {s : ℕ} {x : Word} {e g : Bound} {step : Option Constant} {xs : Statements} {v : Entry} {r : ℤ × ℤ} → found env x.text ≡ Some v → v.bounds ≡ Some r → IsMisdone env busy (repeat s x e g step xs) (type_mismatch s)
+    no_integer : {busy : List Name} {s : ℕ} {x : Word} {e g : Bound} {step : Option Constant} {xs : Statements} {v : Entry} → found env x.text ≡ Some v → is_integer v.type ≡ false → IsMisdone env busy (repeat s x e g step xs) (type_mismatch s)
+    bad_first : {busy : List Name} {s : ℕ} {x : Word} {e g : Bound} {step : Option Constant} {xs : Statements} {v : Entry} {w : Fault} → found env x.text ≡ Some v → IsNotAsked env v.type s e.value w → IsMisdone env busy (repeat s x e g step xs) w
+    bad_last : {busy : List Name} {s : ℕ} {x : Word} {e g : Bound} {step : Option Constant} {xs : Statements} {v : Entry} {w : Fault} → found env x.text ≡ Some v → IsNotAsked env v.type s g.value w → IsMisdone env busy (repeat s x e g step xs) w
+    wrong_step : {busy : List Name} {s : ℕ} {x : Word} {e g : Bound} {c : Constant} {xs : Statements} {v : Entry} {w : Fault} → found env x.text ≡ Some v → IsNoStep v.type c w → IsMisdone env busy (repeat s x e g (Some c) xs) w
+    in_turn : {busy : List Name} {s : ℕ} {x : Word} {e g : Bound} {step : Option Constant} {xs : Statements} {w : Fault} → SomeMisdone env (busy ++ x.text ∷ []) xs w → IsMisdone env busy (repeat s x e g step xs) w
 
   pub data SomeMisdone (env : List Entry) : List Name → Statements → Fault → Type 0 where
     this_one : {busy : List Name} {x : Statement} {xs : Statements} {w : Fault} → IsMisdone env busy x w → SomeMisdone env busy (statement x xs) w

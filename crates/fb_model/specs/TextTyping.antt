@@ -18,7 +18,7 @@ use Rattle.fb_model.specs.Spelling.{is_integer}
 use Rattle.fb_model.specs.Values.{lowest, highest, signed, in_type}
 use Rattle.fb_model.specs.Productions.{Word}
 use Rattle.fb_model.specs.Trees.{Literal, Whole, Typed, Duration, Truth, Constant}
-use Rattle.fb_model.specs.StructuredText.{Expression, literal, variable, element, call, negative, inverse, binary, no_expression, expression, Label, Statement, assign, assign_element, branch, select, repeat, Statements, no_statement, statement, Branches, no_branch, a_branch, Arms, no_arm, an_arm}
+use Rattle.fb_model.specs.StructuredText.{Expression, literal, variable, element, call, negative, inverse, binary, no_expression, expression, Label, Bound, Statement, assign, assign_element, branch, select, repeat, Statements, no_statement, statement, Branches, no_branch, a_branch, Arms, no_arm, an_arm}
 use Rattle.fb_model.specs.TypedText.{Term, constant, read, part, single, double, Command, set, set_part, choose, match_on, count, Commands, done, then_do, Choices, no_choice, choice, Cases, no_case, a_case}
 
 -- ---- types
@@ -242,6 +242,11 @@ pub record IsAssignable (env : List Entry) (busy : List Name) (x : Name) (v : En
   pub writable : v.writable ≡ true
   pub idle : is_in x busy ≡ false
 
+-- whether a literal is a number without a type
+abbrev pub is_whole : Literal → Bool
+is_whole (Whole b n) = true
+is_whole other = false
+
 -- a number without a type
 pub data IsNumber (a : ElemType) : Constant → ℤ → Type 0 where
   a_number : {b : Bool} {n s : ℕ} → in_type a (signed b n) ≡ true → IsNumber a (record { value = Whole b n; at = s }) (signed b n)
@@ -265,15 +270,6 @@ pub data IsSelector : Operand → ElemType → Term → Type 0 where
   an_integer : {a : ElemType} {x : Term} → is_integer a ≡ true → IsSelector (fixed a x) a x
   a_free_one : {l : Loose} {x : Term} → Settles t.Lint l x → IsSelector (free l) t.Lint x
 
--- whether an expression is spelled as a number without a type
-abbrev pub is_whole : Literal → Bool
-is_whole (Whole b n) = true
-is_whole other = false
-
-abbrev pub is_plain : Expression → Bool
-is_plain (literal c) = is_whole c.value
-is_plain e = false
-
 mutual
   -- the command that a statement is, a case for each production. Busy are the variables with which the FORs around it count, from outside in
   pub data IsCommand (env : List Entry) : List Name → Statement → Command → Type 0 where
@@ -283,9 +279,9 @@ mutual
     a_choice : {busy : List Name} {bs : Branches} {xs : Statements} {cs : Choices} {c : Commands} → AreChoices env busy bs cs → AreCommands env busy xs c → IsCommand env busy (branch bs xs) (choose cs c)
     a_selection : {busy : List Name} {s : ℕ} {e : Expression} {bs : Arms} {xs : Statements} {p : Operand} {a : ElemType} {y : Term} {cs : Cases} {c : Commands}
         → IsTyped env e p → IsSelector p a y → AreCases env busy a bs cs → AreCommands env busy xs c → IsCommand env busy (select s e bs xs) (match_on y cs c)
-    an_iteration : {busy : List Name} {s : ℕ} {x : Word} {e g : Expression} {step : Option Constant} {xs : Statements} {v : Entry} {y z : Term} {n : ℤ} {c : Commands}
-        → IsAssignable env busy x.text v → v.bounds ≡ None → is_integer v.type ≡ true → IsAsked env v.type e y → IsAsked env v.type g z → IsStep v.type step n → AreCommands env (busy ++ x.text ∷ []) xs c
-        → IsCommand env busy (repeat s x e g step xs) (count x.text v.type y z n (is_plain e && is_plain g) c)
+    an_iteration : {busy : List Name} {s : ℕ} {x : Word} {e g : Bound} {step : Option Constant} {xs : Statements} {v : Entry} {y z : Term} {n : ℤ} {c : Commands}
+        → IsAssignable env busy x.text v → v.bounds ≡ None → is_integer v.type ≡ true → IsAsked env v.type e.value y → IsAsked env v.type g.value z → IsStep v.type step n → AreCommands env (busy ++ x.text ∷ []) xs c
+        → IsCommand env busy (repeat s x e g step xs) (count x.text v.type y z n (e.plain && g.plain) c)
 
   pub data AreCommands (env : List Entry) : List Name → Statements → Commands → Type 0 where
     no_command : {busy : List Name} → AreCommands env busy no_statement done

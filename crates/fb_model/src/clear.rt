@@ -1,6 +1,6 @@
 //! Laws of clear algorithms: what is clear under the ranges of its variables neither traps nor leaves them.
 
-ghost use Rattle.std.specs.Prelude.{◌≡◌, ◌≤◌, ℕ, suc, ℤ, neg_ℤ, ◌+ℤ◌, ◌-ℤ◌, ◌*ℤ◌, int_div, Bool, not, List, [], Some};
+ghost use Rattle.std.specs.Prelude.{◌≡◌, ◌≢◌, ◌≤◌, ℕ, suc, ℤ, pos, neg_ℤ, ◌+ℤ◌, ◌-ℤ◌, ◌*ℤ◌, int_div, Bool, not, List, [], Some};
 ghost use Rattle.fb_words.specs.declared.elem_type.ElemType.{ElemType};
 ghost use Rattle.fb_model.specs.StructuredText.{Expression, Statements};
 ghost use Rattle.fb_model.specs.TextTyping.{AreCommands, Entry, IsAsked, IsCondition};
@@ -9,7 +9,7 @@ ghost use Rattle.fb_model.specs.TypedText.{Term};
 ghost use Rattle.fb_model.specs.Language.{Algorithm, Guard, greatest, holds, is_zero, least, remainder, run, turn_count, value_of};
 ghost use Rattle.fb_model.specs.Spans.{Span, corners, differences, maxima, minima, opposites, rests, sizes, sums};
 ghost use Rattle.fb_model.specs.Clear.{Clear, Spans, examined, guard_range, most_turns, narrowed, range_of};
-ghost use Rattle.fb_model.specs.Counts.{Taken};
+ghost use Rattle.fb_model.specs.Counts.{Ends, Taken};
 ghost use Rattle.fb_model.specs.Exact.{HoldsOne, HoldsQuotients, HoldsTwo, ReachesOne, ReachesQuotients, ReachesTwo, size_of};
 ghost use Rattle.fb_model.specs.Shapes.{AlgorithmFits, HasShape, IsIn, Keeps, Lies, Shape, TermFits, written};
 ghost use Rattle.fb_model.specs.Shapes.{shape_of};
@@ -33,6 +33,13 @@ pub fn narrowing_keeps()
 pub fn counts_stay_in_ranges()
     ensures turns { (r s : Span) (k u v : ℤ) → IsIn r u → IsIn s v → turn_count u v k ≤ most_turns r s k }
     ensures numbers { (r s : Span) (k : ℤ) (n : ℕ) (u v : ℤ) → IsIn r u → IsIn s v → most_turns r s k ≡ suc n → Taken r s k n u v }
+{}
+
+/// A FOR takes its first value and each number a step further, up to the last one that is not past its last value; no other count of turns does.
+pub fn counts_end_at_the_last()
+    ensures ends { (u v k : ℤ) → k ≢ pos 0 → Ends u v k (turn_count u v k) }
+    ensures only { (u v k : ℤ) (n : ℕ) → Ends u v k n → n ≡ turn_count u v k }
+    ensures still { (u v : ℤ) → turn_count u v (pos 0) ≡ 0 }
 {}
 
 /// An algorithm that is clear, run from any values in the rows, neither traps nor leaves them, writes nothing else, and takes at most its cost.

@@ -39,7 +39,19 @@ abbrev pub PlacesSyntax : {X Y : Type 0} → (List Token → Y → Type 0) → �
 PlacesSyntax Kind end ts (Err (faults.Syntax offset)) = (offset ≡ end) ⊎ CannotStand Kind ts offset
 PlacesSyntax Kind end ts other = Unit {0}
 
--- where the answer is TooDeep, it is at a token that cannot stand there
-abbrev pub PlacesTooDeep : {X Y : Type 0} → (List Token → Y → Type 0) → List Token → Result X TextFault → Type 0
-PlacesTooDeep Kind ts (Err (faults.TooDeep offset)) = CannotStand Kind ts offset
-PlacesTooDeep Kind ts other = Unit {0}
+-- the token of the tokens that begins there opens one nesting too many: no tree within the limits begins with the tokens before it and with it, and one that nests deeper does
+pub record OpensTooMany {Y : Type 0} (Within Deeper : List Token → Y → Type 0) (ts : List Token) (offset : ℕ) : Type 0 where
+  pub before : List Token
+  pub opener : Token
+  pub behind : List Token
+  pub tokens_are : ts ≡ before ++ opener ∷ behind
+  pub begins : offset ≡ start_of opener
+  pub never : (others : List Token) (x : Y) → Within (before ++ opener ∷ others) x → ⊥
+  pub others : List Token
+  pub tree : Y
+  pub goes_on : Deeper (before ++ opener ∷ others) tree
+
+-- where the answer is TooDeep, it is at a token that opens one nesting too many
+abbrev pub PlacesTooDeep : {X Y : Type 0} → (List Token → Y → Type 0) → (List Token → Y → Type 0) → List Token → Result X TextFault → Type 0
+PlacesTooDeep Within Deeper ts (Err (faults.TooDeep offset)) = OpensTooMany Within Deeper ts offset
+PlacesTooDeep Within Deeper ts other = Unit {0}

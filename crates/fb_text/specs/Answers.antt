@@ -41,9 +41,9 @@ FindsTree answer x = Finds source_of answer x
 abbrev pub SyntaxAt : ℕ → List Token → Result FileTree TextFault → Type 0
 SyntaxAt end ts answer = PlacesSyntax IsSomeTree end ts answer
 
--- where the answer is TooDeep, it is at a token with which no tree within the limits goes on
+-- where the answer is TooDeep, it is at a token with which no tree within the limits goes on, and one that nests deeper does
 abbrev pub TooDeepAt : List Token → Result FileTree TextFault → Type 0
-TooDeepAt ts answer = PlacesTooDeep IsTree ts answer
+TooDeepAt ts answer = PlacesTooDeep IsTree IsSomeTree ts answer
 
 -- ---- what is answered of texts
 
@@ -81,7 +81,7 @@ abbrev pub SyntaxIn : List ℕ → Result FileTree TextFault → Type 0
 SyntaxIn text (Err (faults.Syntax offset)) = (ts : List Token) × Spells 0 text ts × SyntaxAt (length text) ts (Err (faults.Syntax offset))
 SyntaxIn text other = Unit {0}
 
--- where the answer is TooDeep, it is at a token of the text with which no tree within the limits goes on
+-- where the answer is TooDeep, it is at a token of the text with which no tree within the limits goes on, and one that nests deeper does
 abbrev pub TooDeepIn : List ℕ → Result FileTree TextFault → Type 0
 TooDeepIn text (Err (faults.TooDeep offset)) = (ts : List Token) × Spells 0 text ts × TooDeepAt ts (Err (faults.TooDeep offset))
 TooDeepIn text other = Unit {0}

@@ -1,7 +1,8 @@
 //! Whole texts.
 
-ghost use Rattle.std.specs.Prelude.{◌≡◌, ◌≤◌, ℕ, List, length, map, IfOk};
+ghost use Rattle.std.specs.Prelude.{◌≡◌, ◌≤◌, ◌<◌, ℕ, List, length, map, IfOk, Err};
 ghost use Rattle.fb_lex.specs.Views.{tokens_of};
+ghost use Rattle.fb_lex.specs.declared.fault.TextFault.TheVariants.{TooLong};
 ghost use Rattle.fb_read.specs.Answers.{Gives};
 ghost use Rattle.fb_read.specs.Whole.{IfSyntax};
 ghost use Rattle.st_expr.specs.Reading.{expression_at};
@@ -10,6 +11,7 @@ ghost use Rattle.fb_text.specs.Views.{source_of};
 ghost use Rattle.fb_text.specs.Reading.{file_at, whole_at};
 ghost use Rattle.fb_text.specs.Answers.{Reads, ReadsText, IsNested, IsTree, IsNestedSource, IsSource, IsNoSource, FindsTree, SyntaxAt, TooDeepAt, SyntaxIn, TooDeepIn};
 ghost use Rattle.fb_model.specs.Tokens as book;
+ghost use Rattle.fb_model.specs.Spelling.{text_limit};
 ghost use Rattle.fb_model.specs.StructuredTextGrammar.{most_nested, most_nested_statements};
 ghost use Rattle.fb_model.specs.Declarations.{SourceTree};
 
@@ -70,7 +72,9 @@ pub fn parse_tokens(alloc: Global, tokens: &[Token], length: usize) -> Result<Fi
 pub fn parse(alloc: Global, text: &str) -> Result<Source, TextFault>
     ensures reads { ReadsText text.now result }
     ensures found { IfOk result (λ source. IsSource text.now (source_of source)) }
-    ensures only { (x : SourceTree) → IsSource text.now x → length text.now ≤ 1048576 → FindsTree result x }
+    ensures within { IfOk result (λ source. length text.now ≤ text_limit) }
+    ensures long { text_limit < length text.now → result ≡ Err TooLong }
+    ensures only { (x : SourceTree) → IsSource text.now x → length text.now ≤ text_limit → FindsTree result x }
     ensures syntax { IfSyntax result (IsNoSource text.now) }
     ensures place { SyntaxIn text.now result }
     ensures deep { TooDeepIn text.now result }

@@ -32,6 +32,6 @@ IsWithinLimit ts x = IsExpression most_nested ts x []
 abbrev pub SyntaxAt : List Token → Result Expr TextFault → Type 0
 SyntaxAt ts answer = PlacesSyntax IsSomeExpression (end_of ts) ts answer
 
--- where the answer is TooDeep, it is at a token that opens one nesting too many: no expression within the limit begins with the tokens before it and with it
+-- where the answer is TooDeep, it is at a token that opens one nesting too many: no expression within the limit begins with the tokens before it and with it, and one that nests deeper does
 abbrev pub DeepAt : List Token → Result Expr TextFault → Type 0
-DeepAt ts answer = PlacesTooDeep IsWithinLimit ts answer
+DeepAt ts answer = PlacesTooDeep IsWithinLimit IsSomeExpression ts answer

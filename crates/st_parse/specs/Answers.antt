@@ -41,6 +41,6 @@ IsWithinLimits ts x = IsAlgorithm most_nested most_nested_statements ts x []
 abbrev pub SyntaxAt : List Token → Found → Type 0
 SyntaxAt ts answer = PlacesSyntax IsSomeAlgorithm (end_of ts) ts answer
 
--- where the answer is TooDeep, it is at a token with which no algorithm within the limits goes on
+-- where the answer is TooDeep, it is at a token with which no algorithm within the limits goes on, and one that nests deeper does
 abbrev pub TooDeepAt : List Token → Found → Type 0
-TooDeepAt ts answer = PlacesTooDeep IsWithinLimits ts answer
+TooDeepAt ts answer = PlacesTooDeep IsWithinLimits IsSomeAlgorithm ts answer

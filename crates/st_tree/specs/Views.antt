@@ -8,6 +8,7 @@ use Rattle.st_tree.specs.declared.expression.Expr.{Expr, fold-Expr}
 use Rattle.st_tree.specs.declared.expression.Expr.TheOpen.{Expr-F, Link-F}
 use Rattle.st_tree.specs.declared.expression.Link.{Link, fold-Link}
 use Rattle.st_tree.specs.declared.statement.Label.{Label}
+use Rattle.st_tree.specs.declared.statement.Bound.{Bound}
 use Rattle.st_tree.specs.declared.statement.Stmt.{Stmt, fold-Stmt}
 use Rattle.st_tree.specs.declared.statement.Stmt.TheOpen.{Stmt-F, Branch-F, Arm-F}
 use Rattle.st_tree.specs.declared.statement.Branch.{Branch, fold-Branch}
@@ -56,12 +57,15 @@ links_of ls = map link_of ls
 abbrev pub label_of : Label → text.Label
 label_of l = record { low = constant_of l.low; high = optional constant_of l.high }
 
+abbrev pub bound_of : Bound → text.Bound
+bound_of b = record { value = expr_of b.value; plain = b.plain }
+
 abbrev pub stmt_step : Stmt-F text.Statement text.Arm text.Branch → text.Statement
 stmt_step (Stmt-F.Assign x s e) = text.assign (word_of x) s (expr_of e)
 stmt_step (Stmt-F.AssignElement x b i s e) = text.assign_element (word_of x) b (expr_of i) s (expr_of e)
 stmt_step (Stmt-F.If b v) = text.branch (text.branches b.items) (text.statements v.items)
 stmt_step (Stmt-F.Case s e a v) = text.select s (expr_of e) (text.arms a.items) (text.statements v.items)
-stmt_step (Stmt-F.For s x a b c v) = text.repeat s (word_of x) (expr_of a) (expr_of b) (optional constant_of c) (text.statements v.items)
+stmt_step (Stmt-F.For s x a b c v) = text.repeat s (word_of x) (bound_of a) (bound_of b) (optional constant_of c) (text.statements v.items)
 
 abbrev pub branch_step : Branch-F text.Statement text.Arm text.Branch → text.Branch
 branch_step b = (b.at, expr_of b.condition, text.statements b.body.items)

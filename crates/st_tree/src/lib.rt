@@ -7,4 +7,4 @@ mod statement;
 
 pub use expression::{Expr, Link};
 pub use literal::{Constant, Literal};
-pub use statement::{Arm, Branch, Label, Stmt};
+pub use statement::{Arm, Bound, Branch, Label, Stmt};

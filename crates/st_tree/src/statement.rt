@@ -17,7 +17,14 @@ pub enum Stmt {
     /// CASE and its place: the selector, the arms, and what is done where no label has the value.
     Case(usize, Expr, Vec<Arm>, Vec<Stmt>),
     /// FOR and its place: the variable, the first and the last value, the step, and what is done in each turn.
-    For(usize, Name, Expr, Expr, Option<Constant>, Vec<Stmt>),
+    For(usize, Name, Bound, Bound, Option<Constant>, Vec<Stmt>),
+}
+
+/// The first or the last value of a FOR, and whether it is spelled as a number without a type, perhaps with a `-` directly before it. In parentheses it is not.
+#[derive(Drop)]
+pub struct Bound {
+    pub value: Expr,
+    pub plain: bool,
 }
 
 /// A condition with the place of its IF or ELSIF, and what is done where it holds.

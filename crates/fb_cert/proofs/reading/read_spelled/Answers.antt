@@ -6,10 +6,11 @@ returns c =
     let text = c.args.text.now in
     let r = c.read_text.result in
     record {
-      found = answered.found text r c.read_text.ensures;
-      sayable = answered.sayable text r c.read_text.ensures;
-      within = answered.within text r c.read_text.ensures;
-      only = answered.only text r c.read_text.ensures;
-      refused = answered.refused text r c.read_text.ensures;
-      told = answered.told text r c.read_text.ensures;
+      found = answered.found text r c.read_text.ensures.read;
+      sayable = answered.sayable text r c.read_text.ensures.read;
+      within = answered.within text r c.read_text.ensures.read;
+      long = c.read_text.ensures.long;
+      only = answered.only text r c.read_text.ensures.read;
+      refused = answered.refused text r c.read_text.ensures.read;
+      told = answered.told text r c.read_text.ensures.read;
     }
