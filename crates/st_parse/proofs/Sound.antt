@@ -117,7 +117,7 @@ module _ (E : Gram Expression) (expr : Read Expression) (sound : Sound E expr) w
         meets_then _ _ (else_at list ts₃) (else_sound ts₃) (λ xs last t.
         expect_then (λ l. IsElse E IsInner ts₃ xs l) _ _ m.EndCase last t (λ s'' e'' rest t'. case_of p' q r t')))))))
 
-    bound_sound : Sound (IsBound E) (bound_at expr)
+    pub bound_sound : Sound (IsBound E) (bound_at expr)
     unfolding bound_at
     bound_sound ts = meets_then _ _ (expr ts) (sound ts) (λ x rest p. a_bound p)
 

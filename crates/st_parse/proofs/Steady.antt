@@ -124,7 +124,7 @@ module _ (E : Gram Expression) (expr : Read Expression) (sound : Sound E expr) (
         steady_then (λ ts. headed a (arms_at list ts)) _ (steady_headed begins_integer integer_sees (arm_at list) arm_steady arm_shrinks a) (λ others.
         steady_then (else_at list) _ else_steady (λ xs. steady_expect m.EndCase _ (steady_done (select at x (arms others) xs)))))))))
 
-    bound_steady : Steady (bound_at expr)
+    pub bound_steady : Steady (bound_at expr)
     unfolding bound_at
     bound_steady = steady_taken expr (λ x ws. record { value = x; plain = is_number ws }) steady
 

@@ -1,11 +1,11 @@
 -- Where the nesting of statements is at its end, a deeper list begins with what was read and with the token that opens one more, where that is so of expressions.
-use Rattle.std.proofs.Common.{◌≡◌, ℕ, zero, suc, Bool, true, false, cond, List, [], ◌∷◌, length, None, Some, Ok, Err, refl}
+use Rattle.std.proofs.Common.{◌≡◌, ℕ, zero, suc, ◌-◌, Bool, true, false, cond, List, [], ◌∷◌, length, take, None, Some, Ok, Err, refl}
 use Rattle.fb_words.specs.declared.mark.Mark.{Mark}
 use Rattle.fb_words.specs.declared.mark.Mark.TheVariants as m
 use Rattle.fb_model.specs.Tokens.{Token, token, name, mark}
 use Rattle.fb_model.specs.Productions.{Gram, Word, IsName, a_name, IsMany, none, IsSeparated, last}
 use Rattle.fb_model.specs.StructuredText.{Expression, Statement, assign, assign_element, branch, select, repeat, Statements, no_statement, statements, Branch, branches, Arm, arms}
-use Rattle.fb_model.specs.StructuredTextGrammar.{unsigned, IsLabel, one, no_step, IsList, end, IsBranch, a_condition, IsArm, a_labelled, IsElse, absent, present, IsStatement, an_assignment, to_element, an_if, a_case, a_for, IsBody, IsExpression, IsAlgorithm}
+use Rattle.fb_model.specs.StructuredTextGrammar.{unsigned, IsLabel, one, no_step, IsList, end, IsBranch, a_condition, IsArm, a_labelled, IsElse, absent, present, is_number, IsBound, a_bound, IsStatement, an_assignment, to_element, an_if, a_case, a_for, IsBody, IsExpression, IsAlgorithm}
 use Rattle.fb_read.specs.Reading.{too_deep, Read, ◌>>=◌, next_is, after, expect, place_at, name_at, all_at, list_at}
 use Rattle.fb_read.proofs.Readers.{Sound, Shorter, shallow_then, shallow_name}
 use Rattle.fb_read.proofs.Repetitions.{separated_shallow}
@@ -14,13 +14,13 @@ use Rattle.fb_read.proofs.Viable.{Span, Any, GoesOn, Viable, Marked, Behind, goe
 use Rattle.st_expr.specs.Reading.{expression_at}
 use Rattle.st_expr.proofs.Laws.{expression_shorter, expression_steady}
 use Rattle.st_expr.proofs.Viable.{nought, zero_tree, closing, expression_wide, expression_alone, expression_viable}
-use Rattle.st_parse.specs.Reading.{headed, begins_integer, begins_block, begins_entry, label_at, step_at, assign_at, element_at, assignment_at, branch_at, else_at, elsifs_at, if_at, arm_at, arms_at, case_at, head_at, for_at, block_at, statement_at, entry_at, statements_in, entries_at, nested_at, body_at, algorithm_at}
+use Rattle.st_parse.specs.Reading.{headed, begins_integer, begins_block, begins_entry, label_at, step_at, assign_at, element_at, assignment_at, branch_at, else_at, elsifs_at, if_at, arm_at, arms_at, case_at, bound_at, head_at, for_at, block_at, statement_at, entry_at, statements_in, entries_at, nested_at, body_at, algorithm_at}
 use Rattle.st_parse.proofs.Headed.{IsHeaded, a_head, headed_sound, steady_headed}
 use Rattle.st_parse.proofs.Labels.{labels_sound, labels_steady, integer_sees}
 use Rattle.st_parse.proofs.Places.{option_shallow, label_shallow}
 use Rattle.st_parse.proofs.Shorter.{NoLonger, statement_shorter, body_no_longer}
-use Rattle.st_parse.proofs.Sound.{IsEntry, an_entry, list_of, entry_sound, list_sound, branch_sound, if_of, arm_sound, case_of, IsHead, a_front, head_sound, for_of, block_sound, statement_sound}
-use Rattle.st_parse.proofs.Steady.{entry_steady, branch_steady, elsif_shrinks, arm_steady, arm_shrinks, head_steady, statement_steady, block_steady, body_steady}
+use Rattle.st_parse.proofs.Sound.{IsEntry, an_entry, list_of, entry_sound, list_sound, branch_sound, if_of, arm_sound, case_of, bound_sound, IsHead, a_front, head_sound, for_of, block_sound, statement_sound}
+use Rattle.st_parse.proofs.Steady.{entry_steady, branch_steady, elsif_shrinks, arm_steady, arm_shrinks, bound_steady, head_steady, statement_steady, block_steady, body_steady}
 
 -- ---- lists
 
@@ -95,7 +95,7 @@ module _ (E : Gram Expression) (expr : Read Expression) (sound : Sound E expr) (
           (_, a_case (alone (closing m.Of ∷ nought ∷ closing m.Colon ∷ closing m.EndCase ∷ rest)) (a_labelled (last (one unsigned)) (empty (closing m.EndCase ∷ rest))) none absent)))
       by_case false d f =
           begun_at (One IsInner) m.For ts f (λ rest. (for_end rest, λ s e.
-          (_, a_for a_name (alone (closing m.To ∷ nought ∷ closing m.Do ∷ closing m.EndFor ∷ rest)) (alone (closing m.Do ∷ closing m.EndFor ∷ rest)) no_step (empty (closing m.EndFor ∷ rest)))))
+          (_, a_for a_name (a_bound (alone (closing m.To ∷ nought ∷ closing m.Do ∷ closing m.EndFor ∷ rest))) (a_bound (alone (closing m.Do ∷ closing m.EndFor ∷ rest))) no_step (empty (closing m.EndFor ∷ rest)))))
 
       by_if : (b : Bool) → next_is m.If ts ≡ b → cond b true (cond (next_is m.Case ts) true (next_is m.For ts)) ≡ true → GoesOn {A = Statement × List Token} (One IsInner) ts (Err (too_deep (length ts)))
       by_if true d f =
@@ -187,21 +187,32 @@ module _ (E : Gram Expression) (expr : Read Expression) (sound : Sound E expr) (
           (goes_as on (else_at list on) (λ rest. (closing m.EndCase ∷ rest, λ us h all'' d'' all' d' s' e' all d s e. (select s x (arms others) h.0,
           case_of E expr sound IsInner list inner_sound (is_read E expr sound all x _ d) (is_read (IsArm E IsInner) (arm_at list) arms_sound all' a all'' d') (is_arms a all'' others us d'') h.1))) (else_viable on))))))) ts
 
+      bound_viable : Viable (Any (IsBound E)) (bound_at expr)
+      unfolding bound_at
+      bound_viable ts =
+          goes_done (Any (IsBound E)) ts (λ x. Ok (record { value = x.0; plain = is_number (take (length ts - length x.1) ts) }, x.1)) (expr ts) (λ x. tt) (goes_as ts (expr ts) (λ rest. (rest, λ us p. (_, a_bound p.1))) (viable ts))
+
+      abbrev bound_keeps : Steady (bound_at expr)
+      bound_keeps = bound_steady E expr sound short steady IsInner list inner_sound no_longer inner_steady
+
+      abbrev bound_reads : Sound (IsBound E) (bound_at expr)
+      bound_reads = bound_sound E expr sound IsInner list inner_sound
+
       head_viable : Viable (Any (IsHead E expr sound IsInner list inner_sound)) (head_at expr)
       unfolding head_at
       head_viable =
           let H : Span = Any (IsHead E expr sound IsInner list inner_sound) in
-          viable_then H name_at (λ x. expect m.Assign x.1 >>= λ begin. expr begin >>= λ a. expect m.To a.1 >>= λ rest. expr rest >>= λ b. step_at b.1 >>= λ c. expect m.Do c.1 >>= λ body. Ok ((x.0, a.0, b.0, c.0), body)) steady_name
+          viable_then H name_at (λ x. expect m.Assign x.1 >>= λ begin. bound_at expr begin >>= λ a. expect m.To a.1 >>= λ rest. bound_at expr rest >>= λ b. step_at b.1 >>= λ c. expect m.Do c.1 >>= λ body. Ok ((x.0, a.0, b.0, c.0), body)) steady_name
           (λ ts. goes_shallow H ts (name_at ts) (shallow_name ts))
           (λ x. let P : Span = Marked m.Assign (Behind name_at x H) in
-          viable_expect (Behind name_at x H) m.Assign (λ begin. expr begin >>= λ a. expect m.To a.1 >>= λ rest. expr rest >>= λ b. step_at b.1 >>= λ c. expect m.Do c.1 >>= λ body. Ok ((x, a.0, b.0, c.0), body))
-          (viable_then P expr (λ a. expect m.To a.1 >>= λ rest. expr rest >>= λ b. step_at b.1 >>= λ c. expect m.Do c.1 >>= λ body. Ok ((x, a.0, b.0, c.0), body)) steady
-          (λ mid. goes_as mid (expr mid) (λ rest. (closing m.To ∷ nought ∷ closing m.Do ∷ rest, λ us h s e all d. ((x, h.0, zero_tree, None), a_front (is_name all x _ d) h.1 (alone (closing m.Do ∷ rest)) no_step))) (viable mid))
-          (λ a. let Q : Span = Marked m.To (Behind expr a P) in
-          viable_expect (Behind expr a P) m.To (λ rest. expr rest >>= λ b. step_at b.1 >>= λ c. expect m.Do c.1 >>= λ body. Ok ((x, a, b.0, c.0), body))
-          (viable_then Q expr (λ b. step_at b.1 >>= λ c. expect m.Do c.1 >>= λ body. Ok ((x, a, b.0, c.0), body)) steady
-          (λ mid. goes_as mid (expr mid) (λ rest. (closing m.Do ∷ rest, λ us h s' e' all' d' s e all d. ((x, a, h.0, None), a_front (is_name all x _ d) (is_read E expr sound all' a _ d') h.1 no_step))) (viable mid))
-          (λ b mid. goes_shallow (Behind expr b Q) mid (step_at mid >>= λ c. expect m.Do c.1 >>= λ body. Ok ((x, a, b, c.0), body)) (shallow_then _ (step_at mid) (option_shallow m.By mid) (λ c. shallow_closing m.Do c.1 (λ body. ((x, a, b, c.0), body))))))))) 
+          viable_expect (Behind name_at x H) m.Assign (λ begin. bound_at expr begin >>= λ a. expect m.To a.1 >>= λ rest. bound_at expr rest >>= λ b. step_at b.1 >>= λ c. expect m.Do c.1 >>= λ body. Ok ((x, a.0, b.0, c.0), body))
+          (viable_then P (bound_at expr) (λ a. expect m.To a.1 >>= λ rest. bound_at expr rest >>= λ b. step_at b.1 >>= λ c. expect m.Do c.1 >>= λ body. Ok ((x, a.0, b.0, c.0), body)) bound_keeps
+          (λ mid. goes_as mid (bound_at expr mid) (λ rest. (closing m.To ∷ nought ∷ closing m.Do ∷ rest, λ us h s e all d. (_, a_front (is_name all x _ d) h.1 (a_bound (alone (closing m.Do ∷ rest))) no_step))) (bound_viable mid))
+          (λ a. let Q : Span = Marked m.To (Behind (bound_at expr) a P) in
+          viable_expect (Behind (bound_at expr) a P) m.To (λ rest. bound_at expr rest >>= λ b. step_at b.1 >>= λ c. expect m.Do c.1 >>= λ body. Ok ((x, a, b.0, c.0), body))
+          (viable_then Q (bound_at expr) (λ b. step_at b.1 >>= λ c. expect m.Do c.1 >>= λ body. Ok ((x, a, b.0, c.0), body)) bound_keeps
+          (λ mid. goes_as mid (bound_at expr mid) (λ rest. (closing m.Do ∷ rest, λ us h s' e' all' d' s e all d. ((x, a, h.0, None), a_front (is_name all x _ d) (is_read (IsBound E) (bound_at expr) bound_reads all' a _ d') h.1 no_step))) (bound_viable mid))
+          (λ b mid. goes_shallow (Behind (bound_at expr) b Q) mid (step_at mid >>= λ c. expect m.Do c.1 >>= λ body. Ok ((x, a, b, c.0), body)) (shallow_then _ (step_at mid) (option_shallow m.By mid) (λ c. shallow_closing m.Do c.1 (λ body. ((x, a, b, c.0), body))))))))) 
 
       for_viable : Viable (One IsInner) (for_at expr list)
       unfolding for_at
