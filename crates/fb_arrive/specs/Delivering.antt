@@ -31,8 +31,8 @@ abbrev pub is_shut : Purpose → Condition → Bool
 is_shut ToInput x = false
 is_shut ToChannel (c.State n) = true
 is_shut ToChannel (c.Service s.Plain) = true
-is_shut ToChannel (c.Service s.Closed) = true
-is_shut ToChannel (c.Service s.Ready) = false
+is_shut ToChannel (c.Service (s.Closed stamps)) = true
+is_shut ToChannel (c.Service (s.Ready stamps)) = false
 is_shut ToChannel (c.Service s.Quiet) = true
 is_shut ToChannel (c.Service (s.Armed due)) = true
 is_shut ToChannel (c.Service s.Fired) = true

@@ -2,11 +2,9 @@
 use Rattle.std.specs.Prelude.{ℕ, List, Option, None, Some, slice_get}
 use Rattle.std.specs.Option.{option_map}
 use Rattle.fb_model.specs.Wires.{Leaf}
-use Rattle.fb_model.specs.Serving.{Effect as Outside}
 use Rattle.fb_model.specs.Devices as book
-use Rattle.fb_state.specs.fb_serve.declared.standing.Effect.{Effect}
 use Rattle.fb_state.specs.fb_sched.declared.reaction.Reaction.{Reaction}
-use Rattle.fb_state.specs.fb_turn.Conditions.{effect_at}
+use Rattle.fb_state.specs.fb_serve.Turns.{effect_of}
 use Rattle.fb_state.specs.fb_tables.Views.{place_at}
 use Rattle.fb_state.specs.fb_tables.Tables.{IsPoint}
 use Rattle.fb_dispatch.specs.declared.answer.Ended.{Ended}
@@ -20,14 +18,9 @@ end_of e = record { cause = e.cause; total = e.total; bound = e.bound }
 abbrev pub end_by : ℕ → Reaction → Ended
 end_by bound r = record { cause = r.cause; total = r.steps; bound = bound }
 
--- what a leaf has done outside of the device
-abbrev pub effect_in : Option Leaf → Option Effect → Option Outside
-effect_in None e = None
-effect_in (Some leaf) e = effect_at leaf.kind e
-
 abbrev pub turned_of : List Leaf → Turned → book.Answer
 turned_of all Idle = book.Idle
-turned_of all (Ran r) = book.Ran r.cause (place_at all (record { block = r.block; event = r.event })) r.steps (effect_in (slice_get all r.block) r.effect) (option_map end_of r.ended)
+turned_of all (Ran r) = book.Ran r.cause (place_at all (record { block = r.block; event = r.event })) r.steps (effect_of r.effect) (option_map end_of r.ended)
 
 -- a dispatch answers the numbers of an event
 abbrev pub HasPoint : List Leaf → Turned → Type 0

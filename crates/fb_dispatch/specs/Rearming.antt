@@ -9,8 +9,8 @@ use Rattle.fb_state.specs.fb_timers.Order.{Timing, due_of}
 abbrev pub moment_in : Condition → Option ℕ
 moment_in (c.State n) = None
 moment_in (c.Service (s.Armed due)) = Some due
-moment_in (c.Service s.Closed) = None
-moment_in (c.Service s.Ready) = None
+moment_in (c.Service (s.Closed stamps)) = None
+moment_in (c.Service (s.Ready stamps)) = None
 moment_in (c.Service s.Quiet) = None
 moment_in (c.Service s.Fired) = None
 moment_in (c.Service s.Plain) = None

@@ -3,12 +3,13 @@
 use Rattle.std.specs.Prelude.{ℕ, ℤ, ◌≡◌, ◌≤◌, ◌<◌, ◌++◌, true, List, length, string_bytes, Option}
 use Rattle.std.specs.List.{AllByRecursion}
 use Rattle.fb_model.specs.Names.{Name, is_in}
-use Rattle.fb_model.specs.System.{Service}
+use Rattle.fb_model.specs.System.{Service, Publish}
+use Rattle.fb_model.specs.Values.{Values, in_type}
 use Rattle.fb_model.specs.Typing.{AreDistinct}
 use Rattle.fb_model.specs.Services.{qo, service_event_outputs, service_gives, service_outputs}
 use Rattle.fb_model.specs.Wires.{Serviced}
 use Rattle.fb_model.specs.Store.{LeafState, variable_names}
-use Rattle.fb_model.specs.Serving.{Effect, Replied}
+use Rattle.fb_model.specs.Serving.{Effect, Replied, typed_values}
 use Rattle.fb_services.specs.Views.{values_of}
 use Rattle.st_code.specs.Forms.{Form, size_of}
 use Rattle.fb_chart.specs.declared.table.Output.{Output}
@@ -18,6 +19,11 @@ use Rattle.fb_chart.specs.Sending.{Points, sent_to}
 use Rattle.fb_chart.specs.Sampling.{AreStores}
 use Rattle.fb_serve.specs.declared.standing.Ports.{Ports}
 use Rattle.fb_serve.specs.Ports.{ArePorts, receives}
+
+-- the numbers that a PUBLISH sends are in their types
+abbrev pub SendsFit : Service → Values → Type 0
+SendsFit (Publish channel types) own = AllByRecursion (λ v. in_type v.type v.value ≡ true) (typed_values 1 types own)
+SendsFit _ own = Unit {0}
 
 -- a service with its slots, its outputs and its stores
 pub record CanServe (service : Service) (p : Ports) (outputs : List Output) (own issued : List Form) : Type 0 where

@@ -2,48 +2,47 @@
 -- This project's profile of IEC 61499-1 edition 2, 6.
 use Rattle.std.specs.Prelude.{ℕ, ℤ, ◌≡◌, List, [], ◌∷◌, Option, None, Some}
 use Rattle.std.specs.Option.{option_map}
-use Rattle.fb_words.specs.declared.elem_type.ElemType.{ElemType}
-use Rattle.fb_words.specs.declared.elem_type.ElemType.TheVariants as t
 use Rattle.fb_model.specs.Names.{Name}
 use Rattle.fb_model.specs.Values.{Values}
 use Rattle.fb_model.specs.System.{Service}
 use Rattle.fb_model.specs.Services.{service_events, service_event_outputs}
 use Rattle.fb_model.specs.Store as st
 use Rattle.fb_model.specs.Store.{Condition, LeafState}
-use Rattle.fb_model.specs.Messages.{To_channel, Typed}
 use Rattle.fb_model.specs.Serving as book
 use Rattle.fb_model.specs.Serving.{Reply, emits, reply}
-use Rattle.fb_services.specs.Views.{values_of}
 use Rattle.fb_chart.specs.Views.{named}
+use Rattle.fb_wire.specs.Views.{stamped_of}
+use Rattle.fb_serve.specs.declared.standing.Stamps.{Stamps}
+use Rattle.fb_serve.specs.declared.standing.Stamps.TheVariants as k
 use Rattle.fb_serve.specs.declared.standing.Standing.{Standing}
 use Rattle.fb_serve.specs.declared.standing.Standing.TheVariants as s
 use Rattle.fb_serve.specs.declared.standing.Effect.{Effect}
 use Rattle.fb_serve.specs.declared.standing.Effect.TheVariants as e
 use Rattle.fb_serve.specs.declared.standing.Turn.{Turn}
 
+-- what is kept of stamps, in the book
+abbrev pub stamps_in : Stamps → st.Stamps
+stamps_in k.Unstamped = st.Unstamped
+stamps_in (k.Upcoming stamp) = st.Upcoming (stamped_of stamp)
+stamps_in k.Exhausted = st.Exhausted
+stamps_in (k.Latest stamp) = st.Latest (stamped_of stamp)
+
 -- what a service remembers, in the book
 abbrev pub condition_of : Standing → Condition
-condition_of s.Closed = st.Closed
-condition_of s.Ready = st.Ready
+condition_of (s.Closed stamps) = st.Closed (stamps_in stamps)
+condition_of (s.Ready stamps) = st.Ready (stamps_in stamps)
 condition_of s.Quiet = st.Quiet
 condition_of (s.Armed due) = st.Armed due
 condition_of s.Fired = st.Fired
 condition_of s.Plain = st.Plain
 
--- values with their types, one by one; where there are more values than types, the others are seen too, each as a LINT
-abbrev pub typed : List ElemType → List ℤ → List Typed
-typed [] [] = []
-typed [] (v ∷ vs) = record { type = t.Lint; value = v } ∷ typed [] vs
-typed (t ∷ ts) [] = []
-typed (t ∷ ts) (v ∷ vs) = record { type = t; value = v } ∷ typed ts vs
+-- what a service does outside of its device, in the book
+abbrev pub effect_in : Effect → book.Effect
+effect_in (e.Send message) = book.Send message
+effect_in (e.Write number values) = book.Write number values.items
 
--- what a service of these types does, in the book
-abbrev pub effect_in : List ElemType → Effect → book.Effect
-effect_in types (e.Send channel values) = book.Send (record { purpose = To_channel; number = channel; values = typed types values.items })
-effect_in types (e.Write number values) = book.Write number values.items
-
-abbrev pub effect_of : Service → Option Effect → Option book.Effect
-effect_of service o = option_map (effect_in (values_of service)) o
+abbrev pub effect_of : Option Effect → Option book.Effect
+effect_of o = option_map effect_in o
 
 -- the name of an event of a service, by its number
 abbrev pub event_at : Service → ℕ → Name
@@ -60,7 +59,7 @@ leaf_of own issued standing = record { cells = record { own = own; issued = issu
 
 -- the reply that a turn comes to, where these are the working values after it and the issued ones before it
 abbrev pub turned : Service → Turn → Values → Values → Reply
-turned service t own issued = emits service (outs_at service t.output) (effect_of service t.effect) (leaf_of own issued t.standing)
+turned service t own issued = emits service (outs_at service t.output) (effect_of t.effect) (leaf_of own issued t.standing)
 
 -- a dispatch of a service, by its event's number, comes to this turn; these are the working values before it and after it, and the issued ones before it
 abbrev pub Replies : Service → ℕ → ℕ → List ℤ → Values → Values → Values → Standing → Turn → Type 0

@@ -8,7 +8,7 @@ ghost use Rattle.fb_services.specs.Views.{service_of};
 ghost use Rattle.st_exec.specs.Cells.{values_of, forms_of};
 ghost use Rattle.fb_chart.specs.Sending.{sent_to};
 ghost use Rattle.fb_serve.specs.Turns.{event_at, leaf_of, effect_of};
-ghost use Rattle.fb_serve.specs.Serving.{CanServe, HasServed};
+ghost use Rattle.fb_serve.specs.Serving.{SendsFit, CanServe, HasServed};
 
 use crate::standing::{Effect, Ports, Standing};
 use crate::turn::reply;
@@ -33,7 +33,8 @@ pub fn serve<E: Emit>(
     requires ready { CanServe (service_of service.now) ports.now outputs.now (forms_of own.old) (forms_of issued.old) }
     requires message { IsMessage (Serviced (service_of service.now)) values.now }
     requires room { length (sent_to outputs.now (can_emit (service_of service.now) (event_at (service_of service.now) event))) ≤ E.room emit.old }
-    ensures served { HasServed (service_of service.now) outputs.now clock (event_at (service_of service.now) event) values.now (leaf_of (values_of own.old) (values_of issued.old) standing) (leaf_of (values_of own.new) (values_of issued.new) result.0) (effect_of (service_of service.now) result.1) (E.sent emit.old) (E.sent emit.new) }
+    requires sends { SendsFit (service_of service.now) (values_of own.old) }
+    ensures served { HasServed (service_of service.now) outputs.now clock (event_at (service_of service.now) event) values.now (leaf_of (values_of own.old) (values_of issued.old) standing) (leaf_of (values_of own.new) (values_of issued.new) result.0) (effect_of result.1) (E.sent emit.old) (E.sent emit.new) }
     ensures own { forms_of own.new ≡ forms_of own.old }
     ensures issued { forms_of issued.new ≡ forms_of issued.old }
     ensures room { E.room emit.old + length (E.sent emit.old) ≡ E.room emit.new + length (E.sent emit.new) }

@@ -10,4 +10,5 @@ mod transfer;
 mod turn;
 
 pub use dispatch::serve;
-pub use standing::{Effect, Ports, Standing};
+pub use fb_wire;
+pub use standing::{Effect, Ports, Stamps, Standing};

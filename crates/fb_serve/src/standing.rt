@@ -3,14 +3,28 @@
 ghost use Rattle.std.specs.Prelude.{◌≡◌, None};
 
 use fb_chart::Values;
+use fb_wire::{Message, Stamp};
+
+/// What a PUBLISH or SUBSCRIBE keeps of stamps, be it open or closed: this project's profile.
+#[derive(Clone, Copy)]
+pub enum Stamps {
+    /// In the first format, nothing.
+    Unstamped,
+    /// A PUBLISH: the stamp of its next message.
+    Upcoming(Stamp),
+    /// A PUBLISH that has sent a message with the last sequence number.
+    Exhausted,
+    /// A SUBSCRIBE: the stamp of the message that was admitted last.
+    Latest(Stamp),
+}
 
 /// What a service remembers from one dispatch to the next: IEC 61499-1 edition 2, 6.1 and annex A, this project's profile.
 #[derive(Clone, Copy)]
 pub enum Standing {
     /// A PUBLISH or SUBSCRIBE that is not open.
-    Closed,
+    Closed(Stamps),
     /// A PUBLISH or SUBSCRIBE that is open.
-    Ready,
+    Ready(Stamps),
     /// A timer that does not run.
     Quiet,
     /// A timer that is due at this moment.
@@ -24,8 +38,8 @@ pub enum Standing {
 /// What a service does outside of its device: IEC 61499-1 edition 2, 6.1, this project's profile.
 #[derive(Drop)]
 pub enum Effect {
-    /// A PUBLISH sends values to the channel of a number.
-    Send(u16, Values),
+    /// A PUBLISH sends a message to its channel.
+    Send(Message),
     /// An OUTPUT of a number writes values.
     Write(u16, Values),
 }

@@ -1,17 +1,14 @@
 -- What a leaf remembers from one dispatch to the next, by numbers and in the book's terms.
 -- IEC 61499-1 edition 2, 5.2.2 (execution control charts), 6.1 (services); this project's profile.
-use Rattle.std.specs.Prelude.{List, [], Option}
-use Rattle.std.specs.Option.{option_map}
+use Rattle.std.specs.Prelude.{List, []}
 use Rattle.fb_model.specs.Wires.{Kind, Charted, Serviced}
 use Rattle.fb_model.specs.Store as book
 use Rattle.fb_model.specs.Store.{AtState, Plain, LeafState}
-use Rattle.fb_model.specs.Serving.{Effect as Outside}
 use Rattle.fb_model.specs.Certificates.{names}
 use Rattle.st_exec.specs.Cells.{Cell}
 use Rattle.fb_chart.specs.Views.{named}
 use Rattle.fb_chart.specs.Charting.{IsStateNumber, cells_of}
-use Rattle.fb_serve.specs.declared.standing.Effect.{Effect}
-use Rattle.fb_serve.specs.Turns.{condition_of, effect_in, effect_of}
+use Rattle.fb_serve.specs.Turns.{condition_of}
 use Rattle.fb_turn.specs.declared.memory.Condition.{Condition}
 use Rattle.fb_turn.specs.declared.memory.Condition.TheVariants as c
 
@@ -32,8 +29,3 @@ IsConditionOf (Serviced service) (c.Service standing) = Unit {0}
 -- a leaf with these working values and issued values, and what it remembers
 abbrev pub leaf_state : Kind → List Cell → List Cell → Condition → LeafState
 leaf_state kind own issued c = record { cells = cells_of own issued; condition = condition_at kind c }
-
--- what a leaf has done outside of its device, in the book: charts do nothing there
-abbrev pub effect_at : Kind → Option Effect → Option Outside
-effect_at (Charted block) e = option_map (effect_in []) e
-effect_at (Serviced service) e = effect_of service e

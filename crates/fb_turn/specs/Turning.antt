@@ -3,6 +3,7 @@
 use Rattle.std.specs.Prelude.{ℕ, ℤ, ◌≡◌, ◌≤◌, ◌<◌, ◌++◌, true, List, set, slice_get, length, Option, Some}
 use Rattle.std.specs.List.{AllByRecursion}
 use Rattle.fb_model.specs.Names.{Name, is_in}
+use Rattle.fb_model.specs.Values.{Values}
 use Rattle.fb_model.specs.Services.{can_emit}
 use Rattle.fb_model.specs.Wires.{Kind, Charted, Serviced}
 use Rattle.fb_model.specs.Store.{LeafState}
@@ -26,12 +27,19 @@ use Rattle.fb_serve.specs.declared.standing.Ports.{Ports}
 use Rattle.fb_serve.specs.Ports.{ServesPorts}
 use Rattle.fb_turn.specs.declared.memory.Condition.{Condition}
 use Rattle.fb_turn.specs.declared.memory.Memory.{Memory}
-use Rattle.fb_turn.specs.Conditions.{IsConditionOf, leaf_state, effect_at}
+use Rattle.fb_serve.specs.Turns.{effect_of}
+use Rattle.fb_serve.specs.Serving.{SendsFit}
+use Rattle.fb_turn.specs.Conditions.{IsConditionOf, leaf_state}
 
 -- at each moment from the dispatch on nothing of a chart traps, and there is room for what is sent; and there is room for all that a service can send
 abbrev pub HasRoom : Kind → List Output → LeafState → Name → ℕ → ℕ → Type 0
 HasRoom (Charted block) outputs before event most room = FineFrom block outputs most room (dispatched before event)
 HasRoom (Serviced service) outputs before event most room = length (sent_to outputs (can_emit service event)) ≤ room
+
+-- the numbers that a service sends are in their types; a chart sends none
+abbrev pub SendsWell : Kind → Values → Type 0
+SendsWell (Charted block) own = Unit {0}
+SendsWell (Serviced service) own = SendsFit service own
 
 -- a block whose inputs are sampled can run
 pub record CanRun (x : Block) (p : Ports) (own issued : List Cell) (c : Condition) (number : ℕ) (values : List ℤ) (most room : ℕ) : Type 0 where
@@ -44,12 +52,13 @@ pub record CanRun (x : Block) (p : Ports) (own issued : List Cell) (c : Conditio
   pub event : number < length x.events.items
   pub message : IsMessage (kind_of x) values
   pub few : most ≤ most_steps
+  pub sends : SendsWell (kind_of x) (values_of own)
   pub fine : HasRoom (kind_of x) x.outputs.items (leaf_state (kind_of x) own issued c) (named (event_names x) number) most room
 
 -- it has run to its end as the book says, and what its outputs reach was sent
 pub record HasRun (x : Block) (event : ℕ) (values : List ℤ) (clock : ℕ) (before after : LeafState) (steps : ℕ) (effect : Option Effect) (old new : Points) : Type 0 where
   pub outs : List Name
-  pub served : Serves (kind_of x) clock (named (event_names x) event) values before after steps outs (effect_at (kind_of x) effect)
+  pub served : Serves (kind_of x) clock (named (event_names x) event) values before after steps outs (effect_of effect)
   pub sent : new ≡ old ++ sent_to x.outputs.items outs
   pub known : AllByRecursion (λ (o : Name). is_in o (output_names x) ≡ true) outs
 
