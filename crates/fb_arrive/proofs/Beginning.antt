@@ -5,6 +5,7 @@ use Rattle.fb_model.specs.Names.{at_place}
 use Rattle.fb_model.specs.System as system
 use Rattle.fb_model.specs.System.{Device}
 use Rattle.fb_model.specs.Services.{begin}
+use Rattle.fb_model.specs.Messages.{Stamp, IsStamp}
 use Rattle.fb_model.specs.Wires.{Kind, Charted, Serviced, Leaf, leaves}
 use Rattle.fb_model.specs.Certificates.{Certificate, depth_of, events_of, begin_places, is_restart}
 use Rattle.fb_model.specs.Devices.{Machine, Entry, HasRoom, held, places_row, admitted, beginning, begun, silent}
@@ -43,11 +44,11 @@ pub record Begins (p : Program) (first now : Running) (k : ℕ) : Type 0 where
   pub room : (q : ℕ) → held (places_row (cert_in (session_of p first))) ((machine_of (session_of p now)).queues q) + begin_places (cert_in (session_of p first)) (drop k (leaves (device_in (session_of p first)))) q ≤ depth_of (cert_in (session_of p first)) (device_in (session_of p first)) q
   pub numbers : next_of now.next + length (drop k (leaves (device_in (session_of p first)))) ≤ 2 ^ 64
 
-pub begins : (p : Program) (r : Running) → IsGood p r → machine_of (session_of p r) ≡ silent (device_in (session_of p r)) (next_of r.next) → next_of r.next + length (leaves (device_in (session_of p r))) ≤ 2 ^ 64 → Begins p r r 0
+pub begins : (p : Program) (r : Running) → IsGood p r → (stamp : Stamp) × IsStamp stamp × (machine_of (session_of p r) ≡ silent (device_in (session_of p r)) (next_of r.next) stamp) → next_of r.next + length (leaves (device_in (session_of p r))) ≤ 2 ^ 64 → Begins p r r 0
 begins p r g still numbers = record {
   good = g;
   left = refl;
-  room = λ q. subst (λ (m : Machine). held (places_row (cert_in (session_of p r))) (m.queues q) + begin_places (cert_in (session_of p r)) (leaves (device_in (session_of p r))) q ≤ depth_of (cert_in (session_of p r)) (device_in (session_of p r)) q) (sym still)
+  room = λ q. subst (λ (m : Machine). held (places_row (cert_in (session_of p r))) (m.queues q) + begin_places (cert_in (session_of p r)) (leaves (device_in (session_of p r))) q ≤ depth_of (cert_in (session_of p r)) (device_in (session_of p r)) q) (sym still.2)
       (omega (arith, g.program.holds.fits.begins q));
   numbers = numbers;
 }

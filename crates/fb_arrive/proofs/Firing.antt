@@ -10,8 +10,9 @@ use Rattle.fb_model.specs.Store.{Store, LeafState, with_leaf}
 use Rattle.fb_model.specs.Ranges.{CellsLie}
 use Rattle.fb_model.specs.Certificates.{Certificate, IsWired}
 use Rattle.fb_model.specs.Devices.{Machine, is_timer, due}
-use Rattle.fb_model.specs.Headline.{IsSound}
+use Rattle.fb_model.specs.Headline.{KeepsStamps, IsSound}
 use Rattle.fb_model.proofs.Running.{at_leaf, with_leaf_lies}
+use Rattle.fb_model.proofs.Stamping.{with_leaf_keeps, timer_stamps}
 use Rattle.fb_model.proofs.Admitting.{sound_but}
 use Rattle.fb_leaves.specs.Leaves.{AreApart}
 use Rattle.fb_state.proofs.of_fb_chart.Lists.{all_got}
@@ -106,6 +107,7 @@ module _ (p : Program) (r : Running) (g : IsGood p r) (block : ℕ) (t : IsTimer
       let w = all_got (IsWired all) all block leaf g.program.holds.wired t.stands in
       let own : CellsLie cert.ranges leaf.path leaf.kind (m.store leaf.path).cells = (at_leaf (λ leaf. CellsLie cert.ranges leaf.path leaf.kind (m.store leaf.path).cells) all leaf.path leaf g.sound.lies w.found).0 in
       sound_but cert device m (with_leaf m.store leaf.path after) m.clock g.sound (with_leaf_lies cert.ranges m.store all all leaf after w.found own g.program.holds.wired g.sound.lies)
+      (with_leaf_keeps (λ k s. KeepsStamps k.kind s.condition) m.store all all leaf after w.found (timer_stamps leaf.kind book.Fired t.timer) g.program.holds.wired g.sound.stamps)
 
   stands : AllStand all r.memory.own.items r.memory.issued.items conditions
   stands k other at =

@@ -26,7 +26,7 @@ use Rattle.fb_state.specs.Arrivals.{IsArrival, Admits, IsShort}
 use Rattle.fb_state.proofs.Lists.{same_at}
 use Rattle.fb_state.proofs.Blocks.{within, block_of}
 use Rattle.fb_arrive.specs.declared.denied.Denied.{Denied}
-use Rattle.fb_arrive.specs.declared.denied.Denied.TheVariants.{UnknownInput, BadCount, BadValue, NoCredit, Spent, Wire, NoSubscriber, Shape, Closed}
+use Rattle.fb_arrive.specs.declared.denied.Denied.TheVariants.{UnknownInput, BadCount, BadValue, NoCredit, Spent, Wire, NoSubscriber, Shape, Closed, Stale}
 use Rattle.fb_state.specs.fb_tables.Tables.{first_at}
 use Rattle.fb_arrive.specs.Offering.{IsOutside}
 use Rattle.fb_arrive.specs.Answers.{denial_of}
@@ -103,6 +103,7 @@ module _ (p : Program) (r : Running) (g : IsGood p r) (n k : ℕ) (found : first
   outside vs NoSubscriber o = absurd o
   outside vs Shape o = absurd o
   outside vs Closed o = absurd o
+  outside vs (Stale boot sequence) o = absurd o
 
   -- it is admitted
   pub offered : (vs : List ℤ) (cause : ℕ) (new : Machine) → all_in (types_of at.leaf.kind) vs ≡ true → Admits (cert_in (session_of p r)) (device_in (session_of p r)) (machine_of (session_of p r)) (arriving at.leaf vs) cause new

@@ -3,7 +3,7 @@ use Rattle.std.specs.Prelude.{ℕ, Result, Ok, Err}
 use Rattle.fb_model.specs.Devices as book
 use Rattle.fb_wire.specs.Views.{fault_of}
 use Rattle.fb_arrive.specs.declared.denied.Denied.{Denied}
-use Rattle.fb_arrive.specs.declared.denied.Denied.TheVariants.{UnknownInput, BadCount, BadValue, NoCredit, Spent, Wire, NoSubscriber, Shape, Closed}
+use Rattle.fb_arrive.specs.declared.denied.Denied.TheVariants.{UnknownInput, BadCount, BadValue, NoCredit, Spent, Wire, NoSubscriber, Shape, Closed, Stale}
 
 abbrev pub denial_of : Denied → book.Denial
 denial_of UnknownInput = book.UnknownInput
@@ -15,6 +15,7 @@ denial_of (Wire fault) = book.NotAMessage (fault_of fault)
 denial_of NoSubscriber = book.NoSubscriber
 denial_of Shape = book.Shape
 denial_of Closed = book.NotReady
+denial_of (Stale boot sequence) = book.Stale boot sequence
 
 abbrev pub admission_of : Result ℕ Denied → book.Answer
 admission_of (Ok cause) = book.Admitted cause
@@ -30,3 +31,4 @@ denied_code (Wire fault) = 55
 denied_code NoSubscriber = 56
 denied_code Shape = 57
 denied_code Closed = 58
+denied_code (Stale boot sequence) = 64

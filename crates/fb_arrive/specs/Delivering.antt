@@ -1,5 +1,5 @@
 -- Datagrams by numbers.
-use Rattle.std.specs.Prelude.{ℕ, ℤ, Bool, true, false, List, map}
+use Rattle.std.specs.Prelude.{ℕ, ℤ, ◌≡◌, Bool, true, false, List, map}
 use Rattle.fb_words.specs.declared.elem_type.ElemType.{ElemType}
 use Rattle.fb_wire.specs.declared.message.Purpose.{Purpose}
 use Rattle.fb_wire.specs.declared.message.Purpose.TheVariants.{ToChannel, ToInput}
@@ -9,7 +9,9 @@ use Rattle.fb_state.specs.fb_turn.declared.memory.Condition.{Condition}
 use Rattle.fb_state.specs.fb_turn.declared.memory.Condition.TheVariants as c
 use Rattle.fb_model.specs.Wires.{Kind}
 use Rattle.fb_model.specs.Messages.{Message, To_channel, To_input}
-use Rattle.fb_model.specs.Devices.{is_subscriber, is_input_numbered}
+use Rattle.fb_model.specs.Values.{all_in}
+use Rattle.fb_model.specs.Ranges.{types_of}
+use Rattle.fb_model.specs.Devices.{is_subscriber, is_input_numbered, numbers_in, IsShaped}
 
 -- a leaf of this kind is meant: a SUBSCRIBE of the channel, or the INPUT of the number
 abbrev pub is_meant : Message → Kind → Bool
@@ -20,6 +22,12 @@ types_taken vs = map (λ v. v.elem) vs
 
 abbrev pub numbers_taken : List Typed → List ℤ
 numbers_taken vs = map (λ v. v.value) vs
+
+-- a message is of the format and of the types that a leaf takes, and these are its numbers
+pub record IsReceived (kind : Kind) (m : Message) (numbers : List ℤ) : Type 0 where
+  pub shape : IsShaped kind m
+  pub same : numbers ≡ numbers_in m.values
+  pub fit : all_in (types_of kind) numbers ≡ true
 
 -- the number of ARRIVE among the events of a block that takes such messages
 abbrev pub arrival_number : Purpose → ℕ

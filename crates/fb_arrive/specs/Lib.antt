@@ -4,3 +4,4 @@ pub mod Offering
 pub mod Ticking
 pub use Rattle.fb_wire.specs as fb_wire
 pub mod Delivering
+pub mod Stamping

@@ -16,3 +16,4 @@ IsOutside types values (denied.Wire fault) = ⊥
 IsOutside types values denied.NoSubscriber = ⊥
 IsOutside types values denied.Shape = ⊥
 IsOutside types values denied.Closed = ⊥
+IsOutside types values (denied.Stale boot sequence) = ⊥

@@ -1,23 +1,25 @@
 //! Datagrams that come in.
 
-ghost use Rattle.std.specs.Prelude.{◌≡◌, ◌≤◌, true, List, length, None, Some, MatchOption};
-ghost use Rattle.std.specs.List.{AllByRecursion};
-ghost use Rattle.fb_words.specs.Numbers.{in_type};
-ghost use Rattle.fb_model.specs.Devices.{Deliver, is_input_numbered, is_subscriber};
+ghost use Rattle.std.specs.Prelude.{◌≡◌, ◌≤◌, length, MatchOption};
+ghost use Rattle.fb_model.specs.Devices.{Deliver, IsShaped, format_in as format_sent, format_of as format_taken, is_input_numbered, is_subscriber};
+ghost use Rattle.fb_wire.specs.Views.{stamp_of};
+ghost use Rattle.fb_state.specs.fb_chart.Views.{body_kind};
 ghost use Rattle.fb_state.specs.fb_tables.Tables.{AreNumbered, first_at};
 ghost use Rattle.fb_state.specs.Machines.{Steps};
 ghost use Rattle.fb_state.specs.Keeping.{IsGood};
 ghost use Rattle.fb_arrive.specs.Answers.{admission_of};
-ghost use Rattle.fb_arrive.specs.Delivering.{is_meant, types_taken, numbers_taken, arrival_number, is_shut};
+ghost use Rattle.fb_arrive.specs.Delivering.{is_meant, types_taken, numbers_taken, arrival_number, is_shut, IsReceived};
 
 use crate::denied::Denied;
 use crate::input::arriving;
+use crate::stamps::{admit_stamped, stale};
+use fb_services::Service;
 use fb_state::fb_turn::Condition;
-use fb_state::fb_turn::fb_chart::{Point, Values};
+use fb_state::fb_turn::fb_chart::{Body, Point, Values};
 use fb_state::fb_turn::fb_serve::Standing;
-use fb_state::{Program, Running, Shortage, admit};
-use fb_wire::{Message, Purpose, Typed, decode};
-use fb_words::ElemType;
+use fb_state::{Program, Running, Shortage};
+use fb_wire::{Message, Purpose, Stamp, Typed, decode};
+use fb_words::{ElemType, Format};
 
 // The block that a message is for.
 fn meant(program: &Program, message: &Message) -> Option<u16>
@@ -49,6 +51,36 @@ fn shaped(types: &[ElemType], values: &[Typed]) -> Option<Values>
     Some(taken)
 }
 
+// The format of a message with this stamp.
+fn format_in(stamp: Option<Stamp>) -> Format
+    ensures { result ≡ format_sent (stamp_of stamp) }
+{
+    match stamp {
+        None => Format::First,
+        Some(_) => Format::Second,
+    }
+}
+
+// The format of the messages that a block takes.
+fn format_of(body: &Body) -> Format
+    ensures { result ≡ format_taken (body_kind body.now) }
+{
+    match body {
+        Body::Served(Service::Subscribe(channel, _)) => channel.format,
+        _ => Format::First,
+    }
+}
+
+// The numbers of a message, where it has the format and the types that a block takes.
+fn received(body: &Body, message: &Message) -> Option<Values>
+    ensures { MatchOption result (IsShaped (body_kind body.now) message.now → ⊥) (λ values. IsReceived (body_kind body.now) message.now values.items) }
+{
+    if format_in(message.stamp()) != format_of(body) {
+        return None;
+    }
+    shaped(arriving(body), message.values())
+}
+
 // The number of ARRIVE among the events of a block, by what a message is for.
 fn arrival(purpose: Purpose) -> u16
     ensures { result ≡ arrival_number purpose }
@@ -65,7 +97,7 @@ fn is_closed(purpose: Purpose, condition: Condition) -> bool
 {
     match (purpose, condition) {
         (Purpose::ToInput, _) => false,
-        (Purpose::ToChannel, Condition::Service(Standing::Ready)) => false,
+        (Purpose::ToChannel, Condition::Service(Standing::Ready(_))) => false,
         (Purpose::ToChannel, _) => true,
     }
 }
@@ -89,18 +121,20 @@ pub fn deliver(program: &Program, running: &mut Running, bytes: &[u8]) -> Result
         });
     };
     let at = block as usize;
-    let types = arriving(&program.tables.blocks[at].body);
-    let Some(values) = shaped(types, message.values()) else {
+    let Some(values) = received(&program.tables.blocks[at].body, &message) else {
         return Err(Denied::Shape);
     };
-    if is_closed(purpose, running.memory.conditions[at]) {
+    let condition = running.memory.conditions[at];
+    if is_closed(purpose, condition) {
         return Err(Denied::Closed);
     }
-    let point = Point {
-        block,
-        event: arrival(purpose),
-    };
-    match admit(program, running, point, values) {
+    let stamp = message.stamp();
+    match stale(condition, stamp) {
+        Some(Stamp { boot, sequence }) => return Err(Denied::Stale { boot, sequence }),
+        None => {}
+    }
+    let event = arrival(purpose);
+    match admit_stamped(program, running, Point { block, event }, values, stamp) {
         Ok(cause) => Ok(cause),
         Err(Shortage::Places { needs, free }) => Err(Denied::NoCredit { needs, free }),
         Err(Shortage::Numbers) => Err(Denied::Spent),

@@ -21,10 +21,12 @@ pub enum Denied {
     Wire(WireFault),
     /// The device has no SUBSCRIBE of this channel. Code 56.
     NoSubscriber,
-    /// The values are not as many as the block takes, or of other types. Code 57.
+    /// The message has another format than the block takes, or its values are not as many, or of other types. Code 57.
     Shape,
     /// The SUBSCRIBE is closed. Code 58.
     Closed,
+    /// The message is not later than the one that the SUBSCRIBE admitted last, which has this stamp. Code 64.
+    Stale { boot: u32, sequence: u32 },
 }
 
 impl Denied {
@@ -44,6 +46,10 @@ impl Denied {
             Denied::NoSubscriber => 56,
             Denied::Shape => 57,
             Denied::Closed => 58,
+            Denied::Stale {
+                boot: _,
+                sequence: _,
+            } => 64,
         }
     }
 }

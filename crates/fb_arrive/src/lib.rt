@@ -5,6 +5,7 @@ mod clock;
 mod delivery;
 mod denied;
 mod input;
+mod stamps;
 mod start;
 
 pub use clock::tick;

@@ -1,6 +1,7 @@
 //! The start of a device.
 
 ghost use Rattle.std.specs.Prelude.{◌≡◌, ◌≤◌, ◌<◌, ◌+◌, ◌^◌, true, length, Some, slice_get, if◌then◌else◌};
+ghost use Rattle.fb_model.specs.Messages.{Stamp, IsStamp};
 ghost use Rattle.fb_model.specs.Wires.{Leaf};
 ghost use Rattle.fb_model.specs.Certificates.{is_restart};
 ghost use Rattle.fb_model.specs.Devices.{HasRoom, admitted, beginning, begun, silent};
@@ -41,7 +42,7 @@ fn begin_one(program: &Program, running: &mut Running, block: u16)
 /// Admits every BEGIN of a device to which nothing has happened, in resource and block order. There is room for all: the certificate pays for them.
 pub fn begin(program: &Program, running: &mut Running)
     requires good { IsGood program.now running.old }
-    requires silent { running_state program.now running.old ≡ silent (running_device program.now running.old) (next_of running.old.next) }
+    requires silent { (stamp : Stamp) × IsStamp stamp × (running_state program.now running.old ≡ silent (running_device program.now running.old) (next_of running.old.next) stamp) }
     requires numbers { next_of running.old.next + length (running_leaves program.now running.old) ≤ 2 ^ 64 }
     ensures begun { running_state program.now running.new ≡ begun (running_leaves program.now running.old) (running_state program.now running.old) }
     ensures good { IsGood program.now running.new }

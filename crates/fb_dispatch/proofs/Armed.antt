@@ -41,8 +41,8 @@ paths_differ (l ∷ ls) (suc i) (suc j) a b h p q n = paths_differ ls i j a b h.
 -- ---- what a timer remembers
 
 due_standing : (x : Standing) → due (condition_of x) ≡ moment_in (c.Service x)
-due_standing s.Closed = refl
-due_standing s.Ready = refl
+due_standing (s.Closed stamps) = refl
+due_standing (s.Ready stamps) = refl
 due_standing s.Quiet = refl
 due_standing (s.Armed moment) = refl
 due_standing s.Fired = refl

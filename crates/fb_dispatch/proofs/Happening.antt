@@ -6,10 +6,11 @@ use Rattle.fb_model.specs.System as book
 use Rattle.fb_model.specs.System.{Device}
 use Rattle.fb_model.specs.Services.{can_emit}
 use Rattle.fb_model.specs.Wires.{Kind, Charted, Serviced, Leaf, leaves, leaf_at}
-use Rattle.fb_model.specs.Store.{sampled}
-use Rattle.fb_model.specs.Ranges.{IsMessage}
+use Rattle.fb_model.specs.Store.{LeafState, sampled}
+use Rattle.fb_model.specs.Ranges.{AllLie, CellsLie, LeafLies, IsMessage}
 use Rattle.fb_model.specs.Certificates.{Certificate, depth_of, reached}
 use Rattle.fb_model.specs.Devices.{Entry, Machine, steps_row}
+use Rattle.fb_model.proofs.Running.{sampled_lies}
 use Rattle.fb_leaves.specs.Leaves.{OnChart, IsClosed}
 use Rattle.fb_leaves.proofs.Closed.{all_charts_closed}
 use Rattle.fb_shapes.specs.Shaped.{IsShapely}
@@ -25,7 +26,7 @@ use Rattle.fb_state.specs.fb_serve.declared.standing.Ports.{Ports}
 use Rattle.fb_state.specs.fb_serve.Ports.{ServesPorts}
 use Rattle.fb_state.specs.fb_turn.declared.memory.Condition.{Condition}
 use Rattle.fb_state.specs.fb_turn.Conditions.{IsConditionOf, leaf_state}
-use Rattle.fb_state.specs.fb_turn.Turning.{HasRoom, CanRun, Stand, CanTurn}
+use Rattle.fb_state.specs.fb_turn.Turning.{HasRoom, SendsWell, CanRun, Stand, CanTurn}
 use Rattle.fb_state.specs.fb_tables.fb_check.Verdicts.{system_in}
 use Rattle.fb_state.proofs.of_fb_tables.of_fb_check.of_fb_columns.Small.{weights_at_most}
 use Rattle.fb_state.specs.fb_tables.declared.table.Resource.{Resource}
@@ -49,6 +50,7 @@ use Rattle.fb_state.proofs.Blocks.{Known, known, found, steps_are, within, stand
 use Rattle.fb_state.proofs.Queued.{queue_here}
 use Rattle.fb_state.proofs.Kept.{takes_placed}
 use Rattle.fb_dispatch.proofs.Sampled.{can_take, sampled_is}
+use Rattle.fb_dispatch.proofs.Sends.{sends_well}
 use Rattle.fb_dispatch.proofs.Reaching.{fine_so, service_room, sent_le, known as known_entries}
 
 -- a resource of tables has its DEPTH
@@ -149,6 +151,13 @@ module _ (p : Program) (r : Running) (g : IsGood p r) (q : ℕ) (first : Ticket)
   pub message : IsMessage leaf.kind first.values.items
   message = (known_entries cert device g.program.holds m g.sound q entry (entries_in all t.left) was_is leaf found_leaf).0.values leaf found_leaf
 
+  -- the values that it samples lie in their ranges
+  own_lies : AllLie cert.ranges leaf.path leaf.kind (sampled m.store leaf (place_at all first.point).event).cells.own
+  own_lies =
+      (sampled_lies cert.ranges m.store all leaf (place_at all first.point).event g.sound.lies
+      (all_got (λ (l : Leaf). CellsLie cert.ranges l.path l.kind (m.store l.path).cells) all first.point.block leaf g.sound.lies point.leaf_stands)
+      (all_got (LeafLies cert.ranges all) all first.point.block leaf g.program.holds.ranges point.leaf_stands)).own
+
   -- the outbox is empty, and has room for the depth of the queue
   pub deep : depth_of cert device q ≤ r.outbox.capacity - length r.outbox.items
   deep =
@@ -217,6 +226,9 @@ module _ (p : Program) (r : Running) (g : IsGood p r) (q : ℕ) (first : Ticket)
           ap (sampled m.store leaf) event_named
           ∙ sampled_is cert.ranges all r.memory.own.items r.memory.issued.items r.memory.conditions.items g.program.tables.apart g.stand g.program.holds.ranges g.program.holds.wired cert a.block a.slots leaf takes_inputs first.point.block first.point.event point.leaf_stands a.event a.event_is st is cells values
 
+      sends : SendsWell leaf.kind (values_of cells)
+      sends = sends_well cert.ranges leaf.path leaf.kind (values_of cells) (subst (λ (s : LeafState). AllLie cert.ranges leaf.path leaf.kind s.cells.own) before_is own_lies)
+
       has_room : (kind : Kind) → kind ≡ leaf.kind → HasRoom kind a.block.outputs.items (leaf_state kind cells a.issued a.condition) (named (event_names a.block) first.point.event) a.event.steps (r.outbox.capacity - length r.outbox.items)
       has_room (Charted block) e =
           λ n v.
@@ -241,6 +253,7 @@ module _ (p : Program) (r : Running) (g : IsGood p r) (q : ℕ) (first : Ticket)
         event = within a.block.events.items first.point.event a.event a.event_is;
         message = subst (λ (j : Kind). IsMessage j first.values.items) (sym is.kind) message;
         few = omega (arith, weight_is, few_steps (place_at all first.point));
+        sends = subst (λ (j : Kind). SendsWell j (values_of cells)) (sym is.kind) sends;
         fine = has_room (kind_of a.block) is.kind;
       }
 

@@ -1,6 +1,7 @@
 pub mod Lists
 pub mod Taking
 pub mod Timed
+pub mod Sends
 pub mod Sampled
 pub mod Reaching
 pub mod Happening

@@ -20,7 +20,8 @@ use Rattle.fb_state.specs.fb_chart.Views.{named, event_names}
 use Rattle.fb_state.specs.fb_chart.Sending.{Points, sent_to}
 use Rattle.fb_state.specs.fb_serve.declared.standing.Effect.{Effect}
 use Rattle.fb_state.specs.fb_turn.declared.memory.Memory.{Memory}
-use Rattle.fb_state.specs.fb_turn.Conditions.{leaf_state, effect_at}
+use Rattle.fb_state.specs.fb_serve.Turns.{effect_of}
+use Rattle.fb_state.specs.fb_turn.Conditions.{leaf_state}
 use Rattle.fb_state.specs.fb_turn.Turning.{HasTurned}
 use Rattle.fb_state.specs.fb_tables.Views.{place_at}
 use Rattle.fb_state.specs.fb_tables.Tables.{IsPoint}
@@ -76,7 +77,7 @@ module _ (p : Program) (r : Running) (g : IsGood p r) (q : ℕ) (first : Ticket)
     after = leaf_state (at.leaf p r g q first qs t).kind h.own h.issued h.condition
 
     abbrev pub outside : Option Outside
-    outside = effect_at (at.leaf p r g q first qs t).kind effect
+    outside = effect_of effect
 
     abbrev pub later_queue : List Entry
     later_queue = entries_in (at.all p r g q first qs t) t.left ++ follow_ups (at.entry p r g q first qs t) (reached (at.leaf p r g q first qs t).targets outs)
@@ -103,7 +104,7 @@ module _ (p : Program) (r : Running) (g : IsGood p r) (q : ℕ) (first : Ticket)
         let k : Kind = (at.leaf p r g q first qs t).kind in
         subst (λ (s : LeafState). Serves k r.clock n first.values.items s after steps outs outside) (sym (at.before_is p r g q first qs t h.at h.sampled h.values_are))
         (subst (λ (e : Name). Serves k r.clock e first.values.items (leaf_state k h.sampled h.at.issued h.at.condition) after steps outs outside) (sym (at.event_is p r g q first qs t h.at))
-        (subst (λ (j : Kind). Serves j r.clock (named (event_names h.at.block) first.point.event) first.values.items (leaf_state j h.sampled h.at.issued h.at.condition) (leaf_state j h.own h.issued h.condition) steps outs (effect_at j effect)) (at.is p r g q first qs t h.at).kind h.has_run.served))
+        (subst (λ (j : Kind). Serves j r.clock (named (event_names h.at.block) first.point.event) first.values.items (leaf_state j h.sampled h.at.issued h.at.condition) (leaf_state j h.own h.issued h.condition) steps outs (effect_of effect)) (at.is p r g q first qs t h.at).kind h.has_run.served))
 
     pub runs : Runs (at.cert p r g q first qs t) (at.device p r g q first qs t) (at.m p r g q first qs t) q cause (place_at (at.all p r g q first qs t) first.point) steps outside ended later
     runs = record {

@@ -6,7 +6,7 @@ use Rattle.fb_model.specs.Wires.{Kind, Leaf, leaves}
 use Rattle.fb_model.specs.Store.{LeafState, Store, first_store}
 use Rattle.fb_model.specs.Certificates.{Certificate}
 use Rattle.fb_model.specs.Devices as book
-use Rattle.fb_model.specs.Devices.{Machine}
+use Rattle.fb_model.specs.Devices.{Machine, first_stamp}
 use Rattle.fb_turn.specs.st_exec.Cells.{Cell}
 use Rattle.fb_tables.specs.fb_check.Verdicts.{system_in, certificate_in}
 use Rattle.fb_tables.specs.Views.{place_at}
@@ -59,7 +59,7 @@ standing own issued conditions k kind = leaf_state kind (cells_at own k) (cells_
 
 -- leaves, the first of this number, in their states
 abbrev pub store_from : ℕ → List Leaf → (ℕ → Kind → LeafState) → Store
-store_from k [] f p = first_store [] p
+store_from k [] f p = first_store first_stamp [] p
 store_from k (leaf ∷ rest) f p = if path_eq leaf.path p then f k leaf.kind else store_from (k + 1) rest f p
 
 -- ---- the machine

@@ -1,6 +1,5 @@
 use Rattle.std.proofs.Common.{Option, length, refl, sym, ◌∙◌, ap, subst, arith}
 use Rattle.std.specs.Option.{option_map}
-use Rattle.fb_model.specs.Serving.{Effect as Outside}
 use Rattle.fb_model.specs.Wires.{leaves}
 use Rattle.fb_model.specs.Devices.{Runs}
 use Rattle.fb_state.specs.fb_tables.Views.{place_at}
@@ -8,8 +7,8 @@ use Rattle.fb_state.specs.declared.program.Running.{Running}
 use Rattle.fb_state.specs.Sessions.{session_of}
 use Rattle.fb_state.specs.Machines.{device_in, cert_in, machine_of}
 use Rattle.fb_state.specs.Numbers.{event_at, steps_in, IsKnown}
-use Rattle.fb_state.specs.fb_turn.Conditions.{effect_at}
-use Rattle.fb_dispatch.specs.Answers.{effect_in, end_of}
+use Rattle.fb_state.specs.fb_serve.Turns.{effect_of}
+use Rattle.fb_dispatch.specs.Answers.{end_of}
 use Rattle.fb_dispatch.specs.declared.answer.Ended.{Ended}
 use Rattle.fb_dispatch.proofs.Happening as at
 use Rattle.fb_dispatch.proofs.Kept as kept
@@ -57,15 +56,12 @@ returns-clause-step c =
     c.turn-outcome.new.memory c.turn-outcome.result.steps c.turn-outcome.result.effect c.turn-outcome.new.emit.items c.turn-outcome.ensures.turned in
     let new : Running = record { queues = c.enter-ended.new.queues; memory = c.turn-outcome.new.memory; timers = c.retime.new.timers; outbox = c.enter-ended.new.outbox; clock = c.args.running.now.clock; next = c.args.running.now.next } in
     let s = session_of c.args.program.now c.args.running.now in
-    let leaf = (at.point c.args.program.now c.args.running.now c.requires c.args.resource c.in-Some.first c.take.new.queues.items c.in-Some.ensures).leaf in
     let bound = bound_is c.args.program.now c.args.running.now c.requires c.args.resource c.in-Some.first c.take.new.queues.items c.in-Some.ensures c.turn-outcome.new.memory c.turn-outcome.result.steps c.turn-outcome.result.effect c.turn-outcome.new.emit.items h
     c.enter-ended.result.0 c.enter-ended.result.1 c.enter-ended.new.queues.items c.enter-ended.ensures.entered c.steps_at-bound.result (c.steps_at-bound.ensures ∙ ap (λ xs. steps_in (event_at xs c.enter-ended.result.0.opening)) c.deref-4.ensures.value) in
-    subst (λ (o : Option Outside). Runs (cert_in s) (device_in s) (machine_of s) c.args.resource c.enter-ended.result.0.cause (place_at (leaves (device_in s)) c.in-Some.first.point) c.turn-outcome.result.steps o (option_map end_of c.end_of.result) (machine_of (session_of c.args.program.now new)))
-    (sym (ap (λ o. effect_in o c.turn-outcome.result.effect) (at.point c.args.program.now c.args.running.now c.requires c.args.resource c.in-Some.first c.take.new.queues.items c.in-Some.ensures).leaf_stands))
-    (subst (λ (o : Option Ended). Runs (cert_in s) (device_in s) (machine_of s) c.args.resource c.enter-ended.result.0.cause (place_at (leaves (device_in s)) c.in-Some.first.point) c.turn-outcome.result.steps (effect_at leaf.kind c.turn-outcome.result.effect) (option_map end_of o) (machine_of (session_of c.args.program.now new)))
+    subst (λ (o : Option Ended). Runs (cert_in s) (device_in s) (machine_of s) c.args.resource c.enter-ended.result.0.cause (place_at (leaves (device_in s)) c.in-Some.first.point) c.turn-outcome.result.steps (effect_of c.turn-outcome.result.effect) (option_map end_of o) (machine_of (session_of c.args.program.now new)))
     (sym c.end_of.ensures)
     (kept.happens c.args.program.now c.args.running.now c.requires c.args.resource c.in-Some.first c.take.new.queues.items c.in-Some.ensures c.turn-outcome.new.memory c.turn-outcome.result.steps c.turn-outcome.result.effect c.turn-outcome.new.emit.items h
-    c.enter-ended.result.0 c.enter-ended.result.1 c.enter-ended.new.queues.items c.enter-ended.ensures.entered new refl refl refl refl c.steps_at-bound.result bound))
+    c.enter-ended.result.0 c.enter-ended.result.1 c.enter-ended.new.queues.items c.enter-ended.ensures.entered new refl refl refl refl c.steps_at-bound.result bound)
 
 pub returns-clause-point : goal.returns-clause-point
 returns-clause-point c = (at.placed c.args.program.now c.args.running.now c.requires c.args.resource c.in-Some.first c.take.new.queues.items c.in-Some.ensures).0
