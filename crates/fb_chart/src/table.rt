@@ -37,12 +37,14 @@ pub struct Take {
     pub source: Source,
 }
 
-/// An event input or an arrival: the steps and the places of its WEIGHT row, and the data inputs that it is WITH.
+/// An event input or an arrival: the steps and the places of its WEIGHT row, the steps of its FAR row where the certificate has REPEATS, and the data inputs
+/// that it is WITH.
 #[derive(Drop)]
 pub struct Event {
     pub name: String,
     pub steps: u64,
     pub places: u64,
+    pub far: Option<u64>,
     pub takes: Vec<Take>,
 }
 

@@ -10,7 +10,7 @@ use Rattle.fb_model.specs.System as book
 use Rattle.fb_model.specs.System.{Device, Input, Output, Publish, Subscribe, Delay, Cycle, Restart}
 use Rattle.fb_model.specs.Wires.{Kind, Charted, Serviced, Leaf, leaves}
 use Rattle.fb_model.specs.Store as st
-use Rattle.fb_model.specs.Store.{AtState, LeafState, Store, first_cells, first_condition, first_state, first_store}
+use Rattle.fb_model.specs.Store.{AtState, LeafState, Store, first_cells, first_condition, first_latest, first_state, first_store, first_upcoming}
 use Rattle.fb_model.specs.Certificates.{Certificate, DeviceHolds, names, depth_of}
 use Rattle.fb_model.specs.Devices as machines
 use Rattle.fb_model.specs.Devices.{silent}
@@ -45,7 +45,13 @@ use Rattle.fb_arrive.proofs.of_fb_state.Devices.{device_stands}
 use Rattle.fb_arrive.proofs.of_fb_state.Storing.{standing_at}
 use Rattle.fb_arrive.proofs.of_fb_state.Blocks.{Pair, block_of, block_count, mapped}
 use Rattle.fb_arrive.proofs.of_fb_state.Arriving.{resource_count}
-use Rattle.fb_device.specs.Starting.{first_of, AreEmpty, IsAtRest}
+use Rattle.fb_words.specs.declared.format.Format.{Format}
+use Rattle.fb_words.specs.declared.format.Format.TheVariants.{First, Second}
+use Rattle.fb_wire.specs.declared.message.Stamp.{Stamp}
+use Rattle.fb_wire.specs.Views.{stamped_of}
+use Rattle.fb_model.specs.Messages.{IsStamp}
+use Rattle.fb_arrive.specs.fb_state.fb_serve.Turns.{stamps_in}
+use Rattle.fb_device.specs.Starting.{upcoming_of, latest_of, first_of, AreEmpty, IsAtRest}
 use Rattle.fb_device.proofs.Silent.{silent_sound, none_armed}
 
 -- ---- queues
@@ -135,45 +141,53 @@ first_is : (states : List book.State) → named (names states) 0 ≡ first_state
 first_is [] = refl
 first_is (x ∷ xs) = refl
 
-first_condition_is : (k : Kind) → condition_at k (first_of k) ≡ first_condition k
-first_condition_is (Charted block) = ap AtState (first_is block.states)
-first_condition_is (Serviced (Input number types)) = refl
-first_condition_is (Serviced (Output number types)) = refl
-first_condition_is (Serviced (Publish channel types)) = refl
-first_condition_is (Serviced (Subscribe channel types)) = refl
-first_condition_is (Serviced Delay) = refl
-first_condition_is (Serviced Cycle) = refl
-first_condition_is (Serviced Restart) = refl
+upcoming_is : (stamp : Stamp) (format : Format) → stamps_in (upcoming_of stamp format) ≡ first_upcoming (stamped_of stamp) format
+upcoming_is stamp First = refl
+upcoming_is stamp Second = refl
 
-first_fits : (k : Kind) → IsConditionOf k (first_of k)
-first_fits (Charted block) = λ some. some
-first_fits (Serviced (Input number types)) = tt
-first_fits (Serviced (Output number types)) = tt
-first_fits (Serviced (Publish channel types)) = tt
-first_fits (Serviced (Subscribe channel types)) = tt
-first_fits (Serviced Delay) = tt
-first_fits (Serviced Cycle) = tt
-first_fits (Serviced Restart) = tt
+latest_is : (format : Format) → stamps_in (latest_of format) ≡ first_latest format
+latest_is First = refl
+latest_is Second = refl
+
+first_condition_is : (stamp : Stamp) (k : Kind) → condition_at k (first_of stamp k) ≡ first_condition (stamped_of stamp) k
+first_condition_is stamp (Charted block) = ap AtState (first_is block.states)
+first_condition_is stamp (Serviced (Input number types)) = refl
+first_condition_is stamp (Serviced (Output number types)) = refl
+first_condition_is stamp (Serviced (Publish channel types)) = ap st.Closed (upcoming_is stamp channel.format)
+first_condition_is stamp (Serviced (Subscribe channel types)) = ap st.Closed (latest_is channel.format)
+first_condition_is stamp (Serviced Delay) = refl
+first_condition_is stamp (Serviced Cycle) = refl
+first_condition_is stamp (Serviced Restart) = refl
+
+first_fits : (stamp : Stamp) (k : Kind) → IsConditionOf k (first_of stamp k)
+first_fits stamp (Charted block) = λ some. some
+first_fits stamp (Serviced (Input number types)) = tt
+first_fits stamp (Serviced (Output number types)) = tt
+first_fits stamp (Serviced (Publish channel types)) = tt
+first_fits stamp (Serviced (Subscribe channel types)) = tt
+first_fits stamp (Serviced Delay) = tt
+first_fits stamp (Serviced Cycle) = tt
+first_fits stamp (Serviced Restart) = tt
 
 -- leaves, the first of this number, stand as at first
-first_stored : (k : ℕ) (ls : List Leaf) (owns issues : List (List Cell)) → AreFirst ls owns issues → (f : ℕ → Kind → LeafState)
-    → ((i : ℕ) (leaf : Leaf) (o x : List Cell) → slice_get ls i ≡ Some leaf → slice_get owns i ≡ Some o → slice_get issues i ≡ Some x → f (k + i) leaf.kind ≡ leaf_state leaf.kind o x (first_of leaf.kind))
-    → (p : Path) → store_from k ls f p ≡ first_store ls p
-first_stored k [] [] [] a f h p = refl
-first_stored k [] [] (x ∷ xs) a f h p = absurd a
-first_stored k [] (o ∷ os) issues a f h p = absurd a
-first_stored k (leaf ∷ rest) [] issues a f h p = absurd a
-first_stored k (leaf ∷ rest) (o ∷ os) [] a f h p = absurd a
-first_stored k (leaf ∷ rest) (o ∷ os) (x ∷ xs) a f h p =
+first_stored : (stamp : Stamp) (k : ℕ) (ls : List Leaf) (owns issues : List (List Cell)) → AreFirst ls owns issues → (f : ℕ → Kind → LeafState)
+    → ((i : ℕ) (leaf : Leaf) (o x : List Cell) → slice_get ls i ≡ Some leaf → slice_get owns i ≡ Some o → slice_get issues i ≡ Some x → f (k + i) leaf.kind ≡ leaf_state leaf.kind o x (first_of stamp leaf.kind))
+    → (p : Path) → store_from k ls f p ≡ first_store (stamped_of stamp) ls p
+first_stored stamp k [] [] [] a f h p = refl
+first_stored stamp k [] [] (x ∷ xs) a f h p = absurd a
+first_stored stamp k [] (o ∷ os) issues a f h p = absurd a
+first_stored stamp k (leaf ∷ rest) [] issues a f h p = absurd a
+first_stored stamp k (leaf ∷ rest) (o ∷ os) [] a f h p = absurd a
+first_stored stamp k (leaf ∷ rest) (o ∷ os) (x ∷ xs) a f h p =
     let on : k + 0 ≡ k = omega arith in
-    let own : f k leaf.kind ≡ record { cells = first_cells leaf; condition = first_condition leaf.kind } =
+    let own : f k leaf.kind ≡ record { cells = first_cells leaf; condition = first_condition (stamped_of stamp) leaf.kind } =
     ap (λ j. f j leaf.kind) (sym on) ∙ h 0 leaf o x refl refl refl
-    ∙ ap (λ v. record { cells = record { own = v; issued = values_of x }; condition = condition_at leaf.kind (first_of leaf.kind) }) a.0.own
-    ∙ ap (λ v. record { cells = record { own = (first_cells leaf).own; issued = v }; condition = condition_at leaf.kind (first_of leaf.kind) }) a.0.issued
-    ∙ ap (λ (c : st.Condition). record { cells = first_cells leaf; condition = c }) (first_condition_is leaf.kind) in
+    ∙ ap (λ v. record { cells = record { own = v; issued = values_of x }; condition = condition_at leaf.kind (first_of stamp leaf.kind) }) a.0.own
+    ∙ ap (λ v. record { cells = record { own = (first_cells leaf).own; issued = v }; condition = condition_at leaf.kind (first_of stamp leaf.kind) }) a.0.issued
+    ∙ ap (λ (c : st.Condition). record { cells = first_cells leaf; condition = c }) (first_condition_is stamp leaf.kind) in
     ap (λ (s : LeafState). cond (path_eq leaf.path p) s (store_from (k + 1) rest f p)) own
-    ∙ ap (λ (s : LeafState). cond (path_eq leaf.path p) (record { cells = first_cells leaf; condition = first_condition leaf.kind }) s)
-    (first_stored (k + 1) rest os xs a.1 f (λ i l u w e b c. (let up : k + 1 + i ≡ k + suc i = omega arith in ap (λ j. f j l.kind) up ∙ h (suc i) l u w e b c)) p)
+    ∙ ap (λ (s : LeafState). cond (path_eq leaf.path p) (record { cells = first_cells leaf; condition = first_condition (stamped_of stamp) leaf.kind }) s)
+    (first_stored stamp (k + 1) rest os xs a.1 f (λ i l u w e b c. (let up : k + 1 + i ≡ k + suc i = omega arith in ap (λ j. f j l.kind) up ∙ h (suc i) l u w e b c)) p)
 
 -- the stores of a leaf
 record Stored (owns issues : List (List Cell)) (k : ℕ) (leaf : Leaf) : Type 0 where
@@ -196,9 +210,9 @@ first_stand (l ∷ ls) (o ∷ os) (x ∷ xs) a (suc k) leaf h =
 
 -- ---- the whole
 
-module _ (v : Verified) (k : ℕ) (t : Tables) (first : FirstValues) (r : Running) (checked : IsChecked v) (within : k < length (system_in v).devices)
+module _ (v : Verified) (k begins : ℕ) (stamp : Stamp) (t : Tables) (first : FirstValues) (r : Running) (checked : IsChecked v) (within : k < length (system_in v).devices)
     (tables : (d : Device) → slice_get (system_in v).devices k ≡ Some d → AreTables (certificate_in v) d (map forms_of r.memory.own.items) (map forms_of r.memory.issued.items) t)
-    (firsts : (d : Device) → slice_get (system_in v).devices k ≡ Some d → AreFirst (leaves d) first.own.items first.issued.items) (rest : IsAtRest t first r) where
+    (firsts : (d : Device) → slice_get (system_in v).devices k ≡ Some d → AreFirst (leaves d) first.own.items first.issued.items) (rest : IsAtRest t first begins stamp r) where
   abbrev program : Program
   program = record { verified = v; number = k; tables = t }
 
@@ -229,15 +243,15 @@ module _ (v : Verified) (k : ℕ) (t : Tables) (first : FirstValues) (r : Runnin
   values : AreFirst (leaves device) owns issues
   values = subst (λ (w : Vec (List Cell) Global). AreFirst (leaves device) owns w.items) (sym rest.issued) (subst (λ (w : Vec (List Cell) Global). AreFirst (leaves device) w.items first.issued.items) (sym rest.own) (firsts device stands))
 
-  remembers : (i : ℕ) (leaf : Leaf) → slice_get (leaves device) i ≡ Some leaf → slice_get conditions i ≡ Some (first_of leaf.kind)
+  remembers : (i : ℕ) (leaf : Leaf) → slice_get (leaves device) i ≡ Some leaf → slice_get conditions i ≡ Some (first_of stamp leaf.kind)
   remembers i leaf h =
       let b : Pair cert (leaves device) (map forms_of issues) (map forms_of owns) (map forms_of issues) t.blocks.items t.ports.items i leaf =
       block_of cert (leaves device) (map forms_of issues) (map forms_of owns) (map forms_of issues) t.blocks.items t.ports.items (leaves device) i leaf are.blocks h in
-      ap (λ (cs : List Condition). slice_get cs i) rest.conditions ∙ mapped (λ (x : Block). first_of (kind_of x)) t.blocks.items i b.block b.stands ∙ ap (λ (j : Kind). Some (first_of j)) b.is.kind
+      ap (λ (cs : List Condition). slice_get cs i) rest.conditions ∙ mapped (λ (x : Block). first_of stamp (kind_of x)) t.blocks.items i b.block b.stands ∙ ap (λ (j : Kind). Some (first_of stamp j)) b.is.kind
 
-  store_is : store_from 0 (leaves device) (standing owns issues conditions) ≡ first_store (leaves device)
-  store_is = fun_ext (first_stored 0 (leaves device) owns issues values (standing owns issues conditions)
-      (λ i leaf o x h a b. (let same : 0 + i ≡ i = omega arith in ap (λ j. standing owns issues conditions j leaf.kind) same ∙ standing_at owns issues conditions i leaf.kind o x (first_of leaf.kind) a b (remembers i leaf h))))
+  store_is : store_from 0 (leaves device) (standing owns issues conditions) ≡ first_store (stamped_of stamp) (leaves device)
+  store_is = fun_ext (first_stored stamp 0 (leaves device) owns issues values (standing owns issues conditions)
+      (λ i leaf o x h a b. (let same : 0 + i ≡ i = omega arith in ap (λ j. standing owns issues conditions j leaf.kind) same ∙ standing_at owns issues conditions i leaf.kind o x (first_of stamp leaf.kind) a b (remembers i leaf h))))
 
   abbrev pending_in : ℕ → List machines.Entry
   pending_in q = entries_in (leaves device) (queue_at r.queues.items q)
@@ -248,24 +262,25 @@ module _ (v : Verified) (k : ℕ) (t : Tables) (first : FirstValues) (r : Runnin
   steps_are : spent_in r.queues.items ≡ (λ c. 0)
   steps_are = fun_ext (no_steps t.resources.items r.queues.items rest.queues)
 
-  pub machine_is : machine_of (session_of program r) ≡ silent device 1
+  pub machine_is : machine_of (session_of program r) ≡ silent device begins (stamped_of stamp)
   machine_is =
       ap (λ (f : ℕ → List machines.Entry). record { queues = f; store = store_from 0 (leaves device) (standing owns issues conditions); spent = spent_in r.queues.items; clock = r.clock; next = next_of r.next }) queues_are
       ∙ ap (λ (f : Store). record { queues = λ q. []; store = f; spent = spent_in r.queues.items; clock = r.clock; next = next_of r.next }) store_is
-      ∙ ap (λ (f : ℕ → ℕ). record { queues = λ q. []; store = first_store (leaves device); spent = f; clock = r.clock; next = next_of r.next }) steps_are
-      ∙ ap (λ (n : ℕ). record { queues = λ q. []; store = first_store (leaves device); spent = λ c. 0; clock = n; next = next_of r.next }) rest.clock
-      ∙ ap (λ (o : Option ℕ). record { queues = λ q. []; store = first_store (leaves device); spent = λ c. 0; clock = 0; next = next_of o }) rest.next
+      ∙ ap (λ (f : ℕ → ℕ). record { queues = λ q. []; store = first_store (stamped_of stamp) (leaves device); spent = f; clock = r.clock; next = next_of r.next }) steps_are
+      ∙ ap (λ (n : ℕ). record { queues = λ q. []; store = first_store (stamped_of stamp) (leaves device); spent = λ c. 0; clock = n; next = next_of r.next }) rest.clock
+      ∙ ap (λ (o : Option ℕ). record { queues = λ q. []; store = first_store (stamped_of stamp) (leaves device); spent = λ c. 0; clock = 0; next = next_of o }) rest.next
 
-  sound : IsSound cert device (machine_of (session_of program r))
-  sound = subst (IsSound cert device) (sym machine_is) (silent_sound cert device holds 1)
+  -- where the stamp is one
+  sound : IsStamp (stamped_of stamp) → IsSound cert device (machine_of (session_of program r))
+  sound is = subst (IsSound cert device) (sym machine_is) (silent_sound cert device holds begins (stamped_of stamp) is)
 
   stand : (i : ℕ) (leaf : Leaf) → slice_get (leaves device) i ≡ Some leaf → IsStanding leaf i owns issues conditions
   stand i leaf h =
       let s = first_stand (leaves device) owns issues values i leaf h in
-      record { own = s.own; issued = s.issued; condition = first_of leaf.kind; own_is = s.own_is; issued_is = s.issued_is; condition_is = remembers i leaf h; stores = s.stores; fits = first_fits leaf.kind }
+      record { own = s.own; issued = s.issued; condition = first_of stamp leaf.kind; own_is = s.own_is; issued_is = s.issued_is; condition_is = remembers i leaf h; stores = s.stores; fits = first_fits stamp leaf.kind }
 
   armed : AreArmed (machine_of (session_of program r)).store (leaves device) r.timers.armed
-  armed = subst (AreArmed (machine_of (session_of program r)).store (leaves device)) (sym rest.armed) (subst (λ (s : Store). AreArmed s (leaves device) []) (sym store_is) (none_armed (leaves device) (leaves device)))
+  armed = subst (AreArmed (machine_of (session_of program r)).store (leaves device)) (sym rest.armed) (subst (λ (s : Store). AreArmed s (leaves device) []) (sym store_is) (none_armed (stamped_of stamp) (leaves device) (leaves device)))
 
   is_program : IsProgram program r
   is_program = record {
@@ -280,10 +295,10 @@ module _ (v : Verified) (k : ℕ) (t : Tables) (first : FirstValues) (r : Runnin
     );
   }
 
-  pub good_at_first : IsGood program r
-  good_at_first = record {
+  pub good_at_first : IsStamp (stamped_of stamp) → begins < 2 ^ 64 → IsGood program r
+  good_at_first is early = record {
     program = is_program;
-    sound = sound;
+    sound = sound is;
     stand = stand;
     count = empty_count t.resources.items r.queues.items rest.queues;
     queues = λ n a h. empty_queue cert device t.resources.items n a are.resources (empty_at t.resources.items r.queues.items n a rest.queues h);
@@ -291,5 +306,5 @@ module _ (v : Verified) (k : ℕ) (t : Tables) (first : FirstValues) (r : Runnin
     timers = omega (arith, rest.timers, (block_count cert (leaves device) (map forms_of issues) (map forms_of owns) (map forms_of issues) t.blocks.items t.ports.items (leaves device) are.blocks).0);
     outbox = rest.outbox;
     wide = rest.wide;
-    next = subst (λ (o : Option ℕ). IfSome o (λ n. n < 2 ^ 64)) (sym rest.next) (omega arith);
+    next = subst (λ (o : Option ℕ). IfSome o (λ n. n < 2 ^ 64)) (sym rest.next) early;
   }

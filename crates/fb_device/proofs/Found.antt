@@ -2,6 +2,7 @@
 use Rattle.std.proofs.Common.{◌≡◌, ℕ, true, false, List, [], ◌∷◌, map, slice_get, Some, None, refl, sym, ◌∙◌, ap, subst, string_bytes}
 use Rattle.std.specs.List.{AllByRecursion}
 use Rattle.fb_model.specs.System.{Device}
+use Rattle.fb_model.specs.Messages.{Stamp}
 use Rattle.fb_arrive.specs.fb_state.fb_tables.fb_types.declared.typed.Device.{Device as RustDevice}
 use Rattle.fb_arrive.specs.fb_state.fb_tables.fb_types.Views.{device_of}
 use Rattle.fb_arrive.specs.fb_state.fb_tables.fb_check.declared.verified.Verified.{Verified}
@@ -9,10 +10,10 @@ use Rattle.fb_arrive.specs.fb_state.fb_tables.fb_check.declared.refusal.Refusal.
 use Rattle.fb_arrive.specs.fb_state.fb_tables.fb_check.Lookups.{is_same_path}
 use Rattle.fb_arrive.specs.fb_state.fb_tables.fb_check.Verdicts.{system_in, IsOfTexts, of_application}
 use Rattle.fb_device.specs.declared.refusal.Refusal.{Refusal}
-use Rattle.fb_device.specs.declared.refusal.Refusal.TheVariants.{Checked, NoDevice}
+use Rattle.fb_device.specs.declared.refusal.Refusal.TheVariants.{Checked, NoDevice, Limit}
 use Rattle.fb_arrive.specs.fb_state.Sessions.{Session}
 use Rattle.fb_device.specs.Refusals.{no_memory}
-use Rattle.fb_device.specs.Loads.{IsLoaded, IsLoadFault, IsThere, IsReadyOf, IsUnnamed, IsMissing}
+use Rattle.fb_device.specs.Loads.{IsLoaded, IsLoadFault, IsBeginFault, IsThere, IsReadyOf, IsUnnamed, IsMissing}
 use Rattle.fb_device.specs.Finding.{first_named}
 use Rattle.fb_arrive.proofs.of_fb_state.of_fb_chart.Lists.{all_got}
 use Rattle.fb_device.proofs.Finding.{none_named, one_named, unmapped, all_unmapped}
@@ -35,6 +36,7 @@ no_device_named v name h =
 pub missing_so : (v : Verified) (name : List ℕ) (f : Refusal) → AllByRecursion (λ (d : Device). is_same_path d.name name ≡ false) (system_in v).devices → IsUnnamed name f → IsMissing v name f
 missing_so v name (Checked checks.OutOfMemory) a h = tt
 missing_so v name (NoDevice shown) a h = (a, h)
+missing_so v name Limit a h = absurd h
 missing_so v name (Checked (checks.Text x)) a h = absurd h
 missing_so v name (Checked (checks.Typing x)) a h = absurd h
 missing_so v name (Checked (checks.Certificate x)) a h = absurd h
@@ -58,8 +60,8 @@ missing_memory v name f h = subst (IsMissing v name) (sym h) tt
 
 -- ---- over two texts
 
-pub loaded_so : (text certificate name : List ℕ) (v : Verified) (r : Session) → IsOfTexts text certificate v → IsReadyOf v name r → IsLoaded text certificate name r
-loaded_so text certificate name v r t h = record {
+pub loaded_so : (text certificate name : List ℕ) (first : ℕ) (stamp : Stamp) (v : Verified) (r : Session) → IsOfTexts text certificate v → IsReadyOf v name first stamp r → IsLoaded text certificate name first stamp r
+loaded_so text certificate name first stamp v r t h = record {
   texts = subst (IsOfTexts text certificate) (sym h.same) t;
   device = h.device;
   stands = ap (λ (w : Verified). slice_get (system_in w).devices r.number) h.same ∙ h.stands;
@@ -69,6 +71,7 @@ loaded_so text certificate name v r t h = record {
 
 pub fault_so : (text certificate name : List ℕ) (v : Verified) (f : Refusal) → IsOfTexts text certificate v → IsMissing v name f → IsLoadFault text certificate name f
 fault_so text certificate name v (Checked checks.OutOfMemory) t h = of_application tt
+fault_so text certificate name v Limit t h = absurd h
 fault_so text certificate name v (NoDevice shown) t h = (record { system = system_in v; system_is = t.system_is; unknown = h.0 }, h.1)
 fault_so text certificate name v (Checked (checks.Text x)) t h = absurd h
 fault_so text certificate name v (Checked (checks.Typing x)) t h = absurd h
@@ -92,6 +95,7 @@ none_there ds name k d a h t = (let f = all_got (λ (d : Device). is_same_path d
 
 pub memory_so : (v : Verified) (name : List ℕ) (f : Refusal) → IsThere (system_in v) name → IsMissing v name f → f ≡ no_memory
 memory_so v name (Checked checks.OutOfMemory) t h = refl
+memory_so v name Limit t h = absurd h
 memory_so v name (NoDevice shown) t h = absurd (none_there (system_in v).devices name t.0 t.1 h.0 t.2 t.3)
 memory_so v name (Checked (checks.Text x)) t h = absurd h
 memory_so v name (Checked (checks.Typing x)) t h = absurd h
@@ -109,3 +113,9 @@ memory_so v name (Checked (checks.UnknownChannel x)) t h = absurd h
 memory_so v name (Checked (checks.MissingChannel x)) t h = absurd h
 memory_so v name (Checked (checks.Far x)) t h = absurd h
 memory_so v name (Checked (checks.Channel x)) t h = absurd h
+
+-- what a refusal of the texts and the name says is so, whatever the device begins with
+pub begin_fault : (text certificate name : List ℕ) (first next : ℕ) (f : Refusal) → IsLoadFault text certificate name f → IsBeginFault text certificate name first next f
+begin_fault text certificate name first next (Checked refusal) h = h
+begin_fault text certificate name first next (NoDevice shown) h = h
+begin_fault text certificate name first next Limit h = absurd h

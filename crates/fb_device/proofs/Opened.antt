@@ -12,7 +12,7 @@ use Rattle.fb_arrive.specs.fb_state.st_exec.Cells.{Form, forms_of}
 use Rattle.fb_arrive.specs.fb_state.fb_chart.declared.table.Point.{Point}
 use Rattle.fb_arrive.specs.fb_state.fb_chart.declared.table.Block.{Block}
 use Rattle.fb_arrive.specs.fb_state.fb_tables.Views.{place_at}
-use Rattle.fb_arrive.specs.fb_state.fb_tables.Tables.{IsPoint}
+use Rattle.fb_arrive.specs.fb_state.fb_tables.Tables.{IsPoint, far_at}
 use Rattle.fb_arrive.specs.fb_state.fb_sched.declared.ticket.Ticket.{Ticket}
 use Rattle.fb_arrive.specs.fb_state.fb_sched.declared.reaction.Reaction.{Reaction}
 use Rattle.fb_arrive.specs.fb_state.fb_sched.Agenda.{Agenda, IsNew, IsOpen, slot_at, tickets_for}
@@ -25,11 +25,11 @@ use Rattle.fb_arrive.specs.fb_state.Sessions.{session_of}
 use Rattle.fb_arrive.specs.fb_state.Machines.{device_in, cert_in, queue_at, entries_in, machine_of}
 use Rattle.fb_arrive.specs.fb_state.Numbers.{event_at, steps_in, IsKnown}
 use Rattle.fb_arrive.specs.fb_state.Keeping.{IsQueue, IsGood}
-use Rattle.fb_arrive.proofs.of_fb_state.Blocks.{Known, known, is_known, steps_are}
+use Rattle.fb_arrive.proofs.of_fb_state.Blocks.{Known, known, is_known, steps_are, weighs}
 use Rattle.fb_arrive.proofs.of_fb_state.Lists.{same_at}
 use Rattle.fb_arrive.proofs.of_fb_state.Queued.{queue_here}
 use Rattle.fb_device.specs.declared.answer.Opening.{Opening}
-use Rattle.fb_device.specs.Openings.{IsOpeningIn}
+use Rattle.fb_device.specs.Openings.{far_in, IsOpeningIn}
 use Rattle.fb_device.specs.Answers.{IsOpening}
 
 -- the entries of these tickets, in the book
@@ -111,6 +111,12 @@ module _ (p : Program) (r : Running) (g : IsGood p r) where
       let event : event_at blocks point ≡ Some k.event = ap (λ (o : Option Block). elim o [ None ↦ None | Some x ↦ slice_get x.events.items point.event ]) k.at.stands ∙ k.event_stands in
       ap steps_in event ∙ steps_are cert all issues owns issues blocks p.tables.ports.items point k
 
+  far_here : (point : Point) → IsPoint all point → far_in (event_at blocks point) ≡ far_at cert (place_at all point)
+  far_here point is =
+      let k : Known cert all issues owns issues blocks p.tables.ports.items point = known_point point is in
+      let event : event_at blocks point ≡ Some k.event = ap (λ (o : Option Block). elim o [ None ↦ None | Some x ↦ slice_get x.events.items point.event ]) k.at.stands ∙ k.event_stands in
+      ap far_in event ∙ (weighs cert all issues owns issues blocks p.tables.ports.items point k).far ∙ ap (far_at cert) (sym k.place_is)
+
   open_here : (q : ℕ) (a : Agenda) → slice_get r.queues.items q ≡ Some a → (slot : ℕ) (k : Reaction) → slot_at a.slots slot ≡ Some k → headline.IsOpen (entries_in all (queue_at r.queues.items q)) k.cause (place_at all k.opening)
   open_here q a e slot k at =
       let h : IsQueue cert (device_in (session_of p r)) q a = g.queues q a e in
@@ -124,4 +130,5 @@ module _ (p : Program) (r : Running) (g : IsGood p r) where
         q,
         subst (λ (n : ℕ). headline.IsOpen (entries_in all (queue_at r.queues.items q)) n (place_at all k.opening)) cause (open_here q a stands slot k at),
         steps_here k.opening ((g.queues q a stands).placed.openings slot k at),
+        far_here k.opening ((g.queues q a stands).placed.openings slot k at),
       )

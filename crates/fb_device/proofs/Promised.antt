@@ -1,5 +1,6 @@
 -- What is promised of every state of a device, and runs whose answers are written to their places.
-use Rattle.std.proofs.Common.{◌≡◌, ℕ, ◌+◌, ◌<◌, ◌≤◌, List, [], ◌∷◌, ◌++◌, map, take, get_or, set, length, ap, ◌∙◌, subst, arith}
+use Rattle.std.proofs.Common.{◌≡◌, ℕ, ◌+◌, ◌<◌, ◌≤◌, List, [], ◌∷◌, ◌++◌, map, take, get_or, set, length, sym, ap, ◌∙◌, subst, arith}
+use Rattle.std.specs.List.{AllByRecursion}
 use Rattle.std.proofs.lemmas.List.{take_more, take_more_set, take_all, map-append}
 use Rattle.fb_model.specs.System.{Device}
 use Rattle.fb_model.specs.Certificates.{Certificate, DeviceHolds}
@@ -16,7 +17,8 @@ use Rattle.fb_arrive.specs.fb_state.Sessions.{Session, session_of}
 use Rattle.fb_model.specs.Wires.{leaves}
 use Rattle.fb_arrive.specs.fb_state.fb_tables.fb_check.declared.verified.Verified.{Verified}
 use Rattle.fb_arrive.specs.fb_state.fb_tables.fb_check.Verdicts.{system_in, certificate_in}
-use Rattle.fb_device.specs.Answers.{answer_of}
+use Rattle.fb_device.specs.Answers.{answer_of, HasPlace}
+use Rattle.fb_device.specs.declared.answer.Answer.{Answer as Reply}
 use Rattle.fb_arrive.specs.fb_state.Machines.{device_at, device_in, cert_in, machine_of}
 use Rattle.fb_arrive.specs.fb_state.Keeping.{IsGood}
 use Rattle.fb_device.specs.Promises.{IsBounded}
@@ -49,8 +51,23 @@ run_whole f g cert device xs ys k old new h l r =
     subst (λ (es : List Event). Run cert device old es (map g (take (length xs) ys)) new) es (subst (λ (n : ℕ). Run cert device old (map f (take k xs)) (map g (take n ys)) new) k_is r)
 
 -- two sessions of one program have one certificate and one device
-pub same_program : (s t : Session) (m n : Machine) (e : Event) (a : Rattle.fb_device.specs.declared.answer.Answer.Answer) → s.verified ≡ t.verified → s.number ≡ t.number
+pub same_program : (s t : Session) (m n : Machine) (e : Event) (a : Reply) → s.verified ≡ t.verified → s.number ≡ t.number
     → Happens (cert_in s) (device_in s) m e (answer_of (leaves (device_in s)) a) n → Happens (cert_in t) (device_in t) m e (answer_of (leaves (device_in t)) a) n
 same_program s t m n e a v k h =
     subst (λ (j : ℕ). Happens (certificate_in t.verified) (device_at (system_in t.verified).devices j) m e (answer_of (leaves (device_at (system_in t.verified).devices j)) a) n) k
     (subst (λ (w : Verified). Happens (certificate_in w) (device_at (system_in w).devices s.number) m e (answer_of (leaves (device_at (system_in w).devices s.number)) a) n) v h)
+
+-- ---- the events of answers that are written to their places
+
+all_more : {Y : Type 0} (P : Y → Type 0) (ys : List Y) (y : Y) → AllByRecursion P ys → P y → AllByRecursion P (ys ++ y ∷ [])
+all_more P [] y h p = (p, tt)
+all_more P (x ∷ xs) y h p = (h.0, all_more P xs y h.1 p)
+
+pub all_stored : {Y : Type 0} (P : Y → Type 0) (ys : List Y) (k : ℕ) (y : Y) → k < length ys → AllByRecursion P (take k ys) → P y → AllByRecursion P (take (k + 1) (set ys k y))
+all_stored P ys k y l h p = subst (AllByRecursion P) (sym (take_more_set ys k y l)) (all_more P (take k ys) y h p)
+
+-- two sessions of one program have the same events
+pub same_places : (s t : Session) (a : Reply) → s.verified ≡ t.verified → s.number ≡ t.number → HasPlace (leaves (device_in s)) a → HasPlace (leaves (device_in t)) a
+same_places s t a v k h =
+    subst (λ (j : ℕ). HasPlace (leaves (device_at (system_in t.verified).devices j)) a) k
+    (subst (λ (w : Verified). HasPlace (leaves (device_at (system_in w).devices s.number)) a) v h)

@@ -9,24 +9,26 @@ use Rattle.fb_model.specs.Ranges.{Range, CellsLie, LeafLies}
 use Rattle.fb_model.specs.Certificates.{Certificate, IsWired, DeviceHolds}
 use Rattle.fb_model.specs.Devices.{due, is_timer, silent}
 use Rattle.fb_model.specs.Headline.{IsSound}
+use Rattle.fb_model.specs.Messages.{Stamp, IsStamp}
+use Rattle.fb_model.proofs.Stamping.{first_stamps}
 use Rattle.fb_arrive.specs.fb_state.fb_timers.Expiry.{moment_of, AreArmed}
 
-first_store_at : (all : List Leaf) (path : Path) (leaf : Leaf) → leaf_at all path ≡ Some leaf → (first_store all path).cells ≡ first_cells leaf
-first_store_at [] path leaf h = cc
-first_store_at (k ∷ ks) path leaf h = go (path_eq k.path path) h (first_store_at ks path leaf)
+first_store_at : (stamp : Stamp) (all : List Leaf) (path : Path) (leaf : Leaf) → leaf_at all path ≡ Some leaf → (first_store stamp all path).cells ≡ first_cells leaf
+first_store_at stamp [] path leaf h = cc
+first_store_at stamp (k ∷ ks) path leaf h = go (path_eq k.path path) h (first_store_at stamp ks path leaf)
   where
-    go : (t : Bool) → cond t (Some k) (leaf_at ks path) ≡ Some leaf → (leaf_at ks path ≡ Some leaf → (first_store ks path).cells ≡ first_cells leaf)
-        → (cond t (record { cells = first_cells k; condition = first_condition k.kind }) (first_store ks path)).cells ≡ first_cells leaf
+    go : (t : Bool) → cond t (Some k) (leaf_at ks path) ≡ Some leaf → (leaf_at ks path ≡ Some leaf → (first_store stamp ks path).cells ≡ first_cells leaf)
+        → (cond t (record { cells = first_cells k; condition = first_condition stamp k.kind }) (first_store stamp ks path)).cells ≡ first_cells leaf
     go true f r = (let k_is : k ≡ leaf = cc in ap first_cells k_is)
     go false f r = r f
 
-first_lies : (ranges : List Range) (all ls : List Leaf) → AllByRecursion (IsWired all) ls → AllByRecursion (LeafLies ranges all) ls → AllByRecursion (λ leaf. CellsLie ranges leaf.path leaf.kind (first_store all leaf.path).cells) ls
-first_lies ranges all [] w l = tt
-first_lies ranges all (leaf ∷ rest) w l =
-    (subst (CellsLie ranges leaf.path leaf.kind) (sym (first_store_at all leaf.path leaf w.0.found)) l.0.starts, first_lies ranges all rest w.1 l.1)
+first_lies : (ranges : List Range) (stamp : Stamp) (all ls : List Leaf) → AllByRecursion (IsWired all) ls → AllByRecursion (LeafLies ranges all) ls → AllByRecursion (λ leaf. CellsLie ranges leaf.path leaf.kind (first_store stamp all leaf.path).cells) ls
+first_lies ranges stamp all [] w l = tt
+first_lies ranges stamp all (leaf ∷ rest) w l =
+    (subst (CellsLie ranges leaf.path leaf.kind) (sym (first_store_at stamp all leaf.path leaf w.0.found)) l.0.starts, first_lies ranges stamp all rest w.1 l.1)
 
-pub silent_sound : (cert : Certificate) (device : Device) → DeviceHolds cert device → (first : ℕ) → IsSound cert device (silent device first)
-silent_sound cert device holds first = record {
+pub silent_sound : (cert : Certificate) (device : Device) → DeviceHolds cert device → (first : ℕ) (stamp : Stamp) → IsStamp stamp → IsSound cert device (silent device first stamp)
+silent_sound cert device holds first stamp is = record {
   opening_of = λ c. at_place [] [];
   home_of = λ c. 0;
   entries = λ q. tt;
@@ -34,36 +36,37 @@ silent_sound cert device holds first = record {
   places = λ q c. omega arith;
   fresh = λ c l. refl;
   depth = λ q. omega arith;
-  lies = first_lies cert.ranges (leaves device) (leaves device) holds.wired holds.ranges;
+  lies = first_lies cert.ranges stamp (leaves device) (leaves device) holds.wired holds.ranges;
+  stamps = first_stamps stamp (leaves device) (leaves device) is holds.wired;
 }
 
 -- ---- no timer is armed
 
-never_due : (kind : Kind) → due (first_condition kind) ≡ None
-never_due (Charted block) = refl
-never_due (Serviced (Input number types)) = refl
-never_due (Serviced (Output number types)) = refl
-never_due (Serviced (Publish channel types)) = refl
-never_due (Serviced (Subscribe channel types)) = refl
-never_due (Serviced Delay) = refl
-never_due (Serviced Cycle) = refl
-never_due (Serviced Restart) = refl
+never_due : (stamp : Stamp) (kind : Kind) → due (first_condition stamp kind) ≡ None
+never_due stamp (Charted block) = refl
+never_due stamp (Serviced (Input number types)) = refl
+never_due stamp (Serviced (Output number types)) = refl
+never_due stamp (Serviced (Publish channel types)) = refl
+never_due stamp (Serviced (Subscribe channel types)) = refl
+never_due stamp (Serviced Delay) = refl
+never_due stamp (Serviced Cycle) = refl
+never_due stamp (Serviced Restart) = refl
 
-nothing_due : (ls : List Leaf) (p : Path) → due (first_store ls p).condition ≡ None
-nothing_due [] p = refl
-nothing_due (leaf ∷ rest) p = go (path_eq leaf.path p) (nothing_due rest p)
+nothing_due : (stamp : Stamp) (ls : List Leaf) (p : Path) → due (first_store stamp ls p).condition ≡ None
+nothing_due stamp [] p = refl
+nothing_due stamp (leaf ∷ rest) p = go (path_eq leaf.path p) (nothing_due stamp rest p)
   where
-    go : (b : Bool) → due (first_store rest p).condition ≡ None → due (cond b (record { cells = first_cells leaf; condition = first_condition leaf.kind }) (first_store rest p)).condition ≡ None
-    go true r = never_due leaf.kind
+    go : (b : Bool) → due (first_store stamp rest p).condition ≡ None → due (cond b (record { cells = first_cells leaf; condition = first_condition stamp leaf.kind }) (first_store stamp rest p)).condition ≡ None
+    go true r = never_due stamp leaf.kind
     go false r = r
 
-no_moment : (ls : List Leaf) (o : Option Leaf) → moment_of (first_store ls) o ≡ None
-no_moment ls None = refl
-no_moment ls (Some leaf) = go (is_timer leaf.kind) (nothing_due ls leaf.path)
+no_moment : (stamp : Stamp) (ls : List Leaf) (o : Option Leaf) → moment_of (first_store stamp ls) o ≡ None
+no_moment stamp ls None = refl
+no_moment stamp ls (Some leaf) = go (is_timer leaf.kind) (nothing_due stamp ls leaf.path)
   where
-    go : (b : Bool) → due (first_store ls leaf.path).condition ≡ None → cond b (due (first_store ls leaf.path).condition) None ≡ None
+    go : (b : Bool) → due (first_store stamp ls leaf.path).condition ≡ None → cond b (due (first_store stamp ls leaf.path).condition) None ≡ None
     go true r = r
     go false r = refl
 
-pub none_armed : (ls all : List Leaf) → AreArmed (first_store ls) all []
-none_armed ls all = λ k. sym (no_moment ls (slice_get all k))
+pub none_armed : (stamp : Stamp) (ls all : List Leaf) → AreArmed (first_store stamp ls) all []
+none_armed stamp ls all = λ k. sym (no_moment stamp ls (slice_get all k))

@@ -10,6 +10,7 @@ use Rattle.fb_model.specs.Devices.{Machine, steps_row, is_pending}
 use Rattle.fb_model.specs.Headline.{IsOpen}
 use Rattle.fb_arrive.specs.fb_state.fb_tables.fb_check.Lookups.{is_same_path}
 use Rattle.fb_arrive.specs.fb_state.fb_tables.Views.{place_at}
+use Rattle.fb_arrive.specs.fb_state.fb_tables.Tables.{far_at}
 use Rattle.fb_arrive.specs.Answers.{admission_of}
 use Rattle.fb_dispatch.specs.Answers.{turned_of, HasPoint}
 use Rattle.fb_device.specs.declared.answer.Opening.{Opening}
@@ -42,6 +43,7 @@ abbrev pub IsOpening : Certificate → List Leaf → Machine → ℕ → Option 
 IsOpening cert all m c None = (q : ℕ) → is_pending c (m.queues q) ≡ false
 IsOpening cert all m c (Some o) =
     (q : ℕ) × IsOpen (m.queues q) c (place_at all (record { block = o.block; event = o.event })) × (o.weight ≡ steps_row cert (place_at all (record { block = o.block; event = o.event })))
+    × (o.far ≡ far_at cert (place_at all (record { block = o.block; event = o.event })))
 
 -- a block and an event by their numbers
 pub record IsNamed (all : List Leaf) (block event : ℕ) (path name : List ℕ) : Type 0 where

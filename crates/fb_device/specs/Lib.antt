@@ -11,6 +11,7 @@ pub use Rattle.fb_dispatch.specs as fb_dispatch
 pub mod Refusals
 pub mod Answers
 pub mod Promises
+pub mod Silence
 pub mod Loads
 pub mod Openings
 pub mod Finding

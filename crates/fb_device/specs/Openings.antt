@@ -2,13 +2,19 @@
 use Rattle.std.specs.Prelude.{ℕ, ◌≡◌, List, Option, None, Some, slice_get}
 use Rattle.fb_arrive.specs.fb_state.fb_chart.declared.table.Point.{Point}
 use Rattle.fb_arrive.specs.fb_state.fb_chart.declared.table.Block.{Block}
+use Rattle.fb_arrive.specs.fb_state.fb_chart.declared.table.Event.{Event}
 use Rattle.fb_arrive.specs.fb_state.fb_sched.declared.reaction.Reaction.{Reaction}
 use Rattle.fb_arrive.specs.fb_state.fb_sched.Agenda.{Agenda, IsNew, IsReactionOf}
 use Rattle.fb_arrive.specs.fb_state.Numbers.{event_at, steps_in}
 use Rattle.fb_device.specs.declared.answer.Opening.{Opening}
 
+-- the steps of the FAR row of an event
+abbrev pub far_in : Option Event → Option ℕ
+far_in None = None
+far_in (Some e) = e.far
+
 abbrev pub opening_at : List Block → Point → Opening
-opening_at blocks p = record { block = p.block; event = p.event; weight = steps_in (event_at blocks p) }
+opening_at blocks p = record { block = p.block; event = p.event; weight = steps_in (event_at blocks p); far = far_in (event_at blocks p) }
 
 -- the cause is open in one of these queues with this opening, or in none
 abbrev pub IsOpeningIn : List Block → List Agenda → ℕ → Option Opening → Type 0

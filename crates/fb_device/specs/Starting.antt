@@ -7,6 +7,11 @@ use Rattle.fb_arrive.specs.fb_state.fb_tables.fb_check.Verdicts.{system_in}
 use Rattle.fb_arrive.specs.fb_state.fb_tables.fb_check.declared.verified.Verified.{Verified}
 use Rattle.fb_arrive.specs.fb_state.fb_chart.declared.table.Block.{Block}
 use Rattle.fb_arrive.specs.fb_state.fb_chart.Views.{kind_of}
+use Rattle.fb_words.specs.declared.format.Format.{Format}
+use Rattle.fb_words.specs.declared.format.Format.TheVariants.{First, Second}
+use Rattle.fb_wire.specs.declared.message.Stamp.{Stamp}
+use Rattle.fb_arrive.specs.fb_state.fb_serve.declared.standing.Stamps.{Stamps}
+use Rattle.fb_arrive.specs.fb_state.fb_serve.declared.standing.Stamps.TheVariants.{Unstamped, Upcoming, Latest}
 use Rattle.fb_arrive.specs.fb_state.fb_serve.declared.standing.Standing.TheVariants.{Closed, Quiet, Plain}
 use Rattle.fb_arrive.specs.fb_state.fb_tables.fb_first.First.{AreFirst}
 use Rattle.fb_arrive.specs.fb_state.fb_tables.fb_first.declared.first.FirstValues.{FirstValues}
@@ -17,16 +22,25 @@ use Rattle.fb_arrive.specs.fb_state.fb_turn.declared.memory.Condition.TheVariant
 use Rattle.fb_arrive.specs.fb_state.fb_sched.Agenda.{Agenda, IsAgenda}
 use Rattle.fb_arrive.specs.fb_state.declared.program.Running.{Running}
 
--- what a leaf remembers at first: a chart its initial state
-abbrev pub first_of : Kind → Condition
-first_of (Charted block) = State 0
-first_of (Serviced (Publish channel types)) = Service Closed
-first_of (Serviced (Subscribe channel types)) = Service Closed
-first_of (Serviced Delay) = Service Quiet
-first_of (Serviced Cycle) = Service Quiet
-first_of (Serviced (Input number types)) = Service Plain
-first_of (Serviced (Output number types)) = Service Plain
-first_of (Serviced Restart) = Service Plain
+-- what a PUBLISH and a SUBSCRIBE of a format keep at first
+abbrev pub upcoming_of : Stamp → Format → Stamps
+upcoming_of stamp First = Unstamped
+upcoming_of stamp Second = Upcoming stamp
+
+abbrev pub latest_of : Format → Stamps
+latest_of First = Unstamped
+latest_of Second = Latest (record { boot = 0; sequence = 0 })
+
+-- what a leaf remembers at first: a chart its initial state, a PUBLISH the stamp of its first message
+abbrev pub first_of : Stamp → Kind → Condition
+first_of stamp (Charted block) = State 0
+first_of stamp (Serviced (Publish channel types)) = Service (Closed (upcoming_of stamp channel.format))
+first_of stamp (Serviced (Subscribe channel types)) = Service (Closed (latest_of channel.format))
+first_of stamp (Serviced Delay) = Service Quiet
+first_of stamp (Serviced Cycle) = Service Quiet
+first_of stamp (Serviced (Input number types)) = Service Plain
+first_of stamp (Serviced (Output number types)) = Service Plain
+first_of stamp (Serviced Restart) = Service Plain
 
 -- an empty queue for each resource, with room for its depth
 abbrev pub AreEmpty : List Resource → List Agenda → Type 0
@@ -35,19 +49,20 @@ AreEmpty (x ∷ xs) (a ∷ as') = (a ≡ record { tickets = []; slots = []; room
 AreEmpty [] (a ∷ as') = ⊥
 AreEmpty (x ∷ xs) [] = ⊥
 
-pub record IsAtRest (t : Tables) (first : FirstValues) (r : Running) : Type 0 where
-  pub own : r.memory.own ≡ first.own
-  pub issued : r.memory.issued ≡ first.issued
-  pub conditions : r.memory.conditions.items ≡ map (λ (x : Block). first_of (kind_of x)) t.blocks.items
+-- a device of these tables with these values, before its first cause, and with the stamp of its first messages
+pub record IsAtRest (t : Tables) (values : FirstValues) (first : ℕ) (stamp : Stamp) (r : Running) : Type 0 where
+  pub own : r.memory.own ≡ values.own
+  pub issued : r.memory.issued ≡ values.issued
+  pub conditions : r.memory.conditions.items ≡ map (λ (x : Block). first_of stamp (kind_of x)) t.blocks.items
   pub queues : AreEmpty t.resources.items r.queues.items
   pub armed : r.timers.armed ≡ []
   pub timers : length t.blocks.items ≤ r.timers.room
   pub outbox : r.outbox.items ≡ []
   pub wide : AllByRecursion (λ (x : Resource). x.depth ≤ r.outbox.capacity) t.resources.items
   pub clock : r.clock ≡ 0
-  pub next : r.next ≡ Some 1
+  pub next : r.next ≡ Some first
 
 -- how a device of these tables stands at first, the one of this number in what was checked
-pub record IsFirst (v : Verified) (k : ℕ) (first : FirstValues) (t : Tables) (r : Running) : Type 0 where
-  pub values : (d : Device) → slice_get (system_in v).devices k ≡ Some d → AreFirst (leaves d) first.own.items first.issued.items
-  pub rest : IsAtRest t first r
+pub record IsFirst (v : Verified) (k first : ℕ) (stamp : Stamp) (values : FirstValues) (t : Tables) (r : Running) : Type 0 where
+  pub lies : (d : Device) → slice_get (system_in v).devices k ≡ Some d → AreFirst (leaves d) values.own.items values.issued.items
+  pub rest : IsAtRest t values first stamp r

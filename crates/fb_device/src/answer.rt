@@ -3,12 +3,13 @@
 use fb_arrive::Denied;
 use fb_dispatch::Turned;
 
-/// The arrival that opened a cause: its block and event by number, and the steps of its WEIGHT row.
+/// The arrival that opened a cause: its block and event by number, the steps of its WEIGHT row, and those of its FAR row where the certificate has REPEATS.
 #[derive(Clone, Copy)]
 pub struct Opening {
     pub block: u16,
     pub event: u16,
     pub weight: u64,
+    pub far: Option<u64>,
 }
 
 /// A call of a device.

@@ -1,14 +1,16 @@
 //! A device that runs.
 
 ghost use Rattle.std.specs.Prelude.{◌≡◌, ◌≤◌, length, map, take, drop, MatchOption};
-ghost use Rattle.fb_model.specs.Devices.{Happens, Offer, Deliver, Tick, Dispatch, Expired, Run, begun, silent};
+ghost use Rattle.std.specs.List.{AllByRecursion};
+ghost use Rattle.fb_model.specs.Devices.{Happens, Offer, Deliver, Tick, Dispatch, Expired, Run, begun};
 ghost use Rattle.fb_model.specs.Headline.{KeepsBounds, StaysWithinAll};
 ghost use Rattle.fb_model.specs.Wires.{leaves};
 ghost use Rattle.fb_arrive.specs.Answers.{admission_of};
 ghost use Rattle.fb_dispatch.specs.Answers.{turned_of, HasPoint};
 ghost use Rattle.fb_arrive.specs.fb_state.Machines.{device_in, cert_in, machine_of};
-ghost use Rattle.fb_device.specs.Answers.{answer_of, event_of, IsOpening, IsNamed, IsNoPoint, IsNumberOf, IsNoNumber};
+ghost use Rattle.fb_device.specs.Answers.{answer_of, event_of, HasPlace, IsOpening, IsNamed, IsNoPoint, IsNumberOf, IsNoNumber};
 ghost use Rattle.fb_device.specs.Promises.{IsBounded};
+ghost use Rattle.fb_device.specs.Silence.{IsSilent};
 
 use crate::answer::{Answer, Opening, Step};
 use crate::names::{name, opening, path, resource};
@@ -57,7 +59,7 @@ impl Device {
 
     // Admits every BEGIN of a device to which nothing has happened.
     pub(crate) fn begin(&mut self)
-        requires { machine_of self.old ≡ silent (device_in self.old) 1 }
+        requires { IsSilent self.old }
         ensures first { machine_of self.new ≡ begun (leaves (device_in self.old)) (machine_of self.old) }
         ensures bounded { IsBounded (cert_in self.old) (device_in self.old) (machine_of self.new) }
         ensures same { (self.new.verified ≡ self.old.verified) × (self.new.number ≡ self.old.number) }
@@ -109,6 +111,7 @@ impl Device {
     // One call, and its answer.
     fn serve(&mut self, step: &Step) -> Answer
         ensures step { Happens (cert_in self.old) (device_in self.old) (machine_of self.old) (event_of step.now) (answer_of (leaves (device_in self.old)) result) (machine_of self.new) }
+        ensures point { HasPlace (leaves (device_in self.old)) result }
         ensures same { (self.new.verified ≡ self.old.verified) × (self.new.number ≡ self.old.number) }
     {
         match step {
@@ -123,6 +126,7 @@ impl Device {
     /// queue passes its depth.
     pub fn run(&mut self, steps: &[Step], answers: &mut [Answer])
         requires { length steps.now ≤ length answers.old }
+        ensures points { AllByRecursion (HasPlace (leaves (device_in self.old))) (take (length steps.now) answers.new) }
         ensures run { Run (cert_in self.old) (device_in self.old) (machine_of self.old) (map event_of steps.now) (map (answer_of (leaves (device_in self.old))) (take (length steps.now) answers.new)) (machine_of self.new) }
         ensures bounds { KeepsBounds (cert_in self.old) (device_in self.old) (machine_of self.old) (map (answer_of (leaves (device_in self.old))) (take (length steps.now) answers.new)) (machine_of self.new) }
         ensures between { StaysWithinAll (cert_in self.old) (device_in self.old) (machine_of self.old) (map event_of steps.now) }

@@ -14,5 +14,5 @@ pub use fb_arrive::fb_state::fb_tables;
 pub use fb_arrive::fb_state::fb_turn::fb_chart::Values;
 pub use fb_arrive::fb_state::fb_turn::fb_serve::Effect;
 pub use fb_dispatch::{Ended, Ran, Turned};
-pub use loading::{Ready, load, load_checked};
+pub use loading::{Ready, load, load_boot, load_checked, load_from};
 pub use refusal::Refusal;

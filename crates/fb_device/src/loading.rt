@@ -1,15 +1,17 @@
 //! From texts to a device.
 
-ghost use Rattle.std.specs.Prelude.{◌≡◌, ◌≤◌, ◌<◌, List, map, string_bytes, length, Some, slice_get, IfOk, IfErr};
+ghost use Rattle.std.specs.Prelude.{ℕ, ◌≡◌, ◌≤◌, ◌<◌, true, false, List, map, string_bytes, length, Some, Err, slice_get, IfOk, IfErr};
 ghost use Rattle.std.specs.List.{AllByRecursion};
 ghost use Rattle.fb_model.specs.Spelling.{text_limit};
 ghost use Rattle.fb_model.specs.System.{System, Device as book};
 ghost use Rattle.fb_model.specs.Declarations.{SourceTree};
 ghost use Rattle.fb_model.specs.Certificates as certs;
 ghost use Rattle.fb_model.specs.CertificateText.{Spells, most_characters};
+ghost use Rattle.fb_model.specs.Messages as messages;
 ghost use Rattle.fb_model.specs.EventBlocks.{Elaborates};
 ghost use Rattle.fb_model.specs.Wires.{leaves};
-ghost use Rattle.fb_model.specs.Devices.{begun, silent};
+ghost use Rattle.fb_model.specs.Devices.{at_first, begun, first_stamp, silent};
+ghost use Rattle.fb_wire.specs.Views.{stamped_of};
 ghost use Rattle.fb_arrive.specs.fb_state.st_exec.Cells.{Form, forms_of};
 ghost use Rattle.fb_arrive.specs.fb_state.fb_chart.Views.{body_kind, kind_of};
 ghost use Rattle.fb_arrive.specs.fb_state.fb_tables.fb_first.First.{AreFirst};
@@ -19,9 +21,11 @@ ghost use Rattle.fb_arrive.specs.fb_state.fb_tables.Tables.{AreTables};
 ghost use Rattle.fb_arrive.specs.fb_state.Machines.{device_in, cert_in, machine_of};
 ghost use Rattle.fb_device.specs.Promises.{IsBounded};
 ghost use Rattle.fb_device.specs.Refusals.{no_memory};
+ghost use Rattle.fb_device.specs.Silence.{last_first, IsWithin};
+ghost use Rattle.fb_device.specs.declared.refusal.Refusal.TheVariants.{Limit};
 ghost use Rattle.fb_device.specs.Finding.{first_named};
-ghost use Rattle.fb_device.specs.Starting.{first_of, AreEmpty, IsAtRest, IsFirst};
-ghost use Rattle.fb_device.specs.Loads.{IsLoaded, IsLoadFault, IsThere, IsReadyOf, IsMissing, IsUnnamed};
+ghost use Rattle.fb_device.specs.Starting.{upcoming_of, latest_of, first_of, AreEmpty, IsAtRest, IsFirst};
+ghost use Rattle.fb_device.specs.Loads.{IsLoaded, IsLoadFault, IsBeginFault, IsThere, IsReadyOf, IsMissing, IsUnnamed};
 
 use crate::device::Device;
 use crate::names::is_same;
@@ -32,12 +36,23 @@ use fb_arrive::fb_state::fb_tables::fb_first::{FirstValues, first_values};
 use fb_arrive::fb_state::fb_tables::{Resource, Tables, fb_check, tables};
 use fb_arrive::fb_state::fb_timers::Timers;
 use fb_arrive::fb_state::fb_turn::fb_chart::{Block, Body};
-use fb_arrive::fb_state::fb_turn::fb_serve::Standing;
+use fb_arrive::fb_state::fb_turn::fb_serve::{Stamps, Standing};
 use fb_arrive::fb_state::fb_turn::{Condition, Memory};
 use fb_arrive::fb_state::{Program, Running};
 use fb_services::Service;
+use fb_wire::Stamp;
+use fb_words::Format;
 use std::alloc::{AllocError, Global};
 use std::marker::Model;
+
+// No device begins with a later cause, so that there are numbers for all that begin.
+const LAST_FIRST: u64 = 18446744073709535000;
+
+// The stamp of the first messages of a device of which no boot is told.
+const FIRST_STAMP: Stamp = Stamp {
+    boot: 0,
+    sequence: 1,
+};
 
 /// A device that is loaded and not started yet. Contracts see it as the device's session, in which nothing has happened.
 #[derive(Drop)]
@@ -46,12 +61,10 @@ pub struct Ready {
 }
 
 impl Model for Ready {
-    ghost use Rattle.std.specs.Prelude.{◌≡◌};
     ghost use Rattle.std.specs.Coded.{codes};
-    ghost use Rattle.fb_model.specs.Devices.{silent};
     ghost use Rattle.fb_arrive.specs.fb_state.fb_tables.fb_check.contracts.verified.Verified as checked;
     ghost use Rattle.fb_arrive.specs.fb_state.Sessions.{Session};
-    ghost use Rattle.fb_arrive.specs.fb_state.Machines.{device_in, machine_of};
+    ghost use Rattle.fb_device.specs.Silence.{IsSilent};
 
     ghost Value = { Session };
 
@@ -59,13 +72,14 @@ impl Model for Ready {
 
     ghost view = { λ r. r.device };
 
-    ghost invariant = { λ r. machine_of r.device ≡ silent (device_in r.device) 1 };
+    ghost invariant = { λ r. IsSilent r.device };
 }
 
 impl Ready {
     /// Starts the device: every BEGIN is admitted, in resource and block order.
     pub fn start(self) -> Device
-        ensures first { machine_of result ≡ begun (leaves (device_in self)) (machine_of self) }
+        ensures begun { machine_of result ≡ begun (leaves (device_in self)) (machine_of self) }
+        ensures first { (first : ℕ) (stamp : messages.Stamp) → machine_of self ≡ silent (device_in self) first stamp → machine_of result ≡ at_first (device_in self) first stamp }
         ensures bounded { IsBounded (cert_in result) (device_in result) (machine_of result) }
         ensures same { (result.verified ≡ self.verified) × (result.number ≡ self.number) }
     {
@@ -110,14 +124,41 @@ fn greatest(resources: &[Resource]) -> usize
     greatest
 }
 
+// What a PUBLISH keeps at first.
+fn first_upcoming(stamp: Stamp, format: Format) -> Stamps
+    ensures { result ≡ upcoming_of stamp format }
+{
+    match format {
+        Format::First => Stamps::Unstamped,
+        Format::Second => Stamps::Upcoming(stamp),
+    }
+}
+
+// What a SUBSCRIBE keeps at first.
+fn first_latest(format: Format) -> Stamps
+    ensures { result ≡ latest_of format }
+{
+    match format {
+        Format::First => Stamps::Unstamped,
+        Format::Second => Stamps::Latest(Stamp {
+            boot: 0,
+            sequence: 0,
+        }),
+    }
+}
+
 // What a block remembers at first.
-fn first_condition(body: &Body) -> Condition
-    ensures { result ≡ first_of (body_kind body.now) }
+fn first_condition(stamp: Stamp, body: &Body) -> Condition
+    ensures { result ≡ first_of stamp (body_kind body.now) }
 {
     match body {
         Body::Chart(_) => Condition::State(0),
-        Body::Served(Service::Publish(_, _)) => Condition::Service(Standing::Closed),
-        Body::Served(Service::Subscribe(_, _)) => Condition::Service(Standing::Closed),
+        Body::Served(Service::Publish(channel, _)) => {
+            Condition::Service(Standing::Closed(first_upcoming(stamp, channel.format)))
+        }
+        Body::Served(Service::Subscribe(channel, _)) => {
+            Condition::Service(Standing::Closed(first_latest(channel.format)))
+        }
         Body::Served(Service::Delay) => Condition::Service(Standing::Quiet),
         Body::Served(Service::Cycle) => Condition::Service(Standing::Quiet),
         Body::Served(_) => Condition::Service(Standing::Plain),
@@ -125,47 +166,59 @@ fn first_condition(body: &Body) -> Condition
 }
 
 // What each block remembers at first.
-fn conditions(alloc: Global, blocks: &[Block]) -> Result<Vec<Condition>, AllocError>
-    ensures { IfOk result (λ v. v.items ≡ map (λ (x : _). first_of (kind_of x)) blocks.now) }
+fn conditions(alloc: Global, stamp: Stamp, blocks: &[Block]) -> Result<Vec<Condition>, AllocError>
+    ensures { IfOk result (λ v. v.items ≡ map (λ (x : _). first_of stamp (kind_of x)) blocks.now) }
 {
     let mut conditions = Vec::new(alloc);
     for block in blocks {
-        conditions.push(first_condition(&block.body))?;
+        conditions.push(first_condition(stamp, &block.body))?;
     }
     Ok(conditions)
 }
 
 // A device to which nothing has happened, with all the room that it will take.
-fn at_rest(alloc: Global, tables: &Tables, first: FirstValues) -> Result<Running, AllocError>
-    ensures { IfOk result (IsAtRest tables.now first) }
+fn at_rest(
+    alloc: Global,
+    tables: &Tables,
+    values: FirstValues,
+    first: u64,
+    stamp: Stamp,
+) -> Result<Running, AllocError>
+    ensures { IfOk result (IsAtRest tables.now values first stamp) }
 {
     let queues = queues(alloc, &tables.resources)?;
-    let conditions = conditions(alloc, &tables.blocks)?;
+    let conditions = conditions(alloc, stamp, &tables.blocks)?;
     let timers = Timers::new(alloc, tables.blocks.len())?;
     let outbox = Outbox::new(alloc, greatest(&tables.resources))?;
     Ok(Running {
         queues,
         memory: Memory {
-            own: first.own,
-            issued: first.issued,
+            own: values.own,
+            issued: values.issued,
             conditions,
         },
         timers,
         outbox,
         clock: 0,
-        next: Some(1),
+        next: Some(first),
     })
 }
 
 // The tables of a device, and how it stands at first.
-fn made(alloc: Global, verified: &Verified, number: usize) -> Result<(Tables, Running), AllocError>
+fn made(
+    alloc: Global,
+    verified: &Verified,
+    number: usize,
+    first: u64,
+    stamp: Stamp,
+) -> Result<(Tables, Running), AllocError>
     requires within { number < length (system_in verified.now).devices }
     ensures tables { (d : book) → slice_get (system_in verified.now).devices number ≡ Some d → IfOk result (λ p. AreTables (certificate_in verified.now) d (map forms_of p.1.memory.own.items) (map forms_of p.1.memory.issued.items) p.0) }
-    ensures first { IfOk result (λ p. (first : _) × IsFirst verified.now number first p.0 p.1) }
+    ensures first { IfOk result (λ p. (values : _) × IsFirst verified.now number first stamp values p.0 p.1) }
 {
-    let first = first_values(alloc, verified, number)?;
-    let tables = tables(alloc, verified, number, &first)?;
-    match at_rest(alloc, &tables, first) {
+    let values = first_values(alloc, verified, number)?;
+    let tables = tables(alloc, verified, number, &values)?;
+    match at_rest(alloc, &tables, values, first, stamp) {
         Ok(running) => Ok((tables, running)),
         Err(error) => {
             tables.let_go();
@@ -174,16 +227,21 @@ fn made(alloc: Global, verified: &Verified, number: usize) -> Result<(Tables, Ru
     }
 }
 
-/// Loads the device of this number, counted from 0, of what was checked. Its first cause is 1.
-///
-/// Refused only where memory runs out.
-pub fn load_checked(alloc: Global, verified: Verified, number: usize) -> Result<Ready, Refusal>
+// The device of a number of what was checked, which begins with this cause and this stamp.
+fn ready(
+    alloc: Global,
+    verified: Verified,
+    number: usize,
+    first: u64,
+    stamp: Stamp,
+) -> Result<Ready, Refusal>
     requires within { number < length (system_in verified).devices }
-    ensures ready { IfOk result (λ r. (r.verified ≡ verified) × (r.number ≡ number) × (machine_of r ≡ silent (device_in r) 1)) }
+    requires early { first ≤ last_first }
+    ensures ready { IfOk result (λ r. (r.verified ≡ verified) × (r.number ≡ number) × (machine_of r ≡ silent (device_in r) first (stamped_of stamp))) }
     ensures refused { IfErr result (λ f. f ≡ no_memory) }
 {
     verified.fits();
-    match made(alloc, &verified, number) {
+    match made(alloc, &verified, number, first, stamp) {
         Ok((tables, running)) => {
             let program = Program {
                 verified,
@@ -201,6 +259,18 @@ pub fn load_checked(alloc: Global, verified: Verified, number: usize) -> Result<
     }
 }
 
+/// Loads the device of this number, counted from 0, of what was checked. Its first cause is 1, and its first messages are stamped with the boot 0 and the
+/// sequence number 1.
+///
+/// Refused only where memory runs out.
+pub fn load_checked(alloc: Global, verified: Verified, number: usize) -> Result<Ready, Refusal>
+    requires within { number < length (system_in verified).devices }
+    ensures ready { IfOk result (λ r. (r.verified ≡ verified) × (r.number ≡ number) × (machine_of r ≡ silent (device_in r) 1 first_stamp)) }
+    ensures refused { IfErr result (λ f. f ≡ no_memory) }
+{
+    ready(alloc, verified, number, 1, FIRST_STAMP)
+}
+
 // The refusal that names a device in upper case.
 fn no_device(alloc: Global, device: &str) -> Refusal
     ensures { IsUnnamed device.now result }
@@ -215,12 +285,19 @@ fn no_device(alloc: Global, device: &str) -> Refusal
 }
 
 // The device of a name, where there is one.
-fn made_ready(alloc: Global, verified: Verified, device: &str) -> Result<Ready, Refusal>
-    ensures ready { IfOk result (IsReadyOf verified device.now) }
+fn made_ready(
+    alloc: Global,
+    verified: Verified,
+    device: &str,
+    first: u64,
+    stamp: Stamp,
+) -> Result<Ready, Refusal>
+    requires { first ≤ last_first }
+    ensures ready { IfOk result (IsReadyOf verified device.now first (stamped_of stamp)) }
     ensures refused { IfErr result (IsMissing verified device.now) }
 {
     match device_named(&verified, device) {
-        Some(number) => load_checked(alloc, verified, number),
+        Some(number) => ready(alloc, verified, number, first, stamp),
         None => {
             verified.let_go();
             Err(no_device(alloc, device))
@@ -228,11 +305,25 @@ fn made_ready(alloc: Global, verified: Verified, device: &str) -> Result<Ready, 
     }
 }
 
-/// Loads the device of a name, whose first cause is 1. Letter case has no meaning in the name.
-///
-/// Refused as [`check_text`](fb_check::check_text) refuses, and with `NoDevice` where the text has no such device.
-pub fn load(alloc: Global, text: &str, certificate: &str, device: &str) -> Result<Ready, Refusal>
-    ensures loaded { IfOk result (IsLoaded text.now certificate.now device.now) }
+// Whether a device may begin with this cause and this sequence number.
+fn is_within(first: u64, next: u32) -> bool
+    ensures yes { result ≡ true → IsWithin first next }
+    ensures no { result ≡ false → IsWithin first next → ⊥ }
+{
+    first <= LAST_FIRST && next > 0
+}
+
+// The device of a name in two texts, which begins with this cause and this stamp.
+fn loaded(
+    alloc: Global,
+    text: &str,
+    certificate: &str,
+    device: &str,
+    first: u64,
+    stamp: Stamp,
+) -> Result<Ready, Refusal>
+    requires { first ≤ last_first }
+    ensures loaded { IfOk result (IsLoaded text.now certificate.now device.now first (stamped_of stamp)) }
     ensures within { IfOk result (λ d. (length text.now ≤ text_limit) × (length certificate.now ≤ most_characters)) }
     ensures refused { IfErr result (IsLoadFault text.now certificate.now device.now) }
     ensures accepts { (source : SourceTree) (system : System) (rows : certs.Certificate) → length text.now ≤ text_limit → length certificate.now ≤ most_characters
@@ -240,7 +331,74 @@ pub fn load(alloc: Global, text: &str, certificate: &str, device: &str) -> Resul
         → ((s : System) → IsSystemOf text.now s → IsThere s device.now) → IfErr result (λ f. f ≡ no_memory) }
 {
     match check_text(alloc, text, certificate) {
-        Ok(verified) => made_ready(alloc, verified, device),
+        Ok(verified) => made_ready(alloc, verified, device, first, stamp),
         Err(refusal) => Err(Refusal::Checked(refusal)),
     }
+}
+
+/// Loads the device of a name. Its first cause is 1, and its first messages are stamped with the boot 0 and the sequence number 1. Letter case has no meaning
+/// in the name.
+///
+/// Refused as [`check_text`](fb_check::check_text) refuses, and with `NoDevice` where the text has no such device.
+pub fn load(alloc: Global, text: &str, certificate: &str, device: &str) -> Result<Ready, Refusal>
+    ensures loaded { IfOk result (IsLoaded text.now certificate.now device.now 1 first_stamp) }
+    ensures within { IfOk result (λ d. (length text.now ≤ text_limit) × (length certificate.now ≤ most_characters)) }
+    ensures refused { IfErr result (IsLoadFault text.now certificate.now device.now) }
+    ensures accepts { (source : SourceTree) (system : System) (rows : certs.Certificate) → length text.now ≤ text_limit → length certificate.now ≤ most_characters
+        → IsSource text.now source → Elaborates source system → Spells certificate.now rows → certs.Fits system rows
+        → ((s : System) → IsSystemOf text.now s → IsThere s device.now) → IfErr result (λ f. f ≡ no_memory) }
+{
+    loaded(alloc, text, certificate, device, 1, FIRST_STAMP)
+}
+
+/// Loads the device of a name as [`load`] does, with another first cause.
+///
+/// Refused as `load` refuses, and with `Limit` just where the first cause is above 18446744073709535000.
+pub fn load_from(
+    alloc: Global,
+    text: &str,
+    certificate: &str,
+    device: &str,
+    first: u64,
+) -> Result<Ready, Refusal>
+    ensures loaded { IfOk result (IsLoaded text.now certificate.now device.now first first_stamp) }
+    ensures within { IfOk result (λ d. (length text.now ≤ text_limit) × (length certificate.now ≤ most_characters)) }
+    ensures refused { IfErr result (IsBeginFault text.now certificate.now device.now first 1) }
+    ensures limit { (IsWithin first 1 → ⊥) → result ≡ Err Limit }
+    ensures accepts { IsWithin first 1 → (source : SourceTree) (system : System) (rows : certs.Certificate) → length text.now ≤ text_limit → length certificate.now ≤ most_characters
+        → IsSource text.now source → Elaborates source system → Spells certificate.now rows → certs.Fits system rows
+        → ((s : System) → IsSystemOf text.now s → IsThere s device.now) → IfErr result (λ f. f ≡ no_memory) }
+{
+    load_boot(alloc, text, certificate, device, first, 0, 1)
+}
+
+/// Loads the device of a name as [`load`] does, with another first cause, and with the boot and the sequence number of its first messages: each PUBLISH of
+/// format 2 begins with both.
+///
+/// Refused as `load` refuses, and with `Limit` just where the first cause is above 18446744073709535000 or the sequence number is 0.
+pub fn load_boot(
+    alloc: Global,
+    text: &str,
+    certificate: &str,
+    device: &str,
+    first: u64,
+    boot: u32,
+    next: u32,
+) -> Result<Ready, Refusal>
+    ensures loaded { IfOk result (IsLoaded text.now certificate.now device.now first (record { boot = boot; sequence = next })) }
+    ensures within { IfOk result (λ d. (length text.now ≤ text_limit) × (length certificate.now ≤ most_characters)) }
+    ensures refused { IfErr result (IsBeginFault text.now certificate.now device.now first next) }
+    ensures limit { (IsWithin first next → ⊥) → result ≡ Err Limit }
+    ensures accepts { IsWithin first next → (source : SourceTree) (system : System) (rows : certs.Certificate) → length text.now ≤ text_limit → length certificate.now ≤ most_characters
+        → IsSource text.now source → Elaborates source system → Spells certificate.now rows → certs.Fits system rows
+        → ((s : System) → IsSystemOf text.now s → IsThere s device.now) → IfErr result (λ f. f ≡ no_memory) }
+{
+    if !is_within(first, next) {
+        return Err(Refusal::Limit);
+    }
+    let stamp = Stamp {
+        boot,
+        sequence: next,
+    };
+    loaded(alloc, text, certificate, device, first, stamp)
 }

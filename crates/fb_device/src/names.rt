@@ -12,10 +12,10 @@ ghost use Rattle.fb_arrive.specs.fb_state.fb_tables.Tables.{AreBlocks};
 ghost use Rattle.fb_arrive.specs.fb_state.fb_sched.declared.reaction.Reaction.{Reaction};
 ghost use Rattle.fb_arrive.specs.fb_state.fb_sched.Agenda.{Agenda, slot_at};
 ghost use Rattle.fb_arrive.specs.fb_state.Machines.{device_at};
-ghost use Rattle.fb_arrive.specs.fb_state.Numbers.{event_at, steps_in, IsKnown};
+ghost use Rattle.fb_arrive.specs.fb_state.Numbers.{IsKnown};
 ghost use Rattle.fb_device.specs.Answers.{IsNamed, IsNoPoint};
 ghost use Rattle.fb_device.specs.Finding.{first_named};
-ghost use Rattle.fb_device.specs.Openings.{IsOpeningIn};
+ghost use Rattle.fb_device.specs.Openings.{opening_at, IsOpeningIn};
 
 use crate::answer::Opening;
 use fb_arrive::fb_state::Program;
@@ -69,12 +69,18 @@ pub fn resource(resources: &[Resource], name: &str) -> Option<u16>
     None
 }
 
-// The steps of a point's WEIGHT row.
-fn steps_at(blocks: &[Block], point: Point) -> u64
+// An arrival with the numbers of its rows.
+fn arrival(blocks: &[Block], point: Point) -> Opening
     requires { IsKnown blocks.now point }
-    ensures { result ≡ steps_in (event_at blocks.now point) }
+    ensures { result ≡ opening_at blocks.now point }
 {
-    blocks[point.block as usize].events[point.event as usize].steps
+    let event = &blocks[point.block as usize].events[point.event as usize];
+    Opening {
+        block: point.block,
+        event: point.event,
+        weight: event.steps,
+        far: event.far,
+    }
 }
 
 /// The arrival that opened a cause which has not ended.
@@ -84,12 +90,7 @@ pub fn opening(blocks: &[Block], queues: &[Queue], cause: u64) -> Option<Opening
 {
     for queue in queues {
         if let Some(reaction) = queue.find(cause) {
-            let point = reaction.opening;
-            return Some(Opening {
-                block: point.block,
-                event: point.event,
-                weight: steps_at(blocks, point),
-            });
+            return Some(arrival(blocks, reaction.opening));
         }
     }
     None

@@ -12,6 +12,8 @@ pub enum Refusal {
     Checked(fb_arrive::fb_state::fb_tables::fb_check::Refusal),
     /// The system has no device of this name, in upper case. Code 21.
     NoDevice(String),
+    /// The first cause number is above 18446744073709535000, or the first sequence number is 0. Code 19, without a place.
+    Limit,
 }
 
 impl Refusal {
@@ -24,6 +26,7 @@ impl Refusal {
         match self {
             Refusal::Checked(refusal) => refusal.code(),
             Refusal::NoDevice(_) => 21,
+            Refusal::Limit => 19,
         }
     }
 }
@@ -39,6 +42,7 @@ impl fmt::Display for Refusal {
         match self {
             Refusal::Checked(refusal) => write!(f, "{refusal}"),
             Refusal::NoDevice(name) => write!(f, "21 {name}"),
+            Refusal::Limit => write!(f, "19"),
         }
     }
 }

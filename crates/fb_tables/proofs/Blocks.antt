@@ -38,7 +38,7 @@ use Rattle.fb_serve.specs.declared.standing.Ports.{Ports}
 use Rattle.fb_serve.specs.Ports.{ServesPorts}
 use Rattle.fb_first.proofs.of_fb_check.of_fb_flat.Few.{IsSmallKind}
 use Rattle.fb_tables.specs.Filling as made
-use Rattle.fb_tables.specs.Tables.{IsWeighed, IsTaken, IsBlock, AreBlocks}
+use Rattle.fb_tables.specs.Tables.{far_at, IsWeighed, IsTaken, IsBlock, AreBlocks}
 use Rattle.fb_tables.specs.Filling.{Seated, paths_of, events_with, IsTakeMade, IsRowMade, IsEventMade, IsOutputMade, IsBodyMade, IsBlockMade, IsPortsMade}
 use Rattle.fb_tables.proofs.Lists.{each_map, each_weaker, each_same, each_second}
 use Rattle.fb_tables.proofs.Leaves.{IsSeated}
@@ -66,7 +66,11 @@ place_dotted path x h =
 weighed : (rows : Certificate) (path x : Name) (e : Event) → IsWord x → IsRowMade rows path x e → IsWeighed (certificate_of rows) (names_in path) e
 weighed rows path x e w m =
     let place : place_of (dotted path x) ≡ at_place (names_in path) (string_bytes e.name) = place_dotted path x w ∙ ap (at_place (names_in path)) (sym m.name) in
-    record { steps = m.steps ∙ ap (steps_row (certificate_of rows)) place; places = m.places ∙ ap (places_row (certificate_of rows)) place }
+    record {
+      steps = m.steps ∙ ap (steps_row (certificate_of rows)) place;
+      places = m.places ∙ ap (places_row (certificate_of rows)) place;
+      far = m.far ∙ ap (far_at (certificate_of rows)) place;
+    }
 
 events_named : (rows : Certificate) (paths : List Name) (all : List Seated) (l : Seated) (vs : List book.Event) (es : List Event) → Each (IsEventMade rows paths all l) vs es → map (λ (e : Event). string_bytes e.name) es ≡ event_names_of vs
 events_named rows paths all l [] [] h = refl

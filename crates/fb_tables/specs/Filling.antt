@@ -59,6 +59,7 @@ use Rattle.fb_chart.specs.declared.table.Body.TheVariants as b
 use Rattle.fb_chart.specs.declared.table.Block.{Block}
 use Rattle.fb_chart.specs.Views.{given_by}
 use Rattle.fb_chart.specs.Tables.{Each, IsAlgorithm, IsCode, IsPlacedOutput}
+use Rattle.fb_tables.specs.Tables.{far_at}
 use Rattle.fb_chart.specs.Sampling.{count_among, IsPlacedGive}
 use Rattle.fb_serve.specs.declared.standing.Ports.{Ports}
 use Rattle.fb_serve.specs.Ports.{ServesPorts}
@@ -244,11 +245,12 @@ abbrev pub events_with : Kind → List book.Event
 events_with (Charted block) = block.event_inputs
 events_with (Serviced service) = map (served_with service) (service_events service)
 
--- an event of a path with the numbers of the row at both
+-- an event of a path with the numbers of the rows at both
 pub record IsRowMade (cert : rows.Certificate) (path x : Name) (e : Event) : Type 0 where
   pub name : string_bytes e.name ≡ x
   pub steps : e.steps ≡ steps_row (certificate_of cert) (place_of (dotted path x))
   pub places : e.places ≡ places_row (certificate_of cert) (place_of (dotted path x))
+  pub far : e.far ≡ far_at (certificate_of cert) (place_of (dotted path x))
 
 -- an event of a leaf with its row and the inputs that it is WITH
 pub record IsEventMade (cert : rows.Certificate) (paths : List Name) (all : List Seated) (l : Seated) (v : book.Event) (e : Event) : Type 0 where

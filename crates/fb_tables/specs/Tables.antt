@@ -2,14 +2,15 @@
 -- IEC 61499-1 edition 2, 5.2 (charts), 5.3 (instances and their connections), 6.1 (service interfaces) and 7 (devices and resources).
 use Rattle.std.specs.Prelude.{ℕ, ℤ, ◌≡◌, ◌<◌, ◌≤◌, ◌+◌, nat_eq, List, [], ◌∷◌, map, length, replicate, string_bytes, Option, None, Some, Bool, slice_get, if◌then◌else◌}
 use Rattle.std.specs.List.{AllByRecursion}
+use Rattle.std.specs.Option.{option_map}
 use Rattle.indexmap.specs.IndexMap.{IndexMap, get}
-use Rattle.fb_model.specs.Names.{Path, at_place}
+use Rattle.fb_model.specs.Names.{Path, Place, at_place}
 use Rattle.fb_model.specs.Values.{Value, One, Many}
 use Rattle.fb_model.specs.System as book
 use Rattle.fb_model.specs.Wires as wires
 use Rattle.fb_model.specs.Wires.{Kind, Leaf, leaves}
 use Rattle.fb_model.specs.CertificateText.{names_in}
-use Rattle.fb_model.specs.Certificates.{Certificate, events_of, depth_of}
+use Rattle.fb_model.specs.Certificates.{Certificate, events_of, depth_of, far_of}
 use Rattle.fb_model.specs.Devices.{steps_row, places_row, is_input_numbered, is_subscriber}
 use Rattle.fb_leaves.specs.Leaves.{AreApart}
 use Rattle.st_code.specs.Forms.{Form, slot_in}
@@ -37,10 +38,15 @@ pub record IsPoint (all : List Leaf) (p : Point) : Type 0 where
   pub block : slice_get all p.block ≡ Some leaf
   pub event : p.event < length (events_of leaf.kind)
 
--- an event has the numbers of its WEIGHT row
+-- the steps on all devices that a certificate with REPEATS tells of a point
+abbrev pub far_at : Certificate → Place → Option ℕ
+far_at cert place = option_map (λ r. (far_of cert).weight place) cert.repeats
+
+-- an event has the numbers of its WEIGHT row, and that of its FAR row
 pub record IsWeighed (cert : Certificate) (path : Path) (e : Event) : Type 0 where
   pub steps : e.steps ≡ steps_row cert (at_place path (string_bytes e.name))
   pub places : e.places ≡ places_row cert (at_place path (string_bytes e.name))
+  pub far : e.far ≡ far_at cert (at_place path (string_bytes e.name))
 
 -- an output leads where the leaf's does
 pub record LeadsTo (all : List Leaf) (leaf : Leaf) (o : Output) : Type 0 where

@@ -1,12 +1,14 @@
-//! Event inputs and arrivals with their WEIGHT rows and what they take.
+//! Event inputs and arrivals with their rows and what they take.
 
 ghost use Rattle.std.specs.Prelude.{◌≡◌, ◌++◌, [], ◌∷◌, map, string_bytes, IfOk, OnOk};
 ghost use Rattle.fb_model.specs.Wires.{Serviced};
-ghost use Rattle.fb_cert.specs.Views.{steps_in, places_in};
+ghost use Rattle.fb_model.specs.CertificateText.{place_of};
+ghost use Rattle.fb_cert.specs.Views.{certificate_of, steps_in, places_in};
 ghost use Rattle.fb_first.specs.fb_check.fb_blocks.Views.{names_of, events_of};
 ghost use Rattle.fb_first.specs.fb_check.fb_services.Views.{service_of, listed};
 ghost use Rattle.fb_first.specs.fb_check.fb_flat.Leaves.{kind_of};
 ghost use Rattle.fb_chart.specs.Tables.{Each};
+ghost use Rattle.fb_tables.specs.Tables.{far_at};
 ghost use Rattle.fb_tables.specs.Filling.{IsSmall, IsSmallKind, events_with, served_with, IsEventMade, IsArrivalMade, seat_of, seats_of};
 
 use crate::carry::taken;
@@ -34,7 +36,17 @@ fn amount(row: Option<Amount>) -> Amount
     }
 }
 
-// An event of a leaf with its WEIGHT row and the data inputs of these names.
+// The steps of the row FAR at a path, where the certificate has REPEATS.
+fn far(certificate: &Certificate, path: &str) -> Option<u64>
+    ensures { result ≡ far_at (certificate_of certificate.now) (place_of path.now) }
+{
+    match certificate.repeats() {
+        Some(_) => Some(certificate.far(path).unwrap_or(0)),
+        None => None,
+    }
+}
+
+// An event of a leaf with its rows and the data inputs of these names.
 fn event(
     alloc: Global,
     certificate: &Certificate,
@@ -49,10 +61,12 @@ fn event(
     let takes = takes(alloc, paths, seats, seat.own, &seat.leaf.inputs, carried)?;
     let row = joined(alloc, seat.leaf.path.as_str(), name)?;
     let weight = amount(certificate.weight(row.as_str()));
+    let far = far(certificate, row.as_str());
     Ok(Event {
         name: String::from_str(alloc, name)?,
         steps: weight.steps,
         places: weight.places,
+        far,
         takes,
     })
 }

@@ -11,7 +11,7 @@ returns-in-Ok-clause-tables c = λ d e.
     let own = ap (λ v. map forms_of v.items) c.in-Ok.ensures.own in
     let issued = ap (λ v. map forms_of v.items) c.in-Ok.ensures.issued in
     subst (λ (fs : List (List Form)). AreTables rows d fs (map forms_of c.in-Ok.running.memory.issued.items) tables) (sym own)
-    (subst (λ (fs : List (List Form)). AreTables rows d (map forms_of c.in_ok-first.first.own.items) fs tables) (sym issued) (c.in_ok-tables.ensures d e))
+    (subst (λ (fs : List (List Form)). AreTables rows d (map forms_of c.in_ok-values.values.own.items) fs tables) (sym issued) (c.in_ok-tables.ensures d e))
 
 pub returns-in-Ok-clause-first : goal.returns-in-Ok-clause-first
-returns-in-Ok-clause-first c = (c.in_ok-first.first, record { values = c.in_ok-first.ensures; rest = c.in-Ok.ensures })
+returns-in-Ok-clause-first c = (c.in_ok-values.values, record { lies = c.in_ok-values.ensures; rest = c.in-Ok.ensures })

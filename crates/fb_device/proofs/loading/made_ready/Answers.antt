@@ -3,6 +3,7 @@ use Rattle.std.proofs.Common.{sym, ◌∙◌, ap, slice_get, ◌≡◌}
 use Rattle.fb_arrive.specs.fb_state.fb_tables.fb_check.declared.verified.Verified.{Verified}
 use Rattle.fb_arrive.specs.fb_state.fb_tables.fb_check.Verdicts.{system_in}
 use Rattle.fb_model.specs.Devices.{silent}
+use Rattle.fb_wire.specs.Views.{stamped_of}
 use Rattle.fb_arrive.specs.fb_state.Machines.{device_in, device_at}
 use Rattle.fb_arrive.proofs.of_fb_state.Blocks.{within}
 use Rattle.fb_arrive.proofs.of_fb_state.Lists.{same_at}
@@ -10,17 +11,17 @@ use Rattle.fb_arrive.proofs.of_fb_state.Devices.{device_stands}
 use Rattle.fb_device.proofs.Found.{found_device, no_device_named, missing_so, missing_memory}
 use Rattle.fb_device.proofs.loading.made_ready.Goals as goal
 
-pub load_checked-requires : goal.load_checked-requires
-load_checked-requires c =
+pub ready-requires : goal.ready-requires
+ready-requires c =
     let f = found_device c.args.verified c.args.device.now c.in-Some.number (sym c.device_named.ensures ∙ c.in-Some.is) in
-    record { within = within (system_in c.args.verified).devices c.in-Some.number f.0 f.1 }
+    record { within = within (system_in c.args.verified).devices c.in-Some.number f.0 f.1; early = c.requires }
 
 pub returns-in-Some-clause-ready : goal.returns-in-Some-clause-ready
 returns-in-Some-clause-ready c =
     let f = found_device c.args.verified c.args.device.now c.in-Some.number (sym c.device_named.ensures ∙ c.in-Some.is) in
     let within_devices = within (system_in c.args.verified).devices c.in-Some.number f.0 f.1 in
     let device_is : device_at (system_in c.args.verified).devices c.in-Some.number ≡ f.0 = same_at (system_in c.args.verified).devices c.in-Some.number _ f.0 (device_stands (system_in c.args.verified).devices c.in-Some.number within_devices) f.1 in
-    IfOk-weaker c.load_checked.result _ _
+    IfOk-weaker c.ready.result _ _
     (λ r e.
     let here : device_in r ≡ device_at (system_in c.args.verified).devices c.in-Some.number =
     ap (λ (v : Verified). device_at (system_in v).devices r.number) e.0 ∙ ap (device_at (system_in c.args.verified).devices) e.1 in
@@ -29,12 +30,12 @@ returns-in-Some-clause-ready c =
       device = f.0;
       stands = ap (slice_get (system_in c.args.verified).devices) e.1 ∙ f.1;
       named = f.2;
-      silent = e.2 ∙ ap (λ d. silent d 1) (here ∙ device_is);
+      silent = e.2 ∙ ap (λ d. silent d c.args.first (stamped_of c.args.stamp)) (here ∙ device_is);
     })
-    c.load_checked.ensures.ready
+    c.ready.ensures.ready
 
 pub returns-in-None-clause-refused : goal.returns-in-None-clause-refused
 returns-in-None-clause-refused c = missing_so c.args.verified c.args.device.now c.no_device.result (no_device_named c.args.verified c.args.device.now (sym c.device_named.ensures ∙ c.in-None.is)) c.no_device.ensures
 
 pub returns-in-Some-clause-refused : goal.returns-in-Some-clause-refused
-returns-in-Some-clause-refused c = IfErr-weaker c.load_checked.result _ _ (λ e h. missing_memory c.args.verified c.args.device.now e h) c.load_checked.ensures.refused
+returns-in-Some-clause-refused c = IfErr-weaker c.ready.result _ _ (λ e h. missing_memory c.args.verified c.args.device.now e h) c.ready.ensures.refused

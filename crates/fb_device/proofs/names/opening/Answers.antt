@@ -1,17 +1,15 @@
-use Rattle.std.proofs.Common.{ℕ, ◌≡◌, Some, ap, sym, subst, arith}
+use Rattle.std.proofs.Common.{ℕ, ◌≡◌, Some, sym, subst, arith}
 use Rattle.fb_arrive.proofs.of_fb_state.of_fb_chart.Lists.{stands_at}
 use Rattle.fb_arrive.specs.fb_state.fb_sched.declared.reaction.Reaction.{Reaction}
 use Rattle.fb_arrive.specs.fb_state.fb_sched.Agenda.{Agenda, slot_at}
 use Rattle.fb_arrive.specs.fb_state.Numbers.{IsKnown}
 use Rattle.fb_arrive.proofs.of_fb_state.Blocks.{within}
 use Rattle.fb_arrive.proofs.of_fb_state.Lists.{all_at}
-use Rattle.fb_device.specs.declared.answer.Opening.{Opening}
-use Rattle.fb_device.specs.Openings.{opening_at}
 use Rattle.fb_device.proofs.Opened.{one_more_without}
 use Rattle.fb_device.proofs.names.opening.Goals as goal
 
-pub steps_at-requires : goal.steps_at-requires
-steps_at-requires c =
+pub arrival-requires : goal.arrival-requires
+arrival-requires c =
     let known = all_at (λ (a : Agenda). (slot : ℕ) (r : Reaction) → slot_at a.slots slot ≡ Some r → IsKnown c.args.blocks.now r.opening) c.args.queues.now c.loop-queue.queue-index c.queue-item.result c.loop-queue-test.true c.requires in
     let here = subst (λ (a : Agenda). (slot : ℕ) (r : Reaction) → slot_at a.slots slot ≡ Some r → IsKnown c.args.blocks.now r.opening) (sym c.queue-item.is) known in
     here c.in-Some.ensures.found.0 c.in-Some.reaction c.in-Some.ensures.found.1
@@ -19,9 +17,7 @@ steps_at-requires c =
 pub returns-in-Some : goal.returns-in-Some
 returns-in-Some c =
     let stands = stands_at c.args.queues.now c.loop-queue.queue-index c.queue-item.result c.queue-item.result c.loop-queue-test.true c.queue-item.is in
-    let same : ◌≡◌ {A = Opening} (record { block = c.in-Some.reaction.opening.block; event = c.in-Some.reaction.opening.event; weight = c.steps_at.result }) (opening_at c.args.blocks.now c.in-Some.reaction.opening) =
-    ap {B = Opening} (λ (n : ℕ). record { block = c.in-Some.reaction.opening.block; event = c.in-Some.reaction.opening.event; weight = n }) c.steps_at.ensures in
-    (c.loop-queue.queue-index, c.queue-item.result, c.in-Some.reaction, stands, c.in-Some.ensures.found, same)
+    (c.loop-queue.queue-index, c.queue-item.result, c.in-Some.reaction, stands, c.in-Some.ensures.found, c.arrival.ensures)
 
 pub loop-queue-preserved : goal.loop-queue-preserved
 loop-queue-preserved c =

@@ -7,10 +7,10 @@ use Rattle.fb_model.proofs.Admitting.{sound_after}
 use Rattle.fb_model.proofs.Starting.{stays_within_all}
 use Rattle.fb_arrive.specs.fb_state.Sessions.{Session}
 use Rattle.fb_arrive.specs.fb_state.Machines.{device_in, cert_in, machine_of}
-use Rattle.fb_device.specs.Answers.{event_of, answer_of}
+use Rattle.fb_device.specs.Answers.{event_of, answer_of, HasPlace}
 use Rattle.std.proofs.lemmas.List.{drop-set-lt}
 use Rattle.fb_model.specs.Devices.{Happens}
-use Rattle.fb_device.proofs.Promised.{promised, run_stored, run_whole, same_program}
+use Rattle.fb_device.proofs.Promised.{promised, run_stored, run_whole, same_program, all_stored, same_places}
 use Rattle.fb_device.proofs.device.Device.run.Goals as goal
 
 pub loop-at-preserved : goal.loop-at-preserved
@@ -19,6 +19,7 @@ loop-at-preserved c =
     let within : c.loop-at.at < length c.loop-at.answers = omega (arith, c.loop-at.auto.answers, c.requires, c.loop-at-test.true) in
     record {
       run = run_stored event_of (answer_of (leaves (device_in c.args.self.now))) _ _ c.args.steps.now c.loop-at.answers c.loop-at.at c.index-steps-at.result c.serve.result _ _ _ (omega arith) within c.loop-at.invariant.run (subst (λ e. Happens (cert_in c.args.self.now) (device_in c.args.self.now) (machine_of c.loop-at.self) (event_of e) (answer_of (leaves (device_in c.args.self.now)) c.serve.result) (machine_of c.serve.new.self)) c.index-steps-at.is h);
+      points = all_stored (HasPlace (leaves (device_in c.args.self.now))) c.loop-at.answers c.loop-at.at c.serve.result within c.loop-at.invariant.points (same_places c.loop-at.self c.args.self.now c.serve.result c.loop-at.invariant.verified c.loop-at.invariant.number c.serve.ensures.point);
       verified = c.serve.ensures.same.0 ∙ c.loop-at.invariant.verified;
       number = c.serve.ensures.same.1 ∙ c.loop-at.invariant.number;
       later = drop-set-lt (length c.args.steps.now) c.loop-at.answers c.loop-at.at c.serve.result c.loop-at-test.true ∙ c.loop-at.invariant.later;
