@@ -18,6 +18,9 @@ fn event(out: &mut String, event: &Event) -> Result<(), AllocError> {
         "  event {} steps {} places {}",
         event.name, event.steps, event.places
     )?;
+    if let Some(far) = event.far {
+        write!(out, " far {far}")?;
+    }
     for take in &event.takes {
         match &take.source {
             Source::Output(block, name, _) => {

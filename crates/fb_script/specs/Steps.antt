@@ -25,7 +25,7 @@ abbrev pub sends : Reply → Bool
 sends (r.Admitted answer) = false
 sends (r.Fired count) = false
 sends (r.Served turned.Idle) = false
-sends (r.Served (turned.Ran ran)) = elim ran.effect [ None ↦ false | Some e ↦ elim e [ outside.Send channel values ↦ true | outside.Write number values ↦ false ] ]
+sends (r.Served (turned.Ran ran)) = elim ran.effect [ None ↦ false | Some e ↦ elim e [ outside.Send message ↦ true | outside.Write number values ↦ false ] ]
 
 -- nothing happens
 abbrev pub Stays : Session → Option (List ℕ) → Option (List ℕ) → Session → Type 0

@@ -5,7 +5,7 @@ use Rattle.std.specs.Fmt.{decimal, signed_decimal}
 use Rattle.std.specs.List.{join_with_byte}
 use Rattle.fb_model.specs.Names.{Place}
 use Rattle.fb_model.specs.Serving.{Effect, Write, Send}
-use Rattle.fb_model.specs.Devices.{Ended as End, Denial, UnknownInput, BadCount, BadValue, NoCredit, Spent, NotAMessage, NoSubscriber, Shape, NotReady, Answer, Admitted, Denied, Expired, Idle, Ran}
+use Rattle.fb_model.specs.Devices.{Ended as End, Denial, UnknownInput, BadCount, BadValue, NoCredit, Spent, NotAMessage, NoSubscriber, Shape, NotReady, Stale, Answer, Admitted, Denied, Expired, Idle, Ran}
 use Rattle.fb_model.specs.Fields.{Fault, Short, Magic, Version, Kind, Count, TypeCode, Value, Trailing}
 use Rattle.fb_device.specs.fb_arrive.fb_wire.Faults.{line_of}
 use Rattle.fb_device.specs.fb_arrive.declared.denied.Denied.{Denied as RustDenied}
@@ -40,6 +40,7 @@ denial_text (NotAMessage fault) = fault_text fault
 denial_text NoSubscriber = codes "56"
 denial_text Shape = codes "57"
 denial_text NotReady = codes "58"
+denial_text (Stale boot sequence) = codes "64 " ++ decimal boot ++ codes " " ++ decimal sequence
 
 -- a path and its event, joined by dots
 abbrev pub place_text : Place → List ℕ
@@ -94,13 +95,14 @@ why_text (d.Wire fault) = line_of fault
 why_text d.NoSubscriber = codes "56"
 why_text d.Shape = codes "57"
 why_text d.Closed = codes "58"
+why_text (d.Stale boot sequence) = codes "64 " ++ decimal boot ++ codes " " ++ decimal sequence
 
 abbrev pub ended_text : Option Ended → List ℕ
 ended_text None = []
 ended_text (Some e) = codes " ended " ++ decimal e.cause ++ codes " " ++ decimal e.total ++ codes " of " ++ decimal e.bound
 
 abbrev pub outside_text : ℕ → Outside → List ℕ
-outside_text send (outside.Send channel values) = codes " send " ++ decimal send
+outside_text send (outside.Send message) = codes " send " ++ decimal send
 outside_text send (outside.Write number values) = codes " write " ++ decimal number ++ values_text values.items
 
 abbrev pub done_text : Option (Bor Outside) → ℕ → List ℕ

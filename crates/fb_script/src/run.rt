@@ -46,7 +46,7 @@ fn has_sent(answer: &Answer) -> bool
 {
     match answer {
         Answer::Served(Turned::Ran(ran)) => match &ran.effect {
-            Some(Effect::Send(_, _)) => true,
+            Some(Effect::Send(_)) => true,
             _ => false,
         },
         _ => false,

@@ -6,9 +6,9 @@ use std::fmt;
 /// The answer to a line, with names in the place of numbers.
 #[derive(Clone, Copy)]
 pub enum Told<'a> {
-    /// An offer is admitted as this cause.
+    /// An offer or a datagram is admitted as this cause.
     Admitted(u64),
-    /// An offer is refused.
+    /// An offer or a datagram is refused.
     Denied(Denied),
     /// So many timers were fired.
     Fired(u32),
@@ -61,7 +61,7 @@ impl fmt::Display for Done<'_> {
                 let row = Row(values.as_slice());
                 write!(f, " write {number}{row}")
             }
-            Some(Effect::Send(_, _)) => {
+            Some(Effect::Send(_)) => {
                 let send = self.1;
                 write!(f, " send {send}")
             }
@@ -115,6 +115,9 @@ impl fmt::Display for Told<'_> {
             Told::Denied(Denied::NoSubscriber) => write!(f, "denied 56"),
             Told::Denied(Denied::Shape) => write!(f, "denied 57"),
             Told::Denied(Denied::Closed) => write!(f, "denied 58"),
+            Told::Denied(Denied::Stale(boot, sequence)) => {
+                write!(f, "denied 64 {boot} {sequence}")
+            }
             Told::Fired(count) => write!(f, "fired {count}"),
             Told::Idle => write!(f, "idle"),
             Told::Ran {

@@ -8,8 +8,7 @@ use Rattle.fbr.specs.Outcomes.{Tells, refusal, IsFilesOutcome}
 use Rattle.fbr.specs.Simulation.{IsVerified, IsScript, IsScriptFault, TellsEnd, IsSilent, IsFresh, HasOneDevice, TellsRun, a_run, no_device, TellsRunFrom, TellsScript, TellsSim}
 use Rattle.fb_script.specs.fb_device.Sessions.{Session}
 use Rattle.fb_script.specs.fb_device.Machines.{device_at, device_in, machine_of}
-use Rattle.fb_model.specs.Wires.{leaves}
-use Rattle.fb_model.specs.Devices.{begun, at_first}
+use Rattle.fb_model.specs.Devices.{at_first, first_stamp}
 use Rattle.fb_script.specs.Runs.{IsRun}
 use Rattle.fb_model.specs.System.{Device}
 use Rattle.fb_script.specs.declared.run.End.{End}
@@ -47,13 +46,13 @@ not_one v script old new (Ok status) other h = no_device other h
 not_one v script old new (Err e) other h = tt
 
 -- a device starts
-pub started : (v : Verified) (s t : Session) → IsSilent v s → machine_of t ≡ begun (leaves (device_in s)) (machine_of s) → t.verified ≡ s.verified → t.number ≡ s.number → IsFresh v t
+pub started : (v : Verified) (s t : Session) → IsSilent v s → machine_of t ≡ at_first (device_in s) 1 first_stamp → t.verified ≡ s.verified → t.number ≡ s.number → IsFresh v t
 started v s t h b same number =
     let device : device_in t ≡ device_in s = ap (λ (w : Verified). device_at (system_in w).devices t.number) same ∙ ap (λ (n : ℕ). device_at (system_in s.verified).devices n) number in
     record {
       verified = same ∙ h.verified;
       number = number ∙ h.number;
-      first = b ∙ ap (begun (leaves (device_in s))) h.silent ∙ ap (λ (d : Device). at_first d 1) (sym device);
+      first = b ∙ ap (λ (d : Device). at_first d 1 first_stamp) (sym device);
     }
 
 -- a run from a fresh device is one of what was verified

@@ -5,7 +5,7 @@ use Rattle.fb_script.specs.fb_check.Verdicts as verdicts
 use Rattle.fb_script.specs.fb_check.declared.verified.Verified.{Verified}
 use Rattle.fb_script.specs.fb_device.Sessions.{Session}
 use Rattle.fb_script.specs.fb_device.Machines.{device_in, machine_of}
-use Rattle.fb_model.specs.Devices.{silent, at_first}
+use Rattle.fb_model.specs.Devices.{silent, at_first, first_stamp}
 use Rattle.fb_script.specs.Runs.{IsRun}
 use Rattle.fb_script.specs.declared.run.End.{End}
 use Rattle.fb_script.specs.declared.run.End.TheVariants as ends
@@ -45,13 +45,13 @@ TellsEnd ends.OutOfMemory old new status = Tells (refusal Memory) old new status
 pub record IsSilent (v : Verified) (s : Session) : Type 0 where
   pub verified : s.verified ≡ v
   pub number : s.number ≡ 0
-  pub silent : machine_of s ≡ silent (device_in s) 1
+  pub silent : machine_of s ≡ silent (device_in s) 1 first_stamp
 
 -- the same, as it is once it has started
 pub record IsFresh (v : Verified) (s : Session) : Type 0 where
   pub verified : s.verified ≡ v
   pub number : s.number ≡ 0
-  pub first : machine_of s ≡ at_first (device_in s) 1
+  pub first : machine_of s ≡ at_first (device_in s) 1 first_stamp
 
 -- there is exactly one device
 abbrev pub HasOneDevice : Verified → Type 0
