@@ -115,7 +115,7 @@ impl fmt::Display for Told<'_> {
             Told::Denied(Denied::NoSubscriber) => write!(f, "denied 56"),
             Told::Denied(Denied::Shape) => write!(f, "denied 57"),
             Told::Denied(Denied::Closed) => write!(f, "denied 58"),
-            Told::Denied(Denied::Stale(boot, sequence)) => {
+            Told::Denied(Denied::Stale { boot, sequence }) => {
                 write!(f, "denied 64 {boot} {sequence}")
             }
             Told::Fired(count) => write!(f, "fired {count}"),
