@@ -14,7 +14,8 @@ ghost use Rattle.fb_columns.specs.fb_text.Answers.{IsSource};
 ghost use Rattle.fb_columns.specs.fb_text.Views.{source_of};
 ghost use Rattle.fb_columns.specs.fb_types.Views.{system_of, system_places, all_places};
 ghost use Rattle.fb_check.specs.Verdicts.{IsTypedOf, IsTextFault, IsTypingFault, IsCertificateFault};
-ghost use Rattle.fb_check.specs.declared.refusal.Refusal.TheVariants.{OutOfMemory, Text, Certificate};
+ghost use Rattle.fb_check.specs.declared.refusal.Refusal.TheVariants.{OutOfMemory};
+ghost use Rattle.fb_check.specs.declared.refusal.Refusal.TheVariants as refusals;
 
 use crate::refusal::Refusal;
 use fb_cert::{Certificate, parse_cert};
@@ -39,7 +40,7 @@ fn resolved(alloc: Global, source: &Source) -> Result<Typed, Refusal>
 pub fn read_system(alloc: Global, text: &str) -> Result<Typed, Refusal>
     ensures typed { IfOk result (IsTypedOf text.now) }
     ensures within { IfOk result (λ t. length text.now ≤ text_limit) }
-    ensures long { text_limit < length text.now → result ≡ Err (Text texts.TooLong) }
+    ensures long { text_limit < length text.now → result ≡ Err (refusals.Text texts.TooLong) }
     ensures refused { IfErr result (IsTextFault text.now) }
     ensures accepts { (source : SourceTree) (system : System) → length text.now ≤ text_limit → IsSource text.now source → Elaborates source system → MatchResult result (λ t. system_of t ≡ system) (λ f. f ≡ OutOfMemory) }
 {
@@ -57,7 +58,7 @@ pub fn read_system(alloc: Global, text: &str) -> Result<Typed, Refusal>
 pub fn read_certificate(alloc: Global, text: &str) -> Result<Certificate, Refusal>
     ensures spelled { IfOk result (λ c. Spells text.now (certificate_of c)) }
     ensures within { IfOk result (λ c. length text.now ≤ most_characters) }
-    ensures long { most_characters < length text.now → result ≡ Err (Certificate certs.TooLong) }
+    ensures long { most_characters < length text.now → result ≡ Err (refusals.Certificate certs.TooLong) }
     ensures refused { IfErr result (IsCertificateFault text.now) }
     ensures accepts { (certificate : book.Certificate) → length text.now ≤ most_characters → Spells text.now certificate → MatchResult result (λ c. certificate_of c ≡ certificate) (λ f. f ≡ OutOfMemory) }
 {

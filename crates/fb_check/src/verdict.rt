@@ -23,7 +23,8 @@ ghost use Rattle.fb_check.specs.Refusals.{of_far};
 ghost use Rattle.fb_check.specs.Faults.{IsFitFault};
 ghost use Rattle.fb_check.specs.Verdicts.{system_in, certificate_in, IsWritten, IsOfTexts, IsFaultOf};
 ghost use Rattle.fb_lex.specs.declared.fault.TextFault.TheVariants as texts;
-ghost use Rattle.fb_check.specs.declared.refusal.Refusal.TheVariants.{OutOfMemory, Text};
+ghost use Rattle.fb_check.specs.declared.refusal.Refusal.TheVariants.{OutOfMemory};
+ghost use Rattle.fb_check.specs.declared.refusal.Refusal.TheVariants as refusals;
 
 use crate::refusal::Refusal;
 use crate::texts::{read_certificate, read_system};
@@ -170,7 +171,7 @@ pub fn check(alloc: Global, typed: Typed, certificate: Certificate) -> Result<Ve
 pub fn check_text(alloc: Global, text: &str, certificate: &str) -> Result<Verified, Refusal>
     ensures accepted { IfOk result (IsOfTexts text.now certificate.now) }
     ensures within { IfOk result (λ v. (length text.now ≤ text_limit) × (length certificate.now ≤ most_characters)) }
-    ensures long { text_limit < length text.now → result ≡ Err (Text texts.TooLong) }
+    ensures long { text_limit < length text.now → result ≡ Err (refusals.Text texts.TooLong) }
     ensures refused { IfErr result (IsFaultOf text.now certificate.now) }
     ensures accepts { (source : SourceTree) (system : System) (rows : book.Certificate) → length text.now ≤ text_limit → length certificate.now ≤ most_characters
         → IsSource text.now source → Elaborates source system → Spells certificate.now rows → Fits system rows → IfErr result (λ f. f ≡ OutOfMemory) }

@@ -136,7 +136,7 @@ module _ (E : Gram Expression) (L : Gram Statements) (expr : Read Expression) (s
   transitions_of : (s e : ℕ) (ts : List Token) (xs : List TransitionTree) (rest : List Token) → IsClosed m.EndTransitions (IsTransition E L) ts xs rest → IsTransitions E L (token (mark m.EcTransitions) s e ∷ ts) xs rest
   transitions_of s e ts xs rest (a_closed p) = some_transitions p
 
-  transitions_sound : Sound (IsTransitions E L) (transitions_at expr)
+  pub transitions_sound : Sound (IsTransitions E L) (transitions_at expr)
   unfolding transitions_at
   transitions_sound ts = opens (IsTransitions E L) _ m.EcTransitions ts (λ s e on.
       meets_as _ (closed_at m.EndTransitions (transition_at expr) on) (closed_sound (IsTransition E L) (transition_at expr) transition_sound m.EndTransitions on) (transitions_of s e on))

@@ -1,5 +1,5 @@
 -- What reading tells of trees.
-use Rattle.std.proofs.Common.{◌≡◌, ◌⊎◌, ◌+◌, ◌<◌, ℕ, List, [], Ok, Err, refl, sym, ap, subst, ◌∙◌, arith, inl, inr}
+use Rattle.std.proofs.Common.{◌≡◌, ◌⊎◌, ◌+◌, ◌<◌, ℕ, suc, List, [], Ok, Err, refl, sym, ap, subst, ◌∙◌, arith, inl, inr}
 use Rattle.fb_model.specs.Tokens.{Token}
 use Rattle.fb_model.specs.Declarations.{SourceTree}
 use Rattle.fb_model.specs.DeclarationGrammar.{IsSystem, a_file}
@@ -13,11 +13,13 @@ use Rattle.fb_read.specs.Faults.{Says}
 use Rattle.fb_read.specs.Whole.{IfSyntax}
 use Rattle.fb_read.proofs.Readers.{Gets, Complete, never}
 use Rattle.fb_read.proofs.Steady.{IsStuck, IsDeep}
-use Rattle.fb_read.proofs.Whole.{Points, whole_sound, whole_complete, whole_points}
+use Rattle.fb_read.proofs.Viable.{Any, Viable}
+use Rattle.fb_read.proofs.Whole.{Points, whole_sound, whole_complete, whole_points, whole_viable}
 use Rattle.fb_read.proofs.Whole as answers
 use Rattle.st_expr.specs.Reading.{continues, expression_at}
 use Rattle.st_expr.proofs.Laws.{expression_sound, expression_complete, expression_shorter, expression_steady}
 use Rattle.st_expr.proofs.Nesting.{expression_opens}
+use Rattle.st_expr.proofs.Viable.{expression_wide, expression_viable}
 use Rattle.st_parse.specs.Reading.{algorithm_at}
 use Rattle.st_parse.proofs.Complete.{deeper}
 use Rattle.st_parse.proofs.Laws.{algorithm_sound, algorithm_complete, algorithm_no_longer, algorithm_steady, algorithm_opens}
@@ -28,7 +30,9 @@ use Rattle.fb_text.specs.Answers.{IsNested, IsTree, IsSomeTree, Reads, FindsTree
 use Rattle.fb_text.proofs.Sound.{IsFront, a_front, file_sound}
 use Rattle.fb_text.proofs.Complete.{file_complete}
 use Rattle.fb_text.proofs.Steady.{file_steady}
+use Rattle.st_parse.proofs.Viable.{algorithm_wide, algorithm_viable}
 use Rattle.fb_text.proofs.Opens.{file_opens}
+use Rattle.fb_text.proofs.Viable.{file_viable}
 
 -- ---- files that nest so deep
 
@@ -100,6 +104,16 @@ source_points =
     (file_steady (IsExpression d) (IsAlgorithm d k) (expression_at d) (expression_sound d) (expression_shorter d) (expression_steady d) (algorithm_at d k) (algorithm_sound d k) (algorithm_no_longer d k) (algorithm_steady d k))
     (file_opens (expression_at d) (expression_opens d) (algorithm_at d k) (algorithm_opens d k))
 
+-- Where a text is too deep, a deeper tree goes on.
+whole_goes_on : Viable (Any (Front (suc most_nested) (suc most_nested_statements))) whole_at
+unfolding whole_at
+whole_goes_on =
+    let d = most_nested in
+    let k = most_nested_statements in
+    whole_viable (Any (Front (suc d) (suc k))) (file_at (expression_at d) (algorithm_at d k))
+    (file_viable (IsExpression (suc d)) (IsAlgorithm (suc d) (suc k)) (expression_at d) (expression_wide d) (expression_shorter (suc d)) (expression_steady d) (expression_viable d)
+    (algorithm_at d k) (algorithm_wide d k) (algorithm_no_longer (suc d) (suc k)) (algorithm_steady d k) (algorithm_viable d k))
+
 -- ---- in the words of the answers
 
 -- the fault that a stop becomes
@@ -116,7 +130,8 @@ pub reads_place : (end : ℕ) (ts : List Token) (fault : TextFault) → Reads en
 reads_place end ts fault e = answers.reads_place source_of end ts fault IsSomeTree whole_at source_points not_stuck e
 
 pub reads_deep : (end : ℕ) (ts : List Token) (fault : TextFault) → Reads end ts (Err fault) → TooDeepAt ts (Err fault)
-reads_deep end ts fault e = answers.reads_deep source_of end ts fault IsTree whole_at source_points not_deep e
+reads_deep end ts fault e = answers.reads_deep source_of end ts fault IsTree whole_at source_points IsSomeTree (Any (Front (suc most_nested) (suc most_nested_statements))) whole_goes_on
+    (λ us h. (h.0, (suc most_nested, suc most_nested_statements, file_of (suc most_nested) (suc most_nested_statements) us h.0 [] refl h.1))) not_deep e
 
 -- ---- of texts
 

@@ -10,4 +10,6 @@ pub mod Complete
 pub mod NetworkSteady
 pub mod Steady
 pub mod Opens
+pub mod Shallow
+pub mod Viable
 pub mod Laws

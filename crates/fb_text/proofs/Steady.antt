@@ -46,7 +46,7 @@ state_steady : Steady state_at
 unfolding state_at
 state_steady = steady_then name_at _ steady_name (λ x. steady_then actions_at _ actions_steady (λ xs. steady_expect m.Semicolon _ (steady_done (record { name = x; actions = xs }))))
 
-states_steady : Steady states_at
+pub states_steady : Steady states_at
 unfolding states_at
 states_steady = steady_expect m.EcStates _ (steady_choice m.EndStates (λ ts. stuck ts) (closed_at m.EndStates state_at) steady_stuck (steady_closed state_at state_steady (shrinks_of IsState state_at state_sound state_shorter) m.EndStates))
 
@@ -113,7 +113,7 @@ module _ (E : Gram Expression) (L : Gram Statements) (expr : Read Expression) (s
       (steady_after (λ ts. Ok ((None, None), ts)) (steady_done (None, None)))
       (steady_test begins_name name_sees (on_event_at expr) (guarded_at expr) on_event_steady guarded_steady)
 
-  transition_steady : Steady (transition_at expr)
+  pub transition_steady : Steady (transition_at expr)
   unfolding transition_at
   transition_steady =
       steady_then name_at _ steady_name (λ x. steady_expect m.To _
@@ -121,7 +121,7 @@ module _ (E : Gram Expression) (L : Gram Statements) (expr : Read Expression) (s
       (steady_then (condition_at expr) _ condition_steady (λ c. steady_expect m.Semicolon _
       (steady_done (record { source = x; target = y; event = c.0; guard = c.1 })))))))
 
-  transitions_steady : Steady (transitions_at expr)
+  pub transitions_steady : Steady (transitions_at expr)
   unfolding transitions_at
   transitions_steady = steady_expect m.EcTransitions _ (steady_closed (transition_at expr) transition_steady (shrinks_of (IsTransition E L) (transition_at expr) (transition_sound E L expr sound) (transition_shorter E L short)) m.EndTransitions)
 
@@ -132,7 +132,7 @@ module _ (E : Gram Expression) (L : Gram Statements) (expr : Read Expression) (s
     unfolding text_at
     text_steady = word_steady _ (word_steady _ (steady_expect m.Colon _ (steady_then list _ list_steady (λ xs. steady_expect m.EndAlgorithm _ (steady_done xs)))) (codes "ST")) (codes "IN")
 
-    procedure_steady : Steady (procedure_at list)
+    pub procedure_steady : Steady (procedure_at list)
     unfolding procedure_at
     procedure_steady = steady_expect m.Algorithm _ (steady_then name_at _ steady_name (λ x. steady_then (text_at list) _ text_steady (λ xs. steady_done (record { name = x; body = xs }))))
 
@@ -157,7 +157,7 @@ module _ (E : Gram Expression) (L : Gram Statements) (expr : Read Expression) (s
     unfolding body_at
     body_steady = steady_choice m.Fbs composite_at (basic_at expr list) composite_steady basic_steady
 
-    block_steady : Steady (block_at expr list)
+    pub block_steady : Steady (block_at expr list)
     unfolding block_at
     block_steady =
         let events = steady_section event_at event_steady (shrinks_of IsEvent event_at event_sound event_shorter) in
