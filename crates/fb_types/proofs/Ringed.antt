@@ -17,7 +17,7 @@ use Rattle.fb_types.specs.Nesting.{IsOf, Uses, Leads, itself, further, LeadsToNo
 use Rattle.fb_types.specs.Refusals.{IsTypeFault, faulty_part, ring, IsInstanceFault, faulty_type}
 use Rattle.fb_types.specs.Made.{IsNamed, IsPath}
 use Rattle.fb_types.specs.Rings.{parts_of, IsOnPath, IsPassed, IsClosing, IsMet, Ends, ends, IsRingBelow, IsLine, IsSearching}
-use Rattle.fb_types.proofs.Nested.{among_nil, among_first, one_type}
+use Rattle.fb_types.proofs.Nested.{among_cons, among_nil, among_first, one_type}
 use Rattle.fb_types.proofs.Making.{all_member, has_name, named_self}
 
 -- ---- chains that end
@@ -184,3 +184,22 @@ search_closing bs b left xs top i at h a m = by m.on where
 -- nothing is left on the path
 pub search_ended : (bs : List BlockTree) (b : BlockTree) (left : Name → Option BlockTree) → IsNamed bs b → IsSearching bs b left [] → Ends bs b
 search_ended bs b left n h = either_of (λ p. absurd (among_nil p)) (λ w. w) (h.met b n h.begun)
+
+-- ---- instances one after another
+
+among_one : (i : InstanceTree) (is : List InstanceTree) (j : InstanceTree) → Contains is i → Contains (i ∷ []) j → Contains is j
+among_one i is j a b = either_of (λ e. subst (Contains is) e a) (λ n. absurd (among_nil n)) (among_cons i [] j b)
+
+pub passed_same : (f g : Name → Option BlockTree) (path : List BlockTree) (i : InstanceTree) → ((x : Name) → f x ≡ g x) → IsPassed f path i → IsPassed g path i
+passed_same f g path i same (inl s) = inl s
+passed_same f g path i same (inr (off, none)) = inr (off, sym (same i.type.text) ∙ none)
+
+pub passed_more : (f : Name → Option BlockTree) (path : List BlockTree) (is : List InstanceTree) (i : InstanceTree) → AllByRecursion (IsPassed f path) is → IsPassed f path i → AllByRecursion (IsPassed f path) (is ++ i ∷ [])
+passed_more f path is i h p = all_more (IsPassed f path) is i h p
+
+pub closing_among : (path : List BlockTree) (i : InstanceTree) (is : List InstanceTree) (at : ℕ) → Contains is i → (j : InstanceTree) × Contains (i ∷ []) j × IsClosing path j at → (j : InstanceTree) × Contains is j × IsClosing path j at
+closing_among path i is at a h = (h.0, among_one i is h.0 a h.1, h.2)
+
+pub met_among : (f g later : Name → Option BlockTree) (i : InstanceTree) (is : List InstanceTree) (c : BlockTree) → ((x : Name) → f x ≡ g x) → Contains is i → (j : InstanceTree) × Contains (i ∷ []) j × IsMet f later j c → (j : InstanceTree) × Contains is j × IsMet g later j c
+met_among f g later i is c same a h =
+    (h.0, among_one i is h.0 a h.1, record { declared = h.2.declared; found = sym (same h.0.type.text) ∙ h.2.found; met = λ x. h.2.met x ∙ ap (cond (bytes_eq h.0.type.text x) None) (same x) })

@@ -82,7 +82,8 @@ fn step_among<'a>(
     for instance in instances {
         match step_in(left, path, top, instance) {
             Step::Passed => {}
-            other => return other,
+            Step::Closing(at) => return Step::Closing(at),
+            Step::Inside(block) => return Step::Inside(block),
         }
     }
     Step::Passed
