@@ -36,7 +36,7 @@ fn is_on_or_at(path: &[&BlockTree], top: &BlockTree, name: &str) -> bool
 }
 
 // Where the search goes on from an instance.
-fn step_in<'a>(
+fn look_at<'a>(
     left: &mut Types<'a>,
     path: &[&BlockTree],
     top: &BlockTree,
@@ -59,18 +59,18 @@ fn step_in<'a>(
 }
 
 // Where the search goes on from a type, which stands behind those on the path.
-fn step<'a>(left: &mut Types<'a>, path: &[&BlockTree], top: &BlockTree) -> Step<'a>
+fn look_into<'a>(left: &mut Types<'a>, path: &[&BlockTree], top: &BlockTree) -> Step<'a>
     ensures step { IsStep (found_in left.old) (found_in left.new) (map tree_of path.now ++ trees_of.block_of top.now ∷ []) (parts_of (trees_of.block_of top.now).body) result }
     ensures falls { index_map_len left.new + met_by result ≡ index_map_len left.old }
 {
     match &top.body {
         BodyTree::Chart(_) => Step::Passed,
-        BodyTree::Network(network) => step_among(left, path, top, &network.instances),
+        BodyTree::Network(network) => look_among(left, path, top, &network.instances),
     }
 }
 
 // Where the search goes on from instances.
-fn step_among<'a>(
+fn look_among<'a>(
     left: &mut Types<'a>,
     path: &[&BlockTree],
     top: &BlockTree,
@@ -80,7 +80,7 @@ fn step_among<'a>(
     ensures falls { index_map_len left.new + met_by result ≡ index_map_len left.old }
 {
     for instance in instances {
-        match step_in(left, path, top, instance) {
+        match look_at(left, path, top, instance) {
             Step::Passed => {}
             Step::Closing(at) => return Step::Closing(at),
             Step::Inside(block) => return Step::Inside(block),
@@ -131,7 +131,7 @@ pub(crate) fn ring<'a>(
     let mut path = Vec::new(alloc);
     path.push(block)?;
     while let Some(top) = path.pop() {
-        match step(&mut left, &path, top) {
+        match look_into(&mut left, &path, top) {
             Step::Passed => {}
             Step::Closing(at) => return Ok(Some(at)),
             Step::Inside(inner) => {

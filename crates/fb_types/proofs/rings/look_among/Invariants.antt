@@ -5,7 +5,7 @@ use Rattle.fb_model.specs.Names.{Name}
 use Rattle.fb_networks.specs.fb_text.Views as trees_of
 use Rattle.fb_types.specs.Made.{tree_of}
 use Rattle.fb_types.specs.Rings.{found_in, IsPassed}
-use Rattle.fb_types.proofs.rings.step_among.Given as goal
+use Rattle.fb_types.proofs.rings.look_among.Given as goal
 
 -- there was nothing to search in those so far
 abbrev pub invariant-loop-instance : goal.invariant-loop-instance

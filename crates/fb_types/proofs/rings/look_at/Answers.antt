@@ -9,7 +9,7 @@ use Rattle.fb_types.specs.Made.{tree_of}
 use Rattle.fb_types.specs.Rings.{found_in}
 use Rattle.fb_types.proofs.Nested.{among_first}
 use Rattle.fb_types.proofs.Tabled.{found_without}
-use Rattle.fb_types.proofs.rings.step_in.Goals as goal
+use Rattle.fb_types.proofs.rings.look_at.Goals as goal
 
 pub returns-then-is_service-clause-step : goal.returns-then-is_service-clause-step
 returns-then-is_service-clause-step c = ((inl (subst (λ n. is_in n service_names ≡ true) c.as_str.ensures.value (sym c.is_service.ensures ∙ c.if-is_service.true)), tt), λ x. refl)

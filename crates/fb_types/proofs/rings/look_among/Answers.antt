@@ -5,7 +5,7 @@ use Rattle.fb_networks.specs.fb_text.Views as trees_of
 use Rattle.fb_networks.proofs.of_fb_blocks.Lists.{mapped_more}
 use Rattle.fb_types.specs.Made.{tree_of}
 use Rattle.fb_types.specs.Rings.{found_in, IsPassed}
-use Rattle.fb_types.proofs.rings.step_among.Goals as goal
+use Rattle.fb_types.proofs.rings.look_among.Goals as goal
 
 pub loop-instance-init : goal.loop-instance-init
 loop-instance-init c = record { len = refl; same = λ x. refl; passed = tt }
