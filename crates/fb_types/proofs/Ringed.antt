@@ -16,14 +16,14 @@ use Rattle.fb_networks.proofs.of_fb_blocks.Refused.{either_of}
 use Rattle.fb_types.specs.Nesting.{IsOf, Uses, Leads, itself, further, LeadsToNoRing}
 use Rattle.fb_types.specs.Refusals.{IsTypeFault, faulty_part, ring, IsInstanceFault, faulty_type}
 use Rattle.fb_types.specs.Made.{IsNamed, IsPath}
-use Rattle.fb_types.specs.Rings.{parts_of, IsOnPath, IsPassed, IsClosing, IsMet, Ends, ends, IsRingBelow, IsLine, IsSearching}
+use Rattle.fb_types.specs.Rings.{parts_of, IsOnPath, IsPassed, IsClosing, IsMet, Ends, all_end, IsRingBelow, IsLine, IsSearching}
 use Rattle.fb_types.proofs.Nested.{among_cons, among_nil, among_first, one_type}
 use Rattle.fb_types.proofs.Making.{all_member, has_name, named_self}
 
 -- ---- chains that end
 
 ends_inside : (bs : List BlockTree) (b c : BlockTree) (i : InstanceTree) → Ends bs b → Uses bs b i c → Ends bs c
-ends_inside bs b c i (ends f) u = f i c u
+ends_inside bs b c i (all_end f) u = f i c u
 
 ends_led : (bs : List BlockTree) (b c : BlockTree) → Ends bs b → Leads bs b c → Ends bs c
 ends_led bs b c h itself = h
@@ -36,7 +36,7 @@ first_use bs d c (further {c = a} {i = i} l u) =
     either_of (λ e. inr (i, c, subst (λ x. Uses bs x i c) (sym e) u, itself)) (λ p. inr (p.0, p.1, p.2, further {i = i} p.3 u)) (first_use bs d a l)
 
 no_ring_at : (bs : List BlockTree) (c : BlockTree) (i : InstanceTree) (d : BlockTree) → Ends bs c → Uses bs c i d → Leads bs d c → ⊥
-no_ring_at bs c i d (ends f) u l =
+no_ring_at bs c i d (all_end f) u l =
     either_of (λ e. no_ring_at bs d i d (f i d u) (subst (λ x. Uses bs x i d) (sym e) u) itself) (λ p. no_ring_at bs d p.0 p.1 (f i d u) p.2 (further {i = i} p.3 u)) (first_use bs d c l)
 
 -- where all chains end there is no ring
@@ -145,7 +145,7 @@ search_inside bs b left later xs top i c h a m =
 
 -- all is searched in the last type of the path: all chains from it end
 last_ends : (bs : List BlockTree) (b : BlockTree) (left : Name → Option BlockTree) (xs : List BlockTree) (top : BlockTree) → IsSearching bs b left (xs ++ top ∷ []) → AllByRecursion (IsPassed left (xs ++ top ∷ [])) (parts_of top.body) → Ends bs top
-last_ends bs b left xs top h all = ends (λ i c u. by i c u (all_member (IsPassed left path) (parts_of top.body) i all (subst (λ x. Contains (parts_of x) i) (sym u.composite) u.among))) where
+last_ends bs b left xs top h all = all_end (λ i c u. by i c u (all_member (IsPassed left path) (parts_of top.body) i all (subst (λ x. Contains (parts_of x) i) (sym u.composite) u.among))) where
   path : List BlockTree
   path = xs ++ top ∷ []
 

@@ -63,7 +63,7 @@ met_by (s.Inside x) = 1
 module _ (bs : List BlockTree) where
   -- every chain of uses from a type ends
   pub data Ends : BlockTree → Type 0 where
-    ends : {b : BlockTree} → ((i : InstanceTree) (c : BlockTree) → Uses bs b i c → Ends c) → Ends b
+    all_end : {b : BlockTree} → ((i : InstanceTree) (c : BlockTree) → Uses bs b i c → Ends c) → Ends b
 
   -- a ring to which a type leads closes at this place: that of the type's name of an instance
   pub record IsRingBelow (b : BlockTree) (at : ℕ) : Type 0 where

@@ -1,15 +1,15 @@
 //! Composites inside themselves: the search for a ring of types, each of which has an instance of the next.
 
-ghost use Rattle.std.specs.Prelude.{◌≡◌, ◌+◌, ◌↔◌, ◌++◌, ◌∷◌, [], true, None, Some, List, map, cond, string_bytes, IfOk, OnOk};
+ghost use Rattle.std.specs.Prelude.{◌≡◌, ◌≤◌, ◌+◌, ◌*◌, ◌↔◌, ◌++◌, ◌∷◌, [], true, None, Some, List, map, cond, string_bytes, vec_len, IfOk, OnOk};
 ghost use Rattle.std.specs.List.{Any};
-ghost use Rattle.std.specs.Option.{option_or};
+ghost use Rattle.std.specs.Option.{option_or, MatchOption};
 ghost use Rattle.std.specs.Str.{bytes_eq};
 ghost use Rattle.indexmap.specs.IndexMap.{index_map_len};
 ghost use Rattle.fb_model.specs.Names.{Name};
 ghost use Rattle.fb_model.specs.Declarations as decl;
 ghost use Rattle.fb_networks.specs.fb_text.Views as trees_of;
 ghost use Rattle.fb_types.specs.Made.{tree_of, IsTable, IsNamed};
-ghost use Rattle.fb_types.specs.Rings.{found_in, parts_of, IsStep, met_by, IsSearched};
+ghost use Rattle.fb_types.specs.Rings.{found_in, parts_of, IsStep, met_by, IsSearching, IsRingBelow, IsSearched};
 
 use crate::make::is_on;
 use crate::table::{Types, is_service};
@@ -89,6 +89,26 @@ fn look_among<'a>(
     Step::Passed
 }
 
+// Searches on from the type that was taken from the end of a path: the place of a ring, where one closes there.
+fn advance<'a>(
+    left: &mut Types<'a>,
+    path: &mut Vec<&'a BlockTree>,
+    top: &'a BlockTree,
+) -> Result<Option<usize>, AllocError>
+    ensures search { (bs : List decl.BlockTree) (b : decl.BlockTree) → IsSearching bs b (found_in left.old) (map tree_of path.old.items ++ trees_of.block_of top.now ∷ []) → IfOk result (λ o. MatchOption o (IsSearching bs b (found_in left.new) (map tree_of path.new.items)) (λ at. IsRingBelow bs b at)) }
+    ensures falls { IfOk result (λ o. o ≡ None → 3 * index_map_len left.new + vec_len path.new ≤ 3 * index_map_len left.old + vec_len path.old) }
+{
+    match look_into(left, path, top) {
+        Step::Passed => Ok(None),
+        Step::Closing(at) => Ok(Some(at)),
+        Step::Inside(inner) => {
+            path.push(top)?;
+            path.push(inner)?;
+            Ok(None)
+        }
+    }
+}
+
 // Adds a type of a name, unless there is one.
 fn add_named<'a>(
     types: &mut Types<'a>,
@@ -131,13 +151,8 @@ pub(crate) fn ring<'a>(
     let mut path = Vec::new(alloc);
     path.push(block)?;
     while let Some(top) = path.pop() {
-        match look_into(&mut left, &path, top) {
-            Step::Passed => {}
-            Step::Closing(at) => return Ok(Some(at)),
-            Step::Inside(inner) => {
-                path.push(top)?;
-                path.push(inner)?;
-            }
+        if let Some(at) = advance(&mut left, &mut path, top)? {
+            return Ok(Some(at));
         }
     }
     Ok(None)
