@@ -1,5 +1,5 @@
 -- The search for a ring: what it keeps, and what it finds.
-use Rattle.std.proofs.Common.{◌≡◌, ◌⊎◌, inl, inr, ℕ, Bool, true, false, cond, List, [], ◌∷◌, ◌++◌, map, Option, Some, None, option_map, refl, sym, ap, subst, ◌∙◌, string_bytes}
+use Rattle.std.proofs.Common.{◌≡◌, ◌⊎◌, inl, inr, ℕ, Bool, true, false, cond, List, [], ◌∷◌, ◌++◌, map, length, arith, Option, Some, None, option_map, refl, sym, ap, subst, ◌∙◌, string_bytes}
 use Rattle.std.specs.Option.{option_or}
 use Rattle.std.specs.Map.{lookup}
 use Rattle.std.specs.List.{AllByRecursion, Contains}
@@ -203,3 +203,7 @@ closing_among path i is at a h = (h.0, among_one i is h.0 a h.1, h.2)
 pub met_among : (f g later : Name → Option BlockTree) (i : InstanceTree) (is : List InstanceTree) (c : BlockTree) → ((x : Name) → f x ≡ g x) → Contains is i → (j : InstanceTree) × Contains (i ∷ []) j × IsMet f later j c → (j : InstanceTree) × Contains is j × IsMet g later j c
 met_among f g later i is c same a h =
     (h.0, among_one i is h.0 a h.1, record { declared = h.2.declared; found = sym (same h.0.type.text) ∙ h.2.found; met = λ x. h.2.met x ∙ ap (cond (bytes_eq h.0.type.text x) None) (same x) })
+
+pub none_there : {X : Type 0} (xs : List X) → length xs ≡ 0 → xs ≡ []
+none_there [] e = refl
+none_there (x ∷ xs) e = absurd (omega (arith, e))

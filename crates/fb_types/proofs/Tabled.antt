@@ -1,6 +1,8 @@
 -- Tables of types, and what is remembered by names.
 use Rattle.std.proofs.Common.{◌≡◌, ◌⊎◌, inl, inr, Bool, true, false, cond, List, [], ◌∷◌, ◌++◌, Option, None, Some, is_some, option_map, refl, sym, ap, subst, ◌∙◌, string_bytes}
-use Rattle.std.specs.Prelude.{string_eq}
+use Rattle.std.specs.Prelude.{ℕ, ◌+◌, take, slice_get, string_eq}
+use Rattle.std.proofs.lemmas.List.{take_more}
+use Rattle.std.proofs.lemmas.Option.{slice_get_within, get_or_from_slice_get}
 use Rattle.std.specs.Option.{option_or}
 use Rattle.std.specs.Map.{lookup}
 use Rattle.std.specs.Str.{bytes_eq}
@@ -108,6 +110,10 @@ found_same es n b there x = by (bytes_eq x n) refl where
   by : (t : Bool) → bytes_eq x n ≡ t → found es x ≡ option_or (found es x) (cond t (Some b) None)
   by true e = or_there (found es x) (Some b) (subst (λ m. is_some (found es m) ≡ true) (sym (same_name x n e)) (there_map tree_of (lookup (λ k. bytes_eq n (string_bytes k)) es) there))
   by false e = or_none (found es x)
+
+-- the next of some entries
+pub take_got : {X : Type 0} (xs : List X) (i : ℕ) (x : X) → slice_get xs i ≡ Some x → take (i + 1) xs ≡ take i xs ++ x ∷ []
+take_got xs i x h = take_more xs i x (slice_get_within xs i x h) ∙ ap (λ y. take i xs ++ y ∷ []) (get_or_from_slice_get xs i x x h)
 
 map_without : {X Y : Type 0} (f : X → Y) (t : Bool) (o : Option X) → option_map f (cond t None o) ≡ cond t None (option_map f o)
 map_without f true o = refl

@@ -129,9 +129,10 @@ fn copied<'a>(alloc: Global, types: &Types<'a>) -> Result<Types<'a>, AllocError>
 {
     let mut copy = IndexMap::new(alloc);
     for at in 0..types.len() {
-        if let Some((name, block)) = types.get_index(at) {
-            add_named(&mut copy, name, *block)?;
-        }
+        let Some((name, block)) = types.get_index(at) else {
+            unreachable!()
+        };
+        add_named(&mut copy, name, *block)?;
     }
     Ok(copy)
 }
