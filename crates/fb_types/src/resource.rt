@@ -39,8 +39,8 @@ fn too_deep<'a>(alloc: Global, types: &Types<'a>, block: &'a BlockTree) -> TypeF
 
 /// The refusal, where this many composites may nest.
 pub(crate) fn refusal<'a>(alloc: Global, types: &Types<'a>, unmade: Unmade<'a>) -> TypeFault
-    ensures of_type { (bs : List decl.BlockTree) (b : decl.BlockTree) → IsTable bs types.now → IsUnmade bs DEEP b unmade → IsTypeFault bs b result }
-    ensures of_instance { (bs : List decl.BlockTree) (i : decl.InstanceTree) → IsTable bs types.now → IsHalted bs [] DEEP i unmade → IsInstanceFault bs i result }
+    ensures of_type { (bs : List decl.BlockTree) (b : decl.BlockTree) → IsTable bs types.now → IsUnmade bs DEEP b unmade.entry → IsTypeFault bs b result }
+    ensures of_instance { (bs : List decl.BlockTree) (i : decl.InstanceTree) → IsTable bs types.now → IsHalted bs [] DEEP i unmade.entry → IsInstanceFault bs i result }
 {
     match unmade {
         Unmade::Fault(fault) => fault,

@@ -1,4 +1,4 @@
-use Rattle.std.proofs.Common.{◌≡◌, ◌++◌, ◌∷◌, [], ◌+◌, cond, take, Some, None, string_bytes, sym, ap, ◌∙◌}
+use Rattle.std.proofs.Common.{◌≡◌, ◌++◌, ◌∷◌, [], ◌+◌, cond, take, Some, None, string_bytes, sym, ap, ◌∙◌, arith}
 use Rattle.std.proofs.lemmas.List.{take_all}
 use Rattle.std.specs.Option.{option_or}
 use Rattle.std.specs.Str.{bytes_eq}
@@ -19,4 +19,4 @@ loop-at-preserved c = λ x.
     c.in_ok-add_named.ensures x ∙ ap (λ o. option_or o (cond (bytes_eq x (string_bytes k)) (Some (tree_of b)) None)) (c.loop-at.invariant x) ∙ sym (found_more (take i es) k b x) ∙ ap (λ l. found l x) (sym step)
 
 pub returns : goal.returns
-returns c = λ x. c.loop-at.invariant x ∙ ap (λ l. found l x) (take_all c.loop-at.at c.args.types.now.entries c.loop-at-test.false)
+returns c = λ x. c.loop-at.invariant x ∙ ap (λ l. found l x) (take_all c.loop-at.at c.args.types.now.entries (omega (arith, c.len-at-end.ensures, c.loop-at-test.false)))
