@@ -29,6 +29,6 @@ returns-in_ok-push-in-Inside-2-clause-search c = λ bs b h.
     let inner = c.in-Inside.inner in
     let s = subst (λ l. IsStep (found_in c.args.left.now) (found_in c.look_into.new.left) (map tree_of l ++ top ∷ []) (parts_of top.body) c.look_into.result) c.deref.ensures.value c.look_into.ensures.step in
     let p = subst (IsStep (found_in c.args.left.now) (found_in c.look_into.new.left) (xs ++ top ∷ []) (parts_of top.body)) c.in-Inside.is s in
-    let first : map tree_of c.push-in-Inside.new.self.items ≡ xs ++ top ∷ [] = ap (map tree_of) c.in_ok-push-in-Inside.ensures.items ∙ map_push tree_of c.args.path.now.items c.args.top in
-    let both = ap (map tree_of) c.in_ok-push-in-Inside-2.ensures.items ∙ map_push tree_of c.push-in-Inside.new.self.items inner ∙ ap (λ l. l ++ tree_of inner ∷ []) first in
+    let first : map tree_of c.push.new.self.items ≡ xs ++ top ∷ [] = ap (map tree_of) c.in_ok-push-in-Inside.ensures.items ∙ map_push tree_of c.args.path.now.items c.args.top in
+    let both = ap (map tree_of) c.in_ok-push-in-Inside-2.ensures.items ∙ map_push tree_of c.push.new.self.items inner ∙ ap (λ l. l ++ tree_of inner ∷ []) first in
     subst (IsSearching bs b (found_in c.look_into.new.left)) (sym both) (search_inside bs b (found_in c.args.left.now) (found_in c.look_into.new.left) xs top p.0 (tree_of inner) h p.1 p.2)

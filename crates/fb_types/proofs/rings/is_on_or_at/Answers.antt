@@ -1,4 +1,4 @@
-use Rattle.std.proofs.Common.{◌≡◌, true, false, map, refl, sym, ◌∙◌}
+use Rattle.std.proofs.Common.{◌≡◌, true, false, map, sym, ◌∙◌}
 use Rattle.std.proofs.lemmas.List.Quantifiers.{Any-push}
 use Rattle.std.proofs.lemmas.Slice.Eq.{bytes_eq-Decides}
 use Rattle.fb_model.specs.Declarations.{BlockTree}
@@ -9,7 +9,7 @@ use Rattle.fb_types.proofs.Making.{any_front, any_last}
 use Rattle.fb_types.proofs.rings.is_on_or_at.Goals as goal
 
 pub returns-then-is_on : goal.returns-then-is_on
-returns-then-is_on c = (λ e. any_front (λ (b : BlockTree). b.name.text ≡ c.args.name.now) (map tree_of c.args.path.now) (trees_of.block_of c.args.top.now) (c.is_on.ensures.0 c.if-is_on.true), λ h. refl)
+returns-then-is_on c = (λ e. any_front (λ (b : BlockTree). b.name.text ≡ c.args.name.now) (map tree_of c.args.path.now) (trees_of.block_of c.args.top.now) (c.is_on.ensures.0 c.if-is_on.true), λ h. c.if-is_on.true)
 
 pub returns-else-is_on : goal.returns-else-is_on
 returns-else-is_on c =

@@ -27,7 +27,7 @@ returns-in-Some-2 c = λ bs table named.
     let xs = c.pop.new.self.items in
     let popped : c.loop-top.path.items ≡ xs ++ top ∷ [] = c.pop.ensures.items ∙ ap (λ o. xs ++ option_to_list o) c.in-Some.is in
     let h = subst (IsSearching bs b (found_in c.loop-top.left)) (ap (map tree_of) popped ∙ map_push tree_of xs top) (c.loop-top.invariant bs table named) in
-    subst (λ o. MatchOption o (IsSearching bs b (found_in c.advance.new.left) (map tree_of c.advance.new.path.items)) (λ at. IsRingBelow bs b at)) c.in-Some-2.is (c.in_ok-advance.ensures.search bs b h)
+    subst (λ o. MatchOption o (IsSearching bs b (found_in c.advance.new.left) (map tree_of c.advance.new.path.items)) (λ at. IsRingBelow bs b at)) c.in-Some-2.is (c.in_ok-at.ensures.search bs b h)
 
 pub loop-top-preserved : goal.loop-top-preserved
 loop-top-preserved c = λ bs table named.
@@ -36,4 +36,4 @@ loop-top-preserved c = λ bs table named.
     let xs = c.pop.new.self.items in
     let popped : c.loop-top.path.items ≡ xs ++ top ∷ [] = c.pop.ensures.items ∙ ap (λ o. xs ++ option_to_list o) c.in-Some.is in
     let h = subst (IsSearching bs b (found_in c.loop-top.left)) (ap (map tree_of) popped ∙ map_push tree_of xs top) (c.loop-top.invariant bs table named) in
-    subst (λ o. MatchOption o (IsSearching bs b (found_in c.advance.new.left) (map tree_of c.advance.new.path.items)) (λ at. IsRingBelow bs b at)) c.in_default.is (c.in_ok-advance.ensures.search bs b h)
+    subst (λ o. MatchOption o (IsSearching bs b (found_in c.advance.new.left) (map tree_of c.advance.new.path.items)) (λ at. IsRingBelow bs b at)) c.in_default-2.is (c.in_ok-at.ensures.search bs b h)
