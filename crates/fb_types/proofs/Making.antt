@@ -3,6 +3,7 @@ use Rattle.std.proofs.Common.{◌≡◌, ◌⊎◌, inl, inr, ℕ, zero, suc, �
 use Rattle.std.proofs.Math.Nat.{max-eq_left, max-eq_right, max-zero, zero-max, max-le, le-max_left, le-max_right}
 use Rattle.std.proofs.lemmas.Bool.{cases_lt}
 use Rattle.std.proofs.lemmas.List.{append-nil, map_push}
+use Rattle.std.proofs.lemmas.List.Elements.{Contains-append_left, Contains-push_cases}
 use Rattle.std.specs.List.{AllByRecursion, Contains, Any}
 use Rattle.std.specs.Str.{bytes_eq}
 use Rattle.std.proofs.lemmas.Slice.Eq.{bytes_eq-Decides}
@@ -26,13 +27,15 @@ use Rattle.fb_networks.specs.declared.typed.Instance.{Instance, out-Instance}
 use Rattle.fb_networks.specs.declared.typed.Network.{Network as Wires, out-Network}
 use Rattle.fb_networks.specs.Views.{Placed, placed_in, placed_of, body_of, instances_of, wired_of}
 use Rattle.fb_networks.specs.Answers.{AreNamed, IsPlaced, IsServedAs, IsWired}
+use denote.Ref.{Bor}
+use Rattle.fb_networks.specs.fb_text.declared.tree.BlockTree.{BlockTree as Tree}
 use Rattle.fb_types.specs.declared.made.Made.{Made}
 use Rattle.fb_types.specs.declared.made.Unmade.{Unmade}
 use Rattle.fb_types.specs.declared.made.Unmade.TheVariants as u
 use Rattle.fb_types.specs.Uses.{Used, uses_of, uses_in}
 use Rattle.fb_types.specs.Nesting.{deep, deepest, IsOf, Uses, Leads, itself, further, Nests, no_composite, innermost, outside, Provides, by_composite, InstanceProvides, by_type, by_service, AllProvide, by_none, by_each}
 use Rattle.fb_types.specs.Refusals.{IsTypeFault, faulty_part, ring, IsInstanceFault, faulty_type}
-use Rattle.fb_types.specs.Made.{shape_of, shape_uses, body_uses, IsTyped, IsTypedBody, IsDone, IsNamed, IsOpen, IsPath, IsPart, AreParts, IsComposite, IsDeeper, IsUnmade, IsRing, IsHalted, HaltsAt, LeadsTo}
+use Rattle.fb_types.specs.Made.{tree_of, shape_of, shape_uses, body_uses, IsTyped, IsTypedBody, IsDone, IsNamed, IsOpen, IsPath, IsPart, AreParts, IsComposite, IsDeeper, IsUnmade, IsRing, IsHalted, HaltsAt, LeadsTo}
 use Rattle.fb_types.proofs.Nested.{among_cons, among_nil, among_first, among_later, again, one_type, own_face}
 
 -- ---- composites nest as deep as in the body
@@ -103,6 +106,15 @@ pub all_later : {X : Type 0} {P Q : X → Type 0} (xs : List X) (y : X) → ((x 
 all_later [] y f h q = (q, tt)
 all_later (x ∷ xs) y f h q = (f x h.0, all_later xs y f h.1 q)
 
+pub any_none : {X : Type 0} {P : X → Type 0} → Any P [] → ⊥
+any_none (k, x, l, e, p) = among_nil (k, l, e)
+
+pub any_front : {X : Type 0} (P : X → Type 0) (xs : List X) (y : X) → Any P xs → Any P (xs ++ y ∷ [])
+any_front P xs y (k, x, l, e, p) = let m = Contains-append_left xs (y ∷ []) x (k, l, e) in (m.0, x, m.1, m.2, p)
+
+pub any_last : {X : Type 0} (P : X → Type 0) (xs : List X) (y : X) → Any P (xs ++ y ∷ []) → Any P xs ⊎ P y
+any_last P xs y (k, x, l, e, p) = either_of (λ m. inl (m.0, x, m.1, m.2, p)) (λ s. inr (subst P (sym s) p)) (Contains-push_cases xs y x (k, l, e))
+
 abbrev OnPath : List BlockTree → BlockTree → BlockTree → Type 0
 OnPath bs b p = (type_named bs p.name.text ≡ Some p) × Leads bs p b
 
@@ -116,33 +128,35 @@ open_more : (bs : List BlockTree) (path : List BlockTree) (b : BlockTree) → Is
 open_more bs path b opened = all_later path b (λ p h. h) opened.leads (opened.named, itself)
 
 -- a composite is not made where one of its instances is not
-pub halted : (bs : List BlockTree) (path : List BlockTree) (room d : ℕ) (b : BlockTree) (w : NetworkTree) (at : ℕ) (x y : Unmade) → IsOpen bs path b → b.body ≡ Network w → room ≡ suc d → at ≡ b.name.at
-    → HaltsAt bs (path ++ b ∷ []) d w.instances x → ((f : TypeFault) → x ≡ u.Fault f → y ≡ u.Fault f) → ((n : ℕ) → x ≡ u.TooDeep n → y ≡ u.TooDeep at) → IsUnmade bs room b y
-halted bs path room d b w at x y opened e more place h fault deeper = by x refl h.halted where
+pub halted : (bs : List BlockTree) (path : List BlockTree) (room d : ℕ) (b : BlockTree) (w : NetworkTree) (t : Bor Tree) (x y : Unmade) → IsOpen bs path b → b.body ≡ Network w → room ≡ suc d → tree_of t ≡ b
+    → HaltsAt bs (path ++ b ∷ []) d w.instances x → ((f : TypeFault) → x ≡ u.Fault f → y ≡ u.Fault f) → ((n : Bor Tree) → x ≡ u.TooDeep n → y ≡ u.TooDeep t) → IsUnmade bs room b y
+halted bs path room d b w t x y opened e more same h fault deeper = by x refl h.halted where
   ringed : (f : TypeFault) → IsInstanceFault bs h.part f ⊎ IsRing bs (path ++ b ∷ []) h.part f → IsTypeFault bs b f
   ringed f (inl k) = faulty_part e h.among k
   ringed f (inr r) = ring {i = h.part} (record { network = w; composite = e; among = h.among; of_type = r.of_type }) (all_member (OnPath bs b) (path ++ b ∷ []) r.tree (open_more bs path b opened) r.among).1 r.fault_is
 
   by : (z : Unmade) → x ≡ z → IsHalted bs (path ++ b ∷ []) d h.part z → IsUnmade bs room b y
   by (u.Fault f) s k = subst (IsUnmade bs room b) (sym (fault f s)) (ringed f k)
-  by (u.TooDeep n) s (c, o, p, k) =
-      subst (IsUnmade bs room b) (sym (deeper n s)) (place, record { count = suc k.count; more = let l = k.more in omega (arith, l, more); nests = outside {i = h.part} (record { network = w; composite = e; among = h.among; of_type = o }) k.nests })
+  by (u.TooDeep n) s (o, k) =
+      subst (IsUnmade bs room b) (sym (deeper n s)) (same, opened.named, record { count = suc k.count; more = let l = k.more in omega (arith, l, more); nests = outside {i = h.part} (record { network = w; composite = e; among = h.among; of_type = o }) k.nests })
+
+some_is : {X : Type 0} {x : X} → None ≡ Some x → ⊥
+some_is e = cc
+
+-- a type that is found for a name has it
+pub has_name : (bs : List BlockTree) (x : Name) (b : BlockTree) → type_named bs x ≡ Some b → x ≡ b.name.text
+has_name [] x b h = absurd (some_is h)
+has_name (c ∷ cs) x b h = by (bytes_eq x c.name.text) refl h (has_name cs x b) where
+  same_some : {y z : BlockTree} → Some y ≡ Some z → y ≡ z
+  same_some e = cc
+
+  by : (t : Bool) → bytes_eq x c.name.text ≡ t → Rattle.std.proofs.Common.cond t (Some c) (type_named cs x) ≡ Some b → (type_named cs x ≡ Some b → x ≡ b.name.text) → x ≡ b.name.text
+  by true s h k = (bytes_eq-Decides x c.name.text).0 s ∙ ap (λ (z : BlockTree). z.name.text) (same_some h)
+  by false s h k = k h
 
 -- a name's type is found by its own name
 pub named_self : (bs : List BlockTree) (x : Name) (b : BlockTree) → type_named bs x ≡ Some b → IsNamed bs b
-named_self bs x b h = subst (λ n. type_named bs n ≡ Some b) (has_name bs x b h) h where
-  some_is : {X : Type 0} {x : X} → None ≡ Some x → ⊥
-  some_is e = cc
-
-  has_name : (bs : List BlockTree) (x : Name) (b : BlockTree) → type_named bs x ≡ Some b → x ≡ b.name.text
-  has_name [] x b h = absurd (some_is h)
-  has_name (c ∷ cs) x b h = by (bytes_eq x c.name.text) refl h (has_name cs x b) where
-    same_some : {y z : BlockTree} → Some y ≡ Some z → y ≡ z
-    same_some e = cc
-
-    by : (t : Bool) → bytes_eq x c.name.text ≡ t → Rattle.std.proofs.Common.cond t (Some c) (type_named cs x) ≡ Some b → (type_named cs x ≡ Some b → x ≡ b.name.text) → x ≡ b.name.text
-    by true s h k = (bytes_eq-Decides x c.name.text).0 s ∙ ap (λ (z : BlockTree). z.name.text) (same_some h)
-    by false s h k = k h
+named_self bs x b h = subst (λ n. type_named bs n ≡ Some b) (has_name bs x b h) h
 
 -- a type of a name on a path
 pub on_path : (bs : List BlockTree) (path : List BlockTree) (i : InstanceTree) (c : BlockTree) (at : ℕ) → Any (λ (b : BlockTree). b.name.text ≡ i.type.text) path → ((d : BlockTree) → IsOf bs i d → IsPath bs path d) → IsOf bs i c
@@ -200,7 +214,7 @@ served_part bs room i x s p e place =
 -- why an instance is not made where its type is not
 pub halted_type : (bs : List BlockTree) (path : List BlockTree) (room : ℕ) (i : InstanceTree) (c : BlockTree) (x : Unmade) → IsOf bs i c → IsUnmade bs room c x → IsHalted bs path room i x
 halted_type bs path room i c (u.Fault f) o h = inl (faulty_type o h)
-halted_type bs path room i c (u.TooDeep at) o h = (c, o, h.0, h.1)
+halted_type bs path room i c (u.TooDeep x) o h = (subst (IsOf bs i) (sym h.0) o, subst (IsDeeper bs room) (sym h.0) h.2)
 
 -- ---- instances one after another
 

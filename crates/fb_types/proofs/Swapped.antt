@@ -9,7 +9,8 @@ use Rattle.fb_model.specs.BlockTyping.{IsBasic}
 use Rattle.fb_model.specs.NetworkTyping.{type_named, IsMade, a_basic, a_composite, IsInstance, of_type, of_service, AreInstances, no_instance, an_instance, IsResource, AreResources, no_resource, a_resource, IsDevice, AreDevices, no_device, a_device, IsProper, ElaboratesWith}
 use Rattle.fb_model.specs.EventBlocks.{Declares, AllDeclare, no_more, one_more}
 use Rattle.fb_networks.proofs.of_fb_blocks.Single.{one_basic}
-use Rattle.fb_types.proofs.Tabled.{or_else, named_append}
+use Rattle.std.specs.Option.{option_or}
+use Rattle.fb_types.proofs.Tabled.{named_append}
 
 same_chart : {x y : ChartTree} → Chart x ≡ Chart y → x ≡ y
 same_chart e = cc
@@ -49,9 +50,9 @@ alike bs x _ _ _ b (one_more {b = c} {bs = library} {k = k} {ks = ks} p ps) (one
 module _ (types : List BlockTree) (library others : List BlockTree) (ks : List (Name × book.Block)) (all : AllDeclare library ks) (alls : AllDeclare others ks) where
   named_alike : (x : Name) (b : BlockTree) → type_named (types ++ library) x ≡ Some b → Alike (types ++ others) x (types ++ others) b
   named_alike x b e = by (type_named types x) refl (sym (named_append types library x) ∙ e) where
-    by : (o : Option BlockTree) → type_named types x ≡ o → or_else o (type_named library x) ≡ Some b → Alike (types ++ others) x (types ++ others) b
-    by None f g = let r = alike (types ++ others) x ks library others b all alls g in record { tree = r.tree; named = named_append types others x ∙ ap (λ o. or_else o (type_named others x)) f ∙ r.named; made = r.made }
-    by (Some c) f g = record { tree = b; named = named_append types others x ∙ ap (λ o. or_else o (type_named others x)) f ∙ g; made = λ d y m. m }
+    by : (o : Option BlockTree) → type_named types x ≡ o → option_or o (type_named library x) ≡ Some b → Alike (types ++ others) x (types ++ others) b
+    by None f g = let r = alike (types ++ others) x ks library others b all alls g in record { tree = r.tree; named = named_append types others x ∙ ap (λ o. option_or o (type_named others x)) f ∙ r.named; made = r.made }
+    by (Some c) f g = record { tree = b; named = named_append types others x ∙ ap (λ o. option_or o (type_named others x)) f ∙ g; made = λ d y m. m }
 
   mutual
     made_alike : (d : ℕ) (b : BlockTree) (x : book.Body) → IsMade (types ++ library) d b x → IsMade (types ++ others) d b x

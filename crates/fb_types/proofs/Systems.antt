@@ -29,19 +29,19 @@ use Rattle.fb_types.specs.Uses.{Used, uses_in}
 use Rattle.fb_types.specs.Views.{resource_of, resource_places, system_places, places_in, all_places, resource_uses, device_uses, system_uses}
 use Rattle.fb_types.specs.Counts.{IsCrowded, crowded}
 use Rattle.fb_types.specs.Nesting.{IsOf, AllProvide, ResourcesProvide, by_no_resource, by_each_resource, DevicesProvide, by_no_device, by_each_device}
-use Rattle.fb_types.specs.Refusals.{IsTypeFault, too_deep, IsInstanceFault, faulty_type, IsCrowd}
+use Rattle.fb_types.specs.Refusals.{IsTypeFault, too_deep, IsInstanceFault, IsCrowd}
+use Rattle.fb_types.specs.Rings.{Ends}
 use Rattle.fb_types.specs.declared.made.Made.{Made}
 use Rattle.fb_types.specs.Made.{IsDeeper, IsRing, IsMemo, AreParts, AreMade}
 use Rattle.fb_types.proofs.Nested.{among_nil}
 use Rattle.fb_types.proofs.Making.{named_parts}
+use Rattle.fb_types.proofs.Ringed.{no_ring_below}
 
 -- ---- refusals
 
-pub limit_of_type : (bs : List BlockTree) (b : BlockTree) (at : ℕ) → at ≡ b.name.at → IsDeeper bs most_deep b → IsTypeFault bs b (faults.Limit at)
-limit_of_type bs b at e h = too_deep h.more h.nests (ap faults.Limit e)
-
-pub limit_of_instance : (bs : List BlockTree) (i : InstanceTree) (at : ℕ) → (c : BlockTree) × IsOf bs i c × (at ≡ c.name.at) × IsDeeper bs most_deep c → IsInstanceFault bs i (faults.Limit at)
-limit_of_instance bs i at (c, o, e, h) = faulty_type o (limit_of_type bs c at e h)
+-- a type in which composites nest too deep, by what the search for a ring finds
+pub limit_of_type : (bs : List BlockTree) (b : BlockTree) (at : ℕ) → at ≡ b.name.at → IsDeeper bs most_deep b → Ends bs b → IsTypeFault bs b (faults.Limit at)
+limit_of_type bs b at e h r = too_deep h.more h.nests (no_ring_below bs b r) (ap faults.Limit e)
 
 pub no_ring_at_top : (bs : List BlockTree) (i : InstanceTree) (f : TypeFault) → IsInstanceFault bs i f ⊎ IsRing bs [] i f → IsInstanceFault bs i f
 no_ring_at_top bs i f (inl h) = h
@@ -91,7 +91,7 @@ split bs d (y ∷ before) x after is h e =
     record { front = k.one ∷ s.front; back = s.back; one = s.one; parts = k.parts ∙ ap (λ l. k.one ∷ l) s.parts; earlier = subst (λ n. AreInstances bs d (k.one ∷ s.front) (book.instance n ((placed_of y).1) ((placed_of y).2) (instances_of before))) (sym k.named) (an_instance k.made s.earlier); made = s.made; place = s.place }
 
 pub crowd : (bs : List BlockTree) (most d : ℕ) (is : List InstanceTree) (xs : List Instance) (n : ℕ) (f : TypeFault) → AreParts bs d is xs n → IsCrowded most xs f → IsCrowd bs most is f
-crowd bs most d is xs n f h (crowded before after i parts more e) =
+crowd bs most d is xs n f h (crowded before after i parts fits more e) =
     let s = split bs d before i after is (subst (λ l. AreInstances bs d is (instances_of l)) parts h.typed) (subst (λ l. places l ≡ name_places is) parts h.places) in
     record {
       before = s.front;
@@ -104,6 +104,7 @@ crowd bs most d is xs n f h (crowded before after i parts more e) =
       body = (placed_of i).2;
       earlier = s.earlier;
       made = s.made;
+      fits = fits;
       more = more;
       fault_is = e ∙ ap faults.Limit s.place;
     }

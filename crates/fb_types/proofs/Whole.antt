@@ -27,7 +27,8 @@ use Rattle.fb_types.specs.Refusals as fault
 use Rattle.fb_types.specs.Made.{IsNamed}
 use Rattle.fb_types.proofs.Nested.{among_cons, among_nil, one_type, one_instance, all_one, type_true, all_true}
 use Rattle.fb_types.proofs.Making.{all_member}
-use Rattle.fb_types.proofs.Tabled.{or_else, named_append}
+use Rattle.std.specs.Option.{option_or}
+use Rattle.fb_types.proofs.Tabled.{named_append}
 use Rattle.fb_types.proofs.Ended.{inputs_are, outputs_are, channels_are, no_number_fault, senders_are, no_channel_fault}
 
 -- ---- types of different names
@@ -48,8 +49,8 @@ named_in whole before (b ∷ bs) library e h =
     let x = b.name.text in
     let rest : List BlockTree = b ∷ (bs ++ library) in
     let f : whole ≡ before ++ rest = e in
-    let here : type_named whole x ≡ or_else (type_named before x) (type_named rest x) = ap (λ w. type_named w x) f ∙ named_append before rest x in
-    let gone : or_else (type_named before x) (type_named rest x) ≡ type_named rest x = ap (λ o. or_else o (type_named rest x)) (missing before x h.0) in
+    let here : type_named whole x ≡ option_or (type_named before x) (type_named rest x) = ap (λ w. type_named w x) f ∙ named_append before rest x in
+    let gone : option_or (type_named before x) (type_named rest x) ≡ type_named rest x = ap (λ o. option_or o (type_named rest x)) (missing before x h.0) in
     let new : AreNew (map (λ c. c.name.text) (before ++ b ∷ [])) (map (λ c. c.name.text) bs) = subst (λ ns. AreNew ns (map (λ c. c.name.text) bs)) (sym (map-append (λ c. c.name.text) before (b ∷ []))) h.1 in
     (here ∙ gone ∙ own_name b (bs ++ library), named_in whole (before ++ b ∷ []) bs library (f ∙ sym (append_assoc before (b ∷ []) (bs ++ library))) new)
 

@@ -11,6 +11,7 @@ pub mod Ends
 pub mod Counts
 pub mod Nesting
 pub mod Refusals
+pub mod Rings
 pub mod Made
 pub mod Beforehand
 pub mod Written

@@ -131,7 +131,7 @@ module _ (bs : List BlockTree) where
   -- why a type is not made with composites nested at most so deep
   abbrev pub IsUnmade : ℕ → BlockTree → Unmade → Type 0
   IsUnmade d b (u.Fault f) = IsTypeFault bs b f
-  IsUnmade d b (u.TooDeep at) = (at ≡ b.name.at) × IsDeeper d b
+  IsUnmade d b (u.TooDeep x) = (tree_of x ≡ b) × IsNamed b × IsDeeper d b
 
   -- the type of an instance is on a path, at the type's name
   pub record IsRing (path : List BlockTree) (i : InstanceTree) (f : TypeFault) : Type 0 where
@@ -143,7 +143,7 @@ module _ (bs : List BlockTree) where
   -- why an instance is not made
   abbrev pub IsHalted : List BlockTree → ℕ → InstanceTree → Unmade → Type 0
   IsHalted path d i (u.Fault f) = IsInstanceFault bs i f ⊎ IsRing path i f
-  IsHalted path d i (u.TooDeep at) = (c : BlockTree) × IsOf bs i c × (at ≡ c.name.at) × IsDeeper d c
+  IsHalted path d i (u.TooDeep x) = IsOf bs i (tree_of x) × IsDeeper d (tree_of x)
 
   -- one of these instances is not made
   pub record HaltsAt (path : List BlockTree) (d : ℕ) (is : List InstanceTree) (u : Unmade) : Type 0 where

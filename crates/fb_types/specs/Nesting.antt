@@ -39,6 +39,10 @@ module _ (bs : List BlockTree) where
     itself : Leads b b
     further : {c d : BlockTree} {i : InstanceTree} → Leads b c → Uses c i d → Leads b d
 
+  -- a type leads to none that is inside itself
+  abbrev pub LeadsToNoRing : BlockTree → Type 0
+  LeadsToNoRing b = (c d : BlockTree) (i : InstanceTree) → Leads b c → Uses c i d → Leads d c → ⊥
+
   -- so many composites nest in a type, it among them, or more
   pub data Nests : BlockTree → ℕ → Type 0 where
     no_composite : {b : BlockTree} → Nests b 0

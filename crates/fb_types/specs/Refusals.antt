@@ -1,5 +1,5 @@
 -- What is at fault in declared types, resources, devices and whole sources, and where.
-use Rattle.std.specs.Prelude.{ℕ, suc, ◌+◌, ◌<◌, ◌≡◌, true, false, List, [], ◌∷◌, ◌++◌, map, None}
+use Rattle.std.specs.Prelude.{ℕ, suc, ◌+◌, ◌<◌, ◌≤◌, ◌≡◌, true, false, List, [], ◌∷◌, ◌++◌, map, None}
 use Rattle.std.specs.List.{Contains}
 use Rattle.fb_model.specs.Names.{is_in}
 use Rattle.fb_model.specs.Declarations.{ChartTree, InstanceTree, NetworkTree, Chart, Network, BlockTree, ResourceTree, DeviceTree, SourceTree}
@@ -13,7 +13,7 @@ use Rattle.fb_networks.specs.fb_blocks.Refusals.{IsRepetition, IsExcess, IsFaceF
 use Rattle.fb_networks.specs.Views.{Placed, placed_in}
 use Rattle.fb_networks.specs.Refusals.{IsPlainFault, IsServedFault, IsNetworkFault}
 use Rattle.fb_types.specs.Uses.{Used}
-use Rattle.fb_types.specs.Nesting.{IsOf, Uses, Leads, Nests, ResourcesProvide, DevicesProvide}
+use Rattle.fb_types.specs.Nesting.{IsOf, Uses, Leads, LeadsToNoRing, Nests, ResourcesProvide, DevicesProvide}
 use Rattle.fb_types.specs.Ends.{IsNumberFault, IsChannelFault}
 
 -- By these types:
@@ -29,8 +29,8 @@ module _ (bs : List BlockTree) where
           → b.body ≡ Network n → IsFace b ins outs g → AreInstances bs d n.instances (placed_in ps) → IsNetworkFault g n ps f → IsTypeFault b f
       -- it is inside itself, at the name of the type by which a ring closes
       ring : {b c : BlockTree} {f : TypeFault} {i : InstanceTree} → Uses bs b i c → Leads bs c b → f ≡ RecursiveComposite i.type.at → IsTypeFault b f
-      -- composites nest too deep in it, at its name
-      too_deep : {b : BlockTree} {f : TypeFault} {n : ℕ} → most_deep < n → Nests bs b n → f ≡ Limit b.name.at → IsTypeFault b f
+      -- composites nest too deep in it, none of them inside itself, at its name
+      too_deep : {b : BlockTree} {f : TypeFault} {n : ℕ} → most_deep < n → Nests bs b n → LeadsToNoRing bs b → f ≡ Limit b.name.at → IsTypeFault b f
 
     -- what is at fault in an instance
     pub data IsInstanceFault : InstanceTree → TypeFault → Type 0 where
@@ -47,7 +47,7 @@ module _ (bs : List BlockTree) where
     named_as_service : is_in b.name.text service_names ≡ true → f ≡ DuplicateName b.name.at → IsBlockFault b f
     faulty_block : IsTypeFault b f → IsBlockFault b f
 
-  -- with this one a resource has more instances than as many, those inside composites counted, at its name
+  -- with this one a resource has more instances than as many, those inside composites counted, and without it not yet, at its name
   pub record IsCrowd (most : ℕ) (is : List InstanceTree) (f : TypeFault) : Type 0 where
     pub before : List InstanceTree
     pub after : List InstanceTree
@@ -59,6 +59,7 @@ module _ (bs : List BlockTree) where
     pub body : Body
     pub earlier : AreInstances bs d before inner
     pub made : IsInstance bs d one parameters body
+    pub fits : instance_count inner ≤ most
     pub more : most < instance_count inner + suc (inner_count body)
     pub fault_is : f ≡ Limit one.name.at
 

@@ -10,6 +10,7 @@ mod made;
 mod make;
 mod numbers;
 mod resource;
+mod rings;
 mod shapes;
 mod source;
 mod table;

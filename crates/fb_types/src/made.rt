@@ -6,6 +6,7 @@ ghost use Rattle.fb_networks.specs.Views.{body_of};
 ghost use Rattle.fb_types.specs.Made.{shape_of, shape_uses, body_uses, IsMemo, IsDone};
 ghost use Rattle.fb_types.specs.declared.made.Unmade.TheVariants.{Fault};
 
+use fb_networks::fb_services::fb_blocks::fb_text::BlockTree;
 use fb_networks::fb_services::fb_blocks::{Block, Face, TypeFault};
 use fb_networks::{Body, Network};
 use indexmap::IndexMap;
@@ -33,36 +34,36 @@ pub(crate) type Memo = IndexMap<String, Made>;
 
 /// Why a type is not made.
 #[derive(Drop)]
-pub(crate) enum Unmade {
+pub(crate) enum Unmade<'a> {
     Fault(TypeFault),
-    /// More composites nest in the type whose name stands at the offset than may.
-    TooDeep(usize),
+    /// More composites nest in the type than may.
+    TooDeep(&'a BlockTree),
 }
 
-impl From<TypeFault> for Unmade {
+impl<'a> From<TypeFault> for Unmade<'a> {
     ghost from_gives = { λ f u. u ≡ Fault f };
 
-    fn from(fault: TypeFault) -> Unmade {
+    fn from(fault: TypeFault) -> Unmade<'a> {
         Unmade::Fault(fault)
     }
 }
 
-impl From<AllocError> for Unmade {
+impl<'a> From<AllocError> for Unmade<'a> {
     ghost use Rattle.fb_networks.specs.fb_blocks.declared.fault.TypeFault.TheVariants.{OutOfMemory};
 
     ghost from_gives = { λ _ u. u ≡ Fault OutOfMemory };
 
-    fn from(_: AllocError) -> Unmade {
+    fn from(_: AllocError) -> Unmade<'a> {
         Unmade::Fault(TypeFault::OutOfMemory)
     }
 }
 
-impl<T: Drop> From<AllocFailed<T>> for Unmade {
+impl<'a, T: Drop> From<AllocFailed<T>> for Unmade<'a> {
     ghost use Rattle.fb_networks.specs.fb_blocks.declared.fault.TypeFault.TheVariants.{OutOfMemory};
 
     ghost from_gives = { λ _ u. u ≡ Fault OutOfMemory };
 
-    fn from(_: AllocFailed<T>) -> Unmade {
+    fn from(_: AllocFailed<T>) -> Unmade<'a> {
         Unmade::Fault(TypeFault::OutOfMemory)
     }
 }

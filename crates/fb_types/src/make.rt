@@ -1,6 +1,6 @@
 //! Declared types: basic blocks and composites, and the instances in these.
 
-ghost use Rattle.std.specs.Prelude.{◌≡◌, ◌≤◌, ◌++◌, ◌∷◌, [], List, ℕ, suc, max, map, true, false, OnOk, IfOk, IfErr, Some};
+ghost use Rattle.std.specs.Prelude.{◌≡◌, ◌≤◌, ◌↔◌, ◌++◌, ◌∷◌, [], List, ℕ, suc, max, map, true, false, OnOk, IfOk, IfErr, Some};
 ghost use Rattle.std.specs.List.{Any};
 ghost use Rattle.fb_model.specs.Declarations as decl;
 ghost use Rattle.fb_model.specs.System as book;
@@ -10,6 +10,8 @@ ghost use Rattle.fb_model.specs.NetworkTyping.{type_named};
 ghost use Rattle.fb_networks.specs.fb_text.Views as trees_of;
 ghost use Rattle.fb_networks.specs.fb_blocks.Views.{face_of};
 ghost use Rattle.fb_networks.specs.fb_blocks.Refusals.{IsBasicFault};
+ghost use denote.Ref.{Bor};
+ghost use Rattle.fb_networks.specs.fb_text.declared.tree.BlockTree.{BlockTree as Tree};
 ghost use Rattle.fb_types.specs.declared.made.Unmade.TheVariants as u;
 ghost use Rattle.fb_types.specs.Nesting.{IsOf};
 ghost use Rattle.fb_types.specs.Refusals.{IsTypeFault};
@@ -25,14 +27,14 @@ use fb_networks::{Body, Instance, plain, served, wire};
 use std::alloc::{AllocError, Global};
 use std::rc::Rc;
 
-// Why a composite is not made, where this is so of a type in it: a chain that is too long starts at its name.
-fn outer(unmade: Unmade, at: usize) -> Unmade
-    ensures fault { (f : TypeFault) → unmade ≡ u.Fault f → result ≡ u.Fault f }
-    ensures deep { (n : ℕ) → unmade ≡ u.TooDeep n → result ≡ u.TooDeep at }
+// Why a composite is not made, where this is so of a type in it: a chain that is too long starts at the composite.
+fn outer<'a>(unmade: Unmade<'a>, source: &'a BlockTree) -> Unmade<'a>
+    ensures fault { (f : TypeFault) → unmade.entry ≡ u.Fault f → result ≡ u.Fault f }
+    ensures deep { (x : Bor Tree) → unmade.entry ≡ u.TooDeep x → result ≡ u.TooDeep source }
 {
     match unmade {
         Unmade::Fault(fault) => Unmade::Fault(fault),
-        Unmade::TooDeep(_) => Unmade::TooDeep(at),
+        Unmade::TooDeep(_) => Unmade::TooDeep(source),
     }
 }
 
@@ -84,9 +86,9 @@ fn extended<'a>(
     Ok(longer)
 }
 
-// Whether a type of this name is on a path.
-fn is_on(path: &[&BlockTree], name: &str) -> bool
-    ensures on { result ≡ true → Any (λ b. b.name.text ≡ name.now) (map tree_of path.now) }
+/// Whether a type of this name is on a path.
+pub(crate) fn is_on(path: &[&BlockTree], name: &str) -> bool
+    ensures { result ≡ true ↔ Any (λ b. b.name.text ≡ name.now) (map tree_of path.now) }
 {
     for block in path {
         if block.name.text.as_str() == name {
@@ -112,7 +114,7 @@ fn make<'a>(
     path: &[&'a BlockTree],
     room: usize,
     source: &'a BlockTree,
-) -> Result<Made, Unmade>
+) -> Result<Made, Unmade<'a>>
     ensures bounded { IfOk result (λ m. m.deep ≤ room) }
     ensures made { (bs : List decl.BlockTree) → IsTable bs types.now → IsMemo bs memo.old → IfOk result (IsTyped bs room (trees_of.block_of source.now)) }
     ensures kept { (bs : List decl.BlockTree) → IsTable bs types.now → IsMemo bs memo.old → OnOk result (IsMemo bs memo.new) }
@@ -136,20 +138,20 @@ fn make_composite<'a>(
     room: usize,
     source: &'a BlockTree,
     network: &'a NetworkTree,
-) -> Result<Made, Unmade>
+) -> Result<Made, Unmade<'a>>
     ensures bounded { IfOk result (λ m. m.deep ≤ room) }
     ensures made { (bs : List decl.BlockTree) → IsTable bs types.now → IsMemo bs memo.old → (trees_of.block_of source.now).body ≡ decl.Network (trees_of.network_of network.now) → IfOk result (IsTyped bs room (trees_of.block_of source.now)) }
     ensures kept { (bs : List decl.BlockTree) → IsTable bs types.now → IsMemo bs memo.old → OnOk result (IsMemo bs memo.new) }
     ensures refused { (bs : List decl.BlockTree) → IsTable bs types.now → IsMemo bs memo.old → (trees_of.block_of source.now).body ≡ decl.Network (trees_of.network_of network.now) → IsOpen bs (map tree_of path.now) (trees_of.block_of source.now) → IfErr result (IsUnmade bs room (trees_of.block_of source.now)) }
 {
     if room == 0 {
-        return Err(Unmade::TooDeep(source.name.at));
+        return Err(Unmade::TooDeep(source));
     }
     let face = face(alloc, source)?;
     let path = extended(alloc, path, source)?;
     match parts(alloc, types, memo, &path, room - 1, &network.instances) {
         Ok((instances, deep)) => Ok(composite(alloc, face, instances, deep + 1, network)?),
-        Err(unmade) => Err(outer(unmade, source.name.at)),
+        Err(unmade) => Err(outer(unmade, source)),
     }
 }
 
@@ -162,7 +164,7 @@ pub(crate) fn body_of_type<'a>(
     path: &[&'a BlockTree],
     room: usize,
     source: &'a BlockTree,
-) -> Result<(Body, usize), Unmade>
+) -> Result<(Body, usize), Unmade<'a>>
     ensures bounded { IfOk result (λ p. p.1 ≤ room) }
     ensures made { (bs : List decl.BlockTree) → IsTable bs types.now → IsMemo bs memo.old → IsNamed bs (trees_of.block_of source.now) → IfOk result (λ p. IsTypedBody bs room (trees_of.block_of source.now) p.0 p.1) }
     ensures kept { (bs : List decl.BlockTree) → IsTable bs types.now → IsMemo bs memo.old → IsNamed bs (trees_of.block_of source.now) → OnOk result (IsMemo bs memo.new) }
@@ -171,7 +173,7 @@ pub(crate) fn body_of_type<'a>(
     match recall(memo, source.name.text.as_str()) {
         Some(made) => {
             if made.deep > room {
-                return Err(Unmade::TooDeep(source.name.at));
+                return Err(Unmade::TooDeep(source));
             }
             Ok((body(&made.shape)?, made.deep))
         }
@@ -194,7 +196,7 @@ fn part<'a>(
     path: &[&'a BlockTree],
     room: usize,
     source: &'a InstanceTree,
-) -> Result<(Instance, usize), Unmade>
+) -> Result<(Instance, usize), Unmade<'a>>
     ensures bounded { IfOk result (λ p. p.1 ≤ room) }
     ensures made { (bs : List decl.BlockTree) → IsTable bs types.now → IsMemo bs memo.old → IfOk result (λ p. IsPart bs room (trees_of.instance_of source.now) p.0 p.1) }
     ensures kept { (bs : List decl.BlockTree) → IsTable bs types.now → IsMemo bs memo.old → OnOk result (IsMemo bs memo.new) }
@@ -222,7 +224,7 @@ pub(crate) fn parts<'a>(
     path: &[&'a BlockTree],
     room: usize,
     sources: &'a [InstanceTree],
-) -> Result<(Vec<Instance>, usize), Unmade>
+) -> Result<(Vec<Instance>, usize), Unmade<'a>>
     ensures bounded { IfOk result (λ p. p.1 ≤ room) }
     ensures made { (bs : List decl.BlockTree) → IsTable bs types.now → IsMemo bs memo.old → IfOk result (λ p. AreParts bs room (map trees_of.instance_of sources.now) p.0.items p.1) }
     ensures kept { (bs : List decl.BlockTree) → IsTable bs types.now → IsMemo bs memo.old → OnOk result (IsMemo bs memo.new) }

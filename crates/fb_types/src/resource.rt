@@ -9,14 +9,15 @@ ghost use Rattle.fb_networks.specs.fb_blocks.Views.{face_of};
 ghost use Rattle.fb_types.specs.Views.{resource_of, resource_places, places_in, resource_uses, device_uses};
 ghost use Rattle.fb_types.specs.Nesting.{AllProvide, ResourcesProvide};
 ghost use Rattle.fb_types.specs.Refusals.{IsTypeFault, IsInstanceFault, IsResourceFault};
-ghost use Rattle.fb_types.specs.Made.{IsTable, IsMemo, IsUnmade, IsHalted, AreMade};
+ghost use Rattle.fb_types.specs.Made.{IsTable, IsMemo, IsNamed, IsDeeper, IsUnmade, IsHalted, AreMade};
 
 use crate::count::few;
 use crate::made::{Memo, Unmade};
 use crate::make::parts;
+use crate::rings::ring;
 use crate::table::Types;
 use crate::typed::Resource;
-use fb_networks::fb_services::fb_blocks::fb_text::{InstanceTree, ResourceTree};
+use fb_networks::fb_services::fb_blocks::fb_text::{BlockTree, InstanceTree, ResourceTree};
 use fb_networks::fb_services::fb_blocks::{Face, TypeFault};
 use fb_networks::{Instance, wire};
 use indexmap::IndexMap;
@@ -25,14 +26,25 @@ use std::alloc::Global;
 /// The most composites that nest in one another.
 pub const DEEP: usize = 16;
 
+// The refusal of a type in which too many composites nest, or one that is inside itself.
+fn too_deep<'a>(alloc: Global, types: &Types<'a>, block: &'a BlockTree) -> TypeFault
+    ensures { (bs : List decl.BlockTree) → IsTable bs types.now → IsNamed bs (trees_of.block_of block.now) → IsDeeper bs DEEP (trees_of.block_of block.now) → IsTypeFault bs (trees_of.block_of block.now) result }
+{
+    match ring(alloc, types, block) {
+        Ok(Some(at)) => TypeFault::RecursiveComposite(at),
+        Ok(None) => TypeFault::Limit(block.name.at),
+        Err(_) => TypeFault::OutOfMemory,
+    }
+}
+
 /// The refusal, where this many composites may nest.
-pub(crate) fn refusal(unmade: Unmade) -> TypeFault
-    ensures of_type { (bs : List decl.BlockTree) (b : decl.BlockTree) → IsUnmade bs DEEP b unmade → IsTypeFault bs b result }
-    ensures of_instance { (bs : List decl.BlockTree) (i : decl.InstanceTree) → IsHalted bs [] DEEP i unmade → IsInstanceFault bs i result }
+pub(crate) fn refusal<'a>(alloc: Global, types: &Types<'a>, unmade: Unmade<'a>) -> TypeFault
+    ensures of_type { (bs : List decl.BlockTree) (b : decl.BlockTree) → IsTable bs types.now → IsUnmade bs DEEP b unmade.entry → IsTypeFault bs b result }
+    ensures of_instance { (bs : List decl.BlockTree) (i : decl.InstanceTree) → IsTable bs types.now → IsHalted bs [] DEEP i unmade.entry → IsInstanceFault bs i result }
 {
     match unmade {
         Unmade::Fault(fault) => fault,
-        Unmade::TooDeep(at) => TypeFault::Limit(at),
+        Unmade::TooDeep(block) => too_deep(alloc, types, block),
     }
 }
 
@@ -61,7 +73,7 @@ fn instances<'a>(
 {
     match parts(alloc, types, memo, &[], DEEP, sources) {
         Ok((instances, _)) => Ok(instances),
-        Err(unmade) => Err(refusal(unmade)),
+        Err(unmade) => Err(refusal(alloc, types, unmade)),
     }
 }
 

@@ -2,8 +2,6 @@
 
 ghost use Rattle.std.specs.Prelude.{◌≡◌, ◌++◌, [], List, map, true, OnOk, IfOk, IfErr};
 ghost use Rattle.std.specs.List.{AllByRecursion, Contains};
-ghost use Rattle.fb_model.specs.Names.{is_in};
-ghost use Rattle.fb_model.specs.Typing.{service_names};
 ghost use Rattle.fb_model.specs.Declarations as decl;
 ghost use Rattle.fb_model.specs.System as book;
 ghost use Rattle.fb_model.specs.NetworkTyping.{IsProper, ElaboratesWith};
@@ -18,7 +16,7 @@ use crate::ends::channels_alike;
 use crate::made::Memo;
 use crate::make::body_of_type;
 use crate::resource::{DEEP, refusal};
-use crate::table::{Types, table_of};
+use crate::table::{Types, is_service, table_of};
 use crate::typed::Configuration;
 use fb_networks::fb_services::fb_blocks::fb_text::{BlockTree, FileTree};
 use fb_networks::fb_services::fb_blocks::{TypeFault, at_most, table};
@@ -27,19 +25,6 @@ use std::alloc::Global;
 
 /// The most devices of a system.
 pub const DEVICES: usize = 16;
-
-// Whether a name is that of a service, which no declared type may have.
-fn is_service(name: &str) -> bool
-    ensures { result ≡ is_in name.now service_names }
-{
-    name == "INPUT"
-        || name == "OUTPUT"
-        || name == "PUBLISH"
-        || name == "SUBSCRIBE"
-        || name == "E_DELAY"
-        || name == "E_CYCLE"
-        || name == "E_RESTART"
-}
 
 // Refuses a declared type that is not well typed, or has a service's name.
 fn declared<'a>(
@@ -57,7 +42,7 @@ fn declared<'a>(
     }
     match body_of_type(alloc, types, memo, &[], DEEP, source) {
         Ok(_) => Ok(()),
-        Err(unmade) => Err(refusal(unmade)),
+        Err(unmade) => Err(refusal(alloc, types, unmade)),
     }
 }
 

@@ -3,6 +3,8 @@
 ghost use Rattle.std.specs.Prelude.{◌≡◌, ◌++◌, ◌∷◌, [], List, map, OnOk, IfOk};
 ghost use Rattle.std.specs.Option.{option_map};
 ghost use Rattle.fb_model.specs.Declarations as decl;
+ghost use Rattle.fb_model.specs.Names.{is_in};
+ghost use Rattle.fb_model.specs.Typing.{service_names};
 ghost use Rattle.fb_model.specs.NetworkTyping.{type_named};
 ghost use Rattle.fb_networks.specs.fb_text.Views as trees_of;
 ghost use Rattle.fb_types.specs.Made.{tree_of, IsTable};
@@ -53,4 +55,17 @@ pub(crate) fn type_of<'a>(types: &Types<'a>, name: &str) -> Option<&'a BlockTree
     ensures { (bs : List decl.BlockTree) → IsTable bs types.now → option_map tree_of result ≡ type_named bs name.now }
 {
     types.get(name).copied()
+}
+
+/// Whether a name is that of a service, which no declared type may have.
+pub(crate) fn is_service(name: &str) -> bool
+    ensures { result ≡ is_in name.now service_names }
+{
+    name == "INPUT"
+        || name == "OUTPUT"
+        || name == "PUBLISH"
+        || name == "SUBSCRIBE"
+        || name == "E_DELAY"
+        || name == "E_CYCLE"
+        || name == "E_RESTART"
 }

@@ -20,7 +20,7 @@ use Rattle.fb_types.proofs.make.+making.Goals as goal
 
 pub body_of_type-returns-then-made-room-clause-refused : goal.body_of_type-returns-then-made-room-clause-refused
 body_of_type-returns-then-made-room-clause-refused t c = λ bs table memo opened.
-    (refl, deeper_again bs c.args.room (trees_of.block_of c.args.source.now) _ c.in-Some.made.now (c.in-Some.ensures bs memo) c.as_str.ensures.value opened.named c.if-made-room.true)
+    (refl, opened.named, deeper_again bs c.args.room (trees_of.block_of c.args.source.now) _ c.in-Some.made.now (c.in-Some.ensures bs memo) c.as_str.ensures.value opened.named c.if-made-room.true)
 
 pub body_of_type-returns-in_err-body-in-Some-clause-refused : goal.body_of_type-returns-in_err-body-in-Some-clause-refused
 body_of_type-returns-in_err-body-in-Some-clause-refused t c = λ bs table memo opened.
@@ -63,7 +63,7 @@ pub make-returns-in_ok-basic_type-in-Chart-clause-made : goal.make-returns-in_ok
 make-returns-in_ok-basic_type-in-Chart-clause-made t c = λ bs table memo. c.in_ok-basic_type-in-Chart.ensures.made bs c.args.room (ap trees_of.block_body_of c.in-Chart.is)
 
 pub make_composite-returns-then-room-eq0-clause-refused : goal.make_composite-returns-then-room-eq0-clause-refused
-make_composite-returns-then-room-eq0-clause-refused t c = λ bs table memo e opened. (refl, record { count = 1; more = omega (arith, c.if-room-eq0.true); nests = innermost e })
+make_composite-returns-then-room-eq0-clause-refused t c = λ bs table memo e opened. (refl, opened.named, record { count = 1; more = omega (arith, c.if-room-eq0.true); nests = innermost e })
 
 pub make_composite-returns-in_err-face-clause-refused : goal.make_composite-returns-in_err-face-clause-refused
 make_composite-returns-in_err-face-clause-refused t c = λ bs table memo e opened.
@@ -98,7 +98,7 @@ make_composite-returns-in-Err-clause-refused t c = λ bs table memo e opened.
     let path = map tree_of c.args.path.now in
     let same : map tree_of c.deref.result.now ≡ path ++ b ∷ [] = ap (map tree_of) c.deref.ensures.value ∙ c.in_ok-path.ensures in
     let leads = subst (λ l. LeadsTo bs l w.instances) (sym same) (leads_more bs path b w opened e) in
-    halted bs path c.args.room (c.args.room - 1) b w c.args.source.now.name.at c.in-Err.unmade c.outer.result opened e (omega (arith, c.if-room-eq0.false)) refl
+    halted bs path c.args.room (c.args.room - 1) b w c.args.source c.in-Err.unmade c.outer.result opened e (omega (arith, c.if-room-eq0.false)) refl
     (subst (λ l. HaltsAt bs l (c.args.room - 1) w.instances c.in-Err.unmade) same
     (subst (λ l. HaltsAt bs (map tree_of c.deref.result.now) (c.args.room - 1) (map trees_of.instance_of l) c.in-Err.unmade) c.deref-2.ensures.value (c.in-Err.ensures.refused bs table memo (subst (λ l. LeadsTo bs (map tree_of c.deref.result.now) (map trees_of.instance_of l)) (sym c.deref-2.ensures.value) leads)))) c.outer.ensures.fault c.outer.ensures.deep
 
@@ -131,7 +131,7 @@ part-returns-then-is_on-clause-refused t c = λ bs table memo leads.
     let own = named_self bs i.type.text (tree_of b) named in
     let of : IsOf bs i (tree_of b) = record { declared = rw c.in_default.is at c.in_ok-instance.ensures.none; named = named } in
     let path = map tree_of c.args.path.now in
-    inr (on_path bs path i (tree_of b) i.type.at (subst (λ n. Any (λ (z : decl.BlockTree). z.name.text ≡ n) path) c.as_str-2.ensures.value (c.is_on.ensures.on c.if-is_on.true)) leads of refl)
+    inr (on_path bs path i (tree_of b) i.type.at (subst (λ n. Any (λ (z : decl.BlockTree). z.name.text ≡ n) path) c.as_str-2.ensures.value (c.is_on.ensures.0 c.if-is_on.true)) leads of refl)
 
 pub part-returns-in_err-body-clause-refused : goal.part-returns-in_err-body-clause-refused
 part-returns-in_err-body-clause-refused t c = λ bs table memo leads.

@@ -1,11 +1,17 @@
-use Rattle.std.proofs.Common.{[], subst}
+use Rattle.std.proofs.Common.{[], sym, subst}
 use Rattle.fb_model.specs.NetworkTyping.{most_deep}
-use Rattle.fb_types.specs.Made.{IsUnmade, IsHalted}
-use Rattle.fb_types.proofs.Systems.{limit_of_type, limit_of_instance}
+use Rattle.fb_networks.specs.fb_text.Views as trees_of
+use Rattle.fb_types.specs.Refusals.{IsTypeFault, faulty_type}
+use Rattle.fb_types.specs.Made.{IsNamed, IsDeeper, IsUnmade, IsHalted}
+use Rattle.fb_types.proofs.Making.{named_self}
 use Rattle.fb_types.proofs.resource.refusal.Goals as goal
 
 pub returns-in-TooDeep-clause-of_type : goal.returns-in-TooDeep-clause-of_type
-returns-in-TooDeep-clause-of_type c = λ bs b h. let k = subst (IsUnmade bs most_deep b) c.in-TooDeep.is h in limit_of_type bs b c.in-TooDeep.at k.0 k.1
+returns-in-TooDeep-clause-of_type c = λ bs b table h.
+    let k = subst (IsUnmade bs most_deep b) c.in-TooDeep.is h in
+    subst (λ z. IsTypeFault bs z c.too_deep.result) k.0 (c.too_deep.ensures bs table (subst (IsNamed bs) (sym k.0) k.1) (subst (IsDeeper bs most_deep) (sym k.0) k.2))
 
 pub returns-in-TooDeep-clause-of_instance : goal.returns-in-TooDeep-clause-of_instance
-returns-in-TooDeep-clause-of_instance c = λ bs i h. limit_of_instance bs i c.in-TooDeep.at (subst (IsHalted bs [] most_deep i) c.in-TooDeep.is h)
+returns-in-TooDeep-clause-of_instance c = λ bs i table h.
+    let k = subst (IsHalted bs [] most_deep i) c.in-TooDeep.is h in
+    faulty_type k.0 (c.too_deep.ensures bs table (named_self bs i.type.text (trees_of.block_of c.in-TooDeep.block.now) k.0.named) k.1)
