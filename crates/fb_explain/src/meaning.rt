@@ -62,7 +62,10 @@ pub fn meaning_of(code: u8) -> Option<Meaning> {
             "a service without its number, with a wrong one, or with one that is taken; a PUBLISH or SUBSCRIBE whose FORMAT is neither 1 nor 2, or is given twice",
             "give `ID := n`, 0 to 65535, each once in a device for INPUTs, and for OUTPUTs; give `FORMAT := 1` or `FORMAT := 2`, or leave it out for 1",
         ),
-        18 => said("this composite contains itself", "break the circle"),
+        18 => said(
+            "this composite contains itself, through however many others",
+            "break the circle",
+        ),
         19 => said(
             "this declaration is one too many: 64 event inputs or outputs, 256 states, 1,024 transitions of a block, 1,024 instances and 8,192 followed connections of a resource; 1,024 elements of an array, 256 algorithms, composites 16 deep, 16 value types of a service, 16 resources of a device, 16 devices",
             "split the application",
@@ -140,6 +143,16 @@ pub fn meaning_of(code: u8) -> Option<Meaning> {
             "",
         ),
         54 => said("no cause number is left", ""),
+        55 => said(
+            "the bytes are no message; the first field that is not whole or not right is `Short`, `Magic` (they do not begin with `FB`), `Version`, `Kind`, `Count` (more than 16 values), `TypeCode` or `Value`, and `Trailing` says that something follows",
+            "",
+        ),
+        56 => said("the device has no SUBSCRIBE of this channel", ""),
+        57 => said(
+            "the values are not as many as the block takes, or of other types, or the message is of the other format",
+            "",
+        ),
+        58 => said("the SUBSCRIBE is closed: INIT with QI opens it", ""),
         60 => said(
             "this line of the script is no call, or names a device or resource that is not there, or a number does not fit",
             "mend the line; what stands before it has run",
@@ -148,6 +161,10 @@ pub fn meaning_of(code: u8) -> Option<Meaning> {
         63 => said(
             "the words are no command; `--repeats` is given no number of 1 to 255; or `fbr sim` is asked to run a system that has no device, or several, which it cannot until there is a world of devices",
             "`fbr --help`; simulate a system of one device",
+        ),
+        64 => said(
+            "the message is not later than the one that was admitted last, which had this boot and sequence number: it came twice, or too late",
+            "",
         ),
         _ => None,
     }
