@@ -1,0 +1,4 @@
+pub mod Stamps
+pub mod Opening
+pub mod Growing
+pub mod Cases
