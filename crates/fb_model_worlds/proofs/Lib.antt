@@ -2,3 +2,4 @@ pub mod Stamps
 pub mod Opening
 pub mod Growing
 pub mod Cases
+pub mod Sounding
