@@ -3,3 +3,5 @@ pub mod Opening
 pub mod Growing
 pub mod Cases
 pub mod Sounding
+pub mod Beginning
+pub mod Falling
