@@ -1,5 +1,5 @@
 -- The first world is sound.
-use Rattle.std.proofs.Common.{◌≡◌, ℕ, zero, suc, ◌+◌, ◌-◌, ◌<◌, ◌≤◌, ◌&&◌, Bool, true, false, cond, List, [], ◌∷◌, ◌++◌, Option, Some, None, refl, sym, ◌∙◌, ap, subst, arith}
+use Rattle.std.proofs.Common.{◌≡◌, ℕ, zero, suc, ◌+◌, ◌-◌, ◌<◌, ◌≤◌, ◌&&◌, cond, List, [], ◌∷◌, Some, refl, sym, ◌∙◌, ap, subst, arith}
 use Rattle.std.specs.Prelude.{length, slice_get, nat_lt}
 use Rattle.std.specs.List.{AllByRecursion}
 use Rattle.std.proofs.lemmas.Bool.{cond_both, lt-ltb}
@@ -9,20 +9,20 @@ use Rattle.fb_model.specs.Wires.{Leaf, leaves}
 use Rattle.fb_model.specs.Certificates.{Certificate, DeviceHolds, is_restart}
 use Rattle.fb_model.specs.Devices.{Entry, Machine, admitted, beginning, begun, silent, first_stamp, at_first}
 use Rattle.fb_model.specs.Headline.{IsKnown, IsSound}
-use Rattle.fb_model.specs.World.{World, machine_at, roots_before, first_root, IsFirst}
+use Rattle.fb_model.specs.World.{World, machine_at, roots_before, IsFirst}
 use Rattle.fb_model.proofs.Bounding.{extends_admitted}
 use Rattle.fb_model.proofs.Homes.{homes}
 use Rattle.fb_model.proofs.Lists.{all_append, all_weaker, all_both}
 use Rattle.fb_model.proofs.Starting.{first_sound}
 use Rattle.fb_model_worlds.specs.Worlds.{AllHold, IsOpened, IsSent, IsWorldSound}
-use Rattle.fb_model_worlds.proofs.Growing.{AreWithin, admitted_within}
+use Rattle.fb_model_worlds.proofs.Growing.{IsEmptyFrom, admitted_within}
 use Rattle.fb_model_worlds.proofs.Cases.{at_number}
 
 -- ---- one device
 
-begun_within : (n : ℕ) (ls : List Leaf) (m : Machine) → AllByRecursion (λ leaf. leaf.home < n) ls → AreWithin n m → AreWithin n (begun ls m)
+begun_within : (n : ℕ) (ls : List Leaf) (m : Machine) → AllByRecursion (λ leaf. leaf.home < n) ls → IsEmptyFrom n m → IsEmptyFrom n (begun ls m)
 begun_within n [] m l h = h
-begun_within n (leaf ∷ rest) m l h = cond_both (is_restart leaf.kind) (admitted m (beginning leaf)) m (λ x. AreWithin n (begun rest x)) (λ _. begun_within n rest (admitted m (beginning leaf)) l.1 (admitted_within n m (beginning leaf) l.0 h)) (λ _. begun_within n rest m l.1 h)
+begun_within n (leaf ∷ rest) m l h = cond_both (is_restart leaf.kind) (admitted m (beginning leaf)) m (λ x. IsEmptyFrom n (begun rest x)) (λ _. begun_within n rest (admitted m (beginning leaf)) l.1 (admitted_within n m (beginning leaf) l.0 h)) (λ _. begun_within n rest m l.1 h)
 
 -- its causes are numbered from 1
 abbrev AreNumbered : Machine → Type 0
@@ -92,7 +92,7 @@ module _ (system : System) (cert : Certificate) (hold : AllHold system cert) (w 
       record {
         above = omega (arith, first.next);
         machines = λ d device at. subst (IsSound cert device) (sym (machine_is d device at)) (machine_sound d device at);
-        within = λ d device at. subst (AreWithin (length device.resources)) (sym (machine_is d device at)) (begun_within (length device.resources) (leaves device) (silent device 1 first_stamp) (homes device) (λ q _. refl));
+        within = λ d device at. subst (IsEmptyFrom (length device.resources)) (sym (machine_is d device at)) (begun_within (length device.resources) (leaves device) (silent device 1 first_stamp) (homes device) (λ q _. refl));
         rooted = rooted;
         datagrams = subst (AllByRecursion (IsSent system w)) (sym first.datagrams) tt;
       }

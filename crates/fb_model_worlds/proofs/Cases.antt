@@ -1,14 +1,14 @@
 -- What an event does to a world: nothing, or it opens causes, or serves an entry, or a datagram is admitted.
-use Rattle.std.proofs.Common.{◌≡◌, ℕ, zero, suc, ◌==◌, ℤ, List, [], ◌∷◌, Option, Some, None, refl, sym, ◌∙◌, ap, subst, if◌then◌else◌}
-use Rattle.std.specs.Prelude.{true, length, slice_get}
+use Rattle.std.proofs.Common.{◌≡◌, ℕ, zero, suc, ◌==◌, ℤ, List, [], ◌∷◌, Option, Some, refl, subst, if◌then◌else◌}
+use Rattle.std.specs.Prelude.{true, slice_get}
 use Rattle.std.specs.List.{AllByRecursion}
 use Rattle.fb_model.specs.Names.{Place}
 use Rattle.fb_model.specs.System.{System, Device}
 use Rattle.fb_model.specs.Messages.{Message, Purpose, To_channel, To_input}
-use Rattle.fb_model.specs.Wires.{Leaf, leaves}
+use Rattle.fb_model.specs.Wires.{Leaf}
 use Rattle.fb_model.specs.Serving.{Effect, is_ready}
 use Rattle.fb_model.specs.Certificates.{Certificate, DeviceHolds}
-use Rattle.fb_model.specs.Devices.{Ended, Machine, Answer, Admitted, Denied, Expired, Idle, Ran, subscriber_of, input_of, addressed, admitted, arriving, with_stamp, numbers_in, format_in, format_of, IsFresh, IsReady, Delivers, Deliver, Runs}
+use Rattle.fb_model.specs.Devices.{Ended, Machine, Admitted, Denied, Expired, Idle, Ran, subscriber_of, input_of, addressed, admitted, arriving, with_stamp, numbers_in, format_in, format_of, IsFresh, IsReady, Delivers, Deliver, Runs}
 use Rattle.fb_model.specs.Headline.{IsSound}
 use Rattle.fb_model.specs.World.{Datagram, World, WorldEvent, At_device, Deliver_datagram, An_offer, A_tick, A_dispatch, WorldAnswer, Answered, Unknown, Opens, Serves, Takes, WorldHappens}
 use Rattle.fb_model.proofs.Admitting.{sound_next}

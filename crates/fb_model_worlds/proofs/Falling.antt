@@ -1,15 +1,14 @@
 -- What each event does to the measures of roots.
-use Rattle.std.proofs.Common.{◌≡◌, ℕ, zero, suc, ◌+◌, ◌-◌, ◌<◌, ◌≤◌, ◌==◌, Bool, true, false, cond, eqb, min, ◌⊎◌, List, [], ◌∷◌, ◌++◌, Option, Some, None, refl, sym, ◌∙◌, ap, subst, arith, inl, inr}
-use Rattle.std.specs.Prelude.{length, slice_get}
-use Rattle.std.specs.List.{AllByRecursion}
-use Rattle.std.proofs.lemmas.Bool.{cond_both, eqb-true, eq-eqb, ne_eqb, cases_eq, cases_lt}
+use Rattle.std.proofs.Common.{◌≡◌, ℕ, zero, suc, ◌+◌, ◌-◌, ◌<◌, ◌≤◌, Bool, true, false, cond, eqb, min, ◌⊎◌, List, [], ◌∷◌, Option, Some, None, refl, sym, ◌∙◌, ap, subst, arith, inl, inr}
+use Rattle.std.specs.Prelude.{slice_get}
+use Rattle.std.proofs.lemmas.Bool.{eqb-true, eq-eqb, ne_eqb, cases_eq}
 use Rattle.fb_words.specs.declared.format.Format.{Format}
 use Rattle.fb_words.specs.declared.format.Format.TheVariants.{First, Second}
 use Rattle.fb_model.specs.Names.{Place}
 use Rattle.fb_model.specs.System.{System, Device, Service}
-use Rattle.fb_model.specs.Messages.{Stamp, Message}
+use Rattle.fb_model.specs.Messages.{Stamp}
 use Rattle.fb_model.specs.Store.{sampled}
-use Rattle.fb_model.specs.Wires.{Kind, Charted, Serviced, Leaf, leaves}
+use Rattle.fb_model.specs.Wires.{Kind, Charted, Serviced, leaves}
 use Rattle.fb_model.specs.Serving.{Effect, Send, Write}
 use Rattle.fb_model.specs.Certificates.{Certificate, ColumnFits, far_of, admissions, IsWired, DeviceHolds}
 use Rattle.fb_model.specs.Devices.{Ended, Machine, put, is_subscriber, format_in, format_of, Runs}
@@ -22,7 +21,7 @@ use Rattle.fb_model_worlds.specs.Worlds.{SpellsOne, AllHold, IsOpened, IsSent, I
 use Rattle.fb_model_worlds.proofs.Opening.{opening_begins}
 use Rattle.fb_model_worlds.proofs.Cases.{at_number, Admits, Case, rests, opens, serves, takes, device_holds}
 use Rattle.fb_model_worlds.proofs.Growing.{Grows}
-use Rattle.fb_model_worlds.proofs.Sounding.{all_prefix, bumped, got_admitted, bumped_sent, cause_opened, queue_within}
+use Rattle.fb_model_worlds.proofs.Sounding.{all_prefix, bumped, got_admitted, bumped_sent, queue_within}
 
 -- ---- what is allowed
 

@@ -1,5 +1,5 @@
 -- What a device makes of an offer, a tick and a message: entries of new causes, and nothing else.
-use Rattle.std.proofs.Common.{◌≡◌, ℕ, ◌+◌, ◌<◌, ◌≤◌, Bool, true, false, cond, ℤ, List, [], ◌∷◌, ◌++◌, Option, Some, None, refl, sym, ◌∙◌, ap, subst, arith, inl, inr}
+use Rattle.std.proofs.Common.{◌≡◌, ℕ, ◌<◌, ◌≤◌, Bool, true, ℤ, List, [], ◌∷◌, ◌++◌, Some, sym, ap, subst, arith, inl, inr}
 use Rattle.std.specs.Prelude.{length}
 use Rattle.std.specs.List.{AllByRecursion}
 use Rattle.fb_model.specs.Names.{Place}
@@ -8,7 +8,7 @@ use Rattle.fb_model.specs.Wires.{Kind, Leaf, leaves}
 use Rattle.fb_model.specs.Store.{with_leaf, Fired}
 use Rattle.fb_model.specs.Serving.{stamps_of}
 use Rattle.fb_model.specs.Certificates.{Certificate, IsWired, DeviceHolds}
-use Rattle.fb_model.specs.Devices.{Entry, Machine, put, Arrival, place_of, admitted, arriving, first_leaf, is_input_numbered, is_subscriber, subscriber_of, with_stamp, Event, Offer, Deliver, Tick, Dispatch, Answer, Admitted, Denied, Expired, Idle, Ran, due_timers, expiring, expired, Tries, at_moment, is_timer, Happens}
+use Rattle.fb_model.specs.Devices.{Machine, Arrival, place_of, admitted, arriving, first_leaf, is_input_numbered, Event, Offer, Tick, Dispatch, Answer, Admitted, Expired, due_timers, expiring, expired, Tries, at_moment, is_timer, Happens}
 use Rattle.fb_model.specs.Headline.{IsSound}
 use Rattle.fb_model.proofs.Homes.{homes}
 use Rattle.fb_model.proofs.Lists.{all_both, all_weaker}
@@ -20,16 +20,16 @@ use Rattle.fb_model_worlds.proofs.Opening.{Admits, admits_offer, admits_tick}
 
 -- ---- queues that a device does not have
 
-abbrev pub AreWithin : ℕ → Machine → Type 0
-AreWithin n m = (q : ℕ) → n ≤ q → m.queues q ≡ []
+abbrev pub IsEmptyFrom : ℕ → Machine → Type 0
+IsEmptyFrom n m = (q : ℕ) → n ≤ q → m.queues q ≡ []
 
-pub admitted_within : (n : ℕ) (m : Machine) (a : Arrival) → a.leaf.home < n → AreWithin n m → AreWithin n (admitted m a)
+pub admitted_within : (n : ℕ) (m : Machine) (a : Arrival) → a.leaf.home < n → IsEmptyFrom n m → IsEmptyFrom n (admitted m a)
 admitted_within n m a l h =
     put_all (λ q es. n ≤ q → es ≡ []) m.queues a.leaf.home (m.queues a.leaf.home ++ record { cause = m.next; opening = place_of a; place = place_of a; values = a.values } ∷ [])
     (λ g. absurd (omega (arith, l, g))) (λ q _. h q)
 
-tries_within : (cert : Certificate) (device : Device) (n : ℕ) (ls : List Leaf) (old : Machine) (count : ℕ) (new : Machine) → AllByRecursion (λ leaf. leaf.home < n) ls → Tries cert device ls old count new → AreWithin n old → AreWithin n new
-tries_within cert device n [] old count new l t h = subst (AreWithin n) (sym t.1) h
+tries_within : (cert : Certificate) (device : Device) (n : ℕ) (ls : List Leaf) (old : Machine) (count : ℕ) (new : Machine) → AllByRecursion (λ leaf. leaf.home < n) ls → Tries cert device ls old count new → IsEmptyFrom n old → IsEmptyFrom n new
+tries_within cert device n [] old count new l t h = subst (IsEmptyFrom n) (sym t.1) h
 tries_within cert device n (leaf ∷ rest) old count new l t h =
     elim t [
       | inl k ↦ tries_within cert device n rest (expired old leaf) k.0 new l.1 k.3
@@ -45,7 +45,7 @@ pub record Grows (cert : Certificate) (device : Device) (old new : Machine) : Ty
   pub grown : Extends old new
   pub places : List Place
   pub admits : Admits cert old new places
-  pub within : AreWithin (length device.resources) old → AreWithin (length device.resources) new
+  pub within : IsEmptyFrom (length device.resources) old → IsEmptyFrom (length device.resources) new
   pub kept : KeepsAll device old new
 
 no_dispatch : (cert : Certificate) (device : Device) (old : Machine) (e : Event) (a : Answer) (new : Machine) → ((q : ℕ) → e ≡ Dispatch q → ⊥) → Case cert device old e a new → Extends old new
@@ -65,7 +65,7 @@ module _ (cert : Certificate) (device : Device) (holding : DeviceHolds cert devi
         grown = no_dispatch cert device old (Offer input values) (Admitted cause) new (λ q e. cc) (case cert device old (Offer input values) (Admitted cause) new h);
         places = a.0;
         admits = a.1;
-        within = λ w. subst (AreWithin (length device.resources)) (sym h.new_is) (admitted_within (length device.resources) old (arriving h.leaf values) (home_of (is_input_numbered input) h.leaf h.known) w);
+        within = λ w. subst (IsEmptyFrom (length device.resources)) (sym h.new_is) (admitted_within (length device.resources) old (arriving h.leaf values) (home_of (is_input_numbered input) h.leaf h.known) w);
         kept = λ c k s. ap (λ (m : Machine). stamps_of (m.store k.path).condition) h.new_is;
       }
 

@@ -5,3 +5,4 @@ pub mod Cases
 pub mod Sounding
 pub mod Beginning
 pub mod Falling
+pub mod Running

@@ -1,25 +1,25 @@
 -- Each event keeps what is so of worlds.
-use Rattle.std.proofs.Common.{◌≡◌, ℕ, zero, suc, ◌+◌, ◌-◌, ◌<◌, ◌≤◌, ◌==◌, ◌||◌, Bool, true, false, cond, eqb, min, List, [], ◌∷◌, ◌++◌, Option, Some, None, refl, sym, ◌∙◌, ap, subst, arith, inl, inr}
+use Rattle.std.proofs.Common.{◌≡◌, ℕ, zero, suc, ◌+◌, ◌-◌, ◌<◌, ◌≤◌, ◌||◌, Bool, true, false, cond, eqb, min, List, [], ◌∷◌, ◌++◌, Option, Some, None, refl, sym, ◌∙◌, ap, subst, arith, inl, inr}
 use Rattle.std.specs.Prelude.{length, slice_get, nat_lt}
 use Rattle.std.specs.List.{AllByRecursion}
-use Rattle.std.proofs.lemmas.Bool.{cond_both, eqb-true, eqb-false, eq-eqb, ne_eqb, lt-ltb, le-ltb, cases_eq, cases_lt}
+use Rattle.std.proofs.lemmas.Bool.{eqb-true, eqb-false, eq-eqb, ne_eqb, lt-ltb, le-ltb, cases_eq, cases_lt}
 use Rattle.fb_model.specs.Names.{Place, at_place}
 use Rattle.fb_model.specs.System.{System, Device}
 use Rattle.fb_model.specs.Services.{arrive}
-use Rattle.fb_model.specs.Messages.{Stamp, Message}
-use Rattle.fb_model.specs.Wires.{Leaf, leaves}
-use Rattle.fb_model.specs.Serving.{Effect, Send, Write, stamps_of}
+use Rattle.fb_model.specs.Messages.{Stamp}
+use Rattle.fb_model.specs.Wires.{leaves}
+use Rattle.fb_model.specs.Serving.{Effect, Send, Write}
 use Rattle.fb_model.specs.Certificates.{Certificate, DeviceHolds, reached}
-use Rattle.fb_model.specs.Devices.{Ended, Entry, Machine, put, is_pending, steps_row, admitted, arriving, with_stamp, IsFresh, is_subscriber, follow_ups, Runs}
+use Rattle.fb_model.specs.Devices.{Ended, Entry, Machine, put, is_pending, steps_row, arriving, with_stamp, IsFresh, is_subscriber, follow_ups, Runs}
 use Rattle.fb_model.specs.Headline.{IsKnown, IsSound, IsSendable}
 use Rattle.fb_model.specs.World.{Datagram, World, WorldEvent, WorldAnswer, Opens, Serves, Takes, roots_from, posted, forgotten, admitted_at, WorldHappens}
 use Rattle.fb_model.proofs.Homes.{homes}
 use Rattle.fb_model.proofs.Lists.{all_append, all_weaker, all_both}
-use Rattle.fb_model.proofs.Running.{put_all, at_first_leaf, known_pending, cause_pending, queue_is, other_queue, sound_run}
+use Rattle.fb_model.proofs.Running.{put_all, at_first_leaf, known_pending, cause_pending, other_queue, sound_run}
 use Rattle.fb_model.proofs.Sending.{sends_messages}
-use Rattle.fb_model_worlds.specs.Worlds.{SpellsOne, AllHold, IsOpened, IsKept, KeepsStamp, IsOnce, IsKeptWhereAdmitted, IsSent, IsWorldSound}
+use Rattle.fb_model_worlds.specs.Worlds.{SpellsOne, AllHold, IsOpened, KeepsStamp, IsSent, IsWorldSound}
 use Rattle.fb_model_worlds.proofs.Stamps.{same_kept, run_keeps, stamped_keeps, stamped_kept, kept_stale}
-use Rattle.fb_model_worlds.proofs.Growing.{AreWithin, admitted_within, Grows}
+use Rattle.fb_model_worlds.proofs.Growing.{IsEmptyFrom, admitted_within, Grows}
 use Rattle.fb_model_worlds.proofs.Cases.{at_number, Admits, Case, rests, opens, serves, takes, case, device_holds}
 
 -- ---- lists
@@ -76,7 +76,7 @@ module _ (system : System) (cert : Certificate) (old new : World) (s : IsWorldSo
   all_machines : IsSound cert device machine → (j : ℕ) (x : Device) → slice_get system.devices j ≡ Some x → IsSound cert x (new.machines j)
   all_machines h = at_devices (λ j x m. IsSound cert x m) h (λ j x n a. s.machines j x a)
 
-  all_within : AreWithin (length device.resources) machine → (j : ℕ) (x : Device) → slice_get system.devices j ≡ Some x → (q : ℕ) → length x.resources ≤ q → (new.machines j).queues q ≡ []
+  all_within : IsEmptyFrom (length device.resources) machine → (j : ℕ) (x : Device) → slice_get system.devices j ≡ Some x → (q : ℕ) → length x.resources ≤ q → (new.machines j).queues q ≡ []
   all_within h = at_devices (λ j x m. (q : ℕ) → length x.resources ≤ q → m.queues q ≡ []) h (λ j x n a. s.within j x a)
 
 -- what is so of a datagram stays so
@@ -220,16 +220,18 @@ module _ (system : System) (cert : Certificate) (hold : AllHold system cert) (ol
   posted_sent (Some (Write number values)) e = all_sent
   posted_sent (Some (Send message)) e =
       let sendable : IsSendable message = sends_messages cert device holding (old.machines d) sound_here q cause place steps message ended machine (subst (λ x. Runs cert device (old.machines d) q cause place steps x ended machine) e r) in
-      all_append (IsSent system new) old.datagrams (record { message = message; root = old.root_of d cause; admissions = λ d. 0 } ∷ []) all_sent
-      (record {
-        opened = same_next (old.root_of d cause) cause_opened;
-        message = sendable;
-        few = λ j. omega arith;
-        once = λ stamp i j. omega arith;
-        kept = λ stamp j x i a l. absurd (omega (arith, l));
-      }, tt)
+      all_append (IsSent system new) old.datagrams (record { message = message; root = old.root_of d cause; admissions = λ d. 0 } ∷ []) all_sent (
+        record {
+          opened = same_next (old.root_of d cause) cause_opened;
+          message = sendable;
+          few = λ j. omega arith;
+          once = λ stamp i j. omega arith;
+          kept = λ stamp j x i a l. absurd (omega (arith, l));
+        },
+        tt,
+      )
 
-  run_within : AreWithin (length device.resources) machine
+  run_within : IsEmptyFrom (length device.resources) machine
   run_within =
       subst (λ (f : ℕ → List Entry). (j : ℕ) → length device.resources ≤ j → f j ≡ []) (sym r.queues)
       (put_all (λ j es. length device.resources ≤ j → es ≡ []) (old.machines d).queues q (r.rest ++ follow_ups r.first (reached r.leaf.targets r.outs))
@@ -325,7 +327,7 @@ module _ (system : System) (cert : Certificate) (hold : AllHold system cert) (ol
         above = omega (arith, b.next, s.above);
         machines = all_machines system cert old new s d device at machine b.machines a.sound;
         within = all_within system cert old new s d device at machine b.machines
-            (subst (AreWithin (length device.resources)) (sym a.new_is)
+            (subst (IsEmptyFrom (length device.resources)) (sym a.new_is)
             (admitted_within (length device.resources) (with_stamp (old.machines d) a.leaf datagram.message.stamp) (arriving a.leaf a.values)
             (at_first_leaf (λ l. l.home < length device.resources) (is_subscriber datagram.message.number) (leaves device) a.leaf (homes device) a.known).0 (s.within d device at)));
         rooted = λ j. subst (λ (ms : ℕ → Machine). AreRooted new (ms j) (new.root_of j)) (sym b.machines)

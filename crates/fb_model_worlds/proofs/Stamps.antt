@@ -1,6 +1,5 @@
 -- What a SUBSCRIBE keeps of stamps changes at no event but an admission of a message to it, and then only to a later stamp.
-use Rattle.std.proofs.Common.{◌≡◌, ℕ, ◌<◌, Bool, true, false, cond, ◌==◌, ◌||◌, ◌&&◌, ℤ, List, [], ◌∷◌, Option, Some, None, refl, sym, ◌∙◌, ap, subst, arith, inl, inr}
-use Rattle.std.specs.Prelude.{nat_lt}
+use Rattle.std.proofs.Common.{◌≡◌, ℕ, Bool, true, false, cond, ℤ, List, [], ◌∷◌, Option, Some, None, refl, sym, ◌∙◌, ap, subst, arith, inl, inr}
 use Rattle.std.specs.List.{AllByRecursion}
 use Rattle.std.specs.Str.{bytes_eq}
 use Rattle.std.proofs.lemmas.Bool.{cond_both}
@@ -96,7 +95,7 @@ module _ (cert : Certificate) (device : Device) (holding : DeviceHolds cert devi
             let p = subscriber c k s in
             tries_keep rest (expired old leaf) x.0 new h.1 x.3 c k s
             ∙ after_leaf (λ stamps. stamps ≡ stamps_of (old.store k.path).condition) old.store (leaves device) leaf k (record { cells = (old.store leaf.path).cells; condition = Fired }) h.0.0.found p.0
-                (λ i. absurd (not_both c k.kind (subst (λ (l : Leaf). is_timer l.kind ≡ true) i h.0.1) p.1)) refl
+            (λ i. absurd (not_both c k.kind (subst (λ (l : Leaf). is_timer l.kind ≡ true) i h.0.1) p.1)) refl
             )
         | inr x ↦ tries_keep rest old count new h.1 x.1 c k s
       ]
@@ -107,11 +106,11 @@ module _ (cert : Certificate) (device : Device) (holding : DeviceHolds cert devi
       let path_is : r.leaf.path ≡ r.first.place.path = (at_leaf (IsWired (leaves device)) (leaves device) r.first.place.path r.leaf holding.wired r.found).1 in
       ap (λ (f : Store). stamps_of (f k.path).condition) r.store
       ∙ after_leaf (λ stamps. stamps ≡ stamps_of (old.store k.path).condition) old.store (leaves device) r.leaf k r.after (ap (leaf_at (leaves device)) path_is ∙ r.found) p.0
-          (λ i.
-          let sub : is_subscriber c r.leaf.kind ≡ true = subst (λ (l : Leaf). is_subscriber c l.kind ≡ true) (sym i) p.1 in
-          served_keeps c r.leaf.kind old.clock r.first.place.event r.first.values (sampled old.store r.leaf r.first.place.event) r.after steps r.outs effect sub r.served
-          ∙ ap (λ (l : Leaf). stamps_of (old.store l.path).condition) i)
-          refl
+      (λ i.
+      let sub : is_subscriber c r.leaf.kind ≡ true = subst (λ (l : Leaf). is_subscriber c l.kind ≡ true) (sym i) p.1 in
+      served_keeps c r.leaf.kind old.clock r.first.place.event r.first.values (sampled old.store r.leaf r.first.place.event) r.after steps r.outs effect sub r.served
+      ∙ ap (λ (l : Leaf). stamps_of (old.store l.path).condition) i)
+      refl
 
 -- what is the same is kept
 pub same_kept : (device : Device) (old new : Machine) → KeepsAll device old new → (c : ℕ) (stamp : Stamp) → KeepsStamp device old c stamp → KeepsStamp device new c stamp

@@ -1,6 +1,6 @@
 -- What is so of every world that devices come to, and how the measure of a root falls.
 -- This project's profile.
-use Rattle.std.specs.Prelude.{ℕ, ◌≡◌, ◌+◌, ◌<◌, ◌≤◌, ◌==◌, Bool, false, List, Option, Some, None, if◌then◌else◌, length, [], slice_get}
+use Rattle.std.specs.Prelude.{ℕ, ◌≡◌, ◌+◌, ◌<◌, ◌≤◌, ◌==◌, false, List, Some, if◌then◌else◌, length, [], slice_get}
 use Rattle.std.specs.List.{AllByRecursion}
 use Rattle.fb_model.specs.System.{Device, System}
 use Rattle.fb_model.specs.Wires.{Leaf}
@@ -8,9 +8,9 @@ use Rattle.fb_model.specs.Messages.{Stamp, Message, Spells}
 use Rattle.fb_model.specs.Store.{Stamps, Unstamped, Upcoming, Exhausted, Latest}
 use Rattle.fb_model.specs.Serving.{stamps_of}
 use Rattle.fb_model.specs.Certificates.{Certificate, far_of, DeviceHolds}
-use Rattle.fb_model.specs.Devices.{Machine, Answer, Admitted, Denied, Expired, Idle, Ran, is_later, subscriber_of}
+use Rattle.fb_model.specs.Devices.{Machine, Admitted, Denied, Expired, Idle, Ran, is_later, subscriber_of}
 use Rattle.fb_model.specs.Headline.{IsSound, IsSendable}
-use Rattle.fb_model.specs.World.{Datagram, World, WorldEvent, At_device, Deliver_datagram, WorldAnswer, Answered, Unknown, WorldRun, far_left, AreWithin, PaysFar}
+use Rattle.fb_model.specs.World.{Datagram, World, WorldEvent, At_device, Deliver_datagram, WorldAnswer, Answered, Unknown, far_left, AreWithin}
 
 -- bytes spell one message at most
 abbrev pub SpellsOne : Type 0
