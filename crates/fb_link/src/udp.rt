@@ -12,6 +12,15 @@ use std::{fmt, io};
 #[derive(Clone, Copy)]
 pub struct SocketFault(pub u16);
 
+impl SocketFault {
+    /// The number of the refusal.
+    pub fn code(&self) -> u8
+        ensures { result ≡ 62 }
+    {
+        62
+    }
+}
+
 /// The code, and the port.
 impl fmt::Display for SocketFault {
     ghost use Rattle.std.specs.Prelude.{Some};

@@ -6,7 +6,7 @@ use fb_wire::{Message, Purpose, decode, encode};
 use std::alloc::{AllocError, Global};
 use std::fmt::Write;
 
-// What a message is for, its number, its values with their types, and on a line of its own its bytes.
+// What a message is for, its number, its stamp if it has one, its values with their types, and on a line of its own its bytes.
 fn told(alloc: Global, message: &Message) -> Result<String, AllocError> {
     let mut out = String::new(alloc);
     let name = match message.purpose() {
@@ -14,6 +14,9 @@ fn told(alloc: Global, message: &Message) -> Result<String, AllocError> {
         Purpose::ToInput => "input",
     };
     write!(out, "{name} {}", message.number())?;
+    if let Some(stamp) = message.stamp() {
+        write!(out, " boot {} sequence {}", stamp.boot, stamp.sequence)?;
+    }
     for typed in message.values() {
         write!(out, " {} {}", typed.elem.name(), typed.value)?;
     }

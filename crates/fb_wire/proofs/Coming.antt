@@ -4,13 +4,11 @@ use Rattle.std.specs.List.{AllByRecursion}
 use Rattle.std.proofs.lemmas.List.{length-map, length-append, length-take, map-append, append-nil, append_assoc}
 use Rattle.fb_words.specs.Numbers.{in_type}
 use Rattle.fb_model.specs.Messages as book
-use Rattle.fb_model.specs.Messages.{Message, Spells, spelling}
-use Rattle.fb_wire.specs.declared.message.Purpose.{Purpose}
-use Rattle.fb_wire.specs.declared.message.Purpose.TheVariants.{ToChannel, ToInput}
+use Rattle.fb_model.specs.Messages.{Message, Spells, IsStamped}
 use Rattle.fb_wire.specs.declared.message.Typed.{Typed}
 use Rattle.fb_model.specs.Fields.{Fault}
 use Rattle.fb_model.specs.Fields.{Trailing}
-use Rattle.fb_wire.specs.Views.{purpose_of, typed_of, value_bytes, all_bytes, head_bytes}
+use Rattle.fb_wire.specs.Views.{typed_of, value_bytes, all_bytes, head_bytes, IsBegun}
 use Rattle.fb_model.specs.Fields.{first_fault, values_in, fault_in}
 use Rattle.fb_wire.proofs.Reading.{head_right, value_right}
 use Rattle.fb_wire.proofs.Spelled.{in_64, spelled}
@@ -24,9 +22,6 @@ all_right : (vs : List Typed) → AreFitting vs → first_fault (values_in (leng
 all_right [] h = refl
 all_right (v ∷ vs) h = value_right v.elem v.value (length vs) (all_bytes vs) (in_64 v.elem v.value h.0) h.0 ∙ all_right vs h.1
 
-right_bytes : (p : Purpose) (n : ℕ) (vs : List Typed) → length vs ≤ 16 → AreFitting vs → fault_in (head_bytes p n (length vs) ++ all_bytes vs) ≡ None
-right_bytes p n vs few h = head_right p n (length vs) (values_in (length vs) (all_bytes vs)) (all_bytes vs) few ∙ all_right vs h
-
 abbrev pub untyped : book.Typed → Typed
 untyped v = record { elem = v.type; value = v.value }
 
@@ -38,18 +33,13 @@ pub still_fitting : (vs : List book.Typed) → AllByRecursion (λ (v : book.Type
 still_fitting [] h = tt
 still_fitting (v ∷ vs) h = (h.0, still_fitting vs h.1)
 
-nothing_at_fault : (p : Purpose) (n : ℕ) (vs : List book.Typed) → length vs ≤ 16 → AllByRecursion (λ (v : book.Typed). in_type v.type v.value ≡ true) vs → fault_in (spelling (record { purpose = purpose_of p; number = n; values = vs })) ≡ None
-nothing_at_fault p n vs few h =
-    ap (λ (us : List book.Typed). fault_in (spelling (record { purpose = purpose_of p; number = n; values = us }))) (sym (typed_again vs))
-    ∙ ap fault_in (sym (spelled p n (map untyped vs) (still_fitting vs h)))
-    ∙ right_bytes p n (map untyped vs) (omega (arith, few, length-map vs untyped)) (still_fitting vs h)
-
-right_spelling : (p : book.Purpose) (n : ℕ) (vs : List book.Typed) → length vs ≤ 16 → AllByRecursion (λ (v : book.Typed). in_type v.type v.value ≡ true) vs → fault_in (spelling (record { purpose = p; number = n; values = vs })) ≡ None
-right_spelling book.To_channel n vs few h = nothing_at_fault ToChannel n vs few h
-right_spelling book.To_input n vs few h = nothing_at_fault ToInput n vs few h
-
 pub spells_rightly : (m : Message) (bytes : List ℕ) → Spells m bytes → fault_in bytes ≡ None
-spells_rightly m bytes s = ap fault_in s.bytes_are ∙ right_spelling m.purpose m.number m.values s.count s.values
+spells_rightly m bytes s =
+    let vs = map untyped m.values in
+    let fitting = still_fitting m.values s.values in
+    ap fault_in (s.bytes_are ∙ sym (spelled m vs (typed_again m.values) fitting))
+    ∙ head_right m (length vs) (all_bytes vs) s.stamp (omega (arith, s.count, length-map m.values untyped))
+    ∙ all_right vs fitting
 
 typed_fitting : (vs : List Typed) → AreFitting vs → AllByRecursion (λ (v : book.Typed). in_type v.type v.value ≡ true) (map typed_of vs)
 typed_fitting [] h = tt
@@ -59,30 +49,28 @@ typed_fitting (v ∷ vs) h = (h.0, typed_fitting vs h.1)
 
 -- k of count values are read, and what is left is at fault as the whole is
 pub record Coming (bytes : List ℕ) (count k : ℕ) (message : Message) (rest : List ℕ) : Type 0 where
-  pub purpose : Purpose
-  pub number : ℕ
   pub values : List Typed
-  pub message_is : message ≡ record { purpose = purpose_of purpose; number = number; values = map typed_of values }
-  pub bytes_are : bytes ≡ head_bytes purpose number count ++ all_bytes values ++ rest
-  pub small : number < 2 ^ 16
+  pub values_are : map typed_of values ≡ message.values
+  pub bytes_are : bytes ≡ head_bytes message count ++ (all_bytes values ++ rest)
+  pub small : message.number < 2 ^ 16
+  pub stamped : IsStamped message.purpose message.stamp
   pub few : count ≤ 16
   pub many : length values ≡ k
   pub fitting : AllByRecursion (λ (v : Typed). in_type v.elem v.value ≡ true) values
   pub goes_on : fault_in bytes ≡ first_fault (values_in (count - k) rest) rest
 
-pub begins : (bytes rest : List ℕ) (p : Purpose) (n count : ℕ) → bytes ≡ head_bytes p n count ++ rest → count ≤ 16 → n < 2 ^ 16 → Coming bytes count 0 (record { purpose = purpose_of p; number = n; values = [] }) rest
-begins bytes rest p n count is few small =
+pub begins : (bytes rest : List ℕ) (m : Message) (count : ℕ) → bytes ≡ head_bytes m count ++ rest → count ≤ 16 → IsBegun m → Coming bytes count 0 m rest
+begins bytes rest m count is few begun =
     record {
-      purpose = p;
-      number = n;
       values = [];
-      message_is = refl;
+      values_are = sym begun.2;
       bytes_are = is;
-      small = small;
+      small = begun.0;
+      stamped = begun.1;
       few = few;
       many = refl;
       fitting = tt;
-      goes_on = ap fault_in is ∙ head_right p n count (values_in count rest) rest few ∙ ap (λ n. first_fault (values_in n rest) rest) (let e : count ≡ count - 0 = omega arith in e);
+      goes_on = ap fault_in is ∙ head_right m count rest begun.1 few ∙ ap (λ n. first_fault (values_in n rest) rest) (let e : count ≡ count - 0 = omega arith in e);
     }
 
 one_more : (vs : List Typed) (v : Typed) (rest : List ℕ) → all_bytes vs ++ (value_bytes v ++ rest) ≡ all_bytes (vs ++ v ∷ []) ++ rest
@@ -102,18 +90,17 @@ module _ (bytes rest : List ℕ) (count k : ℕ) (m : Message) (more : k < count
   at_fault fault h = c.goes_on ∙ ap (λ n. first_fault (values_in n rest) rest) left ∙ h (count - (k + 1))
 
   pub room : length m.values < 16
-  room = omega (arith, more, c.few, c.many, ap (λ (x : Message). length x.values) c.message_is, length-map c.values typed_of)
+  room = omega (arith, more, c.few, c.many, ap length c.values_are, length-map c.values typed_of)
 
   -- it is read
-  pub next : (behind : List ℕ) (v : Typed) (after : Message) → rest ≡ value_bytes v ++ behind → in_type v.elem v.value ≡ true → after ≡ record { purpose = m.purpose; number = m.number; values = m.values ++ typed_of v ∷ [] } → Coming bytes count (k + 1) after behind
+  pub next : (behind : List ℕ) (v : Typed) (after : Message) → rest ≡ value_bytes v ++ behind → in_type v.elem v.value ≡ true → after ≡ record { purpose = m.purpose; number = m.number; stamp = m.stamp; values = m.values ++ typed_of v ∷ [] } → Coming bytes count (k + 1) after behind
   next behind v after is f e =
-      record {
-        purpose = c.purpose;
-        number = c.number;
+      subst (λ (x : Message). Coming bytes count (k + 1) x behind) (sym e) record {
         values = c.values ++ v ∷ [];
-        message_is = e ∙ ap (λ (x : Message). record { purpose = x.purpose; number = x.number; values = x.values ++ typed_of v ∷ [] }) c.message_is ∙ ap (λ vs. record { purpose = purpose_of c.purpose; number = c.number; values = vs }) (sym (map-append typed_of c.values (v ∷ [])));
-        bytes_are = c.bytes_are ∙ ap (λ bs. head_bytes c.purpose c.number count ++ bs) (ap (λ bs. all_bytes c.values ++ bs) is ∙ one_more c.values v behind);
+        values_are = map-append typed_of c.values (v ∷ []) ∙ ap (λ vs. vs ++ typed_of v ∷ []) c.values_are;
+        bytes_are = c.bytes_are ∙ ap (λ bs. head_bytes m count ++ bs) (ap (λ bs. all_bytes c.values ++ bs) is ∙ one_more c.values v behind);
         small = c.small;
+        stamped = c.stamped;
         few = c.few;
         many = length-append c.values (v ∷ []) ∙ ap (λ n. n + 1) c.many;
         fitting = fitting_more c.values v c.fitting f;
@@ -135,11 +122,12 @@ pub ends : (bytes : List ℕ) (count k : ℕ) (m : Message) (rest : List ℕ) �
 ends bytes count k m rest c a b none =
     let same : length c.values ≡ count = omega (arith, c.many, a, b) in
     let all : all_bytes c.values ++ rest ≡ all_bytes c.values = ap (λ bs. all_bytes c.values ++ bs) (nothing rest none) ∙ append-nil (all_bytes c.values) in
-    subst (λ (x : Message). Spells x bytes) (sym c.message_is) record {
+    record {
       number = c.small;
-      count = omega (arith, same, c.few, length-map c.values typed_of);
-      values = typed_fitting c.values c.fitting;
-      bytes_are = c.bytes_are ∙ ap (λ bs. head_bytes c.purpose c.number count ++ bs) all ∙ ap (λ n. head_bytes c.purpose c.number n ++ all_bytes c.values) (sym same) ∙ spelled c.purpose c.number c.values c.fitting;
+      stamp = c.stamped;
+      count = omega (arith, same, c.few, length-map c.values typed_of, ap length c.values_are);
+      values = subst (AllByRecursion (λ (v : book.Typed). in_type v.type v.value ≡ true)) c.values_are (typed_fitting c.values c.fitting);
+      bytes_are = c.bytes_are ∙ ap (λ bs. head_bytes m count ++ bs) all ∙ ap (λ n. head_bytes m n ++ all_bytes c.values) (sym same) ∙ spelled m c.values c.values_are c.fitting;
     }
   where
     nothing : (bs : List ℕ) → length bs ≡ 0 → bs ≡ []
@@ -164,24 +152,15 @@ pub one_written : (d : Typed) (bytes new start : List ℕ) (vs : List Typed) (k 
 one_written d bytes new start vs k is so_far h =
     is ∙ ap (λ (bs : List ℕ). bs ++ value_bytes (get_or vs k d)) so_far ∙ append_assoc start (all_bytes (take k vs)) (value_bytes (get_or vs k d)) ∙ ap (λ (bs : List ℕ). start ++ bs) (bytes_more vs k d h)
 
--- what a message is for
-abbrev pub of_book : book.Purpose → Purpose
-of_book book.To_channel = ToChannel
-of_book book.To_input = ToInput
-
-pub as_in_book : (p : book.Purpose) → purpose_of (of_book p) ≡ p
-as_in_book book.To_channel = refl
-as_in_book book.To_input = refl
-
-pub encoded : (m : Message) (p : Purpose) (vs : List Typed) → purpose_of p ≡ m.purpose → map typed_of vs ≡ m.values → m.number < 2 ^ 16 → length vs ≤ 16 → AllByRecursion (λ (v : Typed). in_type v.elem v.value ≡ true) vs → Spells m (head_bytes p m.number (length vs) ++ all_bytes vs)
-encoded m p vs purpose values small few h =
-    let same : record { purpose = purpose_of p; number = m.number; values = map typed_of vs } ≡ m = ap (λ q. record { purpose = q; number = m.number; values = map typed_of vs }) purpose ∙ ap (λ us. record { purpose = m.purpose; number = m.number; values = us }) values in
+pub encoded : (m : Message) (vs : List Typed) → map typed_of vs ≡ m.values → m.number < 2 ^ 16 → IsStamped m.purpose m.stamp → length vs ≤ 16 → AllByRecursion (λ (v : Typed). in_type v.elem v.value ≡ true) vs → Spells m (head_bytes m (length vs) ++ all_bytes vs)
+encoded m vs values small stamped few h =
     record {
       number = small;
+      stamp = stamped;
       count = omega (arith, few, length-map vs typed_of, ap length values);
       values = subst (AllByRecursion (λ (v : book.Typed). in_type v.type v.value ≡ true)) values (typed_fitting vs h);
-      bytes_are = spelled p m.number vs h ∙ ap spelling same;
+      bytes_are = spelled m vs values h;
     }
 
-pub room_left : (bytes start : List ℕ) (vs : List Typed) (k : ℕ) → bytes ≡ start ++ all_bytes (take k vs) → length start ≡ 7 → length vs ≤ 16 → length bytes + 9 ≤ 160
-room_left bytes start vs k is seven few = omega (arith, ap length is, length-append start (all_bytes (take k vs)), seven, all_bytes_long (take k vs), length-take k vs, few)
+pub room_left : (bytes start : List ℕ) (vs : List Typed) (k : ℕ) → bytes ≡ start ++ all_bytes (take k vs) → length start ≤ 15 → length vs ≤ 16 → k < length vs → length bytes + 9 ≤ 160
+room_left bytes start vs k is fifteen few more = omega (arith, ap length is, length-append start (all_bytes (take k vs)), fifteen, all_bytes_long (take k vs), length-take k vs, few, more)

@@ -1,5 +1,5 @@
 -- Fields that are right, that are not, and that are not whole.
-use Rattle.std.proofs.Common.{ℕ, suc, ◌≡◌, ◌<◌, ◌≤◌, ◌++◌, ◌/◌, ◌%◌, Bool, true, false, List, [], ◌∷◌, length, take, drop, Some, refl, sym, ◌∙◌, ap, subst, arith}
+use Rattle.std.proofs.Common.{ℕ, suc, ◌≡◌, ◌<◌, ◌≤◌, ◌++◌, ◌/◌, ◌%◌, Bool, true, false, List, [], ◌∷◌, length, take, drop, None, Some, Option, refl, sym, ◌∙◌, ap, subst, arith}
 use Rattle.std.specs.Prelude.{nat_lt, ℤ, slice_index_or, ◌^◌, FitsSigned}
 use Rattle.std.specs.Int.{w64, cast_signed, cast_unsigned, from_be_bytes, to_be_bytes}
 use Rattle.std.proofs.lemmas.Bool.{cond-true, cond-false, le-ltb, le-leb}
@@ -13,10 +13,9 @@ use Rattle.fb_words.specs.declared.elem_type.ElemType.TheVariants as t
 use Rattle.fb_words.specs.Numbers.{in_type}
 use Rattle.fb_wire.specs.declared.message.Typed.{Typed}
 use Rattle.fb_model.specs.Fields.{Value}
-use Rattle.fb_wire.specs.declared.message.Purpose.{Purpose}
-use Rattle.fb_wire.specs.declared.message.Purpose.TheVariants.{ToChannel, ToInput}
-use Rattle.fb_wire.specs.Views.{purpose_code, code_of, value_bytes, head_bytes}
-use Rattle.fb_model.specs.Fields.{Field, first_fault, type_of, is_in, is_type, number_in, mark, version, kind, number, count, head, code, value, values_in}
+use Rattle.fb_wire.specs.Views.{code_of, value_bytes, head_bytes}
+use Rattle.fb_model.specs.Fields.{Field, first_fault, fault_in, type_of, is_in, is_type, number_in, mark, version, kind, number, stamping, count, code, value, values_in}
+use Rattle.fb_model.specs.Messages.{Message, Purpose, To_channel, To_input, Stamp, IsStamped, purpose_code, big_endian}
 
 taken : (p rest : List ℕ) (n : ℕ) → length p ≡ n → take n (p ++ rest) ≡ p
 taken p rest n h = subst (λ k. take k (p ++ rest) ≡ p) h (take-append_seam p rest)
@@ -89,15 +88,38 @@ spelled bytes [] after value rest e x l b c a v = absurd (omega (arith, l))
 spelled bytes (k ∷ []) after value rest e x l b c a v = b ∙ ap (λ d. d ∷ after) (sym c) ∙ ap (λ vs. code_of e ∷ vs) (a ∙ ap (λ vs. vs ++ rest) (sym v))
 spelled bytes (k ∷ j ∷ ks) after value rest e x l b c a v = absurd (omega (arith, l))
 
--- what stands before the values
-pub head_right : (p : Purpose) (n c : ℕ) (fs : List Field) (rest : List ℕ) → c ≤ 16 → first_fault (head ++ fs) (head_bytes p n c ++ rest) ≡ first_fault fs rest
-head_right p n c fs rest few =
-    right mark (version ∷ kind ∷ number ∷ count ∷ fs) (70 ∷ 66 ∷ []) (1 ∷ purpose_code p ∷ n / 256 ∷ n % 256 ∷ c ∷ rest) refl refl
-    ∙ right version (kind ∷ number ∷ count ∷ fs) (1 ∷ []) (purpose_code p ∷ n / 256 ∷ n % 256 ∷ c ∷ rest) refl refl
-    ∙ right kind (number ∷ count ∷ fs) (purpose_code p ∷ []) (n / 256 ∷ n % 256 ∷ c ∷ rest) refl (known p)
-    ∙ right number (count ∷ fs) (n / 256 ∷ n % 256 ∷ []) (c ∷ rest) refl refl
-    ∙ right count fs (c ∷ []) rest refl (le-leb c 16 few)
+-- nothing is at fault with what stands before the values
+pub head_right : (m : Message) (c : ℕ) (rest : List ℕ) → IsStamped m.purpose m.stamp → c ≤ 16 → fault_in (head_bytes m c ++ rest) ≡ first_fault (values_in c rest) rest
+head_right m c rest stamped few = go m.purpose m.stamp stamped
   where
-    known : (p : Purpose) → kind.is_right (purpose_code p ∷ []) ≡ true
-    known ToChannel = refl
-    known ToInput = refl
+    known : (p : Purpose) → (kind 1).is_right (purpose_code p ∷ []) ≡ true
+    known To_channel = refl
+    known To_input = refl
+
+    high : ℕ
+    high = m.number / 256
+
+    low : ℕ
+    low = m.number % 256
+
+    fs : List Field
+    fs = values_in c rest
+
+    go : (p : Purpose) (s : Option Stamp) → IsStamped p s → fault_in (head_bytes (record { purpose = p; number = m.number; stamp = s; values = m.values }) c ++ rest) ≡ first_fault (values_in c rest) rest
+    go p None h =
+        right mark (version ∷ kind 1 ∷ number ∷ count ∷ fs) (70 ∷ 66 ∷ []) (1 ∷ purpose_code p ∷ high ∷ low ∷ c ∷ rest) refl refl
+        ∙ right version (kind 1 ∷ number ∷ count ∷ fs) (1 ∷ []) (purpose_code p ∷ high ∷ low ∷ c ∷ rest) refl refl
+        ∙ right (kind 1) (number ∷ count ∷ fs) (purpose_code p ∷ []) (high ∷ low ∷ c ∷ rest) refl (known p)
+        ∙ right number (count ∷ fs) (high ∷ low ∷ []) (c ∷ rest) refl refl
+        ∙ right count fs (c ∷ []) rest refl (le-leb c 16 few)
+    go To_channel (Some s) h =
+        let boot = big_endian 4 s.boot in
+        let sequence = big_endian 4 s.sequence in
+        right mark (version ∷ kind 2 ∷ number ∷ stamping ∷ stamping ∷ count ∷ fs) (70 ∷ 66 ∷ []) (2 ∷ 1 ∷ high ∷ low ∷ boot ++ sequence ++ c ∷ rest) refl refl
+        ∙ right version (kind 2 ∷ number ∷ stamping ∷ stamping ∷ count ∷ fs) (2 ∷ []) (1 ∷ high ∷ low ∷ boot ++ sequence ++ c ∷ rest) refl refl
+        ∙ right (kind 2) (number ∷ stamping ∷ stamping ∷ count ∷ fs) (1 ∷ []) (high ∷ low ∷ boot ++ sequence ++ c ∷ rest) refl refl
+        ∙ right number (stamping ∷ stamping ∷ count ∷ fs) (high ∷ low ∷ []) (boot ++ sequence ++ c ∷ rest) refl refl
+        ∙ right stamping (stamping ∷ count ∷ fs) boot (sequence ++ c ∷ rest) refl refl
+        ∙ right stamping (count ∷ fs) sequence (c ∷ rest) refl refl
+        ∙ right count fs (c ∷ []) rest refl (le-leb c 16 few)
+    go To_input (Some s) h = absurd h

@@ -1,20 +1,17 @@
 -- The bytes of messages against the book's spelling.
-use Rattle.std.proofs.Common.{ℕ, ◌≡◌, ◌^◌, ◌/◌, ◌%◌, ◌++◌, ◌&&◌, ℤ, pos, negsuc, ◌≤ℤ◌, Bool, true, false, List, [], ◌∷◌, length, map, drop, div-one, refl, sym, ◌∙◌, ap, arith}
+use Rattle.std.proofs.Common.{ℕ, ◌≡◌, ◌^◌, ◌/◌, ◌%◌, ◌++◌, ◌&&◌, ℤ, pos, negsuc, ◌≤ℤ◌, Bool, true, false, List, [], ◌∷◌, length, map, div-one, refl, sym, ◌∙◌, ap, arith}
 use Rattle.std.specs.Prelude.{unsigned_abs, int_le, FitsSigned}
 use Rattle.std.specs.List.{AllByRecursion}
 use Rattle.std.specs.Int.{w64, cast_unsigned, int_rem_euclid}
 use Rattle.std.proofs.Math.Nat.{mod-eq_of_lt}
 use Rattle.std.proofs.lemmas.Int.{ints}
-use Rattle.std.proofs.lemmas.List.{length-map}
+use Rattle.std.proofs.lemmas.List.{length-map, append_assoc}
 use Rattle.fb_words.specs.declared.elem_type.ElemType.{ElemType}
 use Rattle.fb_words.specs.Numbers.{in_type, lowest, highest}
 use Rattle.fb_words.proofs.Types.{bounded, le_is}
-use Rattle.fb_model.specs.Messages as book
-use Rattle.fb_model.specs.Messages.{Message, Spells, spelling}
-use Rattle.fb_wire.specs.declared.message.Purpose.{Purpose}
-use Rattle.fb_wire.specs.declared.message.Purpose.TheVariants.{ToChannel, ToInput}
+use Rattle.fb_model.specs.Messages.{Message, spelling, version, purpose_code, stamp_bytes, big_endian, fields}
 use Rattle.fb_wire.specs.declared.message.Typed.{Typed}
-use Rattle.fb_wire.specs.Views.{purpose_of, typed_of, code_of, value_bytes, all_bytes, head_bytes}
+use Rattle.fb_wire.specs.Views.{typed_of, code_of, value_bytes, all_bytes, head_bytes}
 
 -- a value in its type has 64 bits
 pub in_64 : (e : ElemType) (x : ℤ) → in_type e x ≡ true → FitsSigned w64 x
@@ -34,26 +31,25 @@ bits_of : (x : ℤ) → FitsSigned w64 x → cast_unsigned w64 x ≡ unsigned_ab
 bits_of (pos a) f = (let b = f.sfits in sym (mod-eq_of_lt (omega arith)))
 bits_of (negsuc a) f = (let b = f.sfits in let m : a % 2 ^ 64 ≡ a = mod-eq_of_lt (omega arith) in omega arith)
 
--- values without the bytes before them
-abbrev values_of : book.Purpose → ℕ → List Typed → List ℕ
-values_of p n vs = drop 7 (spelling (record { purpose = p; number = n; values = map typed_of vs }))
-
 last_byte : (u : ℕ) → u / 2 ^ 0 % 256 ≡ u % 256
 last_byte u = ap (λ k. k % 256) (div-one u)
 
-one_value : (p : book.Purpose) (n : ℕ) (e : ElemType) (x : ℤ) (vs : List Typed) → FitsSigned w64 x → values_of p n (record { elem = e; value = x } ∷ vs) ≡ value_bytes (record { elem = e; value = x }) ++ values_of p n vs
-one_value p n e x vs f =
-    ap (λ u. code_of e ∷ u / 2 ^ 56 % 256 ∷ u / 2 ^ 48 % 256 ∷ u / 2 ^ 40 % 256 ∷ u / 2 ^ 32 % 256 ∷ u / 2 ^ 24 % 256 ∷ u / 2 ^ 16 % 256 ∷ u / 2 ^ 8 % 256 ∷ u / 2 ^ 0 % 256 ∷ values_of p n vs) (sym (bits_of x f))
-    ∙ ap (λ b. code_of e ∷ cast_unsigned w64 x / 2 ^ 56 % 256 ∷ cast_unsigned w64 x / 2 ^ 48 % 256 ∷ cast_unsigned w64 x / 2 ^ 40 % 256 ∷ cast_unsigned w64 x / 2 ^ 32 % 256 ∷ cast_unsigned w64 x / 2 ^ 24 % 256 ∷ cast_unsigned w64 x / 2 ^ 16 % 256 ∷ cast_unsigned w64 x / 2 ^ 8 % 256 ∷ b ∷ values_of p n vs) (last_byte (cast_unsigned w64 x))
+one_value : (e : ElemType) (x : ℤ) (rest : List ℕ) → FitsSigned w64 x → code_of e ∷ big_endian 8 (unsigned_abs (int_rem_euclid x (pos (2 ^ 64)))) ++ rest ≡ value_bytes (record { elem = e; value = x }) ++ rest
+one_value e x rest f =
+    let u = cast_unsigned w64 x in
+    ap (λ n. code_of e ∷ big_endian 8 n ++ rest) (sym (bits_of x f))
+    ∙ ap (λ b. code_of e ∷ u / 2 ^ 56 % 256 ∷ u / 2 ^ 48 % 256 ∷ u / 2 ^ 40 % 256 ∷ u / 2 ^ 32 % 256 ∷ u / 2 ^ 24 % 256 ∷ u / 2 ^ 16 % 256 ∷ u / 2 ^ 8 % 256 ∷ b ∷ rest) (last_byte u)
 
-pub values_spelled : (p : book.Purpose) (n : ℕ) (vs : List Typed) → AllByRecursion (λ v. in_type v.elem v.value ≡ true) vs → all_bytes vs ≡ values_of p n vs
-values_spelled p n [] h = refl
-values_spelled p n (v ∷ vs) h = ap (λ bs. value_bytes v ++ bs) (values_spelled p n vs h.1) ∙ sym (one_value p n v.elem v.value vs (in_64 v.elem v.value h.0))
+values_spelled : (vs : List Typed) → AllByRecursion (λ v. in_type v.elem v.value ≡ true) vs → fields (map typed_of vs) ≡ all_bytes vs
+values_spelled [] h = refl
+values_spelled (v ∷ vs) h = one_value v.elem v.value (fields (map typed_of vs)) (in_64 v.elem v.value h.0) ∙ ap (λ bs. value_bytes v ++ bs) (values_spelled vs h.1)
 
-pub spelled : (p : Purpose) (n : ℕ) (vs : List Typed) → AllByRecursion (λ v. in_type v.elem v.value ≡ true) vs → head_bytes p n (length vs) ++ all_bytes vs ≡ spelling (record { purpose = purpose_of p; number = n; values = map typed_of vs })
-spelled ToChannel n vs h =
-    ap (λ bs. 70 ∷ 66 ∷ 1 ∷ 1 ∷ n / 256 ∷ n % 256 ∷ length vs ∷ bs) (values_spelled book.To_channel n vs h)
-    ∙ ap (λ k. 70 ∷ 66 ∷ 1 ∷ 1 ∷ n / 256 ∷ n % 256 ∷ k ∷ values_of book.To_channel n vs) (sym (length-map vs typed_of))
-spelled ToInput n vs h =
-    ap (λ bs. 70 ∷ 66 ∷ 1 ∷ 2 ∷ n / 256 ∷ n % 256 ∷ length vs ∷ bs) (values_spelled book.To_input n vs h)
-    ∙ ap (λ k. 70 ∷ 66 ∷ 1 ∷ 2 ∷ n / 256 ∷ n % 256 ∷ k ∷ values_of book.To_input n vs) (sym (length-map vs typed_of))
+-- the first six bytes, and others behind them
+abbrev pub behind_six : Message → List ℕ → List ℕ
+behind_six m bs = 70 ∷ 66 ∷ version m.stamp ∷ purpose_code m.purpose ∷ m.number / 256 ∷ m.number % 256 ∷ bs
+
+pub spelled : (m : Message) (vs : List Typed) → map typed_of vs ≡ m.values → AllByRecursion (λ v. in_type v.elem v.value ≡ true) vs → head_bytes m (length vs) ++ all_bytes vs ≡ spelling m
+spelled m vs e h =
+    ap (behind_six m) (append_assoc (stamp_bytes m.stamp) (length vs ∷ []) (all_bytes vs))
+    ∙ ap (λ bs. behind_six m (stamp_bytes m.stamp ++ length vs ∷ bs)) (sym (values_spelled vs h) ∙ ap fields e)
+    ∙ ap (λ k. behind_six m (stamp_bytes m.stamp ++ k ∷ fields m.values)) (sym (length-map vs typed_of) ∙ ap length e)

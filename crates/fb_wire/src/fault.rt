@@ -1,5 +1,7 @@
 //! Why bytes are no message.
 
+ghost use Rattle.std.specs.Prelude.{◌≡◌};
+
 use std::fmt;
 
 /// What is at fault with the first field of a datagram that is not whole or not right. Code 55.
@@ -9,9 +11,9 @@ pub enum WireFault {
     Short,
     /// The first two bytes are not `FB`.
     Magic,
-    /// The version is not 1.
+    /// The version is neither 1 nor 2.
     Version,
-    /// The message is for neither a channel nor an INPUT.
+    /// The message is for neither a channel nor an INPUT, or is of version 2 and for an INPUT.
     Kind,
     /// More than 16 values are announced.
     Count,
@@ -21,6 +23,15 @@ pub enum WireFault {
     Value,
     /// Something follows the last value.
     Trailing,
+}
+
+impl WireFault {
+    /// The number of the refusal.
+    pub fn code(&self) -> u8
+        ensures { result ≡ 55 }
+    {
+        55
+    }
 }
 
 /// The code, and which fault it is.

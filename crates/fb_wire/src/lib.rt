@@ -11,4 +11,4 @@ pub use decoding::decode;
 pub use encoding::{Datagram, encode};
 pub use fault::WireFault;
 pub use law::{bytes_spell_one_message, faulty_bytes_spell_nothing};
-pub use message::{Message, Purpose, Typed};
+pub use message::{Message, Purpose, Stamp, Typed};
