@@ -12,7 +12,8 @@ use Rattle.fb_model.specs.Devices.{Ended, Machine, Admitted, Denied, Expired, Id
 use Rattle.fb_model.specs.Headline.{IsSound}
 use Rattle.fb_model.specs.World.{Datagram, World, WorldEvent, At_device, Deliver_datagram, An_offer, A_tick, A_dispatch, WorldAnswer, Answered, Unknown, Opens, Serves, Takes, WorldHappens}
 use Rattle.fb_model.proofs.Admitting.{sound_next}
-use Rattle.fb_model_worlds.specs.Worlds.{SpellsOne, AllHold, IsSent, IsWorldSound, dispatches_of}
+use Rattle.fb_model_worlds.specs.Worlds.{AllHold, IsSent, IsWorldSound, dispatches_of}
+use Rattle.fb_model_worlds.proofs.Spelling.{spells_one}
 use Rattle.fb_model_worlds.proofs.Growing.{Grows, offer_grows, tick_grows}
 
 -- what is so of each is so of the one of a number
@@ -41,14 +42,14 @@ pub data Case (system : System) (cert : Certificate) (old : World) (event : Worl
   takes : (d n cause : ℕ) (device : Device) (datagram : Datagram) (machine : Machine) → slice_get system.devices d ≡ Some device → slice_get old.datagrams n ≡ Some datagram → Admits cert device (old.machines d) datagram cause machine → Takes old new d n machine datagram cause
       → ((root : ℕ) → dispatches_of old root event answer ≡ 0) → Case system cert old event answer new
 
-module _ (one : SpellsOne) (system : System) (cert : Certificate) (hold : AllHold system cert) where
+module _ (system : System) (cert : Certificate) (hold : AllHold system cert) where
   pub device_holds : (d : ℕ) (device : Device) → slice_get system.devices d ≡ Some device → DeviceHolds cert device
   device_holds d device at = at_number (DeviceHolds cert) system.devices d device at hold
 
   admits : (device : Device) (holding : DeviceHolds cert device) (old new : Machine) (datagram : Datagram) (bytes : List ℕ) (cause : ℕ) → IsSound cert device old → datagram.message.purpose ≡ To_channel → Rattle.fb_model.specs.Messages.Spells datagram.message bytes
       → (x : Delivers cert device old bytes cause new) → Admits cert device old datagram cause new
   admits device holding old new datagram bytes cause s p spelled x =
-      let is : x.message ≡ datagram.message = one bytes x.message datagram.message x.spelled spelled in
+      let is : x.message ≡ datagram.message = spells_one bytes x.message datagram.message x.spelled spelled in
       let known : addressed device datagram.message ≡ Some x.leaf = subst (λ m. addressed device m ≡ Some x.leaf) is x.known in
       let ready : IsReady old x.leaf datagram.message.purpose = subst (λ (m : Message). IsReady old x.leaf m.purpose) is x.ready in
       record {

@@ -17,7 +17,7 @@ use Rattle.fb_model.proofs.Ending.{serves_one}
 use Rattle.fb_model.proofs.Far.{dispatch_falls, delivery_falls, opening_keeps}
 use Rattle.fb_model.proofs.Lists.{all_weaker}
 use Rattle.fb_model.proofs.Running.{at_first_leaf}
-use Rattle.fb_model_worlds.specs.Worlds.{SpellsOne, AllHold, IsOpened, IsSent, IsWorldSound, dispatches_of, MeasureFalls}
+use Rattle.fb_model_worlds.specs.Worlds.{AllHold, IsOpened, IsSent, IsWorldSound, dispatches_of, MeasureFalls}
 use Rattle.fb_model_worlds.proofs.Opening.{opening_begins}
 use Rattle.fb_model_worlds.proofs.Cases.{at_number, Admits, Case, rests, opens, serves, takes, device_holds}
 use Rattle.fb_model_worlds.proofs.Growing.{Grows}
@@ -70,7 +70,8 @@ module _ (system : System) (cert : Certificate) (repeats : ℕ) (old new : World
         opens = λ root l m. absurd (omega (arith, l, m, next));
         openings = λ root l. ap (λ r. (r root).opening) roots;
         steps = λ root l. omega (arith, ap (λ r. (r root).steps) roots, x root);
-        falls = λ root l w. omega (arith, ap (λ r. (r root).steps) roots, f root l w);
+        spends = λ root l w. omega (arith, ap (λ r. (r root).steps) roots, f root l w);
+        falls = λ root l w. omega (arith, x root, f root l w);
       }
 
   module _ (d : ℕ) (device : Device) (machine : Machine) (at : slice_get system.devices d ≡ Some device) (g : Grows cert device (old.machines d) machine) (b : Opens old new d machine) (x : (root : ℕ) → dispatches_of old root event answer ≡ 0) where
@@ -90,7 +91,8 @@ module _ (system : System) (cert : Certificate) (repeats : ℕ) (old new : World
           opens = begins;
           openings = λ root l. ap (λ r. r.opening) (b.before root l);
           steps = λ root l. omega (arith, ap (λ r. r.steps) (b.before root l), x root);
-          falls = λ root l w. omega (arith, ap (λ r. r.steps) (b.before root l), opening_keeps system cert repeats old new d device at (s.machines d device at) machine g.sound g.grown b root l);
+          spends = λ root l w. omega (arith, ap (λ r. r.steps) (b.before root l), opening_keeps system cert repeats old new d device at (s.machines d device at) machine g.sound g.grown b root l);
+          falls = λ root l w. omega (arith, x root, opening_keeps system cert repeats old new d device at (s.machines d device at) machine g.sound g.grown b root l);
         }
 
   module _ (far : PaysFar system cert repeats) (d : ℕ) (device : Device) (holding : DeviceHolds cert device) (machine : Machine) (q cause : ℕ) (place : Place) (steps : ℕ) (effect : Option Effect) (ended : Option Ended) (sent : Option ℕ) (at : slice_get system.devices d ≡ Some device)
@@ -105,10 +107,15 @@ module _ (system : System) (cert : Certificate) (repeats : ℕ) (old new : World
           opens = λ root l m. absurd (omega (arith, l, m, b.next));
           openings = λ root l. ap (λ f. (f root).opening) b.roots ∙ same root;
           steps = λ root l. omega (arith, ap (λ f. (f root).steps) b.roots, x root, more root);
-          falls = λ root l w. dispatch_falls system cert repeats far old new d device at holding (at_number (λ y. ColumnFits (far_of cert) cert.ranges (leaves y)) system.devices d device at far.devices) (s.machines d device at) root q cause place steps effect ended machine sent r
-              (queue_within system cert hold old new s d device holding machine q cause place steps effect ended sent at r b) b;
+          spends = λ root l w. spends root;
+          falls = λ root l w. omega (arith, ap (λ f. (f root).steps) b.roots, x root, more root, spends root);
         }
       where
+        spends : (root : ℕ) → (new.roots root).steps + far_left system cert repeats new root ≤ (old.roots root).steps + far_left system cert repeats old root
+        spends root =
+            dispatch_falls system cert repeats far old new d device at holding (at_number (λ y. ColumnFits (far_of cert) cert.ranges (leaves y)) system.devices d device at far.devices) (s.machines d device at) root q cause place steps effect ended machine sent r
+            (queue_within system cert hold old new s d device holding machine q cause place steps effect ended sent at r b) b
+
         same : (root : ℕ) → (stepped old.roots (old.root_of d cause) steps root).opening ≡ (old.roots root).opening
         same root = by (eqb (old.root_of d cause) root) refl where
           by : (t : Bool) → eqb (old.root_of d cause) root ≡ t → (cond t (record { opening = (old.roots (old.root_of d cause)).opening; steps = (old.roots (old.root_of d cause)).steps + steps }) (old.roots root)).opening ≡ (old.roots root).opening
@@ -139,15 +146,15 @@ module _ (system : System) (cert : Certificate) (repeats : ℕ) (old new : World
         idle_falls b.next b.roots x
         (λ root l w. delivery_falls system cert repeats old new d device at (s.machines d device at) root few n datagram machine cause a.leaf a.values got a.known a.new_is a.cause_is (is_allowed root w) b)
 
-module _ (one : SpellsOne) (system : System) (cert : Certificate) (hold : AllHold system cert) (repeats : ℕ) (far : PaysFar system cert repeats) (few : repeats ≤ 255) where
+module _ (system : System) (cert : Certificate) (hold : AllHold system cert) (repeats : ℕ) (far : PaysFar system cert repeats) (few : repeats ≤ 255) where
   pub measure_case : (old : World) (event : WorldEvent) (answer : WorldAnswer) (new : World) → IsWorldSound system cert old → Case system cert old event answer new → MeasureFalls system cert repeats old event answer new
   measure_case old event answer new s (rests e x) =
       idle_falls system cert repeats old new event answer s (ap (λ w. w.next) e) (ap (λ w. w.roots) e) x (λ root l w. omega (arith, ap (λ w. far_left system cert repeats w root) e))
   measure_case old event answer new s (opens d device machine at g b x) = open_falls system cert repeats old new event answer s d device machine at g b x
   measure_case old event answer new s (serves d device machine q cause place steps effect ended sent at r b x) =
-      serve_falls system cert repeats old new event answer s far d device (device_holds one system cert hold d device at) machine q cause place steps effect ended sent at hold r b x
+      serve_falls system cert repeats old new event answer s far d device (device_holds system cert hold d device at) machine q cause place steps effect ended sent at hold r b x
   measure_case old event answer new s (takes d n cause device datagram machine at got a b x) =
-      take_falls system cert repeats old new event answer s few hold d n cause device (device_holds one system cert hold d device at) datagram machine at got a b x
+      take_falls system cert repeats old new event answer s few hold d n cause device (device_holds system cert hold d device at) datagram machine at got a b x
 
   -- what is within at the end was within before
   pub within_case : (old : World) (event : WorldEvent) (answer : WorldAnswer) (new : World) (root : ℕ) → Case system cert old event answer new → AreWithin repeats root new.datagrams → AreWithin repeats root old.datagrams

@@ -1,3 +1,4 @@
+pub mod Spelling
 pub mod Stamps
 pub mod Opening
 pub mod Growing

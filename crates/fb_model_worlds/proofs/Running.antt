@@ -6,19 +6,19 @@ use Rattle.fb_model.specs.System.{System}
 use Rattle.fb_model.specs.Certificates.{Certificate, far_of}
 use Rattle.fb_model.specs.World.{World, WorldEvent, WorldAnswer, WorldHappens, WorldRun, IsFirst, far_left, PaysFar, AreWithin, BoundsRoots}
 use Rattle.fb_model.proofs.Lists.{all_weaker}
-use Rattle.fb_model_worlds.specs.Worlds.{SpellsOne, AllHold, IsOnce, IsSent, IsWorldSound, ArePaid, MeasureFalls, MeasureFallsOver}
+use Rattle.fb_model_worlds.specs.Worlds.{AllHold, IsOnce, IsSent, IsWorldSound, ArePaid, MeasureFalls, MeasureFallsOver}
 use Rattle.fb_model_worlds.proofs.Opening.{first_begins}
 use Rattle.fb_model_worlds.proofs.Cases.{Case, rests, opens, serves, takes, case}
 use Rattle.fb_model_worlds.proofs.Sounding.{sound_case, sound_event}
 use Rattle.fb_model_worlds.proofs.Beginning.{first_is_sound}
 use Rattle.fb_model_worlds.proofs.Falling.{measure_case, within_case}
 
-module _ (one : SpellsOne) (system : System) (cert : Certificate) (hold : AllHold system cert) where
+module _ (system : System) (cert : Certificate) (hold : AllHold system cert) where
   pub sound_run : (es : List WorldEvent) (as' : List WorldAnswer) (old new : World) → IsWorldSound system cert old → WorldRun system cert old es as' new → IsWorldSound system cert new
   sound_run [] [] old new s r = subst (IsWorldSound system cert) (sym r) s
   sound_run [] (a ∷ as') old new s r = absurd r
   sound_run (e ∷ es) [] old new s r = absurd r
-  sound_run (e ∷ es) (a ∷ as') old new s r = sound_run es as' r.0 new (sound_event one system cert hold old e a r.0 s r.1) r.2
+  sound_run (e ∷ es) (a ∷ as') old new s r = sound_run es as' r.0 new (sound_event system cert hold old e a r.0 s r.1) r.2
 
   -- a stamped datagram is admitted once at each device
   pub once_run : (es : List WorldEvent) (as' : List WorldAnswer) (first new : World) → IsFirst system first → WorldRun system cert first es as' new → AllByRecursion IsOnce new.datagrams
@@ -33,35 +33,37 @@ module _ (one : SpellsOne) (system : System) (cert : Certificate) (hold : AllHol
 
   module _ (repeats : ℕ) (far : PaysFar system cert repeats) (few : repeats ≤ 255) where
     pub measure_event : (old : World) (event : WorldEvent) (answer : WorldAnswer) (new : World) → IsWorldSound system cert old → WorldHappens system cert old event answer new → MeasureFalls system cert repeats old event answer new
-    measure_event old event answer new s h = measure_case one system cert hold repeats far few old event answer new s (case one system cert hold old event answer new s h)
+    measure_event old event answer new s h = measure_case system cert hold repeats far few old event answer new s (case system cert hold old event answer new s h)
 
     pub within_run : (root : ℕ) (es : List WorldEvent) (as' : List WorldAnswer) (old new : World) → IsWorldSound system cert old → WorldRun system cert old es as' new → AreWithin repeats root new.datagrams → AreWithin repeats root old.datagrams
     within_run root [] [] old new s r w = subst (λ (v : World). AreWithin repeats root v.datagrams) r w
     within_run root [] (a ∷ as') old new s r w = absurd r
     within_run root (e ∷ es) [] old new s r w = absurd r
     within_run root (e ∷ es) (a ∷ as') old new s r w =
-        within_case one system cert hold repeats far few old e a r.0 root (case one system cert hold old e a r.0 s r.1) (within_run root es as' r.0 new (sound_event one system cert hold old e a r.0 s r.1) r.2 w)
+        within_case system cert hold repeats far few old e a r.0 root (case system cert hold old e a r.0 s r.1) (within_run root es as' r.0 new (sound_event system cert hold old e a r.0 s r.1) r.2 w)
 
-    pub measure_run : (es : List WorldEvent) (as' : List WorldAnswer) (old new : World) → IsWorldSound system cert old → WorldRun system cert old es as' new → MeasureFallsOver system cert repeats old new
+    pub measure_run : (es : List WorldEvent) (as' : List WorldAnswer) (old new : World) → IsWorldSound system cert old → (r : WorldRun system cert old es as' new) → MeasureFallsOver system cert repeats old es as' new r
     measure_run [] [] old new s r =
         record {
           more = omega (arith, ap (λ (w : World). w.next) r);
           openings = λ root l. ap (λ (w : World). (w.roots root).opening) r;
           steps = λ root l. omega (arith, ap (λ (w : World). (w.roots root).steps) r);
-          falls = λ root l w. omega (arith, ap (λ (w : World). (w.roots root).steps) r, ap (λ (w : World). far_left system cert repeats w root) r);
+          spends = λ root l w. omega (arith, ap (λ (w : World). (w.roots root).steps) r, ap (λ (w : World). far_left system cert repeats w root) r);
+          falls = λ root l w. omega (arith, ap (λ (w : World). far_left system cert repeats w root) r);
         }
     measure_run [] (a ∷ as') old new s r = absurd r
     measure_run (e ∷ es) [] old new s r = absurd r
     measure_run (e ∷ es) (a ∷ as') old new s r =
-        let c = case one system cert hold old e a r.0 s r.1 in
-        let m = measure_case one system cert hold repeats far few old e a r.0 s c in
-        let t = sound_case one system cert hold old e a r.0 s c in
+        let c = case system cert hold old e a r.0 s r.1 in
+        let m = measure_case system cert hold repeats far few old e a r.0 s c in
+        let t = sound_case system cert hold old e a r.0 s c in
         let k = measure_run es as' r.0 new t r.2 in
         let up = next_up old e a r.0 c in
         record {
           more = omega (arith, up, k.more);
           openings = λ root l. k.openings root (omega (arith, l, up)) ∙ m.openings root l;
           steps = λ root l. omega (arith, k.steps root (omega (arith, l, up)), m.steps root l);
+          spends = λ root l w. omega (arith, k.spends root (omega (arith, l, up)) w, m.spends root l (within_run root es as' r.0 new t r.2 w));
           falls = λ root l w. omega (arith, k.falls root (omega (arith, l, up)) w, m.falls root l (within_run root es as' r.0 new t r.2 w));
         }
 
@@ -69,30 +71,30 @@ module _ (one : SpellsOne) (system : System) (cert : Certificate) (hold : AllHol
 
     paid_case : (old : World) (event : WorldEvent) (answer : WorldAnswer) (new : World) → IsWorldSound system cert old → Case system cert old event answer new → ArePaid system cert repeats old → ArePaid system cert repeats new
     paid_case old event answer new s c p root o w =
-        let m = measure_case one system cert hold repeats far few old event answer new s c in
+        let m = measure_case system cert hold repeats far few old event answer new s c in
         elim (cases_lt root old.next) [
-          | inl l ↦ omega (arith, m.falls root l w, p root (o.0, l) (within_case one system cert hold repeats far few old event answer new root c w), ap (far_of cert).weight (m.openings root l))
+          | inl l ↦ omega (arith, m.spends root l w, p root (o.0, l) (within_case system cert hold repeats far few old event answer new root c w), ap (far_of cert).weight (m.openings root l))
           | inr l ↦ (let b = m.opens root l o.1 in omega (arith, b.0, b.1))
         ]
 
     pub paid_event : (old : World) (event : WorldEvent) (answer : WorldAnswer) (new : World) → IsWorldSound system cert old → WorldHappens system cert old event answer new → ArePaid system cert repeats old → ArePaid system cert repeats new
-    paid_event old event answer new s h p = paid_case old event answer new s (case one system cert hold old event answer new s h) p
+    paid_event old event answer new s h p = paid_case old event answer new s (case system cert hold old event answer new s h) p
 
     pub paid_run : (es : List WorldEvent) (as' : List WorldAnswer) (old new : World) → IsWorldSound system cert old → WorldRun system cert old es as' new → ArePaid system cert repeats old → ArePaid system cert repeats new
     paid_run [] [] old new s r p = subst (ArePaid system cert repeats) (sym r) p
     paid_run [] (a ∷ as') old new s r p = absurd r
     paid_run (e ∷ es) [] old new s r p = absurd r
     paid_run (e ∷ es) (a ∷ as') old new s r p =
-        let c = case one system cert hold old e a r.0 s r.1 in
-        paid_run es as' r.0 new (sound_case one system cert hold old e a r.0 s c) r.2 (paid_case old e a r.0 s c p)
+        let c = case system cert hold old e a r.0 s r.1 in
+        paid_run es as' r.0 new (sound_case system cert hold old e a r.0 s c) r.2 (paid_case old e a r.0 s c p)
 
 -- in the first world each root may cost what its opening costs
 pub first_is_paid : (system : System) (cert : Certificate) (repeats : ℕ) (w : World) → IsFirst system w → ArePaid system cert repeats w
 first_is_paid system cert repeats w f root o within = (let b = first_begins system cert repeats w f root o.0 o.1 in omega (arith, b.0, b.1))
 
 -- roots are bounded
-pub bounds_roots : (one : SpellsOne) (system : System) (cert : Certificate) → AllHold system cert → ((repeats : ℕ) → cert.repeats ≡ Some repeats → PaysFar system cert repeats) → (w : World) → IsFirst system w → BoundsRoots system cert w
-bounds_roots one system cert hold far w f es as' new repeats root e few r l m within =
+pub bounds_roots : (system : System) (cert : Certificate) → AllHold system cert → ((repeats : ℕ) → cert.repeats ≡ Some repeats → PaysFar system cert repeats) → (w : World) → IsFirst system w → BoundsRoots system cert w
+bounds_roots system cert hold far w f es as' new repeats root e few r l m within =
     let s = first_is_sound system cert hold w f in
-    let p = paid_run one system cert hold repeats (far repeats e) few es as' w new s r (first_is_paid system cert repeats w f) root (l, m) within in
+    let p = paid_run system cert hold repeats (far repeats e) few es as' w new s r (first_is_paid system cert repeats w f) root (l, m) within in
     omega (arith, p)

@@ -17,7 +17,7 @@ use Rattle.fb_model.proofs.Homes.{homes}
 use Rattle.fb_model.proofs.Lists.{all_append, all_weaker, all_both}
 use Rattle.fb_model.proofs.Running.{put_all, at_first_leaf, known_pending, cause_pending, other_queue, sound_run}
 use Rattle.fb_model.proofs.Sending.{sends_messages}
-use Rattle.fb_model_worlds.specs.Worlds.{SpellsOne, AllHold, IsOpened, KeepsStamp, IsSent, IsWorldSound}
+use Rattle.fb_model_worlds.specs.Worlds.{AllHold, IsOpened, KeepsStamp, IsSent, IsWorldSound}
 use Rattle.fb_model_worlds.proofs.Stamps.{same_kept, run_keeps, stamped_keeps, stamped_kept, kept_stale}
 use Rattle.fb_model_worlds.proofs.Growing.{IsEmptyFrom, admitted_within, Grows}
 use Rattle.fb_model_worlds.proofs.Cases.{at_number, Admits, Case, rests, opens, serves, takes, case, device_holds}
@@ -339,14 +339,14 @@ module _ (system : System) (cert : Certificate) (hold : AllHold system cert) (ol
 
 -- ---- events and runs
 
-module _ (one : SpellsOne) (system : System) (cert : Certificate) (hold : AllHold system cert) where
+module _ (system : System) (cert : Certificate) (hold : AllHold system cert) where
   pub sound_case : (old : World) (event : WorldEvent) (answer : WorldAnswer) (new : World) → IsWorldSound system cert old → Case system cert old event answer new → IsWorldSound system cert new
   sound_case old event answer new s (rests e x) = subst (IsWorldSound system cert) (sym e) s
   sound_case old event answer new s (opens d device machine at g b x) = sound_opens system cert hold old new s d device machine at g b
   sound_case old event answer new s (serves d device machine q cause place steps effect ended sent at r b x) =
-      sound_serves system cert hold old new s d device (device_holds one system cert hold d device at) machine q cause place steps effect ended sent at r b
+      sound_serves system cert hold old new s d device (device_holds system cert hold d device at) machine q cause place steps effect ended sent at r b
   sound_case old event answer new s (takes d n cause device datagram machine at got a b x) =
-      sound_takes system cert hold old new s d n cause device (device_holds one system cert hold d device at) datagram machine at got a b
+      sound_takes system cert hold old new s d n cause device (device_holds system cert hold d device at) datagram machine at got a b
 
   pub sound_event : (old : World) (event : WorldEvent) (answer : WorldAnswer) (new : World) → IsWorldSound system cert old → WorldHappens system cert old event answer new → IsWorldSound system cert new
-  sound_event old event answer new s h = sound_case old event answer new s (case one system cert hold old event answer new s h)
+  sound_event old event answer new s h = sound_case old event answer new s (case system cert hold old event answer new s h)

@@ -1,20 +1,16 @@
 -- What is so of every world that devices come to, and how the measure of a root falls.
 -- This project's profile.
-use Rattle.std.specs.Prelude.{ℕ, ◌≡◌, ◌+◌, ◌<◌, ◌≤◌, ◌==◌, false, List, Some, if◌then◌else◌, length, [], slice_get}
+use Rattle.std.specs.Prelude.{ℕ, ◌≡◌, ◌+◌, ◌<◌, ◌≤◌, ◌==◌, false, List, [], ◌∷◌, Some, if◌then◌else◌, length, slice_get}
 use Rattle.std.specs.List.{AllByRecursion}
 use Rattle.fb_model.specs.System.{Device, System}
 use Rattle.fb_model.specs.Wires.{Leaf}
-use Rattle.fb_model.specs.Messages.{Stamp, Message, Spells}
+use Rattle.fb_model.specs.Messages.{Stamp}
 use Rattle.fb_model.specs.Store.{Stamps, Unstamped, Upcoming, Exhausted, Latest}
 use Rattle.fb_model.specs.Serving.{stamps_of}
 use Rattle.fb_model.specs.Certificates.{Certificate, far_of, DeviceHolds}
 use Rattle.fb_model.specs.Devices.{Machine, Admitted, Denied, Expired, Idle, Ran, is_later, subscriber_of}
 use Rattle.fb_model.specs.Headline.{IsSound, IsSendable}
-use Rattle.fb_model.specs.World.{Datagram, World, WorldEvent, At_device, Deliver_datagram, WorldAnswer, Answered, Unknown, far_left, AreWithin}
-
--- bytes spell one message at most
-abbrev pub SpellsOne : Type 0
-SpellsOne = (bytes : List ℕ) (m n : Message) → Spells m bytes → Spells n bytes → m ≡ n
+use Rattle.fb_model.specs.World.{Datagram, World, WorldEvent, At_device, Deliver_datagram, WorldAnswer, Answered, Unknown, WorldRun, far_left, AreWithin}
 
 -- a system whose devices all hold under a certificate
 abbrev pub AllHold : System → Certificate → Type 0
@@ -92,12 +88,22 @@ pub record MeasureFalls (system : System) (cert : Certificate) (repeats : ℕ) (
   pub openings : (root : ℕ) → root < old.next → (new.roots root).opening ≡ (old.roots root).opening
   -- each dispatch takes at least one step
   pub steps : (root : ℕ) → root < old.next → (old.roots root).steps + dispatches_of old root event answer ≤ (new.roots root).steps
-  -- the measure falls by the steps that are taken, and rises at no send and no delivery that is allowed
-  pub falls : (root : ℕ) → root < old.next → AreWithin repeats root new.datagrams → (new.roots root).steps + far_left system cert repeats new root ≤ (old.roots root).steps + far_left system cert repeats old root
+  -- the measure falls by the steps that are taken
+  pub spends : (root : ℕ) → root < old.next → AreWithin repeats root new.datagrams → (new.roots root).steps + far_left system cert repeats new root ≤ (old.roots root).steps + far_left system cert repeats old root
+  -- so it falls at each dispatch, and rises at no send and no delivery that is allowed
+  pub falls : (root : ℕ) → root < old.next → AreWithin repeats root new.datagrams → far_left system cert repeats new root + dispatches_of old root event answer ≤ far_left system cert repeats old root
 
--- over a run
-pub record MeasureFallsOver (system : System) (cert : Certificate) (repeats : ℕ) (old new : World) : Type 0 where
+-- the dispatches of a root over a run
+abbrev pub dispatches_over : (system : System) (cert : Certificate) (root : ℕ) (old : World) (es : List WorldEvent) (as' : List WorldAnswer) (new : World) → WorldRun system cert old es as' new → ℕ
+dispatches_over system cert root old [] [] new run = 0
+dispatches_over system cert root old [] (a ∷ as') new run = 0
+dispatches_over system cert root old (e ∷ es) [] new run = 0
+dispatches_over system cert root old (e ∷ es) (a ∷ as') new run = dispatches_of old root e a + dispatches_over system cert root run.0 es as' new run.2
+
+-- what a run does to the measures of roots that were opened before it
+pub record MeasureFallsOver (system : System) (cert : Certificate) (repeats : ℕ) (old : World) (es : List WorldEvent) (as' : List WorldAnswer) (new : World) (run : WorldRun system cert old es as' new) : Type 0 where
   pub more : old.next ≤ new.next
   pub openings : (root : ℕ) → root < old.next → (new.roots root).opening ≡ (old.roots root).opening
-  pub steps : (root : ℕ) → root < old.next → (old.roots root).steps ≤ (new.roots root).steps
-  pub falls : (root : ℕ) → root < old.next → AreWithin repeats root new.datagrams → (new.roots root).steps + far_left system cert repeats new root ≤ (old.roots root).steps + far_left system cert repeats old root
+  pub steps : (root : ℕ) → root < old.next → (old.roots root).steps + dispatches_over system cert root old es as' new run ≤ (new.roots root).steps
+  pub spends : (root : ℕ) → root < old.next → AreWithin repeats root new.datagrams → (new.roots root).steps + far_left system cert repeats new root ≤ (old.roots root).steps + far_left system cert repeats old root
+  pub falls : (root : ℕ) → root < old.next → AreWithin repeats root new.datagrams → far_left system cert repeats new root + dispatches_over system cert root old es as' new run ≤ far_left system cert repeats old root

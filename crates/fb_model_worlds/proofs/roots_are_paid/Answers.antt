@@ -5,7 +5,7 @@ pub returns-clause-first : goal.returns-clause-first
 returns-clause-first c = first_is_paid
 
 pub returns-clause-next : goal.returns-clause-next
-returns-clause-next c = λ one system cert repeats hold far few old new event answer s h p. paid_event one system cert hold repeats far few old event answer new s h p
+returns-clause-next c = λ system cert repeats hold far few old new event answer s h p. paid_event system cert hold repeats far few old event answer new s h p
 
 pub returns-clause-then : goal.returns-clause-then
-returns-clause-then c = λ one system cert repeats hold far few old new events answers s r p. paid_run one system cert hold repeats far few events answers old new s r p
+returns-clause-then c = λ system cert repeats hold far few old new events answers s r p. paid_run system cert hold repeats far few events answers old new s r p
