@@ -107,3 +107,9 @@ pub record MeasureFallsOver (system : System) (cert : Certificate) (repeats : �
   pub steps : (root : ℕ) → root < old.next → (old.roots root).steps + dispatches_over system cert root old es as' new run ≤ (new.roots root).steps
   pub spends : (root : ℕ) → root < old.next → AreWithin repeats root new.datagrams → (new.roots root).steps + far_left system cert repeats new root ≤ (old.roots root).steps + far_left system cert repeats old root
   pub falls : (root : ℕ) → root < old.next → AreWithin repeats root new.datagrams → far_left system cert repeats new root + dispatches_over system cert root old es as' new run ≤ far_left system cert repeats old root
+
+-- a root is dispatched at most as often as the FAR of its opening says, on all devices together
+abbrev pub EndsRoots : System → Certificate → World → Type 0
+EndsRoots system cert old =
+    (es : List WorldEvent) (as' : List WorldAnswer) (new : World) (repeats root : ℕ) (run : WorldRun system cert old es as' new) → cert.repeats ≡ Some repeats → repeats ≤ 255 → 0 < root → root < new.next → AreWithin repeats root new.datagrams
+    → dispatches_over system cert root old es as' new run ≤ (far_of cert).weight (new.roots root).opening

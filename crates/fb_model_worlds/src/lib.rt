@@ -6,7 +6,7 @@ ghost use Rattle.std.specs.List.{AllByRecursion};
 ghost use Rattle.fb_model.specs.Certificates.{Certificate};
 ghost use Rattle.fb_model.specs.System.{System};
 ghost use Rattle.fb_model.specs.World.{World, WorldEvent, WorldAnswer, WorldHappens, WorldRun, IsFirst, PaysFar, BoundsRoots};
-ghost use Rattle.fb_model_worlds.specs.Worlds.{AllHold, IsOnce, IsWorldSound, ArePaid, MeasureFalls, MeasureFallsOver};
+ghost use Rattle.fb_model_worlds.specs.Worlds.{AllHold, IsOnce, IsWorldSound, ArePaid, MeasureFalls, MeasureFallsOver, EndsRoots};
 
 /// Every world that devices come to is sound, from its first one on, whatever is lost, repeated or reordered.
 pub fn worlds_are_sound()
@@ -34,7 +34,8 @@ pub fn roots_are_paid()
     ensures then { (system : System) (cert : Certificate) (repeats : ℕ) → AllHold system cert → PaysFar system cert repeats → repeats ≤ 255 → (old new : World) (events : List WorldEvent) (answers : List WorldAnswer) → IsWorldSound system cert old → WorldRun system cert old events answers new → ArePaid system cert repeats old → ArePaid system cert repeats new }
 {}
 
-/// Over every run from a first world, each root takes at most the FAR of its opening in steps on all devices.
+/// Over every run from a first world, each root takes at most the FAR of its opening in steps on all devices, and is dispatched at most so often.
 pub fn roots_are_bounded()
-    ensures { (system : System) (cert : Certificate) → AllHold system cert → ((repeats : ℕ) → cert.repeats ≡ Some repeats → PaysFar system cert repeats) → (w : World) → IsFirst system w → BoundsRoots system cert w }
+    ensures steps { (system : System) (cert : Certificate) → AllHold system cert → ((repeats : ℕ) → cert.repeats ≡ Some repeats → PaysFar system cert repeats) → (w : World) → IsFirst system w → BoundsRoots system cert w }
+    ensures dispatches { (system : System) (cert : Certificate) → AllHold system cert → ((repeats : ℕ) → cert.repeats ≡ Some repeats → PaysFar system cert repeats) → (w : World) → IsFirst system w → EndsRoots system cert w }
 {}
