@@ -25,7 +25,7 @@ begun_within n [] m l h = h
 begun_within n (leaf ∷ rest) m l h = cond_both (is_restart leaf.kind) (admitted m (beginning leaf)) m (λ x. IsEmptyFrom n (begun rest x)) (λ _. begun_within n rest (admitted m (beginning leaf)) l.1 (admitted_within n m (beginning leaf) l.0 h)) (λ _. begun_within n rest m l.1 h)
 
 -- its causes are numbered from 1
-abbrev AreNumbered : Machine → Type 0
+abbrev pub AreNumbered : Machine → Type 0
 AreNumbered m = (0 < m.next) × ((q : ℕ) → AllByRecursion (λ e. 0 < e.cause) (m.queues q))
 
 begun_numbered : (ls : List Leaf) (m : Machine) → AreNumbered m → AreNumbered (begun ls m)
@@ -37,6 +37,9 @@ begun_numbered (leaf ∷ rest) m h =
     here q =
         let g = (extends_admitted m (beginning leaf)).grows q in
         subst (AllByRecursion (λ e. 0 < e.cause)) (sym g.1) (all_append (λ e. 0 < e.cause) (m.queues q) g.0 (h.1 q) (all_weaker (λ e. m.next ≤ e.cause) (λ e. 0 < e.cause) g.0 (λ e l. omega (arith, h.0, l)) g.2))
+
+pub numbered_first : (device : Device) → AreNumbered (at_first device 1 first_stamp)
+numbered_first device = begun_numbered (leaves device) (silent device 1 first_stamp) (omega arith, λ q. tt)
 
 -- ---- all devices
 
@@ -51,7 +54,7 @@ roots_within (x ∷ xs) zero device h = (let is : x ≡ device = cc in omega (ar
 roots_within (x ∷ xs) (suc d) device h = omega (arith, roots_within xs d device h)
 
 -- what is so of the entries of each device is so of those of every number
-at_every : (P : Entry → Type 0) (ds : List Device) (d q : ℕ) → ((device : Device) → slice_get ds d ≡ Some device → AllByRecursion P ((at_first device 1 first_stamp).queues q)) → AllByRecursion P ((machine_at ds d).queues q)
+pub at_every : (P : Entry → Type 0) (ds : List Device) (d q : ℕ) → ((device : Device) → slice_get ds d ≡ Some device → AllByRecursion P ((at_first device 1 first_stamp).queues q)) → AllByRecursion P ((machine_at ds d).queues q)
 at_every P [] d q h = tt
 at_every P (x ∷ xs) zero q h = h x refl
 at_every P (x ∷ xs) (suc d) q h = at_every P xs d q h
@@ -65,9 +68,6 @@ module _ (system : System) (cert : Certificate) (hold : AllHold system cert) (w 
 
   machine_is : (d : ℕ) (device : Device) → slice_get system.devices d ≡ Some device → w.machines d ≡ at_first device 1 first_stamp
   machine_is d device at = ap (λ f. f d) first.machines ∙ at_device system.devices d device at
-
-  numbered : (device : Device) → AreNumbered (at_first device 1 first_stamp)
-  numbered device = begun_numbered (leaves device) (silent device 1 first_stamp) (omega arith, λ q. tt)
 
   entry_opened : (d : ℕ) (device : Device) → slice_get system.devices d ≡ Some device → (e : Entry) → 0 < e.cause → e.cause < (at_first device 1 first_stamp).next → IsOpened w (w.root_of d e.cause)
   entry_opened d device at e l m =
@@ -85,7 +85,7 @@ module _ (system : System) (cert : Certificate) (hold : AllHold system cert) (w 
       let k = machine_sound d device at in
       let m : Machine = at_first device 1 first_stamp in
       all_both (λ e. 0 < e.cause) (IsKnown device k.opening_of k.home_of (at_first device 1 first_stamp).next q) (λ e. IsOpened w (w.root_of d e.cause)) ((at_first device 1 first_stamp).queues q)
-      (λ e l h. entry_opened d device at e l h.cause) ((numbered device).1 q) (k.entries q)))
+      (λ e l h. entry_opened d device at e l h.cause) ((numbered_first device).1 q) (k.entries q)))
 
   pub first_is_sound : IsWorldSound system cert w
   first_is_sound =

@@ -7,3 +7,5 @@ pub mod Sounding
 pub mod Beginning
 pub mod Falling
 pub mod Running
+pub mod First
+pub mod Going

@@ -1,6 +1,6 @@
 -- What is so of every world that devices come to, and how the measure of a root falls.
 -- This project's profile.
-use Rattle.std.specs.Prelude.{ℕ, ◌≡◌, ◌+◌, ◌<◌, ◌≤◌, ◌==◌, false, List, [], ◌∷◌, Some, if◌then◌else◌, length, slice_get}
+use Rattle.std.specs.Prelude.{ℕ, suc, Option, None, ◌≡◌, ◌+◌, ◌<◌, ◌≤◌, ◌==◌, false, List, [], ◌∷◌, Some, if◌then◌else◌, length, slice_get}
 use Rattle.std.specs.List.{AllByRecursion}
 use Rattle.fb_model.specs.System.{Device, System}
 use Rattle.fb_model.specs.Wires.{Leaf}
@@ -8,9 +8,9 @@ use Rattle.fb_model.specs.Messages.{Stamp}
 use Rattle.fb_model.specs.Store.{Stamps, Unstamped, Upcoming, Exhausted, Latest}
 use Rattle.fb_model.specs.Serving.{stamps_of}
 use Rattle.fb_model.specs.Certificates.{Certificate, far_of, DeviceHolds}
-use Rattle.fb_model.specs.Devices.{Machine, Admitted, Denied, Expired, Idle, Ran, is_later, subscriber_of}
+use Rattle.fb_model.specs.Devices.{Machine, Answer, Happens, Admitted, Denied, Expired, Idle, Ran, is_later, subscriber_of}
 use Rattle.fb_model.specs.Headline.{IsSound, IsSendable}
-use Rattle.fb_model.specs.World.{Datagram, World, WorldEvent, At_device, Deliver_datagram, WorldAnswer, Answered, Unknown, WorldRun, far_left, AreWithin}
+use Rattle.fb_model.specs.World.{Local, local_event, IsDelivered, WorldHappens, Datagram, World, WorldEvent, At_device, Deliver_datagram, WorldAnswer, Answered, Unknown, WorldRun, far_left, AreWithin}
 
 -- a system whose devices all hold under a certificate
 abbrev pub AllHold : System → Certificate → Type 0
@@ -113,3 +113,12 @@ abbrev pub EndsRoots : System → Certificate → World → Type 0
 EndsRoots system cert old =
     (es : List WorldEvent) (as' : List WorldAnswer) (new : World) (repeats root : ℕ) (run : WorldRun system cert old es as' new) → cert.repeats ≡ Some repeats → repeats ≤ 255 → 0 < root → root < new.next → AreWithin repeats root new.datagrams
     → dispatches_over system cert root old es as' new run ≤ (far_of cert).weight (new.roots root).opening
+
+-- ---- there is always a world
+
+-- whatever a device may do by itself, and whichever answer it may give to a datagram that comes to it, there is a world then
+pub record GoesOn (system : System) (cert : Certificate) (old : World) : Type 0 where
+  pub at_device : (d : ℕ) (event : Local) (device : Device) (answer : Answer) (machine : Machine) → slice_get system.devices d ≡ Some device → Happens cert device (old.machines d) (local_event event) answer machine
+      → (sent : Option ℕ) × (new : World) × WorldHappens system cert old (At_device d event) (Answered answer sent) new
+  pub delivers : (d n : ℕ) (device : Device) (datagram : Datagram) (answer : Answer) (machine : Machine) → slice_get system.devices d ≡ Some device → slice_get old.datagrams n ≡ Some datagram → IsDelivered cert device datagram (old.machines d) answer machine
+      → (new : World) × WorldHappens system cert old (Deliver_datagram (suc n) d) (Answered answer None) new

@@ -6,13 +6,19 @@ ghost use Rattle.std.specs.List.{AllByRecursion};
 ghost use Rattle.fb_model.specs.Certificates.{Certificate};
 ghost use Rattle.fb_model.specs.System.{System};
 ghost use Rattle.fb_model.specs.World.{World, WorldEvent, WorldAnswer, WorldHappens, WorldRun, IsFirst, PaysFar, BoundsRoots};
-ghost use Rattle.fb_model_worlds.specs.Worlds.{AllHold, IsOnce, IsWorldSound, ArePaid, MeasureFalls, MeasureFallsOver, EndsRoots};
+ghost use Rattle.fb_model_worlds.specs.Worlds.{AllHold, IsOnce, IsWorldSound, ArePaid, MeasureFalls, MeasureFallsOver, EndsRoots, GoesOn};
 
 /// Every world that devices come to is sound, from its first one on, whatever is lost, repeated or reordered.
 pub fn worlds_are_sound()
     ensures first { (system : System) (cert : Certificate) → AllHold system cert → (w : World) → IsFirst system w → IsWorldSound system cert w }
     ensures next { (system : System) (cert : Certificate) → AllHold system cert → (old new : World) (event : WorldEvent) (answer : WorldAnswer) → IsWorldSound system cert old → WorldHappens system cert old event answer new → IsWorldSound system cert new }
     ensures then { (system : System) (cert : Certificate) → AllHold system cert → (old new : World) (events : List WorldEvent) (answers : List WorldAnswer) → IsWorldSound system cert old → WorldRun system cert old events answers new → IsWorldSound system cert new }
+{}
+
+/// There is a first world, and after each world another one for whatever a device may do and for each datagram that comes to one.
+pub fn worlds_are_there()
+    ensures first { (system : System) (cert : Certificate) → AllHold system cert → (w : World) × IsFirst system w }
+    ensures next { (system : System) (cert : Certificate) → AllHold system cert → (old : World) → IsWorldSound system cert old → GoesOn system cert old }
 {}
 
 /// Over every run from a first world, each device admits a datagram with a stamp at most once.
