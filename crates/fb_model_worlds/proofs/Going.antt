@@ -2,6 +2,7 @@
 use Rattle.std.proofs.Common.{◌≡◌, ℕ, suc, ◌+◌, ◌-◌, ◌≤◌, cond, Option, Some, None, refl, sym, ◌∙◌, ap, arith}
 use Rattle.std.specs.Prelude.{slice_get, nat_lt}
 use Rattle.std.proofs.lemmas.Bool.{eq-eqb, lt-ltb, le-ltb}
+use Rattle.fb_model.specs.Names.{Place}
 use Rattle.fb_model.specs.System.{System, Device}
 use Rattle.fb_model.specs.Certificates.{Certificate}
 use Rattle.fb_model.specs.Devices.{Machine, put, Answer, Admitted, Denied, Expired, Idle, Ran, Happens}
@@ -11,6 +12,9 @@ use Rattle.fb_model.proofs.Lists.{all_weaker}
 use Rattle.fb_model_worlds.specs.Worlds.{AllHold, IsWorldSound, GoesOn}
 use Rattle.fb_model_worlds.proofs.Cases.{device_holds}
 use Rattle.fb_model_worlds.proofs.Growing.{Grows, offer_grows, tick_grows}
+
+as_opened : (roots : ℕ → Root) (opening_of : ℕ → Place) (r n c e : ℕ) (o : Place) → r ≡ n → roots n ≡ record { opening = opening_of c; steps = 0 } → c ≡ e → o ≡ opening_of e → roots r ≡ record { opening = o; steps = 0 }
+as_opened roots opening_of r n c e o a b k l = ap roots a ∙ b ∙ ap (λ x. record { opening = opening_of x; steps = 0 }) k ∙ ap (λ x. record { opening = x; steps = 0 }) (sym l)
 
 module _ (cert : Certificate) (old : World) (d : ℕ) (device : Device) (machine : Machine) (g : Grows cert device (old.machines d) machine) where
   abbrev opened_roots : ℕ → Root
@@ -45,7 +49,8 @@ module _ (cert : Certificate) (old : World) (d : ℕ) (device : Device) (machine
           ap (λ t. cond t (old.roots (old.next + (e.cause - (old.machines d).next))) (record { opening = g.sound.opening_of ((old.machines d).next + ((old.next + (e.cause - (old.machines d).next)) - old.next)); steps = 0 }))
           (le-ltb (old.next + (e.cause - (old.machines d).next)) old.next (omega arith)) in
           let cause_is : (old.machines d).next + ((old.next + (e.cause - (old.machines d).next)) - old.next) ≡ e.cause = omega (arith, l) in
-          ap opened_roots (of_is ∙ a ∙ b) ∙ later ∙ ap (λ c. record { opening = g.sound.opening_of c; steps = 0 }) cause_is ∙ ap (λ o. record { opening = o; steps = 0 }) (sym k.opening))
+          as_opened opened_roots g.sound.opening_of (put old.root_of d (roots_from (old.root_of d) (old.machines d).next machine.next old.next) d e.cause) (old.next + (e.cause - (old.machines d).next))
+          ((old.machines d).next + ((old.next + (e.cause - (old.machines d).next)) - old.next)) e.cause e.opening (of_is ∙ a ∙ b) later cause_is k.opening)
           (g.sound.entries q);
     },
   )
