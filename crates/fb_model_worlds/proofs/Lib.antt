@@ -1,0 +1,11 @@
+pub mod Spelling
+pub mod Stamps
+pub mod Opening
+pub mod Growing
+pub mod Cases
+pub mod Sounding
+pub mod Beginning
+pub mod Falling
+pub mod Running
+pub mod First
+pub mod Going
