@@ -79,11 +79,11 @@ rebase {A} r steady t q q' ts mid us x e s =
     let within : length mid ≤ length ts = subst (λ z. Within (length ts) z) e (steady.bounded ts) in
     let c = cut q' (length q) ts (omega arith) in
     by c.0 c.1 c.2 c.3 c.4 (subst (λ z. Goes c.0 c.1 q' z (r c.2)) e (steady.local c.0 c.1 q' ts c.2 c.4)) where
-  by : (t' : Token) (p all : List Token) → length p ≡ length q → Same t' p q' ts all → Goes t' p q' (Ok (x, mid)) (r all) → (all : List Token) × Same t q q' ts all × (r all ≡ Ok (x, us))
-  by t' p all n f (inl le) = let short = some_behind s in absurd (omega arith)
-  by t' p all n f (inr g) =
-      let a = aligned s g.1 n in
-      (all, a.1 ts all f, subst (λ l. r all ≡ Ok (x, l)) a.0 g.2)
+      by : (t' : Token) (p all : List Token) → length p ≡ length q → Same t' p q' ts all → Goes t' p q' (Ok (x, mid)) (r all) → (all : List Token) × Same t q q' ts all × (r all ≡ Ok (x, us))
+      by t' p all n f (inl le) = let short = some_behind s in absurd (omega arith)
+      by t' p all n f (inr g) =
+          let a = aligned s g.1 n in
+          (all, a.1 ts all f, subst (λ l. r all ≡ Ok (x, l)) a.0 g.2)
 
 -- ---- steps
 
@@ -123,11 +123,11 @@ pub begun_at : (P : Span) (k : Mark) (ts : List Token) → next_is k ts ≡ true
 begun_at P k ts e finish =
     let first = seen (λ l. ts ≡ l) k ts e refl in
     record { opener = token (mark k) first.0 first.1; behind = after ts; left_is = ap length first.2; ends = ends first.0 first.1 first.2 } where
-  ends : (s e : ℕ) → ts ≡ token (mark k) s e ∷ after ts → (rest : List Token) → Finished P (token (mark k) s e) (after ts) ts rest
-  ends s e d rest =
-      let t = token (mark k) s e in
-      let g = finish rest in
-      record { all = t ∷ g.0; others = g.0; same = subst (λ l. Same t (after ts) g.0 l (t ∷ g.0)) (sym d) here; done = g.1 s e }
+      ends : (s e : ℕ) → ts ≡ token (mark k) s e ∷ after ts → (rest : List Token) → Finished P (token (mark k) s e) (after ts) ts rest
+      ends s e d rest =
+          let t = token (mark k) s e in
+          let g = finish rest in
+          record { all = t ∷ g.0; others = g.0; same = subst (λ l. Same t (after ts) g.0 l (t ∷ g.0)) (sym d) here; done = g.1 s e }
 
 -- what stands behind a token
 pub goes_next : {A : Type 0} (P : Span) (t : Token) (ts : List Token) (r : Result A Wrong) → GoesOn (λ us rest. P (t ∷ us) rest) ts r → GoesOn P (t ∷ ts) r

@@ -2,11 +2,11 @@
 use Rattle.std.proofs.Common.{◌≡◌, ℕ, zero, suc, Bool, true, false, cond, List, [], ◌∷◌, length, None, Some, Ok, Err, refl}
 use Rattle.fb_words.specs.declared.mark.Mark.{Mark}
 use Rattle.fb_words.specs.declared.mark.Mark.TheVariants as m
-use Rattle.fb_model.specs.Tokens.{Token, token, name, mark}
-use Rattle.fb_model.specs.Productions.{Gram, Word, IsName, a_name, IsMany, none, IsSeparated, last}
+use Rattle.fb_model.specs.Tokens.{Token, token, name}
+use Rattle.fb_model.specs.Productions.{Gram, Word, a_name, none, IsSeparated, last}
 use Rattle.fb_model.specs.StructuredText.{Expression, Statement, assign, assign_element, branch, select, repeat, Statements, no_statement, statements, Branch, branches, Arm, arms}
 use Rattle.fb_model.specs.StructuredTextGrammar.{unsigned, IsLabel, one, no_step, IsList, end, IsBranch, a_condition, IsArm, a_labelled, IsElse, absent, present, IsStatement, an_assignment, to_element, an_if, a_case, a_for, IsBody, IsExpression, IsAlgorithm}
-use Rattle.fb_read.specs.Reading.{too_deep, Read, ◌>>=◌, next_is, after, expect, place_at, name_at, all_at, list_at}
+use Rattle.fb_read.specs.Reading.{too_deep, Read, ◌>>=◌, next_is, expect, place_at, name_at, all_at, list_at}
 use Rattle.fb_read.proofs.Readers.{Sound, Shorter, shallow_then, shallow_name}
 use Rattle.fb_read.proofs.Repetitions.{separated_shallow}
 use Rattle.fb_read.proofs.Steady.{Steady, next_sees, steady_deep, steady_name}
@@ -15,7 +15,7 @@ use Rattle.st_expr.specs.Reading.{expression_at}
 use Rattle.st_expr.proofs.Laws.{expression_shorter, expression_steady}
 use Rattle.st_expr.proofs.Viable.{nought, zero_tree, closing, expression_wide, expression_alone, expression_viable}
 use Rattle.st_parse.specs.Reading.{headed, begins_integer, begins_block, begins_entry, label_at, step_at, assign_at, element_at, assignment_at, branch_at, else_at, elsifs_at, if_at, arm_at, arms_at, case_at, head_at, for_at, block_at, statement_at, entry_at, statements_in, entries_at, nested_at, body_at, algorithm_at}
-use Rattle.st_parse.proofs.Headed.{IsHeaded, a_head, headed_sound, steady_headed}
+use Rattle.st_parse.proofs.Headed.{IsHeaded, headed_sound, steady_headed}
 use Rattle.st_parse.proofs.Labels.{labels_sound, labels_steady, integer_sees}
 use Rattle.st_parse.proofs.Places.{option_shallow, label_shallow}
 use Rattle.st_parse.proofs.Shorter.{NoLonger, statement_shorter, body_no_longer}
@@ -91,16 +91,25 @@ module _ (E : Gram Expression) (expr : Read Expression) (sound : Sound E expr) (
     opened_viable ts e = by_if (next_is m.If ts) refl e where
       by_case : (b : Bool) → next_is m.Case ts ≡ b → cond b true (next_is m.For ts) ≡ true → GoesOn {A = Statement × List Token} (One IsInner) ts (Err (too_deep (length ts)))
       by_case true d f =
-          begun_at (One IsInner) m.Case ts d (λ rest. (nought ∷ closing m.Of ∷ nought ∷ closing m.Colon ∷ closing m.EndCase ∷ rest, λ s e.
-          (_, a_case (alone (closing m.Of ∷ nought ∷ closing m.Colon ∷ closing m.EndCase ∷ rest)) (a_labelled (last (one unsigned)) (empty (closing m.EndCase ∷ rest))) none absent)))
+          begun_at (One IsInner) m.Case ts d (λ rest. (
+            nought ∷ closing m.Of ∷ nought ∷ closing m.Colon ∷ closing m.EndCase ∷ rest,
+            λ s e.
+                (_, a_case (alone (closing m.Of ∷ nought ∷ closing m.Colon ∷ closing m.EndCase ∷ rest)) (a_labelled (last (one unsigned)) (empty (closing m.EndCase ∷ rest))) none absent),
+          ))
       by_case false d f =
-          begun_at (One IsInner) m.For ts f (λ rest. (for_end rest, λ s e.
-          (_, a_for a_name (alone (closing m.To ∷ nought ∷ closing m.Do ∷ closing m.EndFor ∷ rest)) (alone (closing m.Do ∷ closing m.EndFor ∷ rest)) no_step (empty (closing m.EndFor ∷ rest)))))
+          begun_at (One IsInner) m.For ts f (λ rest. (
+            for_end rest,
+            λ s e.
+                (_, a_for a_name (alone (closing m.To ∷ nought ∷ closing m.Do ∷ closing m.EndFor ∷ rest)) (alone (closing m.Do ∷ closing m.EndFor ∷ rest)) no_step (empty (closing m.EndFor ∷ rest))),
+          ))
 
       by_if : (b : Bool) → next_is m.If ts ≡ b → cond b true (cond (next_is m.Case ts) true (next_is m.For ts)) ≡ true → GoesOn {A = Statement × List Token} (One IsInner) ts (Err (too_deep (length ts)))
       by_if true d f =
-          begun_at (One IsInner) m.If ts d (λ rest. (nought ∷ closing m.Then ∷ closing m.EndIf ∷ rest, λ s e.
-          (_, an_if (a_condition (alone (closing m.Then ∷ closing m.EndIf ∷ rest)) (empty (closing m.EndIf ∷ rest))) none absent)))
+          begun_at (One IsInner) m.If ts d (λ rest. (
+            nought ∷ closing m.Then ∷ closing m.EndIf ∷ rest,
+            λ s e.
+                (_, an_if (a_condition (alone (closing m.Then ∷ closing m.EndIf ∷ rest)) (empty (closing m.EndIf ∷ rest))) none absent),
+          ))
       by_if false d f = by_case (next_is m.Case ts) refl f
 
     module _ (list : Read Statements) (inner_sound : Sound IsInner list) (no_longer : NoLonger IsInner) (inner_steady : Steady list) (inner_viable : Viable (Any IsInner) list) where
@@ -184,8 +193,13 @@ module _ (E : Gram Expression) (expr : Read Expression) (sound : Sound E expr) (
           (goes_as mid (arms_at list mid) (λ rest. (closing m.EndCase ∷ rest, λ us h all' d' s' e' all d s e. (select s x (arms (a ∷ h.0)) no_statement, a_case (is_read E expr sound all x _ d) (is_read (IsArm E IsInner) (arm_at list) arms_sound all' a us d') h.1 absent)))
           (while_viable (IsArm E IsInner) (arm_at list) arms_sound read_arm arm_viable begins_integer (length mid) mid)))
           (λ others on. goes_done (Behind (λ ts. headed a (arms_at list ts)) others Q) on (λ xs. expect m.EndCase xs.1 >>= λ last. Ok (select at x (arms others) xs.0, last)) (else_at list on) (λ xs. shallow_closing m.EndCase xs.1 (λ last. (select at x (arms others) xs.0, last)))
-          (goes_as on (else_at list on) (λ rest. (closing m.EndCase ∷ rest, λ us h all'' d'' all' d' s' e' all d s e. (select s x (arms others) h.0,
-          case_of E expr sound IsInner list inner_sound (is_read E expr sound all x _ d) (is_read (IsArm E IsInner) (arm_at list) arms_sound all' a all'' d') (is_arms a all'' others us d'') h.1))) (else_viable on))))))) ts
+          (goes_as on (else_at list on) (λ rest. (
+            closing m.EndCase ∷ rest,
+            λ us h all'' d'' all' d' s' e' all d s e. (
+              select s x (arms others) h.0,
+              case_of E expr sound IsInner list inner_sound (is_read E expr sound all x _ d) (is_read (IsArm E IsInner) (arm_at list) arms_sound all' a all'' d') (is_arms a all'' others us d'') h.1,
+            ),
+          )) (else_viable on))))))) ts
 
       head_viable : Viable (Any (IsHead E expr sound IsInner list inner_sound)) (head_at expr)
       unfolding head_at
@@ -201,7 +215,7 @@ module _ (E : Gram Expression) (expr : Read Expression) (sound : Sound E expr) (
           viable_expect (Behind expr a P) m.To (λ rest. expr rest >>= λ b. step_at b.1 >>= λ c. expect m.Do c.1 >>= λ body. Ok ((x, a, b.0, c.0), body))
           (viable_then Q expr (λ b. step_at b.1 >>= λ c. expect m.Do c.1 >>= λ body. Ok ((x, a, b.0, c.0), body)) steady
           (λ mid. goes_as mid (expr mid) (λ rest. (closing m.Do ∷ rest, λ us h s' e' all' d' s e all d. ((x, a, h.0, None), a_front (is_name all x _ d) (is_read E expr sound all' a _ d') h.1 no_step))) (viable mid))
-          (λ b mid. goes_shallow (Behind expr b Q) mid (step_at mid >>= λ c. expect m.Do c.1 >>= λ body. Ok ((x, a, b, c.0), body)) (shallow_then _ (step_at mid) (option_shallow m.By mid) (λ c. shallow_closing m.Do c.1 (λ body. ((x, a, b, c.0), body))))))))) 
+          (λ b mid. goes_shallow (Behind expr b Q) mid (step_at mid >>= λ c. expect m.Do c.1 >>= λ body. Ok ((x, a, b, c.0), body)) (shallow_then _ (step_at mid) (option_shallow m.By mid) (λ c. shallow_closing m.Do c.1 (λ body. ((x, a, b, c.0), body)))))))))
 
       for_viable : Viable (One IsInner) (for_at expr list)
       unfolding for_at
