@@ -4,7 +4,7 @@ use Rattle.std.specs.Str.{bytes_eq}
 use Rattle.std.proofs.lemmas.Slice.Eq.{bytes_eq-Decides}
 use Rattle.fb_words.specs.declared.mark.Mark.TheVariants as m
 use Rattle.fb_model.specs.Tokens.{Token, token, name, number, typed, duration, mark}
-use Rattle.fb_model.specs.Productions.{Gram, Word, a_name, IsMany, none, IsSection}
+use Rattle.fb_model.specs.Productions.{Gram, Word, a_name, none, IsSection}
 use Rattle.fb_model.specs.Grammar.{IsStates}
 use Rattle.fb_model.specs.StructuredText.{Expression, Statements}
 use Rattle.fb_model.specs.Declarations.{GuardTree, Chart}
@@ -155,8 +155,13 @@ module _ (E : Gram Expression) (L : Gram Statements) (expr : Read Expression) (s
         viable_then Q (transitions_at expr) (λ cs. items_at m.EndFunctionBlock (procedure_at list) cs.1 >>= λ fs. Ok (record { internals = vs; states = ss; transitions = cs.0; algorithms = fs.0 }, fs.1)) (transitions_steady E L expr sound short steady)
         (λ mid. goes_as mid (transitions_at expr mid) (λ rest. (rest, λ us h all' d' all d. (record { internals = vs; states = ss; transitions = h.0; algorithms = [] }, a_chart (is_section all vs all' d) (is_states all' ss us d') h.1 none))) (transitions_viable mid))
         (λ cs mid. goes_done (Behind (transitions_at expr) cs Q) mid (λ fs. Ok (record { internals = vs; states = ss; transitions = cs; algorithms = fs.0 }, fs.1)) (items_at m.EndFunctionBlock (procedure_at list) mid) (λ fs. tt)
-        (goes_as mid (items_at m.EndFunctionBlock (procedure_at list) mid) (λ rest. (rest, λ us h all'' d'' all' d' all d. (record { internals = vs; states = ss; transitions = cs; algorithms = h.0 },
-        a_chart (is_section all vs all' d) (is_states all' ss all'' d') (is_read (IsTransitions E L) (transitions_at expr) (transitions_sound E L expr sound) all'' cs us d'') h.1)))
+        (goes_as mid (items_at m.EndFunctionBlock (procedure_at list) mid) (λ rest. (
+          rest,
+          λ us h all'' d'' all' d' all d. (
+            record { internals = vs; states = ss; transitions = cs; algorithms = h.0 },
+            a_chart (is_section all vs all' d) (is_states all' ss all'' d') (is_read (IsTransitions E L) (transitions_at expr) (transitions_sound E L expr sound) all'' cs us d'') h.1,
+          ),
+        ))
         (many_viable (IsProcedure E L) (procedure_at list) (procedure_sound E L expr sound list list_sound) (procedure_steady E L expr sound short steady list list_sound no_longer list_steady) procedure_viable m.EndFunctionBlock (length mid) mid)))))
 
     body_viable : Viable (Any (IsBody E L)) (body_at expr list)
@@ -183,13 +188,18 @@ module _ (E : Gram Expression) (L : Gram Statements) (expr : Read Expression) (s
         viable_then P₄ gives _ (variable_section m.VarOutput m.EndVar) (λ ts. goes_shallow P₄ ts (gives ts) (section_shallow variable_at variable_shallow m.VarOutput m.EndVar ts)) (λ vs mid.
         goes_done (Behind gives vs P₄) mid (λ b. expect m.EndFunctionBlock b.1 >>= λ end. Ok (record { name = x; event_inputs = is; event_outputs = os; inputs = us; outputs = vs; body = b.0 }, end)) (body_at expr list mid)
         (λ b. shallow_closing m.EndFunctionBlock b.1 (λ end. (record { name = x; event_inputs = is; event_outputs = os; inputs = us; outputs = vs; body = b.0 }, end)))
-        (goes_as mid (body_at expr list mid) (λ rest. (closing m.EndFunctionBlock ∷ rest, λ ws h ts₅ d₅ ts₄ d₄ ts₃ d₃ ts₂ d₂ ts₁ d₁ s e. (record { name = x; event_inputs = is; event_outputs = os; inputs = us; outputs = vs; body = h.0 },
-        a_block (is_name ts₁ x ts₂ d₁)
-        (is_read (IsSection m.EventInput m.EndEvent IsEvent) ins (section_sound IsEvent event_at event_sound m.EventInput m.EndEvent) ts₂ is ts₃ d₂)
-        (is_read (IsSection m.EventOutput m.EndEvent IsEvent) outs (section_sound IsEvent event_at event_sound m.EventOutput m.EndEvent) ts₃ os ts₄ d₃)
-        (is_read (IsSection m.VarInput m.EndVar IsVariable) takes (section_sound IsVariable variable_at variable_sound m.VarInput m.EndVar) ts₄ us ts₅ d₄)
-        (is_read (IsSection m.VarOutput m.EndVar IsVariable) gives (section_sound IsVariable variable_at variable_sound m.VarOutput m.EndVar) ts₅ vs ws d₅)
-        h.1))) (body_viable mid))))))))
+        (goes_as mid (body_at expr list mid) (λ rest. (
+          closing m.EndFunctionBlock ∷ rest,
+          λ ws h ts₅ d₅ ts₄ d₄ ts₃ d₃ ts₂ d₂ ts₁ d₁ s e. (
+            record { name = x; event_inputs = is; event_outputs = os; inputs = us; outputs = vs; body = h.0 },
+            a_block (is_name ts₁ x ts₂ d₁)
+                (is_read (IsSection m.EventInput m.EndEvent IsEvent) ins (section_sound IsEvent event_at event_sound m.EventInput m.EndEvent) ts₂ is ts₃ d₂)
+                (is_read (IsSection m.EventOutput m.EndEvent IsEvent) outs (section_sound IsEvent event_at event_sound m.EventOutput m.EndEvent) ts₃ os ts₄ d₃)
+                (is_read (IsSection m.VarInput m.EndVar IsVariable) takes (section_sound IsVariable variable_at variable_sound m.VarInput m.EndVar) ts₄ us ts₅ d₄)
+                (is_read (IsSection m.VarOutput m.EndVar IsVariable) gives (section_sound IsVariable variable_at variable_sound m.VarOutput m.EndVar) ts₅ vs ws d₅)
+                h.1,
+          ),
+        )) (body_viable mid))))))))
 
     pub file_viable : Viable (Any (IsFront E L)) (file_at expr list)
     unfolding file_at

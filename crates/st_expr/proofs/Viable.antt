@@ -1,22 +1,21 @@
 -- Where the nesting of an expression is at its end, a deeper expression begins with what was read and with the token that opens one more.
-use Rattle.std.proofs.Common.{◌≡◌, ℕ, zero, suc, Bool, true, false, cond, List, [], ◌∷◌, length, Some, None, Result, Ok, Err, refl, sym, ap, subst, ◌∙◌, arith}
+use Rattle.std.proofs.Common.{◌≡◌, ℕ, zero, suc, Bool, true, false, cond, List, [], ◌∷◌, length, Some, None, Result, Ok, Err, refl, sym, subst, ◌∙◌, arith}
 use Rattle.std.specs.Prelude.{◌==◌}
 use Rattle.std.proofs.lemmas.Bool.{eqb-true}
 use Rattle.fb_words.specs.declared.mark.Mark.{Mark}
 use Rattle.fb_words.specs.declared.mark.Mark.TheVariants as m
-use Rattle.fb_words.specs.declared.operator.Operator.{Operator}
 use Rattle.fb_model.specs.Tokens.{Token, token, name, number, typed, duration, mark}
-use Rattle.fb_model.specs.Productions.{Gram, Word, IsName, IsMany, none, IsSeparated, last}
+use Rattle.fb_model.specs.Productions.{Gram, Word, none, last}
 use Rattle.fb_model.specs.Trees.{Whole}
-use Rattle.fb_model.specs.StructuredText.{Expression, literal, element, call, negative, inverse, expressions, Link, grouped}
-use Rattle.fb_model.specs.StructuredTextGrammar.{IsOperator, levels, IsLink, a_link, IsChain, a_chain, IsLevel, plain, begins_number, IsOperand, a_literal, an_element, a_call, in_parentheses, a_negative, a_minus, a_not, IsNested, IsExpression}
-use Rattle.fb_read.specs.Reading.{Wrong, too_deep, stuck, Read, ◌>>=◌, next_is, after, expect, place_at, name_at, begins_name, list_at}
+use Rattle.fb_model.specs.StructuredText.{Expression, literal, element, call, negative, inverse, expressions, grouped}
+use Rattle.fb_model.specs.StructuredTextGrammar.{IsOperator, levels, IsLink, a_link, IsChain, a_chain, IsLevel, begins_number, IsOperand, an_element, a_call, in_parentheses, a_negative, a_minus, a_not, IsNested, IsExpression}
+use Rattle.fb_read.specs.Reading.{Wrong, too_deep, stuck, Read, ◌>>=◌, next_is, expect, place_at, name_at, begins_name, list_at}
 use Rattle.fb_read.proofs.Readers.{Sound, Shorter, NotDeep, shallow_name}
 use Rattle.fb_read.proofs.Steady.{Steady, number_sees, steady_name}
 use Rattle.fb_read.proofs.Viable.{Span, Any, GoesOn, Viable, Marked, Behind, goes_with, goes_as, goes_if, goes_shallow, goes_done, begun_at, goes_next, viable_expect, viable_then, is_read, is_name, shallow_closing, while_viable, separated_viable}
 use Rattle.st_expr.specs.declared.operator.Role.{Role}
 use Rattle.st_expr.specs.declared.operator.Role.TheVariants.{Infix, Opener, Other}
-use Rattle.st_expr.specs.Reading.{role, of_level, begins_link, link_step, link_at, links_at, chain_at, level_at, opened_at, marked_at, literal_at, signed_at, minus_step, negative_at, inverse_at, parentheses_at, element_at, call_at, named_step, named_at, unnamed_at, operand_of, nested_at, expression_at}
+use Rattle.st_expr.specs.Reading.{role, of_level, begins_link, link_step, link_at, links_at, chain_at, level_at, opened_at, marked_at, literal_at, signed_at, minus_step, negative_at, inverse_at, parentheses_at, element_at, call_at, named_step, named_at, operand_of, nested_at, expression_at}
 use Rattle.st_expr.proofs.Sound.{role_is, Accepts, accepts_number, link_sound, level_sound, operand_sound}
 use Rattle.st_expr.proofs.Complete.{level_shorter, nested_shorter}
 use Rattle.st_expr.proofs.Steady.{link_steady, level_steady, nested_steady}
