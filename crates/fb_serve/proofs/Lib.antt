@@ -1,4 +1,5 @@
 pub mod Slots
 pub mod Replies
 pub mod Placing
+pub mod Sending
 pub mod Serving

@@ -1,7 +1,6 @@
 -- What services reply, by slots and numbers.
 use Rattle.std.proofs.Common.{◌≡◌, ℕ, zero, suc, ◌+◌, ◌≤◌, ℤ, Bool, true, false, List, [], ◌∷◌, map, length, Option, Some, None, refl, sym, ap, ◌∙◌, arith}
 use Rattle.std.specs.Prelude.{◌&&◌, ◌≢◌, if◌then◌else◌}
-use Rattle.std.specs.Option.{option_map}
 use Rattle.std.specs.Str.{bytes_eq}
 use Rattle.std.proofs.Math.Path.{fun_ext}
 use Rattle.fb_words.specs.declared.elem_type.ElemType.{ElemType}
@@ -10,15 +9,14 @@ use Rattle.fb_model.specs.Values.{Value, One, Values, number_of}
 use Rattle.fb_model.specs.Language.{setting}
 use Rattle.fb_model.specs.System.{Service, Channel, Publish, Subscribe}
 use Rattle.fb_model.specs.Services.{init, inito, req, rsp, cnf, ind, qi, qo, arrive, received, sent, numbered}
-use Rattle.fb_model.specs.Store.{Condition, Ready, Closed}
-use Rattle.fb_model.specs.Messages.{To_channel}
-use Rattle.fb_model.specs.Serving.{Effect, Send, Reply, bit, is_true, is_ready, set_value, receive, typed_values, emits, opened, published, subscribed}
+use Rattle.fb_model.specs.Store.{Stamps, Condition, Ready, Closed}
+use Rattle.fb_model.specs.Messages.{Message, To_channel}
+use Rattle.fb_model.specs.Serving.{Effect, Send, Reply, bit, is_true, is_ready, stamps_of, stamped, after_send, can_send, set_value, receive, typed_values, emits, opened, published, subscribed}
 use Rattle.fb_model.proofs.Names.{eq_turned}
 use Rattle.fb_chart.specs.Views.{named}
 use Rattle.fb_serve.specs.Ports.{received_in, numbers_at}
-use Rattle.fb_serve.specs.Turns.{condition_of, typed, effect_in, outs_at, leaf_of, turned}
+use Rattle.fb_serve.specs.Turns.{condition_of, effect_of, outs_at, leaf_of, turned}
 use Rattle.fb_serve.specs.declared.standing.Standing.{Standing}
-use Rattle.fb_serve.specs.declared.standing.Standing.TheVariants as s
 use Rattle.fb_serve.specs.declared.standing.Turn.{Turn}
 
 pub setting_is : (values : Values) (x : Name) (v : Value) → setting values x v ≡ set_value x v values
@@ -39,10 +37,6 @@ pub typed_numbers : (n : ℕ) (types : List ElemType) (own : Values) → numbers
 typed_numbers n [] own = refl
 typed_numbers n (t ∷ types) own = ap (λ vs. number_of (own (sent n)) ∷ vs) (typed_numbers (n + 1) types own)
 
-pub typed_is : (n : ℕ) (types : List ElemType) (own : Values) → typed types (numbers_at (numbered sent n types) own) ≡ typed_values n types own
-typed_is n [] own = refl
-typed_is n (t ∷ types) own = ap (λ vs. record { type = t; value = number_of (own (sent n)) } ∷ vs) (typed_is (n + 1) types own)
-
 -- ---- PUBLISH and SUBSCRIBE
 
 -- a reply, by its parts
@@ -50,30 +44,42 @@ abbrev replied : Service → List Name → Option Effect → Values → Values �
 replied service outs effect own issued condition = emits service outs effect (record { cells = record { own = own; issued = issued }; condition = condition })
 
 pub opened_is : (service : Service) (t : Turn) (own own' issued : Values) (standing : Standing) → outs_at service (Some 0) ≡ inito ∷ []
-    → t ≡ record { standing = (if is_true (own qi) then s.Ready else s.Closed); output = Some 0; effect = None } → own' ≡ setting own qo (bit (is_true (own qi)))
-    → opened service (leaf_of own issued standing) ≡ turned service t own' issued
-opened_is service t own own' issued standing o h e =
-    ap (λ v. replied service (inito ∷ []) None v issued (if is_true (own qi) then Ready else Closed)) (sym (e ∙ setting_is own qo (bit (is_true (own qi))))) ∙ by (is_true (own qi)) ∙ ap (λ t. turned service t own' issued) (sym h)
+    → condition_of t.standing ≡ (if is_true (own qi) then Ready (stamps_of (condition_of standing)) else Closed (stamps_of (condition_of standing))) → t.output ≡ Some 0 → t.effect ≡ None
+    → own' ≡ setting own qo (bit (is_true (own qi))) → opened service (leaf_of own issued standing) ≡ turned service t own' issued
+opened_is service t own own' issued standing outs h o f e =
+    ap (λ v. replied service (inito ∷ []) None v issued (if q then Ready kept else Closed kept)) (sym (e ∙ setting_is own qo (bit q)))
+    ∙ ap (λ c. replied service (inito ∷ []) None own' issued c) (sym h)
+    ∙ ap (λ os. replied service os None own' issued (condition_of t.standing)) (sym outs ∙ ap (outs_at service) (sym o))
+    ∙ ap (λ x. replied service (outs_at service t.output) (effect_of x) own' issued (condition_of t.standing)) (sym f)
   where
-    by : (q : Bool) → replied service (inito ∷ []) None own' issued (if q then Ready else Closed) ≡ turned service (record { standing = (if q then s.Ready else s.Closed); output = Some 0; effect = None }) own' issued
-    by true = ap (λ os. replied service os None own' issued Ready) (sym o)
-    by false = ap (λ os. replied service os None own' issued Closed) (sym o)
+    q : Bool
+    q = is_true (own qi)
 
-pub published_is : (channel : Channel) (types : List ElemType) (t : Turn) (own own' issued : Values) (standing : Standing) → t.standing ≡ standing → t.output ≡ Some 1
-    → option_map (effect_in types) t.effect ≡ (if is_ready (condition_of standing) && is_true (own qi) then Some (Send (record { purpose = To_channel; number = channel.number; values = typed types (numbers_at (numbered sent 1 types) own) })) else None)
-    → own' ≡ setting own qo (bit (is_ready (condition_of standing) && is_true (own qi))) → published channel types (leaf_of own issued standing) ≡ turned (Publish channel types) t own' issued
+    kept : Stamps
+    kept = stamps_of (condition_of standing)
+
+-- the message that a PUBLISH of these values sends
+abbrev pub message_of : Channel → List ElemType → Values → Stamps → Message
+message_of channel types own stamps = record { purpose = To_channel; number = channel.number; stamp = stamped stamps; values = typed_values 1 types own }
+
+pub published_is : (channel : Channel) (types : List ElemType) (t : Turn) (own own' issued : Values) (standing : Standing)
+    → condition_of t.standing ≡ (if can_send (condition_of standing) && is_true (own qi) then Ready (after_send (stamps_of (condition_of standing))) else condition_of standing) → t.output ≡ Some 1
+    → effect_of t.effect ≡ (if can_send (condition_of standing) && is_true (own qi) then Some (Send (message_of channel types own (stamps_of (condition_of standing)))) else None)
+    → own' ≡ setting own qo (bit (can_send (condition_of standing) && is_true (own qi))) → published channel types (leaf_of own issued standing) ≡ turned (Publish channel types) t own' issued
 published_is channel types t own own' issued standing h o f e =
-    ap (λ ts. replied service (cnf ∷ []) (if q then Some (Send (record { purpose = To_channel; number = channel.number; values = ts })) else None) (set_value qo (bit q) own) issued (condition_of standing)) (sym (typed_is 1 types own))
-    ∙ ap (λ x. replied service (cnf ∷ []) x (set_value qo (bit q) own) issued (condition_of standing)) (sym f)
-    ∙ ap (λ v. replied service (cnf ∷ []) (option_map (effect_in types) t.effect) v issued (condition_of standing)) (sym (e ∙ setting_is own qo (bit q)))
-    ∙ ap (λ k. replied service (outs_at service k) (option_map (effect_in types) t.effect) own' issued (condition_of standing)) (sym o)
-    ∙ ap (λ c. replied service (outs_at service t.output) (option_map (effect_in types) t.effect) own' issued (condition_of c)) (sym h)
+    ap (λ v. replied service (cnf ∷ []) (if q then Some (Send (message_of channel types own kept)) else None) v issued (if q then Ready (after_send kept) else condition_of standing)) (sym (e ∙ setting_is own qo (bit q)))
+    ∙ ap (λ c. replied service (cnf ∷ []) (if q then Some (Send (message_of channel types own kept)) else None) own' issued c) (sym h)
+    ∙ ap (λ x. replied service (cnf ∷ []) x own' issued (condition_of t.standing)) (sym f)
+    ∙ ap (λ k. replied service (outs_at service k) (effect_of t.effect) own' issued (condition_of t.standing)) (sym o)
   where
     service : Service
     service = Publish channel types
 
     q : Bool
-    q = is_ready (condition_of standing) && is_true (own qi)
+    q = can_send (condition_of standing) && is_true (own qi)
+
+    kept : Stamps
+    kept = stamps_of (condition_of standing)
 
 pub subscribed_is : (channel : Channel) (types : List ElemType) (t : Turn) (values : List ℤ) (own own' issued : Values) (standing : Standing) → length values ≤ length types
     → t ≡ record { standing = standing; output = (if is_ready (condition_of standing) then Some 1 else None); effect = None }

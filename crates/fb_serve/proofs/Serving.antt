@@ -135,7 +135,7 @@ module _ (service : book.Service) (p : Ports) (outputs : List Output) (own issue
       by (inr e) = omega (arith, h, ap length (sym (sends_are t.output known) ∙ ap (sent_to outputs) (sym outs_is ∙ e)))
 
     pub has_served : (new : Values) (old sent : Points) → new ≡ issued_by outputs t.output after issued' → sent ≡ old ++ sent_by outputs t.output
-        → HasServed service outputs clock (event_at service event) values (leaf_of before issued' standing) (leaf_of after new t.standing) (effect_of service t.effect) old sent
+        → HasServed service outputs clock (event_at service event) values (leaf_of before issued' standing) (leaf_of after new t.standing) (effect_of t.effect) old sent
     has_served new old sent e s = record {
       outs = outs_at service t.output;
       replied = record {

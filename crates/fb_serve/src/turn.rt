@@ -11,7 +11,7 @@ ghost use Rattle.st_exec.specs.Cells.{values_of, forms_of};
 ghost use Rattle.st_run.specs.Kept.{plain_slot_of, room_of};
 ghost use Rattle.fb_serve.specs.Ports.{slots_of};
 ghost use Rattle.fb_serve.specs.Turns.{Replies};
-ghost use Rattle.fb_serve.specs.Serving.{CanTurn};
+ghost use Rattle.fb_serve.specs.Serving.{SendsFit, CanTurn};
 
 use crate::quality::{open, publish, subscribe};
 use crate::standing::{Effect, Ports, Standing, Turn, silent};
@@ -19,6 +19,7 @@ use crate::timer::{cycle, delay};
 use crate::transfer::{receive, sent_values};
 use fb_chart::Store;
 use fb_services::{Channel, Service};
+use fb_words::ElemType;
 
 // An arrival of an INPUT: its values are received, and IND is emitted.
 fn arrive(slots: &[usize], values: &[i64], standing: Standing, own: &mut Store) -> Turn
@@ -54,6 +55,7 @@ fn write(number: u16, slots: &[usize], standing: Standing, own: &Store) -> Turn
 // INIT and REQ of a PUBLISH.
 fn published(
     channel: &Channel,
+    types: &[ElemType],
     ports: &Ports,
     event: u16,
     standing: Standing,
@@ -62,14 +64,16 @@ fn published(
     requires quality_in { ports.now.quality_in ≡ plain_slot_of own.old qi }
     requires quality_out { ports.now.quality_out ≡ plain_slot_of own.old qo }
     requires within { ports.now.quality_out < room_of own.old }
-    requires few { length ports.now.sent.items ≤ 16 }
+    requires few { length types.now ≤ 16 }
+    requires slots { ports.now.sent.items ≡ slots_of (forms_of own.old) (numbered sent 1 types.now) }
+    requires sends { SendsFit (system.Publish (channel_of channel.now) types.now) (values_of own.old) }
     ensures output { IfSome result.output (λ k. k < 2) }
-    ensures reply { (clock : ℕ) (types : List element.ElemType) (values : List ℤ) (issued : BookValues) → ports.now.sent.items ≡ slots_of (forms_of own.old) (numbered sent 1 types) → Replies (system.Publish (channel_of channel.now) types) clock event values (values_of own.old) (values_of own.new) issued standing result }
+    ensures reply { (clock : ℕ) (values : List ℤ) (issued : BookValues) → Replies (system.Publish (channel_of channel.now) types.now) clock event values (values_of own.old) (values_of own.new) issued standing result }
     ensures forms { forms_of own.new ≡ forms_of own.old }
 {
     match event {
-        0 => open(ports, own),
-        _ => publish(channel.number, ports, standing, own),
+        0 => open(ports, standing, own),
+        _ => publish(channel.number, types, ports, standing, own),
     }
 }
 
@@ -91,7 +95,7 @@ fn subscribed(
     ensures forms { forms_of own.new ≡ forms_of own.old }
 {
     match event {
-        0 => open(ports, own),
+        0 => open(ports, standing, own),
         1 => silent(standing),
         _ => subscribe(ports, values, standing, own),
     }
@@ -107,7 +111,8 @@ pub(crate) fn reply(
     standing: Standing,
     own: &mut Store,
 ) -> Turn
-    requires { CanTurn (service_of service.now) ports.now (forms_of own.old) values.now }
+    requires ready { CanTurn (service_of service.now) ports.now (forms_of own.old) values.now }
+    requires sends { SendsFit (service_of service.now) (values_of own.old) }
     ensures output { IfSome result.output (λ k. k < length (service_event_outputs (service_of service.now))) }
     ensures reply { (issued : BookValues) → Replies (service_of service.now) clock event values.now (values_of own.old) (values_of own.new) issued standing result }
     ensures forms { forms_of own.new ≡ forms_of own.old }
@@ -115,7 +120,9 @@ pub(crate) fn reply(
     match service {
         Service::Input(_, _) => arrive(&ports.received, values, standing, own),
         Service::Output(number, _) => write(*number, &ports.sent, standing, own),
-        Service::Publish(channel, _) => published(channel, ports, event, standing, own),
+        Service::Publish(channel, types) => {
+            published(channel, types, ports, event, standing, own)
+        }
         Service::Subscribe(_, _) => subscribed(ports, event, values, standing, own),
         Service::Delay => delay(ports.time, event, clock, standing, own),
         Service::Cycle => cycle(ports.time, event, clock, standing, own),

@@ -6,8 +6,8 @@ use Rattle.fb_chart.specs.Sampling.{CanGiveAll}
 use Rattle.fb_serve.proofs.Serving.{can_turn, all_give, output_there, room_left, has_served}
 use Rattle.fb_serve.proofs.dispatch.serve.Goals as goal
 
-pub reply-turn-requires : goal.reply-turn-requires
-reply-turn-requires g c = can_turn (service_of c.args.service.now) c.args.ports.now c.args.outputs.now (forms_of c.args.own.now) (forms_of c.args.issued.now) c.requires.ready c.args.values.now c.requires.message
+pub reply-turn-requires-clause-ready : goal.reply-turn-requires-clause-ready
+reply-turn-requires-clause-ready g c = can_turn (service_of c.args.service.now) c.args.ports.now c.args.outputs.now (forms_of c.args.own.now) (forms_of c.args.issued.now) c.requires.ready c.args.values.now c.requires.message
 
 pub send-requires-clause-output : goal.send-requires-clause-output
 send-requires-clause-output g c = output_there (service_of c.args.service.now) c.args.ports.now c.args.outputs.now (forms_of c.args.own.now) (forms_of c.args.issued.now) c.requires.ready c.reply-turn.result.output c.reply-turn.ensures.output

@@ -15,7 +15,7 @@ returns-in-0-clause-reply c = λ clock channel types issued few is.
     let service = system.Subscribe channel types in
     let s = leaf_of (values_of c.args.own.now) issued c.args.standing in
     ap (λ n. if bytes_eq (event_at service n) init then book.opened service s else if bytes_eq (event_at service n) rsp then book.emits service [] None s else book.subscribed channel types c.args.values.now s) c.in-0.is
-    ∙ opened_is service c.open.result (values_of c.args.own.now) (values_of c.open.new.own) issued c.args.standing refl c.open.ensures.turn c.open.ensures.values
+    ∙ opened_is service c.open.result (values_of c.args.own.now) (values_of c.open.new.own) issued c.args.standing refl c.open.ensures.standing c.open.ensures.output c.open.ensures.effect c.open.ensures.values
 
 pub returns-in_default-clause-reply : goal.returns-in_default-clause-reply
 returns-in_default-clause-reply c = λ clock channel types issued few is.
