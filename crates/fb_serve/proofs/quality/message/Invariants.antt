@@ -6,4 +6,4 @@ use Rattle.fb_serve.proofs.quality.message.Given as goal
 
 -- the values that are left are still to come
 abbrev pub invariant-loop-at : goal.invariant-loop-at
-invariant-loop-at l = IsFilled l.message l.channel (stamped (stamps_in l.stamps)) l.types (values_of l.own) l.at
+invariant-loop-at l = IsFilled l.message l.channel (stamped (stamps_in l.fn.stamps)) l.types (values_of l.own) l.at
