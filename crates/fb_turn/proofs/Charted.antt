@@ -19,7 +19,7 @@ use Rattle.fb_serve.specs.declared.standing.Ports.{Ports}
 use Rattle.fb_serve.specs.declared.standing.Standing.{Standing}
 use Rattle.fb_turn.specs.declared.memory.Condition.{Condition}
 use Rattle.fb_turn.specs.declared.memory.Condition.TheVariants as has
-use Rattle.fb_turn.specs.Conditions.{IsConditionOf, leaf_state, effect_at}
+use Rattle.fb_turn.specs.Conditions.{IsConditionOf, leaf_state}
 use Rattle.fb_turn.specs.Turning.{CanRun, HasRun, HasRoom}
 
 module _ (x : Block) (p : Ports) (own issued : List Cell) (condition : Condition) (event : ℕ) (values : List ℤ) (most room : ℕ) (can : CanRun x p own issued condition event values most room) (c : Chart) (body : x.body ≡ b.Chart c) where
@@ -63,7 +63,7 @@ module _ (x : Block) (p : Ports) (own issued : List Cell) (condition : Condition
         → HasRun x event values clock (leaf_state (kind_of x) own issued condition) (leaf_state (kind_of x) own' issued' (has.State state')) steps None old new
     chart_ran own' issued' clock state' steps old new h = record {
       outs = h.come.outs;
-      served = subst (λ (k : Kind). Serves k clock (named (event_names x) event) values (leaf_state k own issued condition) (leaf_state k own' issued' (has.State state')) steps h.come.outs (effect_at k None)) (sym kind)
+      served = subst (λ (k : Kind). Serves k clock (named (event_names x) event) values (leaf_state k own issued condition) (leaf_state k own' issued' (has.State state')) steps h.come.outs None) (sym kind)
           (subst (λ (d : Condition). Serves (Charted (block_in c)) clock (named (event_names x) event) values (leaf_state (Charted (block_in c)) own issued d) (leaf_state (Charted (block_in c)) own' issued' (has.State state')) steps h.come.outs None) (sym at)
           (subst (λ (es : List Name). Serves (Charted (block_in c)) clock (named es event) values (leaf_state (Charted (block_in c)) own issued (has.State state)) (leaf_state (Charted (block_in c)) own' issued' (has.State state')) steps h.come.outs None) (sym events_are)
           (record { end = named (states_in c) state'; phase = h.phase; run = h.come.run; rest = h.rest; state = refl }, refl)));

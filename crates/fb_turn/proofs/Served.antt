@@ -27,12 +27,12 @@ use Rattle.fb_serve.specs.declared.standing.Ports.{Ports}
 use Rattle.fb_serve.specs.declared.standing.Standing.{Standing}
 use Rattle.fb_serve.specs.Ports.{ServesPorts}
 use Rattle.fb_serve.specs.Turns.{event_at, leaf_of, effect_of}
-use Rattle.fb_serve.specs.Serving.{CanServe, HasServed}
+use Rattle.fb_serve.specs.Serving.{SendsFit, CanServe, HasServed}
 use Rattle.fb_serve.proofs.Serving.{reply_outs}
 use Rattle.fb_turn.specs.declared.memory.Condition.{Condition}
 use Rattle.fb_turn.specs.declared.memory.Condition.TheVariants as has
-use Rattle.fb_turn.specs.Conditions.{IsConditionOf, leaf_state, effect_at}
-use Rattle.fb_turn.specs.Turning.{CanRun, HasRun, HasRoom}
+use Rattle.fb_turn.specs.Conditions.{IsConditionOf, leaf_state}
+use Rattle.fb_turn.specs.Turning.{CanRun, HasRun, HasRoom, SendsWell}
 
 abbrev AreKnown : List Name → List Name → Type 0
 AreKnown names os = AllByRecursion (λ (o : Name). is_in o names ≡ true) os
@@ -86,6 +86,9 @@ module _ (x : Block) (p : Ports) (own issued : List Cell) (condition : Condition
   pub can_receive : IsMessage (Serviced (service_of s)) values
   can_receive = subst (λ (k : Kind). IsMessage k values) kind can.message
 
+  pub sends_fit : SendsFit (service_of s) (values_of own)
+  sends_fit = subst (λ (k : Kind). SendsWell k (values_of own)) kind can.sends
+
   pub can_send : length (sent_to x.outputs.items (can_emit (service_of s) (event_at (service_of s) event))) ≤ room
   can_send =
       subst (λ (es : List Name). length (sent_to x.outputs.items (can_emit (service_of s) (named es event))) ≤ room) events_are
@@ -95,16 +98,16 @@ module _ (x : Block) (p : Ports) (own issued : List Cell) (condition : Condition
   service_after standing' = subst (λ k. IsConditionOf k (has.Service standing')) (sym kind) tt
 
   pub service_ran : (standing : Standing) → condition ≡ has.Service standing → (own' issued' : List Cell) (clock : ℕ) (standing' : Standing) (effect : Option Effect) (old new : Points)
-      → HasServed (service_of s) x.outputs.items clock (event_at (service_of s) event) values (leaf_of (values_of own) (values_of issued) standing) (leaf_of (values_of own') (values_of issued') standing') (effect_of (service_of s) effect) old new
+      → HasServed (service_of s) x.outputs.items clock (event_at (service_of s) event) values (leaf_of (values_of own) (values_of issued) standing) (leaf_of (values_of own') (values_of issued') standing') (effect_of effect) old new
       → HasRun x event values clock (leaf_state (kind_of x) own issued condition) (leaf_state (kind_of x) own' issued' (has.Service standing')) 1 effect old new
   service_ran standing at own' issued' clock standing' effect old new h =
       let as_served = Serviced (service_of s) in
       let after = leaf_state as_served own' issued' (has.Service standing') in
       record {
         outs = h.outs;
-        served = subst (λ (k : Kind). Serves k clock (named (event_names x) event) values (leaf_state k own issued condition) (leaf_state k own' issued' (has.Service standing')) 1 h.outs (effect_at k effect)) (sym kind)
-            (subst (λ (d : Condition). Serves as_served clock (named (event_names x) event) values (leaf_state as_served own issued d) after 1 h.outs (effect_at as_served effect)) (sym at)
-            (subst (λ (es : List Name). Serves as_served clock (named es event) values (leaf_state as_served own issued (has.Service standing)) after 1 h.outs (effect_at as_served effect)) (sym events_are) h.replied));
+        served = subst (λ (k : Kind). Serves k clock (named (event_names x) event) values (leaf_state k own issued condition) (leaf_state k own' issued' (has.Service standing')) 1 h.outs (effect_of effect)) (sym kind)
+            (subst (λ (d : Condition). Serves as_served clock (named (event_names x) event) values (leaf_state as_served own issued d) after 1 h.outs (effect_of effect)) (sym at)
+            (subst (λ (es : List Name). Serves as_served clock (named es event) values (leaf_state as_served own issued (has.Service standing)) after 1 h.outs (effect_of effect)) (sym events_are) h.replied));
         sent = h.sent;
         known = subst (λ (ns : List Name). AreKnown ns h.outs) (sym outputs_are)
             (subst (AreKnown (service_event_outputs (service_of s))) (sym h.replied.outs_are)

@@ -9,7 +9,7 @@ use Rattle.fb_chart.specs.Charting.{block_in, states_in, IsReady, cells_of, begu
 use Rattle.fb_serve.specs.Turns.{event_at, leaf_of, effect_of}
 use Rattle.fb_serve.specs.Serving.{CanServe, HasServed}
 use Rattle.fb_turn.proofs.Charted.{chart_alone, ready, known_event, known_state, fine, condition_after, chart_ran}
-use Rattle.fb_turn.proofs.Served.{service_alone, can_serve, can_receive, can_send, service_after, service_ran}
+use Rattle.fb_turn.proofs.Served.{service_alone, can_serve, can_receive, sends_fit, can_send, service_after, service_ran}
 use Rattle.fb_turn.proofs.dispatch.run.Goals as goal
 
 -- ---- charts
@@ -84,6 +84,11 @@ serve-standing-requires-clause-room g c =
     subst (λ (os : List Output). length (sent_to os (can_emit (service_of s) (event_at (service_of s) a.event))) ≤ g.E.Emit.room a.emit.now) (sym c.deref-in-Service-condition.ensures.value)
     (can_send a.block.now a.ports.now a.own.now a.issued.now a.condition a.event a.values.now a.most _ c.requires s c.in-Served.is)
 
+pub serve-standing-requires-clause-sends : goal.serve-standing-requires-clause-sends
+serve-standing-requires-clause-sends g c =
+    let a = c.args in
+    sends_fit a.block.now a.ports.now a.own.now a.issued.now a.condition a.event a.values.now a.most _ c.requires c.in-Served.service c.in-Served.is
+
 pub returns-in-Service-condition-clause-ran : goal.returns-in-Service-condition-clause-ran
 returns-in-Service-condition-clause-ran g c =
     let a = c.args in
@@ -92,7 +97,7 @@ returns-in-Service-condition-clause-ran g c =
     let ran = c.serve-standing in
     service_ran a.block.now a.ports.now a.own.now a.issued.now a.condition a.event a.values.now a.most _ c.requires s c.in-Served.is now.standing now.is
     ran.new.own ran.new.issued a.clock ran.result.0 ran.result.1 (g.E.Emit.sent a.emit.now) (g.E.Emit.sent ran.new.emit)
-    (subst (λ (os : List Output). HasServed (service_of s) os a.clock (event_at (service_of s) a.event) a.values.now (leaf_of (values_of a.own.now) (values_of a.issued.now) now.standing) (leaf_of (values_of ran.new.own) (values_of ran.new.issued) ran.result.0) (effect_of (service_of s) ran.result.1) (g.E.Emit.sent a.emit.now) (g.E.Emit.sent ran.new.emit))
+    (subst (λ (os : List Output). HasServed (service_of s) os a.clock (event_at (service_of s) a.event) a.values.now (leaf_of (values_of a.own.now) (values_of a.issued.now) now.standing) (leaf_of (values_of ran.new.own) (values_of ran.new.issued) ran.result.0) (effect_of ran.result.1) (g.E.Emit.sent a.emit.now) (g.E.Emit.sent ran.new.emit))
     c.deref-in-Service-condition.ensures.value ran.ensures.served)
 
 pub returns-in-Service-condition-clause-condition : goal.returns-in-Service-condition-clause-condition
