@@ -228,7 +228,7 @@ fn made(
 }
 
 // The device of a number of what was checked, which begins with this cause and this stamp.
-fn ready(
+fn numbered_ready(
     alloc: Global,
     verified: Verified,
     number: usize,
@@ -268,7 +268,7 @@ pub fn load_checked(alloc: Global, verified: Verified, number: usize) -> Result<
     ensures ready { IfOk result (λ r. (r.verified ≡ verified) × (r.number ≡ number) × (machine_of r ≡ silent (device_in r) 1 first_stamp)) }
     ensures refused { IfErr result (λ f. f ≡ no_memory) }
 {
-    ready(alloc, verified, number, 1, FIRST_STAMP)
+    numbered_ready(alloc, verified, number, 1, FIRST_STAMP)
 }
 
 // The refusal that names a device in upper case.
@@ -297,7 +297,7 @@ fn made_ready(
     ensures refused { IfErr result (IsMissing verified device.now) }
 {
     match device_named(&verified, device) {
-        Some(number) => ready(alloc, verified, number, first, stamp),
+        Some(number) => numbered_ready(alloc, verified, number, first, stamp),
         None => {
             verified.let_go();
             Err(no_device(alloc, device))

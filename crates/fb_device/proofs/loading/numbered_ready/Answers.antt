@@ -1,7 +1,7 @@
 use Rattle.std.proofs.Common.{refl, arith}
 use Rattle.fb_wire.specs.Views.{stamped_of}
 use Rattle.fb_device.proofs.Beginning.{good_at_first, machine_is}
-use Rattle.fb_device.proofs.loading.ready.Goals as goal
+use Rattle.fb_device.proofs.loading.numbered_ready.Goals as goal
 
 pub invariant_of-result : goal.invariant_of-result
 invariant_of-result c =

@@ -1,0 +1,8 @@
+use Rattle.std.proofs.Common.{ap, ◌∙◌}
+use Rattle.fb_model.specs.Wires.{leaves}
+use Rattle.fb_model.specs.Devices.{begun}
+use Rattle.fb_arrive.specs.fb_state.Machines.{device_in}
+use Rattle.fb_device.proofs.loading.Ready.start.Goals as goal
+
+pub returns-clause-first : goal.returns-clause-first
+returns-clause-first c = λ first stamp h. c.begin.ensures.first ∙ ap (begun (leaves (device_in c.args.self))) h
