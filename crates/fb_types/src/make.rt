@@ -30,7 +30,7 @@ use std::rc::Rc;
 // Why a composite is not made, where this is so of a type in it: a chain that is too long starts at the composite.
 fn outer<'a>(unmade: Unmade<'a>, source: &'a BlockTree) -> Unmade<'a>
     ensures fault { (f : TypeFault) → unmade.entry ≡ u.Fault f → result ≡ u.Fault f }
-    ensures deep { (x : Bor Tree) → unmade.entry ≡ u.TooDeep x → result ≡ u.TooDeep source }
+    ensures deep { (x : Bor Tree) → unmade.entry ≡ u.TooDeep x → result ≡ u.TooDeep source.entry }
 {
     match unmade {
         Unmade::Fault(fault) => Unmade::Fault(fault),

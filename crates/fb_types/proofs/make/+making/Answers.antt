@@ -83,16 +83,16 @@ make_composite-returns-in_err-composite-in-Ok-clause-refused t c = λ bs table m
     (c.in_err-composite-in-Ok.ensures.refused bs (trees_of.block_of c.args.source.now) (declared_in f.inputs) (declared_in f.outputs) (c.args.room - 1) c.in-Ok.deep
     (record { composite = e; face = c.in_ok-face.ensures.found; distinct = c.in_ok-face.ensures.distinct; parts = subst (λ l. AreParts bs (c.args.room - 1) (map trees_of.instance_of l) c.in-Ok.instances.items c.in-Ok.deep) c.deref-2.ensures.value (c.in-Ok.ensures.made bs table memo) }))
 
-pub make_composite-returns-in_ok-composite-in-Ok-clause-made : goal.make_composite-returns-in_ok-composite-in-Ok-clause-made
-make_composite-returns-in_ok-composite-in-Ok-clause-made t c = λ bs table memo e.
+pub make_composite-returns-in-Ok-clause-made : goal.make_composite-returns-in-Ok-clause-made
+make_composite-returns-in-Ok-clause-made t c = λ bs table memo e.
     let f = c.in_ok-face.face in
     let b = trees_of.block_of c.args.source.now in
     let one = c.in_ok-composite-in-Ok.ensures.made bs b (declared_in f.inputs) (declared_in f.outputs) (c.args.room - 1) c.in-Ok.deep
     (record { composite = e; face = c.in_ok-face.ensures.found; distinct = c.in_ok-face.ensures.distinct; parts = subst (λ l. AreParts bs (c.args.room - 1) (map trees_of.instance_of l) c.in-Ok.instances.items c.in-Ok.deep) c.deref-2.ensures.value (c.in-Ok.ensures.made bs table memo) }) (omega arith) in
     subst (λ d. IsTyped bs d b c.in_ok-composite-in-Ok.field-0) (omega (arith, c.if-room-eq0.false)) one
 
-pub make_composite-returns-in-Err-clause-refused : goal.make_composite-returns-in-Err-clause-refused
-make_composite-returns-in-Err-clause-refused t c = λ bs table memo e opened.
+pub make_composite-returns-clause-refused : goal.make_composite-returns-clause-refused
+make_composite-returns-clause-refused t c = λ bs table memo e opened.
     let b = trees_of.block_of c.args.source.now in
     let w = trees_of.network_of c.args.network.now in
     let path = map tree_of c.args.path.now in

@@ -15,6 +15,7 @@ pub returns-else-is_on : goal.returns-else-is_on
 returns-else-is_on c =
     let xs = map tree_of c.args.path.now in
     let y = trees_of.block_of c.args.top.now in
-    let same = bytes_eq-Decides c.as_str.result.now c.args.name.now in
-    (λ e. Any-push (λ (b : BlockTree). b.name.text ≡ c.args.name.now) xs y (sym c.as_str.ensures.value ∙ same.0 (sym c.eq.ensures ∙ e)),
-      λ h. either_of (λ k. absurd (let t : true ≡ false = sym (c.is_on.ensures.1 k) ∙ c.if-is_on.false in cc)) (λ n. c.eq.ensures ∙ same.1 (c.as_str.ensures.value ∙ n)) (any_last (λ (b : BlockTree). b.name.text ≡ c.args.name.now) xs y h))
+    let same = bytes_eq-Decides c.as_str.result.now c.args.name.now in (
+      λ e. Any-push (λ (b : BlockTree). b.name.text ≡ c.args.name.now) xs y (sym c.as_str.ensures.value ∙ same.0 (sym c.eq.ensures ∙ e)),
+      λ h. either_of (λ k. absurd (let t : true ≡ false = sym (c.is_on.ensures.1 k) ∙ c.if-is_on.false in cc)) (λ n. c.eq.ensures ∙ same.1 (c.as_str.ensures.value ∙ n)) (any_last (λ (b : BlockTree). b.name.text ≡ c.args.name.now) xs y h),
+    )

@@ -17,8 +17,8 @@ loop-top-init c = λ bs table named.
     let items = c.in_ok-push.ensures.items ∙ ap (λ l. l ++ c.args.block ∷ []) c.new-path.ensures.items in
     subst (λ l. IsSearching bs b (found_in new) (map tree_of l)) (sym items)
     (search_begun bs b (found_in new) named (λ x.
-        subst (λ n. found_in new x ≡ cond (bytes_eq n x) None (found_in old x)) c.as_str.ensures.value (found_without c.as_str.result.now old new c.swap_remove.ensures.updates x)
-        ∙ ap (cond (bytes_eq b.name.text x) None) (c.in_ok-left.ensures x ∙ table x)))
+    subst (λ n. found_in new x ≡ cond (bytes_eq n x) None (found_in old x)) c.as_str.ensures.value (found_without c.as_str.result.now old new c.swap_remove.ensures.updates x)
+    ∙ ap (cond (bytes_eq b.name.text x) None) (c.in_ok-left.ensures x ∙ table x)))
 
 pub returns-in-Some-2 : goal.returns-in-Some-2
 returns-in-Some-2 c = λ bs table named.
