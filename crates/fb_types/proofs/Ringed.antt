@@ -1,20 +1,17 @@
 -- The search for a ring: what it keeps, and what it finds.
-use Rattle.std.proofs.Common.{◌≡◌, ◌⊎◌, inl, inr, ℕ, Bool, true, false, cond, List, [], ◌∷◌, ◌++◌, map, length, arith, Option, Some, None, option_map, refl, sym, ap, subst, ◌∙◌, string_bytes}
-use Rattle.std.specs.Option.{option_or}
-use Rattle.std.specs.Map.{lookup}
+use Rattle.std.proofs.Common.{◌≡◌, ◌⊎◌, inl, inr, ℕ, Bool, true, false, cond, List, [], ◌∷◌, ◌++◌, length, arith, Option, Some, None, refl, sym, ap, subst, ◌∙◌}
 use Rattle.std.specs.List.{AllByRecursion, Contains}
 use Rattle.std.specs.Str.{bytes_eq}
 use Rattle.std.proofs.lemmas.Slice.Eq.{bytes_eq-Decides}
 use Rattle.std.proofs.lemmas.List.Elements.{Contains-append_left, Contains-push, Contains-push_cases}
-use Rattle.fb_model.specs.Names.{Name, is_in}
-use Rattle.fb_model.specs.Declarations.{InstanceTree, NetworkTree, Chart, Network, BodyTree, BlockTree}
-use Rattle.fb_model.specs.Typing.{service_names}
+use Rattle.fb_model.specs.Names.{Name}
+use Rattle.fb_model.specs.Declarations.{InstanceTree, Chart, Network, BodyTree, BlockTree}
 use Rattle.fb_model.specs.NetworkTyping.{type_named}
 use Rattle.fb_networks.specs.fb_blocks.declared.fault.TypeFault.{TypeFault}
 use Rattle.fb_networks.specs.fb_blocks.declared.fault.TypeFault.TheVariants as faults
 use Rattle.fb_networks.proofs.of_fb_blocks.Refused.{either_of}
 use Rattle.fb_types.specs.Nesting.{IsOf, Uses, Leads, itself, further, LeadsToNoRing}
-use Rattle.fb_types.specs.Refusals.{IsTypeFault, faulty_part, ring, IsInstanceFault, faulty_type}
+use Rattle.fb_types.specs.Refusals.{IsTypeFault, faulty_part, ring, faulty_type}
 use Rattle.fb_types.specs.Made.{IsNamed, IsPath}
 use Rattle.fb_types.specs.Rings.{parts_of, IsOnPath, IsPassed, IsClosing, IsMet, Ends, all_end, IsRingBelow, IsLine, IsSearching}
 use Rattle.fb_types.proofs.Nested.{among_cons, among_nil, among_first, one_type}

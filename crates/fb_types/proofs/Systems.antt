@@ -28,7 +28,7 @@ use Rattle.fb_types.specs.declared.typed.Device.{Device}
 use Rattle.fb_types.specs.Uses.{Used, uses_in}
 use Rattle.fb_types.specs.Views.{resource_of, resource_places, system_places, places_in, all_places, resource_uses, device_uses, system_uses}
 use Rattle.fb_types.specs.Counts.{IsCrowded, crowded}
-use Rattle.fb_types.specs.Nesting.{IsOf, AllProvide, ResourcesProvide, by_no_resource, by_each_resource, DevicesProvide, by_no_device, by_each_device}
+use Rattle.fb_types.specs.Nesting.{AllProvide, ResourcesProvide, by_no_resource, by_each_resource, DevicesProvide, by_no_device, by_each_device}
 use Rattle.fb_types.specs.Refusals.{IsTypeFault, too_deep, IsInstanceFault, IsCrowd}
 use Rattle.fb_types.specs.Rings.{Ends}
 use Rattle.fb_types.specs.declared.made.Made.{Made}
