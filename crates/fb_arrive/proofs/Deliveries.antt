@@ -1,7 +1,11 @@
 -- A message that comes in, by the number of the block that it is for.
-use Rattle.std.proofs.Common.{◌≡◌, ℕ, ◌&&◌, ◌<◌, Bool, true, false, cond, List, [], ◌∷◌, map, length, slice_get, Option, Some, None, refl, sym, ◌∙◌, ap, subst, inr}
+use Rattle.std.proofs.Common.{◌≡◌, ℕ, ℤ, ◌&&◌, ◌<◌, Bool, true, false, cond, not, List, [], ◌∷◌, map, length, slice_get, Option, Some, None, refl, sym, ◌∙◌, ap, subst, inr}
+use Rattle.std.specs.Prelude.{MatchOption}
 use Rattle.std.specs.List.{AllByRecursion}
+use Rattle.arrayvec.specs.ArrayVec.{ArrayVec}
 use Rattle.fb_words.specs.declared.elem_type.ElemType.{ElemType}
+use denote.Enum.Bare.{sameb, same_true}
+use Rattle.fb_words.specs.contracts.format.Format.{the_type}
 use Rattle.fb_words.specs.declared.format.Format.{Format}
 use Rattle.fb_words.specs.declared.format.Format.TheVariants.{First, Second}
 use Rattle.fb_words.specs.Numbers.{in_type}
@@ -185,9 +189,19 @@ received_so kind msg o vs types format numbers stamp values t f sent fitting its
 pub misshapen : (kind : Kind) (msg : Message) (vs : List Typed) (types : List ElemType) → map typed_of vs ≡ msg.values → types ≡ types_of kind → (types_taken vs ≡ types → ⊥) → IsShaped kind msg → ⊥
 misshapen kind msg vs types values t others s = others (sym (types_same vs) ∙ ap types_in values ∙ s.types ∙ sym t)
 
--- another format
-pub misformed : (kind : Kind) (msg : Message) (o : Option Stamp) (format : Format) → stamp_of o ≡ msg.stamp → format ≡ format_of kind → (format_in (stamp_of o) ≡ format → ⊥) → IsShaped kind msg → ⊥
-misformed kind msg o format stamp f others s = others (ap format_in stamp ∙ s.format ∙ sym f)
+pub formats_same : (a b : Format) → false ≡ not (sameb the_type a b) → a ≡ b
+formats_same a b h = same_true the_type tt a b (by (sameb the_type a b) h)
+  where
+    by : (x : Bool) → false ≡ not x → x ≡ true
+    by true e = refl
+    by false e = cc
+
+-- the numbers of a message, or other values
+pub received_as : (kind : Kind) (msg : Message) (o : Option Stamp) (vs : List Typed) (types : List ElemType) (format : Format) (r : Option (ArrayVec ℤ)) → stamp_of o ≡ msg.stamp → map typed_of vs ≡ msg.values → types ≡ types_of kind → format ≡ format_of kind
+    → format_in (stamp_of o) ≡ format → AllByRecursion (λ (v : Typed). in_type v.elem v.value ≡ true) vs → MatchOption r (types_taken vs ≡ types → ⊥) (λ taken. (types_taken vs ≡ types) × (taken.items ≡ numbers_taken vs))
+    → MatchOption r (IsShaped kind msg → ⊥) (λ numbers. IsReceived kind msg numbers.items)
+received_as kind msg o vs types format None stamp values t f sent fitting h = misshapen kind msg vs types values t h
+received_as kind msg o vs types format (Some taken) stamp values t f sent fitting h = received_so kind msg o vs types format taken.items stamp values t f sent fitting h.0 h.1
 
 -- ---- blocks
 

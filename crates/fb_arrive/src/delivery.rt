@@ -130,7 +130,10 @@ pub fn deliver(program: &Program, running: &mut Running, bytes: &[u8]) -> Result
     }
     let stamp = message.stamp();
     match stale(condition, stamp) {
-        Some(Stamp { boot, sequence }) => return Err(Denied::Stale { boot, sequence }),
+        Some(last) => {
+            let (boot, sequence) = (last.boot, last.sequence);
+            return Err(Denied::Stale { boot, sequence });
+        }
         None => {}
     }
     let event = arrival(purpose);
