@@ -1,10 +1,10 @@
 -- A SUBSCRIBE that keeps the stamp of a message.
-use Rattle.std.proofs.Common.{◌≡◌, ℕ, ◌<◌, ◌≤◌, ◌^◌, Bool, true, false, cond, List, map, length, set, slice_get, Option, Some, None, refl, sym, ◌∙◌, ap, subst, arith, inl, inr}
+use Rattle.std.proofs.Common.{◌≡◌, ℕ, ◌<◌, ◌≤◌, ◌^◌, Bool, true, false, cond, List, map, length, set, slice_get, Option, Some, None, refl, sym, ◌∙◌, ap, subst, inl, inr}
 use Rattle.std.specs.Prelude.{IfSome}
 use Rattle.std.specs.List.{AllByRecursion}
 use Rattle.std.proofs.Math.Path.{fun_ext}
 use Rattle.std.proofs.lemmas.Bool.{cases_eq}
-use Rattle.fb_words.specs.declared.format.Format.TheVariants.{First, Second}
+use Rattle.fb_words.specs.declared.format.Format.TheVariants.{Second}
 use Rattle.fb_model.specs.Names.{Path, path_eq}
 use Rattle.fb_model.specs.System as system
 use Rattle.fb_model.specs.System.{Device}
