@@ -1,5 +1,5 @@
 -- What a dispatch answers, in the book.
-use Rattle.std.specs.Prelude.{ℕ, List, Option, None, Some, slice_get}
+use Rattle.std.specs.Prelude.{ℕ, List}
 use Rattle.std.specs.Option.{option_map}
 use Rattle.fb_model.specs.Wires.{Leaf}
 use Rattle.fb_model.specs.Devices as book
