@@ -5,4 +5,4 @@ use Rattle.fb_arrive.specs.fb_state.Machines.{device_in}
 use Rattle.fb_device.proofs.loading.Ready.start.Goals as goal
 
 pub returns-clause-first : goal.returns-clause-first
-returns-clause-first c = λ first stamp h. c.begin.ensures.first ∙ ap (begun (leaves (device_in c.args.self))) h
+returns-clause-first c = rw (← c.self.view_is) (λ first stamp h. c.begin.ensures.first ∙ ap (begun (leaves (device_in c.self.inside.device))) h)
