@@ -6,8 +6,7 @@ use Rattle.std.specs.List.{join_with_byte}
 use Rattle.std.specs.Option.{option_map, option_copied}
 use Rattle.std.proofs.lemmas.List.Splits.{join_with_byte-slice_split}
 use Rattle.fb_model.specs.Names.{Name}
-use Rattle.fb_model.specs.Wires.{Kind, Charted, Serviced, Leaf}
-use Rattle.fb_device.specs.fb_dispatch.fb_turn.Conditions.{effect_at}
+use Rattle.fb_model.specs.Wires.{Leaf}
 use Rattle.fb_model.specs.System.{Device, Resource}
 use Rattle.fb_model.specs.Certificates.{Certificate, events_of}
 use Rattle.fb_model.specs.Devices as model
@@ -15,7 +14,8 @@ use Rattle.fb_model.specs.Devices.{Event, Machine, Happens}
 use Rattle.fb_device.specs.fb_check.Lookups.{is_same_path}
 use Rattle.fb_device.specs.fb_tables.Views.{place_at, place_in}
 use Rattle.fb_device.specs.Answers.{IsNamed, IsNoPoint, IsNumberOf, IsNoNumber}
-use Rattle.fb_device.specs.fb_dispatch.Answers.{turned_of, end_of, effect_in}
+use Rattle.fb_device.specs.fb_dispatch.Answers.{turned_of, end_of}
+use Rattle.fb_device.specs.fb_serve.Turns.{effect_of}
 use Rattle.fb_device.specs.fb_arrive.Answers.{denial_of}
 use Rattle.fb_device.specs.fb_arrive.declared.denied.Denied.{Denied}
 use Rattle.fb_device.specs.fb_arrive.declared.denied.Denied.TheVariants as d
@@ -41,20 +41,14 @@ same_end : (o : Option Ended) → ended_text o ≡ end_text (option_map end_of o
 same_end None = refl
 same_end (Some e) = refl
 
--- what the leaf of a run has done
-same_effect : (leaf : Leaf) (send : ℕ) (effect : Option (Bor Outside)) → done_text effect send ≡ effect_text send (effect_in (Some leaf) (option_copied effect))
-same_effect leaf send None = by leaf.kind
+-- what a run has done
+same_effect : (send : ℕ) (effect : Option (Bor Outside)) → done_text effect send ≡ effect_text send (effect_of (option_copied effect))
+same_effect send None = refl
+same_effect send (Some e) = by e.now
   where
-    by : (kind : Kind) → [] ≡ effect_text send (effect_at kind None)
-    by (Charted block) = refl
-    by (Serviced service) = refl
-same_effect leaf send (Some e) = by leaf.kind e.now
-  where
-    by : (kind : Kind) (x : Outside) → outside_text send x ≡ effect_text send (effect_at kind (Some x))
-    by (Charted block) (outside.Write number values) = refl
-    by (Charted block) (outside.Send channel values) = refl
-    by (Serviced service) (outside.Write number values) = refl
-    by (Serviced service) (outside.Send channel values) = refl
+    by : (x : Outside) → outside_text send x ≡ effect_text send (effect_of (Some x))
+    by (outside.Write number values) = refl
+    by (outside.Send message) = refl
 
 -- a run is told by its names
 pub run_told : (all : List Leaf) (r : RanRecord) (path event : Bor (List ℕ)) (effect : Option (Bor Outside)) (send : ℕ) → IsNamed all r.block r.event path.now event.now → option_copied effect ≡ r.effect
@@ -62,8 +56,8 @@ pub run_told : (all : List Leaf) (r : RanRecord) (path event : Bor (List ℕ)) (
 run_told all r path event effect send n lent =
     ap (λ t. codes "ran " ++ t ++ codes " steps " ++ decimal r.steps ++ done_text effect send ++ ended_text r.ended) (sym (place_named all r.block r.event path.now event.now n))
     ∙ ap (λ t. codes "ran " ++ place_text (place_at all (record { block = r.block; event = r.event })) ++ codes " steps " ++ decimal r.steps ++ t ++ ended_text r.ended)
-    (same_effect n.leaf send effect ∙ ap (λ o. effect_text send (effect_in (Some n.leaf) o)) lent ∙ ap (λ o. effect_text send (effect_in o r.effect)) (sym n.block_is))
-    ∙ ap (λ t. codes "ran " ++ place_text (place_at all (record { block = r.block; event = r.event })) ++ codes " steps " ++ decimal r.steps ++ effect_text send (effect_in (slice_get all r.block) r.effect) ++ t) (same_end r.ended)
+    (same_effect send effect ∙ ap (λ o. effect_text send (effect_of o)) lent)
+    ∙ ap (λ t. codes "ran " ++ place_text (place_at all (record { block = r.block; event = r.event })) ++ codes " steps " ++ decimal r.steps ++ effect_text send (effect_of r.effect) ++ t) (same_end r.ended)
 
 -- an answer of the device has a name
 pub never_unnamed : (all : List Leaf) (block event : ℕ) → IsPoint all (record { block = block; event = event }) → IsNoPoint all block event → ⊥
@@ -91,6 +85,7 @@ same_why (d.Wire w.Trailing) = refl
 same_why d.NoSubscriber = refl
 same_why d.Shape = refl
 same_why d.Closed = refl
+same_why (d.Stale boot sequence) = refl
 
 -- ---- devices and resources that are named
 
