@@ -135,7 +135,7 @@ mutual
       let l = all_within bs e w.instances inner i c' m is (subst (λ (v : NetworkTree). Contains v.instances i) (same_network (sym u.composite ∙ c)) u.among) u.of_type t in
       omega (arith, l)
 
-  all_within : (bs : List BlockTree) (d : ℕ) (is : List InstanceTree) (inner : book.Instances) (i : InstanceTree) (c : BlockTree) (n : ℕ) → AreInstances bs d is inner → Contains is i → IsOf bs i c → Nests bs c n → n ≤ d
+  pub all_within : (bs : List BlockTree) (d : ℕ) (is : List InstanceTree) (inner : book.Instances) (i : InstanceTree) (c : BlockTree) (n : ℕ) → AreInstances bs d is inner → Contains is i → IsOf bs i c → Nests bs c n → n ≤ d
   all_within bs d is inner i c n no_instance a o t = absurd (among_nil a)
   all_within bs d is inner i c n (an_instance {i = j} {is = js} {qs = qs} {body = body} {rest = rest} h r) a o t =
       either_of (λ e. instance_within bs d j qs body c n h (subst (λ k. IsOf bs k c) (sym e) o) t) (λ m. all_within bs d js rest i c n r m o t) (among_cons j js i a)
@@ -290,7 +290,6 @@ mutual
   pub type_true : (bs : List BlockTree) (d : ℕ) (b : BlockTree) (x : book.Body) (f : TypeFault) → d ≤ most_deep → IsMade bs d b x → fault.IsTypeFault bs b f → f ≡ faults.OutOfMemory
   type_true bs d b x f l m (fault.no_memory_for_type e) = e
   type_true bs d b x f l m (fault.ring {c = c} {i = i} u w e) = absurd (no_ring d bs d b x i c (omega arith) m u w)
-  type_true bs d b x f l m (fault.too_deep {n = n} more t r e) = let k = nests_within bs d b x n m t in absurd (omega (arith, l, k, more))
   type_true bs d b x f l (a_basic {c = c} {k = k} p h) (fault.faulty_basic {c = a} q w) = no_block_fault b a k f (subst (λ z. IsBasic b z k) (same_chart (sym p ∙ q)) h) w
   type_true bs d b x f l (a_composite p face names is es vs) (fault.faulty_basic q w) = absurd (no_chart (sym q ∙ p))
   type_true bs d b x f l (a_basic p h) (fault.faulty_interface q w) = absurd (no_chart (sym p ∙ q))

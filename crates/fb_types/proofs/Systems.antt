@@ -1,6 +1,7 @@
 -- Resources, devices and systems.
-use Rattle.std.proofs.Common.{◌≡◌, ◌⊎◌, inl, inr, ℕ, ◌+◌, ◌<◌, ◌≤◌, length, get_or, take, List, [], ◌∷◌, ◌++◌, map, Some, None, refl, sym, ap, subst, ◌∙◌, append_assoc, string_bytes}
-use Rattle.std.proofs.lemmas.List.{append-nil, map_push}
+use Rattle.std.proofs.Common.{◌≡◌, ◌⊎◌, inl, inr, ℕ, ◌+◌, ◌<◌, ◌≤◌, length, get_or, take, drop, List, [], ◌∷◌, ◌++◌, map, Some, None, refl, sym, ap, subst, ◌∙◌, append_assoc, string_bytes}
+use Rattle.std.proofs.lemmas.List.{append-nil, map_push, map-append}
+use Rattle.std.specs.List.{AllByRecursion}
 use Rattle.std.specs.Map.{lookup}
 use Rattle.std.specs.Str.{bytes_eq}
 use Rattle.std.specs.declared.string.String.{String}
@@ -11,7 +12,7 @@ use Rattle.fb_model.specs.Productions.{Word}
 use Rattle.fb_model.specs.Declarations.{InstanceTree, NetworkTree, BlockTree, ResourceTree, DeviceTree}
 use Rattle.fb_model.specs.System as book
 use Rattle.fb_model.specs.Typing.{most_instances}
-use Rattle.fb_model.specs.NetworkTyping.{most_deep, IsInstance, AreInstances, no_instance, an_instance, instance_count, no_face, IsResource, AreResources, no_resource, a_resource, IsDevice, AreDevices, no_device, a_device, given_in, AreEventConnections, AreValueConnections}
+use Rattle.fb_model.specs.NetworkTyping.{most_deep, IsInstance, AreInstances, no_instance, an_instance, instance_count, no_face, IsResource, AreResources, no_resource, a_resource, IsDevice, AreDevices, no_device, a_device, given_in, AreEventConnections, AreValueConnections, IsProper}
 use Rattle.fb_networks.specs.fb_text.declared.tree.BlockTree.{BlockTree as BlockRow}
 use Rattle.fb_networks.specs.fb_text.declared.tree.ResourceTree.{ResourceTree as ResourceRow}
 use Rattle.fb_networks.specs.fb_text.declared.tree.DeviceTree.{DeviceTree as DeviceRow}
@@ -29,19 +30,33 @@ use Rattle.fb_types.specs.Uses.{Used, uses_in}
 use Rattle.fb_types.specs.Views.{resource_of, resource_places, system_places, places_in, all_places, resource_uses, device_uses, system_uses}
 use Rattle.fb_types.specs.Counts.{IsCrowded, crowded}
 use Rattle.fb_types.specs.Nesting.{AllProvide, ResourcesProvide, by_no_resource, by_each_resource, DevicesProvide, by_no_device, by_each_device}
-use Rattle.fb_types.specs.Refusals.{IsTypeFault, too_deep, IsInstanceFault, IsCrowd}
+use Rattle.fb_types.specs.Refusals.{IsInstanceFault, IsTooDeep, IsBlockFault, IsFirstFault, IsCrowd}
 use Rattle.fb_types.specs.Rings.{Ends}
 use Rattle.fb_types.specs.declared.made.Made.{Made}
 use Rattle.fb_types.specs.Made.{IsDeeper, IsRing, IsMemo, AreParts, AreMade}
 use Rattle.fb_types.proofs.Nested.{among_nil}
 use Rattle.fb_types.proofs.Making.{named_parts}
 use Rattle.fb_types.proofs.Ringed.{no_ring_below}
+use Rattle.fb_types.proofs.Counted as counted
 
 -- ---- refusals
 
 -- a type in which composites nest too deep, by what the search for a ring finds
-pub limit_of_type : (bs : List BlockTree) (b : BlockTree) (at : ℕ) → at ≡ b.name.at → IsDeeper bs most_deep b → Ends bs b → IsTypeFault bs b (faults.Limit at)
-limit_of_type bs b at e h r = too_deep h.more h.nests (no_ring_below bs b r) (ap faults.Limit e)
+pub limit_of_type : (bs : List BlockTree) (b : BlockTree) (at : ℕ) → at ≡ b.name.at → IsDeeper bs most_deep b → Ends bs b → IsTooDeep bs b (faults.Limit at)
+limit_of_type bs b at e h r = record { n = h.count; more = h.more; nests = h.nests; no_ring = no_ring_below bs b r; fault_is = ap faults.Limit e }
+
+-- the first type that is at fault, behind those that are well typed
+pub first_fault : (bs : List BlockTree) (xs : List BlockRow) (i : ℕ) (x : BlockRow) (f : TypeFault) → i < length xs → x ≡ get_or xs i x → AllByRecursion (IsProper bs) (map trees_of.block_of (take i xs)) → IsBlockFault bs (trees_of.block_of x) f
+    → IsFirstFault bs (map trees_of.block_of xs) f
+first_fault bs xs i x f lt is proper h =
+    record {
+      before = map trees_of.block_of (take i xs);
+      after = map trees_of.block_of (drop (i + 1) xs);
+      one = trees_of.block_of x;
+      parts = ap (map trees_of.block_of) (counted.parts xs i x lt is) ∙ map-append trees_of.block_of (take i xs) (x ∷ drop (i + 1) xs);
+      proper = proper;
+      fault = h;
+    }
 
 pub no_ring_at_top : (bs : List BlockTree) (i : InstanceTree) (f : TypeFault) → IsInstanceFault bs i f ⊎ IsRing bs [] i f → IsInstanceFault bs i f
 no_ring_at_top bs i f (inl h) = h

@@ -25,8 +25,7 @@ use Rattle.fb_types.specs.Views.{system_of}
 use Rattle.fb_types.specs.Nesting.{Provides, by_basic, by_composite, InstanceProvides, by_type, by_service, AllProvide, by_none, by_each, ResourcesProvide, by_no_resource, by_each_resource, DevicesProvide, by_no_device, by_each_device}
 use Rattle.fb_types.specs.Refusals as fault
 use Rattle.fb_types.specs.Made.{IsNamed}
-use Rattle.fb_types.proofs.Nested.{among_cons, among_nil, one_type, one_instance, all_one, type_true, all_true}
-use Rattle.fb_types.proofs.Making.{all_member}
+use Rattle.fb_types.proofs.Nested.{among_cons, among_nil, one_type, nests_within, all_within, one_instance, all_one, type_true, all_true}
 use Rattle.std.specs.Option.{option_or}
 use Rattle.fb_types.proofs.Tabled.{named_append}
 use Rattle.fb_types.proofs.Ended.{inputs_are, outputs_are, channels_are, no_number_fault, senders_are, no_channel_fault}
@@ -162,6 +161,10 @@ no_crowd bs d is whole f h few c =
 resource_true : (bs : List BlockTree) (r : ResourceTree) (q : book.Resource) (f : TypeFault) → IsResource bs r q → fault.IsResourceFault bs r f → f ≡ faults.OutOfMemory
 resource_true bs r q f h (fault.no_memory_for_resource e) = e
 resource_true bs r q f h (fault.faulty_instance {i = i} a w) = all_true bs most_deep r.network.instances q.inner i f (omega arith) h.instances a w
+resource_true bs r q f h (fault.too_deep_inside {i = i} {c = c} a o t) =
+    let k = all_within bs most_deep r.network.instances q.inner i c t.n h.instances a o t.nests in
+    let l = t.more in
+    absurd (omega (arith, k, l))
 resource_true bs r q f h (fault.too_many c) = absurd (no_crowd bs most_deep r.network.instances q.inner f h.instances h.few c)
 resource_true bs r q f h (fault.faulty_wires {d = d} {ps = ps} js w) =
     let same = all_one bs most_deep d r.network.instances q.inner (placed_in ps) h.instances js in
@@ -191,14 +194,24 @@ devices_true bs ds es d f (a_device {d = s} {ds = ss} {e = e} {es = gs} h t) a w
 block_true : (bs : List BlockTree) (b : BlockTree) (f : TypeFault) → IsProper bs b → fault.IsBlockFault bs b f → f ≡ faults.OutOfMemory
 block_true bs b f h (fault.named_as_service e w) = absurd (true_false (sym e ∙ h.name))
 block_true bs b f h (fault.faulty_block w) = type_true bs most_deep b h.body f (omega arith) h.made w
+block_true bs b f h (fault.too_deep t) =
+    let k = nests_within bs most_deep b h.body t.n h.made t.nests in
+    let l = t.more in
+    absurd (omega (arith, k, l))
+
+of_middle : {X : Type 0} (P : X → Type 0) (xs : List X) (y : X) (ys : List X) → AllByRecursion P (xs ++ y ∷ ys) → P y
+of_middle P [] y ys h = h.0
+of_middle P (x ∷ xs) y ys h = of_middle P xs y ys h.1
 
 pub whole_true : (library : List BlockTree) (source : SourceTree) (s : book.System) (f : TypeFault) → ElaboratesWith library source s → fault.IsSourceFault library source f → f ≡ faults.OutOfMemory
 whole_true library source s f h (fault.no_memory_for_source e) = e
 whole_true library source s f h (fault.repeated_type w) = no_repetition [] (map (λ b. b.name) source.blocks) f w (subst AreDistinct (sym (map_map (λ x. x.text) (λ b. b.name) source.blocks)) h.names)
-whole_true library source s f h (fault.faulty_declaration {b = b} a w) = block_true (source.blocks ++ library) b f (all_member (IsProper (source.blocks ++ library)) source.blocks b h.blocks a) w
+whole_true library source s f h (fault.faulty_declaration w) =
+    let bs = source.blocks ++ library in
+    block_true bs w.one f (of_middle (IsProper bs) w.before w.one w.after (subst (AllByRecursion (IsProper bs)) w.parts h.blocks)) w.fault
 whole_true library source s f h (fault.repeated_device w) = no_repetition [] (map (λ d. d.name) source.system.devices) f w (subst AreDistinct (sym (map_map (λ x. x.text) (λ d. d.name) source.system.devices)) h.device_names)
 whole_true library source s f h (fault.excess_device w) = no_excess most_devices (map (λ d. d.name) source.system.devices) f w (subst (λ n. n ≤ most_devices) (sym (length-map source.system.devices (λ d. d.name))) h.few)
-whole_true library source s f h (fault.faulty_device {d = d} a w) = devices_true (source.blocks ++ library) source.system.devices s.devices d f h.devices a w
+whole_true library source s f h (fault.faulty_device {d = d} all a w) = devices_true (source.blocks ++ library) source.system.devices s.devices d f h.devices a w
 whole_true library source s f h (fault.faulty_channels {us = us} p w) =
     let same = devices_provide (source.blocks ++ library) source.system.devices s.devices us h.devices p in
     no_channel_fault us f (subst AreAlike (sym same) h.channels) (subst (AreNewNumbers []) (sym (senders_are us ∙ ap senders same)) h.senders_differ) w

@@ -31,7 +31,7 @@ use Rattle.fb_networks.specs.declared.typed.Body.{Body, fold-Body}
 use Rattle.fb_networks.specs.Views.{body_of}
 use Rattle.fb_types.specs.Uses.{Used, body_step, instance_step, network_step, uses_of, uses_in}
 use Rattle.fb_types.specs.Nesting.{deep, deepest, IsOf, Leads, Nests, Provides, InstanceProvides, AllProvide}
-use Rattle.fb_types.specs.Refusals.{IsTypeFault, IsInstanceFault}
+use Rattle.fb_types.specs.Refusals.{IsTypeFault, IsInstanceFault, IsTooDeep}
 
 -- ---- the table of types
 
@@ -132,6 +132,13 @@ module _ (bs : List BlockTree) where
   abbrev pub IsUnmade : ℕ → BlockTree → Unmade → Type 0
   IsUnmade d b (u.Fault f) = IsTypeFault bs b f
   IsUnmade d b (u.TooDeep x) = (tree_of x ≡ b) × IsNamed b × IsDeeper d b
+
+  -- why a type is refused, and an instance: where composites may nest as deep as they may at most
+  abbrev pub IsRefusedType : BlockTree → TypeFault → Type 0
+  IsRefusedType b f = IsTypeFault bs b f ⊎ IsTooDeep bs b f
+
+  abbrev pub IsRefusedInstance : InstanceTree → TypeFault → Type 0
+  IsRefusedInstance i f = IsInstanceFault bs i f ⊎ ((c : BlockTree) × IsOf bs i c × IsTooDeep bs c f)
 
   -- the type of an instance is on a path, at the type's name
   pub record IsRing (path : List BlockTree) (i : InstanceTree) (f : TypeFault) : Type 0 where

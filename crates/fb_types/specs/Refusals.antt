@@ -1,12 +1,12 @@
 -- What is at fault in declared types, resources, devices and whole sources, and where.
 use Rattle.std.specs.Prelude.{ℕ, suc, ◌+◌, ◌<◌, ◌≤◌, ◌≡◌, true, false, List, [], ◌∷◌, ◌++◌, map, None}
-use Rattle.std.specs.List.{Contains}
+use Rattle.std.specs.List.{AllByRecursion, Contains}
 use Rattle.fb_model.specs.Names.{is_in}
 use Rattle.fb_model.specs.Declarations.{ChartTree, InstanceTree, NetworkTree, Chart, Network, BlockTree, ResourceTree, DeviceTree, SourceTree}
 use Rattle.fb_model.specs.System.{Face, Body, Instances, Parameter}
 use Rattle.fb_model.specs.Typing.{service_names, most_instances}
 use Rattle.fb_model.specs.BlockTyping.{Declared, IsFace}
-use Rattle.fb_model.specs.NetworkTyping.{type_named, most_deep, most_resources, most_devices, IsMade, IsInstance, AreInstances, instance_count, inner_count, no_face}
+use Rattle.fb_model.specs.NetworkTyping.{type_named, most_deep, most_resources, most_devices, IsMade, IsInstance, AreInstances, instance_count, inner_count, no_face, IsProper}
 use Rattle.fb_networks.specs.fb_blocks.declared.fault.TypeFault.{TypeFault}
 use Rattle.fb_networks.specs.fb_blocks.declared.fault.TypeFault.TheVariants.{OutOfMemory, UnknownName, DuplicateName, RecursiveComposite, Limit}
 use Rattle.fb_networks.specs.fb_blocks.Refusals.{IsRepetition, IsExcess, IsFaceFault, IsBasicFault}
@@ -29,8 +29,6 @@ module _ (bs : List BlockTree) where
           → b.body ≡ Network n → IsFace b ins outs g → AreInstances bs d n.instances (placed_in ps) → IsNetworkFault g n ps f → IsTypeFault b f
       -- it is inside itself, at the name of the type by which a ring closes
       ring : {b c : BlockTree} {f : TypeFault} {i : InstanceTree} → Uses bs b i c → Leads bs c b → f ≡ RecursiveComposite i.type.at → IsTypeFault b f
-      -- composites nest too deep in it, none of them inside itself, at its name
-      too_deep : {b : BlockTree} {f : TypeFault} {n : ℕ} → most_deep < n → Nests bs b n → LeadsToNoRing bs b → f ≡ Limit b.name.at → IsTypeFault b f
 
     -- what is at fault in an instance
     pub data IsInstanceFault : InstanceTree → TypeFault → Type 0 where
@@ -41,11 +39,29 @@ module _ (bs : List BlockTree) where
       faulty_plain : {i : InstanceTree} {f : TypeFault} {c : BlockTree} {d : ℕ} {body : Body} → IsOf bs i c → IsMade bs d c body → IsPlainFault i body f → IsInstanceFault i f
       faulty_service : {i : InstanceTree} {f : TypeFault} → IsServedFault i f → IsInstanceFault i f
 
+  -- composites nest too deep in a type, none of them inside itself, at its name
+  pub record IsTooDeep (b : BlockTree) (f : TypeFault) : Type 0 where
+    pub n : ℕ
+    pub more : most_deep < n
+    pub nests : Nests bs b n
+    pub no_ring : LeadsToNoRing bs b
+    pub fault_is : f ≡ Limit b.name.at
+
   -- what is at fault in a type of a source
   pub data IsBlockFault (b : BlockTree) (f : TypeFault) : Type 0 where
     -- it has the name of a service, at it
     named_as_service : is_in b.name.text service_names ≡ true → f ≡ DuplicateName b.name.at → IsBlockFault b f
     faulty_block : IsTypeFault b f → IsBlockFault b f
+    too_deep : IsTooDeep b f → IsBlockFault b f
+
+  -- what is at fault in the first of these types that is not well typed
+  pub record IsFirstFault (blocks : List BlockTree) (f : TypeFault) : Type 0 where
+    pub before : List BlockTree
+    pub after : List BlockTree
+    pub one : BlockTree
+    pub parts : blocks ≡ before ++ one ∷ after
+    pub proper : AllByRecursion (IsProper bs) before
+    pub fault : IsBlockFault one f
 
   -- with this one a resource has more instances than as many, those inside composites counted, and without it not yet, at its name
   pub record IsCrowd (most : ℕ) (is : List InstanceTree) (f : TypeFault) : Type 0 where
@@ -67,6 +83,8 @@ module _ (bs : List BlockTree) where
   pub data IsResourceFault (r : ResourceTree) (f : TypeFault) : Type 0 where
     no_memory_for_resource : f ≡ OutOfMemory → IsResourceFault r f
     faulty_instance : {i : InstanceTree} → Contains r.network.instances i → IsInstanceFault i f → IsResourceFault r f
+    -- composites nest too deep in an instance's type
+    too_deep_inside : {i : InstanceTree} {c : BlockTree} → Contains r.network.instances i → IsOf bs i c → IsTooDeep c f → IsResourceFault r f
     too_many : IsCrowd most_instances r.network.instances f → IsResourceFault r f
     faulty_wires : {d : ℕ} {ps : List Placed} → AreInstances bs d r.network.instances (placed_in ps) → IsNetworkFault no_face r.network ps f → IsResourceFault r f
 
@@ -82,8 +100,9 @@ module _ (bs : List BlockTree) where
 pub data IsSourceFault (library : List BlockTree) (source : SourceTree) (f : TypeFault) : Type 0 where
   no_memory_for_source : f ≡ OutOfMemory → IsSourceFault library source f
   repeated_type : IsRepetition [] (map (λ b. b.name) source.blocks) f → IsSourceFault library source f
-  faulty_declaration : {b : BlockTree} → Contains source.blocks b → IsBlockFault (source.blocks ++ library) b f → IsSourceFault library source f
+  faulty_declaration : IsFirstFault (source.blocks ++ library) source.blocks f → IsSourceFault library source f
   repeated_device : IsRepetition [] (map (λ d. d.name) source.system.devices) f → IsSourceFault library source f
   excess_device : IsExcess most_devices (map (λ d. d.name) source.system.devices) f → IsSourceFault library source f
-  faulty_device : {d : DeviceTree} → Contains source.system.devices d → IsDeviceFault (source.blocks ++ library) d f → IsSourceFault library source f
+  -- in a device, where all declared types are well typed: composites nest too deep in none of them
+  faulty_device : {d : DeviceTree} → AllByRecursion (IsProper (source.blocks ++ library)) source.blocks → Contains source.system.devices d → IsDeviceFault (source.blocks ++ library) d f → IsSourceFault library source f
   faulty_channels : {us : List Used} → DevicesProvide (source.blocks ++ library) source.system.devices us → IsChannelFault us f → IsSourceFault library source f

@@ -8,8 +8,8 @@ ghost use Rattle.fb_networks.specs.fb_text.Views as trees_of;
 ghost use Rattle.fb_networks.specs.fb_blocks.Views.{face_of};
 ghost use Rattle.fb_types.specs.Views.{resource_of, resource_places, places_in, resource_uses, device_uses};
 ghost use Rattle.fb_types.specs.Nesting.{AllProvide, ResourcesProvide};
-ghost use Rattle.fb_types.specs.Refusals.{IsTypeFault, IsInstanceFault, IsResourceFault};
-ghost use Rattle.fb_types.specs.Made.{IsTable, IsMemo, IsNamed, IsDeeper, IsUnmade, IsHalted, AreMade};
+ghost use Rattle.fb_types.specs.Refusals.{IsResourceFault};
+ghost use Rattle.fb_types.specs.Made.{IsTable, IsMemo, IsNamed, IsDeeper, IsUnmade, IsHalted, IsRefusedType, IsRefusedInstance, AreMade};
 
 use crate::count::few;
 use crate::made::{Memo, Unmade};
@@ -28,7 +28,7 @@ pub const DEEP: usize = 16;
 
 // The refusal of a type in which too many composites nest, or one that is inside itself.
 fn too_deep<'a>(alloc: Global, types: &Types<'a>, block: &'a BlockTree) -> TypeFault
-    ensures { (bs : List decl.BlockTree) → IsTable bs types.now → IsNamed bs (trees_of.block_of block.now) → IsDeeper bs DEEP (trees_of.block_of block.now) → IsTypeFault bs (trees_of.block_of block.now) result }
+    ensures { (bs : List decl.BlockTree) → IsTable bs types.now → IsNamed bs (trees_of.block_of block.now) → IsDeeper bs DEEP (trees_of.block_of block.now) → IsRefusedType bs (trees_of.block_of block.now) result }
 {
     match ring(alloc, types, block) {
         Ok(Some(at)) => TypeFault::RecursiveComposite(at),
@@ -39,8 +39,8 @@ fn too_deep<'a>(alloc: Global, types: &Types<'a>, block: &'a BlockTree) -> TypeF
 
 /// The refusal, where this many composites may nest.
 pub(crate) fn refusal<'a>(alloc: Global, types: &Types<'a>, unmade: Unmade<'a>) -> TypeFault
-    ensures of_type { (bs : List decl.BlockTree) (b : decl.BlockTree) → IsTable bs types.now → IsUnmade bs DEEP b unmade.entry → IsTypeFault bs b result }
-    ensures of_instance { (bs : List decl.BlockTree) (i : decl.InstanceTree) → IsTable bs types.now → IsHalted bs [] DEEP i unmade.entry → IsInstanceFault bs i result }
+    ensures of_type { (bs : List decl.BlockTree) (b : decl.BlockTree) → IsTable bs types.now → IsUnmade bs DEEP b unmade.entry → IsRefusedType bs b result }
+    ensures of_instance { (bs : List decl.BlockTree) (i : decl.InstanceTree) → IsTable bs types.now → IsHalted bs [] DEEP i unmade.entry → IsRefusedInstance bs i result }
 {
     match unmade {
         Unmade::Fault(fault) => fault,
@@ -69,7 +69,7 @@ fn instances<'a>(
 ) -> Result<Vec<Instance>, TypeFault>
     ensures made { (bs : List decl.BlockTree) → IsTable bs types.now → IsMemo bs memo.old → IfOk result (λ v. AreMade bs (map trees_of.instance_of sources.now) v.items) }
     ensures kept { (bs : List decl.BlockTree) → IsTable bs types.now → IsMemo bs memo.old → OnOk result (IsMemo bs memo.new) }
-    ensures refused { (bs : List decl.BlockTree) → IsTable bs types.now → IsMemo bs memo.old → IfErr result (λ f. (i : decl.InstanceTree) × Contains (map trees_of.instance_of sources.now) i × IsInstanceFault bs i f) }
+    ensures refused { (bs : List decl.BlockTree) → IsTable bs types.now → IsMemo bs memo.old → IfErr result (λ f. (i : decl.InstanceTree) × Contains (map trees_of.instance_of sources.now) i × IsRefusedInstance bs i f) }
 {
     match parts(alloc, types, memo, &[], DEEP, sources) {
         Ok((instances, _)) => Ok(instances),

@@ -1,14 +1,14 @@
 //! Whole sources.
 
 ghost use Rattle.std.specs.Prelude.{◌≡◌, ◌++◌, [], List, map, true, OnOk, IfOk, IfErr};
-ghost use Rattle.std.specs.List.{AllByRecursion, Contains};
+ghost use Rattle.std.specs.List.{AllByRecursion};
 ghost use Rattle.fb_model.specs.Declarations as decl;
 ghost use Rattle.fb_model.specs.System as book;
 ghost use Rattle.fb_model.specs.NetworkTyping.{IsProper, ElaboratesWith};
 ghost use Rattle.fb_networks.specs.fb_text.Views as trees_of;
 ghost use Rattle.fb_networks.specs.fb_blocks.Answers.{Finds};
 ghost use Rattle.fb_types.specs.Views.{system_of, system_places, all_places};
-ghost use Rattle.fb_types.specs.Refusals.{IsBlockFault, IsSourceFault};
+ghost use Rattle.fb_types.specs.Refusals.{IsBlockFault, IsFirstFault, IsSourceFault};
 ghost use Rattle.fb_types.specs.Made.{IsTable, IsMemo, IsNamed};
 
 use crate::device::devices;
@@ -55,7 +55,7 @@ fn all_declared<'a>(
 ) -> Result<(), TypeFault>
     ensures proper { (bs : List decl.BlockTree) → IsTable bs types.now → IsMemo bs memo.old → AllByRecursion (IsNamed bs) (map trees_of.block_of sources.now) → OnOk result (AllByRecursion (IsProper bs) (map trees_of.block_of sources.now)) }
     ensures kept { (bs : List decl.BlockTree) → IsTable bs types.now → IsMemo bs memo.old → AllByRecursion (IsNamed bs) (map trees_of.block_of sources.now) → OnOk result (IsMemo bs memo.new) }
-    ensures refused { (bs : List decl.BlockTree) → IsTable bs types.now → IsMemo bs memo.old → AllByRecursion (IsNamed bs) (map trees_of.block_of sources.now) → IfErr result (λ f. (b : decl.BlockTree) × Contains (map trees_of.block_of sources.now) b × IsBlockFault bs b f) }
+    ensures refused { (bs : List decl.BlockTree) → IsTable bs types.now → IsMemo bs memo.old → AllByRecursion (IsNamed bs) (map trees_of.block_of sources.now) → IfErr result (IsFirstFault bs (map trees_of.block_of sources.now)) }
 {
     for source in sources {
         declared(alloc, types, memo, source)?;
@@ -89,7 +89,7 @@ fn resolved(
 ///
 /// Refused with `DuplicateName` at the later name of a type, of a resource of one device and of a device, and at the name of a type that
 /// is a service's; with `RecursiveComposite` at the type's name of the instance by which a composite is inside itself; with `Limit` at
-/// the name of a type from which more than 16 composites nest, of the 17th device and of the 17th resource of a device, and of the
+/// the name of the first type from which more than 16 composites nest, of the 17th device and of the 17th resource of a device, and of the
 /// instance by which a resource has more than 1,024 of them; with `UnknownName` at the name of an instance's type that is none; as basic
 /// blocks, interfaces, instances and networks are; with `BadService` at the instance of a number of an INPUT or an OUTPUT that its device
 /// has already; and with `ChannelShape` at the later instance of two SUBSCRIBEs of one channel in a device, of two ends of a channel

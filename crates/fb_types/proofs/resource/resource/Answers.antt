@@ -7,8 +7,9 @@ use Rattle.fb_networks.specs.fb_text.Views as trees_of
 use Rattle.fb_networks.specs.fb_blocks.Views.{face_of}
 use Rattle.fb_networks.specs.Views.{placed_of, instances_of}
 use Rattle.fb_networks.specs.Refusals.{IsNetworkFault}
+use Rattle.fb_networks.proofs.of_fb_blocks.Refused.{either_of}
 use Rattle.fb_types.specs.Counts.{IsCrowded}
-use Rattle.fb_types.specs.Refusals.{faulty_instance, too_many, faulty_wires}
+use Rattle.fb_types.specs.Refusals.{faulty_instance, too_deep_inside, too_many, faulty_wires}
 use Rattle.fb_types.specs.Made.{AreMade}
 use Rattle.fb_types.proofs.Systems.{crowd, resource_typed, named_resource, resource_provides}
 use Rattle.fb_types.proofs.resource.resource.Goals as goal
@@ -17,7 +18,8 @@ pub returns-in_err-instances-clause-refused : goal.returns-in_err-instances-clau
 returns-in_err-instances-clause-refused c = λ bs table memo.
     let p = err_from_is_err_and c.from_residual.result c.from_residual.ensures.1 in
     let h = c.in_err-instances.ensures.refused bs table memo in
-    rw (p.1, p.2) (faulty_instance (subst (λ l. Contains (map trees_of.instance_of l) h.0) c.deref.ensures.value h.1) h.2)
+    let among = subst (λ l. Contains (map trees_of.instance_of l) h.0) c.deref.ensures.value h.1 in
+    rw (p.1, p.2) (either_of (λ k. faulty_instance among k) (λ k. too_deep_inside among k.1 k.2) h.2)
 
 pub returns-in_err-few-clause-refused : goal.returns-in_err-few-clause-refused
 returns-in_err-few-clause-refused c = λ bs table memo.

@@ -1,4 +1,4 @@
-use Rattle.std.proofs.Common.{refl, subst}
+use Rattle.std.proofs.Common.{inl, inr, refl, subst}
 use Rattle.fb_networks.specs.fb_text.Views as trees_of
 use Rattle.fb_types.specs.Refusals.{no_memory_for_type}
 use Rattle.fb_types.specs.Rings.{IsSearched}
@@ -9,12 +9,12 @@ use Rattle.fb_types.proofs.resource.too_deep.Goals as goal
 pub returns-in-Ok-Some : goal.returns-in-Ok-Some
 returns-in-Ok-Some c = λ bs table named deeper.
     let b = trees_of.block_of c.args.block.now in
-    ring_fault bs b c.in-Ok-Some.at (subst (IsSearched bs b) c.in-Ok-Some.field-0-is (c.in-Ok-Some.ensures bs table named))
+    inl (ring_fault bs b c.in-Ok-Some.at (subst (IsSearched bs b) c.in-Ok-Some.field-0-is (c.in-Ok-Some.ensures bs table named)))
 
 pub returns-in-Ok-None : goal.returns-in-Ok-None
 returns-in-Ok-None c = λ bs table named deeper.
     let b = trees_of.block_of c.args.block.now in
-    limit_of_type bs b b.name.at refl deeper (subst (IsSearched bs b) c.in-Ok-None.field-0-is (c.in-Ok-None.ensures bs table named))
+    inr (limit_of_type bs b b.name.at refl deeper (subst (IsSearched bs b) c.in-Ok-None.field-0-is (c.in-Ok-None.ensures bs table named)))
 
 pub returns-in-Err : goal.returns-in-Err
-returns-in-Err c = λ bs table named deeper. no_memory_for_type refl
+returns-in-Err c = λ bs table named deeper. inl (no_memory_for_type refl)

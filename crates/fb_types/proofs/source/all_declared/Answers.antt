@@ -8,6 +8,7 @@ use Rattle.fb_networks.proofs.of_fb_blocks.Lists.{mapped_more}
 use Rattle.fb_types.specs.Made.{IsNamed}
 use Rattle.fb_types.proofs.Nested.{among_at}
 use Rattle.fb_types.proofs.Making.{all_member, all_later}
+use Rattle.fb_types.proofs.Systems.{first_fault}
 use Rattle.fb_types.proofs.source.all_declared.Goals as goal
 
 pub loop-source-init : goal.loop-source-init
@@ -19,7 +20,9 @@ returns-in_err-declared-clause-refused c = λ bs table memo named.
     let xs = c.args.sources.now in
     let x = trees_of.block_of c.source-item.result in
     let among = among_at trees_of.block_of xs c.loop-source.source-index c.source-item.result c.loop-source-test.true c.source-item.is in
-    rw (p.1, p.2) (x, among, c.in_err-declared.ensures.refused bs table (c.loop-source.invariant.kept bs table memo named) (all_member (IsNamed bs) (map trees_of.block_of xs) x named among))
+    let f = c.in_err-declared.field-0.0 in
+    let here = c.in_err-declared.ensures.refused bs table (c.loop-source.invariant.kept bs table memo named) (all_member (IsNamed bs) (map trees_of.block_of xs) x named among) in
+    rw (p.1, p.2) (first_fault bs xs c.loop-source.source-index c.source-item.result f c.loop-source-test.true c.source-item.is (c.loop-source.invariant.proper bs table memo named) here)
 
 pub loop-source-preserved : goal.loop-source-preserved
 loop-source-preserved c =

@@ -8,7 +8,7 @@ use Rattle.fb_networks.specs.fb_text.Views as trees_of
 use Rattle.fb_networks.specs.fb_blocks.Refusals.{IsRepetition, IsExcess}
 use Rattle.fb_types.specs.Ends.{IsChannelFault}
 use Rattle.fb_types.specs.Nesting.{DevicesProvide}
-use Rattle.fb_types.specs.Refusals.{repeated_type, faulty_declaration, repeated_device, excess_device, faulty_device, faulty_channels}
+use Rattle.fb_types.specs.Refusals.{IsFirstFault, repeated_type, faulty_declaration, repeated_device, excess_device, faulty_device, faulty_channels}
 use Rattle.fb_types.specs.Made.{IsTable, IsMemo, IsNamed}
 use Rattle.fb_types.specs.Views.{device_of, system_places, all_places, system_uses}
 use Rattle.fb_types.proofs.Systems.{block_words, block_names, device_words, device_names, nothing_made}
@@ -31,7 +31,8 @@ returns-in_err-all_declared-clause-refused c =
     let distinct : AreDistinct (map (λ b. b.name.text) (map trees_of.block_of xs)) = block_names AreDistinct xs c.deref.result.now c.deref.ensures.value c.in_ok-table.ensures.distinct in
     let named = subst (λ l. AllByRecursion (IsNamed bs) (map trees_of.block_of l)) (sym c.deref-3.ensures.value) (all_named (map trees_of.block_of xs) (map trees_of.block_of c.args.library.now) distinct) in
     let h = c.in_err-all_declared.ensures.refused bs table memo named in
-    rw (p.1, p.2) (faulty_declaration (subst (λ l. Contains (map trees_of.block_of l) h.0) c.deref-3.ensures.value h.1) h.2)
+    let f = c.in_err-all_declared.field-0.0 in
+    rw (p.1, p.2) (faulty_declaration (subst (λ l. IsFirstFault bs (map trees_of.block_of l) f) c.deref-3.ensures.value h))
 
 pub returns-in_err-at_most-clause-refused : goal.returns-in_err-at_most-clause-refused
 returns-in_err-at_most-clause-refused c =
@@ -56,7 +57,8 @@ returns-in_err-devices-clause-refused c =
     let named = subst (λ l. AllByRecursion (IsNamed bs) (map trees_of.block_of l)) (sym c.deref-3.ensures.value) (all_named (map trees_of.block_of xs) (map trees_of.block_of c.args.library.now) distinct) in
     let kept = c.in_ok-all_declared.ensures.kept bs table memo named in
     let h = c.in_err-devices.ensures.refused bs table kept in
-    rw (p.1, p.2) (faulty_device (subst (λ l. Contains (map trees_of.device_of l) h.0) c.deref-6.ensures.value h.1) h.2)
+    let proper = subst (λ l. AllByRecursion (IsProper bs) (map trees_of.block_of l)) c.deref-3.ensures.value (c.in_ok-all_declared.ensures.proper bs table memo named) in
+    rw (p.1, p.2) (faulty_device proper (subst (λ l. Contains (map trees_of.device_of l) h.0) c.deref-6.ensures.value h.1) h.2)
 
 pub returns-in_err-channels_alike-clause-refused : goal.returns-in_err-channels_alike-clause-refused
 returns-in_err-channels_alike-clause-refused c =
