@@ -29,7 +29,7 @@ use Rattle.fb_wire.specs.declared.message.Typed.{Typed}
 use Rattle.fb_wire.specs.Views.{purpose_of, stamped_of, stamp_of, typed_of}
 use Rattle.fb_state.specs.fb_chart.declared.table.Block.{Block}
 use Rattle.fb_state.specs.fb_chart.Views.{kind_of}
-use Rattle.fb_state.specs.fb_serve.Turns.{condition_of}
+use Rattle.fb_state.specs.fb_serve.Responses.{condition_of}
 use Rattle.fb_state.specs.fb_serve.declared.standing.Stamps.TheVariants as kept
 use Rattle.fb_state.specs.fb_serve.declared.standing.Standing.{Standing}
 use Rattle.fb_state.specs.fb_serve.declared.standing.Standing.TheVariants as s

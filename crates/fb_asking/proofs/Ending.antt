@@ -5,7 +5,7 @@ use Rattle.fb_model.specs.Names.{Name}
 use Rattle.fb_model.specs.TypedText.{Command, set, set_part, choose, match_on, count, done, then_do, Choices, no_choice, choice, Cases, no_case, a_case}
 use Rattle.fb_model.specs.Language.{Algorithm}
 use Rattle.fb_model.specs.Spans.{Span, span, within, joined}
-use Rattle.fb_model.specs.Clear.{Spans, Found, Clear, Leaves, Traps, changed, range_of, narrowed, onward, costing, with_range, either, assigned, are_kept, reset, most_turns, taken, left_with, looped, examine_one, examine, examine_choices, examine_cases}
+use Rattle.fb_model.specs.Clear.{Spans, Found, Clear, Leaves, Traps, changed, range_of, narrowed, onward, costing, with_range, either, assigned, are_kept, reset, most_iterations, taken, left_with, looped, examine_one, examine, examine_choices, examine_cases}
 use Rattle.fb_asking.specs.Asking.{Asked, point, met, range_in, asked_loop, ask_one, ask, ask_choices, ask_cases}
 use Rattle.fb_asking.proofs.Ranging.{ranged}
 
@@ -76,10 +76,10 @@ mutual
   ends_one rows (count x kind e g k plain body) a =
       let r = range_in e a.spans in
       let s = range_in g a.spans in
-      let end = (asked_loop (most_turns r s k) (assigned body) rows (ask rows body) x r s k a).spans in
-      ranged (λ f. Ends f end) e a.spans (λ p. with_range (range_of g a.spans) (λ q. looped (most_turns p q k) (assigned body) rows (examine rows body) x p q k a.spans)) tt
-      (ranged (λ f. Ends f end) g a.spans (λ q. looped (most_turns r q k) (assigned body) rows (examine rows body) x r q k a.spans) tt
-      (looped_ends (most_turns r s k) (assigned body) rows (examine rows body) (ask rows body) x r s k a))
+      let end = (asked_loop (most_iterations r s k) (assigned body) rows (ask rows body) x r s k a).spans in
+      ranged (λ f. Ends f end) e a.spans (λ p. with_range (range_of g a.spans) (λ q. looped (most_iterations p q k) (assigned body) rows (examine rows body) x p q k a.spans)) tt
+      (ranged (λ f. Ends f end) g a.spans (λ q. looped (most_iterations r q k) (assigned body) rows (examine rows body) x r q k a.spans) tt
+      (looped_ends (most_iterations r s k) (assigned body) rows (examine rows body) (ask rows body) x r s k a))
 
   pub ends : (rows : Spans) (c : Algorithm) (a : Asked) → Ends (examine rows c a.spans) (ask rows c a).spans
   ends rows done a = refl

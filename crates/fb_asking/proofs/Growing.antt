@@ -6,7 +6,7 @@ use Rattle.fb_model.specs.Names.{Name}
 use Rattle.fb_model.specs.TypedText.{Command, set, set_part, choose, match_on, count, done, then_do, Choices, no_choice, choice, Cases, no_case, a_case}
 use Rattle.fb_model.specs.Language.{Algorithm}
 use Rattle.fb_model.specs.Spans.{Span, within, joined}
-use Rattle.fb_model.specs.Clear.{Spans, changed, narrowed, assigned, reset, most_turns, taken}
+use Rattle.fb_model.specs.Clear.{Spans, changed, narrowed, assigned, reset, most_iterations, taken}
 use Rattle.fb_asking.specs.Asking.{Asked, point, range_in, asking, asking_all, asked_loop, ask_one, ask, ask_choices, ask_cases, grown}
 use Rattle.fb_asking.proofs.Ranging.{within_same, within_on, within_joined}
 
@@ -41,7 +41,7 @@ mutual
   one_grows rows (choose choices other) a = choices_grow rows choices (ask rows other) (λ b. all_grows rows other b) a
   one_grows rows (match_on e cases other) a = cases_grow rows cases (ask rows other) (λ b. all_grows rows other b) a
   one_grows rows (count x kind e g k plain body) a =
-      let r = range_in e a.spans in let s = range_in g a.spans in loop_grows (most_turns r s k) (assigned body) rows (ask rows body) x r s k (λ b. all_grows rows body b) a
+      let r = range_in e a.spans in let s = range_in g a.spans in loop_grows (most_iterations r s k) (assigned body) rows (ask rows body) x r s k (λ b. all_grows rows body b) a
 
   pub all_grows : (rows : Spans) (c : Algorithm) (a : Asked) → Grows a.rows (ask rows c a).rows
   all_grows rows done a = λ y. within_same (a.rows y)

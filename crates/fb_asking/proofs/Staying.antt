@@ -5,7 +5,7 @@ use Rattle.fb_model.specs.Names.{Name}
 use Rattle.fb_model.specs.TypedText.{Command, set, set_part, choose, match_on, count, done, then_do, Choices, no_choice, choice, Cases, no_case, a_case}
 use Rattle.fb_model.specs.Language.{Algorithm}
 use Rattle.fb_model.specs.Spans.{Span, span, within, joined}
-use Rattle.fb_model.specs.Clear.{Spans, Found, Clear, Leaves, Traps, changed, range_of, narrowed, onward, costing, with_range, either, assigned, are_kept, reset, most_turns, taken, left_with, looped, kept, examine_one, examine, examine_choices, examine_cases, examined}
+use Rattle.fb_model.specs.Clear.{Spans, Found, Clear, Leaves, Traps, changed, range_of, narrowed, onward, costing, with_range, either, assigned, are_kept, reset, most_iterations, taken, left_with, looped, kept, examine_one, examine, examine_choices, examine_cases, examined}
 use Rattle.std.proofs.lemmas.Slice.Eq.{bytes_eq-Decides}
 use Rattle.fb_asking.specs.Asking.{Asked, point, range_in, asking, asking_all, asked_loop, ask_one, ask, ask_choices, ask_cases, grown}
 use Rattle.fb_asking.proofs.Ranging.{ranged, within_on, within_other}
@@ -115,9 +115,9 @@ mutual
   one_stays rows (count x kind e g k plain body) a h =
       let r = range_in e a.spans in
       let s = range_in g a.spans in
-      ranged Stays e a.spans (λ p. with_range (range_of g a.spans) (λ q. looped (most_turns p q k) (assigned body) rows (examine rows body) x p q k a.spans)) tt
-      (ranged Stays g a.spans (λ q. looped (most_turns r q k) (assigned body) rows (examine rows body) x r q k a.spans) tt
-      (loop_stays (most_turns r s k) (assigned body) rows (examine rows body) (ask rows body) x r s k (λ b. all_grows rows body b) (λ b. ends rows body b) (λ b. all_stays rows body b) a h))
+      ranged Stays e a.spans (λ p. with_range (range_of g a.spans) (λ q. looped (most_iterations p q k) (assigned body) rows (examine rows body) x p q k a.spans)) tt
+      (ranged Stays g a.spans (λ q. looped (most_iterations r q k) (assigned body) rows (examine rows body) x r q k a.spans) tt
+      (loop_stays (most_iterations r s k) (assigned body) rows (examine rows body) (ask rows body) x r s k (λ b. all_grows rows body b) (λ b. ends rows body b) (λ b. all_stays rows body b) a h))
 
   all_stays : (rows : Spans) (c : Algorithm) (a : Asked) → Grows (ask rows c a).rows rows → Stays (examine rows c a.spans)
   all_stays rows done a h = tt

@@ -7,7 +7,7 @@ use Rattle.fb_model.specs.Names.{Name}
 use Rattle.fb_model.specs.TypedText.{Term, constant, read, part, single, double, Command, set, set_part, choose, match_on, count, done, then_do, Choices, no_choice, choice, Cases, no_case, a_case}
 use Rattle.fb_model.specs.Language.{Algorithm}
 use Rattle.fb_model.specs.Spans.{Span, span, whole, joined, range_one, range_two}
-use Rattle.fb_model.specs.Clear.{Spans, changed, narrowed, assigned, reset, most_turns, taken, left_with}
+use Rattle.fb_model.specs.Clear.{Spans, changed, narrowed, assigned, reset, most_iterations, taken, left_with}
 
 -- the range of an expression whatever its divisors and indices are: a division at fault counts as its whole type, an element as its array's row
 abbrev pub range_in : Term → Spans → Span
@@ -38,8 +38,8 @@ asking_all (x ∷ xs) spans rows = asking_all xs spans (asking x (spans x) rows)
 abbrev pub met : Asked → Asked → Asked
 met way others = point (λ x. joined (way.spans x) (others.spans x)) others.rows
 
--- a FOR of n turns at most, whose body asks by f and assigns these: they have their rows before each turn and after all of them, so that the
--- rows are asked to hold what they have before the first turn, and at a turn's end; without turns nothing is asked
+-- a FOR of n iterations at most, whose body asks by f and assigns these: they have their rows before each iteration and after all of them, so that the
+-- rows are asked to hold what they have before the first iteration, and at an iteration's end; without iterations nothing is asked
 abbrev pub asked_loop : ℕ → List Name → Spans → (Asked → Asked) → Name → Span → Span → ℤ → Asked → Asked
 asked_loop zero xs rows f x r s k a = a
 asked_loop (suc n) xs rows f x r s k a =
@@ -55,7 +55,7 @@ abbrev mutual
   ask_one rows (choose choices other) a = ask_choices rows choices (ask rows other) a
   ask_one rows (match_on e cases other) a = ask_cases rows cases (ask rows other) a
   ask_one rows (count x kind e g k plain body) a =
-      let r = range_in e a.spans in let s = range_in g a.spans in asked_loop (most_turns r s k) (assigned body) rows (ask rows body) x r s k a
+      let r = range_in e a.spans in let s = range_in g a.spans in asked_loop (most_iterations r s k) (assigned body) rows (ask rows body) x r s k a
 
   pub ask : Spans → Algorithm → Asked → Asked
   ask rows done a = a

@@ -10,7 +10,7 @@ use Rattle.fb_model.specs.Names.{Name}
 use Rattle.fb_model.specs.Trees.{StateTree}
 use Rattle.fb_model.specs.Declarations as decl
 use Rattle.fb_model.specs.System as book
-use Rattle.fb_model.specs.TextTyping.{Entry}
+use Rattle.fb_model.specs.TextTyping.{Symbol}
 use Rattle.fb_model.specs.Typing.{AreDistinct, texts, state_texts, typed_state}
 use Rattle.fb_model.specs.BlockTyping.{Declared, AreDeclared, AreTransitions, AreProcedures, no_procedure, a_procedure, IsActionTyped, IsFace, IsBasic, scope, face_names, words_in, names_in, event_texts, algorithm_texts, typed_event, variable_of, face_of as book_face}
 use Rattle.st_types.specs.declared.whole.Algo.{Algo}
@@ -47,12 +47,12 @@ event_table_names m es h = sym (map_map (λ e. e.name) (λ p. event_of (string_b
 pub state_table_names : {S : Type 0} (m : IndexMap (String Global) (Vec Action Global) S) (ss : List StateTree) → states_of m ≡ map typed_state ss → names_in_map m ≡ state_texts ss
 state_table_names m ss h = sym (map_map (λ s. s.name) (λ p. record { name = string_bytes p.0; actions = map action_of p.1.items }) m.entries) ∙ ap (map (λ s. s.name)) h ∙ map_map (λ s. s.name) typed_state ss
 
-procedure_names : (env : List Entry) (fs : List decl.AlgorithmTree) (ps : List book.Procedure) → AreProcedures env fs ps → map (λ p. p.name) ps ≡ algorithm_texts fs
+procedure_names : (env : List Symbol) (fs : List decl.AlgorithmTree) (ps : List book.Procedure) → AreProcedures env fs ps → map (λ p. p.name) ps ≡ algorithm_texts fs
 procedure_names env [] [] no_procedure = refl
 procedure_names env [] (p ∷ ps) x = elim x [ ]
 procedure_names env (f ∷ fs) ps (a_procedure {p = p} {ps = qs} n x r) = ap (λ i. i ∷ map (λ p. p.name) qs) n ∙ ap (λ i. f.name.text ∷ i) (procedure_names env fs qs r)
 
-pub procedure_table_names : {S : Type 0} (m : IndexMap (String Global) Algo S) (env : List Entry) (fs : List decl.AlgorithmTree) → AreProcedures env fs (procedures_of m) → names_in_map m ≡ algorithm_texts fs
+pub procedure_table_names : {S : Type 0} (m : IndexMap (String Global) Algo S) (env : List Symbol) (fs : List decl.AlgorithmTree) → AreProcedures env fs (procedures_of m) → names_in_map m ≡ algorithm_texts fs
 procedure_table_names m env fs h = sym (map_map (λ p. p.name) (λ p. record { name = string_bytes p.0; algorithm = commands_of p.1.statements.items }) m.entries) ∙ procedure_names env fs (procedures_of m) h
 
 -- ---- what is well typed is found, unless memory ran out
@@ -80,7 +80,7 @@ output_names b x h = event_table_names x.event_outputs b.event_outputs (ap (λ g
 abbrev pub AreActions : List Name → List Name → List StateTree → Type 0
 AreActions algorithms outputs ss = AllByRecursion (λ s. AllByRecursion (IsActionTyped algorithms outputs) s.actions) ss
 
-pub a_chart : (env : List Entry) (inputs outputs algorithms states : List Name) (c : decl.ChartTree) (ss : List book.State) (ts : List book.Transition) (ps : List book.Procedure)
+pub a_chart : (env : List Symbol) (inputs outputs algorithms states : List Name) (c : decl.ChartTree) (ss : List book.State) (ts : List book.Transition) (ps : List book.Procedure)
     → algorithms ≡ algorithm_texts c.algorithms → states ≡ state_texts c.states → AreActions algorithms outputs c.states → ss ≡ map typed_state c.states → AreTransitions env states inputs c.transitions ts → AreProcedures env c.algorithms ps → IsChart env inputs outputs c ss ts ps
 a_chart env inputs outputs algorithms states c ss ts ps a s actions are transitions procedures =
     record {
@@ -91,11 +91,11 @@ a_chart env inputs outputs algorithms states c ss ts ps a s actions are transiti
     }
 
 -- a chart of a block, by the names of the block's events
-pub chart_among : (env scope : List Entry) (inputs outputs ins outs : List Name) (c : decl.ChartTree) (ss : List book.State) (ts : List book.Transition) (ps : List book.Procedure)
+pub chart_among : (env scope : List Symbol) (inputs outputs ins outs : List Name) (c : decl.ChartTree) (ss : List book.State) (ts : List book.Transition) (ps : List book.Procedure)
     → env ≡ scope → inputs ≡ ins → outputs ≡ outs → IsChart env inputs outputs c ss ts ps → IsChart scope ins outs c ss ts ps
 chart_among env scope inputs outputs ins outs c ss ts ps e i o h = subst (λ x. IsChart x ins outs c ss ts ps) e (subst (λ x. IsChart env x outs c ss ts ps) i (subst (λ x. IsChart env inputs x c ss ts ps) o h))
 
-pub fault_among : (env : List Entry) (inputs outputs ins outs : List Name) (c : decl.ChartTree) (f : TypeFault) → inputs ≡ ins → outputs ≡ outs → IsChartFault env inputs outputs c f → IsChartFault env ins outs c f
+pub fault_among : (env : List Symbol) (inputs outputs ins outs : List Name) (c : decl.ChartTree) (f : TypeFault) → inputs ≡ ins → outputs ≡ outs → IsChartFault env inputs outputs c f → IsChartFault env ins outs c f
 fault_among env inputs outputs ins outs c f i o h = subst (λ x. IsChartFault env x outs c f) i (subst (λ x. IsChartFault env inputs x c f) o h)
 
 -- ---- a block by its interface, its internal variables and its chart
@@ -124,7 +124,7 @@ basic_typed b c k ins outs inner face internals are names state_names algorithm_
       procedures = chart.procedures;
     }
 
-pub typed_block : (b : decl.BlockTree) (c : decl.ChartTree) (x : Block) (env : List Entry)
+pub typed_block : (b : decl.BlockTree) (c : decl.ChartTree) (x : Block) (env : List Symbol)
     → IsFace b (declared_in x.face.inputs) (declared_in x.face.outputs) (face_of x.face) → AreDeclared c.internals (declared_in x.internals) → AreDistinct (texts (own_words b ++ words_in c.internals))
     → AreDistinct (state_texts c.states) → AreDistinct (algorithm_texts c.algorithms) → length c.states ≤ 256 → length c.transitions ≤ 1024 → length c.algorithms ≤ 256
     → env ≡ scope (declared_in x.face.inputs) (declared_in x.face.outputs) (declared_in x.internals)
@@ -145,15 +145,15 @@ typed_block b c x env face internals names state_names algorithm_names few_state
 
 -- ---- faults of a chart
 
-pub in_scope : (b : decl.BlockTree) (c : decl.ChartTree) (x : Face) (inner : List Declared) (env : List Entry) → IsFace b (declared_in x.inputs) (declared_in x.outputs) (face_of x) → AreDeclared c.internals inner → env ≡ scope (declared_in x.inputs) (declared_in x.outputs) inner → IsScope b c env
+pub in_scope : (b : decl.BlockTree) (c : decl.ChartTree) (x : Face) (inner : List Declared) (env : List Symbol) → IsFace b (declared_in x.inputs) (declared_in x.outputs) (face_of x) → AreDeclared c.internals inner → env ≡ scope (declared_in x.inputs) (declared_in x.outputs) inner → IsScope b c env
 in_scope b c x inner env face internals env_is = record { ins = declared_in x.inputs; outs = declared_in x.outputs; inner = inner; inputs = face.inputs; outputs = face.outputs; internals = internals; scope_is = env_is }
 
-chart_fault : (b : decl.BlockTree) (c : decl.ChartTree) (env : List Entry) (f : TypeFault) → IsScope b c env → IsChartFault env (event_texts b.event_inputs) (event_texts b.event_outputs) c f → IsBasicFault b c f
+chart_fault : (b : decl.BlockTree) (c : decl.ChartTree) (env : List Symbol) (f : TypeFault) → IsScope b c env → IsChartFault env (event_texts b.event_inputs) (event_texts b.event_outputs) c f → IsBasicFault b c f
 chart_fault b c env f seen (in_actions h) = either_of no_memory_for_block faulty_action h
 chart_fault b c env f seen (in_transitions h) = either_of no_memory_for_block (faulty_transition env seen) h
 chart_fault b c env f seen (in_algorithms h) = either_of no_memory_for_block (faulty_algorithm env seen) h
 
-pub in_chart : (b : decl.BlockTree) (c : decl.ChartTree) (x : Face) (inner : List Declared) (env : List Entry) (f : TypeFault) → IsFace b (declared_in x.inputs) (declared_in x.outputs) (face_of x) → AreDeclared c.internals inner → env ≡ scope (declared_in x.inputs) (declared_in x.outputs) inner
+pub in_chart : (b : decl.BlockTree) (c : decl.ChartTree) (x : Face) (inner : List Declared) (env : List Symbol) (f : TypeFault) → IsFace b (declared_in x.inputs) (declared_in x.outputs) (face_of x) → AreDeclared c.internals inner → env ≡ scope (declared_in x.inputs) (declared_in x.outputs) inner
     → IsChartFault env (names_in_map x.event_inputs) (names_in_map x.event_outputs) c f → IsBasicFault b c f
 in_chart b c x inner env f face internals env_is h =
     chart_fault b c env f (in_scope b c x inner env face internals env_is) (fault_among env (names_in_map x.event_inputs) (names_in_map x.event_outputs) (event_texts b.event_inputs) (event_texts b.event_outputs) c f (input_names b x face) (output_names b x face) h)

@@ -6,7 +6,7 @@ use Rattle.fb_model.specs.Names.{Name}
 use Rattle.fb_model.specs.Trees.{ActionTree}
 use Rattle.fb_model.specs.Declarations.{GuardTree, TransitionTree, AlgorithmTree, ChartTree, BlockTree}
 use Rattle.fb_model.specs.TypedText.{Term}
-use Rattle.fb_model.specs.TextTyping.{Entry}
+use Rattle.fb_model.specs.TextTyping.{Symbol}
 use Rattle.fb_model.specs.TextFaults.{IsNoCondition, SomeMisdone}
 use Rattle.fb_model.specs.System as book
 use Rattle.fb_model.specs.Typing.{AreDistinct, texts, state_texts}
@@ -27,25 +27,25 @@ no_action_fault algorithms outputs a f (no_memory_for_action e) x = e
 no_action_fault algorithms outputs a f (unknown_algorithm h) x = no_unknown_if_some algorithms a.algorithm f h x.algorithm
 no_action_fault algorithms outputs a f (unknown_output h) x = no_unknown_if_some outputs a.output f h x.output
 
-no_guard_fault : (env : List Entry) (o : Option GuardTree) (x : Option Term) (f : TypeFault) → IsGuard env o x → IsGuardFault env o f → f ≡ OutOfMemory
+no_guard_fault : (env : List Symbol) (o : Option GuardTree) (x : Option Term) (f : TypeFault) → IsGuard env o x → IsGuardFault env o f → f ≡ OutOfMemory
 no_guard_fault env None x f g h = absurd h
 no_guard_fault env (Some k) x f (a_guard {x = y} g) h = no_text_fault (IsNoCondition env k.at k.condition) f h (λ w m. condition_faultless env k.at k.condition y w g m)
 
-no_ends_fault : (env : List Entry) (states inputs : List Name) (c : TransitionTree) (d : book.Transition) (f : TypeFault) → IsTransition env states inputs c d → IsEndsFault states inputs c f → f ≡ OutOfMemory
+no_ends_fault : (env : List Symbol) (states inputs : List Name) (c : TransitionTree) (d : book.Transition) (f : TypeFault) → IsTransition env states inputs c d → IsEndsFault states inputs c f → f ≡ OutOfMemory
 no_ends_fault env states inputs c d f x (unknown_source h) = no_unknown states c.source f h x.known_source
 no_ends_fault env states inputs c d f x (unknown_target h) = no_unknown states c.target f h x.known_target
 no_ends_fault env states inputs c d f x (unknown_event h) = no_unknown_if_some inputs c.event f h x.known_event
 
-no_transition_fault : (env : List Entry) (states inputs : List Name) (c : TransitionTree) (d : book.Transition) (f : TypeFault) → IsTransition env states inputs c d → IsTransitionFault env states inputs c f → f ≡ OutOfMemory
+no_transition_fault : (env : List Symbol) (states inputs : List Name) (c : TransitionTree) (d : book.Transition) (f : TypeFault) → IsTransition env states inputs c d → IsTransitionFault env states inputs c f → f ≡ OutOfMemory
 no_transition_fault env states inputs c d f x (no_memory_for_transition e) = e
 no_transition_fault env states inputs c d f x (faulty_ends h) = no_ends_fault env states inputs c d f x h
 no_transition_fault env states inputs c d f x (faulty_guard h) = no_guard_fault env c.guard d.guard f x.guard h
 
-no_transitions_fault : (env : List Entry) (states inputs : List Name) (cs : List TransitionTree) (ds : List book.Transition) (f : TypeFault) → AreTransitions env states inputs cs ds → Any (λ c. IsTransitionFault env states inputs c f) cs → f ≡ OutOfMemory
+no_transitions_fault : (env : List Symbol) (states inputs : List Name) (cs : List TransitionTree) (ds : List book.Transition) (f : TypeFault) → AreTransitions env states inputs cs ds → Any (λ c. IsTransitionFault env states inputs c f) cs → f ≡ OutOfMemory
 no_transitions_fault env states inputs [] ds f x a = absurd (any_nil a)
 no_transitions_fault env states inputs (c ∷ cs) ds f (a_transition {d = d} {ds = es} x xs) a = either_of (no_transition_fault env states inputs c d f x) (no_transitions_fault env states inputs cs es f xs) (any_cons c cs a)
 
-no_algorithms_fault : (env : List Entry) (fs : List AlgorithmTree) (ps : List book.Procedure) (f : TypeFault) → AreProcedures env fs ps → Any (λ a. IsAlgorithmFault env a f) fs → f ≡ OutOfMemory
+no_algorithms_fault : (env : List Symbol) (fs : List AlgorithmTree) (ps : List book.Procedure) (f : TypeFault) → AreProcedures env fs ps → Any (λ a. IsAlgorithmFault env a f) fs → f ≡ OutOfMemory
 no_algorithms_fault env [] ps f x a = absurd (any_nil a)
 no_algorithms_fault env (b ∷ bs) ps f (a_procedure {p = p} {ps = qs} n x xs) a =
     either_of (λ h. no_text_fault (SomeMisdone env [] b.body) f h (λ w m. commands_faultless env [] b.body p.algorithm w x m)) (no_algorithms_fault env bs qs f xs) (any_cons b bs a)
@@ -61,7 +61,7 @@ all_names_are b c ins outs inner i o n =
     texts_append (own_words b) (words_in c.internals) ∙ ap (λ ns. ns ++ texts (words_in c.internals)) (own_names_are b ins outs i o) ∙ ap (λ ns. face_names b ins outs ++ ns) (sym (names_declared c.internals inner n))
 
 -- there is one scope only
-same_scope : (b : BlockTree) (c : ChartTree) (k : book.Block) (env : List Entry) (x : IsBasic b c k) → IsScope b c env → env ≡ scope x.ins x.outs x.inner
+same_scope : (b : BlockTree) (c : ChartTree) (k : book.Block) (env : List Symbol) (x : IsBasic b c k) → IsScope b c env → env ≡ scope x.ins x.outs x.inner
 same_scope b c k env x s =
     s.scope_is
     ∙ ap (λ ds. scope ds s.outs s.inner) (one_declared b.inputs s.ins x.ins s.inputs x.face.inputs)

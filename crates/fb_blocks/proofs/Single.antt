@@ -7,7 +7,7 @@ use Rattle.fb_model.specs.Trees.{Constant}
 use Rattle.fb_model.specs.Declarations.{BoundsTree, StartTree, VariableTree, GuardTree, TransitionTree, AlgorithmTree, ChartTree, BlockTree}
 use Rattle.fb_model.specs.StructuredText.{literal}
 use Rattle.fb_model.specs.TypedText.{Term, constant}
-use Rattle.fb_model.specs.TextTyping.{Entry}
+use Rattle.fb_model.specs.TextTyping.{Symbol}
 use Rattle.fb_model.specs.Language.{Algorithm}
 use Rattle.fb_model.specs.System as book
 use Rattle.fb_model.specs.BlockTyping.{Declared, declared, IsGiven, AreBounds, no_bounds, some_bounds, IsStart, no_start, a_start, AreDeclared, none, more, IsFace, IsGuard, no_guard, a_guard, IsTransition, AreTransitions, no_transition, a_transition, AreProcedures, no_procedure, a_procedure, IsBasic, face_of, typed_event, variable_of, scope}
@@ -43,19 +43,19 @@ one_interface b ins outs jns kuts f g x y =
 
 -- ---- charts
 
-one_guard : (env : List Entry) (o : Option GuardTree) (x y : Option Term) → IsGuard env o x → IsGuard env o y → x ≡ y
+one_guard : (env : List Symbol) (o : Option GuardTree) (x y : Option Term) → IsGuard env o x → IsGuard env o y → x ≡ y
 one_guard env None x y no_guard no_guard = refl
 one_guard env (Some g) x y (a_guard {x = u} p) (a_guard {x = v} q) = ap Some (one_condition env g.condition u v p q)
 
 abbrev transition_by : Name → Name → Option Name → Option Term → book.Transition
 transition_by s u e g = record { source = s; target = u; event = e; guard = g }
 
-one_transition : (env : List Entry) (states inputs : List Name) (c : TransitionTree) (d e : book.Transition) → IsTransition env states inputs c d → IsTransition env states inputs c e → d ≡ e
+one_transition : (env : List Symbol) (states inputs : List Name) (c : TransitionTree) (d e : book.Transition) → IsTransition env states inputs c d → IsTransition env states inputs c e → d ≡ e
 one_transition env states inputs c d e x y =
     ap (λ r. transition_by r d.target d.event d.guard) (x.source ∙ sym y.source) ∙ ap (λ r. transition_by e.source r d.event d.guard) (x.target ∙ sym y.target)
     ∙ ap (λ r. transition_by e.source e.target r d.guard) (x.event ∙ sym y.event) ∙ ap (λ r. transition_by e.source e.target e.event r) (one_guard env c.guard d.guard e.guard x.guard y.guard)
 
-one_transitions : (env : List Entry) (states inputs : List Name) (cs : List TransitionTree) (ds es : List book.Transition) → AreTransitions env states inputs cs ds → AreTransitions env states inputs cs es → ds ≡ es
+one_transitions : (env : List Symbol) (states inputs : List Name) (cs : List TransitionTree) (ds es : List book.Transition) → AreTransitions env states inputs cs ds → AreTransitions env states inputs cs es → ds ≡ es
 one_transitions env states inputs [] ds es no_transition no_transition = refl
 one_transitions env states inputs (c ∷ cs) ds es (a_transition {d = d} {ds = xs} x p) (a_transition {d = e} {ds = ys} y q) =
     ap (λ r. r ∷ xs) (one_transition env states inputs c d e x y) ∙ ap (λ r. e ∷ r) (one_transitions env states inputs cs xs ys p q)
@@ -63,7 +63,7 @@ one_transitions env states inputs (c ∷ cs) ds es (a_transition {d = d} {ds = x
 abbrev procedure_by : Name → Algorithm → book.Procedure
 procedure_by n a = record { name = n; algorithm = a }
 
-one_procedures : (env : List Entry) (fs : List AlgorithmTree) (ps qs : List book.Procedure) → AreProcedures env fs ps → AreProcedures env fs qs → ps ≡ qs
+one_procedures : (env : List Symbol) (fs : List AlgorithmTree) (ps qs : List book.Procedure) → AreProcedures env fs ps → AreProcedures env fs qs → ps ≡ qs
 one_procedures env [] ps qs no_procedure no_procedure = refl
 one_procedures env (a ∷ fs) ps qs (a_procedure {p = p} {ps = xs} n x r) (a_procedure {p = q} {ps = ys} m y s) =
     ap (λ i. procedure_by i p.algorithm ∷ xs) (n ∙ sym m) ∙ ap (λ i. procedure_by q.name i ∷ xs) (one_command_list env [] a.body p.algorithm q.algorithm x y) ∙ ap (λ i. q ∷ i) (one_procedures env fs xs ys r s)

@@ -9,7 +9,7 @@ use Rattle.fb_model.specs.Names.{Name, is_in}
 use Rattle.fb_model.specs.Productions.{Word}
 use Rattle.fb_model.specs.Declarations.{EventTree, BlockTree, ChartTree}
 use Rattle.fb_model.specs.TextFaults.{Fault, unknown_name, type_mismatch, bad_literal, not_writable}
-use Rattle.fb_model.specs.TextTyping.{Entry}
+use Rattle.fb_model.specs.TextTyping.{Symbol}
 use Rattle.fb_model.specs.Typing.{typed_state, state_texts}
 use Rattle.fb_model.specs.BlockTyping.{IsBasic, IsActionTyped, AreTransitions, AreProcedures, words_in, algorithm_texts}
 use Rattle.fb_model.specs.System as book
@@ -64,7 +64,7 @@ Finds view (Err OutOfMemory) y = Unit {0}
 Finds view (Err other) y = ⊥
 
 -- states, transitions and algorithms are what a chart elaborates to, in a scope, at a block with these event inputs and event outputs
-pub record IsChart (env : List Entry) (inputs outputs : List Name) (c : ChartTree) (ss : List book.State) (ts : List book.Transition) (ps : List book.Procedure) : Type 0 where
+pub record IsChart (env : List Symbol) (inputs outputs : List Name) (c : ChartTree) (ss : List book.State) (ts : List book.Transition) (ps : List book.Procedure) : Type 0 where
   pub actions : AllByRecursion (λ s. AllByRecursion (IsActionTyped (algorithm_texts c.algorithms) outputs) s.actions) c.states
   pub states : ss ≡ map typed_state c.states
   pub transitions : AreTransitions env (state_texts c.states) inputs c.transitions ts

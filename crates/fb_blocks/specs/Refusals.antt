@@ -9,7 +9,7 @@ use Rattle.fb_model.specs.Productions.{Word}
 use Rattle.fb_model.specs.Trees.{Constant, ActionTree, StateTree}
 use Rattle.fb_model.specs.Declarations.{EventTree, BoundsTree, StartTree, VariableTree, GuardTree, TransitionTree, AlgorithmTree, ChartTree, BlockTree}
 use Rattle.fb_model.specs.StructuredText.{literal}
-use Rattle.fb_model.specs.TextTyping.{Entry, IsNumber}
+use Rattle.fb_model.specs.TextTyping.{Symbol, IsNumber}
 use Rattle.fb_model.specs.TextFaults.{Fault, unknown_name, type_mismatch, bad_literal, not_writable, IsNotAsked, IsNoCondition, IsNoNumber, SomeMisdone}
 use Rattle.fb_model.specs.Typing.{texts, state_texts, most_ports, most_states, most_transitions}
 use Rattle.fb_model.specs.BlockTyping.{Declared, AreDeclared, words_in, algorithm_texts, event_texts, scope, most_algorithms, most_elements}
@@ -128,7 +128,7 @@ abbrev pub IsStateFault : List Name → List Name → StateTree → TypeFault �
 IsStateFault algorithms outputs s f = Any (λ a. IsActionFault algorithms outputs a f) s.actions
 
 -- a guard that is no condition, at its `[` or in it
-abbrev pub IsGuardFault : List Entry → Option GuardTree → TypeFault → Type 0
+abbrev pub IsGuardFault : List Symbol → Option GuardTree → TypeFault → Type 0
 IsGuardFault env None f = ⊥
 IsGuardFault env (Some g) f = IsTextFault (IsNoCondition env g.at g.condition) f
 
@@ -139,17 +139,17 @@ pub data IsEndsFault (states inputs : List Name) (c : TransitionTree) (f : TypeF
   unknown_event : IsUnknownIfSome inputs c.event f → IsEndsFault states inputs c f
 
 -- what is at fault in a transition
-pub data IsTransitionFault (env : List Entry) (states inputs : List Name) (c : TransitionTree) (f : TypeFault) : Type 0 where
+pub data IsTransitionFault (env : List Symbol) (states inputs : List Name) (c : TransitionTree) (f : TypeFault) : Type 0 where
   no_memory_for_transition : f ≡ OutOfMemory → IsTransitionFault env states inputs c f
   faulty_ends : IsEndsFault states inputs c f → IsTransitionFault env states inputs c f
   faulty_guard : IsGuardFault env c.guard f → IsTransitionFault env states inputs c f
 
 -- what is at fault in an algorithm
-abbrev pub IsAlgorithmFault : List Entry → AlgorithmTree → TypeFault → Type 0
+abbrev pub IsAlgorithmFault : List Symbol → AlgorithmTree → TypeFault → Type 0
 IsAlgorithmFault env a f = IsTextFault (SomeMisdone env [] a.body) f
 
 -- what is at fault in a chart, in a scope, at a block with these event inputs and event outputs
-pub data IsChartFault (env : List Entry) (inputs outputs : List Name) (c : ChartTree) (f : TypeFault) : Type 0 where
+pub data IsChartFault (env : List Symbol) (inputs outputs : List Name) (c : ChartTree) (f : TypeFault) : Type 0 where
   in_actions : Among (IsStateFault (algorithm_texts c.algorithms) outputs) c.states f → IsChartFault env inputs outputs c f
   in_transitions : Among (IsTransitionFault env (state_texts c.states) inputs) c.transitions f → IsChartFault env inputs outputs c f
   in_algorithms : Among (IsAlgorithmFault env) c.algorithms f → IsChartFault env inputs outputs c f
@@ -163,7 +163,7 @@ pub data IsChartExcess (c : ChartTree) (f : TypeFault) : Type 0 where
 -- ---- basic blocks
 
 -- the variables of a block that algorithms and guards see
-pub record IsScope (b : BlockTree) (c : ChartTree) (env : List Entry) : Type 0 where
+pub record IsScope (b : BlockTree) (c : ChartTree) (env : List Symbol) : Type 0 where
   pub ins : List Declared
   pub outs : List Declared
   pub inner : List Declared
@@ -182,5 +182,5 @@ pub data IsBasicFault (b : BlockTree) (c : ChartTree) (f : TypeFault) : Type 0 w
   repeated_algorithm : IsRepetition [] (map (λ a. a.name) c.algorithms) f → IsBasicFault b c f
   faulty_internal : Any (λ v. IsVariableFault v f) c.internals → IsBasicFault b c f
   faulty_action : Any (λ s. IsStateFault (algorithm_texts c.algorithms) (event_texts b.event_outputs) s f) c.states → IsBasicFault b c f
-  faulty_transition : (env : List Entry) → IsScope b c env → Any (λ x. IsTransitionFault env (state_texts c.states) (event_texts b.event_inputs) x f) c.transitions → IsBasicFault b c f
-  faulty_algorithm : (env : List Entry) → IsScope b c env → Any (λ a. IsAlgorithmFault env a f) c.algorithms → IsBasicFault b c f
+  faulty_transition : (env : List Symbol) → IsScope b c env → Any (λ x. IsTransitionFault env (state_texts c.states) (event_texts b.event_inputs) x f) c.transitions → IsBasicFault b c f
+  faulty_algorithm : (env : List Symbol) → IsScope b c env → Any (λ a. IsAlgorithmFault env a f) c.algorithms → IsBasicFault b c f

@@ -1,7 +1,7 @@
 //! The scope of algorithms and guards.
 
 ghost use Rattle.std.specs.Prelude.{◌≡◌, ◌++◌, [], map, IfOk, OnOk};
-ghost use Rattle.fb_model.specs.BlockTyping.{scope, entry_of, names_in};
+ghost use Rattle.fb_model.specs.BlockTyping.{scope, symbol_of, names_in};
 ghost use Rattle.fb_model.specs.Typing.{AreNew, AreDistinct};
 ghost use Rattle.st_types.specs.Views.{entries};
 ghost use Rattle.fb_blocks.specs.Answers.{names_in_map};
@@ -16,7 +16,7 @@ use std::alloc::{AllocError, Global};
 // Adds variables of new names at the end.
 fn enlarge(scope: &mut Scope, variables: &Variables, writable: bool) -> Result<(), AllocError>
     requires { AreNew (names_in_map scope.old) (names_in (declared_in variables.now)) }
-    ensures { OnOk result (entries scope.new ≡ entries scope.old ++ map (entry_of writable) (declared_in variables.now)) }
+    ensures { OnOk result (entries scope.new ≡ entries scope.old ++ map (symbol_of writable) (declared_in variables.now)) }
 {
     for index in 0..variables.len() {
         let Some((name, variable)) = variables.get_index(index) else {

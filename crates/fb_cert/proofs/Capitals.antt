@@ -8,11 +8,11 @@ use mir.Syntax.{w64}
 use Rattle.std.specs.Str.Lines.{lines, lines_of_parts, strip_carriage_return}
 use Rattle.std.proofs.lemmas.Str.Ascii.{uppercase-uppercase}
 use Rattle.fb_model.specs.Spelling.{upper}
-use Rattle.fb_model.specs.CertificateText.{words, Written, written, rows_from, Entry, IsWhole, plain, negative, IsNumberIn, IsEntry, a_repeats, a_range, a_charge, a_weight, a_depth, a_far, a_far_state, a_channel, begins_cert, most_lint, most_characters}
+use Rattle.fb_model.specs.CertificateText.{words, Written, written, rows_from, TextRow, IsWhole, plain, negative, IsNumberIn, IsTextRow, a_repeats, a_range, a_charge, a_weight, a_depth, a_far, a_far_state, a_channel, begins_cert, most_lint, most_characters}
 use Rattle.fb_cert.specs.declared.fault.CertFault.TheVariants.{TooLong, Row, DuplicateRow}
 use Rattle.fb_cert.specs.Views.{Rows, no_rows, has_row, with_row}
 use Rattle.fb_cert.specs.Sayable.{IsWithin, IsSayable, AreSayable}
-use Rattle.fb_cert.specs.Reading.{read, entry_at, is_head, entered, row_at, lines_at, whole, text_at}
+use Rattle.fb_cert.specs.Reading.{read, text_row_at, is_head, entered, row_at, lines_at, whole, text_at}
 use Rattle.fb_cert.proofs.Deciding.{chosen}
 use Rattle.fb_cert.proofs.Entries.{entry_found}
 use Rattle.fb_cert.proofs.Texts.{rest_at, all_at, next_ok, all_lines}
@@ -105,7 +105,7 @@ whole_fits cs z (negative {n} h) = neg_fits n h.at_most
 number_within : {low high n : ℕ} {cs : List ℕ} → IsNumberIn low high cs n → IsWithin low high n
 number_within h = record { some = h.at_least; fits = h.at_most }
 
-entry_sayable : (ws : List (List ℕ)) (e : Entry) → AllByRecursion AreCapital ws → IsEntry ws e → IsSayable e
+entry_sayable : (ws : List (List ℕ)) (e : TextRow) → AllByRecursion AreCapital ws → IsTextRow ws e → IsSayable e
 entry_sayable ws e u (a_repeats h) = number_within h
 entry_sayable ws e u (a_range {p} {l} {h} {low} {high} d a b k) = ((d, capital_upper p u.1.0), record { low_fits = whole_fits l low a; high_fits = whole_fits h high b; ordered = k })
 entry_sayable ws e u (a_charge {p} d h g) = ((d, capital_upper p u.1.0), record { steps_fit = h.at_most; places_fit = g.at_most })
@@ -115,7 +115,7 @@ entry_sayable ws e u (a_far {p} d h) = ((d, capital_upper p u.1.0), number_withi
 entry_sayable ws e u (a_far_state {p} d h) = ((d, capital_upper p u.1.0), number_within h)
 entry_sayable ws e u (a_channel h g) = (number_within h, number_within g)
 
-entered_with : (n : ℕ) (o : Option Entry) (rs out : Rows) → entered n o rs ≡ Ok out → (e : Entry) × (o ≡ Some e) × (has_row e rs ≡ false) × (with_row e rs ≡ out)
+entered_with : (n : ℕ) (o : Option TextRow) (rs out : Rows) → entered n o rs ≡ Ok out → (e : TextRow) × (o ≡ Some e) × (has_row e rs ≡ false) × (with_row e rs ≡ out)
 entered_with n None rs out h = absurd (cc)
 entered_with n (Some e) rs out h =
     elim (chosen (has_row e rs) (Err (DuplicateRow n)) (Ok (with_row e rs)) (Ok out) h) [
@@ -125,9 +125,9 @@ entered_with n (Some e) rs out h =
 
 row_sayable : (n : ℕ) (ws : List (List ℕ)) (rs out : Rows) → row_at n ws rs ≡ Ok out → AllByRecursion AreCapital ws → AreSayable rs → AreSayable out
 row_sayable n ws rs out h u a =
-    elim (chosen (begins_cert ws) (Err (DuplicateRow n)) (entered n (entry_at ws) rs) (Ok out) h) [
+    elim (chosen (begins_cert ws) (Err (DuplicateRow n)) (entered n (text_row_at ws) rs) (Ok out) h) [
       | inl p ↦ absurd (cc)
-      | inr p ↦ (let o = entered_with n (entry_at ws) rs out p.1 in subst AreSayable o.3 (sayable_with o.0 rs a (entry_sayable ws o.0 u (entry_found ws o.0 o.1)) o.2))
+      | inr p ↦ (let o = entered_with n (text_row_at ws) rs out p.1 in subst AreSayable o.3 (sayable_with o.0 rs a (entry_sayable ws o.0 u (entry_found ws o.0 o.1)) o.2))
     ]
 
 rest_sayable : (ws : List Written) (rs out : Rows) → rest_at ws rs ≡ Ok out → AllByRecursion HasCapitals ws → AreSayable rs → AreSayable out

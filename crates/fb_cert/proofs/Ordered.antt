@@ -4,7 +4,7 @@ use Rattle.std.specs.Prelude.{flat_map, IfSome}
 use Rattle.std.specs.List.{list_any, AllByRecursion}
 use Rattle.std.proofs.lemmas.List.{append-nil}
 use Rattle.fb_model.specs.Spans.{Span}
-use Rattle.fb_model.specs.CertificateText.{Entry, repeats, range, charge, weight, depth, far, far_state, channel, is_same, most_repeats, most_places, most_steps}
+use Rattle.fb_model.specs.CertificateText.{TextRow, repeats, range, charge, weight, depth, far, far_state, channel, is_same, most_repeats, most_places, most_steps}
 use Rattle.fb_cert.specs.declared.certificate.Amount.{Amount}
 use Rattle.fb_cert.specs.declared.kind.Kind.{Kind}
 use Rattle.fb_cert.specs.declared.kind.Kind.TheVariants as kinds
@@ -15,22 +15,22 @@ use Rattle.fb_cert.specs.Printed.{repeats_entries, entries_of, entries}
 use Rattle.fb_cert.proofs.ByKind.{rows_in, has_in, with_in, AreNew}
 
 -- behind those done, entries that a text can say make the rows whole, and none repeats one before it
-pub record Fills (done es : List Entry) (whole : Rows) : Type 0 where
+pub record Fills (done es : List TextRow) (whole : Rows) : Type 0 where
   pub new : AreNew done es
   pub are : rows_in (done ++ es) ≡ whole
   pub said : AllByRecursion IsSayable es
 
 -- the entries of these kinds do so behind all that make the rows so far
 abbrev FillsFrom : Rows → List Kind → Rows → Type 0
-FillsFrom whole ks now = (done : List Entry) → rows_in done ≡ now → Fills done (flat_map (λ k. entries_of k whole) ks) whole
+FillsFrom whole ks now = (done : List TextRow) → rows_in done ≡ now → Fills done (flat_map (λ k. entries_of k whole) ks) whole
 
 -- those of one kind, where the others behind them do so
-kind_fills : {R : Type 0} (Such : R → Type 0) (stands : R → List R → Bool) (f : R → Entry) (put : List R → Rows)
+kind_fills : {R : Type 0} (Such : R → Type 0) (stands : R → List R → Bool) (f : R → TextRow) (put : List R → Rows)
     → ((r : R) → Such r → IsSayable (f r))
     → ((r : R) (rs : List R) → has_row (f r) (put rs) ≡ stands r rs)
     → ((r : R) (rs : List R) → with_row (f r) (put rs) ≡ put (rs ++ r ∷ []))
     → (whole : Rows) (ks : List Kind) (before rs : List R) → FillsFrom whole ks (put (before ++ rs)) → AreRows Such stands before rs
-    → (done : List Entry) → rows_in done ≡ put before → Fills done (map f rs ++ flat_map (λ k. entries_of k whole) ks) whole
+    → (done : List TextRow) → rows_in done ≡ put before → Fills done (map f rs ++ flat_map (λ k. entries_of k whole) ks) whole
 kind_fills Such stands f put says has more whole ks before [] next h done e = next done (e ∙ ap put (sym (append-nil before)))
 kind_fills Such stands f put says has more whole ks before (r ∷ rs) next h done e =
     let new : list_any (is_same (f r)) done ≡ false = sym (has_in (f r) done) ∙ ap (has_row (f r)) e ∙ has r before ∙ h.1 in
@@ -44,33 +44,33 @@ repeats_fill whole ks None next h = next [] refl
 repeats_fill whole ks (Some n) next h = let rest = next (repeats n ∷ []) refl in record { new = (refl, rest.new); are = rest.are; said = (h, rest.said) }
 
 -- the same, where each row has a path
-path_fills : {V : Type 0} (Such : V → Type 0) (f : (List ℕ) × V → Entry) (put : List ((List ℕ) × V) → Rows)
+path_fills : {V : Type 0} (Such : V → Type 0) (f : (List ℕ) × V → TextRow) (put : List ((List ℕ) × V) → Rows)
     → ((r : (List ℕ) × V) → SaysAtPath Such r → IsSayable (f r))
     → ((r : (List ℕ) × V) (rs : List ((List ℕ) × V)) → has_row (f r) (put rs) ≡ has_path r.0 rs)
     → ((r : (List ℕ) × V) (rs : List ((List ℕ) × V)) → with_row (f r) (put rs) ≡ put (rs ++ r ∷ []))
     → (whole : Rows) (ks : List Kind) (rs : List ((List ℕ) × V)) → FillsFrom whole ks (put rs) → AreRows (SaysAtPath Such) (λ r before. has_path r.0 before) [] rs
-    → (done : List Entry) → rows_in done ≡ put [] → Fills done (map f rs ++ flat_map (λ k. entries_of k whole) ks) whole
+    → (done : List TextRow) → rows_in done ≡ put [] → Fills done (map f rs ++ flat_map (λ k. entries_of k whole) ks) whole
 path_fills Such f put says has more whole ks rs next h done e = kind_fills (SaysAtPath Such) (λ r before. has_path r.0 before) f put says has more whole ks [] rs next h done e
 
-abbrev as_range : (List ℕ) × Span → Entry
+abbrev as_range : (List ℕ) × Span → TextRow
 as_range r = range r.0 r.1.low r.1.high
 
-abbrev as_charge : (List ℕ) × Amount → Entry
+abbrev as_charge : (List ℕ) × Amount → TextRow
 as_charge r = charge r.0 r.1.steps r.1.places
 
-abbrev as_weight : (List ℕ) × Amount → Entry
+abbrev as_weight : (List ℕ) × Amount → TextRow
 as_weight r = weight r.0 r.1.steps r.1.places
 
-abbrev as_depth : (List ℕ) × ℕ → Entry
+abbrev as_depth : (List ℕ) × ℕ → TextRow
 as_depth r = depth r.0 r.1
 
-abbrev as_far : (List ℕ) × ℕ → Entry
+abbrev as_far : (List ℕ) × ℕ → TextRow
 as_far r = far r.0 r.1
 
-abbrev as_far_state : (List ℕ) × ℕ → Entry
+abbrev as_far_state : (List ℕ) × ℕ → TextRow
 as_far_state r = far_state r.0 r.1
 
-abbrev as_channel : ℕ × ℕ → Entry
+abbrev as_channel : ℕ × ℕ → TextRow
 as_channel r = channel r.0 r.1
 
 pub entries_fill : (rows : Rows) → AreSayable rows → Fills [] (entries rows) rows

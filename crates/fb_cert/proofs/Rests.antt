@@ -3,7 +3,7 @@ use Rattle.std.proofs.Common.{◌≡◌, ℕ, zero, suc, ◌+◌, List, [], ◌�
 use Rattle.std.specs.Prelude.{flat_map}
 use Rattle.std.proofs.lemmas.Grind.{flat_map-append}
 use Rattle.std.proofs.lemmas.List.{append-nil}
-use Rattle.fb_model.specs.CertificateText.{Entry}
+use Rattle.fb_model.specs.CertificateText.{TextRow}
 use Rattle.fb_cert.specs.Rows.{Rows}
 use Rattle.fb_cert.specs.declared.kind.Kind.{Kind}
 use Rattle.fb_cert.specs.Printed.{row_line, entries_of, entries, printed}
@@ -20,17 +20,17 @@ drop_none (y ∷ xs) zero h = absurd (cc)
 drop_none (y ∷ xs) (suc i) h = drop_none xs i h
 
 -- what is printed, and then what is left from an index on
-abbrev pub with_left : List Entry → ℕ → List ℕ → List ℕ
+abbrev pub with_left : List TextRow → ℕ → List ℕ → List ℕ
 with_left es i text = text ++ flat_map row_line (drop i es)
 
-pub some_left : (es : List Entry) (i : ℕ) (e : Entry) (text all : List ℕ) → Some e ≡ slice_get es i → with_left es i text ≡ all → with_left es (i + 1) (text ++ row_line e) ≡ all
+pub some_left : (es : List TextRow) (i : ℕ) (e : TextRow) (text all : List ℕ) → Some e ≡ slice_get es i → with_left es i text ≡ all → with_left es (i + 1) (text ++ row_line e) ≡ all
 some_left es i e text all h g =
     append_assoc text (row_line e) (flat_map row_line (drop (i + 1) es))
     ∙ ap (λ k. text ++ (row_line e ++ flat_map row_line (drop k es))) (add-one i)
     ∙ ap (λ d. text ++ flat_map row_line d) (sym (drop_some es i e h))
     ∙ g
 
-pub none_left : (es : List Entry) (i : ℕ) (text all : List ℕ) → None ≡ slice_get es i → with_left es i text ≡ all → with_left es (i + 1) text ≡ all
+pub none_left : (es : List TextRow) (i : ℕ) (text all : List ℕ) → None ≡ slice_get es i → with_left es i text ≡ all → with_left es (i + 1) text ≡ all
 none_left es i text all h g = ap (λ k. with_left es k text) (add-one i) ∙ ap (λ d. text ++ flat_map row_line d) (sym (drop_none es i h)) ∙ g
 
 -- a kind is printed, and then the others

@@ -7,7 +7,7 @@ use Rattle.std.proofs.lemmas.Bool.{leb-true}
 use Rattle.std.proofs.lemmas.Slice.Eq.{bytes_eq-Decides}
 use Rattle.fb_model.specs.Spelling.{upper}
 use Rattle.fb_model.specs.Spans.{span}
-use Rattle.fb_model.specs.CertificateText.{Entry, repeats, range, charge, weight, depth, far, far_state, channel, IsDotted, most_steps, most_places}
+use Rattle.fb_model.specs.CertificateText.{TextRow, repeats, range, charge, weight, depth, far, far_state, channel, IsDotted, most_steps, most_places}
 use Rattle.fb_cert.specs.Rows.{Table, Rows, no_rows, has_path, has_number}
 use Rattle.fb_cert.specs.Views.{amount, has_row, with_row, AddsRow}
 use Rattle.fb_cert.specs.Sayable.{IsUpperPath, IsRange, IsAmount, IsWithin, IsChannel, IsSayable, AreRows, SaysAtPath, ArePathRows, AreSayable}
@@ -25,7 +25,7 @@ rows_more Such stands before (x ∷ rs) r h s n = (h.0, h.1, rows_more Such stan
 path_more : {V : Type 0} (Such : V → Type 0) (rs : Table V) (p : List ℕ) (v : V) → ArePathRows Such rs → IsUpperPath p × Such v → has_path p rs ≡ false → ArePathRows Such (rs ++ (p, v) ∷ [])
 path_more Such rs p v h s n = rows_more (SaysAtPath Such) (λ r before. has_path r.0 before) [] rs (p, v) h s n
 
-pub sayable_with : (e : Entry) (rs : Rows) → AreSayable rs → IsSayable e → has_row e rs ≡ false → AreSayable (with_row e rs)
+pub sayable_with : (e : TextRow) (rs : Rows) → AreSayable rs → IsSayable e → has_row e rs ≡ false → AreSayable (with_row e rs)
 sayable_with (repeats n) rs a s f =
     record { repeats_are = s; ranges_are = a.ranges_are; charges_are = a.charges_are; weights_are = a.weights_are; depths_are = a.depths_are; fars_are = a.fars_are; far_states_are = a.far_states_are; channels_are = a.channels_are }
 sayable_with (range p l h) rs a s f =
@@ -66,7 +66,7 @@ was_not true h = absurd (cc)
 was_not false h = refl
 
 -- a row is added, or the rows are as before
-pub added_sayable : {E : Type 0} (r : Result Bool E) (old new : Rows) (e : Entry) → AreSayable old → IsSayable e → IfOk r (λ said. AddsRow old e new said) → IfErr r (λ _. new ≡ old) → AreSayable new
+pub added_sayable : {E : Type 0} (r : Result Bool E) (old new : Rows) (e : TextRow) → AreSayable old → IsSayable e → IfOk r (λ said. AddsRow old e new said) → IfErr r (λ _. new ≡ old) → AreSayable new
 added_sayable (Err x) old new e a s h k = subst AreSayable (sym k) a
 added_sayable (Ok true) old new e a s h k = subst AreSayable (sym h.1) (sayable_with e old a s (was_not (has_row e old) h.0))
 added_sayable (Ok false) old new e a s h k = subst AreSayable (sym h.1) a

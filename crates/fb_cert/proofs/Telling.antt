@@ -5,7 +5,7 @@ use Rattle.std.specs.List.{AllByRecursion, join_with_byte}
 use Rattle.std.specs.Str.Lines.{lines}
 use Rattle.std.specs.Fmt.{decimal, signed_decimal}
 use Rattle.fb_model.specs.Spelling.{upper}
-use Rattle.fb_model.specs.CertificateText.{Written, written, rows_from, Entry, repeats, range, charge, weight, depth, far, far_state, channel, head, IsNumberIn, IsDotted, IsEntry, a_repeats, a_range, a_charge, a_weight, a_depth, a_far, a_far_state, a_channel, AreEntries, no_entry, entry, Spells, IsTold, most_steps, most_places}
+use Rattle.fb_model.specs.CertificateText.{Written, written, rows_from, TextRow, repeats, range, charge, weight, depth, far, far_state, channel, head, IsNumberIn, IsDotted, IsTextRow, a_repeats, a_range, a_charge, a_weight, a_depth, a_far, a_far_state, a_channel, AreTextRows, no_text_row, text_row, Spells, IsTold, most_steps, most_places}
 use Rattle.fb_cert.specs.declared.certificate.Amount.{Amount}
 use Rattle.fb_cert.specs.Rows.{Rows, book_of}
 use Rattle.fb_cert.specs.Sayable.{IsUpperPath, IsAmount, IsWithin, IsSayable, AreSayable}
@@ -17,9 +17,9 @@ use Rattle.fb_cert.proofs.ByKind.{book_in, none_twice}
 use Rattle.fb_cert.proofs.Ordered.{entries_fill}
 
 -- its words are printed words that say it
-record IsGood (e : Entry) : Type 0 where
+record IsGood (e : TextRow) : Type 0 where
   are : AllByRecursion IsPrinted (row_words e)
-  says : IsEntry (row_words e) e
+  says : IsTextRow (row_words e) e
 
 -- ---- each kind of row
 
@@ -33,12 +33,12 @@ number_said : {low high n : ℕ} → IsWithin low high n → high ≤ most_steps
 number_said {low} {high} {n} h k = decimal_is low high n h.some h.fits (small n high h.fits k)
 
 -- a word, a path and one number
-path_good : (e : Entry) (word path : List ℕ) (low high n : ℕ) → row_words e ≡ word ∷ path ∷ decimal n ∷ [] → (IsDotted path → IsNumberIn low high (decimal n) n → IsEntry (word ∷ path ∷ decimal n ∷ []) e)
+path_good : (e : TextRow) (word path : List ℕ) (low high n : ℕ) → row_words e ≡ word ∷ path ∷ decimal n ∷ [] → (IsDotted path → IsNumberIn low high (decimal n) n → IsTextRow (word ∷ path ∷ decimal n ∷ []) e)
     → IsPrinted word → IsUpperPath path → IsWithin low high n → high ≤ most_steps → IsGood e
 path_good e word path low high n is says w p h k =
     record {
       are = subst (AllByRecursion IsPrinted) (sym is) (w, (path_printed path p, (number_printed h k, tt)));
-      says = subst (λ ws. IsEntry ws e) (sym is) (says p.0 (number_said h k));
+      says = subst (λ ws. IsTextRow ws e) (sym is) (says p.0 (number_said h k));
     }
 
 steps_within : {a : Amount} → IsAmount a → IsWithin 0 most_steps a.steps
@@ -50,7 +50,7 @@ places_within h = record { some = omega arith; fits = h.places_fit }
 amount_printed : {a : Amount} (word path : List ℕ) → IsPrinted word → IsUpperPath path → IsAmount a → AllByRecursion IsPrinted (word ∷ path ∷ decimal a.steps ∷ decimal a.places ∷ [])
 amount_printed word path w p h = (w, (path_printed path p, (number_printed (steps_within h) (omega arith), (number_printed (places_within h) (omega arith), tt))))
 
-entry_good : (e : Entry) → IsSayable e → IsGood e
+entry_good : (e : TextRow) → IsSayable e → IsGood e
 entry_good (repeats n) h = record { are = (word_printed (codes "REPEATS") refl refl, (number_printed h (omega arith), tt)); says = a_repeats (number_said h (omega arith)) }
 entry_good (range p low high) h =
     let s = h.1 in
@@ -71,14 +71,14 @@ entry_good (channel c n) h =
       says = a_channel (number_said h.0 (omega arith)) (number_said h.1 (omega arith));
     }
 
-all_good : (es : List Entry) → AllByRecursion IsSayable es → AllByRecursion IsGood es
+all_good : (es : List TextRow) → AllByRecursion IsSayable es → AllByRecursion IsGood es
 all_good [] h = tt
 all_good (e ∷ es) h = (entry_good e h.0, all_good es h.1)
 
 -- ---- the rows of the text
 
 -- the rows at these numbers of lines
-rows_at : ℕ → List Entry → List Written
+rows_at : ℕ → List TextRow → List Written
 rows_at n [] = []
 rows_at n (e ∷ es) = written n (row_words e) ∷ rows_at (n + 1) es
 
@@ -89,7 +89,7 @@ one_row n w ws rest h =
     let p = joined_plain w ws h in
     ap (λ t. rows_from n (lines t)) (line_upper l rest p) ∙ ap (rows_from n) (first_line l (upper rest) p) ∙ first_row n l (lines (upper rest)) w ws (words_joined w ws h)
 
-entry_row : (n : ℕ) (e : Entry) (rest : List ℕ) → AllByRecursion IsPrinted (row_words e) → rows_from n (lines (upper (row_line e ++ rest))) ≡ written n (row_words e) ∷ rows_from (n + 1) (lines (upper rest))
+entry_row : (n : ℕ) (e : TextRow) (rest : List ℕ) → AllByRecursion IsPrinted (row_words e) → rows_from n (lines (upper (row_line e ++ rest))) ≡ written n (row_words e) ∷ rows_from (n + 1) (lines (upper rest))
 entry_row n (repeats m) rest k = one_row n (codes "REPEATS") (decimal m ∷ []) rest k
 entry_row n (range p l h) rest k = one_row n (codes "RANGE") (p ∷ signed_decimal l ∷ signed_decimal h ∷ []) rest k
 entry_row n (charge p s q) rest k = one_row n (codes "CHARGE") (p ∷ decimal s ∷ decimal q ∷ []) rest k
@@ -99,15 +99,15 @@ entry_row n (far p m) rest k = one_row n (codes "FAR") (p ∷ decimal m ∷ []) 
 entry_row n (far_state p m) rest k = one_row n (codes "FARSTATE") (p ∷ decimal m ∷ []) rest k
 entry_row n (channel c m) rest k = one_row n (codes "CHANNEL") (decimal c ∷ decimal m ∷ []) rest k
 
-all_rows : (n : ℕ) (es : List Entry) → AllByRecursion IsGood es → rows_from n (lines (upper (flat_map row_line es))) ≡ rows_at n es
+all_rows : (n : ℕ) (es : List TextRow) → AllByRecursion IsGood es → rows_from n (lines (upper (flat_map row_line es))) ≡ rows_at n es
 unfolding rows_at
 all_rows n [] h = refl
 all_rows n (e ∷ es) h = let g = h.0 in entry_row n e (flat_map row_line es) g.are ∙ ap (λ r. written n (row_words e) ∷ r) (all_rows (n + 1) es h.1)
 
-all_say : (n : ℕ) (es : List Entry) → AllByRecursion IsGood es → AreEntries (rows_at n es) es
+all_say : (n : ℕ) (es : List TextRow) → AllByRecursion IsGood es → AreTextRows (rows_at n es) es
 unfolding rows_at
-all_say n [] h = no_entry
-all_say n (e ∷ es) h = let g = h.0 in entry {w = written n (row_words e)} g.says (all_say (n + 1) es h.1)
+all_say n [] h = no_text_row
+all_say n (e ∷ es) h = let g = h.0 in text_row {w = written n (row_words e)} g.says (all_say (n + 1) es h.1)
 
 first_words : (rest : List ℕ) → rows_from 1 (lines (upper (codes "CERT 1" ++ 10 ∷ rest))) ≡ written 1 (codes "CERT" ∷ codes "1" ∷ []) ∷ rows_from 2 (lines (upper rest))
 first_words rest = one_row 1 (codes "CERT") (codes "1" ∷ []) rest (word_printed (codes "CERT") refl refl, (word_printed (codes "1") refl refl, tt))

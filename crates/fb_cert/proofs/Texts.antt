@@ -7,11 +7,11 @@ use Rattle.std.proofs.lemmas.List.{append-nil}
 use Rattle.std.proofs.lemmas.Bool.{ltb-false, ltb-true, le-ltb}
 use Rattle.fb_model.specs.Certificates as book
 use Rattle.fb_model.specs.Spelling.{upper}
-use Rattle.fb_model.specs.CertificateText.{Written, written, words, rows_from, rows, begins_cert, Entry, is_same, IsEntry, AreEntries, no_entry, entry, Spells, Reaches, no_row, no_head, no_row_word, head_again, path_again, most_characters}
+use Rattle.fb_model.specs.CertificateText.{Written, written, words, rows_from, rows, begins_cert, TextRow, is_same, IsTextRow, AreTextRows, no_text_row, text_row, Spells, Reaches, no_row, no_head, no_row_word, head_again, path_again, most_characters}
 use Rattle.fb_cert.specs.declared.fault.CertFault.{CertFault}
 use Rattle.fb_cert.specs.declared.fault.CertFault.TheVariants.{TooLong, Row, DuplicateRow}
 use Rattle.fb_cert.specs.Views.{Rows, no_rows, has_row, with_row, book_of}
-use Rattle.fb_cert.specs.Reading.{Read, read, entry_at, is_head, entered, row_at, behind, words_at, chain, lines_at, whole, text_at}
+use Rattle.fb_cert.specs.Reading.{Read, read, text_row_at, is_head, entered, row_at, behind, words_at, chain, lines_at, whole, text_at}
 use Rattle.fb_cert.specs.Answers.{Refuses}
 use Rattle.fb_cert.proofs.Deciding.{chosen, some_length}
 use Rattle.fb_cert.proofs.Entries.{entry_found, entry_read, entry_no_cert, head_found, head_read}
@@ -67,13 +67,13 @@ all_lines n (l ∷ ls) = by (words l) (all_lines (n + 1) ls)
 
 -- ---- one row
 
-record Says (ws : List (List ℕ)) (done : List Entry) (rs : Rows) : Type 0 where
-  e : Entry
-  is : IsEntry ws e
+record Says (ws : List (List ℕ)) (done : List TextRow) (rs : Rows) : Type 0 where
+  e : TextRow
+  is : IsTextRow ws e
   new : list_any (is_same e) done ≡ false
   rows_are : rs ≡ rows_in (done ++ e ∷ [])
 
-entered_ok : (n : ℕ) (o : Option Entry) (done : List Entry) (rs : Rows) → entered n o (rows_in done) ≡ Ok rs → (e : Entry) × (o ≡ Some e) × (has_row e (rows_in done) ≡ false) × (with_row e (rows_in done) ≡ rs)
+entered_ok : (n : ℕ) (o : Option TextRow) (done : List TextRow) (rs : Rows) → entered n o (rows_in done) ≡ Ok rs → (e : TextRow) × (o ≡ Some e) × (has_row e (rows_in done) ≡ false) × (with_row e (rows_in done) ≡ rs)
 entered_ok n None done rs h = absurd (cc)
 entered_ok n (Some e) done rs h =
     elim (chosen (has_row e (rows_in done)) (Err (DuplicateRow n)) (Ok (with_row e (rows_in done))) (Ok rs) h) [
@@ -81,27 +81,27 @@ entered_ok n (Some e) done rs h =
       | inr p ↦ (let same : with_row e (rows_in done) ≡ rs = cc in (e, refl, p.0, same))
     ]
 
-row_found : (n : ℕ) (ws : List (List ℕ)) (done : List Entry) (rs : Rows) → row_at n ws (rows_in done) ≡ Ok rs → Says ws done rs
+row_found : (n : ℕ) (ws : List (List ℕ)) (done : List TextRow) (rs : Rows) → row_at n ws (rows_in done) ≡ Ok rs → Says ws done rs
 row_found n ws done rs h =
-    elim (chosen (begins_cert ws) (Err (DuplicateRow n)) (entered n (entry_at ws) (rows_in done)) (Ok rs) h) [
+    elim (chosen (begins_cert ws) (Err (DuplicateRow n)) (entered n (text_row_at ws) (rows_in done)) (Ok rs) h) [
       | inl p ↦ absurd (cc)
-      | inr p ↦ (let o = entered_ok n (entry_at ws) done rs p.1 in
+      | inr p ↦ (let o = entered_ok n (text_row_at ws) done rs p.1 in
           let new : list_any (is_same o.0) done ≡ false = sym (has_in o.0 done) ∙ o.2 in
           record { e = o.0; is = entry_found ws o.0 o.1; new = new; rows_are = sym o.3 ∙ with_in o.0 done new })
     ]
 
-pub row_read : (n : ℕ) (ws : List (List ℕ)) (done : List Entry) (e : Entry) → IsEntry ws e → list_any (is_same e) done ≡ false → row_at n ws (rows_in done) ≡ Ok (rows_in (done ++ e ∷ []))
+pub row_read : (n : ℕ) (ws : List (List ℕ)) (done : List TextRow) (e : TextRow) → IsTextRow ws e → list_any (is_same e) done ≡ false → row_at n ws (rows_in done) ≡ Ok (rows_in (done ++ e ∷ []))
 row_read n ws done e h new =
-    ap (λ b. cond b (Err (DuplicateRow n)) (entered n (entry_at ws) (rows_in done))) (entry_no_cert ws e h)
+    ap (λ b. cond b (Err (DuplicateRow n)) (entered n (text_row_at ws) (rows_in done))) (entry_no_cert ws e h)
     ∙ ap (λ o. entered n o (rows_in done)) (entry_read ws e h)
     ∙ ap (λ b. cond b (Err (DuplicateRow n)) (Ok (with_row e (rows_in done)))) (has_in e done ∙ new)
     ∙ ap Ok (with_in e done new)
 
 -- ---- the rows behind the first
 
-record RestSays (ws : List Written) (done : List Entry) (rs : Rows) : Type 0 where
-  es : List Entry
-  are : AreEntries ws es
+record RestSays (ws : List Written) (done : List TextRow) (rs : Rows) : Type 0 where
+  es : List TextRow
+  are : AreTextRows ws es
   new : AreNew done es
   rows_are : rs ≡ rows_in (done ++ es)
 
@@ -110,34 +110,34 @@ unfolding next_rows
 next_ok (Ok x) f y h = (x, refl, h)
 next_ok (Err e) f y h = absurd (cc)
 
-after_first : (w : Written) (ws : List Written) (done : List Entry) (rs x : Rows) (s : Says w.words done x) → RestSays ws (done ++ s.e ∷ []) rs → RestSays (w ∷ ws) done rs
+after_first : (w : Written) (ws : List Written) (done : List TextRow) (rs x : Rows) (s : Says w.words done x) → RestSays ws (done ++ s.e ∷ []) rs → RestSays (w ∷ ws) done rs
 after_first w ws done rs x s r =
-    record { es = s.e ∷ r.es; are = entry s.is r.are; new = (s.new, r.new); rows_are = r.rows_are ∙ ap rows_in (append_assoc done (s.e ∷ []) r.es) }
+    record { es = s.e ∷ r.es; are = text_row s.is r.are; new = (s.new, r.new); rows_are = r.rows_are ∙ ap rows_in (append_assoc done (s.e ∷ []) r.es) }
 
-rest_found : (ws : List Written) (done : List Entry) (rs : Rows) → rest_at ws (rows_in done) ≡ Ok rs → RestSays ws done rs
+rest_found : (ws : List Written) (done : List TextRow) (rs : Rows) → rest_at ws (rows_in done) ≡ Ok rs → RestSays ws done rs
 unfolding rest_at
-rest_found [] done rs h = let same : rows_in done ≡ rs = cc in record { es = []; are = no_entry; new = tt; rows_are = sym same ∙ ap rows_in (sym (append-nil done)) }
+rest_found [] done rs h = let same : rows_in done ≡ rs = cc in record { es = []; are = no_text_row; new = tt; rows_are = sym same ∙ ap rows_in (sym (append-nil done)) }
 rest_found (w ∷ ws) done rs h =
     let n = next_ok (row_at w.line w.words (rows_in done)) (λ k. rest_at ws k) rs h in
     let s = row_found w.line w.words done n.0 n.1 in
     after_first w ws done rs n.0 s (rest_found ws (done ++ s.e ∷ []) rs (ap (rest_at ws) (sym s.rows_are) ∙ n.2))
 
-rest_read : (ws : List Written) (es done : List Entry) → AreEntries ws es → AreNew done es → rest_at ws (rows_in done) ≡ Ok (rows_in (done ++ es))
+rest_read : (ws : List Written) (es done : List TextRow) → AreTextRows ws es → AreNew done es → rest_at ws (rows_in done) ≡ Ok (rows_in (done ++ es))
 unfolding rest_at next_rows
-rest_read ws es done no_entry new = ap (λ d. Ok (rows_in d)) (sym (append-nil done))
-rest_read ws es done (entry {w} {e} {ws = vs} {es = fs} h t) new =
+rest_read ws es done no_text_row new = ap (λ d. Ok (rows_in d)) (sym (append-nil done))
+rest_read ws es done (text_row {w} {e} {ws = vs} {es = fs} h t) new =
     ap (λ r. next_rows r (λ k. rest_at vs k)) (row_read w.line w.words done e h new.0)
     ∙ rest_read vs fs (done ++ e ∷ []) t new.1
     ∙ ap (λ d. Ok (rows_in d)) (append_assoc done (e ∷ []) fs)
 
 -- where reading stops
-record Stops (ws : List Written) (done : List Entry) (f : CertFault) : Type 0 where
+record Stops (ws : List Written) (done : List TextRow) (f : CertFault) : Type 0 where
   before : List Written
   after : List Written
   here : Written
-  es : List Entry
+  es : List TextRow
   is : ws ≡ before ++ here ∷ after
-  are : AreEntries before es
+  are : AreTextRows before es
   new : AreNew done es
   cause : row_at here.line here.words (rows_in (done ++ es)) ≡ Err f
 
@@ -146,7 +146,7 @@ unfolding next_rows
 next_err (Ok x) f e h = inr (x, refl, h)
 next_err (Err d) f e h = inl h
 
-later_stops : (w : Written) (ws : List Written) (done : List Entry) (f : CertFault) (x : Rows) (s : Says w.words done x) → Stops ws (done ++ s.e ∷ []) f → Stops (w ∷ ws) done f
+later_stops : (w : Written) (ws : List Written) (done : List TextRow) (f : CertFault) (x : Rows) (s : Says w.words done x) → Stops ws (done ++ s.e ∷ []) f → Stops (w ∷ ws) done f
 later_stops w ws done f x s r =
     record {
       before = w ∷ r.before;
@@ -154,17 +154,17 @@ later_stops w ws done f x s r =
       here = r.here;
       es = s.e ∷ r.es;
       is = ap (λ v. w ∷ v) r.is;
-      are = entry s.is r.are;
+      are = text_row s.is r.are;
       new = (s.new, r.new);
       cause = ap (λ d. row_at r.here.line r.here.words (rows_in d)) (sym (append_assoc done (s.e ∷ []) r.es)) ∙ r.cause;
     }
 
-rest_stops : (ws : List Written) (done : List Entry) (f : CertFault) → rest_at ws (rows_in done) ≡ Err f → Stops ws done f
+rest_stops : (ws : List Written) (done : List TextRow) (f : CertFault) → rest_at ws (rows_in done) ≡ Err f → Stops ws done f
 unfolding rest_at
 rest_stops [] done f h = absurd (cc)
 rest_stops (w ∷ ws) done f h =
     elim (next_err (row_at w.line w.words (rows_in done)) (λ k. rest_at ws k) f h) [
-      | inl p ↦ record { before = []; after = ws; here = w; es = []; is = refl; are = no_entry; new = tt; cause = ap (λ d. row_at w.line w.words (rows_in d)) (append-nil done) ∙ p }
+      | inl p ↦ record { before = []; after = ws; here = w; es = []; is = refl; are = no_text_row; new = tt; cause = ap (λ d. row_at w.line w.words (rows_in d)) (append-nil done) ∙ p }
       | inr p ↦ (let s = row_found w.line w.words done p.0 p.1 in
           later_stops w ws done f p.0 s (rest_stops ws (done ++ s.e ∷ []) f (ap (rest_at ws) (sym s.rows_are) ∙ p.2)))
     ]
@@ -207,18 +207,18 @@ spelled_once text c d s t =
     let e : rows_in s.entries ≡ rows_in t.entries = let x = all_read text c s in let y = all_read text d t in cc in
     s.certificate_is ∙ sym (book_in s.entries) ∙ ap book_of e ∙ book_in t.entries ∙ sym t.certificate_is
 
-none_is : (o : Option Entry) → (e : Entry) → o ≡ None → o ≡ Some e → ⊥
+none_is : (o : Option TextRow) → (e : TextRow) → o ≡ None → o ≡ Some e → ⊥
 none_is o e h g = cc
 
-refused_row : (text : List ℕ) (w : Written) (es : List Entry) (f : CertFault) → length text ≤ most_characters → Reaches text es w → row_at w.line w.words (rows_in es) ≡ Err f → Refuses text f
+refused_row : (text : List ℕ) (w : Written) (es : List TextRow) (f : CertFault) → length text ≤ most_characters → Reaches text es w → row_at w.line w.words (rows_in es) ≡ Err f → Refuses text f
 refused_row text w es f l r h =
-    elim (chosen (begins_cert w.words) (Err (DuplicateRow w.line)) (entered w.line (entry_at w.words) (rows_in es)) (Err f) h) [
+    elim (chosen (begins_cert w.words) (Err (DuplicateRow w.line)) (entered w.line (text_row_at w.words) (rows_in es)) (Err f) h) [
       | inl p ↦ (let same : DuplicateRow w.line ≡ f = cc in subst (Refuses text) same (l, head_again r p.0))
-      | inr p ↦ by (entry_at w.words) refl p.0 p.1
+      | inr p ↦ by (text_row_at w.words) refl p.0 p.1
     ]
   where
-    by : (o : Option Entry) → entry_at w.words ≡ o → begins_cert w.words ≡ false → entered w.line o (rows_in es) ≡ Err f → Refuses text f
-    by None e b k = let same : Row w.line ≡ f = cc in subst (Refuses text) same (l, no_row_word r b (λ x i. none_is (entry_at w.words) x e (entry_read w.words x i)))
+    by : (o : Option TextRow) → text_row_at w.words ≡ o → begins_cert w.words ≡ false → entered w.line o (rows_in es) ≡ Err f → Refuses text f
+    by None e b k = let same : Row w.line ≡ f = cc in subst (Refuses text) same (l, no_row_word r b (λ x i. none_is (text_row_at w.words) x e (entry_read w.words x i)))
     by (Some x) e b k =
         elim (chosen (has_row x (rows_in es)) (Err (DuplicateRow w.line)) (Ok (with_row x (rows_in es))) (Err f) k) [
           | inl q ↦ (let same : DuplicateRow w.line ≡ f = cc in subst (Refuses text) same (l, path_again r (entry_found w.words x e) (sym (has_in x es) ∙ q.0)))

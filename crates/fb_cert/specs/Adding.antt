@@ -2,7 +2,7 @@
 use Rattle.std.specs.Prelude.{ℕ, Bool, List, ◌&&◌, nat_le}
 use Rattle.std.specs.Str.{bytes_eq}
 use Rattle.fb_model.specs.Spelling.{upper}
-use Rattle.fb_model.specs.CertificateText.{Entry, repeats, range, charge, weight, depth, far, far_state, channel, most_steps, most_places, most_repeats, most_channel}
+use Rattle.fb_model.specs.CertificateText.{TextRow, repeats, range, charge, weight, depth, far, far_state, channel, most_steps, most_places, most_repeats, most_channel}
 use Rattle.fb_cert.specs.Reading.{is_path}
 
 -- the text is in upper case
@@ -22,7 +22,7 @@ abbrev pub is_within : ℕ → ℕ → ℕ → Bool
 is_within low high n = nat_le low n && nat_le n high
 
 -- a text can say the row; the bounds of a range are two numbers of LINT in order by their type
-abbrev pub is_sayable : Entry → Bool
+abbrev pub is_sayable : TextRow → Bool
 is_sayable (repeats n) = is_within 1 most_repeats n
 is_sayable (range path low high) = is_upper_path path
 is_sayable (charge path steps places) = is_upper_path path && is_amount steps places

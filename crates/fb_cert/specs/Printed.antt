@@ -2,7 +2,7 @@
 use Rattle.std.specs.Prelude.{ℕ, List, [], ◌∷◌, ◌++◌, map, flat_map, codes, Option, Some, None}
 use Rattle.std.specs.List.{join_with_byte}
 use Rattle.std.specs.Fmt.{decimal, signed_decimal}
-use Rattle.fb_model.specs.CertificateText.{Entry, repeats, range, charge, weight, depth, far, far_state, channel}
+use Rattle.fb_model.specs.CertificateText.{TextRow, repeats, range, charge, weight, depth, far, far_state, channel}
 use Rattle.fb_cert.specs.declared.kind.Kind.{Kind}
 use Rattle.fb_cert.specs.declared.kind.Kind.TheVariants as kinds
 use Rattle.fb_cert.specs.Rows.{Rows}
@@ -10,7 +10,7 @@ use Rattle.fb_cert.specs.Rows.{Rows}
 -- ---- lines
 
 -- the words of a row
-abbrev pub row_words : Entry → List (List ℕ)
+abbrev pub row_words : TextRow → List (List ℕ)
 row_words (repeats n) = codes "REPEATS" ∷ decimal n ∷ []
 row_words (range p low high) = codes "RANGE" ∷ p ∷ signed_decimal low ∷ signed_decimal high ∷ []
 row_words (charge p steps places) = codes "CHARGE" ∷ p ∷ decimal steps ∷ decimal places ∷ []
@@ -21,21 +21,21 @@ row_words (far_state p n) = codes "FARSTATE" ∷ p ∷ decimal n ∷ []
 row_words (channel number n) = codes "CHANNEL" ∷ decimal number ∷ decimal n ∷ []
 
 -- words with a space between them
-abbrev pub row_text : Entry → List ℕ
+abbrev pub row_text : TextRow → List ℕ
 row_text e = join_with_byte 32 (row_words e)
 
 -- a row, and the end of its line
-abbrev pub row_line : Entry → List ℕ
+abbrev pub row_line : TextRow → List ℕ
 row_line e = row_text e ++ 10 ∷ []
 
 -- ---- texts
 
-abbrev pub repeats_entries : Option ℕ → List Entry
+abbrev pub repeats_entries : Option ℕ → List TextRow
 repeats_entries None = []
 repeats_entries (Some n) = repeats n ∷ []
 
 -- the rows of a kind
-abbrev pub entries_of : Kind → Rows → List Entry
+abbrev pub entries_of : Kind → Rows → List TextRow
 entries_of kinds.Repeats rows = repeats_entries rows.repeats
 entries_of kinds.Range rows = map (λ r. range r.0 r.1.low r.1.high) rows.ranges
 entries_of kinds.Charge rows = map (λ r. charge r.0 r.1.steps r.1.places) rows.charges
@@ -49,7 +49,7 @@ entries_of kinds.Channel rows = map (λ r. channel r.0 r.1) rows.channels
 abbrev pub all_kinds : List Kind
 all_kinds = kinds.Repeats ∷ kinds.Range ∷ kinds.Charge ∷ kinds.Weight ∷ kinds.Depth ∷ kinds.Far ∷ kinds.FarState ∷ kinds.Channel ∷ []
 
-abbrev pub entries : Rows → List Entry
+abbrev pub entries : Rows → List TextRow
 entries rows = flat_map (λ k. entries_of k rows) all_kinds
 
 -- the first line, and a line for each row

@@ -4,7 +4,7 @@ use Rattle.std.specs.Option.{option_map}
 use Rattle.std.specs.Str.{bytes_eq}
 use Rattle.std.specs.Str.Lines.{lines}
 use Rattle.fb_model.specs.Spelling.{is_digit, is_start, upper}
-use Rattle.fb_model.specs.CertificateText.{Entry, repeats, range, charge, weight, depth, far, far_state, channel, words, begins_cert, most_steps, most_places, most_repeats, most_channel, most_lint, most_characters}
+use Rattle.fb_model.specs.CertificateText.{TextRow, repeats, range, charge, weight, depth, far, far_state, channel, words, begins_cert, most_steps, most_places, most_repeats, most_channel, most_lint, most_characters}
 use Rattle.fb_model.specs.Spans.{Span, span}
 use Rattle.fb_cert.specs.declared.certificate.Amount.{Amount}
 use Rattle.fb_cert.specs.declared.fault.CertFault.{CertFault}
@@ -48,7 +48,7 @@ both f (Some s) (Some k) = Some (f s k)
 abbrev pub amount_in : List ℕ → List ℕ → Option Amount
 amount_in s k = both amount (number_in 0 most_steps s) (number_in 0 most_places k)
 
-abbrev pub channel_in : List ℕ → List ℕ → Option Entry
+abbrev pub channel_in : List ℕ → List ℕ → Option TextRow
 channel_in c n = both channel (number_in 0 most_channel c) (number_in 0 most_steps n)
 
 abbrev pub between : Option ℤ → Option ℤ → Option Span
@@ -59,34 +59,34 @@ between (Some l) (Some h) = if int_le l h then Some (span l h) else None
 abbrev pub bounds_in : List ℕ → List ℕ → Option Span
 bounds_in l h = between (whole_in l) (whole_in h)
 
-abbrev pub with_bounds : List ℕ → Option Span → Option Entry
+abbrev pub with_bounds : List ℕ → Option Span → Option TextRow
 with_bounds p None = None
 with_bounds p (Some s) = Some (range p s.low s.high)
 
-abbrev pub row_of_two : List ℕ → List ℕ → Option Entry
+abbrev pub row_of_two : List ℕ → List ℕ → Option TextRow
 row_of_two w n = if bytes_eq w (codes "REPEATS") then option_map repeats (number_in 1 most_repeats n) else None
 
 -- a path, and one number
-abbrev pub row_at_path : List ℕ → List ℕ → List ℕ → Option Entry
+abbrev pub row_at_path : List ℕ → List ℕ → List ℕ → Option TextRow
 row_at_path w p n =
     if bytes_eq w (codes "DEPTH") then option_map (depth p) (number_in 1 most_places n)
     else (if bytes_eq w (codes "FAR") then option_map (far p) (number_in 0 most_steps n) else (if bytes_eq w (codes "FARSTATE") then option_map (far_state p) (number_in 0 most_steps n) else None))
 
-abbrev pub row_of_three : List ℕ → List ℕ → List ℕ → Option Entry
+abbrev pub row_of_three : List ℕ → List ℕ → List ℕ → Option TextRow
 row_of_three w p n = if bytes_eq w (codes "CHANNEL") then channel_in p n else (if is_path p then row_at_path w p n else None)
 
-abbrev pub with_amount : List ℕ → List ℕ → Option Amount → Option Entry
+abbrev pub with_amount : List ℕ → List ℕ → Option Amount → Option TextRow
 with_amount w p None = None
 with_amount w p (Some a) = if bytes_eq w (codes "CHARGE") then Some (charge p a.steps a.places) else (if bytes_eq w (codes "WEIGHT") then Some (weight p a.steps a.places) else None)
 
-abbrev pub row_of_four : List ℕ → List ℕ → List ℕ → List ℕ → Option Entry
+abbrev pub row_of_four : List ℕ → List ℕ → List ℕ → List ℕ → Option TextRow
 row_of_four w p a b = if is_path p then (if bytes_eq w (codes "RANGE") then with_bounds p (bounds_in a b) else with_amount w p (amount_in a b)) else None
 
-abbrev pub entry_at : List (List ℕ) → Option Entry
-entry_at (w ∷ n ∷ []) = row_of_two w n
-entry_at (w ∷ p ∷ n ∷ []) = row_of_three w p n
-entry_at (w ∷ p ∷ s ∷ k ∷ []) = row_of_four w p s k
-entry_at ws = None
+abbrev pub text_row_at : List (List ℕ) → Option TextRow
+text_row_at (w ∷ n ∷ []) = row_of_two w n
+text_row_at (w ∷ p ∷ n ∷ []) = row_of_three w p n
+text_row_at (w ∷ p ∷ s ∷ k ∷ []) = row_of_four w p s k
+text_row_at ws = None
 
 abbrev pub is_head : List (List ℕ) → Bool
 is_head (w ∷ n ∷ []) = bytes_eq w (codes "CERT") && is_some (number_in 1 1 n)
@@ -102,12 +102,12 @@ pub record Read : Type 0 where
 abbrev pub read : Bool → Rows → Read
 read headed rows = record { headed = headed; rows = rows }
 
-abbrev pub entered : ℕ → Option Entry → Rows → Result Rows CertFault
+abbrev pub entered : ℕ → Option TextRow → Rows → Result Rows CertFault
 entered n None rows = Err (Row n)
 entered n (Some e) rows = if has_row e rows then Err (DuplicateRow n) else Ok (with_row e rows)
 
 abbrev pub row_at : ℕ → List (List ℕ) → Rows → Result Rows CertFault
-row_at n ws rows = if begins_cert ws then Err (DuplicateRow n) else entered n (entry_at ws) rows
+row_at n ws rows = if begins_cert ws then Err (DuplicateRow n) else entered n (text_row_at ws) rows
 
 abbrev pub behind : Result Rows CertFault → Result Read CertFault
 behind (Ok rows) = Ok (read true rows)

@@ -4,7 +4,7 @@ use Rattle.std.specs.Int.RustNames.{FitsSigned}
 use mir.Syntax.{w64}
 use Rattle.fb_model.specs.Spelling.{upper}
 use Rattle.fb_model.specs.Spans.{Span, span}
-use Rattle.fb_model.specs.CertificateText.{Entry, repeats, range, charge, weight, depth, far, far_state, channel, IsDotted, most_steps, most_places, most_repeats, most_channel}
+use Rattle.fb_model.specs.CertificateText.{TextRow, repeats, range, charge, weight, depth, far, far_state, channel, IsDotted, most_steps, most_places, most_repeats, most_channel}
 use Rattle.fb_cert.specs.declared.certificate.Amount.{Amount}
 use Rattle.fb_cert.specs.Rows.{Table, has_path, has_number, Rows, amount}
 
@@ -33,7 +33,7 @@ abbrev pub IsChannel : ℕ × ℕ → Type 0
 IsChannel r = IsWithin 0 most_channel r.0 × IsWithin 0 most_steps r.1
 
 -- a text can say the row
-abbrev pub IsSayable : Entry → Type 0
+abbrev pub IsSayable : TextRow → Type 0
 IsSayable (repeats n) = IsWithin 1 most_repeats n
 IsSayable (range path low high) = IsUpperPath path × IsRange (span low high)
 IsSayable (charge path steps places) = IsUpperPath path × IsAmount (amount steps places)

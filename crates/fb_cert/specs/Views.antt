@@ -11,7 +11,7 @@ use Rattle.fb_model.specs.Certificates as book
 use Rattle.fb_model.specs.Ranges.{Range}
 use Rattle.fb_model.specs.Spans.{Span, span, whole}
 use Rattle.fb_model.specs.System.{Variable}
-use Rattle.fb_model.specs.CertificateText.{range_row, row_of, depth_row, far_row, channel_row, Entry, repeats, range, charge, weight, depth, far, far_state, channel}
+use Rattle.fb_model.specs.CertificateText.{range_row, row_of, depth_row, far_row, channel_row, TextRow, repeats, range, charge, weight, depth, far, far_state, channel}
 use Rattle.fb_cert.specs.declared.row.Row.{Row}
 use Rattle.fb_cert.specs.declared.row.Row.TheVariants as kinds
 
@@ -42,22 +42,22 @@ shown p = (p.0.now, p.1)
 abbrev pub texts : List (Bor (List ℕ)) → List (List ℕ)
 texts words = map (λ w. w.now) words
 
-abbrev pub entry_of : Row → Entry
-entry_of (kinds.Repeats n) = repeats n
-entry_of (kinds.Range path b) = range path.now b.low b.high
-entry_of (kinds.Charge path a) = charge path.now a.steps a.places
-entry_of (kinds.Weight path a) = weight path.now a.steps a.places
-entry_of (kinds.Depth path n) = depth path.now n
-entry_of (kinds.Far path n) = far path.now n
-entry_of (kinds.FarState path n) = far_state path.now n
-entry_of (kinds.Channel number n) = channel number n
+abbrev pub text_row_of : Row → TextRow
+text_row_of (kinds.Repeats n) = repeats n
+text_row_of (kinds.Range path b) = range path.now b.low b.high
+text_row_of (kinds.Charge path a) = charge path.now a.steps a.places
+text_row_of (kinds.Weight path a) = weight path.now a.steps a.places
+text_row_of (kinds.Depth path n) = depth path.now n
+text_row_of (kinds.Far path n) = far path.now n
+text_row_of (kinds.FarState path n) = far_state path.now n
+text_row_of (kinds.Channel number n) = channel number n
 
-abbrev pub row_seen : Option Row → Option Entry
+abbrev pub row_seen : Option Row → Option TextRow
 row_seen None = None
-row_seen (Some row) = Some (entry_of row)
+row_seen (Some row) = Some (text_row_of row)
 
 -- the row's path or number stands already in a row of its kind
-abbrev pub has_row : Entry → Rows → Bool
+abbrev pub has_row : TextRow → Rows → Bool
 has_row (repeats n) rows = is_some rows.repeats
 has_row (range p l h) rows = has_path p rows.ranges
 has_row (charge p s k) rows = has_path p rows.charges
@@ -68,7 +68,7 @@ has_row (far_state p n) rows = has_path p rows.far_states
 has_row (channel number n) rows = has_number number rows.channels
 
 -- the rows with one more at the end
-abbrev pub with_row : Entry → Rows → Rows
+abbrev pub with_row : TextRow → Rows → Rows
 with_row (repeats n) rows = record rows { repeats = Some n }
 with_row (range p l h) rows = record rows { ranges = rows.ranges ++ (p, span l h) ∷ [] }
 with_row (charge p s k) rows = record rows { charges = rows.charges ++ (p, amount s k) ∷ [] }
@@ -78,7 +78,7 @@ with_row (far p n) rows = record rows { fars = rows.fars ++ (p, n) ∷ [] }
 with_row (far_state p n) rows = record rows { far_states = rows.far_states ++ (p, n) ∷ [] }
 with_row (channel number n) rows = record rows { channels = rows.channels ++ (number, n) ∷ [] }
 
-abbrev pub AddsRow : Rows → Entry → Rows → Bool → Type 0
+abbrev pub AddsRow : Rows → TextRow → Rows → Bool → Type 0
 AddsRow old e new said = (said ≡ not (has_row e old)) × (new ≡ (if said then with_row e old else old))
 
 -- ---- where there is no row, the book counts nothing

@@ -3,7 +3,7 @@
 ghost use Rattle.std.specs.Prelude.{◌≡◌, ◌==◌, ◌&&◌, not, length, slice_get, IfOk, IfErr, if◌then◌else◌};
 ghost use Rattle.std.specs.Map.{lookup};
 ghost use Rattle.std.specs.Option.{option_map};
-ghost use Rattle.fb_cert.specs.Views.{rows_of, no_rows, entry_of, has_row, with_row, first_at, shown, span_of, span_shown, row_shown, depth_shown, far_shown, channel_shown, range_shown, certificate_of, steps_in, places_in, count_in, span_in};
+ghost use Rattle.fb_cert.specs.Views.{rows_of, no_rows, text_row_of, has_row, with_row, first_at, shown, span_of, span_shown, row_shown, depth_shown, far_shown, channel_shown, range_shown, certificate_of, steps_in, places_in, count_in, span_in};
 ghost use Rattle.fb_cert.specs.Adding.{is_sayable};
 ghost use Rattle.fb_model.specs.Certificates as book;
 ghost use Rattle.fb_model.specs.CertificateText.{place_of, names_in, all_but_last, last_name, IsTold};
@@ -55,8 +55,8 @@ impl Certificate {
 
     /// Adds a row at the end of its kind, if a text can say it and its path or number stands in no row of its kind; says whether it did.
     pub fn add(&mut self, alloc: Global, row: Row) -> Result<bool, AllocError>
-        ensures tells { IfOk result (λ new. new ≡ (is_sayable (entry_of row.entry) && not (has_row (entry_of row.entry) (rows_of self.old)))) }
-        ensures added { IfOk result (λ new. rows_of self.new ≡ (if new then with_row (entry_of row.entry) (rows_of self.old) else rows_of self.old)) }
+        ensures tells { IfOk result (λ new. new ≡ (is_sayable (text_row_of row.entry) && not (has_row (text_row_of row.entry) (rows_of self.old)))) }
+        ensures added { IfOk result (λ new. rows_of self.new ≡ (if new then with_row (text_row_of row.entry) (rows_of self.old) else rows_of self.old)) }
         ensures kept { IfErr result (λ _. rows_of self.new ≡ rows_of self.old) }
     {
         if !is_sayable(&row) {

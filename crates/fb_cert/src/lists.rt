@@ -2,7 +2,7 @@
 
 ghost use Rattle.std.specs.Prelude.{◌≡◌, IfOk, IfErr};
 ghost use Rattle.fb_model.specs.CertificateText.{repeats};
-ghost use Rattle.fb_cert.specs.Views.{rows_in, no_rows, texts_of, has_number, Adds, AddsNew, AddsRow, entry_of};
+ghost use Rattle.fb_cert.specs.Views.{rows_in, no_rows, texts_of, has_number, Adds, AddsNew, AddsRow, text_row_of};
 
 use crate::bounds::Bounds;
 use crate::certificate::Amount;
@@ -82,7 +82,7 @@ impl Lists {
 
     /// Adds a row at the end, unless its path or number stands in an earlier one of its kind; says whether it is new.
     pub(crate) fn add(&mut self, alloc: Global, row: Row) -> Result<bool, AllocError>
-        ensures added { IfOk result (λ new. AddsRow (rows_in self.old) (entry_of row.entry) (rows_in self.new) new) }
+        ensures added { IfOk result (λ new. AddsRow (rows_in self.old) (text_row_of row.entry) (rows_in self.new) new) }
         ensures kept { IfErr result (λ _. rows_in self.new ≡ rows_in self.old) }
     {
         match row {

@@ -2,7 +2,7 @@
 
 ghost use Rattle.std.specs.Prelude.{◌≡◌, ◌++◌, flat_map, length, slice_get, string_bytes, IfOk};
 ghost use Rattle.fb_model.specs.CertificateText.{Spells};
-ghost use Rattle.fb_cert.specs.Views.{rows_of, certificate_of, entry_of, row_seen};
+ghost use Rattle.fb_cert.specs.Views.{rows_of, certificate_of, text_row_of, row_seen};
 ghost use Rattle.fb_cert.specs.Printed.{row_line, entries_of, printed};
 
 use crate::certificate::Certificate;
@@ -17,9 +17,9 @@ use std::fmt;
 impl<'a> fmt::Display for Row<'a> {
     ghost use Rattle.std.specs.Prelude.{Some};
     ghost use Rattle.fb_cert.specs.Printed.{row_text};
-    ghost use Rattle.fb_cert.specs.Views.{entry_of};
+    ghost use Rattle.fb_cert.specs.Views.{text_row_of};
 
-    ghost output = { λ row. Some (row_text (entry_of row)) };
+    ghost output = { λ row. Some (row_text (text_row_of row)) };
 
     fn fmt<W: fmt::Write>(&self, f: &mut fmt::Formatter<W>) -> fmt::Result {
         match self {
@@ -49,7 +49,7 @@ impl<'a> fmt::Display for Row<'a> {
 
 // Writes a row and the end of its line.
 fn print_row(text: &mut String, row: Row) -> Result<(), AllocError>
-    ensures { IfOk result (λ _. string_bytes text.new ≡ string_bytes text.old ++ row_line (entry_of row.entry)) }
+    ensures { IfOk result (λ _. string_bytes text.new ≡ string_bytes text.old ++ row_line (text_row_of row.entry)) }
 {
     writeln!(text, "{row}")
 }

@@ -5,7 +5,7 @@ ghost use Rattle.std.specs.Option.{option_map};
 ghost use Rattle.fb_model.specs.Spelling.{is_digit, is_start};
 ghost use Rattle.fb_model.specs.CertificateText.{most_lint, most_repeats, most_channel, begins_cert};
 ghost use Rattle.fb_cert.specs.Views.{span_of, texts, row_seen};
-ghost use Rattle.fb_cert.specs.Reading.{number_in, whole_in, bounds_in, path_from, is_path, amount_in, channel_in, row_of_two, row_at_path, row_of_three, row_of_four, entry_at, is_head};
+ghost use Rattle.fb_cert.specs.Reading.{number_in, whole_in, bounds_in, path_from, is_path, amount_in, channel_in, row_of_two, row_at_path, row_of_three, row_of_four, text_row_at, is_head};
 
 use crate::bounds::Bounds;
 use crate::certificate::Amount;
@@ -235,7 +235,7 @@ fn row_of_four<'a>(word: &str, path: &'a str, first: &str, second: &str) -> Opti
 
 /// The row that the words are.
 pub(crate) fn read_row<'a>(words: &[&'a str]) -> Option<Row<'a>>
-    ensures { row_seen result ≡ entry_at (texts words.now) }
+    ensures { row_seen result ≡ text_row_at (texts words.now) }
 {
     match words {
         [word, number] => row_of_two(word, number),

@@ -3,7 +3,7 @@
 ghost use Rattle.std.specs.Prelude.{◌≡◌, true};
 ghost use Rattle.fb_cert.specs.Sayable.{IsSayable};
 ghost use Rattle.fb_cert.specs.Adding.{is_upper, is_upper_path, is_amount, is_within, is_sayable};
-ghost use Rattle.fb_cert.specs.Views.{entry_of};
+ghost use Rattle.fb_cert.specs.Views.{text_row_of};
 
 use crate::certificate::Amount;
 use crate::row::{MOST_CHANNEL, MOST_PLACES, MOST_REPEATS, MOST_STEPS, Row, is_path};
@@ -43,8 +43,8 @@ fn is_within(low: u64, high: u64, number: u64) -> bool
 
 /// Whether a text can say the row.
 pub(crate) fn is_sayable(row: &Row) -> bool
-    ensures test { result ≡ is_sayable (entry_of row.now) }
-    ensures said { result ≡ true → IsSayable (entry_of row.now) }
+    ensures test { result ≡ is_sayable (text_row_of row.now) }
+    ensures said { result ≡ true → IsSayable (text_row_of row.now) }
 {
     match row {
         Row::Repeats(number) => is_within(1, MOST_REPEATS, *number as u64),

@@ -23,7 +23,7 @@ use Rattle.fb_shapes.specs.Shaped.{IsShapely, AreOwn}
 use Rattle.st_code.specs.declared.command.Procedure.{Procedure}
 use Rattle.st_code.specs.CodeViews.{code_commands}
 use Rattle.st_exec.specs.Cells.{Form, names_in}
-use Rattle.st_exec.specs.Runs.{IsWithin, AreAmong, Serves}
+use Rattle.st_exec.specs.Runs.{IsWithin, AreAmong, Supports}
 use Rattle.fb_chart.specs.declared.table.State.{State}
 use Rattle.fb_chart.specs.declared.table.Give.{Give}
 use Rattle.fb_chart.specs.declared.table.Output.{Output}
@@ -32,7 +32,7 @@ use Rattle.fb_chart.specs.Views.{named, names_of, given_by}
 use Rattle.fb_chart.specs.Tables.{Each, IsOptional, IsProcedure, IsAlgorithm, IsAction, IsState, IsPlacedOutput}
 use Rattle.fb_chart.specs.Sending.{targets_of, sent_to}
 use Rattle.fb_chart.specs.Sampling.{AreStores, IsPlacedGive, CanGive, CanGiveAll}
-use Rattle.fb_chart.specs.Charting.{block_in, IsReady, CanWork, numbered, targets_at, sent_by, given_at, issued_by, IsFine, FineFrom, most_steps}
+use Rattle.fb_chart.specs.Charting.{block_in, IsReady, CanWork, numbered, targets_at, sent_by, given_at, issued_by, CanGoOn, FineFrom, most_steps}
 use Rattle.fb_chart.proofs.Lists.{all_got, all_mapped, within_got, each_length, each_other}
 use Rattle.fb_chart.proofs.Naming.{named_stands}
 use Rattle.fb_chart.proofs.Choosing.{names_length}
@@ -69,20 +69,20 @@ in_front x (v ∷ vs) ws h = by (bytes_eq x v.name) h (in_front x vs ws) where
   by true h again = refl
   by false h again = again h
 
-pub algorithms_serve : (block : book.Block) (own issued : List Form) → IsShapely block → AreStores (Charted block) own issued → AllByRecursion (λ (p : book.Procedure). Serves own p.algorithm) block.procedures
+pub algorithms_serve : (block : book.Block) (own issued : List Form) → IsShapely block → AreStores (Charted block) own issued → AllByRecursion (λ (p : book.Procedure). Supports own p.algorithm) block.procedures
 algorithms_serve block own issued s stores =
-    all_both (λ (p : book.Procedure). AlgorithmFits s.0 p.algorithm) (λ (p : book.Procedure). AreOwn block (written p.algorithm)) (λ (p : book.Procedure). Serves own p.algorithm) block.procedures
+    all_both (λ (p : book.Procedure). AlgorithmFits s.0 p.algorithm) (λ (p : book.Procedure). AreOwn block (written p.algorithm)) (λ (p : book.Procedure). Supports own p.algorithm) block.procedures
     (λ p fits writes. (s.0, (λ x. sym (stores.own_lengths x ∙ s.1.lengths x)), fits, among p.algorithm writes)) s.1.algorithms s.1.writes
   where
     among : (a : Algorithm) → AreOwn block (written a) → AreAmong (written a) (names_in own)
     among a h = λ x e. stores.own_names x ∙ in_back x block.inputs (block.outputs ++ block.internals) (at_listed (λ (y : Name). is_in y (variable_names (block.outputs ++ block.internals)) ≡ true) (written a) x h e)
 
 -- the algorithms by slots run over the store of the working values
-pub all_work : (forms : List Form) (ps : List book.Procedure) (xs : List Procedure) → Each (IsProcedure forms) ps xs → AllByRecursion (λ (p : book.Procedure). Serves forms p.algorithm) ps → AllByRecursion (CanWork forms) xs
+pub all_work : (forms : List Form) (ps : List book.Procedure) (xs : List Procedure) → Each (IsProcedure forms) ps xs → AllByRecursion (λ (p : book.Procedure). Supports forms p.algorithm) ps → AllByRecursion (CanWork forms) xs
 all_work forms [] [] h k = tt
 all_work forms [] (x ∷ xs) h k = absurd h
 all_work forms (p ∷ ps) [] h k = absurd h
-all_work forms (p ∷ ps) (x ∷ xs) h k = (record { placed = h.0.placed; serves = subst (Serves forms) (sym h.0.same) k.0 }, all_work forms ps xs h.1 k.1)
+all_work forms (p ∷ ps) (x ∷ xs) h k = (record { placed = h.0.placed; serves = subst (Supports forms) (sym h.0.same) k.0 }, all_work forms ps xs h.1 k.1)
 
 -- the algorithm of a number is the one that the book finds by the name
 pub algorithm_is : (forms : List Form) (block : book.Block) (xs : List Procedure) (a : Option Name) (n : Option ℕ) → Each (IsProcedure forms) block.procedures xs → IsAlgorithm block a n → algorithm_of block a ≡ numbered xs n
@@ -114,7 +114,7 @@ module _ (block : book.Block) (outs : List Output) (most room : ℕ) (start : Mo
     pub next : Reaches block start (At s (issue_all (Charted block) (emission a.output) (record { own = values; issued = c.issued })) (Acting left) (n + m) (out ++ emission a.output))
     next = and_then (At s c (Acting (a ∷ left)) n out) _ run (acts s a left c n m out values done)
 
-    pub next_fine : IsFine block outs most room (At s (issue_all (Charted block) (emission a.output) (record { own = values; issued = c.issued })) (Acting left) (n + m) (out ++ emission a.output))
+    pub next_fine : CanGoOn block outs most room (At s (issue_all (Charted block) (emission a.output) (record { own = values; issued = c.issued })) (Acting left) (n + m) (out ++ emission a.output))
     next_fine = fine _ next
 
 -- ---- outputs

@@ -15,7 +15,7 @@ use Rattle.fb_leaves.specs.Leaves.{IsListed}
 use Rattle.fb_chart.specs.declared.table.Output.{Output}
 use Rattle.fb_chart.specs.Views.{named}
 use Rattle.fb_chart.specs.Sending.{Points, targets_of, sent_to}
-use Rattle.fb_chart.specs.Charting.{steps_at, IsFine, phase_of, FineFrom, HasCome}
+use Rattle.fb_chart.specs.Charting.{steps_at, CanGoOn, phase_of, FineFrom, HasCome}
 use Rattle.fb_chart.proofs.Lists.{appended_on}
 
 pub reaches_on : (block : book.Block) (a b c : Moment) → Reaches block a b → Reaches block b c → Reaches block a c
@@ -60,7 +60,7 @@ pub sent_length : (outputs : List Output) (xs ys : List Name) → length (sent_t
 sent_length outputs xs ys = ap length (sent_append outputs xs ys) ∙ length-append (sent_to outputs xs) (sent_to outputs ys)
 
 -- what is fine after more was emitted is fine, with the room that is left
-fine_after : (block : book.Block) (outputs : List Output) (most room left : ℕ) (o : List Name) (m : Moment) → room ≡ left + length (sent_to outputs o) → IsFine block outputs most room (after_these o m) → IsFine block outputs most left m
+fine_after : (block : book.Block) (outputs : List Output) (most room left : ℕ) (o : List Name) (m : Moment) → room ≡ left + length (sent_to outputs o) → CanGoOn block outputs most room (after_these o m) → CanGoOn block outputs most left m
 fine_after block outputs most room left o (At s c p n out) e h = record {
   clear = λ t. h.clear (same p t);
   steps = h.steps;

@@ -23,7 +23,7 @@ use Rattle.fb_chart.specs.Views.{named, names_of}
 use Rattle.fb_chart.specs.Tables.{Each, IsOptional, IsAction}
 use Rattle.fb_chart.specs.Sending.{Points, sent_to}
 use Rattle.fb_chart.specs.Sampling.{CanGiveAll}
-use Rattle.fb_chart.specs.Charting.{block_in, states_in, events_in, outputs_in, most_steps, IsReady, CanWork, numbered, phase_of, sent_by, issued_by, cells_of, entered, begun, IsFine, FineFrom, HasCome}
+use Rattle.fb_chart.specs.Charting.{block_in, states_in, events_in, outputs_in, most_steps, IsReady, CanWork, numbered, phase_of, sent_by, issued_by, cells_of, entered, begun, CanGoOn, FineFrom, HasCome}
 use Rattle.fb_chart.proofs.Lists.{First, each_first, each_none, appended_on}
 use Rattle.fb_chart.proofs.Coming.{sent_append, sent_length, enters, fine_on, come_on, steps_grow}
 use Rattle.fb_chart.proofs.Acting.{actions_stand, algorithms_serve, all_work, algorithm_is, algorithm_in, small, next, next_fine, sent_emission, issued_emission, output_in, all_give}
@@ -89,7 +89,7 @@ module _ (c : Chart) (outs : List Output) (own0 issued0 : List Cell) (ready : Is
       ran : work (algorithm_of (block_in c) it.x.algorithm) (values_of own) ≡ Done (values_of own') m
       ran = ap (λ (a : Option Algorithm). work a (values_of own)) algorithm ∙ done
 
-      moment_fine : IsFine (block_in c) outs most room (At s (issue_all (Charted (block_in c)) (emission it.x.output) (record { own = values_of own'; issued = values_of issued })) (Acting it.left) (steps + m) (come.outs ++ emission it.x.output))
+      moment_fine : CanGoOn (block_in c) outs most room (At s (issue_all (Charted (block_in c)) (emission it.x.output) (record { own = values_of own'; issued = values_of issued })) (Acting it.left) (steps + m) (come.outs ++ emission it.x.output))
       moment_fine = next_fine (block_in c) outs most room (entered c state (cells_of own0 issued0) before) fine s (cells_of own issued) it.x it.left steps come.outs run few (values_of own') m ran
 
       pub steps_now : steps + m ≤ most

@@ -5,4 +5,4 @@ pub mod Choosing
 pub mod Acting
 pub mod Coming
 pub mod Doing
-pub mod Turning
+pub mod Invoking

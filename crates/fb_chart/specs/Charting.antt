@@ -20,7 +20,7 @@ use Rattle.st_code.specs.declared.command.Procedure.{Procedure}
 use Rattle.st_code.specs.CodeViews.{code_commands}
 use Rattle.st_code.specs.Placed.{placed_all}
 use Rattle.st_exec.specs.Cells.{Cell, Form, values_of}
-use Rattle.st_exec.specs.Runs.{Serves}
+use Rattle.st_exec.specs.Runs.{Supports}
 use Rattle.fb_chart.specs.declared.table.Output.{Output}
 use Rattle.fb_chart.specs.declared.table.Chart.{Chart}
 use Rattle.fb_chart.specs.Views.{named, names_of, given_by, outputs_of}
@@ -84,7 +84,7 @@ numbered ps (Some n) = option_map (λ p. code_commands p.statements.items) (slic
 -- an algorithm that runs over a store of these forms
 pub record CanWork (forms : List Form) (p : Procedure) : Type 0 where
   pub placed : placed_all forms p.statements.items ≡ true
-  pub serves : Serves forms (code_commands p.statements.items)
+  pub serves : Supports forms (code_commands p.statements.items)
 
 -- ---- outputs by their numbers
 
@@ -110,14 +110,14 @@ abbrev pub steps_at : Moment → ℕ
 steps_at (At s c phase n out) = n
 
 -- nothing traps next, no more than so many steps are done, and there was room for what is sent
-pub record IsFine (block : book.Block) (outputs : List Output) (most room : ℕ) (m : Moment) : Type 0 where
+pub record CanGoOn (block : book.Block) (outputs : List Output) (most room : ℕ) (m : Moment) : Type 0 where
   pub clear : Traps block m → ⊥
   pub steps : steps_at m ≤ most
   pub enough : length (sent_to outputs (emitted_of m)) ≤ room
 
 -- it is so at each moment from one on
 abbrev pub FineFrom : book.Block → List Output → ℕ → ℕ → Moment → Type 0
-FineFrom block outputs most room start = (m : Moment) → Reaches block start m → IsFine block outputs most room m
+FineFrom block outputs most room start = (m : Moment) → Reaches block start m → CanGoOn block outputs most room m
 
 -- the most steps that numbers count, a limit of this project's profile
 abbrev pub most_steps : ℕ

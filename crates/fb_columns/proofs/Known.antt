@@ -12,13 +12,13 @@ use Rattle.fb_rows.specs.fb_blocks.declared.typed.Transition.{Transition}
 use Rattle.fb_rows.specs.fb_blocks.declared.typed.Block.{Block}
 use Rattle.fb_rows.specs.fb_blocks.Views.{event_of, action_of, transition_of, block_of}
 use Rattle.fb_leaves.specs.Leaves.{IsListed, IsClosedBlock}
-use Rattle.fb_columns.specs.Reckoning.{Entry, table_names}
+use Rattle.fb_columns.specs.Reckoning.{NamedActions, table_names}
 use Rattle.fb_columns.specs.Paying.{outputs_in, inputs_in}
 use Rattle.fb_columns.proofs.Lists.{all_source}
 
 -- ---- names
 
-abbrev pub state_of : Entry → book.State
+abbrev pub state_of : NamedActions → book.State
 state_of s = record { name = string_bytes s.0; actions = map action_of s.1.items }
 
 pub event_names_are : (es : List (String Global × Vec (String Global) Global)) → event_names (map (λ p. event_of (string_bytes p.0) p.1.items) es) ≡ map (λ p. string_bytes p.0) es
@@ -29,7 +29,7 @@ pub typed_names_are : (es : List (String Global × Vec (String Global) Global)) 
 typed_names_are [] = refl
 typed_names_are (e ∷ es) = ap (λ ns. string_bytes e.0 ∷ ns) (typed_names_are es)
 
-state_names_are : (ss : List Entry) → names (map state_of ss) ≡ map (λ p. string_bytes p.0) ss
+state_names_are : (ss : List NamedActions) → names (map state_of ss) ≡ map (λ p. string_bytes p.0) ss
 state_names_are [] = refl
 state_names_are (s ∷ ss) = ap (λ ns. string_bytes s.0 ∷ ns) (state_names_are ss)
 
@@ -45,7 +45,7 @@ abbrev pub IsCrossing : List Name → List Name → book.Transition → Type 0
 IsCrossing states inputs t = (is_in t.source states ≡ true) × (is_in t.target states ≡ true) × IsListed inputs t.event
 
 pub record IsTabled (k : Block) : Type 0 where
-  pub actions : AllByRecursion (λ (s : Entry). AllByRecursion (IsEmitting (outputs_in k)) (map action_of s.1.items)) k.states.entries
+  pub actions : AllByRecursion (λ (s : NamedActions). AllByRecursion (IsEmitting (outputs_in k)) (map action_of s.1.items)) k.states.entries
   pub transitions : AllByRecursion (λ (t : Transition). IsCrossing (states_in k) (inputs_in k) (transition_of t)) k.transitions.items
   pub inputs : AreWords (inputs_in k)
   pub states : AreWords (states_in k)
@@ -69,7 +69,7 @@ tabled k closed states inputs =
     subst (λ (ns : List Name). AllByRecursion (IsCrossing ns (inputs_in k)) ts) states_are
     (subst (λ (ns : List Name). AllByRecursion (IsCrossing (names ss) ns) ts) inputs_are (crossing (names ss) (event_names (block_of k).event_inputs) ts closed.sources closed.targets closed.events)) in
     record {
-      actions = all_source (λ (s : Entry). AllByRecursion (IsEmitting (outputs_in k)) (map action_of s.1.items)) (ActsIn (outputs_in k)) state_of k.states.entries (λ s a. a) acting;
+      actions = all_source (λ (s : NamedActions). AllByRecursion (IsEmitting (outputs_in k)) (map action_of s.1.items)) (ActsIn (outputs_in k)) state_of k.states.entries (λ s a. a) acting;
       transitions = all_source (λ (x : Transition). IsCrossing (states_in k) (inputs_in k) (transition_of x)) (IsCrossing (states_in k) (inputs_in k)) transition_of k.transitions.items (λ x a. a) crossings;
       inputs = subst (λ (ns : List Name). AreWords ns) inputs_are inputs;
       states = subst (λ (ns : List Name). AreWords ns) states_are states;

@@ -25,7 +25,7 @@ use Rattle.fb_rows.specs.fb_blocks.Views.{name_of, action_of, transition_of, blo
 use Rattle.fb_leaves.specs.Leaves.{IsListed}
 use Rattle.fb_columns.specs.declared.column.Column.{Column}
 use Rattle.fb_columns.specs.Columns.{unit_of, crossing_need}
-use Rattle.fb_columns.specs.Reckoning.{weight_of, charge_of, value_at, table_names, Costs, Entry, acted, own_of, cost_at}
+use Rattle.fb_columns.specs.Reckoning.{weight_of, charge_of, value_at, table_names, Costs, NamedActions, acted, own_of, cost_at}
 use Rattle.fb_columns.specs.Paying.{StatePays, SourcePays, Pays, InputPays, EventPays, outputs_in, inputs_in, costs_in, most_in, ChartPays, StateOwes, EventOwes}
 use Rattle.fb_columns.specs.Fitting.{ChargeFails, WeightFails}
 use Rattle.fb_columns.proofs.Lists.{is_text, bytes_turned, in_at, each_in, all_image, all_source, all_here, all_at, any_image}
@@ -85,7 +85,7 @@ module _ (c : Column) (rows : Certificate) (path : Name) (col : cert.Column) (sp
       let one : f a ≡ g (action_of a) = acts a h.0 in
       sum_by-cons f a xs ∙ ap (λ n. n + sum_by f xs) one ∙ ap (λ n. g (action_of a) + n) (own_same xs h.1) ∙ sym (sum_by-cons g (action_of a) (map action_of xs))
 
-  costs_same : (ss : List Entry) → AllByRecursion (λ (s : Entry). AllByRecursion (IsEmitting (outputs_in k)) (map action_of s.1.items)) ss → (x : Name)
+  costs_same : (ss : List NamedActions) → AllByRecursion (λ (s : NamedActions). AllByRecursion (IsEmitting (outputs_in k)) (map action_of s.1.items)) ss → (x : Name)
       → cost_at k ns ss x ≡ own col spans targets (block_of k) (actions_of (map state_of ss) x)
   costs_same [] h x = refl
   costs_same (s ∷ ss) h x = by (bytes_eq x (string_bytes s.0)) refl (costs_same ss h.1 x) where
@@ -104,13 +104,13 @@ module _ (c : Column) (rows : Certificate) (path : Name) (col : cert.Column) (sp
 
   -- ---- states
 
-  abbrev Acting : Entry → Type 0
+  abbrev Acting : NamedActions → Type 0
   Acting s = IsWord (string_bytes s.0) × AllByRecursion (IsEmitting (outputs_in k)) (map action_of s.1.items)
 
-  state_fits : (s : Entry) → Acting s → StatePays c rows path k ns s → StateFits col spans targets (names_in path) (block_of k) (state_of s)
+  state_fits : (s : NamedActions) → Acting s → StatePays c rows path k ns s → StateFits col spans targets (names_in path) (block_of k) (state_of s)
   state_fits s a p = le_along _ _ _ _ (own_same s.1.items a.1) (sym (charge_same (string_bytes s.0) a.0)) p
 
-  state_pays : (s : Entry) → Acting s → StateFits col spans targets (names_in path) (block_of k) (state_of s) → StatePays c rows path k ns s
+  state_pays : (s : NamedActions) → Acting s → StateFits col spans targets (names_in path) (block_of k) (state_of s) → StatePays c rows path k ns s
   state_pays s a p = le_along _ _ _ _ (sym (own_same s.1.items a.1)) (charge_same (string_bytes s.0) a.0) p
 
   -- ---- free transitions
@@ -189,8 +189,8 @@ module _ (c : Column) (rows : Certificate) (path : Name) (col : cert.Column) (sp
 
   acting : AllByRecursion Acting k.states.entries
   acting =
-      all_both (λ (s : Entry). IsWord (string_bytes s.0)) (λ (s : Entry). AllByRecursion (IsEmitting (outputs_in k)) (map action_of s.1.items)) Acting k.states.entries (λ s w a. (w, a))
-      (all_source (λ (s : Entry). IsWord (string_bytes s.0)) IsWord (λ (s : Entry). string_bytes s.0) k.states.entries (λ s w. w) tables.states) tables.actions
+      all_both (λ (s : NamedActions). IsWord (string_bytes s.0)) (λ (s : NamedActions). AllByRecursion (IsEmitting (outputs_in k)) (map action_of s.1.items)) Acting k.states.entries (λ s w a. (w, a))
+      (all_source (λ (s : NamedActions). IsWord (string_bytes s.0)) IsWord (λ (s : NamedActions). string_bytes s.0) k.states.entries (λ s w. w) tables.states) tables.actions
 
   inputs_are : event_names (block_of k).event_inputs ≡ inputs_in k
   inputs_are = event_names_are k.face.event_inputs.entries
@@ -199,8 +199,8 @@ module _ (c : Column) (rows : Certificate) (path : Name) (col : cert.Column) (sp
   chart_weighs p =
       record {
         states =
-            all_image (λ (s : Entry). Acting s × StatePays c rows path k ns s) (StateFits col spans targets (names_in path) (block_of k)) state_of k.states.entries (λ s q. state_fits s q.0 q.1)
-            (all_both Acting (StatePays c rows path k ns) (λ (s : Entry). Acting s × StatePays c rows path k ns s) k.states.entries (λ s a q. (a, q)) acting p.states);
+            all_image (λ (s : NamedActions). Acting s × StatePays c rows path k ns s) (StateFits col spans targets (names_in path) (block_of k)) state_of k.states.entries (λ s q. state_fits s q.0 q.1)
+            (all_both Acting (StatePays c rows path k ns) (λ (s : NamedActions). Acting s × StatePays c rows path k ns s) k.states.entries (λ s a q. (a, q)) acting p.states);
         free =
             all_image (λ (t : Transition). Crossing t × SourcePays c rows path (costs_in k ns) t) (FreeFits col spans targets (names_in path) (block_of k)) transition_of k.transitions.items (λ t q. free_fits t q.0 q.1)
             (all_both Crossing (SourcePays c rows path (costs_in k ns)) (λ (t : Transition). Crossing t × SourcePays c rows path (costs_in k ns) t) k.transitions.items (λ t a q. (a, q)) tables.transitions p.sources);
@@ -217,7 +217,7 @@ module _ (c : Column) (rows : Certificate) (path : Name) (col : cert.Column) (sp
   pub state_fails : (x : Name) → StateOwes c rows path k ns x → ChargeFails col spans targets (names_in path) (Charted (block_of k)) x
   state_fails x (inl a) =
       inl
-      (any_image Acting (λ (s : Entry). (string_bytes s.0 ≡ x) × (StatePays c rows path k ns s → ⊥)) (λ (s : book.State). (s.name ≡ x) × (StateFits col spans targets (names_in path) (block_of k) s → ⊥)) state_of k.states.entries acting
+      (any_image Acting (λ (s : NamedActions). (string_bytes s.0 ≡ x) × (StatePays c rows path k ns s → ⊥)) (λ (s : book.State). (s.name ≡ x) × (StateFits col spans targets (names_in path) (block_of k) s → ⊥)) state_of k.states.entries acting
       (λ s t p. (p.0, λ f. p.1 (state_pays s t f))) a)
   state_fails x (inr a) =
       inr

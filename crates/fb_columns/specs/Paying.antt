@@ -15,7 +15,7 @@ use Rattle.fb_columns.specs.declared.column.Column.{Column}
 use Rattle.fb_columns.specs.declared.fault.Shortfall.{Shortfall}
 use Rattle.fb_columns.specs.declared.fault.Shortfall.TheVariants.{OutOfMemory, Charge, Weight, Channel}
 use Rattle.fb_columns.specs.Columns.{unit_of, column_of, crossing_need}
-use Rattle.fb_columns.specs.Reckoning.{weight_of, charge_of, load_at, table_names, Costs, Entry, own_of, cost_at, most_free}
+use Rattle.fb_columns.specs.Reckoning.{weight_of, charge_of, load_at, table_names, Costs, NamedActions, own_of, cost_at, most_free}
 
 -- ---- refusals
 
@@ -51,7 +51,7 @@ NamesOne Says name P xs r = MatchResult r (λ u. AllByRecursion P xs) (Says (λ 
 -- ---- what has to be paid
 
 -- the charge of a state pays for its actions
-abbrev pub StatePays : Column → Certificate → Name → Block → Costs → Entry → Type 0
+abbrev pub StatePays : Column → Certificate → Name → Block → Costs → NamedActions → Type 0
 StatePays c cert path block costs s = own_of block costs s ≤ charge_of c cert path (string_bytes s.0)
 
 -- the charge of a state pays for a free transition that leaves it

@@ -86,8 +86,8 @@ abbrev pub ArePrices : Prices → Costs → Type 0
 ArePrices prices costs = AreSums prices.algorithms.items costs.algorithms × AreSums prices.outputs.items costs.outputs
 
 -- a state of the tables: its name and its actions
-abbrev pub Entry : Type 0
-Entry = String Global × Vec Action Global
+abbrev pub NamedActions : Type 0
+NamedActions = String Global × Vec Action Global
 
 -- the cost of the algorithm that an action runs
 abbrev pub worked : Block → Costs → Action → ℕ
@@ -101,11 +101,11 @@ abbrev pub acted : Block → Costs → Action → ℕ
 acted k costs a = worked k costs a + emitted k costs a
 
 -- what the actions of a state cost by themselves
-abbrev pub own_of : Block → Costs → Entry → ℕ
+abbrev pub own_of : Block → Costs → NamedActions → ℕ
 own_of k costs s = sum_by (acted k costs) s.1.items
 
 -- the same of the first state of a name, 0 where there is none
-abbrev pub cost_at : Block → Costs → List Entry → Name → ℕ
+abbrev pub cost_at : Block → Costs → List NamedActions → Name → ℕ
 cost_at k costs states x = value_at (map (λ s. string_bytes s.0) states) (map (own_of k costs) states) 0 x
 
 -- ---- free transitions

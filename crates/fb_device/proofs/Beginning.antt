@@ -34,7 +34,7 @@ use Rattle.fb_arrive.specs.fb_state.fb_sched.declared.reaction.Reaction.{Reactio
 use Rattle.fb_arrive.specs.fb_state.fb_sched.Agenda.{Agenda, IsAgenda, slot_at}
 use Rattle.fb_arrive.specs.fb_state.fb_sched.Steps.{spent}
 use Rattle.fb_arrive.specs.fb_state.fb_timers.Expiry.{AreArmed}
-use Rattle.fb_arrive.specs.fb_state.fb_tables.fb_first.First.{AreFirst}
+use Rattle.fb_arrive.specs.fb_state.fb_tables.fb_first.First.{HaveFirstCells}
 use Rattle.fb_arrive.specs.fb_state.fb_tables.fb_first.declared.first.FirstValues.{FirstValues}
 use Rattle.fb_arrive.specs.fb_state.declared.program.Program.{Program}
 use Rattle.fb_arrive.specs.fb_state.declared.program.Running.{Running}
@@ -50,7 +50,7 @@ use Rattle.fb_words.specs.declared.format.Format.TheVariants.{First, Second}
 use Rattle.fb_wire.specs.declared.message.Stamp.{Stamp}
 use Rattle.fb_wire.specs.Views.{stamped_of}
 use Rattle.fb_model.specs.Messages.{IsStamp}
-use Rattle.fb_arrive.specs.fb_state.fb_serve.Turns.{stamps_in}
+use Rattle.fb_arrive.specs.fb_state.fb_serve.Responses.{stamps_in}
 use Rattle.fb_device.specs.Starting.{upcoming_of, latest_of, first_of, AreEmpty, IsAtRest}
 use Rattle.fb_device.proofs.Silent.{silent_sound, none_armed}
 
@@ -170,7 +170,7 @@ first_fits stamp (Serviced Cycle) = tt
 first_fits stamp (Serviced Restart) = tt
 
 -- leaves, the first of this number, stand as at first
-first_stored : (stamp : Stamp) (k : ℕ) (ls : List Leaf) (owns issues : List (List Cell)) → AreFirst ls owns issues → (f : ℕ → Kind → LeafState)
+first_stored : (stamp : Stamp) (k : ℕ) (ls : List Leaf) (owns issues : List (List Cell)) → HaveFirstCells ls owns issues → (f : ℕ → Kind → LeafState)
     → ((i : ℕ) (leaf : Leaf) (o x : List Cell) → slice_get ls i ≡ Some leaf → slice_get owns i ≡ Some o → slice_get issues i ≡ Some x → f (k + i) leaf.kind ≡ leaf_state leaf.kind o x (first_of stamp leaf.kind))
     → (p : Path) → store_from k ls f p ≡ first_store (stamped_of stamp) ls p
 first_stored stamp k [] [] [] a f h p = refl
@@ -197,7 +197,7 @@ record Stored (owns issues : List (List Cell)) (k : ℕ) (leaf : Leaf) : Type 0 
   issued_is : slice_get issues k ≡ Some issued
   stores : AreStores leaf.kind (forms_of own) (forms_of issued)
 
-first_stand : (ls : List Leaf) (owns issues : List (List Cell)) → AreFirst ls owns issues → (k : ℕ) (leaf : Leaf) → slice_get ls k ≡ Some leaf → Stored owns issues k leaf
+first_stand : (ls : List Leaf) (owns issues : List (List Cell)) → HaveFirstCells ls owns issues → (k : ℕ) (leaf : Leaf) → slice_get ls k ≡ Some leaf → Stored owns issues k leaf
 first_stand [] owns issues a k leaf h = cc
 first_stand (l ∷ ls) [] issues a k leaf h = absurd a
 first_stand (l ∷ ls) (o ∷ os) [] a k leaf h = absurd a
@@ -212,7 +212,7 @@ first_stand (l ∷ ls) (o ∷ os) (x ∷ xs) a (suc k) leaf h =
 
 module _ (v : Verified) (k begins : ℕ) (stamp : Stamp) (t : Tables) (first : FirstValues) (r : Running) (checked : IsChecked v) (within : k < length (system_in v).devices)
     (tables : (d : Device) → slice_get (system_in v).devices k ≡ Some d → AreTables (certificate_in v) d (map forms_of r.memory.own.items) (map forms_of r.memory.issued.items) t)
-    (firsts : (d : Device) → slice_get (system_in v).devices k ≡ Some d → AreFirst (leaves d) first.own.items first.issued.items) (rest : IsAtRest t first begins stamp r) where
+    (firsts : (d : Device) → slice_get (system_in v).devices k ≡ Some d → HaveFirstCells (leaves d) first.own.items first.issued.items) (rest : IsAtRest t first begins stamp r) where
   abbrev program : Program
   program = record { verified = v; number = k; tables = t }
 
@@ -240,8 +240,8 @@ module _ (v : Verified) (k begins : ℕ) (stamp : Stamp) (t : Tables) (first : F
   holds : DeviceHolds cert device
   holds = all_got (DeviceHolds cert) (system_in v).devices k device (devices_hold (system_in v) cert checked.written checked.fits) stands
 
-  values : AreFirst (leaves device) owns issues
-  values = subst (λ (w : Vec (List Cell) Global). AreFirst (leaves device) owns w.items) (sym rest.issued) (subst (λ (w : Vec (List Cell) Global). AreFirst (leaves device) w.items first.issued.items) (sym rest.own) (firsts device stands))
+  values : HaveFirstCells (leaves device) owns issues
+  values = subst (λ (w : Vec (List Cell) Global). HaveFirstCells (leaves device) owns w.items) (sym rest.issued) (subst (λ (w : Vec (List Cell) Global). HaveFirstCells (leaves device) w.items first.issued.items) (sym rest.own) (firsts device stands))
 
   remembers : (i : ℕ) (leaf : Leaf) → slice_get (leaves device) i ≡ Some leaf → slice_get conditions i ≡ Some (first_of stamp leaf.kind)
   remembers i leaf h =

@@ -12,7 +12,7 @@ use Rattle.fb_arrive.specs.fb_state.fb_tables.fb_check.Lookups.{is_same_path}
 use Rattle.fb_arrive.specs.fb_state.fb_tables.Views.{place_at}
 use Rattle.fb_arrive.specs.fb_state.fb_tables.Tables.{far_at}
 use Rattle.fb_arrive.specs.Answers.{admission_of}
-use Rattle.fb_dispatch.specs.Answers.{turned_of, HasPoint}
+use Rattle.fb_dispatch.specs.Answers.{dispatched_of, HasPoint}
 use Rattle.fb_device.specs.declared.answer.Opening.{Opening}
 use Rattle.fb_device.specs.declared.answer.Step.{Step}
 use Rattle.fb_device.specs.declared.answer.Step.TheVariants.{Offer, Deliver, Tick, Dispatch}
@@ -22,7 +22,7 @@ use Rattle.fb_device.specs.declared.answer.Answer.TheVariants.{Admitted, Fired, 
 abbrev pub answer_of : List Leaf → Answer → book.Answer
 answer_of all (Admitted answer) = admission_of answer
 answer_of all (Fired count) = book.Expired count
-answer_of all (Served turned) = turned_of all turned
+answer_of all (Served turned) = dispatched_of all turned
 
 abbrev pub event_of : Step → book.Event
 event_of (Offer input values) = book.Offer input values.items

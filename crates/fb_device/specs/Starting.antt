@@ -13,7 +13,7 @@ use Rattle.fb_wire.specs.declared.message.Stamp.{Stamp}
 use Rattle.fb_arrive.specs.fb_state.fb_serve.declared.standing.Stamps.{Stamps}
 use Rattle.fb_arrive.specs.fb_state.fb_serve.declared.standing.Stamps.TheVariants.{Unstamped, Upcoming, Latest}
 use Rattle.fb_arrive.specs.fb_state.fb_serve.declared.standing.Standing.TheVariants.{Closed, Quiet, Plain}
-use Rattle.fb_arrive.specs.fb_state.fb_tables.fb_first.First.{AreFirst}
+use Rattle.fb_arrive.specs.fb_state.fb_tables.fb_first.First.{HaveFirstCells}
 use Rattle.fb_arrive.specs.fb_state.fb_tables.fb_first.declared.first.FirstValues.{FirstValues}
 use Rattle.fb_arrive.specs.fb_state.fb_tables.declared.table.Resource.{Resource}
 use Rattle.fb_arrive.specs.fb_state.fb_tables.declared.table.Tables.{Tables}
@@ -63,6 +63,6 @@ pub record IsAtRest (t : Tables) (values : FirstValues) (first : ℕ) (stamp : S
   pub next : r.next ≡ Some first
 
 -- how a device of these tables stands at first, the one of this number in what was checked
-pub record IsFirst (v : Verified) (k first : ℕ) (stamp : Stamp) (values : FirstValues) (t : Tables) (r : Running) : Type 0 where
-  pub lies : (d : Device) → slice_get (system_in v).devices k ≡ Some d → AreFirst (leaves d) values.own.items values.issued.items
+pub record IsSetUp (v : Verified) (k first : ℕ) (stamp : Stamp) (values : FirstValues) (t : Tables) (r : Running) : Type 0 where
+  pub lies : (d : Device) → slice_get (system_in v).devices k ≡ Some d → HaveFirstCells (leaves d) values.own.items values.issued.items
   pub rest : IsAtRest t values first stamp r

@@ -1,7 +1,7 @@
 //! What a device is asked, and what it answers.
 
 use fb_arrive::Denied;
-use fb_dispatch::Turned;
+use fb_dispatch::Dispatched;
 
 /// The arrival that opened a cause: its block and event by number, the steps of its WEIGHT row, and those of its FAR row where the certificate has REPEATS.
 #[derive(Clone, Copy)]
@@ -32,5 +32,5 @@ pub enum Answer {
     Admitted(Result<u64, Denied>),
     /// How many timers a tick has fired.
     Fired(u32),
-    Served(Turned),
+    Served(Dispatched),
 }

@@ -6,7 +6,7 @@ ghost use Rattle.fb_model.specs.Devices.{Happens, Offer, Deliver, Tick, Dispatch
 ghost use Rattle.fb_model.specs.Headline.{KeepsBounds, StaysWithinAll};
 ghost use Rattle.fb_model.specs.Wires.{leaves};
 ghost use Rattle.fb_arrive.specs.Answers.{admission_of};
-ghost use Rattle.fb_dispatch.specs.Answers.{turned_of, HasPoint};
+ghost use Rattle.fb_dispatch.specs.Answers.{dispatched_of, HasPoint};
 ghost use Rattle.fb_arrive.specs.fb_state.Machines.{device_in, cert_in, machine_of};
 ghost use Rattle.fb_device.specs.Answers.{answer_of, event_of, HasPlace, IsOpening, IsNamed, IsNoPoint, IsNumberOf, IsNoNumber};
 ghost use Rattle.fb_device.specs.Promises.{IsBounded};
@@ -16,7 +16,7 @@ use crate::answer::{Answer, Opening, Step};
 use crate::names::{name, opening, path, resource};
 use fb_arrive::fb_state::{Program, Running};
 use fb_arrive::{Denied, begin, deliver, offer, tick};
-use fb_dispatch::{Turned, dispatch};
+use fb_dispatch::{Dispatched, dispatch};
 use std::marker::Model;
 
 /// A device that runs a checked application. Its calls take no memory.
@@ -70,8 +70,8 @@ impl Device {
     /// Dispatches the first pending entry of a resource, which runs one block to its end.
     ///
     /// `Idle` where nothing is pending or there is no such resource.
-    pub fn dispatch(&mut self, resource: u16) -> Turned
-        ensures step { Happens (cert_in self.old) (device_in self.old) (machine_of self.old) (Dispatch resource) (turned_of (leaves (device_in self.old)) result) (machine_of self.new) }
+    pub fn dispatch(&mut self, resource: u16) -> Dispatched
+        ensures step { Happens (cert_in self.old) (device_in self.old) (machine_of self.old) (Dispatch resource) (dispatched_of (leaves (device_in self.old)) result) (machine_of self.new) }
         ensures point { HasPoint (leaves (device_in self.old)) result }
         ensures bounded { IsBounded (cert_in self.old) (device_in self.old) (machine_of self.new) }
         ensures same { (self.new.verified ≡ self.old.verified) × (self.new.number ≡ self.old.number) }

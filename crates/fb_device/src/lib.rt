@@ -13,6 +13,6 @@ pub use fb_arrive::Denied;
 pub use fb_arrive::fb_state::fb_tables;
 pub use fb_arrive::fb_state::fb_turn::fb_chart::Values;
 pub use fb_arrive::fb_state::fb_turn::fb_serve::Effect;
-pub use fb_dispatch::{Ended, Ran, Turned};
+pub use fb_dispatch::{Dispatched, Ended, Ran};
 pub use loading::{Ready, load, load_boot, load_checked, load_from};
 pub use refusal::Refusal;

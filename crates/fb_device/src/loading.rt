@@ -14,7 +14,7 @@ ghost use Rattle.fb_model.specs.Devices.{at_first, begun, first_stamp, silent};
 ghost use Rattle.fb_wire.specs.Views.{stamped_of};
 ghost use Rattle.fb_arrive.specs.fb_state.st_exec.Cells.{Form, forms_of};
 ghost use Rattle.fb_arrive.specs.fb_state.fb_chart.Views.{body_kind, kind_of};
-ghost use Rattle.fb_arrive.specs.fb_state.fb_tables.fb_first.First.{AreFirst};
+ghost use Rattle.fb_arrive.specs.fb_state.fb_tables.fb_first.First.{HaveFirstCells};
 ghost use Rattle.fb_arrive.specs.fb_state.fb_tables.fb_check.Verdicts.{system_in, certificate_in, IsSystemOf};
 ghost use Rattle.fb_arrive.specs.fb_state.fb_tables.fb_text.Answers.{IsSource};
 ghost use Rattle.fb_arrive.specs.fb_state.fb_tables.Tables.{AreTables};
@@ -24,7 +24,7 @@ ghost use Rattle.fb_device.specs.Refusals.{no_memory};
 ghost use Rattle.fb_device.specs.Silence.{last_first, IsWithin};
 ghost use Rattle.fb_device.specs.declared.refusal.Refusal.TheVariants.{Limit};
 ghost use Rattle.fb_device.specs.Finding.{first_named};
-ghost use Rattle.fb_device.specs.Starting.{upcoming_of, latest_of, first_of, AreEmpty, IsAtRest, IsFirst};
+ghost use Rattle.fb_device.specs.Starting.{upcoming_of, latest_of, first_of, AreEmpty, IsAtRest, IsSetUp};
 ghost use Rattle.fb_device.specs.Loads.{IsLoaded, IsLoadFault, IsBeginFault, IsThere, IsReadyOf, IsMissing, IsUnnamed};
 
 use crate::device::Device;
@@ -214,7 +214,7 @@ fn made(
 ) -> Result<(Tables, Running), AllocError>
     requires within { number < length (system_in verified.now).devices }
     ensures tables { (d : book) → slice_get (system_in verified.now).devices number ≡ Some d → IfOk result (λ p. AreTables (certificate_in verified.now) d (map forms_of p.1.memory.own.items) (map forms_of p.1.memory.issued.items) p.0) }
-    ensures first { IfOk result (λ p. (values : _) × IsFirst verified.now number first stamp values p.0 p.1) }
+    ensures first { IfOk result (λ p. (values : _) × IsSetUp verified.now number first stamp values p.0 p.1) }
 {
     let values = first_values(alloc, verified, number)?;
     let tables = tables(alloc, verified, number, &values)?;

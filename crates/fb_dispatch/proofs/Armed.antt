@@ -10,7 +10,7 @@ use Rattle.fb_model.proofs.Placed.{path_same}
 use Rattle.fb_leaves.specs.Leaves.{AreApart}
 use Rattle.fb_state.specs.fb_serve.declared.standing.Standing.{Standing}
 use Rattle.fb_state.specs.fb_serve.declared.standing.Standing.TheVariants as s
-use Rattle.fb_state.specs.fb_serve.Turns.{condition_of}
+use Rattle.fb_state.specs.fb_serve.Responses.{condition_of}
 use Rattle.fb_state.specs.fb_turn.declared.memory.Condition.{Condition}
 use Rattle.fb_state.specs.fb_turn.declared.memory.Condition.TheVariants as c
 use Rattle.fb_state.specs.fb_turn.Conditions.{condition_at, IsConditionOf}

@@ -13,7 +13,7 @@ use Rattle.fb_state.specs.fb_serve.declared.standing.Effect.{Effect}
 use Rattle.fb_state.specs.fb_serve.declared.standing.Ports.{Ports}
 use Rattle.fb_state.specs.fb_turn.declared.memory.Condition.{Condition}
 use Rattle.fb_state.specs.fb_turn.declared.memory.Memory.{Memory}
-use Rattle.fb_state.specs.fb_turn.Turning.{CanTurn, HasTurned}
+use Rattle.fb_state.specs.fb_turn.Dispatching.{CanDispatch, HasDispatched}
 use Rattle.fb_state.specs.fb_tables.declared.table.Resource.{Resource}
 use Rattle.fb_state.specs.fb_tables.Views.{place_at}
 use Rattle.fb_state.specs.fb_sched.declared.ticket.Ticket.{Ticket}
@@ -61,21 +61,21 @@ capacity_same old new sent more h none within = omega (arith, h, none, within)
 
 module _ (p : Program) (r : Running) (g : IsGood p r) (q : ℕ) (first : Ticket) (qs : List Agenda) (t : HasTaken r.queues.items q first qs) where
   -- what the block can do, by the lists that the code reads
-  pub can_turn_read : (blocks : List Block) (slots : List Ports) (values : List ℤ) → blocks ≡ p.tables.blocks.items → slots ≡ p.tables.ports.items → values ≡ first.values.items
-      → CanTurn blocks slots r.memory first.point values (r.outbox.capacity - length r.outbox.items)
-  can_turn_read blocks slots values b s v =
+  pub can_dispatch_read : (blocks : List Block) (slots : List Ports) (values : List ℤ) → blocks ≡ p.tables.blocks.items → slots ≡ p.tables.ports.items → values ≡ first.values.items
+      → CanDispatch blocks slots r.memory first.point values (r.outbox.capacity - length r.outbox.items)
+  can_dispatch_read blocks slots values b s v =
       let room : ℕ = r.outbox.capacity - length r.outbox.items in
-      subst (λ bs. CanTurn bs slots r.memory first.point values room) (sym b)
-      (subst (λ ss. CanTurn p.tables.blocks.items ss r.memory first.point values room) (sym s)
-      (subst (λ vs. CanTurn p.tables.blocks.items p.tables.ports.items r.memory first.point vs room) (sym v) (at.can_turn p r g q first qs t)))
+      subst (λ bs. CanDispatch bs slots r.memory first.point values room) (sym b)
+      (subst (λ ss. CanDispatch p.tables.blocks.items ss r.memory first.point values room) (sym s)
+      (subst (λ vs. CanDispatch p.tables.blocks.items p.tables.ports.items r.memory first.point vs room) (sym v) (at.can_dispatch p r g q first qs t)))
 
   -- and what it did
-  pub turned_read : (blocks : List Block) (slots : List Ports) (values : List ℤ) → blocks ≡ p.tables.blocks.items → slots ≡ p.tables.ports.items → values ≡ first.values.items → (mem : Memory) (steps : ℕ) (effect : Option Effect) (points : List Point)
-      → HasTurned blocks slots r.memory first.point values r.clock mem steps effect r.outbox.items points → HasTurned p.tables.blocks.items p.tables.ports.items r.memory first.point first.values.items r.clock mem steps effect r.outbox.items points
-  turned_read blocks slots values b s v mem steps effect points h =
-      subst (λ bs. HasTurned bs p.tables.ports.items r.memory first.point first.values.items r.clock mem steps effect r.outbox.items points) b
-      (subst (λ ss. HasTurned blocks ss r.memory first.point first.values.items r.clock mem steps effect r.outbox.items points) s
-      (subst (λ vs. HasTurned blocks slots r.memory first.point vs r.clock mem steps effect r.outbox.items points) v h))
+  pub dispatched_read : (blocks : List Block) (slots : List Ports) (values : List ℤ) → blocks ≡ p.tables.blocks.items → slots ≡ p.tables.ports.items → values ≡ first.values.items → (mem : Memory) (steps : ℕ) (effect : Option Effect) (points : List Point)
+      → HasDispatched blocks slots r.memory first.point values r.clock mem steps effect r.outbox.items points → HasDispatched p.tables.blocks.items p.tables.ports.items r.memory first.point first.values.items r.clock mem steps effect r.outbox.items points
+  dispatched_read blocks slots values b s v mem steps effect points h =
+      subst (λ bs. HasDispatched bs p.tables.ports.items r.memory first.point first.values.items r.clock mem steps effect r.outbox.items points) b
+      (subst (λ ss. HasDispatched blocks ss r.memory first.point first.values.items r.clock mem steps effect r.outbox.items points) s
+      (subst (λ vs. HasDispatched blocks slots r.memory first.point vs r.clock mem steps effect r.outbox.items points) v h))
 
   pub block_within : first.point.block < vec_len p.tables.blocks
   block_within = omega (arith, within p.tables.blocks.items first.point.block (at.point p r g q first qs t).at.block (at.point p r g q first qs t).at.stands, p.tables.blocks.ok)
@@ -88,7 +88,7 @@ module _ (p : Program) (r : Running) (g : IsGood p r) (q : ℕ) (first : Ticket)
   can_retime_at timer = can_retime timer (at.all p r g q first qs t) r.timers first.point.block (at.leaf p r g q first qs t) g.timers (at.point p r g q first qs t).leaf_stands
 
   module _ (mem : Memory) (steps : ℕ) (effect : Option Effect) (points : List Point)
-      (h : HasTurned p.tables.blocks.items p.tables.ports.items r.memory first.point first.values.items r.clock mem steps effect r.outbox.items points) where
+      (h : HasDispatched p.tables.blocks.items p.tables.ports.items r.memory first.point first.values.items r.clock mem steps effect r.outbox.items points) where
     condition_stands : slice_get mem.conditions.items first.point.block ≡ Some h.condition
     condition_stands = ap (λ xs. slice_get xs first.point.block) h.conditions_set ∙ set_stands r.memory.conditions.items first.point.block h.at.condition h.condition h.at.condition_is
 

@@ -26,7 +26,7 @@ use Rattle.fb_state.specs.fb_serve.declared.standing.Ports.{Ports}
 use Rattle.fb_state.specs.fb_serve.Ports.{ServesPorts}
 use Rattle.fb_state.specs.fb_turn.declared.memory.Condition.{Condition}
 use Rattle.fb_state.specs.fb_turn.Conditions.{IsConditionOf, leaf_state}
-use Rattle.fb_state.specs.fb_turn.Turning.{HasRoom, SendsWell, CanRun, Stand, CanTurn}
+use Rattle.fb_state.specs.fb_turn.Dispatching.{HasRoom, SendsWell, CanRun, Stand, CanDispatch}
 use Rattle.fb_state.specs.fb_tables.fb_check.Verdicts.{system_in}
 use Rattle.fb_state.proofs.of_fb_tables.of_fb_check.of_fb_columns.Small.{weights_at_most}
 use Rattle.fb_state.specs.fb_tables.declared.table.Resource.{Resource}
@@ -258,5 +258,5 @@ module _ (p : Program) (r : Running) (g : IsGood p r) (q : ℕ) (first : Ticket)
       }
 
   -- the block of the entry can be sampled and run
-  pub can_turn : CanTurn p.tables.blocks.items p.tables.ports.items r.memory first.point first.values.items (r.outbox.capacity - length r.outbox.items)
-  can_turn = record { at = here; takes = takes here; runs = λ cells same values. can_run here cells values same }
+  pub can_dispatch : CanDispatch p.tables.blocks.items p.tables.ports.items r.memory first.point first.values.items (r.outbox.capacity - length r.outbox.items)
+  can_dispatch = record { at = here; takes = takes here; runs = λ cells same values. can_run here cells values same }

@@ -17,7 +17,7 @@ use Rattle.fb_state.specs.fb_serve.declared.standing.Effect.{Effect}
 use Rattle.fb_state.specs.fb_turn.declared.memory.Condition.{Condition}
 use Rattle.fb_state.specs.fb_turn.declared.memory.Memory.{Memory}
 use Rattle.fb_state.specs.fb_turn.Conditions.{IsConditionOf}
-use Rattle.fb_state.specs.fb_turn.Turning.{HasTurned}
+use Rattle.fb_state.specs.fb_turn.Dispatching.{HasDispatched}
 use Rattle.fb_state.proofs.of_fb_turn.Standing.{set_twice}
 use Rattle.fb_state.specs.fb_tables.declared.table.Resource.{Resource}
 use Rattle.fb_state.specs.fb_tables.Views.{place_at}
@@ -71,7 +71,7 @@ stand_set all owns issues conditions i leaf own issued n old is now k other h =
     ]
 
 module _ (p : Program) (r : Running) (g : IsGood p r) (q : ℕ) (first : Ticket) (qs : List Agenda) (t : HasTaken r.queues.items q first qs) (mem : Memory) (steps : ℕ) (effect : Option Effect) (points : List Point)
-    (h : HasTurned p.tables.blocks.items p.tables.ports.items r.memory first.point first.values.items r.clock mem steps effect r.outbox.items points)
+    (h : HasDispatched p.tables.blocks.items p.tables.ports.items r.memory first.point first.values.items r.clock mem steps effect r.outbox.items points)
     (reaction : Reaction) (ended : Option Reaction) (queues : List Agenda) (e : HasEntered qs q points first.slot steps reaction ended queues) where
   abbrev all : List Leaf
   all = leaves (device_in (session_of p r))

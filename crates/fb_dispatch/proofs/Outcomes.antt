@@ -20,9 +20,9 @@ use Rattle.fb_state.specs.fb_chart.Views.{named, event_names}
 use Rattle.fb_state.specs.fb_chart.Sending.{Points, sent_to}
 use Rattle.fb_state.specs.fb_serve.declared.standing.Effect.{Effect}
 use Rattle.fb_state.specs.fb_turn.declared.memory.Memory.{Memory}
-use Rattle.fb_state.specs.fb_serve.Turns.{effect_of}
+use Rattle.fb_state.specs.fb_serve.Responses.{effect_of}
 use Rattle.fb_state.specs.fb_turn.Conditions.{leaf_state}
-use Rattle.fb_state.specs.fb_turn.Turning.{HasTurned}
+use Rattle.fb_state.specs.fb_turn.Dispatching.{HasDispatched}
 use Rattle.fb_state.specs.fb_tables.Views.{place_at}
 use Rattle.fb_state.specs.fb_tables.Tables.{IsPoint}
 use Rattle.fb_state.specs.fb_sched.declared.ticket.Ticket.{Ticket}
@@ -56,7 +56,7 @@ module _ (p : Program) (r : Running) (g : IsGood p r) (q : ℕ) (first : Ticket)
   spent_was = spent_of r.queues.items q t.was cause t.stands none_else ∙ steps_found t.was.slots first.slot t.takes.reaction (at.queue p r g q first qs t).agenda.different t.takes.was
 
   module _ (mem : Memory) (steps : ℕ) (effect : Option Effect) (points : List Point)
-      (h : HasTurned p.tables.blocks.items p.tables.ports.items r.memory first.point first.values.items r.clock mem steps effect r.outbox.items points) where
+      (h : HasDispatched p.tables.blocks.items p.tables.ports.items r.memory first.point first.values.items r.clock mem steps effect r.outbox.items points) where
     abbrev outs : List Name
     outs = h.has_run.outs
 

@@ -23,7 +23,7 @@ use Rattle.fb_model.proofs.Running.{at_leaf, sampled_lies, openings, input_weigh
 use Rattle.fb_model.proofs.Starting.{fine}
 use Rattle.fb_state.specs.fb_chart.declared.table.Output.{Output}
 use Rattle.fb_state.specs.fb_chart.Sending.{targets_of, sent_to}
-use Rattle.fb_state.specs.fb_chart.Charting.{steps_at, IsFine}
+use Rattle.fb_state.specs.fb_chart.Charting.{steps_at, CanGoOn}
 use Rattle.fb_state.specs.fb_tables.Views.{place_at}
 use Rattle.fb_state.specs.fb_tables.Tables.{IsPoint, LeadsTo}
 
@@ -125,7 +125,7 @@ module _ (cert : Certificate) (device : Device) (holding : DeviceHolds cert devi
 
   -- at each moment of an invocation nothing traps, it takes no more steps than its weight, and there is room for what it emits
   pub fine_so : (os : List Output) (block : book.Block) (before : LeafState) (e : Name) → AllByRecursion (LeadsTo (leaves device) leaf) os → leaf.kind ≡ Charted block → sampled old.store leaf first.place.event ≡ before → first.place.event ≡ e
-      → (room : ℕ) → depth_of cert device q ≤ room → (m : Moment) → Reaches block (dispatched before e) m → IsFine block os (steps_row cert first.place) room m
+      → (room : ℕ) → depth_of cert device q ≤ room → (m : Moment) → Reaches block (dispatched before e) m → CanGoOn block os (steps_row cert first.place) room m
   fine_so os block before e led is b n room deep m r =
       let back : dispatched before e ≡ dispatched (sampled old.store leaf first.place.event) first.place.event =
       ap (λ k. dispatched k e) (sym b) ∙ ap (λ v. dispatched (sampled old.store leaf first.place.event) v) (sym n) in

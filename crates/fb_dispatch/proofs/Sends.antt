@@ -18,7 +18,7 @@ use Rattle.fb_model.specs.Shapes.{IsIn}
 use Rattle.fb_model.specs.Ranges.{Range, AllLie, variables, rows, row_of}
 use Rattle.fb_model.proofs.Placed.{all_left}
 use Rattle.fb_model.proofs.Ports.{first_each, service_apart}
-use Rattle.fb_state.specs.fb_turn.Turning.{SendsWell}
+use Rattle.fb_state.specs.fb_turn.Dispatching.{SendsWell}
 
 in_whole : (a : ElemType) (n : ℤ) → IsIn (whole a) n → in_type a n ≡ true
 in_whole a n h = ap (λ b. b && int_le n (highest a)) (le_true (lowest a) n h.least) ∙ le_true n (highest a) h.most

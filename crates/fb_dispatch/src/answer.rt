@@ -24,7 +24,7 @@ pub struct Ran {
 
 /// What a dispatch answers.
 #[derive(Drop)]
-pub enum Turned {
+pub enum Dispatched {
     /// Nothing is pending, or there is no such resource.
     Idle,
     Ran(Ran),

@@ -5,13 +5,13 @@ ghost use Rattle.std.specs.Option.{option_map};
 ghost use Rattle.fb_model.specs.Devices.{Dispatch};
 ghost use Rattle.fb_state.specs.Machines.{running_leaves, Steps};
 ghost use Rattle.fb_state.specs.Keeping.{IsGood};
-ghost use Rattle.fb_dispatch.specs.Answers.{turned_of, HasPoint, end_by};
+ghost use Rattle.fb_dispatch.specs.Answers.{dispatched_of, HasPoint, end_by};
 
-use crate::answer::{Ended, Ran, Turned};
+use crate::answer::{Dispatched, Ended, Ran};
 use crate::queue::{enter, steps_at, take};
 use crate::timing::retime;
 use fb_state::fb_sched::Reaction;
-use fb_state::fb_turn::{Condition, Memory, turn};
+use fb_state::fb_turn::{Condition, Memory, dispatch_block};
 use fb_state::{Program, Running};
 
 // What a block remembers.
@@ -37,17 +37,17 @@ fn end_of(ended: Option<Reaction>, bound: u64) -> Option<Ended>
 }
 
 /// Takes the first entry of a resource, and runs its block to its end. `Idle` where nothing is pending or there is no such resource.
-pub fn dispatch(program: &Program, running: &mut Running, resource: usize) -> Turned
+pub fn dispatch(program: &Program, running: &mut Running, resource: usize) -> Dispatched
     requires { IsGood program.now running.old }
-    ensures step { Steps program.now running.old (Dispatch resource) (turned_of (running_leaves program.now running.old) result) running.new }
+    ensures step { Steps program.now running.old (Dispatch resource) (dispatched_of (running_leaves program.now running.old) result) running.new }
     ensures point { HasPoint (running_leaves program.now running.old) result }
     ensures good { IsGood program.now running.new }
 {
     let Some(first) = take(&mut running.queues, resource) else {
-        return Turned::Idle;
+        return Dispatched::Idle;
     };
     let point = first.point;
-    let outcome = turn(
+    let outcome = dispatch_block(
         &program.tables.blocks,
         &program.tables.ports,
         &mut running.memory,
@@ -71,7 +71,7 @@ pub fn dispatch(program: &Program, running: &mut Running, resource: usize) -> Tu
         outcome.steps,
     );
     let bound = steps_at(&program.tables.blocks, reaction.opening);
-    Turned::Ran(Ran {
+    Dispatched::Ran(Ran {
         cause: reaction.cause,
         block: point.block,
         event: point.event,

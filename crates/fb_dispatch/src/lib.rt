@@ -6,6 +6,6 @@ mod dispatching;
 mod queue;
 mod timing;
 
-pub use answer::{Ended, Ran, Turned};
+pub use answer::{Dispatched, Ended, Ran};
 pub use dispatching::dispatch;
 pub use fb_state;

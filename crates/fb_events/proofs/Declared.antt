@@ -7,7 +7,7 @@ use Rattle.fb_words.specs.declared.operator.Operation.TheVariants.{Infix, Not}
 use Rattle.fb_model.specs.Trees.{Whole, Truth}
 use Rattle.fb_model.specs.StructuredText.{literal, variable, inverse, binary, assign, no_statement, statement}
 use Rattle.fb_model.specs.TypedText.{constant, read, single, double, set, done, then_do}
-use Rattle.fb_model.specs.TextTyping.{Entry, widens}
+use Rattle.fb_model.specs.TextTyping.{Symbol, widens}
 use Rattle.fb_model.specs.BlockTyping.{Declared, declared, no_bounds, no_start, none, more, scope, no_guard, a_guard, no_transition, a_transition, no_procedure, a_procedure}
 use Rattle.fb_model.specs.EventBlocks.{e_split, e_merge, e_permit, e_select, e_switch, e_sr, e_ctu, Declares, AreEventBlocks, no_more, one_more}
 use Rattle.st_types.proofs.Commands.{condition_sound, commands_sound}
@@ -90,7 +90,7 @@ e_merge_declared = record {
   };
 }
 
-abbrev e_permit_scope : List Entry
+abbrev e_permit_scope : List Symbol
 e_permit_scope = scope (declared Bool None None (word (codes "PERMIT") 557) ∷ []) [] []
 
 e_permit_declared : Declares e_permit_tree (codes "E_PERMIT", e_permit)
@@ -132,7 +132,7 @@ e_permit_declared = record {
   };
 }
 
-abbrev e_select_scope : List Entry
+abbrev e_select_scope : List Symbol
 e_select_scope = scope (declared Bool None None (word (codes "G") 827) ∷ []) [] []
 
 e_select_declared : Declares e_select_tree (codes "E_SELECT", e_select)
@@ -175,7 +175,7 @@ e_select_declared = record {
   };
 }
 
-abbrev e_switch_scope : List Entry
+abbrev e_switch_scope : List Symbol
 e_switch_scope = scope (declared Bool None None (word (codes "G") 1110) ∷ []) [] []
 
 e_switch_declared : Declares e_switch_tree (codes "E_SWITCH", e_switch)
@@ -219,7 +219,7 @@ e_switch_declared = record {
   };
 }
 
-abbrev e_sr_scope : List Entry
+abbrev e_sr_scope : List Symbol
 e_sr_scope = scope [] (declared Bool None None (word (codes "Q") 1424) ∷ []) []
 
 e_sr_declared : Declares e_sr_tree (codes "E_SR", e_sr)
@@ -263,7 +263,7 @@ e_sr_declared = record {
   };
 }
 
-abbrev e_ctu_scope : List Entry
+abbrev e_ctu_scope : List Symbol
 e_ctu_scope = scope (declared Uint None None (word (codes "PV") 1837) ∷ []) (declared Bool None None (word (codes "Q") 1867) ∷ declared Uint None None (word (codes "CV") 1877) ∷ []) []
 
 e_ctu_declared : Declares e_ctu_tree (codes "E_CTU", e_ctu)

@@ -4,8 +4,8 @@ use crate::expression::expression_fault;
 use crate::found::Fault;
 use crate::line::Lines;
 use crate::list::body_fault;
+use crate::origin::Origin;
 use crate::shape::beginning;
-use crate::site::Site;
 use fb_ranges::{Ranges, copied, names_assigned};
 use st_tree::{Expr, Stmt};
 use st_types::{Algo, TypedExpr};
@@ -33,9 +33,9 @@ pub fn guard_fault(
     guard: &TypedExpr,
     rows: &Ranges,
 ) -> Result<Option<Fault>, AllocError> {
-    let site = Site {
+    let origin = Origin {
         at: beginning(source),
         source: Some(source),
     };
-    expression_fault(guard, site, rows)
+    expression_fault(guard, origin, rows)
 }

@@ -1,7 +1,7 @@
 //! Divisors and indexes at fault.
 
 use crate::found::{Fault, Wrong};
-use crate::site::Site;
+use crate::origin::Origin;
 use fb_intervals::Interval;
 use fb_ranges::{Ranges, is_between, range};
 use fb_words::{Operation, Operator};
@@ -43,23 +43,23 @@ fn divisor_fault(at: usize, operation: Operation, second: Interval) -> Option<Fa
 #[cycle(finding)]
 pub(crate) fn expression_fault(
     expr: &TypedExpr,
-    site: Site<'_>,
+    origin: Origin<'_>,
     ranges: &Ranges,
 ) -> Result<Option<Fault>, AllocError> {
     match expr {
         TypedExpr::Constant(_) | TypedExpr::Read(_) => Ok(None),
-        TypedExpr::Unary(_, _, operand) => expression_fault(operand, site.operand(), ranges),
+        TypedExpr::Unary(_, _, operand) => expression_fault(operand, origin.operand(), ranges),
         TypedExpr::Element(name, low, high, index) => {
-            let inner = site.index();
+            let inner = origin.index();
             match expression_fault(index, inner, ranges)? {
                 Some(fault) => Ok(Some(fault)),
                 None => index_fault(inner.at, name, *low, *high, range(index, ranges).range),
             }
         }
         TypedExpr::Chain(first, links) => {
-            match expression_fault(first, site.front(links.len()), ranges)? {
+            match expression_fault(first, origin.front(links.len()), ranges)? {
                 Some(fault) => Ok(Some(fault)),
-                None => links_fault(links, site, ranges),
+                None => links_fault(links, origin, ranges),
             }
         }
     }
@@ -69,11 +69,11 @@ pub(crate) fn expression_fault(
 #[cycle(finding)]
 fn links_fault(
     links: &[TypedLink],
-    site: Site<'_>,
+    origin: Origin<'_>,
     ranges: &Ranges,
 ) -> Result<Option<Fault>, AllocError> {
     for (i, link) in links.iter().enumerate() {
-        let inner = site.operation(links.len(), i);
+        let inner = origin.operation(links.len(), i);
         if let Some(fault) = expression_fault(&link.operand, inner, ranges)? {
             return Ok(Some(fault));
         }

@@ -9,8 +9,8 @@ mod found;
 mod kept;
 mod line;
 mod list;
+mod origin;
 mod shape;
-mod site;
 mod told;
 
 pub use algorithm::{algorithm_fault, guard_fault};

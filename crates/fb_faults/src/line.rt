@@ -1,6 +1,6 @@
 //! Places of typed statements in the text.
 
-use crate::site::Site;
+use crate::origin::Origin;
 use st_tree::{Arm, Branch, Expr, Stmt};
 
 /// The innermost place that is known of a typed statement, and what the text has there; nothing where the trees differ in shape.
@@ -57,7 +57,7 @@ fn arms_of(source: &Stmt) -> &[Arm] {
     }
 }
 
-// What a statement does where no condition holds, and no label is met; and what it does in each turn.
+// What a statement does where no condition holds, and no label is met; and what it does in each iteration.
 fn rest_of(source: &Stmt) -> &[Stmt] {
     match source {
         Stmt::If(_, other) | Stmt::Case(_, _, _, other) => other,
@@ -92,45 +92,45 @@ impl<'a> Line<'a> {
     }
 
     // An expression of the statement, with no place of its own.
-    fn site(self, source: Option<&'a Expr>) -> Site<'a> {
-        Site {
+    fn origin(self, source: Option<&'a Expr>) -> Origin<'a> {
+        Origin {
             at: self.at,
             source,
         }
     }
 
     /// The value of an assignment, or the selector of a CASE.
-    pub fn value(self) -> Site<'a> {
+    pub fn value(self) -> Origin<'a> {
         match self.source {
-            Some(source) => self.site(value_of(source)),
-            None => self.site(None),
+            Some(source) => self.origin(value_of(source)),
+            None => self.origin(None),
         }
     }
 
     /// The index of an assigned element, at its `[`.
-    pub fn index(self) -> Site<'a> {
+    pub fn index(self) -> Origin<'a> {
         match self.source {
-            Some(Stmt::AssignElement(_, at, index, _, _)) => Site {
+            Some(Stmt::AssignElement(_, at, index, _, _)) => Origin {
                 at: *at,
                 source: Some(index),
             },
-            _ => self.site(None),
+            _ => self.origin(None),
         }
     }
 
     /// The first value of a FOR.
-    pub fn first(self) -> Site<'a> {
+    pub fn first(self) -> Origin<'a> {
         match self.source {
-            Some(Stmt::For(_, _, first, _, _, _)) => self.site(Some(&first.value)),
-            _ => self.site(None),
+            Some(Stmt::For(_, _, first, _, _, _)) => self.origin(Some(&first.value)),
+            _ => self.origin(None),
         }
     }
 
     /// The last value of a FOR.
-    pub fn last(self) -> Site<'a> {
+    pub fn last(self) -> Origin<'a> {
         match self.source {
-            Some(Stmt::For(_, _, _, last, _, _)) => self.site(Some(&last.value)),
-            _ => self.site(None),
+            Some(Stmt::For(_, _, _, last, _, _)) => self.origin(Some(&last.value)),
+            _ => self.origin(None),
         }
     }
 
@@ -145,13 +145,13 @@ impl<'a> Line<'a> {
     }
 
     /// A condition of an IF, at its IF or ELSIF.
-    pub fn condition(self, index: usize) -> Site<'a> {
+    pub fn condition(self, index: usize) -> Origin<'a> {
         match self.branch(index) {
-            Some(branch) => Site {
+            Some(branch) => Origin {
                 at: branch.at,
                 source: Some(&branch.condition),
             },
-            None => self.site(None),
+            None => self.origin(None),
         }
     }
 
@@ -174,7 +174,7 @@ impl<'a> Line<'a> {
         }
     }
 
-    /// What an IF or a CASE does otherwise, or a FOR in each turn.
+    /// What an IF or a CASE does otherwise, or a FOR in each iteration.
     pub fn rest(self) -> Lines<'a> {
         match self.source {
             Some(source) => self.lines(rest_of(source)),

@@ -4,7 +4,7 @@ use crate::expression::{expression_fault, index_fault};
 use crate::found::{Fault, leaving};
 use crate::kept::outside_fault;
 use crate::line::{Line, Lines};
-use fb_intervals::{Interval, is_within, most_turns, taken};
+use fb_intervals::{Interval, is_within, most_iterations, taken};
 use fb_ranges::{Ranges, Told, copied, examine_one, names_assigned, narrow, range, reset};
 use st_types::{Counting, TypedArm, TypedBranch, TypedExpr, TypedStmt};
 use std::alloc::{AllocError, Global};
@@ -33,15 +33,15 @@ fn element_fault(
     line: Line<'_>,
     ranges: &Ranges,
 ) -> Result<Option<Fault>, AllocError> {
-    let site = line.index();
-    if let Some(fault) = expression_fault(index, site, ranges)? {
+    let origin = line.index();
+    if let Some(fault) = expression_fault(index, origin, ranges)? {
         return Ok(Some(fault));
     }
     if let Some(fault) = expression_fault(value, line.value(), ranges)? {
         return Ok(Some(fault));
     }
     let index = range(index, ranges).range;
-    if let Some(fault) = index_fault(site.at, name, low, high, index)? {
+    if let Some(fault) = index_fault(origin.at, name, low, high, index)? {
         return Ok(Some(fault));
     }
     element_leaves(line.at, name, range(value, ranges).range, rows)
@@ -156,8 +156,8 @@ fn branches_fault(
     ranges: &mut Ranges,
 ) -> Result<Option<Fault>, AllocError> {
     for (i, branch) in branches.iter().enumerate() {
-        let site = line.condition(i);
-        if let Some(fault) = expression_fault(&branch.condition, site, ranges)? {
+        let origin = line.condition(i);
+        if let Some(fault) = expression_fault(&branch.condition, origin, ranges)? {
             return Ok(Some(fault));
         }
         let mut inside = copied(ranges)?;
@@ -209,13 +209,13 @@ fn for_fault(
     }
     let first = range(&counting.first, ranges).range;
     let last = range(&counting.last, ranges).range;
-    let turns = most_turns(first, last, counting.step);
-    if turns == 0 {
+    let iterations = most_iterations(first, last, counting.step);
+    if iterations == 0 {
         return Ok(None);
     }
     let names = names_assigned(alloc, body)?;
     reset(&names, rows, ranges)?;
-    let own = taken(first, last, counting.step, turns);
+    let own = taken(first, last, counting.step, iterations);
     ranges.insert(counting.variable.as_str(), own)?;
     body_fault(alloc, rows, body, &names, line.rest(), ranges)
 }

@@ -41,7 +41,7 @@ use Rattle.fb_solved.specs.declared.fault.NoBound.{NoBound}
 use Rattle.fb_solved.specs.declared.fault.NoBound.TheVariants.{OutOfMemory, Cycle, NoRange, Limit}
 use Rattle.fb_sums.specs.Prices.{AreClear, HasClear}
 use Rattle.fb_found.specs.Given.{IsGiven}
-use Rattle.fb_found.specs.Columns.{asked, IsCycle, ServesAll}
+use Rattle.fb_found.specs.Columns.{asked, IsCycle, FulfilsAll}
 use Rattle.fb_find.specs.Bounds.{IsDenied, IsNoBound, IsWalk}
 use Rattle.fb_find.specs.Parts.{HasFoundRanges, HasNumbering, HasTables, IsReady}
 use Rattle.fb_places.specs.declared.numbering.Numbering.{Numbering}
@@ -120,8 +120,8 @@ walk_denies repeats s (Limit resource) h w cert d fits = absurd w
 
 -- ---- read by other names
 
-pub ready_is : (repeats : Option ℕ) (devices : List FlatDevice) (n : Numbering) (s : System) (order slice : List ℕ) → HasNumbering repeats devices n s → slice ≡ order → ServesAll repeats n s order → IsReady repeats devices n slice s
-ready_is repeats devices n s order slice h e serves = record { numbering = h; serves = subst (λ o. ServesAll repeats n s o) (sym e) serves }
+pub ready_is : (repeats : Option ℕ) (devices : List FlatDevice) (n : Numbering) (s : System) (order slice : List ℕ) → HasNumbering repeats devices n s → slice ≡ order → FulfilsAll repeats n s order → IsReady repeats devices n slice s
+ready_is repeats devices n s order slice h e serves = record { numbering = h; serves = subst (λ o. FulfilsAll repeats n s o) (sym e) serves }
 
 pub found_read : (s : System) (tables slice : List Ranges) → slice ≡ tables → AreFoundTables s.devices (map spans_of tables) → AreFoundTables s.devices (map spans_of slice)
 found_read s tables slice e found = subst (λ ts. AreFoundTables s.devices (map spans_of ts)) (sym e) found

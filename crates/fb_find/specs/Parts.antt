@@ -21,7 +21,7 @@ use Rattle.fb_solved.specs.Numbers.{amounts, CanBeSaid, with_charges, with_weigh
 use Rattle.fb_model.specs.CertificateText.{names_in}
 use Rattle.fb_sums.specs.Ends.{end_of}
 use Rattle.fb_sums.specs.Prices.{AreClear, AreTables}
-use Rattle.fb_found.specs.Columns.{ServesAll}
+use Rattle.fb_found.specs.Columns.{FulfilsAll}
 use Rattle.fb_found.specs.Given.{IsNumbered}
 
 -- the rows are the rows RANGE that are found, and all is clear under them
@@ -47,7 +47,7 @@ pub record HasNumbering (repeats : Option ℕ) (devices : List FlatDevice) (n : 
 -- and an order serves all columns
 pub record IsReady (repeats : Option ℕ) (devices : List FlatDevice) (n : Numbering) (order : List ℕ) (s : System) : Type 0 where
   pub numbering : HasNumbering repeats devices n s
-  pub serves : ServesAll repeats n s order
+  pub serves : FulfilsAll repeats n s order
 
 -- these tables, leaf by leaf, have the ranges, and algorithms are clear under them
 pub record HasTables (s : System) (ranges : List Range) (tables : List Spans) : Type 0 where

@@ -23,17 +23,17 @@ added_all ins outs inner start s t u e h k l = l ∙ ap (λ w. w ++ inner) (k �
 
 -- ---- variables of the tables by their places
 
-abbrev pub Entry : Type 0
-Entry = String Global × Variable
+abbrev pub NamedVariable : Type 0
+NamedVariable = String Global × Variable
 
-abbrev pub entry_cell : Entry → Cell
+abbrev pub entry_cell : NamedVariable → Cell
 entry_cell e = variable_cell (declared_of (string_bytes e.0) e.1)
 
-abbrev pub entry_cells : List Entry → List Cell
-entry_cells es = map variable_cell (map (λ (p : Entry). declared_of (string_bytes p.0) p.1) es)
+abbrev pub entry_cells : List NamedVariable → List Cell
+entry_cells es = map variable_cell (map (λ (p : NamedVariable). declared_of (string_bytes p.0) p.1) es)
 
 -- one by one or all at once
-entries_are : (es : List Entry) → map entry_cell es ≡ entry_cells es
+entries_are : (es : List NamedVariable) → map entry_cell es ≡ entry_cells es
 entries_are [] = refl
 entries_are (e ∷ es) = ap (λ cs. entry_cell e ∷ cs) (entries_are es)
 
@@ -43,7 +43,7 @@ got (y ∷ ys) zero x h = let e : x ≡ y = cc in (omega arith, e)
 got (y ∷ ys) (suc i) x h = let k = got ys i x h in (omega (arith, k.0), k.1)
 
 -- one more variable
-pub entry_next : (es : List Entry) (i : ℕ) (e : Entry) (a s t : List Cell) (name : Name) (number : ℤ) → Some e ≡ slice_get es i → name ≡ string_bytes e.0 → number ≡ number_in (start_of (variable_of (declared_of (string_bytes e.0) e.1)))
+pub entry_next : (es : List NamedVariable) (i : ℕ) (e : NamedVariable) (a s t : List Cell) (name : Name) (number : ℤ) → Some e ≡ slice_get es i → name ≡ string_bytes e.0 → number ≡ number_in (start_of (variable_of (declared_of (string_bytes e.0) e.1)))
     → s ≡ a ++ entry_cells (take i es) → t ≡ s ++ declared name e.1.bounds number ∷ [] → t ≡ a ++ entry_cells (take (i + 1) es)
 entry_next es i e a s t name number h n k l m =
     let g = got es i e h in

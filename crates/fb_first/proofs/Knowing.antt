@@ -24,7 +24,7 @@ use Rattle.fb_check.proofs.of_fb_flat.Few.{IsSmallKind, services_small, inputs_w
 use Rattle.fb_check.specs.declared.verified.Verified.{Verified}
 use Rattle.fb_check.specs.Verdicts.{system_in, certificate_in, IsChecked}
 use Rattle.fb_check.proofs.Composed as composed
-use Rattle.fb_first.specs.First.{AreFirst}
+use Rattle.fb_first.specs.First.{HaveFirstCells}
 use Rattle.fb_first.specs.Filling.{AreFilled, leaves_in}
 use Rattle.fb_first.specs.declared.first.FirstValues.{FirstValues}
 use Rattle.fb_first.proofs.Leaving.{IsKnown, leaf_begun}
@@ -64,7 +64,7 @@ leaves_are n path (f ∷ fs) (r ∷ rs) a = leaves_join f.leaves.items (leaves_i
 
 -- ---- first values
 
-all_first : (ranges : List Range) (ls : List Leaf) (bs : List wires.Leaf) (owns issues : List (List Cell)) → AreLeaves ls bs → AllByRecursion (IsKnown ranges) bs → AreFilled ls owns issues → AreFirst bs owns issues
+all_first : (ranges : List Range) (ls : List Leaf) (bs : List wires.Leaf) (owns issues : List (List Cell)) → AreLeaves ls bs → AllByRecursion (IsKnown ranges) bs → AreFilled ls owns issues → HaveFirstCells bs owns issues
 all_first ranges [] [] [] [] a k h = tt
 all_first ranges [] [] [] (i ∷ is) a k h = absurd h
 all_first ranges [] [] (o ∷ os) [] a k h = absurd h
@@ -93,7 +93,7 @@ known_at v n d checked e =
 
 -- the stores that are filled for the leaves of a device that was checked have its first values
 pub firsts_are : (v : Verified) (n : ℕ) (f : FlatDevice) (d : book.Device) (r : Result FirstValues AllocError) → IsChecked v → slice_get (system_in v).devices n ≡ Some d → f ≡ get_or v.flat.devices.items n f
-    → IfOk r (λ x. AreFilled (leaves_in f.resources.items) x.own.items x.issued.items) → IfOk r (λ x. AreFirst (leaves d) x.own.items x.issued.items)
+    → IfOk r (λ x. AreFilled (leaves_in f.resources.items) x.own.items x.issued.items) → IfOk r (λ x. HaveFirstCells (leaves d) x.own.items x.issued.items)
 firsts_are v n f d (Ok x) checked e g h =
     let flat = flat_at v.flat.devices.items (system_in v).devices n d f (composed.tables_are (system_in v) v.flat.devices.items checked.written checked.tables) e g in
     all_first (certificate_in v).ranges (leaves_in f.resources.items) (leaves d) x.own.items x.issued.items (leaves_are 0 (d.name ∷ []) f.resources.items d.resources flat.resources) (known_at v n d checked e) h

@@ -28,7 +28,7 @@ use Rattle.fb_check.specs.fb_flat.Tables.{source_at, input_names, IsLeaf}
 use Rattle.fb_check.specs.fb_blocks.Views.{declared_in}
 use Rattle.st_exec.specs.Cells.{Cell, values_of, forms_of, names_of, shape_of, length_of}
 use Rattle.fb_chart.specs.Sampling.{AreStores}
-use Rattle.fb_first.specs.First.{IsFirst}
+use Rattle.fb_first.specs.First.{HasFirstCells}
 use Rattle.fb_first.specs.Drafts.{Holds}
 use Rattle.fb_first.specs.Filling.{input_declared, bounds_if, start_if, input_cells, output_cells, internal_cells, own_cells, IsSmall, IsFilled}
 use Rattle.fb_first.proofs.Starts.{filled_is, AreStarts, starts_append, names_are, lengths_are, values_are, variables_start, ports_start, outputs_bare}
@@ -71,7 +71,7 @@ both_long (v ∷ vs) ws x = by (bytes_eq x v.name) (both_long vs ws x) where
   by false h = h
 
 -- a variable that is the first of its name has its length there
-first_long : (all vs : List book.Variable) (x : Name) → good.AreFirst all vs → is_in x (variable_names vs) ≡ true → length_in vs x ≡ length_in all x
+first_long : (all vs : List book.Variable) (x : Name) → good.HaveFirstCells all vs → is_in x (variable_names vs) ≡ true → length_in vs x ≡ length_in all x
 first_long all [] x f h = absurd cc
 first_long all (v ∷ vs) x f h = by (bytes_eq x v.name) refl h (first_long all vs x f.1) where
   by : (c : Bool) → bytes_eq x v.name ≡ c → (c || is_in x (variable_names vs)) ≡ true → (is_in x (variable_names vs) ≡ true → length_in vs x ≡ length_in all x)
@@ -87,7 +87,7 @@ none_started (v ∷ vs) x h = subst (λ c. HasLength (length_in (v ∷ vs) x) (c
   by false h again = again h
 
 -- outputs have their forms, also where there is none of a name
-issued_form : (all vs : List book.Variable) → good.AreFirst all vs → ((y : Name) → is_in y (variable_names vs) ≡ true → HasLength (length_in all y) (start_in vs y)) → (y : Name) → HasLength (length_in vs y) (start_in vs y)
+issued_form : (all vs : List book.Variable) → good.HaveFirstCells all vs → ((y : Name) → is_in y (variable_names vs) ≡ true → HasLength (length_in all y) (start_in vs y)) → (y : Name) → HasLength (length_in vs y) (start_in vs y)
 issued_form all vs f h y = by (is_in y (variable_names vs)) refl where
   by : (c : Bool) → is_in y (variable_names vs) ≡ c → HasLength (length_in vs y) (start_in vs y)
   by true e = subst (λ n. HasLength n (start_in vs y)) (sym (first_long all vs y f e)) (h y e)
@@ -200,7 +200,7 @@ ready ranges l leaf is k =
     }
 
 -- the stores that are filled for a leaf have its first values
-pub leaf_begun : (ranges : List Range) (l : Leaf) (leaf : wires.Leaf) (working given_out : List Cell) → IsLeaf l leaf → IsKnown ranges leaf → IsFilled l working given_out → IsFirst leaf working given_out
+pub leaf_begun : (ranges : List Range) (l : Leaf) (leaf : wires.Leaf) (working given_out : List Cell) → IsLeaf l leaf → IsKnown ranges leaf → IsFilled l working given_out → HasFirstCells leaf working given_out
 leaf_begun ranges l leaf working given_out is k filled =
     let r : IsReady l leaf.source (kind_of l.body) = subst (IsReady l leaf.source) (sym is.kind) (ready ranges l leaf is k) in
     let few = small_body l.body r.small in

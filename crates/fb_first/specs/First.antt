@@ -7,13 +7,13 @@ use Rattle.st_exec.specs.Cells.{Cell, values_of, forms_of}
 use Rattle.fb_chart.specs.Sampling.{AreStores}
 
 -- the stores of a leaf, with its first values
-pub record IsFirst (leaf : Leaf) (working given : List Cell) : Type 0 where
+pub record HasFirstCells (leaf : Leaf) (working given : List Cell) : Type 0 where
   pub stores : AreStores leaf.kind (forms_of working) (forms_of given)
   pub own : values_of working ≡ (first_cells leaf).own
   pub issued : values_of given ≡ (first_cells leaf).issued
 
 -- the same of many, one by one
-abbrev pub AreFirst : List Leaf → List (List Cell) → List (List Cell) → Type 0
-AreFirst [] [] [] = Unit {0}
-AreFirst (leaf ∷ leaves) (own ∷ owns) (issued ∷ rest) = IsFirst leaf own issued × AreFirst leaves owns rest
-AreFirst leaves owns rest = ⊥
+abbrev pub HaveFirstCells : List Leaf → List (List Cell) → List (List Cell) → Type 0
+HaveFirstCells [] [] [] = Unit {0}
+HaveFirstCells (leaf ∷ leaves) (own ∷ owns) (issued ∷ rest) = HasFirstCells leaf own issued × HaveFirstCells leaves owns rest
+HaveFirstCells leaves owns rest = ⊥

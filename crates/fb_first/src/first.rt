@@ -5,7 +5,7 @@ ghost use Rattle.fb_model.specs.System.{Device};
 ghost use Rattle.fb_model.specs.Wires.{leaves};
 ghost use Rattle.fb_check.specs.Verdicts.{system_in};
 ghost use Rattle.fb_check.specs.fb_flat.declared.flat.Leaf as flat;
-ghost use Rattle.fb_first.specs.First.{AreFirst};
+ghost use Rattle.fb_first.specs.First.{HaveFirstCells};
 ghost use Rattle.fb_first.specs.Filling.{AreFilled, leaves_in};
 
 use crate::leaf::{issued_values, own_values};
@@ -63,7 +63,7 @@ pub fn first_values(
     device: usize,
 ) -> Result<FirstValues, AllocError>
     requires within { device < length (system_in verified.now).devices }
-    ensures { (d : Device) → slice_get (system_in verified.now).devices device ≡ Some d → IfOk result (λ f. AreFirst (leaves d) f.own.items f.issued.items) }
+    ensures { (d : Device) → slice_get (system_in verified.now).devices device ≡ Some d → IfOk result (λ f. HaveFirstCells (leaves d) f.own.items f.issued.items) }
 {
     verified.fits();
     leaf_values(alloc, &verified.flat().devices[device].resources)

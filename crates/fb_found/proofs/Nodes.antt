@@ -33,7 +33,7 @@ use Rattle.fb_places.specs.fb_flat.declared.flat.FlatDevice.{FlatDevice}
 use Rattle.fb_places.specs.declared.numbering.Numbering.{Numbering}
 use Rattle.fb_places.specs.Rights.{numbers_of, numbered}
 use Rattle.fb_found.specs.Given.{nodes_in, IsNumbered}
-use Rattle.fb_found.specs.Columns.{asked, ServesAll, IsColumn, AreSmallest, IsPastFault, IsCycle}
+use Rattle.fb_found.specs.Columns.{asked, FulfilsAll, IsColumn, AreSmallest, IsPastFault, IsCycle}
 
 -- how many nodes there are
 pub count_is : (ts us : List Name) (cs : List ℕ) → length (nodes_of ts us cs) ≡ length ts + (length us + length cs)
@@ -122,7 +122,7 @@ module _ (repeats : Option ℕ) (devices : List FlatDevice) (n : Numbering) (s :
   pub asked_system : IsSystem system
   asked_system = known_terms (nodes_in n) ds (numbers_of n) system stand known_of asked_grouped sized
 
-  pub serves_all : (order : List ℕ) → IsOrder (needs system) order → ServesAll repeats n s order
+  pub serves_all : (order : List ℕ) → IsOrder (needs system) order → FulfilsAll repeats n s order
   serves_all order o = λ es asks other g e. order_serves_less (numbers_of n) (length (nodes_in n)) ds es system other order asks asked_grouped g (omega (arith, sized, e)) o
 
   pub cycle : (f : NoBound) → IsWalk system (names_of n.states) (names_of n.events) n.channels.items f → IsCycle repeats s f

@@ -20,8 +20,8 @@ use Rattle.fb_places.specs.Rights.{numbers_of, numbered}
 use Rattle.fb_found.specs.Given.{nodes_in}
 
 -- an order serves the demands: in it each place stands after all that they ask of it
-abbrev pub Serves : Numbering → List Demand → List ℕ → Type 0
-Serves n ds order = (system : System) → AreGrouped (length (nodes_in n)) (numbered n ds) system → length system ≡ length (nodes_in n) → IsOrder (needs system) order
+abbrev pub Fulfils : Numbering → List Demand → List ℕ → Type 0
+Fulfils n ds order = (system : System) → AreGrouped (length (nodes_in n)) (numbered n ds) system → length system ≡ length (nodes_in n) → IsOrder (needs system) order
 
 -- what a system asks whatever algorithms cost: of each device alone, or of the network where datagrams are followed
 abbrev pub asked : Option ℕ → book.System → List Demand
@@ -29,15 +29,15 @@ asked None s = bare_demands (all_leaves s.devices)
 asked (Some r) s = bare_network (all_leaves s.devices)
 
 -- it serves those of every column of a system, none of which asks for more
-abbrev pub ServesAll : Option ℕ → Numbering → book.System → List ℕ → Type 0
-ServesAll repeats n s order = (ds : List Demand) → AskForAll (asked repeats s) ds → Serves n ds order
+abbrev pub FulfilsAll : Option ℕ → Numbering → book.System → List ℕ → Type 0
+FulfilsAll repeats n s order = (ds : List Demand) → AskForAll (asked repeats s) ds → Fulfils n ds order
 
 -- these inequalities are the demands by numbers, all of nodes that have numbers, and the order serves them
 pub record IsColumn (n : Numbering) (order : List ℕ) (rights : List Numbered) (ds : List Demand) : Type 0 where
   pub are : rights ≡ numbered n ds
   pub nodes_have : AreNumbers (nodes_in n) (numbers_of n)
   pub of_nodes : AreOf (nodes_in n) ds
-  pub serves : Serves n ds order
+  pub serves : Fulfils n ds order
 
 -- the least numbers that meet the demands, each within a limit
 pub record AreSmallest (n : Numbering) (ds : List Demand) (limit : ℕ) (numbers : List ℕ) : Type 0 where

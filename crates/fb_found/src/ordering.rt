@@ -4,7 +4,7 @@ ghost use Rattle.std.specs.Prelude.{◌≡◌, IfErr, IfOk};
 ghost use Rattle.fb_model.specs.System.{System};
 ghost use Rattle.fb_places.specs.Rights.{numbered, rights_of};
 ghost use Rattle.fb_found.specs.Given.{IsNumbered};
-ghost use Rattle.fb_found.specs.Columns.{asked, IsCycle, ServesAll};
+ghost use Rattle.fb_found.specs.Columns.{asked, IsCycle, FulfilsAll};
 
 use fb_places::fb_flat::Flat;
 use fb_places::{Numbering, Right, group};
@@ -36,7 +36,7 @@ pub fn order(
     repeats: Option<u8>,
 ) -> Result<Vec<usize>, NoBound>
     requires { (s : System) × IsNumbered repeats flat.now.devices.items numbering.now s }
-    ensures ordered { (s : System) → IsNumbered repeats flat.now.devices.items numbering.now s → IfOk result (λ order. ServesAll repeats numbering.now s order.items) }
+    ensures ordered { (s : System) → IsNumbered repeats flat.now.devices.items numbering.now s → IfOk result (λ order. FulfilsAll repeats numbering.now s order.items) }
     ensures cycle { (s : System) → IsNumbered repeats flat.now.devices.items numbering.now s → IfErr result (IsCycle repeats s) }
 {
     let rights = asked_rights(alloc, flat, numbering, repeats)?;

@@ -3,21 +3,21 @@ use Rattle.std.proofs.Common.{◌≡◌, ℕ, zero, suc, ◌-◌, ◌*◌, ◌/�
 use Rattle.std.specs.Prelude.{if◌then◌else◌}
 use Rattle.std.proofs.Math.Nat.{mul-le-mul_right}
 use Rattle.std.proofs.lemmas.Int.{ints, by_lt_z}
-use Rattle.fb_model.specs.Language.{turn_count}
+use Rattle.fb_model.specs.Language.{iteration_count}
 use Rattle.fb_model.specs.Spans.{Span, span, joined}
-use Rattle.fb_model.specs.Clear.{most_turns, is_single, last_value, taken, may_skip, left_with}
+use Rattle.fb_model.specs.Clear.{most_iterations, is_single, last_value, taken, may_skip, left_with}
 use Rattle.fb_words.proofs.Types.{lt_true, lt_false, le_is}
 
 pub last_is : (a k : ℤ) (n : ℕ) → 0 < n → last_value a k n ≡ a +ℤ pos (n - 1) *ℤ k
 last_is a k zero h = absurd (omega (arith, h))
 last_is a k (suc n) h = ap (λ m. a +ℤ pos m *ℤ k) (let e : n ≡ suc n - 1 = omega arith in e)
 
--- where there is a turn, the bounds are in the step's order
-pub some_up : (a b : ℤ) (n : ℕ) → 0 < turn_count a b (pos n) → a ≤ℤ b
+-- where there is a iteration, the bounds are in the step's order
+pub some_up : (a b : ℤ) (n : ℕ) → 0 < iteration_count a b (pos n) → a ≤ℤ b
 some_up a b zero h = absurd (omega (arith, h))
 some_up a b (suc n) h = by_lt_z b a (λ lt. absurd (let e = rw (lt_true b a lt) at h in omega arith)) (λ le. le)
 
-pub some_down : (a b : ℤ) (n : ℕ) → 0 < turn_count a b (negsuc n) → b ≤ℤ a
+pub some_down : (a b : ℤ) (n : ℕ) → 0 < iteration_count a b (negsuc n) → b ≤ℤ a
 some_down a b n h = by_lt_z a b (λ lt. absurd (let e = rw (lt_true a b lt) at h in omega arith)) (λ le. le)
 
 up_to : (d n i : ℕ) → i < suc (d / suc n) → i * suc n ≤ d
@@ -28,7 +28,7 @@ pub record Between (a b v : ℤ) : Type 0 where
   pub least : a ≤ℤ v
   pub most : v ≤ℤ b
 
-between_up : (a b : ℤ) (n i : ℕ) → i < turn_count a b (pos (suc n)) → Between a b (a +ℤ pos i *ℤ pos (suc n))
+between_up : (a b : ℤ) (n i : ℕ) → i < iteration_count a b (pos (suc n)) → Between a b (a +ℤ pos i *ℤ pos (suc n))
 between_up a b n i h =
     by_lt_z b a
     (λ lt. absurd (let e = rw (lt_true b a lt) at h in omega arith))
@@ -38,7 +38,7 @@ between_up a b n i h =
     let d : pos (unsigned_abs (b -ℤ a)) ≡ b -ℤ a = omega (arith, ints) in
     record { least = omega (arith, ints); most = omega (arith, ints) })
 
-between_down : (a b : ℤ) (n i : ℕ) → i < turn_count a b (negsuc n) → Between b a (a +ℤ pos i *ℤ negsuc n)
+between_down : (a b : ℤ) (n i : ℕ) → i < iteration_count a b (negsuc n) → Between b a (a +ℤ pos i *ℤ negsuc n)
 between_down a b n i h =
     by_lt_z a b
     (λ lt. absurd (let e = rw (lt_true a b lt) at h in omega arith))
@@ -49,7 +49,7 @@ between_down a b n i h =
     record { least = omega (arith, ints); most = omega (arith, ints) })
 
 -- the last number lies between two ends of the bounds' ranges
-pub last_between : (r s : Span) (k : ℤ) (n : ℕ) → r.low ≤ℤ r.high → is_single r ≡ true → n ≡ most_turns r s k → 0 < n
+pub last_between : (r s : Span) (k : ℤ) (n : ℕ) → r.low ≤ℤ r.high → is_single r ≡ true → n ≡ most_iterations r s k → 0 < n
     → Between r.low s.high (last_value r.low k n) ⊎ Between s.low r.high (last_value r.low k n)
 last_between r s (pos zero) n o e m h = absurd (omega (arith, m, h))
 last_between r s (pos (suc j)) n o e m h = inl (subst (Between r.low s.high) (sym (last_is r.low (pos (suc j)) n h)) (between_up r.low s.high j (n - 1) (omega (arith, m, h))))
@@ -57,12 +57,12 @@ last_between r s (negsuc j) n o e m h =
     let same : r.high ≡ r.low = let l = le_is r.high r.low e in omega (arith, ints) in
     inr (subst (Between s.low r.high) (ap (λ a. a +ℤ pos (n - 1) *ℤ negsuc j) same ∙ sym (last_is r.low (negsuc j) n h)) (between_down r.high s.low j (n - 1) (omega (arith, m, h))))
 
--- where there is a turn, so are the ends
-pub ends_up : (r s : Span) (k : ℤ) (n : ℕ) → n ≡ most_turns r s k → 0 < n → int_lt (pos 0) k ≡ true → r.low ≤ℤ s.high
+-- where there is a iteration, so are the ends
+pub ends_up : (r s : Span) (k : ℤ) (n : ℕ) → n ≡ most_iterations r s k → 0 < n → int_lt (pos 0) k ≡ true → r.low ≤ℤ s.high
 ends_up r s (pos j) n m h up = some_up r.low s.high j (omega (arith, m, h))
 ends_up r s (negsuc j) n m h up = cc
 
-pub ends_down : (r s : Span) (k : ℤ) (n : ℕ) → n ≡ most_turns r s k → 0 < n → int_lt (pos 0) k ≡ false → s.low ≤ℤ r.high
+pub ends_down : (r s : Span) (k : ℤ) (n : ℕ) → n ≡ most_iterations r s k → 0 < n → int_lt (pos 0) k ≡ false → s.low ≤ℤ r.high
 ends_down r s (pos zero) n m h up = absurd (omega (arith, m, h))
 ends_down r s (pos (suc j)) n m h up = let e = lt_true (pos 0) (pos (suc j)) (omega (arith, ints)) in cc
 ends_down r s (negsuc j) n m h up = some_down r.high s.low j (omega (arith, m, h))

@@ -8,7 +8,7 @@ use Rattle.std.proofs.lemmas.List.Elements.{Contains-append_left, Contains-push,
 use Rattle.fb_least.specs.declared.graph.Mark.{Mark}
 use Rattle.fb_least.specs.declared.graph.Mark.TheVariants.{New, Open, Done}
 use Rattle.fb_least.specs.Graphs.{row, HasEdge, IsOrder, IsClosed}
-use Rattle.fb_least.specs.Searches.{mark, rows_of, IsLast, IsTurned, IsFromLeast, IsSearching, weight, work}
+use Rattle.fb_least.specs.Searches.{mark, rows_of, IsLast, IsRotated, IsFromLeast, IsSearching, weight, work}
 
 -- the mark of a place after a write
 pub mark_cases : (marks : List Mark) (p q : ℕ) (m : Mark) → p < length marks → ((q ≡ p) × (mark (set marks p m) q ≡ m)) ⊎ ((q ≢ p) × (mark (set marks p m) q ≡ mark marks q))
@@ -291,8 +291,8 @@ none_from None P Q n m = m
 none_from (Some x) P Q n m = absurd (n x refl)
 
 -- a closed walk stays one from another of its places on
-pub walk_turns : (rows : List (List ℕ)) (walk : List ℕ) (turned : Vec ℕ Global) → IsClosed rows walk → IsTurned walk turned → IsClosed rows turned.items × IsFromLeast turned.items
-walk_turns rows walk turned w t =
+pub walk_rotates : (rows : List (List ℕ)) (walk : List ℕ) (rotated : Vec ℕ Global) → IsClosed rows walk → IsRotated walk rotated → IsClosed rows rotated.items × IsFromLeast rotated.items
+walk_rotates rows walk rotated w t =
     let n = length walk - 1 in
     let at = t.0 in
     let low = take (n - at) (drop at walk) in

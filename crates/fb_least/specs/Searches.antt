@@ -53,8 +53,8 @@ abbrev pub IsFromLeast : List ℕ → Type 0
 IsFromLeast walk = (k : ℕ) → k < length walk → slice_index walk 0 ≤ slice_index walk k
 
 -- a closed walk from its least place on
-abbrev pub IsTurned : List ℕ → Vec ℕ Global → Type 0
-IsTurned walk turned = (at : ℕ) × (at + 1 < length walk) × (turned.items ≡ take (length walk - 1 - at) (drop at walk) ++ take (at + 1) walk) × ((k : ℕ) → k + 1 < length walk → slice_index walk at ≤ slice_index walk k)
+abbrev pub IsRotated : List ℕ → Vec ℕ Global → Type 0
+IsRotated walk rotated = (at : ℕ) × (at + 1 < length walk) × (rotated.items ≡ take (length walk - 1 - at) (drop at walk) ++ take (at + 1) walk) × ((k : ℕ) → k + 1 < length walk → slice_index walk at ≤ slice_index walk k)
 
 -- what the search answers
 abbrev pub IsSorted : List (List ℕ) → Sorted → Type 0

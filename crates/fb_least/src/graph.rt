@@ -2,7 +2,7 @@
 
 ghost use Rattle.std.specs.Prelude.{◌≡◌, ◌≢◌, ◌+◌, ◌<◌, ◌≤◌, length, ℕ, List, IfOk, IfSome, IfNone, slice_index, slice_set, drop, MatchOption, ◌++◌, ◌∷◌, [], vec_len};
 ghost use Rattle.fb_least.specs.Graphs.{row, InRange, IsClosed, HasEdge};
-ghost use Rattle.fb_least.specs.Searches.{rows_of, mark, IsLast, work, IsSearching, IsSorted, IsTurned};
+ghost use Rattle.fb_least.specs.Searches.{rows_of, mark, IsLast, work, IsSearching, IsSorted, IsRotated};
 
 use std::alloc::{AllocError, Global};
 
@@ -105,15 +105,15 @@ fn least_at(places: &[usize]) -> usize
 }
 
 /// The same closed walk, from its least place on.
-fn turn_walk(alloc: Global, walk: &[usize]) -> Result<Vec<usize>, AllocError>
+fn rotate_walk(alloc: Global, walk: &[usize]) -> Result<Vec<usize>, AllocError>
     requires { 1 < length walk.now }
-    ensures { IfOk result (IsTurned walk.now) }
+    ensures { IfOk result (IsRotated walk.now) }
 {
     let last = walk.len() - 1;
     let at = least_at(&walk[..last]);
-    let mut turned = walk[at..last].to_vec(alloc)?;
-    turned.extend_from_slice(&walk[..at + 1])?;
-    Ok(turned)
+    let mut rotated = walk[at..last].to_vec(alloc)?;
+    rotated.extend_from_slice(&walk[..at + 1])?;
+    Ok(rotated)
 }
 
 /// The last place of the path.
@@ -176,7 +176,7 @@ pub fn sort_places(alloc: Global, graph: &[Vec<usize>]) -> Result<Sorted, AllocE
                     graph, &mut marks, &mut path, &mut order, top,
                 )? {
                     let walk = cut_walk(alloc, &path, first, next)?;
-                    return Ok(Sorted::Walk(turn_walk(alloc, &walk)?));
+                    return Ok(Sorted::Walk(rotate_walk(alloc, &walk)?));
                 }
             }
         }

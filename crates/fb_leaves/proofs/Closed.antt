@@ -7,7 +7,7 @@ use Rattle.fb_model.specs.Names.{Name, is_in}
 use Rattle.fb_model.specs.Productions.{Word}
 use Rattle.fb_model.specs.Trees.{ActionTree, StateTree}
 use Rattle.fb_model.specs.Declarations.{EventTree, TransitionTree, ChartTree, BlockTree, SourceTree}
-use Rattle.fb_model.specs.TextTyping.{Entry}
+use Rattle.fb_model.specs.TextTyping.{Symbol}
 use Rattle.fb_model.specs.System.{Event, Action, State, Transition, Block, Device, System}
 use Rattle.fb_model.specs.Typing.{texts, IsKnown, AreNew, AreDistinct, most_ports, most_states, state_texts, typed_action, typed_state}
 use Rattle.fb_model.specs.BlockTyping.{Declared, AreKnown, names_in, variable_of, event_texts, typed_event, algorithm_texts, IsActionTyped, AreTransitions, no_transition, a_transition, IsBasic}
@@ -42,15 +42,15 @@ states_listed : (algorithms outputs : List Name) (ss : List StateTree) → AllBy
 states_listed algorithms outputs [] h = tt
 states_listed algorithms outputs (s ∷ ss) h = (actions_listed algorithms outputs s.actions h.0, states_listed algorithms outputs ss h.1)
 
-sources_in : (env : List Entry) (states inputs : List Name) (cs : List TransitionTree) (ds : List Transition) → AreTransitions env states inputs cs ds → AllByRecursion (λ (d : Transition). is_in d.source states ≡ true) ds
+sources_in : (env : List Symbol) (states inputs : List Name) (cs : List TransitionTree) (ds : List Transition) → AreTransitions env states inputs cs ds → AllByRecursion (λ (d : Transition). is_in d.source states ≡ true) ds
 sources_in env states inputs cs ds no_transition = tt
 sources_in env states inputs cs ds (a_transition {cs = rest} {ds = others} h more) = (ap (λ x. is_in x states) h.source ∙ h.known_source, sources_in env states inputs rest others more)
 
-targets_in : (env : List Entry) (states inputs : List Name) (cs : List TransitionTree) (ds : List Transition) → AreTransitions env states inputs cs ds → AllByRecursion (λ (d : Transition). is_in d.target states ≡ true) ds
+targets_in : (env : List Symbol) (states inputs : List Name) (cs : List TransitionTree) (ds : List Transition) → AreTransitions env states inputs cs ds → AllByRecursion (λ (d : Transition). is_in d.target states ≡ true) ds
 targets_in env states inputs cs ds no_transition = tt
 targets_in env states inputs cs ds (a_transition {cs = rest} {ds = others} h more) = (ap (λ x. is_in x states) h.target ∙ h.known_target, targets_in env states inputs rest others more)
 
-events_in : (env : List Entry) (states inputs : List Name) (cs : List TransitionTree) (ds : List Transition) → AreTransitions env states inputs cs ds → AllByRecursion (λ (d : Transition). IsListed inputs d.event) ds
+events_in : (env : List Symbol) (states inputs : List Name) (cs : List TransitionTree) (ds : List Transition) → AreTransitions env states inputs cs ds → AllByRecursion (λ (d : Transition). IsListed inputs d.event) ds
 events_in env states inputs cs ds no_transition = tt
 events_in env states inputs cs ds (a_transition {c = c} {cs = rest} {ds = others} h more) = (subst (IsListed inputs) (sym h.event) (listed inputs c.event h.known_event), events_in env states inputs rest others more)
 

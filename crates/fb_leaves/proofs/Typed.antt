@@ -18,7 +18,7 @@ use Rattle.fb_model.specs.Trees.{Constant, ParameterTree, PortTree, ConnectionTr
 use Rattle.fb_model.specs.Declarations.{VariableTree, StartTree, ChartTree, InstanceTree, BlockTree, ResourceTree, DeviceTree, SourceTree}
 use Rattle.fb_model.specs.StructuredText.{literal}
 use Rattle.fb_model.specs.TypedText.{constant}
-use Rattle.fb_model.specs.TextTyping.{Entry, widens, same_type, bit, Operand, fixed, Loose, Settles, a_number, Takes, widened, settles, IsTyped, a_whole_number, a_typed_number, a_time, a_truth}
+use Rattle.fb_model.specs.TextTyping.{Symbol, widens, same_type, bit, Operand, fixed, Loose, Settles, a_number, TakesType, widened, settles, IsTyped, a_whole_number, a_typed_number, a_time, a_truth}
 use Rattle.fb_model.specs.BlockTyping.{Declared, IsGiven, IsStart, no_start, a_start, declared, AreDeclared, none as none_declared, more as more_declared, names_in, variable_of, IsFace, face_names, event_texts, IsBasic}
 use Rattle.fb_model.specs.System.{Variable, Block, Service, End, Connection, Parameter, Face, Body, Served, Instances, Resource, Device, System, start_of, zeros}
 use Rattle.fb_model.specs.Typing.{names_of, event_inputs_of}
@@ -77,7 +77,7 @@ pub bit_fits : (b : Bool) → IsIn (whole t.Bool) (bit b)
 bit_fits true = in_range t.Bool (pos 1) refl
 bit_fits false = in_range t.Bool (pos 0) refl
 
-literal_fits : (env : List Entry) (c : Constant) (p : Operand) → IsTyped env (literal c) p → OperandFits p
+literal_fits : (env : List Symbol) (c : Constant) (p : Operand) → IsTyped env (literal c) p → OperandFits p
 literal_fits env c p a_whole_number = tt
 literal_fits env c p (a_typed_number {a = a} {b = b} {n = n} h) = in_range a (signed b n) h
 literal_fits env c p (a_time {b = b} {n = n} h) = in_range t.Time (signed b n) h
@@ -86,7 +86,7 @@ literal_fits env c p (a_truth {b = b}) = bit_fits b
 settled : (a : ElemType) (l : Loose) (n : ℤ) → Settles a l (constant n) → in_type a n ≡ true
 settled a l n (a_number h) = h
 
-taken_fits : (a : ElemType) (p : Operand) (n : ℤ) → Takes a p (constant n) → OperandFits p → IsIn (whole a) n
+taken_fits : (a : ElemType) (p : Operand) (n : ℤ) → TakesType a p (constant n) → OperandFits p → IsIn (whole a) n
 taken_fits a p n (widened {b = b} w) h = in_wider b a n (wider b a w) h
 taken_fits a p n (settles {l = l} s) h = in_range a n (settled a l n s)
 

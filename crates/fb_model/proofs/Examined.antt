@@ -50,7 +50,7 @@ divides = refl
 counts_up : outcome (examined rows (alone (count i t.Int (constant (pos 1)) (constant (pos 7)) (pos 3) true (alone (set x (read i)))))) i ≡ Some (span (pos 7) (pos 7), 7)
 counts_up = refl
 
--- FOR i := x TO 5 DO END_FOR may have no turn
+-- FOR i := x TO 5 DO END_FOR may have no iteration
 may_skip_all : outcome (examined rows (alone (count i t.Int (read x) (constant (pos 5)) (pos 1) false done))) i ≡ Some (span (pos 0) (pos 10), 7)
 may_skip_all = refl
 

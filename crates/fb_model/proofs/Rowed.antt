@@ -11,7 +11,7 @@ use Rattle.fb_model.specs.Names.{Name, is_in}
 use Rattle.fb_model.specs.TypedText.{Term, constant, read, part, single, double, Command, set, set_part, choose, match_on, count, done, then_do, Choices, no_choice, choice, Cases, no_case, a_case}
 use Rattle.fb_model.specs.Language.{Algorithm}
 use Rattle.fb_model.specs.Spans.{Span, span, within, joined}
-use Rattle.fb_model.specs.Clear.{Spans, changed, meets, opposite, mirrored, is_truth, related, narrowed, Found, Clear, Leaves, Traps, onward, costing, with_range, either, range_of, assigned, are_kept, reset, most_turns, taken, left_with, looped, examine_one, examine, examine_choices, examine_cases}
+use Rattle.fb_model.specs.Clear.{Spans, changed, meets, opposite, mirrored, is_truth, related, narrowed, Found, Clear, Leaves, Traps, onward, costing, with_range, either, range_of, assigned, are_kept, reset, most_iterations, taken, left_with, looped, examine_one, examine, examine_choices, examine_cases}
 use Rattle.fb_model.specs.Shapes.{Shape, TermFits, CommandFits, AlgorithmFits, ChoicesFit, CasesFit}
 use Rattle.fb_model.proofs.Names.{by_name}
 
@@ -182,7 +182,7 @@ module _ (shape : Shape) (rows : Spans) where
     rowed_one (choose choices other) h spans k = on_costing 1 _ (λ s n. Rowed s) (λ s n. Rowed s) (rowed_choices choices h.0 (examine rows other) (λ s t. rowed_all other h.1 s t) spans k) (λ s m t. t)
     rowed_one (match_on e cases other) h spans k =
         any_way (range_of e spans) _ (λ r. on_costing 1 _ (λ s n. Rowed s) (λ s n. Rowed s) (rowed_cases cases h.1 (examine rows other spans) (rowed_all other h.2 spans k) spans k) (λ s m t. t))
-    rowed_one (count x a e g k plain body) h spans t = any_way (range_of e spans) _ (λ r. any_way (range_of g spans) _ (λ s. looped_rowed (most_turns r s k) (assigned body) (examine rows body) x r s k spans h.0 t))
+    rowed_one (count x a e g k plain body) h spans t = any_way (range_of e spans) _ (λ r. any_way (range_of g spans) _ (λ s. looped_rowed (most_iterations r s k) (assigned body) (examine rows body) x r s k spans h.0 t))
 
     pub rowed_all : (a : Algorithm) → AlgorithmFits shape a → (spans : Spans) → Rowed spans → FoundRowed (examine rows a spans)
     rowed_all done h spans k = k

@@ -4,9 +4,9 @@ use Rattle.std.specs.Prelude.{if◌then◌else◌}
 use Rattle.fb_model.specs.Names.{Name}
 use Rattle.fb_model.specs.Values.{One, Values}
 use Rattle.fb_model.specs.TypedText.{Command, set, set_part, choose, match_on, count, done, then_do, Choices, no_choice, choice, Cases, no_case, a_case}
-use Rattle.fb_model.specs.Language.{Algorithm, Outcome, Done, Trap, more, after, with_value, setting, setting_part, is_zero, labelled, value_of, turn_count, turns, run_one, run, run_choices, run_cases}
+use Rattle.fb_model.specs.Language.{Algorithm, Outcome, Done, Trap, more, after, with_value, setting, setting_part, is_zero, labelled, value_of, iteration_count, iterations, run_one, run, run_choices, run_cases}
 use Rattle.fb_model.specs.Spans.{Span, span, within, joined}
-use Rattle.fb_model.specs.Clear.{Spans, changed, Found, Clear, Leaves, Traps, costing, either, range_of, is_idle, assigned_one, assigned, assigned_choices, assigned_cases, are_kept, most_turns, narrowed, looped, kept, examine_one, examine, examine_choices, examine_cases, examined}
+use Rattle.fb_model.specs.Clear.{Spans, changed, Found, Clear, Leaves, Traps, costing, either, range_of, is_idle, assigned_one, assigned, assigned_choices, assigned_cases, are_kept, most_iterations, narrowed, looped, kept, examine_one, examine, examine_choices, examine_cases, examined}
 use Rattle.fb_model.specs.Shapes.{IsIn, Lies, Shape, HasShape, CommandFits, AlgorithmFits, ChoicesFit, CasesFit, written_one, written, written_choices, written_cases, Keeps}
 use Rattle.fb_model.proofs.Results.{LiesIn, joined_left, joined_right, within_is}
 use Rattle.fb_model.proofs.Names.{not_front, not_back}
@@ -89,11 +89,11 @@ module _ (shape : Shape) (rows : Spans) where
 
   -- ---- FOR
 
-  -- the variables that a FOR assigns, its own not where it stands there without a turn
-  named : (b : Bool) (xs ys : List Name) (x : Name) (k : ℤ) (body : Values → Outcome) (j : ℕ) (u : ℤ) (values : Values) (F : Found) → (b ≡ true → j ≡ 0) → IsSound (x ∷ xs) (x ∷ ys) values (more 1 (turns j body x u k values)) F
-      → IsSound (if b then xs else x ∷ xs) (x ∷ ys) values (more 1 (turns j body x u k values)) F
+  -- the variables that a FOR assigns, its own not where it stands there without a iteration
+  named : (b : Bool) (xs ys : List Name) (x : Name) (k : ℤ) (body : Values → Outcome) (j : ℕ) (u : ℤ) (values : Values) (F : Found) → (b ≡ true → j ≡ 0) → IsSound (x ∷ xs) (x ∷ ys) values (more 1 (iterations j body x u k values)) F
+      → IsSound (if b then xs else x ∷ xs) (x ∷ ys) values (more 1 (iterations j body x u k values)) F
   named true xs ys x k body j u values F z h =
-      map_clear F (λ t n. Runs shape n t (x ∷ xs) (x ∷ ys) values (more 1 (turns j body x u k values))) (λ t n. Runs shape n t xs (x ∷ ys) values (more 1 (turns j body x u k values)))
+      map_clear F (λ t n. Runs shape n t (x ∷ xs) (x ∷ ys) values (more 1 (iterations j body x u k values))) (λ t n. Runs shape n t xs (x ∷ ys) values (more 1 (iterations j body x u k values)))
       (λ t n g. unassigned shape rows xs ys x k body j u n t (x ∷ xs) (x ∷ ys) values (z refl) g) h
   named false xs ys x k body j u values F z h = h
 
@@ -125,12 +125,12 @@ module _ (shape : Shape) (rows : Spans) where
     sound_one (count x a e g k plain body) h spans values b fit lie =
         on_range (range_of e spans) _ (λ r. LiesIn r (value_of e values)) _ (term_lies shape spans values fit lie e h.2)
         (λ r l. on_range (range_of g spans) _ (λ s. LiesIn s (value_of g values)) _ (term_lies shape spans values fit lie g h.3)
-        (λ s m. with_there (λ o. IsSound (if is_idle plain e g k then assigned body else x ∷ assigned body) (x ∷ written body) values o (looped (most_turns r s k) (assigned body) rows (examine rows body) x r s k spans)) r (value_of e values)
-        (λ u. with_value (value_of g values) (λ v. more 1 (turns (turn_count u v k) (run body) x u k values))) l
-        (λ u p i. with_there (λ o. IsSound (if is_idle plain e g k then assigned body else x ∷ assigned body) (x ∷ written body) values o (looped (most_turns r s k) (assigned body) rows (examine rows body) x r s k spans)) s (value_of g values)
-        (λ v. more 1 (turns (turn_count u v k) (run body) x u k values)) m
-        (λ v q j. named (is_idle plain e g k) (assigned body) (written body) x k (run body) (turn_count u v k) u values (looped (most_turns r s k) (assigned body) rows (examine rows body) x r s k spans) (λ z. idle_none plain e g k values u v z p q)
-        (loop_runs shape rows (assigned body) (written body) x k (run body) (examine rows body) h.0 h.1 (λ t c. rowed_all shape rows body h.4 t c) (λ t vs c f w. sound_all body h.4 t vs c f w) r s u v spans values i j b fit lie (most_turns r s k) refl)))))
+        (λ s m. with_there (λ o. IsSound (if is_idle plain e g k then assigned body else x ∷ assigned body) (x ∷ written body) values o (looped (most_iterations r s k) (assigned body) rows (examine rows body) x r s k spans)) r (value_of e values)
+        (λ u. with_value (value_of g values) (λ v. more 1 (iterations (iteration_count u v k) (run body) x u k values))) l
+        (λ u p i. with_there (λ o. IsSound (if is_idle plain e g k then assigned body else x ∷ assigned body) (x ∷ written body) values o (looped (most_iterations r s k) (assigned body) rows (examine rows body) x r s k spans)) s (value_of g values)
+        (λ v. more 1 (iterations (iteration_count u v k) (run body) x u k values)) m
+        (λ v q j. named (is_idle plain e g k) (assigned body) (written body) x k (run body) (iteration_count u v k) u values (looped (most_iterations r s k) (assigned body) rows (examine rows body) x r s k spans) (λ z. idle_none plain e g k values u v z p q)
+        (loop_runs shape rows (assigned body) (written body) x k (run body) (examine rows body) h.0 h.1 (λ t c. rowed_all shape rows body h.4 t c) (λ t vs c f w. sound_all body h.4 t vs c f w) r s u v spans values i j b fit lie (most_iterations r s k) refl)))))
 
     pub sound_all : (a : Algorithm) → AlgorithmFits shape a → (spans : Spans) (values : Values) → Rowed shape rows spans → HasShape shape values → Lies spans values → IsSound (assigned a) (written a) values (run a values) (examine rows a spans)
     sound_all done h spans values b fit lie = record { steps = omega arith; lies = lie; fits = fit; still = λ y p e. refl; same = λ y e. refl }

@@ -8,7 +8,7 @@ use Rattle.fb_model.specs.Names.{Name, is_in}
 use Rattle.fb_model.specs.StructuredText.{Expression, Statements, Branches, Arms, Statement}
 use Rattle.fb_model.specs.TypedText.{Term, Command, Choices, Cases}
 use Rattle.fb_model.specs.Language.{Algorithm, Guard, given}
-use Rattle.fb_model.specs.TextTyping.{Entry, found, Loose, Operand, fixed, free, whole, Settles, a_number, a_single, a_double, Takes, widened, settles, Single, one_free, one, Double, two_free, two, Triple, three_free, three, IsIndex, an_integer, a_free_one, IsTyped, a_whole_number, a_typed_number, a_time, a_truth, a_variable, an_array, an_element, a_negation, an_inversion, an_operation, on_one, on_two, on_three, IsAsked, IsCondition, IsSelector, IsCommand, an_assignment, to_element, a_choice, a_selection, an_iteration, AreCommands, no_command, a_command, AreChoices, no_choices, more_choices, AreCases, no_cases, more_cases}
+use Rattle.fb_model.specs.TextTyping.{Symbol, found, Loose, Operand, fixed, free, whole, Settles, a_number, a_single, a_double, TakesType, widened, settles, Single, one_free, one, Double, two_free, two, Triple, three_free, three, IsIndex, an_integer, a_free_one, IsTyped, a_whole_number, a_typed_number, a_time, a_truth, a_variable, an_array, an_element, a_negation, an_inversion, an_operation, on_one, on_two, on_three, IsAsked, IsCondition, IsSelector, IsCommand, an_assignment, to_element, a_choice, a_selection, an_iteration, AreCommands, no_command, a_command, AreChoices, no_choices, more_choices, AreCases, no_cases, more_cases}
 use Rattle.fb_model.proofs.Placed.{name_same}
 use Rattle.fb_model.proofs.Lists.{same_name}
 use Rattle.fb_model.specs.Clear.{assigned_one, assigned, assigned_choices, assigned_cases}
@@ -29,7 +29,7 @@ module _ (shape : Shape) where
   settles_fit a _ _ (a_single {l = l} {x = x} h s) = settles_fit a l x s
   settles_fit a _ _ (a_double {l = l} {k = k} {x = x} {y = z} h s t) = (settles_fit a l x s, settles_fit a k z t)
 
-  takes_fit : (a : ElemType) (p : Operand) (x : Term) → OperandFits p → Takes a p x → TermFits shape x
+  takes_fit : (a : ElemType) (p : Operand) (x : Term) → OperandFits p → TakesType a p x → TermFits shape x
   takes_fit a _ x h (widened w) = h
   takes_fit a _ x h (settles {l = l} s) = settles_fit a l x s
 
@@ -49,8 +49,8 @@ module _ (shape : Shape) where
   triple_fits s _ _ _ _ h k l three_free = tt
   triple_fits s p q r _ h k l (three {a = a} {x = x} {y = z} {z = w} e b c t u v) = ((takes_fit a q z k u, takes_fit a p x h t), takes_fit a r w l v)
 
-module _ (env : List Entry) where
-  bounds_are : (x : Name) (v : Entry) (b : Option (ℤ × ℤ)) → found env x ≡ Some v → v.bounds ≡ b → shape_of env x ≡ b
+module _ (env : List Symbol) where
+  bounds_are : (x : Name) (v : Symbol) (b : Option (ℤ × ℤ)) → found env x ≡ Some v → v.bounds ≡ b → shape_of env x ≡ b
   bounds_are x v b e h = ap (λ o. given o (λ w. w.bounds)) e ∙ h
 
   typed_fits : (e : Expression) (p : Operand) → IsTyped env e p → OperandFits (shape_of env) p
@@ -147,11 +147,11 @@ module _ (env : List Entry) where
         ((a.0, b.0), left_both busy (assigned c) (assigned_cases cs) a.1 b.1)
 
 -- the law
-pub typed_algorithm_fits : (env : List Entry) (xs : Statements) (a : Algorithm) → AreCommands env [] xs a → AlgorithmFits (shape_of env) a
+pub typed_algorithm_fits : (env : List Symbol) (xs : Statements) (a : Algorithm) → AreCommands env [] xs a → AlgorithmFits (shape_of env) a
 typed_algorithm_fits env xs a h = (commands_fit env [] xs a h).0
 
-pub typed_guard_fits : (env : List Entry) (e : Expression) (g : Guard) → IsCondition env e g → TermFits (shape_of env) g
+pub typed_guard_fits : (env : List Symbol) (e : Expression) (g : Guard) → IsCondition env e g → TermFits (shape_of env) g
 typed_guard_fits env e g h = typed_fits env e _ h
 
-pub typed_term_fits : (env : List Entry) (type : ElemType) (e : Expression) (x : Term) → IsAsked env type e x → TermFits (shape_of env) x
+pub typed_term_fits : (env : List Symbol) (type : ElemType) (e : Expression) (x : Term) → IsAsked env type e x → TermFits (shape_of env) x
 typed_term_fits env type e x h = asked_fits env type e x h

@@ -12,7 +12,7 @@ use Rattle.fb_model.specs.Trees.{Constant, ActionTree, StateTree}
 use Rattle.fb_model.specs.Declarations.{EventTree, BoundsTree, StartTree, VariableTree, GuardTree, TransitionTree, AlgorithmTree, ChartTree, BlockTree}
 use Rattle.fb_model.specs.StructuredText.{literal}
 use Rattle.fb_model.specs.TypedText.{Term, constant}
-use Rattle.fb_model.specs.TextTyping.{Entry, IsAsked, IsCondition, IsNumber, AreCommands}
+use Rattle.fb_model.specs.TextTyping.{Symbol, IsAsked, IsCondition, IsNumber, AreCommands}
 use Rattle.fb_model.specs.System.{Variable, Event, Transition, Procedure, Block, Face}
 use Rattle.fb_model.specs.Typing.{texts, AreDistinct, IsKnown, most_ports, most_states, most_transitions, typed_state, state_texts}
 
@@ -70,8 +70,8 @@ abbrev pub variable_of : Declared → Variable
 variable_of d = record { name = d.name; type = d.type; length = option_map extent d.bounds; start = option_map One d.start }
 
 -- a variable as expressions see it
-abbrev pub entry_of : Bool → Declared → Entry
-entry_of writable d = record { name = d.name; type = d.type; bounds = d.bounds; writable = writable }
+abbrev pub symbol_of : Bool → Declared → Symbol
+symbol_of writable d = record { name = d.name; type = d.type; bounds = d.bounds; writable = writable }
 
 -- ---- events and states
 
@@ -114,14 +114,14 @@ face_of k = record { event_inputs = k.event_inputs; event_outputs = k.event_outp
 -- ---- basic blocks
 
 -- algorithms and guards read all variables of the block, and assign outputs and internal ones
-abbrev pub scope : List Declared → List Declared → List Declared → List Entry
-scope ins outs internals = map (entry_of false) ins ++ map (entry_of true) outs ++ map (entry_of true) internals
+abbrev pub scope : List Declared → List Declared → List Declared → List Symbol
+scope ins outs internals = map (symbol_of false) ins ++ map (symbol_of true) outs ++ map (symbol_of true) internals
 
-pub data IsGuard (env : List Entry) : Option GuardTree → Option Term → Type 0 where
+pub data IsGuard (env : List Symbol) : Option GuardTree → Option Term → Type 0 where
   no_guard : IsGuard env None None
   a_guard : {g : GuardTree} {x : Term} → IsCondition env g.condition x → IsGuard env (Some g) (Some x)
 
-pub record IsTransition (env : List Entry) (states inputs : List Name) (c : TransitionTree) (d : Transition) : Type 0 where
+pub record IsTransition (env : List Symbol) (states inputs : List Name) (c : TransitionTree) (d : Transition) : Type 0 where
   pub known_source : is_in c.source.text states ≡ true
   pub known_target : is_in c.target.text states ≡ true
   pub known_event : IsKnown inputs c.event
@@ -130,11 +130,11 @@ pub record IsTransition (env : List Entry) (states inputs : List Name) (c : Tran
   pub event : d.event ≡ option_map (λ w. w.text) c.event
   pub guard : IsGuard env c.guard d.guard
 
-pub data AreTransitions (env : List Entry) (states inputs : List Name) : List TransitionTree → List Transition → Type 0 where
+pub data AreTransitions (env : List Symbol) (states inputs : List Name) : List TransitionTree → List Transition → Type 0 where
   no_transition : AreTransitions env states inputs [] []
   a_transition : {c : TransitionTree} {cs : List TransitionTree} {d : Transition} {ds : List Transition} → IsTransition env states inputs c d → AreTransitions env states inputs cs ds → AreTransitions env states inputs (c ∷ cs) (d ∷ ds)
 
-pub data AreProcedures (env : List Entry) : List AlgorithmTree → List Procedure → Type 0 where
+pub data AreProcedures (env : List Symbol) : List AlgorithmTree → List Procedure → Type 0 where
   no_procedure : AreProcedures env [] []
   a_procedure : {a : AlgorithmTree} {rest : List AlgorithmTree} {p : Procedure} {ps : List Procedure} → p.name ≡ a.name.text → AreCommands env [] a.body p.algorithm → AreProcedures env rest ps → AreProcedures env (a ∷ rest) (p ∷ ps)
 

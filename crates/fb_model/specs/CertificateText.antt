@@ -99,38 +99,38 @@ place_of cs = at_place (all_but_last (names_in cs)) (last_name (names_in cs))
 -- ---- rows
 
 -- a row after the first, with its path as it is written
-pub data Entry : Type 0 where
-  repeats : ℕ → Entry
-  range : List ℕ → ℤ → ℤ → Entry
-  charge : List ℕ → ℕ → ℕ → Entry
-  weight : List ℕ → ℕ → ℕ → Entry
-  depth : List ℕ → ℕ → Entry
-  far : List ℕ → ℕ → Entry
-  far_state : List ℕ → ℕ → Entry
-  channel : ℕ → ℕ → Entry
+pub data TextRow : Type 0 where
+  repeats : ℕ → TextRow
+  range : List ℕ → ℤ → ℤ → TextRow
+  charge : List ℕ → ℕ → ℕ → TextRow
+  weight : List ℕ → ℕ → ℕ → TextRow
+  depth : List ℕ → ℕ → TextRow
+  far : List ℕ → ℕ → TextRow
+  far_state : List ℕ → ℕ → TextRow
+  channel : ℕ → ℕ → TextRow
 
 -- the first row
 pub data IsHead : List (List ℕ) → Type 0 where
   head : {n : List ℕ} → IsNumberIn 1 1 n 1 → IsHead (codes "CERT" ∷ n ∷ [])
 
 -- the words of a row after the first
-pub data IsEntry : List (List ℕ) → Entry → Type 0 where
-  a_repeats : {r : List ℕ} {n : ℕ} → IsNumberIn 1 most_repeats r n → IsEntry (codes "REPEATS" ∷ r ∷ []) (repeats n)
-  a_range : {p l h : List ℕ} {low high : ℤ} → IsDotted p → IsWhole l low → IsWhole h high → int_le low high ≡ true → IsEntry (codes "RANGE" ∷ p ∷ l ∷ h ∷ []) (range p low high)
-  a_charge : {p s k : List ℕ} {steps places : ℕ} → IsDotted p → IsNumberIn 0 most_steps s steps → IsNumberIn 0 most_places k places → IsEntry (codes "CHARGE" ∷ p ∷ s ∷ k ∷ []) (charge p steps places)
-  a_weight : {p s k : List ℕ} {steps places : ℕ} → IsDotted p → IsNumberIn 0 most_steps s steps → IsNumberIn 0 most_places k places → IsEntry (codes "WEIGHT" ∷ p ∷ s ∷ k ∷ []) (weight p steps places)
-  a_depth : {p d : List ℕ} {n : ℕ} → IsDotted p → IsNumberIn 1 most_places d n → IsEntry (codes "DEPTH" ∷ p ∷ d ∷ []) (depth p n)
-  a_far : {p s : List ℕ} {steps : ℕ} → IsDotted p → IsNumberIn 0 most_steps s steps → IsEntry (codes "FAR" ∷ p ∷ s ∷ []) (far p steps)
-  a_far_state : {p s : List ℕ} {steps : ℕ} → IsDotted p → IsNumberIn 0 most_steps s steps → IsEntry (codes "FARSTATE" ∷ p ∷ s ∷ []) (far_state p steps)
-  a_channel : {c s : List ℕ} {number steps : ℕ} → IsNumberIn 0 most_channel c number → IsNumberIn 0 most_steps s steps → IsEntry (codes "CHANNEL" ∷ c ∷ s ∷ []) (channel number steps)
+pub data IsTextRow : List (List ℕ) → TextRow → Type 0 where
+  a_repeats : {r : List ℕ} {n : ℕ} → IsNumberIn 1 most_repeats r n → IsTextRow (codes "REPEATS" ∷ r ∷ []) (repeats n)
+  a_range : {p l h : List ℕ} {low high : ℤ} → IsDotted p → IsWhole l low → IsWhole h high → int_le low high ≡ true → IsTextRow (codes "RANGE" ∷ p ∷ l ∷ h ∷ []) (range p low high)
+  a_charge : {p s k : List ℕ} {steps places : ℕ} → IsDotted p → IsNumberIn 0 most_steps s steps → IsNumberIn 0 most_places k places → IsTextRow (codes "CHARGE" ∷ p ∷ s ∷ k ∷ []) (charge p steps places)
+  a_weight : {p s k : List ℕ} {steps places : ℕ} → IsDotted p → IsNumberIn 0 most_steps s steps → IsNumberIn 0 most_places k places → IsTextRow (codes "WEIGHT" ∷ p ∷ s ∷ k ∷ []) (weight p steps places)
+  a_depth : {p d : List ℕ} {n : ℕ} → IsDotted p → IsNumberIn 1 most_places d n → IsTextRow (codes "DEPTH" ∷ p ∷ d ∷ []) (depth p n)
+  a_far : {p s : List ℕ} {steps : ℕ} → IsDotted p → IsNumberIn 0 most_steps s steps → IsTextRow (codes "FAR" ∷ p ∷ s ∷ []) (far p steps)
+  a_far_state : {p s : List ℕ} {steps : ℕ} → IsDotted p → IsNumberIn 0 most_steps s steps → IsTextRow (codes "FARSTATE" ∷ p ∷ s ∷ []) (far_state p steps)
+  a_channel : {c s : List ℕ} {number steps : ℕ} → IsNumberIn 0 most_channel c number → IsNumberIn 0 most_steps s steps → IsTextRow (codes "CHANNEL" ∷ c ∷ s ∷ []) (channel number steps)
 
 -- these rows, one after another
-pub data AreEntries : List Written → List Entry → Type 0 where
-  no_entry : AreEntries [] []
-  entry : {w : Written} {e : Entry} {ws : List Written} {es : List Entry} → IsEntry w.words e → AreEntries ws es → AreEntries (w ∷ ws) (e ∷ es)
+pub data AreTextRows : List Written → List TextRow → Type 0 where
+  no_text_row : AreTextRows [] []
+  text_row : {w : Written} {e : TextRow} {ws : List Written} {es : List TextRow} → IsTextRow w.words e → AreTextRows ws es → AreTextRows (w ∷ ws) (e ∷ es)
 
 -- two rows of one kind have one path, or one channel, or are both REPEATS
-abbrev pub is_same : Entry → Entry → Bool
+abbrev pub is_same : TextRow → TextRow → Bool
 is_same (repeats n) (repeats m) = true
 is_same (range p a b) (range q c d) = bytes_eq p q
 is_same (charge p s k) (charge q t l) = bytes_eq p q
@@ -142,8 +142,8 @@ is_same (channel c n) (channel d m) = c == d
 is_same e d = false
 
 -- no row repeats one before it
-abbrev pub NoneTwice : List Entry → Type 0
-NoneTwice es = (before after : List Entry) (e : Entry) → es ≡ before ++ e ∷ after → list_any (is_same e) before ≡ false
+abbrev pub NoneTwice : List TextRow → Type 0
+NoneTwice es = (before after : List TextRow) (e : TextRow) → es ≡ before ++ e ∷ after → list_any (is_same e) before ≡ false
 
 -- a row of a range in the certificate: the last name is the variable's, those before it the block's
 abbrev pub range_row : List ℕ → ℤ → ℤ → Range
@@ -168,20 +168,20 @@ abbrev pub no_certificate : Certificate
 no_certificate = record { ranges = []; charges = []; weights = []; depths = []; repeats = None; fars = []; far_states = []; channels = [] }
 
 -- a row before the rows of its kind
-abbrev pub with_entry : Entry → Certificate → Certificate
-with_entry (repeats n) c = record c { repeats = Some n }
-with_entry (range p low high) c = record c { ranges = range_row p low high ∷ c.ranges }
-with_entry (charge p s k) c = record c { charges = row_of p s k ∷ c.charges }
-with_entry (weight p s k) c = record c { weights = row_of p s k ∷ c.weights }
-with_entry (depth p n) c = record c { depths = depth_row p n ∷ c.depths }
-with_entry (far p n) c = record c { fars = far_row p n ∷ c.fars }
-with_entry (far_state p n) c = record c { far_states = far_row p n ∷ c.far_states }
-with_entry (channel number n) c = record c { channels = channel_row number n ∷ c.channels }
+abbrev pub with_text_row : TextRow → Certificate → Certificate
+with_text_row (repeats n) c = record c { repeats = Some n }
+with_text_row (range p low high) c = record c { ranges = range_row p low high ∷ c.ranges }
+with_text_row (charge p s k) c = record c { charges = row_of p s k ∷ c.charges }
+with_text_row (weight p s k) c = record c { weights = row_of p s k ∷ c.weights }
+with_text_row (depth p n) c = record c { depths = depth_row p n ∷ c.depths }
+with_text_row (far p n) c = record c { fars = far_row p n ∷ c.fars }
+with_text_row (far_state p n) c = record c { far_states = far_row p n ∷ c.far_states }
+with_text_row (channel number n) c = record c { channels = channel_row number n ∷ c.channels }
 
 -- rows of the same kind in text order
-abbrev pub certificate_in : List Entry → Certificate
+abbrev pub certificate_in : List TextRow → Certificate
 certificate_in [] = no_certificate
-certificate_in (e ∷ es) = with_entry e (certificate_in es)
+certificate_in (e ∷ es) = with_text_row e (certificate_in es)
 
 -- ---- whole texts
 
@@ -189,10 +189,10 @@ certificate_in (e ∷ es) = with_entry e (certificate_in es)
 pub record Spells (text : List ℕ) (certificate : Certificate) : Type 0 where
   pub first : Written
   pub others : List Written
-  pub entries : List Entry
+  pub entries : List TextRow
   pub rows_are : rows text ≡ first ∷ others
   pub first_is : IsHead first.words
-  pub others_are : AreEntries others entries
+  pub others_are : AreTextRows others entries
   pub none_twice : NoneTwice entries
   pub certificate_is : certificate ≡ certificate_in entries
 
@@ -201,13 +201,13 @@ abbrev pub IsTold : Certificate → Type 0
 IsTold certificate = (text : List ℕ) × Spells text certificate
 
 -- Up to this row the text is right, and the rows after the first have said these.
-pub record Reaches (text : List ℕ) (entries : List Entry) (here : Written) : Type 0 where
+pub record Reaches (text : List ℕ) (entries : List TextRow) (here : Written) : Type 0 where
   pub first : Written
   pub others : List Written
   pub after : List Written
   pub rows_are : rows text ≡ (first ∷ others) ++ here ∷ after
   pub first_is : IsHead first.words
-  pub others_are : AreEntries others entries
+  pub others_are : AreTextRows others entries
   pub none_twice : NoneTwice entries
 
 -- the first word is CERT
@@ -219,12 +219,12 @@ begins_cert (w ∷ ws) = bytes_eq w (codes "CERT")
 pub data IsWrong (text : List ℕ) : ℕ → Type 0 where
   no_row : rows text ≡ [] → IsWrong text 1
   no_head : {w : Written} {others : List Written} → rows text ≡ w ∷ others → (IsHead w.words → ⊥) → IsWrong text w.line
-  no_row_word : {w : Written} {entries : List Entry} → Reaches text entries w → begins_cert w.words ≡ false → ((e : Entry) → IsEntry w.words e → ⊥) → IsWrong text w.line
+  no_row_word : {w : Written} {entries : List TextRow} → Reaches text entries w → begins_cert w.words ≡ false → ((e : TextRow) → IsTextRow w.words e → ⊥) → IsWrong text w.line
 
 -- What comes first is a row that stands a second time at this line.
 pub data IsRepeated (text : List ℕ) : ℕ → Type 0 where
-  head_again : {w : Written} {entries : List Entry} → Reaches text entries w → begins_cert w.words ≡ true → IsRepeated text w.line
-  path_again : {w : Written} {entries : List Entry} {e : Entry} → Reaches text entries w → IsEntry w.words e → list_any (is_same e) entries ≡ true → IsRepeated text w.line
+  head_again : {w : Written} {entries : List TextRow} → Reaches text entries w → begins_cert w.words ≡ true → IsRepeated text w.line
+  path_again : {w : Written} {entries : List TextRow} {e : TextRow} → Reaches text entries w → IsTextRow w.words e → list_any (is_same e) entries ≡ true → IsRepeated text w.line
 
 -- a text has at most so many characters
 abbrev pub most_characters : ℕ

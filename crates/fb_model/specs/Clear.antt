@@ -10,7 +10,7 @@ use Rattle.fb_words.specs.declared.operator.Operator.TheVariants as o
 use Rattle.fb_words.specs.declared.operator.Operation.TheVariants.{Infix, Not}
 use Rattle.fb_model.specs.Names.{Name, is_in}
 use Rattle.fb_model.specs.TypedText.{Term, constant, read, part, single, double, Command, set, set_part, choose, match_on, count, done, then_do, Choices, no_choice, choice, Cases, no_case, a_case}
-use Rattle.fb_model.specs.Language.{Guard, Algorithm, given, turn_count}
+use Rattle.fb_model.specs.Language.{Guard, Algorithm, given, iteration_count}
 use Rattle.fb_model.specs.Spans.{Span, span, within, joined, range_one, range_two}
 
 -- the range of each variable of a block
@@ -132,9 +132,9 @@ either Traps other = Traps
 
 -- ---- assigned variables, as they stand in the text: the own variable of a FOR too, but of an idle one; what stands in its body counts
 
--- a FOR between two spelled numbers that has no turn
+-- a FOR between two spelled numbers that has no iteration
 abbrev pub is_idle : Bool → Term → Term → ℤ → Bool
-is_idle true (constant a) (constant b) k = nat_eq (turn_count a b k) 0
+is_idle true (constant a) (constant b) k = nat_eq (iteration_count a b k) 0
 is_idle plain e g k = false
 
 abbrev mutual
@@ -168,10 +168,10 @@ reset xs rows spans = λ x. if is_in x xs then rows x else spans x
 
 -- ---- loops
 
--- the most turns of a FOR whose bounds lie in these ranges
-abbrev pub most_turns : Span → Span → ℤ → ℕ
-most_turns r s (pos n) = turn_count r.low s.high (pos n)
-most_turns r s (negsuc n) = turn_count r.high s.low (negsuc n)
+-- the most iterations of a FOR whose bounds lie in these ranges
+abbrev pub most_iterations : Span → Span → ℤ → ℕ
+most_iterations r s (pos n) = iteration_count r.low s.high (pos n)
+most_iterations r s (negsuc n) = iteration_count r.high s.low (negsuc n)
 
 abbrev pub is_single : Span → Bool
 is_single r = int_le r.high r.low
@@ -188,7 +188,7 @@ taken r s k n =
     then joined (span r.low r.low) (span (last_value r.low k n) (last_value r.low k n))
     else if int_lt (pos 0) k then span r.low s.high else span s.low r.high
 
--- some bounds in these ranges give no turn
+-- some bounds in these ranges give no iteration
 abbrev pub may_skip : Span → Span → ℤ → Bool
 may_skip r s k = if int_lt (pos 0) k then int_lt s.low r.high else int_lt r.low s.high
 
@@ -199,7 +199,7 @@ left_with r s k n before =
     then span (last_value r.low k n) (last_value r.low k n)
     else if may_skip r s k then joined (taken r s k n) before else taken r s k n
 
--- a FOR of n turns at most, whose body is examined by f and assigns these
+-- a FOR of n iterations at most, whose body is examined by f and assigns these
 abbrev pub looped : ℕ → List Name → Spans → (Spans → Found) → Name → Span → Span → ℤ → Spans → Found
 looped zero xs rows f x r s k spans = Clear spans 1
 looped (suc n) xs rows f x r s k spans =
@@ -222,7 +222,7 @@ abbrev mutual
   examine_one rows (choose choices other) spans = costing 1 (examine_choices rows choices (examine rows other) spans)
   examine_one rows (match_on e cases other) spans = with_range (range_of e spans) (λ r. costing 1 (examine_cases rows cases (examine rows other spans) spans))
   examine_one rows (count x a e g k plain body) spans =
-      with_range (range_of e spans) (λ r. with_range (range_of g spans) (λ s. looped (most_turns r s k) (assigned body) rows (examine rows body) x r s k spans))
+      with_range (range_of e spans) (λ r. with_range (range_of g spans) (λ s. looped (most_iterations r s k) (assigned body) rows (examine rows body) x r s k spans))
 
   pub examine : Spans → Algorithm → Spans → Found
   examine rows done spans = Clear spans 0

@@ -5,7 +5,7 @@ use Rattle.fb_model.specs.Names.{Name, is_in}
 use Rattle.fb_model.specs.Values.{Value, One, Many, Values, numbers_of}
 use Rattle.fb_model.specs.BlockTyping.{extent}
 use Rattle.fb_model.specs.TypedText.{Term, constant, read, part, single, double, Command, set, set_part, choose, match_on, count, done, then_do, Choices, no_choice, choice, Cases, no_case, a_case}
-use Rattle.fb_model.specs.TextTyping.{Entry, found}
+use Rattle.fb_model.specs.TextTyping.{Symbol, found}
 use Rattle.fb_model.specs.Language.{Algorithm, Outcome, Done, Trap, given}
 use Rattle.fb_model.specs.Spans.{Span}
 use Rattle.fb_model.specs.Clear.{Spans, assigned}
@@ -28,7 +28,7 @@ abbrev pub Shape : Type 0
 Shape = Name → Option (ℤ × ℤ)
 
 -- those among declared variables
-abbrev pub shape_of : List Entry → Shape
+abbrev pub shape_of : List Symbol → Shape
 shape_of env = λ x. given (found env x) (λ v. v.bounds)
 
 -- one number, or as many as the bounds say

@@ -14,7 +14,7 @@ use Rattle.fb_model.specs.Productions.{Word}
 use Rattle.fb_model.specs.Trees.{Literal, Whole, Typed, Duration, Constant}
 use Rattle.fb_model.specs.StructuredText.{Expression, literal, variable, element, call, negative, inverse, binary, Expressions, no_expression, expression, Label, Bound, Statement, assign, assign_element, branch, select, repeat, Statements, statement, Branches, a_branch, Arms, an_arm}
 use Rattle.fb_model.specs.TypedText.{Term}
-use Rattle.fb_model.specs.TextTyping.{same_type, allows, stays_free, called, arity, Entry, found, Loose, loose_number, loose_single, loose_double, Operand, fixed, free, whole, widens, may_be, is_free, IsOneOf, Brings, IsTyped, IsSelector, is_whole}
+use Rattle.fb_model.specs.TextTyping.{same_type, allows, stays_free, called, arity, Symbol, found, Loose, loose_number, loose_single, loose_double, Operand, fixed, free, whole, widens, may_be, is_free, IsOneOf, Brings, IsTyped, IsSelector, is_whole}
 
 -- what is wrong, with its place
 pub data Fault : Type 0 where
@@ -71,17 +71,17 @@ argument_count no_expression = 0
 argument_count (expression e es) = 1 + argument_count es
 
 -- the operands that arguments are
-pub data AreTyped (env : List Entry) : Expressions → List Operand → Type 0 where
+pub data AreTyped (env : List Symbol) : Expressions → List Operand → Type 0 where
   no_operand : AreTyped env no_expression []
   an_operand : {e : Expression} {es : Expressions} {p : Operand} {ps : List Operand} → IsTyped env e p → AreTyped env es ps → AreTyped env (expression e es) (p ∷ ps)
 
 -- what is wrong with an expression, named of any part of it where it holds
-pub data IsWrong (env : List Entry) : Expression → Fault → Type 0 where
+pub data IsWrong (env : List Symbol) : Expression → Fault → Type 0 where
   bad_typed : {a : ElemType} {b : Bool} {n s : ℕ} → in_type a (signed b n) ≡ false → IsWrong env (literal (record { value = Typed a b n; at = s })) (bad_literal s)
   bad_time : {b : Bool} {n s : ℕ} → in_type t.Time (signed b n) ≡ false → IsWrong env (literal (record { value = Duration b n; at = s })) (bad_literal s)
   unknown_variable : {x : Word} → found env x.text ≡ None → IsWrong env (variable x) (unknown_name x.at)
   unknown_array : {x : Word} {s : ℕ} {i : Expression} → found env x.text ≡ None → IsWrong env (element x s i) (unknown_name x.at)
-  not_an_array : {x : Word} {s : ℕ} {i : Expression} {v : Entry} → found env x.text ≡ Some v → v.bounds ≡ None → IsWrong env (element x s i) (type_mismatch s)
+  not_an_array : {x : Word} {s : ℕ} {i : Expression} {v : Symbol} → found env x.text ≡ Some v → v.bounds ≡ None → IsWrong env (element x s i) (type_mismatch s)
   in_index : {x : Word} {s : ℕ} {i : Expression} {w : Fault} → IsWrong env i w → IsWrong env (element x s i) w
   bad_index : {x : Word} {s : ℕ} {i : Expression} {p : Operand} {w : Fault} → IsTyped env i p → NotInteger s p w → IsWrong env (element x s i) w
   in_negation : {s : ℕ} {e : Expression} {w : Fault} → IsWrong env e w → IsWrong env (negative s e) w
@@ -97,7 +97,7 @@ pub data IsWrong (env : List Entry) : Expression → Fault → Type 0 where
   bad_call : {x : Word} {es : Expressions} {f : Operation} {ps : List Operand} {w : Fault} → called x.text ≡ Some f → AreTyped env es ps → NotOn f x.at ps w → IsWrong env (call x es) w
 
 -- what is wrong where a place asks an expression for a type
-pub data IsNotAsked (env : List Entry) (a : ElemType) (s : ℕ) (e : Expression) : Fault → Type 0 where
+pub data IsNotAsked (env : List Symbol) (a : ElemType) (s : ℕ) (e : Expression) : Fault → Type 0 where
   in_it : {w : Fault} → IsWrong env e w → IsNotAsked env a s e w
   not_taken : {p : Operand} {w : Fault} → IsTyped env e p → NotTaken a s p w → IsNotAsked env a s e w
 
@@ -107,16 +107,16 @@ is_truth (fixed a x) = same_type a t.Bool
 is_truth operand = false
 
 -- what is wrong where a place asks for a condition
-pub data IsNoCondition (env : List Entry) (s : ℕ) (e : Expression) : Fault → Type 0 where
+pub data IsNoCondition (env : List Symbol) (s : ℕ) (e : Expression) : Fault → Type 0 where
   in_condition : {w : Fault} → IsWrong env e w → IsNoCondition env s e w
   no_truth : {p : Operand} → IsTyped env e p → is_truth p ≡ false → IsNoCondition env s e (type_mismatch s)
 
 -- ---- statements
 
 -- a name that may not be assigned
-pub data IsNotAssignable (env : List Entry) (busy : List Name) (x : Word) : Fault → Type 0 where
+pub data IsNotAssignable (env : List Symbol) (busy : List Name) (x : Word) : Fault → Type 0 where
   unknown : found env x.text ≡ None → IsNotAssignable env busy x (unknown_name x.at)
-  read_only : {v : Entry} → found env x.text ≡ Some v → v.writable ≡ false → IsNotAssignable env busy x (not_writable x.at)
+  read_only : {v : Symbol} → found env x.text ≡ Some v → v.writable ≡ false → IsNotAssignable env busy x (not_writable x.at)
   counted_with : is_in x.text busy ≡ true → IsNotAssignable env busy x (not_writable x.at)
 
 -- no number without a type, or one that does not fit
@@ -139,15 +139,15 @@ pub data IsNoStep (a : ElemType) : Constant → Fault → Type 0 where
 
 mutual
   -- what is wrong with a statement, named of any part of it where it holds
-  pub data IsMisdone (env : List Entry) : List Name → Statement → Fault → Type 0 where
+  pub data IsMisdone (env : List Symbol) : List Name → Statement → Fault → Type 0 where
     bad_target : {busy : List Name} {x : Word} {s : ℕ} {e : Expression} {w : Fault} → IsNotAssignable env busy x w → IsMisdone env busy (assign x s e) w
-    whole_array : {busy : List Name} {x : Word} {s : ℕ} {e : Expression} {v : Entry} {r : ℤ × ℤ} → found env x.text ≡ Some v → v.bounds ≡ Some r → IsMisdone env busy (assign x s e) (type_mismatch s)
-    bad_value : {busy : List Name} {x : Word} {s : ℕ} {e : Expression} {v : Entry} {w : Fault} → found env x.text ≡ Some v → IsNotAsked env v.type s e w → IsMisdone env busy (assign x s e) w
+    whole_array : {busy : List Name} {x : Word} {s : ℕ} {e : Expression} {v : Symbol} {r : ℤ × ℤ} → found env x.text ≡ Some v → v.bounds ≡ Some r → IsMisdone env busy (assign x s e) (type_mismatch s)
+    bad_value : {busy : List Name} {x : Word} {s : ℕ} {e : Expression} {v : Symbol} {w : Fault} → found env x.text ≡ Some v → IsNotAsked env v.type s e w → IsMisdone env busy (assign x s e) w
     bad_element : {busy : List Name} {x : Word} {b s : ℕ} {i e : Expression} {w : Fault} → IsNotAssignable env busy x w → IsMisdone env busy (assign_element x b i s e) w
-    no_array : {busy : List Name} {x : Word} {b s : ℕ} {i e : Expression} {v : Entry} → found env x.text ≡ Some v → v.bounds ≡ None → IsMisdone env busy (assign_element x b i s e) (type_mismatch b)
+    no_array : {busy : List Name} {x : Word} {b s : ℕ} {i e : Expression} {v : Symbol} → found env x.text ≡ Some v → v.bounds ≡ None → IsMisdone env busy (assign_element x b i s e) (type_mismatch b)
     wrong_index : {busy : List Name} {x : Word} {b s : ℕ} {i e : Expression} {w : Fault} → IsWrong env i w → IsMisdone env busy (assign_element x b i s e) w
     no_index : {busy : List Name} {x : Word} {b s : ℕ} {i e : Expression} {p : Operand} {w : Fault} → IsTyped env i p → NotInteger b p w → IsMisdone env busy (assign_element x b i s e) w
-    bad_element_value : {busy : List Name} {x : Word} {b s : ℕ} {i e : Expression} {v : Entry} {w : Fault} → found env x.text ≡ Some v → IsNotAsked env v.type s e w → IsMisdone env busy (assign_element x b i s e) w
+    bad_element_value : {busy : List Name} {x : Word} {b s : ℕ} {i e : Expression} {v : Symbol} {w : Fault} → found env x.text ≡ Some v → IsNotAsked env v.type s e w → IsMisdone env busy (assign_element x b i s e) w
     in_branches : {busy : List Name} {bs : Branches} {xs : Statements} {w : Fault} → SomeBranchWrong env busy bs w → IsMisdone env busy (branch bs xs) w
     in_else : {busy : List Name} {bs : Branches} {xs : Statements} {w : Fault} → SomeMisdone env busy xs w → IsMisdone env busy (branch bs xs) w
     in_selector : {busy : List Name} {s : ℕ} {e : Expression} {bs : Arms} {xs : Statements} {w : Fault} → IsWrong env e w → IsMisdone env busy (select s e bs xs) w
@@ -155,23 +155,23 @@ mutual
     in_arms : {busy : List Name} {s : ℕ} {e : Expression} {bs : Arms} {xs : Statements} {p : Operand} {a : ElemType} {y : Term} {w : Fault} → IsTyped env e p → IsSelector p a y → SomeArmWrong env busy a bs w → IsMisdone env busy (select s e bs xs) w
     in_other_arm : {busy : List Name} {s : ℕ} {e : Expression} {bs : Arms} {xs : Statements} {w : Fault} → SomeMisdone env busy xs w → IsMisdone env busy (select s e bs xs) w
     bad_counter : {busy : List Name} {s : ℕ} {x : Word} {e g : Bound} {step : Option Constant} {xs : Statements} {w : Fault} → IsNotAssignable env busy x w → IsMisdone env busy (repeat s x e g step xs) w
-    array_counter : {busy : List Name} {s : ℕ} {x : Word} {e g : Bound} {step : Option Constant} {xs : Statements} {v : Entry} {r : ℤ × ℤ} → found env x.text ≡ Some v → v.bounds ≡ Some r → IsMisdone env busy (repeat s x e g step xs) (type_mismatch s)
-    no_integer : {busy : List Name} {s : ℕ} {x : Word} {e g : Bound} {step : Option Constant} {xs : Statements} {v : Entry} → found env x.text ≡ Some v → is_integer v.type ≡ false → IsMisdone env busy (repeat s x e g step xs) (type_mismatch s)
-    bad_first : {busy : List Name} {s : ℕ} {x : Word} {e g : Bound} {step : Option Constant} {xs : Statements} {v : Entry} {w : Fault} → found env x.text ≡ Some v → IsNotAsked env v.type s e.value w → IsMisdone env busy (repeat s x e g step xs) w
-    bad_last : {busy : List Name} {s : ℕ} {x : Word} {e g : Bound} {step : Option Constant} {xs : Statements} {v : Entry} {w : Fault} → found env x.text ≡ Some v → IsNotAsked env v.type s g.value w → IsMisdone env busy (repeat s x e g step xs) w
-    wrong_step : {busy : List Name} {s : ℕ} {x : Word} {e g : Bound} {c : Constant} {xs : Statements} {v : Entry} {w : Fault} → found env x.text ≡ Some v → IsNoStep v.type c w → IsMisdone env busy (repeat s x e g (Some c) xs) w
-    in_turn : {busy : List Name} {s : ℕ} {x : Word} {e g : Bound} {step : Option Constant} {xs : Statements} {w : Fault} → SomeMisdone env (busy ++ x.text ∷ []) xs w → IsMisdone env busy (repeat s x e g step xs) w
+    array_counter : {busy : List Name} {s : ℕ} {x : Word} {e g : Bound} {step : Option Constant} {xs : Statements} {v : Symbol} {r : ℤ × ℤ} → found env x.text ≡ Some v → v.bounds ≡ Some r → IsMisdone env busy (repeat s x e g step xs) (type_mismatch s)
+    no_integer : {busy : List Name} {s : ℕ} {x : Word} {e g : Bound} {step : Option Constant} {xs : Statements} {v : Symbol} → found env x.text ≡ Some v → is_integer v.type ≡ false → IsMisdone env busy (repeat s x e g step xs) (type_mismatch s)
+    bad_first : {busy : List Name} {s : ℕ} {x : Word} {e g : Bound} {step : Option Constant} {xs : Statements} {v : Symbol} {w : Fault} → found env x.text ≡ Some v → IsNotAsked env v.type s e.value w → IsMisdone env busy (repeat s x e g step xs) w
+    bad_last : {busy : List Name} {s : ℕ} {x : Word} {e g : Bound} {step : Option Constant} {xs : Statements} {v : Symbol} {w : Fault} → found env x.text ≡ Some v → IsNotAsked env v.type s g.value w → IsMisdone env busy (repeat s x e g step xs) w
+    wrong_step : {busy : List Name} {s : ℕ} {x : Word} {e g : Bound} {c : Constant} {xs : Statements} {v : Symbol} {w : Fault} → found env x.text ≡ Some v → IsNoStep v.type c w → IsMisdone env busy (repeat s x e g (Some c) xs) w
+    in_iteration : {busy : List Name} {s : ℕ} {x : Word} {e g : Bound} {step : Option Constant} {xs : Statements} {w : Fault} → SomeMisdone env (busy ++ x.text ∷ []) xs w → IsMisdone env busy (repeat s x e g step xs) w
 
-  pub data SomeMisdone (env : List Entry) : List Name → Statements → Fault → Type 0 where
+  pub data SomeMisdone (env : List Symbol) : List Name → Statements → Fault → Type 0 where
     this_one : {busy : List Name} {x : Statement} {xs : Statements} {w : Fault} → IsMisdone env busy x w → SomeMisdone env busy (statement x xs) w
     later_one : {busy : List Name} {x : Statement} {xs : Statements} {w : Fault} → SomeMisdone env busy xs w → SomeMisdone env busy (statement x xs) w
 
-  pub data SomeBranchWrong (env : List Entry) : List Name → Branches → Fault → Type 0 where
+  pub data SomeBranchWrong (env : List Symbol) : List Name → Branches → Fault → Type 0 where
     bad_condition : {busy : List Name} {s : ℕ} {e : Expression} {xs : Statements} {bs : Branches} {w : Fault} → IsNoCondition env s e w → SomeBranchWrong env busy (a_branch s e xs bs) w
     in_branch : {busy : List Name} {s : ℕ} {e : Expression} {xs : Statements} {bs : Branches} {w : Fault} → SomeMisdone env busy xs w → SomeBranchWrong env busy (a_branch s e xs bs) w
     later_branch : {busy : List Name} {s : ℕ} {e : Expression} {xs : Statements} {bs : Branches} {w : Fault} → SomeBranchWrong env busy bs w → SomeBranchWrong env busy (a_branch s e xs bs) w
 
-  pub data SomeArmWrong (env : List Entry) : List Name → ElemType → Arms → Fault → Type 0 where
+  pub data SomeArmWrong (env : List Symbol) : List Name → ElemType → Arms → Fault → Type 0 where
     bad_label : {busy : List Name} {a : ElemType} {ls : List Label} {xs : Statements} {bs : Arms} {w : Fault} → SomeNoLabel a ls w → SomeArmWrong env busy a (an_arm ls xs bs) w
     in_arm : {busy : List Name} {a : ElemType} {ls : List Label} {xs : Statements} {bs : Arms} {w : Fault} → SomeMisdone env busy xs w → SomeArmWrong env busy a (an_arm ls xs bs) w
     later_arm : {busy : List Name} {a : ElemType} {ls : List Label} {xs : Statements} {bs : Arms} {w : Fault} → SomeArmWrong env busy a bs w → SomeArmWrong env busy a (an_arm ls xs bs) w

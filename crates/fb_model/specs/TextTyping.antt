@@ -119,13 +119,13 @@ arity operation = 1
 -- ---- variables
 
 -- a variable of a block, with the bounds of an array
-pub record Entry : Type 0 where
+pub record Symbol : Type 0 where
   pub name : Name
   pub type : ElemType
   pub bounds : Option (ℤ × ℤ)
   pub writable : Bool
 
-abbrev pub found : List Entry → Name → Option Entry
+abbrev pub found : List Symbol → Name → Option Symbol
 found [] x = None
 found (e ∷ es) x = if bytes_eq x e.name then Some e else found es x
 
@@ -151,9 +151,9 @@ pub data Settles (a : ElemType) : Loose → Term → Type 0 where
   a_double : {f : Operation} {s : ℕ} {l k : Loose} {x y : Term} → allows f a ≡ true → Settles a l x → Settles a k y → Settles a (loose_double f s l k) (double f a x y)
 
 -- an operand where a type is asked for
-pub data Takes (a : ElemType) : Operand → Term → Type 0 where
-  widened : {b : ElemType} {x : Term} → widens b a ≡ true → Takes a (fixed b x) x
-  settles : {l : Loose} {x : Term} → Settles a l x → Takes a (free l) x
+pub data TakesType (a : ElemType) : Operand → Term → Type 0 where
+  widened : {b : ElemType} {x : Term} → widens b a ≡ true → TakesType a (fixed b x) x
+  settles : {l : Loose} {x : Term} → Settles a l x → TakesType a (free l) x
 
 -- whether an operand may be brought to a type
 abbrev pub may_be : ElemType → Operand → Bool
@@ -179,19 +179,19 @@ pub data Brings (f : Operation) (ps : List Operand) : ElemType → Type 0 where
 -- an operation at a place on one operand
 pub data Single (f : Operation) (s : ℕ) : Operand → Operand → Type 0 where
   one_free : {l : Loose} → stays_free f ≡ true → Single f s (free l) (free (loose_single f s l))
-  one : {p : Operand} {a : ElemType} {x : Term} → (stays_free f && is_free p) ≡ false → Brings f (p ∷ []) a → allows f a ≡ true → Takes a p x
+  one : {p : Operand} {a : ElemType} {x : Term} → (stays_free f && is_free p) ≡ false → Brings f (p ∷ []) a → allows f a ≡ true → TakesType a p x
       → Single f s p (fixed (gives f a) (single f a x))
 
 -- on two
 pub data Double (f : Operation) (s : ℕ) : Operand → Operand → Operand → Type 0 where
   two_free : {l k : Loose} → stays_free f ≡ true → Double f s (free l) (free k) (free (loose_double f s l k))
-  two : {p q : Operand} {a : ElemType} {x y : Term} → (stays_free f && (is_free p && is_free q)) ≡ false → Brings f (p ∷ q ∷ []) a → allows f a ≡ true → Takes a p x → Takes a q y
+  two : {p q : Operand} {a : ElemType} {x y : Term} → (stays_free f && (is_free p && is_free q)) ≡ false → Brings f (p ∷ q ∷ []) a → allows f a ≡ true → TakesType a p x → TakesType a q y
       → Double f s p q (fixed (gives f a) (double f a x y))
 
 -- and LIMIT on three, which is MIN(MAX(IN, MN), MX)
 pub data Triple (s : ℕ) : Operand → Operand → Operand → Operand → Type 0 where
   three_free : {l k j : Loose} → Triple s (free l) (free k) (free j) (free (loose_double Min s (loose_double Max s k l) j))
-  three : {p q r : Operand} {a : ElemType} {x y z : Term} → (is_free p && (is_free q && is_free r)) ≡ false → Brings Limit (p ∷ q ∷ r ∷ []) a → allows Limit a ≡ true → Takes a p x → Takes a q y → Takes a r z
+  three : {p q r : Operand} {a : ElemType} {x y z : Term} → (is_free p && (is_free q && is_free r)) ≡ false → Brings Limit (p ∷ q ∷ r ∷ []) a → allows Limit a ≡ true → TakesType a p x → TakesType a q y → TakesType a r z
       → Triple s p q r (fixed a (double Min a (double Max a y x) z))
 
 -- an index has an integer type, and where it is free it is LINT
@@ -206,14 +206,14 @@ bit true = pos 1
 bit false = pos 0
 
 -- the operand that an expression is, a case for each production
-pub data IsTyped (env : List Entry) : Expression → Operand → Type 0 where
+pub data IsTyped (env : List Symbol) : Expression → Operand → Type 0 where
   a_whole_number : {b : Bool} {n s : ℕ} → IsTyped env (literal (record { value = Whole b n; at = s })) (free (loose_number (signed b n) s))
   a_typed_number : {a : ElemType} {b : Bool} {n s : ℕ} → in_type a (signed b n) ≡ true → IsTyped env (literal (record { value = Typed a b n; at = s })) (fixed a (constant (signed b n)))
   a_time : {b : Bool} {n s : ℕ} → in_type t.Time (signed b n) ≡ true → IsTyped env (literal (record { value = Duration b n; at = s })) (fixed t.Time (constant (signed b n)))
   a_truth : {b : Bool} {s : ℕ} → IsTyped env (literal (record { value = Truth b; at = s })) (fixed t.Bool (constant (bit b)))
-  a_variable : {x : Word} {v : Entry} → found env x.text ≡ Some v → v.bounds ≡ None → IsTyped env (variable x) (fixed v.type (read x.text))
-  an_array : {x : Word} {v : Entry} {b : ℤ × ℤ} → found env x.text ≡ Some v → v.bounds ≡ Some b → IsTyped env (variable x) whole
-  an_element : {x : Word} {s : ℕ} {i : Expression} {v : Entry} {b : ℤ × ℤ} {p : Operand} {j : Term}
+  a_variable : {x : Word} {v : Symbol} → found env x.text ≡ Some v → v.bounds ≡ None → IsTyped env (variable x) (fixed v.type (read x.text))
+  an_array : {x : Word} {v : Symbol} {b : ℤ × ℤ} → found env x.text ≡ Some v → v.bounds ≡ Some b → IsTyped env (variable x) whole
+  an_element : {x : Word} {s : ℕ} {i : Expression} {v : Symbol} {b : ℤ × ℤ} {p : Operand} {j : Term}
       → found env x.text ≡ Some v → v.bounds ≡ Some b → IsTyped env i p → IsIndex p j → IsTyped env (element x s i) (fixed v.type (part x.text b.0 b.1 j))
   a_negation : {s : ℕ} {e : Expression} {p r : Operand} → IsTyped env e p → Single Negate s p r → IsTyped env (negative s e) r
   an_inversion : {s : ℕ} {e : Expression} {p r : Operand} → IsTyped env e p → Single Not s p r → IsTyped env (inverse s e) r
@@ -225,19 +225,19 @@ pub data IsTyped (env : List Entry) : Expression → Operand → Type 0 where
       → IsTyped env (call x (expression e (expression g (expression h no_expression)))) k
 
 -- an expression where a type is asked for
-pub record IsAsked (env : List Entry) (a : ElemType) (e : Expression) (x : Term) : Type 0 where
+pub record IsAsked (env : List Symbol) (a : ElemType) (e : Expression) (x : Term) : Type 0 where
   pub operand : Operand
   pub typed : IsTyped env e operand
-  pub taken : Takes a operand x
+  pub taken : TakesType a operand x
 
 -- a condition, of IF, ELSIF or a transition: an expression that is BOOL by itself, since nothing there gives a free number a type
-abbrev pub IsCondition : List Entry → Expression → Term → Type 0
+abbrev pub IsCondition : List Symbol → Expression → Term → Type 0
 IsCondition env e x = IsTyped env e (fixed t.Bool x)
 
 -- ---- statements
 
 -- a variable that may be assigned: it is writable, and no FOR counts with it
-pub record IsAssignable (env : List Entry) (busy : List Name) (x : Name) (v : Entry) : Type 0 where
+pub record IsAssignable (env : List Symbol) (busy : List Name) (x : Name) (v : Symbol) : Type 0 where
   pub known : found env x ≡ Some v
   pub writable : v.writable ≡ true
   pub idle : is_in x busy ≡ false
@@ -272,27 +272,27 @@ pub data IsSelector : Operand → ElemType → Term → Type 0 where
 
 mutual
   -- the command that a statement is, a case for each production. Busy are the variables with which the FORs around it count, from outside in
-  pub data IsCommand (env : List Entry) : List Name → Statement → Command → Type 0 where
-    an_assignment : {busy : List Name} {x : Word} {s : ℕ} {e : Expression} {v : Entry} {y : Term} → IsAssignable env busy x.text v → v.bounds ≡ None → IsAsked env v.type e y → IsCommand env busy (assign x s e) (set x.text y)
-    to_element : {busy : List Name} {x : Word} {b s : ℕ} {i e : Expression} {v : Entry} {r : ℤ × ℤ} {p : Operand} {j y : Term}
+  pub data IsCommand (env : List Symbol) : List Name → Statement → Command → Type 0 where
+    an_assignment : {busy : List Name} {x : Word} {s : ℕ} {e : Expression} {v : Symbol} {y : Term} → IsAssignable env busy x.text v → v.bounds ≡ None → IsAsked env v.type e y → IsCommand env busy (assign x s e) (set x.text y)
+    to_element : {busy : List Name} {x : Word} {b s : ℕ} {i e : Expression} {v : Symbol} {r : ℤ × ℤ} {p : Operand} {j y : Term}
         → IsAssignable env busy x.text v → v.bounds ≡ Some r → IsTyped env i p → IsIndex p j → IsAsked env v.type e y → IsCommand env busy (assign_element x b i s e) (set_part x.text r.0 r.1 j y)
     a_choice : {busy : List Name} {bs : Branches} {xs : Statements} {cs : Choices} {c : Commands} → AreChoices env busy bs cs → AreCommands env busy xs c → IsCommand env busy (branch bs xs) (choose cs c)
     a_selection : {busy : List Name} {s : ℕ} {e : Expression} {bs : Arms} {xs : Statements} {p : Operand} {a : ElemType} {y : Term} {cs : Cases} {c : Commands}
         → IsTyped env e p → IsSelector p a y → AreCases env busy a bs cs → AreCommands env busy xs c → IsCommand env busy (select s e bs xs) (match_on y cs c)
-    an_iteration : {busy : List Name} {s : ℕ} {x : Word} {e g : Bound} {step : Option Constant} {xs : Statements} {v : Entry} {y z : Term} {n : ℤ} {c : Commands}
+    an_iteration : {busy : List Name} {s : ℕ} {x : Word} {e g : Bound} {step : Option Constant} {xs : Statements} {v : Symbol} {y z : Term} {n : ℤ} {c : Commands}
         → IsAssignable env busy x.text v → v.bounds ≡ None → is_integer v.type ≡ true → IsAsked env v.type e.value y → IsAsked env v.type g.value z → IsStep v.type step n → AreCommands env (busy ++ x.text ∷ []) xs c
         → IsCommand env busy (repeat s x e g step xs) (count x.text v.type y z n (e.plain && g.plain) c)
 
-  pub data AreCommands (env : List Entry) : List Name → Statements → Commands → Type 0 where
+  pub data AreCommands (env : List Symbol) : List Name → Statements → Commands → Type 0 where
     no_command : {busy : List Name} → AreCommands env busy no_statement done
     a_command : {busy : List Name} {x : Statement} {xs : Statements} {c : Command} {cs : Commands} → IsCommand env busy x c → AreCommands env busy xs cs → AreCommands env busy (statement x xs) (then_do c cs)
 
-  pub data AreChoices (env : List Entry) : List Name → Branches → Choices → Type 0 where
+  pub data AreChoices (env : List Symbol) : List Name → Branches → Choices → Type 0 where
     no_choices : {busy : List Name} → AreChoices env busy no_branch no_choice
     more_choices : {busy : List Name} {s : ℕ} {e : Expression} {xs : Statements} {bs : Branches} {y : Term} {c : Commands} {cs : Choices}
         → IsCondition env e y → AreCommands env busy xs c → AreChoices env busy bs cs → AreChoices env busy (a_branch s e xs bs) (choice y c cs)
 
-  pub data AreCases (env : List Entry) : List Name → ElemType → Arms → Cases → Type 0 where
+  pub data AreCases (env : List Symbol) : List Name → ElemType → Arms → Cases → Type 0 where
     no_cases : {busy : List Name} {a : ElemType} → AreCases env busy a no_arm no_case
     more_cases : {busy : List Name} {a : ElemType} {ls : List Label} {xs : Statements} {bs : Arms} {rs : List (ℤ × ℤ)} {c : Commands} {cs : Cases}
         → AreLabels a ls rs → AreCommands env busy xs c → AreCases env busy a bs cs → AreCases env busy a (an_arm ls xs bs) (a_case rs c cs)

@@ -3,13 +3,13 @@
 ghost use Rattle.std.specs.Prelude.{◌≡◌, ◌≢◌, ◌≤◌, ℕ, suc, ℤ, pos, neg_ℤ, ◌+ℤ◌, ◌-ℤ◌, ◌*ℤ◌, int_div, Bool, not, List, [], Some};
 ghost use Rattle.fb_words.specs.declared.elem_type.ElemType.{ElemType};
 ghost use Rattle.fb_model.specs.StructuredText.{Expression, Statements};
-ghost use Rattle.fb_model.specs.TextTyping.{AreCommands, Entry, IsAsked, IsCondition};
+ghost use Rattle.fb_model.specs.TextTyping.{AreCommands, Symbol, IsAsked, IsCondition};
 ghost use Rattle.fb_model.specs.Names.{Name};
 ghost use Rattle.fb_model.specs.Values.{Values};
 ghost use Rattle.fb_model.specs.TypedText.{Term};
-ghost use Rattle.fb_model.specs.Language.{Algorithm, Guard, Outcome, greatest, holds, is_zero, least, remainder, run, turn_count, turns, value_of};
+ghost use Rattle.fb_model.specs.Language.{Algorithm, Guard, Outcome, greatest, holds, is_zero, least, remainder, run, iteration_count, iterations, value_of};
 ghost use Rattle.fb_model.specs.Spans.{Span, corners, differences, maxima, minima, opposites, rests, sizes, sums};
-ghost use Rattle.fb_model.specs.Clear.{Clear, Spans, examined, guard_range, most_turns, narrowed, range_of};
+ghost use Rattle.fb_model.specs.Clear.{Clear, Spans, examined, guard_range, most_iterations, narrowed, range_of};
 ghost use Rattle.fb_model.specs.Counts.{Ends, Taken, numbers, with_each};
 ghost use Rattle.fb_model.specs.Exact.{HoldsOne, HoldsQuotients, HoldsTwo, ReachesOne, ReachesQuotients, ReachesTwo, size_of};
 ghost use Rattle.fb_model.specs.Shapes.{AlgorithmFits, HasShape, IsIn, Keeps, Lies, Shape, TermFits, written};
@@ -30,22 +30,22 @@ pub fn narrowing_keeps()
     ensures { (e : Term) (b : Bool) (spans : Spans) (shape : Shape) (values : Values) (v : ℤ) → TermFits shape e → HasShape shape values → Lies spans values → value_of e values ≡ Some v → is_zero v ≡ not b → Lies (narrowed e b spans) values }
 {}
 
-/// A FOR takes no more turns than the ranges of its bounds allow, and its variable lies in the ranges that are said of it.
+/// A FOR takes no more iterations than the ranges of its bounds allow, and its variable lies in the ranges that are said of it.
 pub fn counts_stay_in_ranges()
-    ensures turns { (r s : Span) (k u v : ℤ) → IsIn r u → IsIn s v → turn_count u v k ≤ most_turns r s k }
-    ensures numbers { (r s : Span) (k : ℤ) (n : ℕ) (u v : ℤ) → IsIn r u → IsIn s v → most_turns r s k ≡ suc n → Taken r s k n u v }
+    ensures iterations { (r s : Span) (k u v : ℤ) → IsIn r u → IsIn s v → iteration_count u v k ≤ most_iterations r s k }
+    ensures numbers { (r s : Span) (k : ℤ) (n : ℕ) (u v : ℤ) → IsIn r u → IsIn s v → most_iterations r s k ≡ suc n → Taken r s k n u v }
 {}
 
-/// A FOR takes its first value and each number a step further, up to the last one that is not past its last value; no other count of turns does.
+/// A FOR takes its first value and each number a step further, up to the last one that is not past its last value; no other count of iterations does.
 pub fn counts_end_at_the_last()
-    ensures ends { (u v k : ℤ) → k ≢ pos 0 → Ends u v k (turn_count u v k) }
-    ensures only { (u v k : ℤ) (n : ℕ) → Ends u v k n → n ≡ turn_count u v k }
-    ensures still { (u v : ℤ) → turn_count u v (pos 0) ≡ 0 }
+    ensures ends { (u v k : ℤ) → k ≢ pos 0 → Ends u v k (iteration_count u v k) }
+    ensures only { (u v k : ℤ) (n : ℕ) → Ends u v k n → n ≡ iteration_count u v k }
+    ensures still { (u v : ℤ) → iteration_count u v (pos 0) ≡ 0 }
 {}
 
-/// The turns of a FOR do its body with each of its numbers, from the first one on.
-pub fn turns_take_each_number()
-    ensures { (body : Values → Outcome) (x : Name) (u k : ℤ) (n : ℕ) (values : Values) → turns n body x u k values ≡ with_each body x (numbers u k n) values }
+/// The iterations of a FOR do its body with each of its numbers, from the first one on.
+pub fn iterations_take_each_number()
+    ensures { (body : Values → Outcome) (x : Name) (u k : ℤ) (n : ℕ) (values : Values) → iterations n body x u k values ≡ with_each body x (numbers u k n) values }
 {}
 
 /// An algorithm that is clear, run from any values in the rows, neither traps nor leaves them, writes nothing else, and takes at most its cost.
@@ -80,7 +80,7 @@ pub fn ends_are_reached()
 
 /// What is well typed has the shape of its variables: each algorithm, each guard, and each expression where a type is asked for.
 pub fn typed_texts_fit()
-    ensures algorithms { (env : List Entry) (xs : Statements) (a : Algorithm) → AreCommands env [] xs a → AlgorithmFits (shape_of env) a }
-    ensures guards { (env : List Entry) (e : Expression) (g : Guard) → IsCondition env e g → TermFits (shape_of env) g }
-    ensures expressions { (env : List Entry) (type : ElemType) (e : Expression) (x : Term) → IsAsked env type e x → TermFits (shape_of env) x }
+    ensures algorithms { (env : List Symbol) (xs : Statements) (a : Algorithm) → AreCommands env [] xs a → AlgorithmFits (shape_of env) a }
+    ensures guards { (env : List Symbol) (e : Expression) (g : Guard) → IsCondition env e g → TermFits (shape_of env) g }
+    ensures expressions { (env : List Symbol) (type : ElemType) (e : Expression) (x : Term) → IsAsked env type e x → TermFits (shape_of env) x }
 {}

@@ -10,7 +10,7 @@ use Rattle.fb_model.specs.Serving.{Effect, is_ready}
 use Rattle.fb_model.specs.Certificates.{Certificate, DeviceHolds}
 use Rattle.fb_model.specs.Devices.{Ended, Machine, Admitted, Denied, Expired, Idle, Ran, subscriber_of, input_of, addressed, admitted, arriving, with_stamp, numbers_in, format_in, format_of, IsFresh, IsReady, Delivers, Deliver, Runs}
 use Rattle.fb_model.specs.Headline.{IsSound}
-use Rattle.fb_model.specs.World.{Datagram, World, WorldEvent, At_device, Deliver_datagram, An_offer, A_tick, A_dispatch, WorldAnswer, Answered, Unknown, Opens, Serves, Takes, WorldHappens}
+use Rattle.fb_model.specs.World.{Datagram, World, WorldEvent, At_device, Deliver_datagram, An_offer, A_tick, A_dispatch, WorldAnswer, Answered, Unknown, OpensCauses, AddsSteps, AdmitsDatagram, WorldHappens}
 use Rattle.fb_model.proofs.Admitting.{sound_next}
 use Rattle.fb_model_worlds.specs.Worlds.{AllHold, IsSent, IsWorldSound, dispatches_of}
 use Rattle.fb_model_worlds.proofs.Spelling.{spells_one}
@@ -36,10 +36,10 @@ pub record Admits (cert : Certificate) (device : Device) (old : Machine) (datagr
 
 pub data Case (system : System) (cert : Certificate) (old : World) (event : WorldEvent) (answer : WorldAnswer) (new : World) : Type 0 where
   rests : new ≡ old → ((root : ℕ) → dispatches_of old root event answer ≡ 0) → Case system cert old event answer new
-  opens : (d : ℕ) (device : Device) (machine : Machine) → slice_get system.devices d ≡ Some device → Grows cert device (old.machines d) machine → Opens old new d machine → ((root : ℕ) → dispatches_of old root event answer ≡ 0) → Case system cert old event answer new
+  opens : (d : ℕ) (device : Device) (machine : Machine) → slice_get system.devices d ≡ Some device → Grows cert device (old.machines d) machine → OpensCauses old new d machine → ((root : ℕ) → dispatches_of old root event answer ≡ 0) → Case system cert old event answer new
   serves : (d : ℕ) (device : Device) (machine : Machine) (q cause : ℕ) (place : Place) (steps : ℕ) (effect : Option Effect) (ended : Option Ended) (sent : Option ℕ) → slice_get system.devices d ≡ Some device
-      → Runs cert device (old.machines d) q cause place steps effect ended machine → Serves old new d machine cause steps effect ended sent → ((root : ℕ) → dispatches_of old root event answer ≡ (if old.root_of d cause == root then 1 else 0)) → Case system cert old event answer new
-  takes : (d n cause : ℕ) (device : Device) (datagram : Datagram) (machine : Machine) → slice_get system.devices d ≡ Some device → slice_get old.datagrams n ≡ Some datagram → Admits cert device (old.machines d) datagram cause machine → Takes old new d n machine datagram cause
+      → Runs cert device (old.machines d) q cause place steps effect ended machine → AddsSteps old new d machine cause steps effect ended sent → ((root : ℕ) → dispatches_of old root event answer ≡ (if old.root_of d cause == root then 1 else 0)) → Case system cert old event answer new
+  takes : (d n cause : ℕ) (device : Device) (datagram : Datagram) (machine : Machine) → slice_get system.devices d ≡ Some device → slice_get old.datagrams n ≡ Some datagram → Admits cert device (old.machines d) datagram cause machine → AdmitsDatagram old new d n machine datagram cause
       → ((root : ℕ) → dispatches_of old root event answer ≡ 0) → Case system cert old event answer new
 
 module _ (system : System) (cert : Certificate) (hold : AllHold system cert) where

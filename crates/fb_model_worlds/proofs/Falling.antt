@@ -12,7 +12,7 @@ use Rattle.fb_model.specs.Wires.{Kind, Charted, Serviced, leaves}
 use Rattle.fb_model.specs.Serving.{Effect, Send, Write}
 use Rattle.fb_model.specs.Certificates.{Certificate, ColumnFits, far_of, admissions, IsWired, DeviceHolds}
 use Rattle.fb_model.specs.Devices.{Ended, Machine, put, is_subscriber, format_in, format_of, Runs}
-use Rattle.fb_model.specs.World.{Datagram, World, WorldEvent, WorldAnswer, Opens, Serves, Takes, posted, admitted_at, stepped, far_left, PaysFar, AreWithin}
+use Rattle.fb_model.specs.World.{Datagram, World, WorldEvent, WorldAnswer, OpensCauses, AddsSteps, AdmitsDatagram, posted, admitted_at, stepped, far_left, PaysFar, AreWithin}
 use Rattle.fb_model.proofs.Ending.{serves_one}
 use Rattle.fb_model.proofs.Far.{dispatch_falls, delivery_falls, opening_keeps}
 use Rattle.fb_model.proofs.Lists.{all_weaker}
@@ -74,7 +74,7 @@ module _ (system : System) (cert : Certificate) (repeats : ℕ) (old new : World
         falls = λ root l w. omega (arith, x root, f root l w);
       }
 
-  module _ (d : ℕ) (device : Device) (machine : Machine) (at : slice_get system.devices d ≡ Some device) (g : Grows cert device (old.machines d) machine) (b : Opens old new d machine) (x : (root : ℕ) → dispatches_of old root event answer ≡ 0) where
+  module _ (d : ℕ) (device : Device) (machine : Machine) (at : slice_get system.devices d ≡ Some device) (g : Grows cert device (old.machines d) machine) (b : OpensCauses old new d machine) (x : (root : ℕ) → dispatches_of old root event answer ≡ 0) where
     begins : (root : ℕ) → old.next ≤ root → root < new.next → ((new.roots root).steps ≡ 0) × (far_left system cert repeats new root ≤ (far_of cert).weight (new.roots root).opening)
     begins root l m =
         let k : ℕ = root - old.next in
@@ -96,7 +96,7 @@ module _ (system : System) (cert : Certificate) (repeats : ℕ) (old new : World
         }
 
   module _ (far : PaysFar system cert repeats) (d : ℕ) (device : Device) (holding : DeviceHolds cert device) (machine : Machine) (q cause : ℕ) (place : Place) (steps : ℕ) (effect : Option Effect) (ended : Option Ended) (sent : Option ℕ) (at : slice_get system.devices d ≡ Some device)
-      (hold : AllHold system cert) (r : Runs cert device (old.machines d) q cause place steps effect ended machine) (b : Serves old new d machine cause steps effect ended sent)
+      (hold : AllHold system cert) (r : Runs cert device (old.machines d) q cause place steps effect ended machine) (b : AddsSteps old new d machine cause steps effect ended sent)
       (x : (root : ℕ) → dispatches_of old root event answer ≡ cond (eqb (old.root_of d cause) root) 1 0) where
     takes_steps : 1 ≤ steps
     takes_steps = serves_one r.leaf.kind (old.machines d).clock r.first.place.event r.first.values (sampled (old.machines d).store r.leaf r.first.place.event) r.after steps r.outs effect r.served
@@ -129,7 +129,7 @@ module _ (system : System) (cert : Certificate) (repeats : ℕ) (old new : World
           by false e = omega arith
 
   module _ (few : repeats ≤ 255) (hold : AllHold system cert) (d n cause : ℕ) (device : Device) (holding : DeviceHolds cert device) (datagram : Datagram) (machine : Machine) (at : slice_get system.devices d ≡ Some device) (got : slice_get old.datagrams n ≡ Some datagram)
-      (a : Admits cert device (old.machines d) datagram cause machine) (b : Takes old new d n machine datagram cause) (x : (root : ℕ) → dispatches_of old root event answer ≡ 0) where
+      (a : Admits cert device (old.machines d) datagram cause machine) (b : AdmitsDatagram old new d n machine datagram cause) (x : (root : ℕ) → dispatches_of old root event answer ≡ 0) where
     -- this admission is one of those that are allowed
     is_allowed : (root : ℕ) → AreWithin repeats root new.datagrams → datagram.root ≡ root → min (datagram.admissions d + 1) 256 ≤ admissions repeats datagram.message.number a.leaf.kind
     is_allowed root w e =

@@ -7,7 +7,7 @@ use Rattle.fb_model.specs.System.{System, Device}
 use Rattle.fb_model.specs.Certificates.{Certificate}
 use Rattle.fb_model.specs.Devices.{Machine, put, Answer, Admitted, Denied, Expired, Idle, Ran, Happens}
 use Rattle.fb_model.specs.Headline.{IsKnown}
-use Rattle.fb_model.specs.World.{Datagram, World, Root, Local, An_offer, A_tick, A_dispatch, At_device, Deliver_datagram, Answered, local_event, IsDelivered, Opens, roots_from, posted, number_sent, stepped, forgotten, admitted_at, WorldHappens}
+use Rattle.fb_model.specs.World.{Datagram, World, Root, Local, An_offer, A_tick, A_dispatch, At_device, Deliver_datagram, Answered, local_event, IsDelivered, OpensCauses, roots_from, posted, number_sent, stepped, forgotten, admitted_at, WorldHappens}
 use Rattle.fb_model.proofs.Lists.{all_weaker}
 use Rattle.fb_model_worlds.specs.Worlds.{AllHold, IsWorldSound, GoesOn}
 use Rattle.fb_model_worlds.proofs.Cases.{device_holds}
@@ -21,7 +21,7 @@ module _ (cert : Certificate) (old : World) (d : ℕ) (device : Device) (machine
   opened_roots n = cond (nat_lt n old.next) (old.roots n) (record { opening = g.sound.opening_of ((old.machines d).next + (n - old.next)); steps = 0 })
 
   -- with the causes that a device has opened
-  there_opens : (new : World) × Opens old new d machine
+  there_opens : (new : World) × OpensCauses old new d machine
   there_opens = (
     record {
       machines = put old.machines d machine;

@@ -11,7 +11,7 @@ use Rattle.fb_model.specs.Store.{with_leaf, Fired}
 use Rattle.fb_model.specs.Certificates.{Certificate, far_of, is_restart}
 use Rattle.fb_model.specs.Devices.{Entry, Machine, Arrival, place_of, admitted, arriving, Offers, Tries, expiring, expired, at_moment, due_timers, beginning, begun, silent, first_stamp, at_first}
 use Rattle.fb_model.specs.Headline.{IsOpen, IsKnown, IsSound}
-use Rattle.fb_model.specs.World.{Opens, roots_from, Datagram, World, over_devices, still_allowed, far_datagrams, far_entries, far_queues, far_devices, far_left, machine_at, roots_before, IsFirst}
+use Rattle.fb_model.specs.World.{OpensCauses, roots_from, Datagram, World, over_devices, still_allowed, far_datagrams, far_entries, far_queues, far_devices, far_left, machine_at, roots_before, IsFirst}
 use Rattle.fb_model.proofs.Lists.{all_weaker}
 use Rattle.fb_model.proofs.Bounding.{extends_admitted}
 use Rattle.fb_model.proofs.Far.{far-append, far-cons, far-none, queues_rise, over_rises}
@@ -182,7 +182,7 @@ datagrams_none cert repeats devices root next (g ∷ gs) l h =
 
 -- a root that an event opens has no steps, and may cost what its opening costs
 module _ (system : System) (cert : Certificate) (repeats : ℕ) (old new : World) (d : ℕ) (device : Device) (at : slice_get system.devices d ≡ Some device) (sound : IsSound cert device (old.machines d)) (machine : Machine) (ps : List Place)
-    (a : Admits cert (old.machines d) machine ps) (b : Opens old new d machine) (rooted : (j q : ℕ) → AllByRecursion (λ e. old.root_of j e.cause < old.next) ((old.machines j).queues q)) (grams : AllByRecursion (λ g. g.root < old.next) old.datagrams) where
+    (a : Admits cert (old.machines d) machine ps) (b : OpensCauses old new d machine) (rooted : (j q : ℕ) → AllByRecursion (λ e. old.root_of j e.cause < old.next) ((old.machines j).queues q)) (grams : AllByRecursion (λ g. g.root < old.next) old.datagrams) where
   abbrev of_new : ℕ → ℕ
   of_new = roots_from (old.root_of d) (old.machines d).next machine.next old.next
 

@@ -12,7 +12,7 @@ use Rattle.fb_model.specs.Serving.{Effect, Send, Write}
 use Rattle.fb_model.specs.Certificates.{Certificate, DeviceHolds, reached}
 use Rattle.fb_model.specs.Devices.{Ended, Entry, Machine, put, is_pending, steps_row, arriving, with_stamp, IsFresh, is_subscriber, follow_ups, Runs}
 use Rattle.fb_model.specs.Headline.{IsKnown, IsSound, IsSendable}
-use Rattle.fb_model.specs.World.{Datagram, World, WorldEvent, WorldAnswer, Opens, Serves, Takes, roots_from, posted, forgotten, admitted_at, WorldHappens}
+use Rattle.fb_model.specs.World.{Datagram, World, WorldEvent, WorldAnswer, OpensCauses, AddsSteps, AdmitsDatagram, roots_from, posted, forgotten, admitted_at, WorldHappens}
 use Rattle.fb_model.proofs.Homes.{homes}
 use Rattle.fb_model.proofs.Lists.{all_append, all_weaker, all_both}
 use Rattle.fb_model.proofs.Running.{put_all, at_first_leaf, known_pending, cause_pending, other_queue, sound_run}
@@ -94,7 +94,7 @@ still_sent system old new more kept g h =
 -- ---- causes open
 
 module _ (system : System) (cert : Certificate) (hold : AllHold system cert) (old new : World) (s : IsWorldSound system cert old) (d : ℕ) (device : Device) (machine : Machine) (at : slice_get system.devices d ≡ Some device)
-    (g : Grows cert device (old.machines d) machine) (b : Opens old new d machine) where
+    (g : Grows cert device (old.machines d) machine) (b : OpensCauses old new d machine) where
   abbrev first : ℕ
   first = (old.machines d).next
 
@@ -150,7 +150,7 @@ module _ (system : System) (cert : Certificate) (hold : AllHold system cert) (ol
 -- ---- an entry is served
 
 module _ (system : System) (cert : Certificate) (hold : AllHold system cert) (old new : World) (s : IsWorldSound system cert old) (d : ℕ) (device : Device) (holding : DeviceHolds cert device) (machine : Machine) (q cause : ℕ) (place : Place) (steps : ℕ) (effect : Option Effect)
-    (ended : Option Ended) (sent : Option ℕ) (at : slice_get system.devices d ≡ Some device) (r : Runs cert device (old.machines d) q cause place steps effect ended machine) (b : Serves old new d machine cause steps effect ended sent) where
+    (ended : Option Ended) (sent : Option ℕ) (at : slice_get system.devices d ≡ Some device) (r : Runs cert device (old.machines d) q cause place steps effect ended machine) (b : AddsSteps old new d machine cause steps effect ended sent) where
   sound_here : IsSound cert device (old.machines d)
   sound_here = s.machines d device at
 
@@ -264,7 +264,7 @@ got_admitted (x ∷ xs) zero d g e = (let is : x ≡ g = cc in ap (λ y. Some (b
 got_admitted (x ∷ xs) (suc n) d g e = got_admitted xs n d g e
 
 module _ (system : System) (cert : Certificate) (hold : AllHold system cert) (old new : World) (s : IsWorldSound system cert old) (d n cause : ℕ) (device : Device) (holding : DeviceHolds cert device) (datagram : Datagram) (machine : Machine) (at : slice_get system.devices d ≡ Some device)
-    (got : slice_get old.datagrams n ≡ Some datagram) (a : Admits cert device (old.machines d) datagram cause machine) (b : Takes old new d n machine datagram cause) where
+    (got : slice_get old.datagrams n ≡ Some datagram) (a : Admits cert device (old.machines d) datagram cause machine) (b : AdmitsDatagram old new d n machine datagram cause) where
   was_sent : IsSent system old datagram
   was_sent = at_number (IsSent system old) old.datagrams n datagram got s.datagrams
 

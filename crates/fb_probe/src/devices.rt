@@ -3,7 +3,7 @@
 use crate::case::Case;
 use crate::texts::{ended, refused, text_of};
 use fb_device::{
-    Answer, Denied, Device, Effect, Opening, Ready, Refusal, Step, Turned, load, load_boot,
+    Answer, Denied, Device, Dispatched, Effect, Opening, Ready, Refusal, Step, load, load_boot,
 };
 use fb_script::tell;
 use fb_wire::encode;
@@ -95,7 +95,7 @@ fn asked(alloc: Global, out: &mut String, device: &Device, line: &str) -> Result
 
 // The bytes of what was sent, on a line of their own.
 fn sent(alloc: Global, out: &mut String, answer: &Answer) -> Result<(), AllocError> {
-    if let Answer::Served(Turned::Ran(ran)) = answer {
+    if let Answer::Served(Dispatched::Ran(ran)) = answer {
         if let Some(Effect::Send(message)) = &ran.effect {
             let bytes = encode(message);
             let digits = hex::encode_upper(alloc, bytes.as_slice())?;

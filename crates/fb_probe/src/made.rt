@@ -194,7 +194,7 @@ pub fn tables_of(alloc: Global, case: &Case<'_>) -> Result<String, AllocError> {
 fn values(out: &mut String, store: &Store, names: &str) -> Result<(), AllocError> {
     for name in names.split_whitespace() {
         let layout = store.layout();
-        if layout.place(name).is_some() {
+        if layout.location(name).is_some() {
             write!(out, " {name} {}", store.number(layout.plain_slot(name)))?;
         }
     }

@@ -17,9 +17,9 @@ use Rattle.st_types.proofs.Gathering.{drop_step}
 use Rattle.fb_asking.specs.Asking.{Asked, point, asking_all, asked_loop, ask, ask_one}
 use Rattle.fb_asking.proofs.Ending.{ends_one}
 use Rattle.fb_ranges.specs.declared.told.Told.{Told}
-use Rattle.fb_ranges.specs.Finding.{in_turn, tell}
+use Rattle.fb_ranges.specs.Finding.{in_sequence, tell}
 use Rattle.fb_ranges.proofs.Sides.{changed_known}
-use Rattle.fb_ranges.proofs.Telling.{tell_onward, turns_again}
+use Rattle.fb_ranges.proofs.Telling.{tell_onward, sequence_again}
 
 pub on_ok : {A E : Type 0} (r : Result A E) (P Q : Type 0) → (P → Q) → OnOk r P → OnOk r Q
 on_ok (Ok x) P Q f h = f h
@@ -39,14 +39,14 @@ pub next_asked : (rows : Spans) (list : List TypedStmt) (i : ℕ) (y : TypedStmt
 next_asked rows list i y a b all lt is h e = ap (ask rows (commands_of (drop (i + 1) list))) e ∙ sym (ap (λ (l : List TypedStmt). ask rows (commands_of l) a) (drop_step list i y lt is)) ∙ h
 
 pub next_told : (rows : Spans) (list : List TypedStmt) (i : ℕ) (y : TypedStmt) (a b : Asked) (before told all : Told) → i < length list → y ≡ get_or list i y
-    → in_turn before (tell (examine rows (commands_of (drop i list)) a.spans)) ≡ all → told ≡ tell (examine_one rows (command_of y) a.spans) → b ≡ ask_one rows (command_of y) a
-    → in_turn (in_turn before told) (tell (examine rows (commands_of (drop (i + 1) list)) b.spans)) ≡ all
+    → in_sequence before (tell (examine rows (commands_of (drop i list)) a.spans)) ≡ all → told ≡ tell (examine_one rows (command_of y) a.spans) → b ≡ ask_one rows (command_of y) a
+    → in_sequence (in_sequence before told) (tell (examine rows (commands_of (drop (i + 1) list)) b.spans)) ≡ all
 next_told rows list i y a b before told all lt is h e put =
     let rest = λ (s : Spans). examine rows (commands_of (drop (i + 1) list)) s in
     let found = examine_one rows (command_of y) a.spans in
-    ap₂ (λ (u : Told) (p : Asked). in_turn (in_turn before u) (tell (rest p.spans))) e put
-    ∙ turns_again before (tell found) (tell (rest (ask_one rows (command_of y) a).spans))
-    ∙ ap (in_turn before) (sym (tell_onward found rest (ask_one rows (command_of y) a).spans (ends_one rows (command_of y) a)) ∙ sym (ap (λ (l : List TypedStmt). tell (examine rows (commands_of l) a.spans)) (drop_step list i y lt is)))
+    ap₂ (λ (u : Told) (p : Asked). in_sequence (in_sequence before u) (tell (rest p.spans))) e put
+    ∙ sequence_again before (tell found) (tell (rest (ask_one rows (command_of y) a).spans))
+    ∙ ap (in_sequence before) (sym (tell_onward found rest (ask_one rows (command_of y) a).spans (ends_one rows (command_of y) a)) ∙ sym (ap (λ (l : List TypedStmt). tell (examine rows (commands_of l) a.spans)) (drop_step list i y lt is)))
     ∙ h
 
 -- ---- branches
@@ -62,11 +62,11 @@ asked_some : (n : ℕ) (xs : List Name) (rows : Spans) (f : Asked → Asked) (x 
 asked_some zero xs rows f x r s k a some = absurd (omega (arith, some))
 asked_some (suc n) xs rows f x r s k a some = refl
 
--- a FOR of some turns
-pub turns_asked : (n : ℕ) (xs : List Name) (rows : Spans) (f : Asked → Asked) (x : Name) (r s : Span) (k : ℤ) (a : Asked) (base after asked more : Spans) (own l : Span) → 0 < n
+-- a FOR of some iterations
+pub iterations_asked : (n : ℕ) (xs : List Name) (rows : Spans) (f : Asked → Asked) (x : Name) (r s : Span) (k : ℤ) (a : Asked) (base after asked more : Spans) (own l : Span) → 0 < n
     → base ≡ reset xs rows a.spans → own ≡ taken r s k n → l ≡ left_with r s k n (base x) → after ≡ changed x (λ b. l) base → asked ≡ asking_all xs a.spans a.rows
     → more ≡ (let end = f (point (changed x (λ b. own) base) asked) in asking_all xs end.spans end.rows) → point after more ≡ asked_loop n xs rows f x r s k a
-turns_asked n xs rows f x r s k a base after asked more own l some same o left put begins ends =
+iterations_asked n xs rows f x r s k a base after asked more own l some same o left put begins ends =
     let asks = λ (p : Span) (u q : Spans). let end = f (point (changed x (λ b. p) u) q) in asking_all xs end.spans end.rows in
     let p = taken r s k n in
     ap₂ point

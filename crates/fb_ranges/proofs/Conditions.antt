@@ -16,7 +16,7 @@ use Rattle.st_types.proofs.Chains.{joined_push}
 use Rattle.fb_ranges.specs.Narrowing.{number_in, variable_in, splits}
 use Rattle.fb_ranges.proofs.Sides.{operations_hide}
 
--- where an operation splits the condition, its operands narrow in turn
+-- where an operation splits the condition, its operands narrow in iteration
 parts_narrow : (b : Bool) (f : Operation) (a : ElemType) (e g : Term) (s : Spans) → splits b f ≡ true → narrowed (double f a e g) b s ≡ narrowed g b (narrowed e b s)
 parts_narrow true (Infix o.And) a e g s h = refl
 parts_narrow false (Infix o.Or) a e g s h = refl

@@ -5,9 +5,9 @@ use Rattle.std.proofs.lemmas.List.{append_assoc}
 use Rattle.std.specs.Prelude.{if◌then◌else◌}
 use Rattle.fb_model.specs.Names.{Name}
 use Rattle.fb_model.specs.TypedText.{Term, constant, read, part, single, double, Command, set, set_part, choose, match_on, count, Commands, done, then_do, Choices, no_choice, choice, Cases, no_case, a_case}
-use Rattle.fb_model.specs.Language.{turn_count}
+use Rattle.fb_model.specs.Language.{iteration_count}
 use Rattle.fb_model.specs.Spans.{Span, span, joined}
-use Rattle.fb_model.specs.Clear.{Spans, changed, narrowed, is_idle, assigned_one, assigned, assigned_choices, assigned_cases, reset, most_turns, left_with}
+use Rattle.fb_model.specs.Clear.{Spans, changed, narrowed, is_idle, assigned_one, assigned, assigned_choices, assigned_cases, reset, most_iterations, left_with}
 use Rattle.fb_model.proofs.Names.{not_first, not_later, not_front, not_back}
 use Rattle.fb_asking.specs.Asking.{Asked, point, range_in, asked_loop, ask_one, ask, ask_choices, ask_cases}
 use Rattle.fb_ranges.specs.Meeting.{Besides}
@@ -31,19 +31,19 @@ loop_none : (n : ℕ) (xs : List Name) (rows : Spans) (f : Asked → Asked) (x :
 loop_none zero xs rows f x r s k a e = λ y out. refl
 loop_none (suc n) xs rows f x r s k a e = absurd (omega (arith, e))
 
-most_between : (a b k : ℤ) → most_turns (span a a) (span b b) k ≡ turn_count a b k
+most_between : (a b k : ℤ) → most_iterations (span a a) (span b b) k ≡ iteration_count a b k
 most_between a b (pos n) = refl
 most_between a b (negsuc n) = refl
 
 -- a FOR
 count_besides : (x : Name) (e g : Term) (k : ℤ) (plain : Bool) (xs : List Name) (rows : Spans) (f : Asked → Asked) (a : Asked)
-    → Besides (if is_idle plain e g k then xs else x ∷ xs) a.spans (asked_loop (most_turns (range_in e a.spans) (range_in g a.spans) k) xs rows f x (range_in e a.spans) (range_in g a.spans) k a).spans
+    → Besides (if is_idle plain e g k then xs else x ∷ xs) a.spans (asked_loop (most_iterations (range_in e a.spans) (range_in g a.spans) k) xs rows f x (range_in e a.spans) (range_in g a.spans) k a).spans
 count_besides x e g k plain xs rows f a = by (is_idle plain e g k) refl where
   end : Spans
-  end = (asked_loop (most_turns (range_in e a.spans) (range_in g a.spans) k) xs rows f x (range_in e a.spans) (range_in g a.spans) k a).spans
+  end = (asked_loop (most_iterations (range_in e a.spans) (range_in g a.spans) k) xs rows f x (range_in e a.spans) (range_in g a.spans) k a).spans
 
-  none : (plain : Bool) (e g : Term) → is_idle plain e g k ≡ true → Besides xs a.spans (asked_loop (most_turns (range_in e a.spans) (range_in g a.spans) k) xs rows f x (range_in e a.spans) (range_in g a.spans) k a).spans
-  none true (constant b) (constant c) h = loop_none (most_turns (span b b) (span c c) k) xs rows f x (span b b) (span c c) k a (most_between b c k ∙ eqb-true (turn_count b c k) 0 h)
+  none : (plain : Bool) (e g : Term) → is_idle plain e g k ≡ true → Besides xs a.spans (asked_loop (most_iterations (range_in e a.spans) (range_in g a.spans) k) xs rows f x (range_in e a.spans) (range_in g a.spans) k a).spans
+  none true (constant b) (constant c) h = loop_none (most_iterations (span b b) (span c c) k) xs rows f x (span b b) (span c c) k a (most_between b c k ∙ eqb-true (iteration_count b c k) 0 h)
   none true (constant b) (read z) h = cc
   none true (constant b) (part z low high i) h = cc
   none true (constant b) (single o c i) h = cc
@@ -56,7 +56,7 @@ count_besides x e g k plain xs rows f a = by (is_idle plain e g k) refl where
 
   by : (b : Bool) → is_idle plain e g k ≡ b → Besides (if b then xs else x ∷ xs) a.spans end
   by true h = none plain e g h
-  by false h = loop_besides (most_turns (range_in e a.spans) (range_in g a.spans) k) xs rows f x (range_in e a.spans) (range_in g a.spans) k a
+  by false h = loop_besides (most_iterations (range_in e a.spans) (range_in g a.spans) k) xs rows f x (range_in e a.spans) (range_in g a.spans) k a
 
 set_besides : (x : Name) (s : Spans) (r : Span) → Besides (x ∷ []) s (changed x (λ b. r) s)
 set_besides x s r y out = ap (λ b. if b then r else s y) (not_first x y [] out)

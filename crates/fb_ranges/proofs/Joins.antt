@@ -73,9 +73,9 @@ reset_besides xs rows spans others h = fun_ext (λ y. by y (is_in y xs) refl) wh
   by y true e = refl
   by y false e = h y e
 
--- the variable of a FOR after its turns, and the others as before them
-pub turns_leave : (xs : List Name) (rows spans : Spans) (x : Name) (own left : Span) → changed x (λ r. left) (reset xs rows (changed x (λ r. own) (reset xs rows spans))) ≡ changed x (λ r. left) (reset xs rows spans)
-turns_leave xs rows spans x own left = fun_ext (λ y. by y (bytes_eq x y) (is_in y xs)) where
+-- the variable of a FOR after its iterations, and the others as before them
+pub iterations_leave : (xs : List Name) (rows spans : Spans) (x : Name) (own left : Span) → changed x (λ r. left) (reset xs rows (changed x (λ r. own) (reset xs rows spans))) ≡ changed x (λ r. left) (reset xs rows spans)
+iterations_leave xs rows spans x own left = fun_ext (λ y. by y (bytes_eq x y) (is_in y xs)) where
   by : (y : Name) (a b : Bool) → (if a then left else if b then rows y else if a then own else if b then rows y else spans y) ≡ (if a then left else if b then rows y else spans y)
   by y true b = refl
   by y false true = refl

@@ -10,29 +10,29 @@ use Rattle.fb_asking.proofs.Ending.{Ends}
 use Rattle.fb_ranges.specs.declared.told.Told.{Told}
 use Rattle.fb_ranges.specs.declared.told.Told.TheVariants as t
 use Rattle.fb_ranges.specs.Steps.{counted}
-use Rattle.fb_ranges.specs.Finding.{in_turn, keeping, longer, tell, trapping, turned}
+use Rattle.fb_ranges.specs.Finding.{in_sequence, keeping, longer, tell, trapping, iterated}
 
 -- ---- one thing after another
 
-pub turns_again : (a b c : Told) → in_turn (in_turn a b) c ≡ in_turn a (in_turn b c)
-turns_again (t.Steps n) (t.Steps m) (t.Steps k) = ap t.Steps (let e : counted (counted (n + m) + k) ≡ counted (n + counted (m + k)) = omega arith in e)
-turns_again (t.Steps n) (t.Steps m) t.Leaves = refl
-turns_again (t.Steps n) (t.Steps m) t.Traps = refl
-turns_again (t.Steps n) t.Leaves c = refl
-turns_again (t.Steps n) t.Traps c = refl
-turns_again t.Leaves b c = refl
-turns_again t.Traps b c = refl
+pub sequence_again : (a b c : Told) → in_sequence (in_sequence a b) c ≡ in_sequence a (in_sequence b c)
+sequence_again (t.Steps n) (t.Steps m) (t.Steps k) = ap t.Steps (let e : counted (counted (n + m) + k) ≡ counted (n + counted (m + k)) = omega arith in e)
+sequence_again (t.Steps n) (t.Steps m) t.Leaves = refl
+sequence_again (t.Steps n) (t.Steps m) t.Traps = refl
+sequence_again (t.Steps n) t.Leaves c = refl
+sequence_again (t.Steps n) t.Traps c = refl
+sequence_again t.Leaves b c = refl
+sequence_again t.Traps b c = refl
 
-pub tell_last : (a b : Told) → in_turn (in_turn a b) (t.Steps 0) ≡ in_turn a b
+pub tell_last : (a b : Told) → in_sequence (in_sequence a b) (t.Steps 0) ≡ in_sequence a b
 tell_last (t.Steps n) (t.Steps m) = ap t.Steps (let e : counted (counted (n + m) + 0) ≡ counted (n + m) = omega arith in e)
 tell_last (t.Steps n) t.Leaves = refl
 tell_last (t.Steps n) t.Traps = refl
 tell_last t.Leaves b = refl
 tell_last t.Traps b = refl
 
-pub tell_onward : (found : Found) (f : Spans → Found) (s : Spans) → Ends found s → tell (onward found f) ≡ in_turn (tell found) (tell (f s))
-tell_onward (Clear end n) f s h = by (f end) ∙ ap (λ (u : Spans). in_turn (t.Steps (counted n)) (tell (f u))) h where
-  by : (g : Found) → tell (elim g as (λ v. Found) [ Clear after m ↦ Clear after (n + m) | Leaves ↦ Leaves | Traps ↦ Traps ]) ≡ in_turn (t.Steps (counted n)) (tell g)
+pub tell_onward : (found : Found) (f : Spans → Found) (s : Spans) → Ends found s → tell (onward found f) ≡ in_sequence (tell found) (tell (f s))
+tell_onward (Clear end n) f s h = by (f end) ∙ ap (λ (u : Spans). in_sequence (t.Steps (counted n)) (tell (f u))) h where
+  by : (g : Found) → tell (elim g as (λ v. Found) [ Clear after m ↦ Clear after (n + m) | Leaves ↦ Leaves | Traps ↦ Traps ]) ≡ in_sequence (t.Steps (counted n)) (tell g)
   by (Clear after m) = ap t.Steps (let e : counted (n + m) ≡ counted (counted n + counted m) = omega arith in e)
   by Leaves = refl
   by Traps = refl
@@ -81,9 +81,9 @@ tell_kept rows xs (Clear end n) s h = by (are_kept xs rows end) ∙ ap (λ (u : 
 tell_kept rows xs Leaves s h = refl
 tell_kept rows xs Traps s h = refl
 
--- the steps of all turns, from those of one as they are told apart
-turns_counted : (j m : ℕ) → counted (1 + suc j * (1 + m)) ≡ counted (1 + suc j * (1 + counted m))
-turns_counted j m =
+-- the steps of all iterations, from those of one as they are told apart
+iterations_counted : (j m : ℕ) → counted (1 + suc j * (1 + m)) ≡ counted (1 + suc j * (1 + counted m))
+iterations_counted j m =
     by_lt_z (pos 1000000000000) (pos m)
     (λ many.
     let least : 1000000000001 ≤ m = omega (arith, ints) in
@@ -94,21 +94,21 @@ turns_counted j m =
     (λ few. let same : counted m ≡ m = omega (arith, ints) in ap (λ n. counted (1 + suc j * (1 + n))) (sym same))
 
 pub tell_looped : (n : ℕ) (xs : List Name) (rows : Spans) (body : Spans → Found) (x : Name) (r s : Span) (k : ℤ) (spans : Spans) → 0 < n
-    → tell (looped n xs rows body x r s k spans) ≡ turned n (are_kept xs rows spans) (tell (kept rows xs (body (changed x (λ b. taken r s k n) (reset xs rows spans)))))
+    → tell (looped n xs rows body x r s k spans) ≡ iterated n (are_kept xs rows spans) (tell (kept rows xs (body (changed x (λ b. taken r s k n) (reset xs rows spans)))))
 tell_looped zero xs rows body x r s k spans some = absurd (omega (arith, some))
 tell_looped (suc n) xs rows body x r s k spans some = by (are_kept xs rows spans) (body (changed x (λ b. taken r s k (suc n)) (reset xs rows spans))) where
   left : Spans
   left = changed x (left_with r s k (suc n)) (reset xs rows spans)
 
-  clear : (end : Spans) (m : ℕ) (c : Bool) → tell (if c then Clear left (1 + suc n * (1 + m)) else Leaves) ≡ turned (suc n) true (tell (if c then Clear end m else Leaves))
-  clear end m true = ap t.Steps (turns_counted n m)
+  clear : (end : Spans) (m : ℕ) (c : Bool) → tell (if c then Clear left (1 + suc n * (1 + m)) else Leaves) ≡ iterated (suc n) true (tell (if c then Clear end m else Leaves))
+  clear end m true = ap t.Steps (iterations_counted n m)
   clear end m false = refl
 
   by : (b : Bool) (found : Found) → tell (if b then (elim found [
     | Clear end m ↦ if are_kept xs rows end then Clear left (1 + suc n * (1 + m)) else Leaves
     | Leaves ↦ Leaves
     | Traps ↦ Traps
-  ]) else Leaves) ≡ turned (suc n) b (tell (kept rows xs found))
+  ]) else Leaves) ≡ iterated (suc n) b (tell (kept rows xs found))
   by true (Clear end m) = clear end m (are_kept xs rows end)
   by true Leaves = refl
   by true Traps = refl

@@ -12,11 +12,11 @@ tell Leaves = t.Leaves
 tell Traps = t.Traps
 
 -- of one thing after another: the first fault, or the steps of both
-abbrev pub in_turn : Told → Told → Told
-in_turn (t.Steps n) (t.Steps m) = t.Steps (counted (n + m))
-in_turn (t.Steps n) next = next
-in_turn t.Leaves next = t.Leaves
-in_turn t.Traps next = t.Traps
+abbrev pub in_sequence : Told → Told → Told
+in_sequence (t.Steps n) (t.Steps m) = t.Steps (counted (n + m))
+in_sequence (t.Steps n) next = next
+in_sequence t.Leaves next = t.Leaves
+in_sequence t.Traps next = t.Traps
 
 -- of one way or another: the first fault, or the steps of the longer
 abbrev pub longer : Told → Told → Told
@@ -36,9 +36,9 @@ keeping kept (t.Steps n) = if kept then t.Steps n else t.Leaves
 keeping kept t.Leaves = t.Leaves
 keeping kept t.Traps = t.Traps
 
--- of n turns, by whether variables keep their rows before them, and by what is told of one turn
-abbrev pub turned : ℕ → Bool → Told → Told
-turned n true (t.Steps m) = t.Steps (counted (1 + n * (1 + m)))
-turned n true t.Leaves = t.Leaves
-turned n true t.Traps = t.Traps
-turned n false told = t.Leaves
+-- of n iterations, by whether variables keep their rows before them, and by what is told of one iteration
+abbrev pub iterated : ℕ → Bool → Told → Told
+iterated n true (t.Steps m) = t.Steps (counted (1 + n * (1 + m)))
+iterated n true t.Leaves = t.Leaves
+iterated n true t.Traps = t.Traps
+iterated n false told = t.Leaves

@@ -41,7 +41,7 @@ fn examined(alloc: Global, algo: &Algo, rows: &Ranges) -> Result<Findings, Alloc
 /// Whether an algorithm is clear under the rows of its variables: run from values in the rows, it neither traps nor leaves them.
 ///
 /// Refused with `Traps` where a divisor may be zero or an index out of bounds, with `Leaves` where a variable may leave its row at the
-/// end or around a turn of a FOR, or an element of an array may leave the array's row at its assignment: the first of these in the text.
+/// end or around a iteration of a FOR, or an element of an array may leave the array's row at its assignment: the first of these in the text.
 pub fn check_algorithm(alloc: Global, algo: &Algo, rows: &Ranges) -> Result<(), RangeFault>
     ensures { IsExamined result (book.examined (spans_of rows.now) (commands_of algo.now.statements.items)) }
 {

@@ -6,11 +6,11 @@ ghost use Rattle.st_types.specs.Views.{term_of};
 ghost use Rattle.st_types.specs.CommandViews.{busy_of, cases_of, choices_of, command_of, commands_of};
 
 use crate::side::number;
-use fb_intervals::turns;
+use fb_intervals::iterations;
 use st_types::{Counting, TypedArm, TypedBranch, TypedStmt};
 use std::alloc::{AllocError, Global};
 
-// Whether a FOR between two spelled numbers has no turn.
+// Whether a FOR between two spelled numbers has no iteration.
 fn is_idle(counting: &Counting) -> bool
     ensures { result ≡ book.is_idle counting.now.plain (term_of counting.now.first) (term_of counting.now.last) counting.now.step }
 {
@@ -18,7 +18,7 @@ fn is_idle(counting: &Counting) -> bool
         return false;
     }
     match (number(&counting.first), number(&counting.last)) {
-        (Some(first), Some(last)) => turns(first, last, counting.step) == 0,
+        (Some(first), Some(last)) => iterations(first, last, counting.step) == 0,
         _ => false,
     }
 }
@@ -32,7 +32,7 @@ pub(crate) fn pushed(name: &String, names: &mut Vec<String>) -> Result<(), Alloc
 }
 
 /// The variables that statements assign, as they stand in the text: the own variable of each FOR too, but of one between two spelled numbers
-/// that has no turn.
+/// that has no iteration.
 pub fn names_assigned(alloc: Global, list: &[TypedStmt]) -> Result<Vec<String>, AllocError>
     ensures { IfOk result (λ names. busy_of names.items ≡ book.assigned (commands_of list.now)) }
 {

@@ -23,10 +23,10 @@ use crate::join::{are_kept, ask, ask_all, reset};
 use crate::merge::{close, ended, merged, no_ways, noted};
 use crate::narrowed::narrow;
 use crate::rows::Ranges;
-use crate::told::{Told, in_turn, keeping, trapping, turned};
+use crate::told::{Told, in_sequence, iterated, keeping, trapping};
 use crate::touched::names_touched;
 use crate::way::{Way, Ways};
-use fb_intervals::{Interval, is_within, left_with, most_turns, taken};
+use fb_intervals::{Interval, is_within, left_with, most_iterations, taken};
 use st_types::{Counting, TypedArm, TypedBranch, TypedExpr, TypedStmt};
 use std::alloc::{AllocError, Global};
 
@@ -76,7 +76,7 @@ pub fn examine(
     let mut all = Told::Steps(0);
     for statement in list {
         let told = examine_one(alloc, rows, statement, ranges, asked)?;
-        all = in_turn(all, told);
+        all = in_sequence(all, told);
     }
     Ok(all)
 }
@@ -102,12 +102,12 @@ pub fn examine_one(
         }
         TypedStmt::If(branches, other) => {
             let told = examine_branches(alloc, rows, branches, other, ranges, asked)?;
-            Ok(in_turn(Told::Steps(1), told))
+            Ok(in_sequence(Told::Steps(1), told))
         }
         TypedStmt::Case(selector, arms, other) => {
             let is_clear = range(selector, ranges).is_clear;
             let told = examine_arms(alloc, rows, arms, other, ranges, asked)?;
-            Ok(trapping(is_clear, in_turn(Told::Steps(1), told)))
+            Ok(trapping(is_clear, in_sequence(Told::Steps(1), told)))
         }
         TypedStmt::For(counting, body) => examine_for(alloc, rows, counting, body, ranges, asked),
     }
@@ -239,10 +239,10 @@ fn examine_for(
     let first = range(&counting.first, ranges);
     let last = range(&counting.last, ranges);
     let are_clear = if first.is_clear { last.is_clear } else { false };
-    if most_turns(first.range, last.range, counting.step) == 0 {
+    if most_iterations(first.range, last.range, counting.step) == 0 {
         return Ok(trapping(are_clear, Told::Steps(1)));
     }
-    let told = examine_turns(
+    let told = examine_iterations(
         alloc,
         rows,
         counting.variable.as_str(),
@@ -256,9 +256,9 @@ fn examine_for(
     Ok(trapping(are_clear, told))
 }
 
-// The turns of a FOR, of which there are some.
+// The iterations of a FOR, of which there are some.
 #[cycle(examining)]
-fn examine_turns(
+fn examine_iterations(
     alloc: Global,
     rows: &Ranges,
     name: &str,
@@ -269,23 +269,23 @@ fn examine_turns(
     ranges: &mut Ranges,
     asked: &mut Ranges,
 ) -> Result<Told, AllocError>
-    requires { 0 < book.most_turns (span_of first) (span_of last) step }
-    ensures asks { OnOk result (point (spans_of ranges.new) (spans_of asked.new) ≡ asking.asked_loop (book.most_turns (span_of first) (span_of last) step) (book.assigned (commands_of body.now)) (spans_of rows.now) (asking.ask (spans_of rows.now) (commands_of body.now)) name.now (span_of first) (span_of last) step (point (spans_of ranges.old) (spans_of asked.old))) }
-    ensures tells { IfOk result (λ told. told ≡ tell (book.looped (book.most_turns (span_of first) (span_of last) step) (book.assigned (commands_of body.now)) (spans_of rows.now) (book.examine (spans_of rows.now) (commands_of body.now)) name.now (span_of first) (span_of last) step (spans_of ranges.old))) }
+    requires { 0 < book.most_iterations (span_of first) (span_of last) step }
+    ensures asks { OnOk result (point (spans_of ranges.new) (spans_of asked.new) ≡ asking.asked_loop (book.most_iterations (span_of first) (span_of last) step) (book.assigned (commands_of body.now)) (spans_of rows.now) (asking.ask (spans_of rows.now) (commands_of body.now)) name.now (span_of first) (span_of last) step (point (spans_of ranges.old) (spans_of asked.old))) }
+    ensures tells { IfOk result (λ told. told ≡ tell (book.looped (book.most_iterations (span_of first) (span_of last) step) (book.assigned (commands_of body.now)) (spans_of rows.now) (book.examine (spans_of rows.now) (commands_of body.now)) name.now (span_of first) (span_of last) step (spans_of ranges.old))) }
 {
-    let turns = most_turns(first, last, step);
+    let iterations = most_iterations(first, last, step);
     let names = names_assigned(alloc, body)?;
     let begins = are_kept(&names, rows, ranges);
     ask_all(&names, ranges, asked)?;
     reset(&names, rows, ranges)?;
     let before = ranges.find(name);
-    let own = taken(first, last, step, turns);
+    let own = taken(first, last, step, iterations);
     let told = examine_body(alloc, rows, name, own, &names, body, ranges, asked)?;
-    ranges.insert(name, left_with(first, last, step, turns, before))?;
-    Ok(turned(turns, begins, told))
+    ranges.insert(name, left_with(first, last, step, iterations, before))?;
+    Ok(iterated(iterations, begins, told))
 }
 
-// The body of a FOR, once for all turns; it has to keep the rows of the variables that it assigns, and these have them afterwards.
+// The body of a FOR, once for all iterations; it has to keep the rows of the variables that it assigns, and these have them afterwards.
 #[cycle(examining)]
 fn examine_body(
     alloc: Global,

@@ -20,7 +20,7 @@ impl OutOfMemory {
 /// Why a guard or an algorithm is not clear under the ranges of its variables.
 #[derive(Drop)]
 pub enum RangeFault {
-    /// A variable may leave its row: after the algorithm, before a FOR that assigns it, or after one of its turns; or an element of an
+    /// A variable may leave its row: after the algorithm, before a FOR that assigns it, or after one of its iterations; or an element of an
     /// array may get a value beyond the array's row. Code 36.
     Leaves,
     /// A divisor may be zero, or an index out of bounds. Code 37.

@@ -27,12 +27,12 @@ pub(crate) fn longest(a: u64, b: u64) -> u64
     a.max(b)
 }
 
-/// The steps of a FOR, by its turns and the steps of one turn's body.
-pub(crate) fn of_turns(turns: u128, body: u64) -> u64
-    requires { 0 < turns }
-    ensures { result ≡ counted (1 + turns * (1 + body)) }
+/// The steps of a FOR, by its iterations and the steps of one iteration's body.
+pub(crate) fn of_iterations(iterations: u128, body: u64) -> u64
+    requires { 0 < iterations }
+    ensures { result ≡ counted (1 + iterations * (1 + body)) }
 {
     let most = u128::from(MANY);
-    let steps = 1 + turns.min(most) * (1 + u128::from(body));
+    let steps = 1 + iterations.min(most) * (1 + u128::from(body));
     steps.min(most) as u64
 }

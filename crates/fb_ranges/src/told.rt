@@ -3,10 +3,10 @@
 ghost use Rattle.std.specs.Prelude.{◌≡◌, ◌<◌};
 ghost use Rattle.fb_model.specs.Clear.{Found};
 ghost use Rattle.fb_ranges.specs.Answers.{IsExamined, most_steps};
-ghost use Rattle.fb_ranges.specs.Finding.{in_turn, keeping, longer, tell, trapping, turned};
+ghost use Rattle.fb_ranges.specs.Finding.{in_sequence, keeping, longer, tell, trapping, iterated};
 
 use crate::fault::RangeFault;
-use crate::steps::{added, longest, of_turns, told};
+use crate::steps::{added, longest, of_iterations, told};
 
 /// What is told of an examination: its most steps, up to the first number that stands for all greater ones; or its first fault in the text.
 #[derive(Clone, Copy)]
@@ -17,8 +17,8 @@ pub enum Told {
 }
 
 /// Of one thing after another.
-pub(crate) fn in_turn(first: Told, next: Told) -> Told
-    ensures { result ≡ in_turn first next }
+pub(crate) fn in_sequence(first: Told, next: Told) -> Told
+    ensures { result ≡ in_sequence first next }
 {
     match first {
         Told::Steps(a) => match next {
@@ -69,16 +69,16 @@ pub(crate) fn keeping(are_kept: bool, told: Told) -> Told
     }
 }
 
-/// Of the turns of a FOR, by whether variables keep their rows before them, and by what is told of one turn.
-pub(crate) fn turned(turns: u128, are_kept: bool, told: Told) -> Told
-    requires { 0 < turns }
-    ensures { result ≡ turned turns are_kept told }
+/// Of the iterations of a FOR, by whether variables keep their rows before them, and by what is told of one iteration.
+pub(crate) fn iterated(iterations: u128, are_kept: bool, told: Told) -> Told
+    requires { 0 < iterations }
+    ensures { result ≡ iterated iterations are_kept told }
 {
     if !are_kept {
         return Told::Leaves;
     }
     match told {
-        Told::Steps(steps) => Told::Steps(of_turns(turns, steps)),
+        Told::Steps(steps) => Told::Steps(of_iterations(iterations, steps)),
         Told::Leaves => Told::Leaves,
         Told::Traps => Told::Traps,
     }

@@ -3,7 +3,7 @@ use Rattle.std.proofs.Common.{◌≡◌, ℕ, suc, ◌≤◌, ◌⊎◌, Bool, t
 use Rattle.fb_words.specs.declared.mark.Mark.{Mark}
 use Rattle.fb_model.specs.Tokens.{Token, token, name, number, typed, duration, mark}
 use Rattle.fb_model.specs.StructuredTextGrammar.{begins_number}
-use Rattle.fb_read.specs.Reading.{Wrong, syntax, too_deep, stuck, Answer, Read, ◌>>=◌, next_is, after, expect, place_at, name_at, begins_name}
+use Rattle.fb_read.specs.Reading.{Wrong, syntax, too_deep, stuck, Answer, Read, ◌>>=◌, next_is, after, expect, offset_at, name_at, begins_name}
 
 -- two texts that are the same up to this token, with what stands behind it in each
 pub data Same (t : Token) (q q' : List Token) : List Token → List Token → Type 0 where
@@ -179,10 +179,10 @@ either_sees k test h t q q' ts us s = rw (next_sees k t q q' ts us s, h t q q' t
 pub same_next : (k : Mark) {t : Token} {q q' ts us : List Token} → Same t q q' ts us → next_is k ts ≡ next_is k us
 same_next k {t = t} {q = q} {q' = q'} {ts = ts} {us = us} s = next_sees k t q q' ts us s
 
-head_place : (t : Token) (a b : List Token) → place_at (t ∷ a) ≡ place_at (t ∷ b)
+head_place : (t : Token) (a b : List Token) → offset_at (t ∷ a) ≡ offset_at (t ∷ b)
 head_place (token k s e) a b = refl
 
-same_place : {t : Token} {q q' ts us : List Token} → Same t q q' ts us → place_at ts ≡ place_at us
+same_place : {t : Token} {q q' ts us : List Token} → Same t q q' ts us → offset_at ts ≡ offset_at us
 same_place {t = t} {q = q} {q' = q'} here = head_place t q q'
 same_place (there {u = u} {ts = ts} {us = us} s) = head_place u ts us
 
@@ -221,5 +221,5 @@ pub steady_expect : {A : Type 0} (k : Mark) (g : Read A) → Steady g → Steady
 steady_expect k g h = steady_as (λ ts. cond (next_is k ts) (g (after ts)) (stuck ts)) (λ ts. expect k ts >>= g) (steady_if k g (λ ts. stuck ts) h steady_stuck) (λ ts. cond_then (next_is k ts) (Ok (after ts)) (stuck ts) g)
 
 -- what is read may hold the place of the next token
-pub steady_place : {A : Type 0} (g : ℕ → Read A) → ((at : ℕ) → Steady (g at)) → Steady (λ ts. g (place_at ts) ts)
-steady_place g h = record { bounded = λ ts. (h (place_at ts)).bounded ts; local = λ t q q' ts us s. subst (λ n. Goes t q q' (g (place_at ts) ts) (g n us)) (same_place s) ((h (place_at ts)).local t q q' ts us s) }
+pub steady_place : {A : Type 0} (g : ℕ → Read A) → ((at : ℕ) → Steady (g at)) → Steady (λ ts. g (offset_at ts) ts)
+steady_place g h = record { bounded = λ ts. (h (offset_at ts)).bounded ts; local = λ t q q' ts us s. subst (λ n. Goes t q q' (g (offset_at ts) ts) (g n us)) (same_place s) ((h (offset_at ts)).local t q q' ts us s) }

@@ -46,10 +46,10 @@ after (t ∷ ts) = ts
 abbrev pub expect : Mark → List Token → Result (List Token) Wrong
 expect k ts = if next_is k ts then Ok (after ts) else stuck ts
 
--- the place of the next token
-abbrev pub place_at : List Token → ℕ
-place_at [] = 0
-place_at (token k s e ∷ ts) = s
+-- the offset of the next token
+abbrev pub offset_at : List Token → ℕ
+offset_at [] = 0
+offset_at (token k s e ∷ ts) = s
 
 abbrev pub name_at : Read Word
 name_at [] = stuck []

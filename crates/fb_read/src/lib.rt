@@ -8,5 +8,5 @@ mod token;
 pub use items::{Item, closed, many, section, separated};
 pub use stop::Stop;
 pub use token::{
-    Name, begins_name, begins_number, end_of, expect, next_is, place, read_name, read_type,
+    Name, begins_name, begins_number, end_of, expect, next_is, next_offset, read_name, read_type,
 };

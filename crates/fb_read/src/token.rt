@@ -3,7 +3,7 @@
 ghost use Rattle.std.specs.Prelude.{◌≡◌, ◌<◌, length, OnOk};
 ghost use Rattle.fb_lex.specs.Views.{tokens_of};
 ghost use Rattle.fb_model.specs.StructuredTextGrammar.{begins_number};
-ghost use Rattle.fb_read.specs.Reading.{next_is, expect, name_at, type_at, begins_name, place_at};
+ghost use Rattle.fb_read.specs.Reading.{next_is, expect, name_at, type_at, begins_name, offset_at};
 ghost use Rattle.fb_read.specs.Answers.{Gives, word_of};
 ghost use Rattle.fb_read.specs.Faults.{end_of};
 
@@ -42,9 +42,9 @@ pub fn expect(tokens: &[Token], mark: Mark) -> Result<&[Token], Stop>
     Ok(&tokens[1..])
 }
 
-/// The place of the next token, or 0 where there is none.
-pub fn place(tokens: &[Token]) -> usize
-    ensures { result ≡ place_at (tokens_of tokens.now) }
+/// The offset of the next token, or 0 where there is none.
+pub fn next_offset(tokens: &[Token]) -> usize
+    ensures { result ≡ offset_at (tokens_of tokens.now) }
 {
     match tokens {
         [] => 0,

@@ -14,7 +14,7 @@ use Rattle.fb_flat.specs.declared.flat.Leaf.{Leaf}
 use Rattle.fb_flat.specs.fb_blocks.declared.typed.Transition.{Transition}
 use Rattle.fb_flat.specs.fb_blocks.declared.typed.Block.{Block}
 use Rattle.fb_rows.specs.Reasons.{Reason, Starts, Links, Keeps, Divides, Refuses, Blames, Names, OneFails, NamesOne}
-use Rattle.fb_rows.specs.Beginning.{Entry, shown, LinkLies}
+use Rattle.fb_rows.specs.Beginning.{NamedVariable, shown, LinkLies}
 use Rattle.fb_rows.specs.Clearing.{Procedure, procedure_text, guard_in, rows_of_block, GuardFails, VariablesBegin, RunsClear, RunFails, ChartLies, BlockFails}
 
 pub refuses_weaker : (P Q : Reason → List ℕ → Type 0) (e : Unclear) → ((r : Reason) (row : List ℕ) → P r row → Q r row) → Refuses P e → Refuses Q e
@@ -55,7 +55,7 @@ pub run_all : (cert : Certificate) (path : Name) (k : Block) (r : Result (Unit {
 run_all cert path k (Ok u) a h = record { algorithms = a; guards = h }
 run_all cert path k (Err e) a h = blames_weaker path (OneFails (λ (t : Transition). string_bytes t.source) (λ t. GuardFails (rows_of_block cert path k) (guard_in t)) k.transitions.items) (RunFails cert path k) e (λ reason y q. inr q) h
 
-pub chart_all : (cert : Certificate) (path : Name) (ls : List Leaf) (source : Name → wires.Source) (k : Block) (r : Result (Unit {0}) Unclear) → VariablesBegin cert path source k → AllByRecursion (λ (e : Entry). LinkLies cert path ls source (shown e)) k.face.inputs.entries
+pub chart_all : (cert : Certificate) (path : Name) (ls : List Leaf) (source : Name → wires.Source) (k : Block) (r : Result (Unit {0}) Unclear) → VariablesBegin cert path source k → AllByRecursion (λ (e : NamedVariable). LinkLies cert path ls source (shown e)) k.face.inputs.entries
     → MatchResult r (λ u. RunsClear cert path k) (Blames path (RunFails cert path k)) → MatchResult r (λ u. ChartLies cert path ls source k) (Blames path (BlockFails cert path ls source k))
 chart_all cert path ls source k (Ok u) v l h = record { variables = v; links = l; runs = h }
 chart_all cert path ls source k (Err e) v l h = blames_weaker path (RunFails cert path k) (BlockFails cert path ls source k) e (λ reason y q. inr (inr q)) h

@@ -31,7 +31,7 @@ use Rattle.fb_flat.specs.fb_blocks.Views.{declared_of, transition_of, block_of}
 use Rattle.fb_flat.specs.st_types.CommandViews.{commands_of}
 use Rattle.fb_rows.specs.Rows.{row_for}
 use Rattle.fb_rows.specs.Reasons.{Reason, Starts, Links, Keeps, Divides, Lacks, OneFails}
-use Rattle.fb_rows.specs.Beginning.{Entry, entry_name, shown, Begins, InputBegins, OtherBegins, LinkLies}
+use Rattle.fb_rows.specs.Beginning.{NamedVariable, entry_name, shown, Begins, InputBegins, OtherBegins, LinkLies}
 use Rattle.fb_rows.specs.Places.{SourceLies}
 use Rattle.fb_rows.specs.Clearing.{Procedure, procedure_name, procedure_text, guard_in, rows_of_block, AlgorithmFails, GuardFails, InputFails, OtherFails, LinkFails, VariablesBegin, VariableFails, RunsClear, RunFails, ChartLies, BlockFails}
 use Rattle.fb_rows.specs.Fitting.{IsKnownLeaf, ChartFails, KindFails}
@@ -42,25 +42,25 @@ use Rattle.fb_rows.proofs.Matching.{source_both}
 
 -- ---- entries and variables
 
-abbrev booked : List Entry → List book.Variable
+abbrev booked : List NamedVariable → List book.Variable
 booked es = map variable_of (map (λ p. declared_of (string_bytes p.0) p.1) es)
 
-all_booked : (T P : Entry → Type 0) (Q : book.Variable → Type 0) (es : List Entry) → AllByRecursion T es → ((e : Entry) → T e → P e → Q (shown e)) → AllByRecursion P es → AllByRecursion Q (booked es)
+all_booked : (T P : NamedVariable → Type 0) (Q : book.Variable → Type 0) (es : List NamedVariable) → AllByRecursion T es → ((e : NamedVariable) → T e → P e → Q (shown e)) → AllByRecursion P es → AllByRecursion Q (booked es)
 all_booked T P Q [] t g h = tt
 all_booked T P Q (e ∷ es) t g h = (g e t.0 h.0, all_booked T P Q es t.1 g h.1)
 
-booked_are : (es : List Entry) → map shown es ≡ booked es
+booked_are : (es : List NamedVariable) → map shown es ≡ booked es
 booked_are [] = refl
 booked_are (e ∷ es) = ap (λ vs. shown e ∷ vs) (booked_are es)
 
-any_booked : (T P : Entry → Type 0) (Q : book.Variable → Type 0) (es : List Entry) → AllByRecursion T es → ((e : Entry) → T e → P e → Q (shown e)) → Any P es → Any Q (booked es)
+any_booked : (T P : NamedVariable → Type 0) (Q : book.Variable → Type 0) (es : List NamedVariable) → AllByRecursion T es → ((e : NamedVariable) → T e → P e → Q (shown e)) → Any P es → Any Q (booked es)
 any_booked T P Q es t g h = subst (Any Q) (booked_are es) (any_image T P Q shown es t g h)
 
 worded : (vs : List book.Variable) → AreWords (variable_names vs) → AllByRecursion (λ (v : book.Variable). IsWord v.name) vs
 worded [] h = tt
 worded (v ∷ vs) h = (h.0, worded vs h.1)
 
-entries_worded : (es : List Entry) → AllByRecursion (λ (v : book.Variable). IsWord v.name) (booked es) → AllByRecursion (λ (e : Entry). IsWord (entry_name e)) es
+entries_worded : (es : List NamedVariable) → AllByRecursion (λ (v : book.Variable). IsWord v.name) (booked es) → AllByRecursion (λ (e : NamedVariable). IsWord (entry_name e)) es
 entries_worded [] h = tt
 entries_worded (e ∷ es) h = (h.0, entries_worded es h.1)
 
@@ -68,7 +68,7 @@ or_true : (b : Bool) → (b || true) ≡ true
 or_true true = refl
 or_true false = refl
 
-listed : (all : List Name) (es : List Entry) → ((x : Name) → is_in x (variable_names (booked es)) ≡ true → is_in x all ≡ true) → AllByRecursion (λ (e : Entry). is_in (entry_name e) all ≡ true) es
+listed : (all : List Name) (es : List NamedVariable) → ((x : Name) → is_in x (variable_names (booked es)) ≡ true → is_in x all ≡ true) → AllByRecursion (λ (e : NamedVariable). is_in (entry_name e) all ≡ true) es
 listed all [] f = tt
 listed all (e ∷ es) f = (
   f (entry_name e) (ap (λ c. c || is_in (entry_name e) (variable_names (booked es))) (name_same (entry_name e))),
@@ -111,14 +111,14 @@ module _ (cert : Certificate) (path : Name) (ls : List Leaf) (is : List Input) (
   others_apart : AllByRecursion (λ (v : book.Variable). IsWord v.name) (booked k.face.outputs.entries) × AllByRecursion (λ (v : book.Variable). IsWord v.name) (booked k.internals.entries)
   others_apart = all_parts (λ (v : book.Variable). IsWord v.name) (booked k.face.outputs.entries) (booked k.internals.entries) words_apart.1
 
-  abbrev pub IsInput : Entry → Type 0
+  abbrev pub IsInput : NamedVariable → Type 0
   IsInput e = IsWord (entry_name e) × (is_in (entry_name e) (variable_names (block_of k).inputs) ≡ true)
 
-  abbrev pub IsNamed : Entry → Type 0
+  abbrev pub IsNamed : NamedVariable → Type 0
   IsNamed e = IsWord (entry_name e)
 
   inputs_known : AllByRecursion IsInput k.face.inputs.entries
-  inputs_known = all_both IsNamed (λ (e : Entry). is_in (entry_name e) (variable_names (block_of k).inputs) ≡ true) k.face.inputs.entries (entries_worded k.face.inputs.entries words_apart.0) (listed (variable_names (block_of k).inputs) k.face.inputs.entries (λ x h. h))
+  inputs_known = all_both IsNamed (λ (e : NamedVariable). is_in (entry_name e) (variable_names (block_of k).inputs) ≡ true) k.face.inputs.entries (entries_worded k.face.inputs.entries words_apart.0) (listed (variable_names (block_of k).inputs) k.face.inputs.entries (λ x h. h))
 
   outputs_known : AllByRecursion IsNamed k.face.outputs.entries
   outputs_known = entries_worded k.face.outputs.entries others_apart.0
@@ -138,16 +138,16 @@ module _ (cert : Certificate) (path : Name) (ls : List Leaf) (is : List Input) (
 
   -- ---- what is so of one
 
-  input_both : (e : Entry) → IsInput e → InputBegins cert path (source_at is) (shown e) ↔ Begins (row_at ranges here (shown e)) (shown e).type (first_input (b.source (shown e).name) (start_of (shown e)))
+  input_both : (e : NamedVariable) → IsInput e → InputBegins cert path (source_at is) (shown e) ↔ Begins (row_at ranges here (shown e)) (shown e).type (first_input (b.source (shown e).name) (start_of (shown e)))
   input_both e t =
       let v = shown e in
       both_ways (same (λ (r : Span). Begins r v.type (first_input (source_at is v.name) (start_of v))) (row_for cert path v) (row_at ranges here v) (row_is cert path v t.0))
       (same (λ (s : wires.Source). Begins (row_at ranges here v) v.type (first_input s (start_of v))) (source_at is v.name) (b.source v.name) (sources_are v.name t.1))
 
-  other_both : (e : Entry) → IsNamed e → OtherBegins cert path (shown e) ↔ Begins (row_at ranges here (shown e)) (shown e).type (start_of (shown e))
+  other_both : (e : NamedVariable) → IsNamed e → OtherBegins cert path (shown e) ↔ Begins (row_at ranges here (shown e)) (shown e).type (start_of (shown e))
   other_both e t = let v = shown e in same (λ (r : Span). Begins r v.type (start_of v)) (row_for cert path v) (row_at ranges here v) (row_is cert path v t)
 
-  link_both : (e : Entry) → IsInput e → LinkLies cert path ls (source_at is) (shown e) ↔ SourceFits ranges bs (row_at ranges here (shown e)) (b.source (shown e).name)
+  link_both : (e : NamedVariable) → IsInput e → LinkLies cert path ls (source_at is) (shown e) ↔ SourceFits ranges bs (row_at ranges here (shown e)) (b.source (shown e).name)
   link_both e t =
       let v = shown e in
       both_ways (same (λ (r : Span). SourceLies cert ls r (source_at is v.name)) (row_for cert path v) (row_at ranges here v) (row_is cert path v t.0))
@@ -166,19 +166,19 @@ module _ (cert : Certificate) (path : Name) (ls : List Leaf) (is : List Input) (
       record {
         rows_fit =
             all_append fits (booked k.face.inputs.entries) (booked k.face.outputs.entries ++ booked k.internals.entries)
-            (all_booked IsInput (λ (e : Entry). InputBegins cert path (source_at is) (shown e)) fits k.face.inputs.entries inputs_known (λ e t h. ((input_both e t).0 h).0) c.variables.inputs)
+            (all_booked IsInput (λ (e : NamedVariable). InputBegins cert path (source_at is) (shown e)) fits k.face.inputs.entries inputs_known (λ e t h. ((input_both e t).0 h).0) c.variables.inputs)
             (all_append fits (booked k.face.outputs.entries) (booked k.internals.entries)
-            (all_booked IsNamed (λ (e : Entry). OtherBegins cert path (shown e)) fits k.face.outputs.entries outputs_known (λ e t h. ((other_both e t).0 h).0) c.variables.outputs)
-            (all_booked IsNamed (λ (e : Entry). OtherBegins cert path (shown e)) fits k.internals.entries internals_known (λ e t h. ((other_both e t).0 h).0) c.variables.internals));
+            (all_booked IsNamed (λ (e : NamedVariable). OtherBegins cert path (shown e)) fits k.face.outputs.entries outputs_known (λ e t h. ((other_both e t).0 h).0) c.variables.outputs)
+            (all_booked IsNamed (λ (e : NamedVariable). OtherBegins cert path (shown e)) fits k.internals.entries internals_known (λ e t h. ((other_both e t).0 h).0) c.variables.internals));
         inputs_begin =
-            all_booked IsInput (λ (e : Entry). InputBegins cert path (source_at is) (shown e)) (λ (v : book.Variable). Rattle.fb_model.specs.Ranges.HoldsIn (row_at ranges here v) (first_input (b.source v.name) (start_of v))) k.face.inputs.entries inputs_known
+            all_booked IsInput (λ (e : NamedVariable). InputBegins cert path (source_at is) (shown e)) (λ (v : book.Variable). Rattle.fb_model.specs.Ranges.HoldsIn (row_at ranges here v) (first_input (b.source v.name) (start_of v))) k.face.inputs.entries inputs_known
             (λ e t h. ((input_both e t).0 h).1) c.variables.inputs;
         others_begin =
             all_append begins (booked k.face.outputs.entries) (booked k.internals.entries)
-            (all_booked IsNamed (λ (e : Entry). OtherBegins cert path (shown e)) begins k.face.outputs.entries outputs_known (λ e t h. ((other_both e t).0 h).1) c.variables.outputs)
-            (all_booked IsNamed (λ (e : Entry). OtherBegins cert path (shown e)) begins k.internals.entries internals_known (λ e t h. ((other_both e t).0 h).1) c.variables.internals);
+            (all_booked IsNamed (λ (e : NamedVariable). OtherBegins cert path (shown e)) begins k.face.outputs.entries outputs_known (λ e t h. ((other_both e t).0 h).1) c.variables.outputs)
+            (all_booked IsNamed (λ (e : NamedVariable). OtherBegins cert path (shown e)) begins k.internals.entries internals_known (λ e t h. ((other_both e t).0 h).1) c.variables.internals);
         links =
-            all_booked IsInput (λ (e : Entry). LinkLies cert path ls (source_at is) (shown e)) (λ (v : book.Variable). SourceFits ranges bs (row_at ranges here v) (b.source v.name)) k.face.inputs.entries inputs_known
+            all_booked IsInput (λ (e : NamedVariable). LinkLies cert path ls (source_at is) (shown e)) (λ (v : book.Variable). SourceFits ranges bs (row_at ranges here v) (b.source v.name)) k.face.inputs.entries inputs_known
             (λ e t h. (link_both e t).0 h) c.links;
         algorithms =
             all_image (λ (p : Procedure). IsWord (procedure_name p)) (λ (p : Procedure). IsClearAlgorithm (rows_of_block cert path k) (procedure_text p)) (λ (p : book.Procedure). IsClearAlgorithm (rows ranges here (Charted (block_of k))) p.algorithm) _ k.procedures.entries algorithms_known

@@ -30,7 +30,7 @@ use Rattle.fb_flat.proofs.Dotted.{names_dotted}
 use Rattle.fb_ranges.proofs.Joins.{reset_push}
 use Rattle.fb_rows.specs.Rows.{row_in, row_for, type_in, typed_row, numbers_in, rows_in}
 use Rattle.fb_rows.specs.Places.{or_else}
-use Rattle.fb_rows.specs.Beginning.{Entry, entry_name}
+use Rattle.fb_rows.specs.Beginning.{NamedVariable, entry_name}
 use Rattle.fb_rows.proofs.Lists.{take_get}
 
 -- ---- types by names
@@ -118,7 +118,7 @@ all_set cert path xs ys zs = fun_ext (λ x. by x (is_in x (variable_names zs)) (
   by x false false false e f g = sym (ap (typed_row cert path x) (none x e f g))
 
 -- the variable of the next entry gets its row
-pub next_entry : (es : List Entry) (i : ℕ) (e : Entry) (r before now old : Spans) (x y : Name) (s : Span)
+pub next_entry : (es : List NamedVariable) (i : ℕ) (e : NamedVariable) (r before now old : Spans) (x y : Name) (s : Span)
     → Some e ≡ slice_get es i → x ≡ string_bytes e.0 → y ≡ string_bytes e.0 → s ≡ r y → before ≡ reset (map entry_name (take i es)) r old → now ≡ changed x (λ b. s) before
     → now ≡ reset (map entry_name (take (i + 1) es)) r old
 next_entry es i e r before now old x y s is name other row start put =
@@ -128,12 +128,12 @@ next_entry es i e r before now old x y s is name other row start put =
     ∙ sym (reset_push (map entry_name (take i es)) (string_bytes e.0) r old)
     ∙ ap (λ ns. reset ns r old) (sym (ap (map entry_name) (take_get es i e is) ∙ map_push entry_name (take i es) e))
 
-entries_named : (es : List Entry) → map entry_name es ≡ variable_names (map variable_of (map (λ p. declared_of (string_bytes p.0) p.1) es))
+entries_named : (es : List NamedVariable) → map entry_name es ≡ variable_names (map variable_of (map (λ p. declared_of (string_bytes p.0) p.1) es))
 entries_named [] = refl
 entries_named (e ∷ es) = ap (λ ns. string_bytes e.0 ∷ ns) (entries_named es)
 
 -- at the end all have their rows
-pub all_entries : (es : List Entry) (i : ℕ) → length es ≤ i → map entry_name (take i es) ≡ variable_names (map variable_of (map (λ p. declared_of (string_bytes p.0) p.1) es))
+pub all_entries : (es : List NamedVariable) (i : ℕ) → length es ≤ i → map entry_name (take i es) ≡ variable_names (map variable_of (map (λ p. declared_of (string_bytes p.0) p.1) es))
 all_entries es i h = ap (map entry_name) (take_all i es h) ∙ entries_named es
 
 -- ---- types of ports

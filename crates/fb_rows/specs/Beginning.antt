@@ -20,14 +20,14 @@ use Rattle.fb_rows.specs.Rows.{row_for}
 use Rattle.fb_rows.specs.Places.{SourceLies}
 
 -- a variable of the tables: its name, and what is declared of it
-abbrev pub Entry : Type 0
-Entry = String Global × Variable
+abbrev pub NamedVariable : Type 0
+NamedVariable = String Global × Variable
 
-abbrev pub entry_name : Entry → Name
+abbrev pub entry_name : NamedVariable → Name
 entry_name e = string_bytes e.0
 
 -- the same in the book
-abbrev pub shown : Entry → book.Variable
+abbrev pub shown : NamedVariable → book.Variable
 shown e = variable_of (declared_of (string_bytes e.0) e.1)
 
 -- a value lies in a row where this range does

@@ -20,7 +20,7 @@ use Rattle.fb_flat.specs.st_types.Views.{term_of}
 use Rattle.fb_flat.specs.st_types.CommandViews.{commands_of}
 use Rattle.fb_rows.specs.Rows.{rows_in}
 use Rattle.fb_rows.specs.Reasons.{Reason, Starts, Links, Keeps, Divides, Lacks, OneFails}
-use Rattle.fb_rows.specs.Beginning.{Entry, entry_name, shown, InputBegins, OtherBegins, LinkLies}
+use Rattle.fb_rows.specs.Beginning.{NamedVariable, entry_name, shown, InputBegins, OtherBegins, LinkLies}
 
 -- ---- algorithms and guards
 
@@ -54,20 +54,20 @@ guard_in t = option_map term_of t.guard
 abbrev pub rows_of_block : Certificate → Name → Block → Spans
 rows_of_block cert path k = rows_in cert path (Charted (block_of k))
 
-abbrev pub InputFails : Certificate → Name → (Name → wires.Source) → Entry → Reason → Type 0
+abbrev pub InputFails : Certificate → Name → (Name → wires.Source) → NamedVariable → Reason → Type 0
 InputFails cert path source e = Lacks Starts (InputBegins cert path source (shown e))
 
-abbrev pub OtherFails : Certificate → Name → Entry → Reason → Type 0
+abbrev pub OtherFails : Certificate → Name → NamedVariable → Reason → Type 0
 OtherFails cert path e = Lacks Starts (OtherBegins cert path (shown e))
 
-abbrev pub LinkFails : Certificate → Name → List Leaf → (Name → wires.Source) → Entry → Reason → Type 0
+abbrev pub LinkFails : Certificate → Name → List Leaf → (Name → wires.Source) → NamedVariable → Reason → Type 0
 LinkFails cert path ls source e = Lacks Links (LinkLies cert path ls source (shown e))
 
 -- the rows of a block's variables lie in their types and hold what these have at first, where its inputs have these sources
 pub record VariablesBegin (cert : Certificate) (path : Name) (source : Name → wires.Source) (k : Block) : Type 0 where
-  pub inputs : AllByRecursion (λ (e : Entry). InputBegins cert path source (shown e)) k.face.inputs.entries
-  pub outputs : AllByRecursion (λ (e : Entry). OtherBegins cert path (shown e)) k.face.outputs.entries
-  pub internals : AllByRecursion (λ (e : Entry). OtherBegins cert path (shown e)) k.internals.entries
+  pub inputs : AllByRecursion (λ (e : NamedVariable). InputBegins cert path source (shown e)) k.face.inputs.entries
+  pub outputs : AllByRecursion (λ (e : NamedVariable). OtherBegins cert path (shown e)) k.face.outputs.entries
+  pub internals : AllByRecursion (λ (e : NamedVariable). OtherBegins cert path (shown e)) k.internals.entries
 
 -- a variable of this name fails
 abbrev pub VariableFails : Certificate → Name → (Name → wires.Source) → Block → Reason → Name → Type 0
@@ -90,7 +90,7 @@ RunFails cert path k reason x =
 -- the rows of a block are clear
 pub record ChartLies (cert : Certificate) (path : Name) (ls : List Leaf) (source : Name → wires.Source) (k : Block) : Type 0 where
   pub variables : VariablesBegin cert path source k
-  pub links : AllByRecursion (λ (e : Entry). LinkLies cert path ls source (shown e)) k.face.inputs.entries
+  pub links : AllByRecursion (λ (e : NamedVariable). LinkLies cert path ls source (shown e)) k.face.inputs.entries
   pub runs : RunsClear cert path k
 
 -- something of this name in the block fails

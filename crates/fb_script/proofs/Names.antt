@@ -14,8 +14,8 @@ use Rattle.fb_model.specs.Devices.{Event, Machine, Happens}
 use Rattle.fb_device.specs.fb_check.Lookups.{is_same_path}
 use Rattle.fb_device.specs.fb_tables.Views.{place_at, place_in}
 use Rattle.fb_device.specs.Answers.{IsNamed, IsNoPoint, IsNumberOf, IsNoNumber}
-use Rattle.fb_device.specs.fb_dispatch.Answers.{turned_of, end_of}
-use Rattle.fb_device.specs.fb_serve.Turns.{effect_of}
+use Rattle.fb_device.specs.fb_dispatch.Answers.{dispatched_of, end_of}
+use Rattle.fb_device.specs.fb_serve.Responses.{effect_of}
 use Rattle.fb_device.specs.fb_arrive.Answers.{denial_of}
 use Rattle.fb_device.specs.fb_arrive.declared.denied.Denied.{Denied}
 use Rattle.fb_device.specs.fb_arrive.declared.denied.Denied.TheVariants as d
@@ -25,7 +25,7 @@ use Rattle.fb_device.specs.fb_serve.declared.standing.Effect.{Effect as Outside}
 use Rattle.fb_device.specs.fb_serve.declared.standing.Effect.TheVariants as outside
 use Rattle.fb_device.specs.fb_tables.Tables.{IsPoint}
 use Rattle.fb_device.specs.fb_dispatch.declared.answer.Ran.{Ran as RanRecord}
-use Rattle.fb_device.specs.fb_dispatch.declared.answer.Turned.TheVariants as turned
+use Rattle.fb_device.specs.fb_dispatch.declared.answer.Dispatched.TheVariants as dispatched
 use Rattle.fb_script.specs.Lines.{Offer, Tick, Dispatch}
 use Rattle.fb_script.specs.Playing.{Asks, Plays}
 use Rattle.fb_script.specs.Texts.{place_text, values_text, effect_text, end_text, outside_text, done_text, ended_text, denial_text, why_text, told_text, answer_text}
@@ -52,7 +52,7 @@ same_effect send (Some e) = by e.now
 
 -- a run is told by its names
 pub run_told : (all : List Leaf) (r : RanRecord) (path event : Bor (List ℕ)) (effect : Option (Bor Outside)) (send : ℕ) → IsNamed all r.block r.event path.now event.now → option_copied effect ≡ r.effect
-    → told_text (told.Ran r.cause path event r.steps effect send r.ended) ≡ answer_text send (turned_of all (turned.Ran r))
+    → told_text (told.Ran r.cause path event r.steps effect send r.ended) ≡ answer_text send (dispatched_of all (dispatched.Ran r))
 run_told all r path event effect send n lent =
     ap (λ t. codes "ran " ++ t ++ codes " steps " ++ decimal r.steps ++ done_text effect send ++ ended_text r.ended) (sym (place_named all r.block r.event path.now event.now n))
     ∙ ap (λ t. codes "ran " ++ place_text (place_at all (record { block = r.block; event = r.event })) ++ codes " steps " ++ decimal r.steps ++ t ++ ended_text r.ended)

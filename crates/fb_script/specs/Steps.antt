@@ -7,7 +7,7 @@ use Rattle.fb_device.specs.Sessions.{Session}
 use Rattle.fb_device.specs.Machines.{device_in, cert_in, machine_of}
 use Rattle.fb_device.specs.declared.answer.Answer.{Answer as Reply}
 use Rattle.fb_device.specs.declared.answer.Answer.TheVariants as r
-use Rattle.fb_device.specs.fb_dispatch.declared.answer.Turned.TheVariants as turned
+use Rattle.fb_device.specs.fb_dispatch.declared.answer.Dispatched.TheVariants as dispatched
 use Rattle.fb_device.specs.fb_serve.declared.standing.Effect.TheVariants as outside
 use Rattle.fb_script.specs.Lines.{Command}
 use Rattle.fb_script.specs.Playing.{Asks, Plays, IsBad}
@@ -24,8 +24,8 @@ IsWritten send answer before after = Appends before after (answer_text send answ
 abbrev pub sends : Reply → Bool
 sends (r.Admitted answer) = false
 sends (r.Fired count) = false
-sends (r.Served turned.Idle) = false
-sends (r.Served (turned.Ran ran)) = elim ran.effect [ None ↦ false | Some e ↦ elim e [ outside.Send message ↦ true | outside.Write number values ↦ false ] ]
+sends (r.Served dispatched.Idle) = false
+sends (r.Served (dispatched.Ran ran)) = elim ran.effect [ None ↦ false | Some e ↦ elim e [ outside.Send message ↦ true | outside.Write number values ↦ false ] ]
 
 -- nothing happens
 abbrev pub Stays : Session → Option (List ℕ) → Option (List ℕ) → Session → Type 0

@@ -6,15 +6,15 @@ ghost use Rattle.fb_model.specs.Wires.{leaves};
 ghost use Rattle.fb_device.specs.fb_check.Lookups.{is_same_path};
 ghost use Rattle.fb_device.specs.Machines.{device_in, cert_in, machine_of};
 ghost use Rattle.fb_device.specs.Answers.{answer_of, HasPlace};
-ghost use Rattle.fb_device.specs.fb_dispatch.Answers.{turned_of, HasPoint};
-ghost use Rattle.fb_device.specs.fb_dispatch.declared.answer.Turned.TheVariants as turned;
+ghost use Rattle.fb_device.specs.fb_dispatch.Answers.{dispatched_of, HasPoint};
+ghost use Rattle.fb_device.specs.fb_dispatch.declared.answer.Dispatched.TheVariants as dispatched;
 ghost use Rattle.fb_script.specs.Lines as book;
 ghost use Rattle.fb_script.specs.Views.{command_of, IsPlayed};
 ghost use Rattle.fb_script.specs.Texts.{told_text, answer_text};
 
 use crate::line::Line;
 use crate::told::Told;
-use fb_device::{Answer, Device, Ran, Turned};
+use fb_device::{Answer, Device, Dispatched, Ran};
 
 // Whether this is the device's name. Letter case has no meaning in it.
 fn is_named(device: &Device, name: &str) -> bool
@@ -82,7 +82,7 @@ pub fn play(device: &mut Device, line: &Line<'_>) -> Option<Answer>
 
 // A block that ran, by its names.
 fn tell_run<'a>(device: &'a Device, ran: &'a Ran, send: u64) -> Told<'a>
-    ensures { HasPoint (leaves (device_in device.now)) (turned.Ran ran.now) → told_text result ≡ answer_text send (turned_of (leaves (device_in device.now)) (turned.Ran ran.now)) }
+    ensures { HasPoint (leaves (device_in device.now)) (dispatched.Ran ran.now) → told_text result ≡ answer_text send (dispatched_of (leaves (device_in device.now)) (dispatched.Ran ran.now)) }
 {
     match device.path(ran.block, ran.event) {
         Some((path, event)) => Told::Ran {
@@ -113,8 +113,8 @@ pub fn tell<'a>(device: &'a Device, answer: &'a Answer, send: u64) -> Told<'a>
     match answer {
         Answer::Admitted(Ok(cause)) => Told::Admitted(*cause),
         Answer::Admitted(Err(why)) => Told::Denied(*why),
-        Answer::Served(Turned::Idle) => Told::Idle,
+        Answer::Served(Dispatched::Idle) => Told::Idle,
         Answer::Fired(count) => Told::Fired(*count),
-        Answer::Served(Turned::Ran(ran)) => tell_run(device, ran, send),
+        Answer::Served(Dispatched::Ran(ran)) => tell_run(device, ran, send),
     }
 }

@@ -10,7 +10,7 @@ ghost use Rattle.fb_script.specs.Runs.{IsRun};
 
 use crate::line::{Line, LineFault, read_line};
 use crate::playing::{play, tell};
-use fb_device::{Answer, Device, Effect, Turned};
+use fb_device::{Answer, Device, Dispatched, Effect};
 use std::alloc::Global;
 use std::io;
 use std::io::Write;
@@ -45,7 +45,7 @@ fn has_sent(answer: &Answer) -> bool
     ensures { result ≡ sends answer.now }
 {
     match answer {
-        Answer::Served(Turned::Ran(ran)) => match &ran.effect {
+        Answer::Served(Dispatched::Ran(ran)) => match &ran.effect {
             Some(Effect::Send(_)) => true,
             _ => false,
         },

@@ -27,7 +27,7 @@ use Rattle.fb_chart.proofs.Acting.{in_front, in_back}
 use Rattle.fb_chart.specs.Sampling.{AreStores}
 use Rattle.fb_serve.specs.declared.standing.Ports.{Ports}
 use Rattle.fb_serve.specs.Ports.{sends, receives, slots_of}
-use Rattle.fb_serve.specs.Serving.{CanTurn}
+use Rattle.fb_serve.specs.Serving.{CanReply}
 use Rattle.fb_serve.proofs.Replies.{numbered_length}
 
 -- ---- how many
@@ -51,7 +51,7 @@ pub few_values : (types : List ElemType) (vs : List ℤ) → (vs ≡ []) ⊎ (al
 few_values types vs (inl e) = omega (arith, ap length e)
 few_values types vs (inr e) = all_in_length types vs e
 
-module _ (service : book.Service) (p : Ports) (forms : List Form) (values : List ℤ) (can : CanTurn service p forms values) where
+module _ (service : book.Service) (p : Ports) (forms : List Form) (values : List ℤ) (can : CanReply service p forms values) where
   pub message_fits : length values ≤ length p.received.items
   message_fits = omega (arith, can.message, ap length can.ports.received, length-map (numbered received 1 (receives service)) (plain_slot forms), numbered_length received 1 (receives service))
 

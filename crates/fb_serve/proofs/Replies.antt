@@ -15,9 +15,9 @@ use Rattle.fb_model.specs.Serving.{Effect, Send, Reply, bit, is_true, is_ready, 
 use Rattle.fb_model.proofs.Names.{eq_turned}
 use Rattle.fb_chart.specs.Views.{named}
 use Rattle.fb_serve.specs.Ports.{received_in, numbers_at}
-use Rattle.fb_serve.specs.Turns.{condition_of, effect_of, outs_at, leaf_of, turned}
+use Rattle.fb_serve.specs.Responses.{condition_of, effect_of, outs_at, leaf_of, responded}
 use Rattle.fb_serve.specs.declared.standing.Standing.{Standing}
-use Rattle.fb_serve.specs.declared.standing.Turn.{Turn}
+use Rattle.fb_serve.specs.declared.standing.Response.{Response}
 
 pub setting_is : (values : Values) (x : Name) (v : Value) → setting values x v ≡ set_value x v values
 setting_is values x v = fun_ext (λ y. ap (λ e. if e then v else values y) (eq_turned x y))
@@ -43,9 +43,9 @@ typed_numbers n (t ∷ types) own = ap (λ vs. number_of (own (sent n)) ∷ vs) 
 abbrev replied : Service → List Name → Option Effect → Values → Values → Condition → Reply
 replied service outs effect own issued condition = emits service outs effect (record { cells = record { own = own; issued = issued }; condition = condition })
 
-pub opened_is : (service : Service) (t : Turn) (own own' issued : Values) (standing : Standing) → outs_at service (Some 0) ≡ inito ∷ []
+pub opened_is : (service : Service) (t : Response) (own own' issued : Values) (standing : Standing) → outs_at service (Some 0) ≡ inito ∷ []
     → condition_of t.standing ≡ (if is_true (own qi) then Ready (stamps_of (condition_of standing)) else Closed (stamps_of (condition_of standing))) → t.output ≡ Some 0 → t.effect ≡ None
-    → own' ≡ setting own qo (bit (is_true (own qi))) → opened service (leaf_of own issued standing) ≡ turned service t own' issued
+    → own' ≡ setting own qo (bit (is_true (own qi))) → opened service (leaf_of own issued standing) ≡ responded service t own' issued
 opened_is service t own own' issued standing outs h o f e =
     ap (λ v. replied service (inito ∷ []) None v issued (if q then Ready kept else Closed kept)) (sym (e ∙ setting_is own qo (bit q)))
     ∙ ap (λ c. replied service (inito ∷ []) None own' issued c) (sym h)
@@ -62,10 +62,10 @@ opened_is service t own own' issued standing outs h o f e =
 abbrev pub message_of : Channel → List ElemType → Values → Stamps → Message
 message_of channel types own stamps = record { purpose = To_channel; number = channel.number; stamp = stamped stamps; values = typed_values 1 types own }
 
-pub published_is : (channel : Channel) (types : List ElemType) (t : Turn) (own own' issued : Values) (standing : Standing)
+pub published_is : (channel : Channel) (types : List ElemType) (t : Response) (own own' issued : Values) (standing : Standing)
     → condition_of t.standing ≡ (if can_send (condition_of standing) && is_true (own qi) then Ready (after_send (stamps_of (condition_of standing))) else condition_of standing) → t.output ≡ Some 1
     → effect_of t.effect ≡ (if can_send (condition_of standing) && is_true (own qi) then Some (Send (message_of channel types own (stamps_of (condition_of standing)))) else None)
-    → own' ≡ setting own qo (bit (can_send (condition_of standing) && is_true (own qi))) → published channel types (leaf_of own issued standing) ≡ turned (Publish channel types) t own' issued
+    → own' ≡ setting own qo (bit (can_send (condition_of standing) && is_true (own qi))) → published channel types (leaf_of own issued standing) ≡ responded (Publish channel types) t own' issued
 published_is channel types t own own' issued standing h o f e =
     ap (λ v. replied service (cnf ∷ []) (if q then Some (Send (message_of channel types own kept)) else None) v issued (if q then Ready (after_send kept) else condition_of standing)) (sym (e ∙ setting_is own qo (bit q)))
     ∙ ap (λ c. replied service (cnf ∷ []) (if q then Some (Send (message_of channel types own kept)) else None) own' issued c) (sym h)
@@ -81,18 +81,18 @@ published_is channel types t own own' issued standing h o f e =
     kept : Stamps
     kept = stamps_of (condition_of standing)
 
-pub subscribed_is : (channel : Channel) (types : List ElemType) (t : Turn) (values : List ℤ) (own own' issued : Values) (standing : Standing) → length values ≤ length types
+pub subscribed_is : (channel : Channel) (types : List ElemType) (t : Response) (values : List ℤ) (own own' issued : Values) (standing : Standing) → length values ≤ length types
     → t ≡ record { standing = standing; output = (if is_ready (condition_of standing) then Some 1 else None); effect = None }
     → own' ≡ (if is_ready (condition_of standing) then received_in (numbered received 1 types) values (setting own qo (bit true)) else own)
-    → subscribed channel types values (leaf_of own issued standing) ≡ turned (Subscribe channel types) t own' issued
+    → subscribed channel types values (leaf_of own issued standing) ≡ responded (Subscribe channel types) t own' issued
 subscribed_is channel types t values own own' issued standing few h e =
-    by (is_ready (condition_of standing)) ∙ ap (λ v. turned service (record { standing = standing; output = (if is_ready (condition_of standing) then Some 1 else None); effect = None }) v issued) (sym e) ∙ ap (λ t. turned service t own' issued) (sym h)
+    by (is_ready (condition_of standing)) ∙ ap (λ v. responded service (record { standing = standing; output = (if is_ready (condition_of standing) then Some 1 else None); effect = None }) v issued) (sym e) ∙ ap (λ t. responded service t own' issued) (sym h)
   where
     service : Service
     service = Subscribe channel types
 
     by : (r : Bool) → (if r then replied service (ind ∷ []) None (receive 1 values (set_value qo (bit true) own)) issued (condition_of standing) else replied service [] None own issued (condition_of standing))
-        ≡ turned service (record { standing = standing; output = (if r then Some 1 else None); effect = None }) (if r then received_in (numbered received 1 types) values (setting own qo (bit true)) else own) issued
+        ≡ responded service (record { standing = standing; output = (if r then Some 1 else None); effect = None }) (if r then received_in (numbered received 1 types) values (setting own qo (bit true)) else own) issued
     by true = ap (λ v. replied service (ind ∷ []) None v issued (condition_of standing)) (ap (receive 1 values) (sym (setting_is own qo (bit true))) ∙ sym (receive_is 1 types values (setting own qo (bit true)) few))
     by false = refl
 

@@ -27,10 +27,10 @@ use Rattle.fb_chart.proofs.Naming.{named_stands}
 use Rattle.fb_chart.proofs.Acting.{in_front, in_back, sent_emission, issued_emission, output_in}
 use Rattle.fb_serve.specs.declared.standing.Ports.{Ports}
 use Rattle.fb_serve.specs.declared.standing.Standing.{Standing}
-use Rattle.fb_serve.specs.declared.standing.Turn.{Turn}
+use Rattle.fb_serve.specs.declared.standing.Response.{Response}
 use Rattle.fb_serve.specs.Ports.{receives}
-use Rattle.fb_serve.specs.Turns.{Replies, event_at, outs_at, leaf_of, effect_of, condition_of}
-use Rattle.fb_serve.specs.Serving.{CanServe, CanTurn, HasServed}
+use Rattle.fb_serve.specs.Responses.{Replies, event_at, outs_at, leaf_of, effect_of, condition_of}
+use Rattle.fb_serve.specs.Serving.{CanServe, CanReply, HasServed}
 use Rattle.fb_serve.proofs.Placing.{few_values, output_within, received_within, gives_out}
 
 -- a reply emits nothing, or all of these
@@ -74,8 +74,8 @@ reply_outs book.Restart clock e values s = inr refl
 -- ---- a service with its outputs and its stores
 
 module _ (service : book.Service) (p : Ports) (outputs : List Output) (own issued : List Form) (can : CanServe service p outputs own issued) where
-  pub can_turn : (values : List ℤ) → IsMessage (Serviced service) values → CanTurn service p own values
-  can_turn values h = record {
+  pub can_reply : (values : List ℤ) → IsMessage (Serviced service) values → CanReply service p own values
+  can_reply values h = record {
     few = can.few;
     ports = can.ports;
     quality_out = λ e. subst (λ (n : ℕ). n < size_of own) (sym can.ports.quality_out) (output_within service own issued can.stores qo e);
@@ -123,7 +123,7 @@ module _ (service : book.Service) (p : Ports) (outputs : List Output) (own issue
     issued_are : (own issued : Values) → issue_all (Serviced service) (outs_at service k) (record { own = own; issued = issued }) ≡ record { own = own; issued = issued_by outputs k own issued }
     issued_are own issued = ap (λ os. issue_all (Serviced service) os (record { own = own; issued = issued })) (outs_are k) ∙ issued_emission (Serviced service) outputs (name_at k) k own issued can.gives (optional k known)
 
-  module _ (clock event : ℕ) (values : List ℤ) (before after issued' : Values) (standing : Standing) (t : Turn) (is : Replies service clock event values before after issued' standing t) (known : IfSome t.output (λ n. n < length (service_event_outputs service))) where
+  module _ (clock event : ℕ) (values : List ℤ) (before after issued' : Values) (standing : Standing) (t : Response) (is : Replies service clock event values before after issued' standing t) (known : IfSome t.output (λ n. n < length (service_event_outputs service))) where
     outs_is : (reply service clock (event_at service event) values (leaf_of before issued' standing)).outs ≡ outs_at service t.output
     outs_is = ap (λ (r : Reply). r.outs) is
 

@@ -4,5 +4,5 @@ pub use Rattle.fb_chart.specs as fb_chart
 pub use Rattle.st_run.specs as st_run
 pub use Rattle.st_exec.specs as st_exec
 pub mod Ports
-pub mod Turns
+pub mod Responses
 pub mod Serving

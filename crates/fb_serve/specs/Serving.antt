@@ -36,7 +36,7 @@ pub record CanServe (service : Service) (p : Ports) (outputs : List Output) (own
   pub placed : AllByRecursion (IsPlacedOutput own issued) outputs
 
 -- a service with its slots, which the values of its data outputs fit in
-pub record CanTurn (service : Service) (p : Ports) (own : List Form) (values : List ℤ) : Type 0 where
+pub record CanReply (service : Service) (p : Ports) (own : List Form) (values : List ℤ) : Type 0 where
   pub few : length (values_of service) ≤ most_values
   pub ports : ArePorts service own p
   pub quality_out : is_in qo (variable_names (service_outputs service)) ≡ true → p.quality_out < size_of own

@@ -7,11 +7,11 @@ ghost use Rattle.fb_model.specs.Ranges.{IsMessage};
 ghost use Rattle.fb_services.specs.Views.{service_of};
 ghost use Rattle.st_exec.specs.Cells.{values_of, forms_of};
 ghost use Rattle.fb_chart.specs.Sending.{sent_to};
-ghost use Rattle.fb_serve.specs.Turns.{event_at, leaf_of, effect_of};
+ghost use Rattle.fb_serve.specs.Responses.{event_at, leaf_of, effect_of};
 ghost use Rattle.fb_serve.specs.Serving.{SendsFit, CanServe, HasServed};
 
+use crate::response::reply;
 use crate::standing::{Effect, Ports, Standing};
-use crate::turn::reply;
 use fb_chart::{Emit, Output, Store, send};
 use fb_services::Service;
 
@@ -40,7 +40,7 @@ pub fn serve<E: Emit>(
     ensures room { E.room emit.old + length (E.sent emit.old) ≡ E.room emit.new + length (E.sent emit.new) }
     ensures same_reference { E.reference emit.new ≡ E.reference emit.old }
 {
-    let turn = reply(service, ports, event, values, clock, standing, own);
-    send(outputs, turn.output, own, issued, emit);
-    (turn.standing, turn.effect)
+    let response = reply(service, ports, event, values, clock, standing, own);
+    send(outputs, response.output, own, issued, emit);
+    (response.standing, response.effect)
 }

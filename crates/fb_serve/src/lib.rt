@@ -4,10 +4,10 @@
 
 mod dispatch;
 mod quality;
+mod response;
 mod standing;
 mod timer;
 mod transfer;
-mod turn;
 
 pub use dispatch::serve;
 pub use fb_wire;

@@ -12,9 +12,9 @@ ghost use Rattle.fb_model.specs.Serving as book;
 ghost use Rattle.st_exec.specs.Cells.{values_of, forms_of};
 ghost use Rattle.st_run.specs.Kept.{plain_slot_of, room_of};
 ghost use Rattle.fb_serve.specs.Ports.{slots_of, received_in};
-ghost use Rattle.fb_serve.specs.Turns.{stamps_in, condition_of, effect_of};
+ghost use Rattle.fb_serve.specs.Responses.{stamps_in, condition_of, effect_of};
 
-use crate::standing::{Effect, Ports, Stamps, Standing, Turn, silent};
+use crate::standing::{Effect, Ports, Response, Stamps, Standing, silent};
 use crate::transfer::{is_set, receive, set_bit};
 use fb_chart::Store;
 use fb_wire::{Message, Purpose, Stamp, Typed};
@@ -69,7 +69,7 @@ fn after_send(stamps: Stamps) -> Stamps
 }
 
 // INIT opens a service where QI is true, else closes it; what is kept of stamps stays. QO says which, and INITO is emitted.
-pub(crate) fn open(ports: &Ports, standing: Standing, own: &mut Store) -> Turn
+pub(crate) fn open(ports: &Ports, standing: Standing, own: &mut Store) -> Response
     requires quality_in { ports.now.quality_in ≡ plain_slot_of own.old qi }
     requires quality_out { ports.now.quality_out ≡ plain_slot_of own.old qo }
     requires within { ports.now.quality_out < room_of own.old }
@@ -82,7 +82,7 @@ pub(crate) fn open(ports: &Ports, standing: Standing, own: &mut Store) -> Turn
     let stamps = stamps_of(standing);
     let quality = is_set(own, ports.quality_in);
     set_bit(own, ports.quality_out, quality);
-    Turn {
+    Response {
         standing: if quality {
             Standing::Ready(stamps)
         } else {
@@ -133,7 +133,7 @@ fn sending(
     slots: &[usize],
     standing: Standing,
     own: &Store,
-) -> Turn
+) -> Response
     requires few { length types.now ≤ 16 }
     requires slots { slots.now ≡ slots_of (forms_of own.now) (numbered sent 1 types.now) }
     requires fit { AllByRecursion (λ v. in_type v.type v.value ≡ true) (book.typed_values 1 types.now (values_of own.now)) }
@@ -142,7 +142,7 @@ fn sending(
     ensures effect { effect_of result.effect ≡ (if sends then Some (book.Send (record { purpose = To_channel; number = channel; stamp = book.stamped (book.stamps_of (condition_of standing)); values = book.typed_values 1 types.now (values_of own.now) })) else None) }
 {
     if !sends {
-        return Turn {
+        return Response {
             standing,
             output: Some(1),
             effect: None,
@@ -150,7 +150,7 @@ fn sending(
     }
     let stamps = stamps_of(standing);
     let effect = Effect::Send(message(channel, types, slots, stamps, own));
-    Turn {
+    Response {
         standing: Standing::Ready(after_send(stamps)),
         output: Some(1),
         effect: Some(effect),
@@ -164,7 +164,7 @@ pub(crate) fn publish(
     ports: &Ports,
     standing: Standing,
     own: &mut Store,
-) -> Turn
+) -> Response
     requires quality_in { ports.now.quality_in ≡ plain_slot_of own.old qi }
     requires quality_out { ports.now.quality_out ≡ plain_slot_of own.old qo }
     requires within { ports.now.quality_out < room_of own.old }
@@ -178,18 +178,23 @@ pub(crate) fn publish(
     ensures forms { forms_of own.new ≡ forms_of own.old }
 {
     let sends = can_send(standing) && is_set(own, ports.quality_in);
-    let turn = sending(sends, channel, types, &ports.sent, standing, own);
+    let response = sending(sends, channel, types, &ports.sent, standing, own);
     set_bit(own, ports.quality_out, sends);
-    turn
+    response
 }
 
 // An arrival where the service is open: QO becomes true, the values are received, and IND is emitted.
-pub(crate) fn subscribe(ports: &Ports, values: &[i64], standing: Standing, own: &mut Store) -> Turn
+pub(crate) fn subscribe(
+    ports: &Ports,
+    values: &[i64],
+    standing: Standing,
+    own: &mut Store,
+) -> Response
     requires quality_out { ports.now.quality_out ≡ plain_slot_of own.old qo }
     requires within { ports.now.quality_out < room_of own.old }
     requires few { length values.now ≤ length ports.now.received.items }
     requires all_within { AllByRecursion (λ (n : ℕ). n < room_of own.old) ports.now.received.items }
-    ensures turn { result ≡ record { standing = standing; output = (if book.is_ready (condition_of standing) then Some 1 else None); effect = None } }
+    ensures response { result ≡ record { standing = standing; output = (if book.is_ready (condition_of standing) then Some 1 else None); effect = None } }
     ensures values { (names : List Name) → ports.now.received.items ≡ slots_of (forms_of own.old) names → values_of own.new ≡ (if book.is_ready (condition_of standing) then received_in names values.now (setting (values_of own.old) qo (book.bit true)) else values_of own.old) }
     ensures forms { forms_of own.new ≡ forms_of own.old }
 {
@@ -198,7 +203,7 @@ pub(crate) fn subscribe(ports: &Ports, values: &[i64], standing: Standing, own: 
     }
     set_bit(own, ports.quality_out, true);
     receive(&ports.received, values, own);
-    Turn {
+    Response {
         standing,
         output: Some(1),
         effect: None,

@@ -57,17 +57,17 @@ pub struct Ports {
 
 /// What a dispatch comes to: what the service remembers after it, the number of the event output that it emits, and its effect.
 #[derive(Drop)]
-pub(crate) struct Turn {
+pub(crate) struct Response {
     pub(crate) standing: Standing,
     pub(crate) output: Option<u16>,
     pub(crate) effect: Option<Effect>,
 }
 
 // A dispatch that emits nothing and has no effect.
-pub(crate) fn silent(standing: Standing) -> Turn
+pub(crate) fn silent(standing: Standing) -> Response
     ensures { result ≡ record { standing = standing; output = None; effect = None } }
 {
-    Turn {
+    Response {
         standing,
         output: None,
         effect: None,

@@ -8,9 +8,9 @@ ghost use Rattle.fb_model.specs.Services.{dt};
 ghost use Rattle.fb_model.specs.Serving.{wait, due_after, is_quiet, is_fired};
 ghost use Rattle.st_exec.specs.Cells.{values_of};
 ghost use Rattle.st_run.specs.Kept.{plain_slot_of};
-ghost use Rattle.fb_serve.specs.Turns.{condition_of, Replies};
+ghost use Rattle.fb_serve.specs.Responses.{condition_of, Replies};
 
-use crate::standing::{Standing, Turn, silent};
+use crate::standing::{Response, Standing, silent};
 use fb_chart::Store;
 
 // How long a timer waits: a negative time is none.
@@ -39,11 +39,11 @@ fn started(clock: u64, time: u64, standing: Standing) -> Standing
 }
 
 // EXPIRE of a timer that has fired emits EO.
-fn expired(standing: Standing, next: Standing) -> Turn
+fn expired(standing: Standing, next: Standing) -> Response
     ensures { result ≡ (if is_fired (condition_of standing) then record { standing = next; output = Some 0; effect = None } else record { standing = standing; output = None; effect = None }) }
 {
     match standing {
-        Standing::Fired => Turn {
+        Standing::Fired => Response {
             standing: next,
             output: Some(0),
             effect: None,
@@ -53,7 +53,13 @@ fn expired(standing: Standing, next: Standing) -> Turn
 }
 
 /// E_DELAY: START, STOP and EXPIRE.
-pub(crate) fn delay(time: usize, event: u16, clock: u64, standing: Standing, own: &Store) -> Turn
+pub(crate) fn delay(
+    time: usize,
+    event: u16,
+    clock: u64,
+    standing: Standing,
+    own: &Store,
+) -> Response
     requires { time ≡ plain_slot_of own.now dt }
     ensures output { IfSome result.output (λ k. k < 1) }
     ensures reply { (values : List ℤ) (issued : Values) → Replies Delay clock event values (values_of own.now) (values_of own.now) issued standing result }
@@ -67,7 +73,13 @@ pub(crate) fn delay(time: usize, event: u16, clock: u64, standing: Standing, own
 }
 
 /// E_CYCLE: START, STOP and EXPIRE, which arms it anew. It waits for 1 at least.
-pub(crate) fn cycle(time: usize, event: u16, clock: u64, standing: Standing, own: &Store) -> Turn
+pub(crate) fn cycle(
+    time: usize,
+    event: u16,
+    clock: u64,
+    standing: Standing,
+    own: &Store,
+) -> Response
     requires { time ≡ plain_slot_of own.now dt }
     ensures output { IfSome result.output (λ k. k < 1) }
     ensures reply { (values : List ℤ) (issued : Values) → Replies Cycle clock event values (values_of own.now) (values_of own.now) issued standing result }

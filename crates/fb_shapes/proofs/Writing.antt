@@ -6,16 +6,16 @@ use Rattle.fb_model.specs.Names.{Name}
 use Rattle.fb_model.specs.StructuredText.{Statement, Statements, Branches, Arms}
 use Rattle.fb_model.specs.TypedText.{Command, Choices, Cases}
 use Rattle.fb_model.specs.Language.{Algorithm}
-use Rattle.fb_model.specs.TextTyping.{Entry, found, IsAssignable, IsCommand, an_assignment, to_element, a_choice, a_selection, an_iteration, AreCommands, no_command, a_command, AreChoices, no_choices, more_choices, AreCases, no_cases, more_cases}
+use Rattle.fb_model.specs.TextTyping.{Symbol, found, IsAssignable, IsCommand, an_assignment, to_element, a_choice, a_selection, an_iteration, AreCommands, no_command, a_command, AreChoices, no_choices, more_choices, AreCases, no_cases, more_cases}
 use Rattle.fb_model.proofs.Lists.{all_append}
 use Rattle.fb_model.specs.Shapes.{written_one, written, written_choices, written_cases}
 
 -- a variable that may be assigned
-abbrev pub IsWritable : List Entry → Name → Type 0
-IsWritable env x = (v : Entry) × (found env x ≡ Some v) × (v.writable ≡ true)
+abbrev pub IsWritable : List Symbol → Name → Type 0
+IsWritable env x = (v : Symbol) × (found env x ≡ Some v) × (v.writable ≡ true)
 
-module _ (env : List Entry) where
-  target : (busy : List Name) (x : Name) (v : Entry) → IsAssignable env busy x v → IsWritable env x
+module _ (env : List Symbol) where
+  target : (busy : List Name) (x : Name) (v : Symbol) → IsAssignable env busy x v → IsWritable env x
   target busy x v h = (v, h.known, h.writable)
 
   mutual

@@ -11,7 +11,7 @@ use Rattle.fb_model.specs.Declarations.{EventTree, VariableTree, AlgorithmTree, 
 use Rattle.fb_model.specs.System.{Variable, Procedure, Block, End, Connection, Face, Parameter, Body, Basic, Served, Composite, Instances, nothing, instance}
 use Rattle.fb_model.specs.Typing.{typed_state}
 use Rattle.fb_model.specs.BlockTyping.{Declared, declared, variable_of, AreDeclared, none, more, AreProcedures, no_procedure, a_procedure, typed_event, IsBasic}
-use Rattle.fb_model.specs.TextTyping.{Entry}
+use Rattle.fb_model.specs.TextTyping.{Symbol}
 use Rattle.fb_model.specs.Store.{variable_names}
 use Rattle.fb_model.specs.NetworkTyping.{IsEnd, own_port, port_of, AreEventConnections, no_event, an_event, type_named, IsMade, a_basic, a_composite, IsInstance, of_type, of_service, AreInstances, no_instance, an_instance}
 use Rattle.fb_model.specs.Certificates.{event_names, names}
@@ -65,7 +65,7 @@ both_capitals : (vs ws : List Variable) → AreCapitals (variable_names vs) → 
 both_capitals [] ws h k = k
 both_capitals (v ∷ vs) ws h k = (h.0, both_capitals vs ws h.1 k)
 
-procedure_capitals : (env : List Entry) (fs : List AlgorithmTree) (ps : List Procedure) → AllByRecursion (λ (x : AlgorithmTree). IsCapital x.name.text) fs → AreProcedures env fs ps → AreCapitals (map (λ (p : Procedure). p.name) ps)
+procedure_capitals : (env : List Symbol) (fs : List AlgorithmTree) (ps : List Procedure) → AllByRecursion (λ (x : AlgorithmTree). IsCapital x.name.text) fs → AreProcedures env fs ps → AreCapitals (map (λ (p : Procedure). p.name) ps)
 procedure_capitals env _ _ h no_procedure = tt
 procedure_capitals env _ _ h (a_procedure {rest = rest} {ps = ps} e body others) = (subst IsCapital (sym e) h.0, procedure_capitals env rest ps h.1 others)
 

@@ -22,7 +22,7 @@ use Rattle.st_code.specs.declared.command.Procedure.{Procedure}
 use Rattle.st_code.specs.Forms.{Form}
 use Rattle.fb_chart.specs.Tables.{Each, IsOptional, IsProcedure, IsAction, IsState, IsTransition, leaving}
 use Rattle.fb_tables.specs.declared.chart.Shared.{Shared}
-use Rattle.fb_tables.specs.Filling.{Entry, Routine, IsOptionalNumber, IsActionMade, IsStateMade, IsTransitionMade, IsProcedureMade, IsCodeMade, IsCodeOf, IsShared, leaving_from, most_numbers}
+use Rattle.fb_tables.specs.Filling.{NamedActions, Routine, IsOptionalNumber, IsActionMade, IsStateMade, IsTransitionMade, IsProcedureMade, IsCodeMade, IsCodeOf, IsShared, leaving_from, most_numbers}
 use Rattle.fb_tables.proofs.Lists.{each_map, each_weaker, each_image, all_source}
 use Rattle.fb_tables.proofs.Routines.{routine_of}
 use Rattle.fb_tables.proofs.Leaving.{leaving_map, all_leaving}
@@ -62,7 +62,7 @@ few k closed =
     record {
       few_inputs = as_few (λ (p : String Global × Vec (String Global) Global). event_of (string_bytes p.0) p.1.items) (λ p. string_bytes p.0) k.face.event_inputs.entries 64 closed.few_inputs;
       few_outputs = as_few (λ (p : String Global × Vec (String Global) Global). event_of (string_bytes p.0) p.1.items) (λ p. string_bytes p.0) k.face.event_outputs.entries 64 closed.few_outputs;
-      few_states = as_few entry_state (λ (s : Entry). string_bytes s.0) k.states.entries 256 closed.few_states;
+      few_states = as_few entry_state (λ (s : NamedActions). string_bytes s.0) k.states.entries 256 closed.few_states;
     }
 
 -- ---- what a chart names
@@ -82,7 +82,7 @@ Emits outputs s = AllByRecursion (λ (a : book.Action). IsListed outputs a.outpu
 
 -- the same of a block's tables
 pub record IsTabled (k : Block) : Type 0 where
-  pub states : AllByRecursion (λ (s : Entry). Emits (outputs_in k) (entry_state s)) k.states.entries
+  pub states : AllByRecursion (λ (s : NamedActions). Emits (outputs_in k) (entry_state s)) k.states.entries
   pub transitions : AllByRecursion (λ (t : from_transition.Transition). IsCrossing (states_in k) (inputs_in k) (source.transition_of t)) k.transitions.items
 
 tabled : (k : Block) → IsClosedBlock (block_of k) → IsTabled k
@@ -95,7 +95,7 @@ tabled k closed =
     (subst (λ (ins : List Name). AllByRecursion (IsCrossing (names (block_of k).states) ins) ts) (inputs_are k)
     (crossings (names (block_of k).states) (event_names (block_of k).event_inputs) ts closed.targets closed.events)) in
     record {
-      states = all_source (λ (s : Entry). Emits (outputs_in k) (entry_state s)) (Emits (outputs_in k)) entry_state k.states.entries (λ s h. h) emit;
+      states = all_source (λ (s : NamedActions). Emits (outputs_in k) (entry_state s)) (Emits (outputs_in k)) entry_state k.states.entries (λ s h. h) emit;
       transitions = all_source (λ (t : from_transition.Transition). IsCrossing (states_in k) (inputs_in k) (source.transition_of t)) (IsCrossing (states_in k) (inputs_in k)) source.transition_of k.transitions.items (λ t h. h) crossed;
     }
 
@@ -118,7 +118,7 @@ transition_done own k ls le t x p m = record { target = m.target ls p.target; ev
 -- ---- the chart
 
 module _ (own : List Form) (k : Block) (f : IsFew k) (procedures : length k.procedures.entries ≤ most_numbers) (t : IsTabled k) where
-  actions_done : (s : Entry) (x : State) → Emits (outputs_in k) (entry_state s) → IsStateMade own k s x → Each (IsAction (block_of k) (outputs_in k)) (entry_state s).actions x.actions.items
+  actions_done : (s : NamedActions) (x : State) → Emits (outputs_in k) (entry_state s) → IsStateMade own k s x → Each (IsAction (block_of k) (outputs_in k)) (entry_state s).actions x.actions.items
   actions_done s x p m =
       let acts = s.1.items in
       let xs = x.actions.items in
@@ -128,7 +128,7 @@ module _ (own : List Form) (k : Block) (f : IsFew k) (procedures : length k.proc
       (each_weaker (λ (a : from_action.Action). IsListed (outputs_in k) (name_of a.output)) (IsActionMade k) (λ (a : from_action.Action) (y : Action). IsAction (block_of k) (outputs_in k) (source.action_of a) y) acts xs
       (action_done k (omega (arith, f.few_outputs)) procedures) listed m.actions)
 
-  transitions_done : (s : Entry) (x : State) → IsStateMade own k s x → Each (IsTransition own (states_in k) (inputs_in k)) (leaving (entry_state s).name (block_of k).transitions) x.transitions.items
+  transitions_done : (s : NamedActions) (x : State) → IsStateMade own k s x → Each (IsTransition own (states_in k) (inputs_in k)) (leaving (entry_state s).name (block_of k).transitions) x.transitions.items
   transitions_done s x m =
       let name = string_bytes s.0 in
       let ts = leaving_from name k.transitions.items in
@@ -138,7 +138,7 @@ module _ (own : List Form) (k : Block) (f : IsFew k) (procedures : length k.proc
       (each_weaker (λ (u : from_transition.Transition). IsCrossing (states_in k) (inputs_in k) (source.transition_of u)) (IsTransitionMade own k) (λ (u : from_transition.Transition) (y : Transition). IsTransition own (states_in k) (inputs_in k) (source.transition_of u) y) ts ys
       (transition_done own k (omega (arith, f.few_states)) (omega (arith, f.few_inputs))) (all_leaving (λ (u : from_transition.Transition). IsCrossing (states_in k) (inputs_in k) (source.transition_of u)) name k.transitions.items t.transitions) m.transitions))
 
-  state_done : (s : Entry) (x : State) → Emits (outputs_in k) (entry_state s) → IsStateMade own k s x → IsState own (inputs_in k) (outputs_in k) (block_of k) (entry_state s) x
+  state_done : (s : NamedActions) (x : State) → Emits (outputs_in k) (entry_state s) → IsStateMade own k s x → IsState own (inputs_in k) (outputs_in k) (block_of k) (entry_state s) x
   state_done s x p m =
       record {
         name = m.name;
@@ -149,7 +149,7 @@ module _ (own : List Form) (k : Block) (f : IsFew k) (procedures : length k.proc
   pub states_done : (xs : List State) → Each (IsStateMade own k) k.states.entries xs → Each (IsState own (inputs_in k) (outputs_in k) (block_of k)) (block_of k).states xs
   states_done xs m =
       each_image (IsState own (inputs_in k) (outputs_in k) (block_of k)) entry_state k.states.entries xs
-      (each_weaker (λ (s : Entry). Emits (outputs_in k) (entry_state s)) (IsStateMade own k) (λ (s : Entry) (x : State). IsState own (inputs_in k) (outputs_in k) (block_of k) (entry_state s) x) k.states.entries xs state_done t.states m)
+      (each_weaker (λ (s : NamedActions). Emits (outputs_in k) (entry_state s)) (IsStateMade own k) (λ (s : NamedActions) (x : State). IsState own (inputs_in k) (outputs_in k) (block_of k) (entry_state s) x) k.states.entries xs state_done t.states m)
 
 procedure_done : (own : List Form) (r : Routine) (x : Procedure) → IsProcedureMade own r x → IsProcedure own (routine_of r) x
 procedure_done own r x m = record { same = m.0; placed = m.1 }

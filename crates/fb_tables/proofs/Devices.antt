@@ -10,11 +10,11 @@ use Rattle.fb_model.specs.Wires.{leaves}
 use Rattle.fb_model.specs.Ranges.{LeafLies}
 use Rattle.fb_model.specs.Store.{variable_names, inputs}
 use Rattle.fb_model.specs.Declarations.{AlgorithmTree, BlockTree, ChartTree}
-use Rattle.fb_model.specs.TextTyping.{Entry as TextEntry}
+use Rattle.fb_model.specs.TextTyping.{Symbol as TextEntry}
 use Rattle.fb_model.specs.BlockTyping.{IsBasic, AreProcedures, no_procedure, a_procedure, scope}
 use Rattle.st_code.specs.Forms.{Form}
 use Rattle.st_exec.specs.Cells.{Cell}
-use Rattle.fb_first.specs.First.{AreFirst}
+use Rattle.fb_first.specs.First.{HaveFirstCells}
 use Rattle.fb_model.specs.Certificates.{DeviceHolds, IsWired, name_at, depth_at}
 use Rattle.fb_model.specs.CertificateText.{names_in}
 use Rattle.fb_spelled.specs.Words.{IsWordyLeaf, IsWordyDevice}
@@ -154,7 +154,7 @@ resources_are rows t xs p m =
 
 -- ---- tables
 
-first_many : (bs : List wires.Leaf) (owns issues : List (List Cell)) → AreFirst bs owns issues → (length owns ≡ length bs) × (length issues ≡ length bs)
+first_many : (bs : List wires.Leaf) (owns issues : List (List Cell)) → HaveFirstCells bs owns issues → (length owns ≡ length bs) × (length issues ≡ length bs)
 first_many [] [] [] h = (refl, refl)
 first_many [] [] (i ∷ is) h = absurd h
 first_many [] (o ∷ os) [] h = absurd h
@@ -166,7 +166,7 @@ first_many (b ∷ bs) (o ∷ os) (i ∷ is) h = let k = first_many bs os is h.1 
 
 -- there are as many stores as leaves
 pub stores_many : (v : Verified) (n : ℕ) (f : FlatDevice) (hs : List Numbered) (owns issues : List (List Cell)) → IsChecked v → n < length (system_in v).devices → f ≡ get_or v.flat.devices.items n f
-    → (length f.resources.items ≤ most_numbers → hs ≡ numbered_from 0 f.resources.items) → ((d : book.Device) → slice_get (system_in v).devices n ≡ Some d → AreFirst (leaves d) owns issues) → (length owns ≡ length hs) × (length issues ≡ length hs)
+    → (length f.resources.items ≤ most_numbers → hs ≡ numbered_from 0 f.resources.items) → ((d : book.Device) → slice_get (system_in v).devices n ≡ Some d → HaveFirstCells (leaves d) owns issues) → (length owns ≡ length hs) × (length issues ≡ length hs)
 stores_many v n f hs owns issues checked within g homes first =
     let at = there_is (system_in v).devices n within in
     let d = at.0 in

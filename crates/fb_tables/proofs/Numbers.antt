@@ -12,7 +12,7 @@ use Rattle.fb_model.proofs.Lists.{same_name}
 use Rattle.fb_first.specs.fb_check.fb_blocks.Views.{event_of, action_of}
 use Rattle.fb_first.specs.fb_check.fb_blocks.Answers.{names_in_map}
 use Rattle.fb_first.proofs.of_fb_check.of_fb_networks.Places.{place, place_below, position_is, position_map}
-use Rattle.fb_tables.specs.Filling.{IsNumber, Entry, service_event, most_numbers}
+use Rattle.fb_tables.specs.Filling.{IsNumber, NamedActions, service_event, most_numbers}
 
 -- ---- places
 
@@ -92,13 +92,13 @@ service_number s x n e = λ few listed. ap (slice_get (service_events s)) e ∙ 
 -- ---- names of tables
 
 -- a state as a table has it, in the book
-abbrev pub entry_state : Entry → book.State
+abbrev pub entry_state : NamedActions → book.State
 entry_state s = record { name = string_bytes s.0; actions = map action_of s.1.items }
 
 pub event_names_are : (es : List (String Global × Vec (String Global) Global)) → event_names (map (λ p. event_of (string_bytes p.0) p.1.items) es) ≡ map (λ p. string_bytes p.0) es
 event_names_are [] = refl
 event_names_are (e ∷ es) = ap (λ ns. string_bytes e.0 ∷ ns) (event_names_are es)
 
-pub state_names_are : (ss : List Entry) → names (map entry_state ss) ≡ map (λ p. string_bytes p.0) ss
+pub state_names_are : (ss : List NamedActions) → names (map entry_state ss) ≡ map (λ p. string_bytes p.0) ss
 state_names_are [] = refl
 state_names_are (s ∷ ss) = ap (λ ns. string_bytes s.0 ∷ ns) (state_names_are ss)

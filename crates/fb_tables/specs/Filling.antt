@@ -107,8 +107,8 @@ IsSmallKind (Serviced service) = IsSmall service
 -- ---- charts
 
 -- a state as a table has it: its name, and its actions
-abbrev pub Entry : Type 0
-Entry = String Global × Vec from_action.Action Global
+abbrev pub NamedActions : Type 0
+NamedActions = String Global × Vec from_action.Action Global
 
 -- an algorithm as a table has it: its name, and itself
 abbrev pub Routine : Type 0
@@ -128,7 +128,7 @@ pub record IsTransitionMade (own : List Form) (k : from_block.Block) (t : from_t
 abbrev pub leaving_from : Name → List from_transition.Transition → List from_transition.Transition
 leaving_from x ts = filter (λ (t : from_transition.Transition). bytes_eq (string_bytes t.source) x) ts
 
-pub record IsStateMade (own : List Form) (k : from_block.Block) (s : Entry) (x : State) : Type 0 where
+pub record IsStateMade (own : List Form) (k : from_block.Block) (s : NamedActions) (x : State) : Type 0 where
   pub name : string_bytes x.name ≡ string_bytes s.0
   pub actions : Each (IsActionMade k) s.1.items x.actions.items
   pub transitions : Each (IsTransitionMade own k) (leaving_from (string_bytes s.0) k.transitions.items) x.transitions.items

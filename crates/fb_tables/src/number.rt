@@ -6,7 +6,7 @@ ghost use Rattle.fb_model.specs.Wires.{leaves};
 ghost use Rattle.st_exec.specs.Cells.{forms_of};
 ghost use Rattle.fb_cert.specs.Views.{count_in};
 ghost use Rattle.fb_first.specs.fb_check.Verdicts.{system_in, certificate_in};
-ghost use Rattle.fb_first.specs.First.{AreFirst};
+ghost use Rattle.fb_first.specs.First.{HaveFirstCells};
 ghost use Rattle.fb_tables.specs.Tables.{AreTables};
 ghost use Rattle.fb_chart.specs.Tables.{Each};
 ghost use Rattle.fb_tables.specs.Filling.{IsResourceMade};
@@ -74,7 +74,7 @@ pub fn tables(
     values: &FirstValues,
 ) -> Result<Tables, AllocError>
     requires within { device < length (system_in verified.now).devices }
-    requires first { (d : Device) → slice_get (system_in verified.now).devices device ≡ Some d → AreFirst (leaves d) values.now.own.items values.now.issued.items }
+    requires first { (d : Device) → slice_get (system_in verified.now).devices device ≡ Some d → HaveFirstCells (leaves d) values.now.own.items values.now.issued.items }
     ensures { (d : Device) → slice_get (system_in verified.now).devices device ≡ Some d → IfOk result (AreTables (certificate_in verified.now) d (map forms_of values.now.own.items) (map forms_of values.now.issued.items)) }
 {
     verified.fits();

@@ -21,8 +21,8 @@ pub(crate) fn count(layout: &Layout, name: &str) -> usize
     ensures { result ≡ count_among layout.now name.now }
 {
     let _room = layout.size();
-    match layout.place(name) {
-        Some(place) => place.count(),
+    match layout.location(name) {
+        Some(location) => location.count(),
         None => 1,
     }
 }

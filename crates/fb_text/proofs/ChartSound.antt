@@ -10,7 +10,7 @@ use Rattle.fb_model.specs.Grammar.{IsAction, runs, runs_and_emits, emits, IsStat
 use Rattle.fb_model.specs.StructuredText.{Expression, Statements}
 use Rattle.fb_model.specs.Declarations.{GuardTree, TransitionTree}
 use Rattle.fb_model.specs.DeclarationGrammar.{IsInternal, IsGuard, a_guard, IsCondition, always, on_event, on_event_where, guarded, IsTransition, a_transition, IsTransitions, some_transitions, IsProcedure, a_procedure, IsChart, a_chart}
-use Rattle.fb_read.specs.Reading.{Read, stuck, ◌>>=◌, next_is, after, place_at, name_at, begins_name, items_at, list_at, closed_at, section_at}
+use Rattle.fb_read.specs.Reading.{Read, stuck, ◌>>=◌, next_is, after, offset_at, name_at, begins_name, items_at, list_at, closed_at, section_at}
 use Rattle.fb_read.proofs.Readers.{Meets, Sound, meets_then, meets_as, seen, expect_then, opens, may_open, name_sound}
 use Rattle.fb_read.proofs.Repetitions.{IsClosed, a_closed, IsOptional, missing, given, many_sound, separated_sound, closed_sound, section_sound, optional_sound}
 use Rattle.fb_text.specs.Reading.{output_at, emitting_at, running_at, action_at, actions_at, state_at, states_at, internal_at, guard_at, where_at, on_event_at, guarded_at, condition_at, transition_at, transitions_at, text_at, procedure_at, chart_at}
@@ -78,8 +78,8 @@ states_sound ts = opens IsStates _ m.EcStates ts (λ s e on. by s e on (next_is 
 -- ---- transitions
 
 module _ (E : Gram Expression) (L : Gram Statements) (expr : Read Expression) (sound : Sound E expr) where
-  guard_of : {s e s' e' : ℕ} {ts on rest : List Token} {x : Expression} → ts ≡ token (mark m.LBracket) s e ∷ on → E on x (token (mark m.RBracket) s' e' ∷ rest) → IsGuard E L ts (record { at = place_at ts; condition = x }) rest
-  guard_of {rest = rest} {x = x} q p = subst (λ l. IsGuard E L l (record { at = place_at l; condition = x }) rest) (sym q) (a_guard p)
+  guard_of : {s e s' e' : ℕ} {ts on rest : List Token} {x : Expression} → ts ≡ token (mark m.LBracket) s e ∷ on → E on x (token (mark m.RBracket) s' e' ∷ rest) → IsGuard E L ts (record { at = offset_at ts; condition = x }) rest
+  guard_of {rest = rest} {x = x} q p = subst (λ l. IsGuard E L l (record { at = offset_at l; condition = x }) rest) (sym q) (a_guard p)
 
   guard_sound : Sound (IsGuard E L) (guard_at expr)
   unfolding guard_at

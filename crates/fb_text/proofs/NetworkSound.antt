@@ -6,7 +6,7 @@ use Rattle.fb_model.specs.Productions.{Word, IsName, IsSeparated}
 use Rattle.fb_model.specs.Trees.{Constant, PortTree}
 use Rattle.fb_model.specs.Grammar.{IsConstant, IsParameter, a_parameter, IsPort, own, inner, IsConnection, a_connection}
 use Rattle.fb_model.specs.DeclarationGrammar.{IsTypeName, IsTypeList, no_types, some_types, IsTypes, no_brackets, in_brackets, IsParameters, no_parameters, some_parameters, IsInstance, an_instance, IsNetwork, a_network}
-use Rattle.fb_read.specs.Reading.{next_is, after, place_at, name_at, type_at, list_at, section_at}
+use Rattle.fb_read.specs.Reading.{next_is, after, offset_at, name_at, type_at, list_at, section_at}
 use Rattle.fb_read.proofs.Readers.{Sound, meets_then, meets_as, meets_if, expect_then, may_open, name_sound}
 use Rattle.fb_read.proofs.Repetitions.{IsOptional, missing, given, separated_sound, section_sound, optional_sound}
 use Rattle.fb_text.specs.Reading.{constant_at, parameter_at, parameters_at, type_list_at, types_at, instance_at, second_at, port_at, connection_at, network_at}
@@ -20,8 +20,8 @@ parameter_of {ts = ts} {rest = rest} {x = x} {c = c} at same p q = subst (λ a. 
 pub parameter_sound : Sound IsParameter parameter_at
 unfolding parameter_at
 parameter_sound ts = meets_then _ _ (name_at ts) (name_sound ts) (λ x sign p.
-    expect_then (λ l. IsName ts x l × (place_at sign ≡ place_at l)) _ _ m.Assign sign (p, refl) (λ s e mid p'.
-    meets_then _ _ (constant_at mid) (constant_sound mid) (λ c rest q. parameter_of (place_at sign) p'.1 p'.0 q)))
+    expect_then (λ l. IsName ts x l × (offset_at sign ≡ offset_at l)) _ _ m.Assign sign (p, refl) (λ s e mid p'.
+    meets_then _ _ (constant_at mid) (constant_sound mid) (λ c rest q. parameter_of (offset_at sign) p'.1 p'.0 q)))
 
 parameters_sound : Sound IsParameters parameters_at
 unfolding parameters_at
@@ -72,9 +72,9 @@ connection_of {ts = ts} {rest = rest} {p = p} {q = q} at same f g = subst (λ a.
 pub connection_sound : Sound IsConnection connection_at
 unfolding connection_at
 connection_sound ts = meets_then _ _ (port_at ts) (port_sound ts) (λ p to f.
-    expect_then (λ l. IsPort ts p l × (place_at to ≡ place_at l)) _ _ m.To to (f, refl) (λ s e mid f'.
+    expect_then (λ l. IsPort ts p l × (offset_at to ≡ offset_at l)) _ _ m.To to (f, refl) (λ s e mid f'.
     meets_then _ _ (port_at mid) (port_sound mid) (λ q end g.
-    expect_then (λ l. IsPort mid q l) _ _ m.Semicolon end g (λ s' e' rest g'. connection_of (place_at to) f'.1 f'.0 g'))))
+    expect_then (λ l. IsPort mid q l) _ _ m.Semicolon end g (λ s' e' rest g'. connection_of (offset_at to) f'.1 f'.0 g'))))
 
 -- ---- networks
 

@@ -13,7 +13,7 @@ use Rattle.fb_model.specs.StructuredTextGrammar.{IsInteger}
 use Rattle.fb_model.specs.Declarations.{BoundsTree, StartTree, VariableTree}
 use Rattle.fb_model.specs.DeclarationGrammar.{IsKind, unsaid, said, IsWith, alone, along, IsEvent, an_event, IsType, IsTypeName, a_type, IsStart, no_start, a_start, IsVariable, of_type, IsBounds, some_bounds, IsInternal, a_variable, an_array}
 use Rattle.fb_model.specs.DeclarationGrammar as g
-use Rattle.fb_read.specs.Reading.{stuck, Answer, ◌>>=◌, next_is, after, place_at, name_at, type_step, type_at, list_at}
+use Rattle.fb_read.specs.Reading.{stuck, Answer, ◌>>=◌, next_is, after, offset_at, name_at, type_step, type_at, list_at}
 use Rattle.fb_read.proofs.Readers.{Meets, Sound, meets_then, meets_as, seen, expect_then, opens, may_open, name_sound}
 use Rattle.fb_read.proofs.Repetitions.{separated_sound}
 use Rattle.st_parse.specs.Reading.{integer_at}
@@ -116,10 +116,10 @@ start_sound ts = by (next_is m.Assign ts) refl where
   behind : (s e : ℕ) (on : List Token) → Meets (IsStart (token (mark m.Assign) s e ∷ on)) (constant_at on >>= λ c. Ok (Some (record { at = s; value = c.0 }), c.1))
   behind s e on = meets_then _ _ (constant_at on) (constant_sound on) (λ c rest p. a_start p)
 
-  by : (b : Bool) → next_is m.Assign ts ≡ b → Meets (IsStart ts) (cond b (constant_at (after ts) >>= λ c. Ok (Some (record { at = place_at ts; value = c.0 }), c.1)) (Ok (None, ts)))
+  by : (b : Bool) → next_is m.Assign ts ≡ b → Meets (IsStart ts) (cond b (constant_at (after ts) >>= λ c. Ok (Some (record { at = offset_at ts; value = c.0 }), c.1)) (Ok (None, ts)))
   by true e =
       let q = seen (λ l. ts ≡ l) m.Assign ts e refl in
-      subst (λ l. Meets (IsStart l) (constant_at (after l) >>= λ c. Ok (Some (record { at = place_at l; value = c.0 }), c.1))) (sym q.2) (behind q.0 q.1 (after ts))
+      subst (λ l. Meets (IsStart l) (constant_at (after l) >>= λ c. Ok (Some (record { at = offset_at l; value = c.0 }), c.1))) (sym q.2) (behind q.0 q.1 (after ts))
   by false e = no_start
 
 -- ---- variables

@@ -9,7 +9,7 @@ use Rattle.fb_model.specs.Grammar.{IsStates}
 use Rattle.fb_model.specs.StructuredText.{Expression, Statements}
 use Rattle.fb_model.specs.Declarations.{GuardTree, Chart}
 use Rattle.fb_model.specs.DeclarationGrammar.{IsEvent, IsVariable, IsInternal, IsGuard, a_guard, IsCondition, on_event_where, guarded, IsTransition, a_transition, IsTransitions, some_transitions, IsProcedure, a_procedure, IsChart, a_chart, IsBody, basic, IsBlock, a_block, a_system}
-use Rattle.fb_read.specs.Reading.{Wrong, stuck, Read, ◌>>=◌, next_is, after, expect, place_at, name_at, begins_name, items_at, closed_at, section_at}
+use Rattle.fb_read.specs.Reading.{Wrong, stuck, Read, ◌>>=◌, next_is, after, expect, offset_at, name_at, begins_name, items_at, closed_at, section_at}
 use Rattle.fb_read.proofs.Readers.{Sound, Shorter, shallow_then, shallow_name}
 use Rattle.fb_read.proofs.Repetitions.{section_sound, section_shallow}
 use Rattle.fb_read.proofs.Steady.{Steady, steady_name}
@@ -61,8 +61,8 @@ module _ (E : Gram Expression) (L : Gram Statements) (expr : Read Expression) (s
   unfolding guard_at
   guard_viable ts =
       let G : Span = Any (IsGuard E L) in
-      viable_expect G m.LBracket (λ begin. expr begin >>= λ x. expect m.RBracket x.1 >>= λ end. Ok (record { at = place_at ts; condition = x.0 }, end))
-      (λ mid. goes_done (Marked m.LBracket G) mid (λ x. expect m.RBracket x.1 >>= λ end. Ok (record { at = place_at ts; condition = x.0 }, end)) (expr mid) (λ x. shallow_closing m.RBracket x.1 (λ end. (record { at = place_at ts; condition = x.0 }, end)))
+      viable_expect G m.LBracket (λ begin. expr begin >>= λ x. expect m.RBracket x.1 >>= λ end. Ok (record { at = offset_at ts; condition = x.0 }, end))
+      (λ mid. goes_done (Marked m.LBracket G) mid (λ x. expect m.RBracket x.1 >>= λ end. Ok (record { at = offset_at ts; condition = x.0 }, end)) (expr mid) (λ x. shallow_closing m.RBracket x.1 (λ end. (record { at = offset_at ts; condition = x.0 }, end)))
       (goes_as mid (expr mid) (λ rest. (closing m.RBracket ∷ rest, λ us h s e. (record { at = s; condition = h.0 }, a_guard h.1))) (viable mid))) ts
 
   where_viable : Viable (Any (IsGuard E L)) (where_at expr)

@@ -10,7 +10,7 @@ use Rattle.fb_model.specs.Trees.{Whole, Typed, Duration, Truth, Constant, Action
 use Rattle.fb_model.specs.StructuredText.{Expression, Statements}
 use Rattle.fb_model.specs.StructuredTextGrammar.{most_nested, most_nested_statements}
 use Rattle.fb_model.specs.Declarations.{EventTree, BoundsTree, StartTree, VariableTree, GuardTree, TransitionTree, AlgorithmTree, ChartTree, InstanceTree, NetworkTree, BodyTree, Chart, Network, BlockTree, ResourceTree, DeviceTree, SystemTree, SourceTree}
-use Rattle.fb_read.specs.Reading.{Wrong, syntax, stuck, Read, ◌>>=◌, next_is, after, expect, place_at, name_at, type_at, begins_name, items_at, list_at, closed_at, section_at, whole_of}
+use Rattle.fb_read.specs.Reading.{Wrong, syntax, stuck, Read, ◌>>=◌, next_is, after, expect, offset_at, name_at, type_at, begins_name, items_at, list_at, closed_at, section_at, whole_of}
 use Rattle.st_expr.specs.Reading.{expression_at}
 use Rattle.st_parse.specs.Reading.{integer_at, algorithm_at}
 
@@ -64,7 +64,7 @@ event_at ts = do
 
 -- [':=' const]
 unfoldable pub start_at : Read (Option StartTree)
-start_at ts = if next_is m.Assign ts then (constant_at (after ts) >>= λ c. Ok (Some (record { at = place_at ts; value = c.0 }), c.1)) else Ok (None, ts)
+start_at ts = if next_is m.Assign ts then (constant_at (after ts) >>= λ c. Ok (Some (record { at = offset_at ts; value = c.0 }), c.1)) else Ok (None, ts)
 
 -- type [':=' const] ';', behind names
 unfoldable pub plain_at : List Word → Read VariableTree
@@ -110,7 +110,7 @@ parameter_at ts = do
   x ← name_at ts
   rest ← expect m.Assign x.1
   c ← constant_at rest
-  Ok (record { name = x.0; at = place_at x.1; value = c.0 }, c.1)
+  Ok (record { name = x.0; at = offset_at x.1; value = c.0 }, c.1)
 
 -- ['(' parameter {',' parameter} ')']
 unfoldable pub parameters_at : Read (List ParameterTree)
@@ -156,7 +156,7 @@ connection_at ts = do
   rest ← expect m.To p.1
   q ← port_at rest
   end ← expect m.Semicolon q.1
-  Ok (record { source = p.0; at = place_at p.1; target = q.0 }, end)
+  Ok (record { source = p.0; at = offset_at p.1; target = q.0 }, end)
 
 unfoldable pub network_at : Read NetworkTree
 network_at ts = do
@@ -213,7 +213,7 @@ guard_at expr ts = do
   begin ← expect m.LBracket ts
   x ← expr begin
   end ← expect m.RBracket x.1
-  Ok (record { at = place_at ts; condition = x.0 }, end)
+  Ok (record { at = offset_at ts; condition = x.0 }, end)
 
 -- [guard]
 unfoldable pub where_at : Read Expression → Read (Option GuardTree)

@@ -17,7 +17,9 @@ use crate::tree::{AlgorithmTree, ChartTree, GuardTree, TransitionTree};
 use crate::variable::internal_section;
 use crate::word::word;
 use fb_lex::{Kind, Token};
-use fb_read::{Item, Name, Stop, begins_name, closed, expect, many, next_is, place, read_name};
+use fb_read::{
+    Item, Name, Stop, begins_name, closed, expect, many, next_is, next_offset, read_name,
+};
 use fb_words::Mark;
 use st_expr::expression;
 use st_parse::body;
@@ -52,7 +54,7 @@ fn after(tokens: &[Token]) -> &[Token]
 fn guard(alloc: Global, tokens: &[Token]) -> Result<(GuardTree, &[Token]), Stop>
     ensures { Gives (λ x. (guard_of x.0, tokens_of x.1.now)) result (guard_at (expression_at most_nested) (tokens_of tokens.now)) }
 {
-    let at = place(tokens);
+    let at = next_offset(tokens);
     let rest = expect(tokens, Mark::LBracket)?;
     let (condition, rest) = expression(alloc, rest)?;
     let rest = expect(rest, Mark::RBracket)?;

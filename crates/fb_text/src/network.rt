@@ -11,7 +11,7 @@ ghost use Rattle.fb_text.specs.Reading.{parameter_at, parameters_at, type_list_a
 use crate::constant::constant;
 use crate::tree::{ConnectionTree, InstanceTree, NetworkTree, ParameterTree, PortTree};
 use fb_lex::Token;
-use fb_read::{Item, Name, Stop, expect, next_is, place, read_name, section, separated};
+use fb_read::{Item, Name, Stop, expect, next_is, next_offset, read_name, section, separated};
 use fb_words::{ElemType, Mark};
 use std::alloc::Global;
 
@@ -25,7 +25,7 @@ impl Item for ParameterTree {
     #[tactic(auto, unfolding(crate::specs::Reading::parameter_at))]
     fn read(_alloc: Global, tokens: &[Token]) -> Result<(ParameterTree, &[Token]), Stop> {
         let (name, rest) = read_name(tokens)?;
-        let at = place(rest);
+        let at = next_offset(rest);
         let rest = expect(rest, Mark::Assign)?;
         let (value, rest) = constant(rest)?;
         Ok((ParameterTree { name, at, value }, rest))
@@ -126,7 +126,7 @@ impl Item for ConnectionTree {
     #[tactic(auto, unfolding(crate::specs::Reading::connection_at))]
     fn read(_alloc: Global, tokens: &[Token]) -> Result<(ConnectionTree, &[Token]), Stop> {
         let (source, rest) = port(tokens)?;
-        let at = place(rest);
+        let at = next_offset(rest);
         let rest = expect(rest, Mark::To)?;
         let (target, rest) = port(rest)?;
         let rest = expect(rest, Mark::Semicolon)?;

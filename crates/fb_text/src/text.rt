@@ -55,7 +55,7 @@ pub fn parse_tokens(alloc: Global, tokens: &[Token], length: usize) -> Result<Fi
     ensures found { IfOk result (λ tree. IsTree (tokens_of tokens.now) (source_of tree)) }
     ensures only { (x : SourceTree) → IsTree (tokens_of tokens.now) x → FindsTree result x }
     ensures syntax { IfSyntax result ((n k : ℕ) (x : SourceTree) → IsNested n k (tokens_of tokens.now) x → ⊥) }
-    ensures place { SyntaxAt length (tokens_of tokens.now) result }
+    ensures offset { SyntaxAt length (tokens_of tokens.now) result }
     ensures deep { TooDeepAt (tokens_of tokens.now) result }
 {
     match whole(alloc, tokens) {
@@ -76,7 +76,7 @@ pub fn parse(alloc: Global, text: &str) -> Result<Source, TextFault>
     ensures long { text_limit < length text.now → result ≡ Err TooLong }
     ensures only { (x : SourceTree) → IsSource text.now x → length text.now ≤ text_limit → FindsTree result x }
     ensures syntax { IfSyntax result (IsNoSource text.now) }
-    ensures place { SyntaxIn text.now result }
+    ensures offset { SyntaxIn text.now result }
     ensures deep { TooDeepIn text.now result }
 {
     let tokens = lex(alloc, text)?;

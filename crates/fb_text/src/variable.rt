@@ -12,7 +12,7 @@ ghost use Rattle.fb_text.specs.Reading.{start_at, plain_at, names_at, variable_a
 use crate::constant::constant;
 use crate::tree::{BoundsTree, StartTree, VariableTree};
 use fb_lex::Token;
-use fb_read::{Item, Name, Stop, expect, next_is, place, read_type, separated};
+use fb_read::{Item, Name, Stop, expect, next_is, next_offset, read_type, separated};
 use fb_words::Mark;
 use st_parse::integer;
 use std::alloc::Global;
@@ -25,7 +25,7 @@ fn start(tokens: &[Token]) -> Result<(Option<StartTree>, &[Token]), Stop>
     if !next_is(tokens, Mark::Assign) {
         return Ok((None, tokens));
     }
-    let at = place(tokens);
+    let at = next_offset(tokens);
     let (value, rest) = constant(&tokens[1..])?;
     Ok((Some(StartTree { at, value }), rest))
 }

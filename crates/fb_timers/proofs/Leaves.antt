@@ -15,7 +15,7 @@ use Rattle.fb_timers.proofs.Told.{equal_yes, equal_no, up_to, told_settles, told
 
 -- ---- the book's due timers, numbered
 
--- the timer of a block of a number, put in its place where it is due
+-- the timer of a block of a number, put in its position where it is due
 abbrev pub put_due : ℕ → ℕ → Option ℕ → List Armed → List Armed
 put_due clock n None l = l
 put_due clock n (Some d) l = if nat_le d clock then placed (record { due = d; block = n }) l else l
@@ -148,7 +148,7 @@ ahead_first x a h = by (leb_tells x.due a.due) (ahead_tells x a) where
 before_moments : (c d : Option ℕ) (x y : ℕ) → c ≡ Some x → d ≡ Some y → is_before c d ≡ nat_le x y
 before_moments c d x y p q = ap (λ e. is_before e d) p ∙ ap (is_before (Some x)) q
 
--- a timer in its place is its leaf inserted
+-- a timer in its position is its leaf inserted
 leaves_placed : (store : Store) (all : List Leaf) (x : Armed) (leaf : Leaf) (l : List Armed) → slice_get all x.block ≡ Some leaf → due (store leaf.path).condition ≡ Some x.due
     → AllByRecursion (Stands store all (x.block + 1)) l → leaves_at all (placed x l) ≡ inserted store leaf (leaves_at all l)
 leaves_placed store all x leaf [] at e h = ap (λ o. in_front o []) at

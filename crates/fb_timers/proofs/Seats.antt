@@ -4,7 +4,7 @@ use Rattle.std.specs.Prelude.{◌==◌, if◌then◌else◌, slice_index_or}
 use Rattle.std.specs.List.{AllByRecursion}
 use Rattle.std.specs.List.Sorted.{IsPartitionedBy, IsPartitionPoint}
 use Rattle.fb_timers.specs.declared.armed.Armed.{Armed}
-use Rattle.fb_timers.specs.Order.{is_ahead, IsOrdered, place, placed, without, due_of}
+use Rattle.fb_timers.specs.Order.{is_ahead, IsOrdered, position, placed, without, due_of}
 use Rattle.fb_timers.proofs.Ahead.{IsBefore, ahead_tells, ahead_on, ahead_else}
 use Rattle.fb_timers.proofs.Ordered.{other_block, other_rest, differ}
 use Rattle.fb_timers.proofs.Told.{equal_tells, equal_is, same_timer, all_told, never_both}
@@ -26,12 +26,12 @@ parted x (a ∷ l) o (suc i) zero d le h t = absurd (omega (arith, le))
 parted x (a ∷ l) o (suc i) (suc j) d le h t = parted x l o.1 i j d (omega (arith, le)) (omega (arith, h)) t
 
 -- so their number is where the others begin
-pub place_found : (x : Armed) (l : List Armed) (i : ℕ) → i ≤ length l → IsPartitionPoint (λ (y : Armed). is_ahead y x ≡ true) (λ (y : Armed). is_ahead y x ≡ false) l i → i ≡ place x l
+pub place_found : (x : Armed) (l : List Armed) (i : ℕ) → i ≤ length l → IsPartitionPoint (λ (y : Armed). is_ahead y x ≡ true) (λ (y : Armed). is_ahead y x ≡ false) l i → i ≡ position x l
 place_found x [] i h p = omega (arith, h)
-place_found x (a ∷ l) zero h p = sym (ap (λ b. if b then suc (place x l) else 0) (p.1 0 a (omega arith) (omega arith)))
+place_found x (a ∷ l) zero h p = sym (ap (λ b. if b then suc (position x l) else 0) (p.1 0 a (omega arith) (omega arith)))
 place_found x (a ∷ l) (suc i) h p =
     ap suc (place_found x l i (omega (arith, h)) ((λ k d low high. p.0 (suc k) d (omega arith) (omega (arith, high))), (λ k d low high. p.1 (suc k) d (omega (arith, low)) (omega (arith, high)))))
-    ∙ sym (ap (λ b. if b then suc (place x l) else 0) (p.0 0 a (omega arith) (omega arith)))
+    ∙ sym (ap (λ b. if b then suc (position x l) else 0) (p.0 0 a (omega arith) (omega arith)))
 
 -- ---- one is put in, and one is taken out
 
@@ -43,10 +43,10 @@ not_both a b t = by (ahead_tells a b) (ahead_tells b a) where
   by (inl p) (inr q) = q.0
   by (inr p) q = absurd (cc)
 
-pub place_inserts : (x : Armed) (l : List Armed) → due_of l x.block ≡ None → insert l (place x l) x ≡ placed x l
+pub place_inserts : (x : Armed) (l : List Armed) → due_of l x.block ≡ None → insert l (position x l) x ≡ placed x l
 place_inserts x [] n = refl
 place_inserts x (a ∷ l) n = by (is_ahead a x) refl (place_inserts x l (other_rest a x l n)) where
-  by : (b : Bool) → is_ahead a x ≡ b → insert l (place x l) x ≡ placed x l → insert (a ∷ l) (if b then suc (place x l) else 0) x ≡ (if is_ahead x a then x ∷ a ∷ l else a ∷ placed x l)
+  by : (b : Bool) → is_ahead a x ≡ b → insert l (position x l) x ≡ placed x l → insert (a ∷ l) (if b then suc (position x l) else 0) x ≡ (if is_ahead x a then x ∷ a ∷ l else a ∷ placed x l)
   by true t again = ap (λ m. a ∷ m) again ∙ sym (ap (λ c. if c then x ∷ a ∷ l else a ∷ placed x l) (not_both a x t))
   by false f again = sym (ap (λ c. if c then x ∷ a ∷ l else a ∷ placed x l) (ahead_else a x f (λ e. differ a.block x.block (other_block a x l n) (sym e))))
 
@@ -60,19 +60,19 @@ not_self a x e = by (is_ahead a x) refl where
       absurd (cc)
   by false f = f
 
-pub place_removes : (x : Armed) (l : List Armed) → IsOrdered l → due_of l x.block ≡ Some x.due → (place x l < length l) × (remove l (place x l) ≡ without l x.block)
+pub place_removes : (x : Armed) (l : List Armed) → IsOrdered l → due_of l x.block ≡ Some x.due → (position x l < length l) × (remove l (position x l) ≡ without l x.block)
 place_removes x [] o h = absurd (cc)
 place_removes x (a ∷ l) o h = by (equal_tells a.block x.block) (λ g. place_removes x l o.1 g) where
-  by : ((a.block == x.block) ≡ true) ⊎ ((a.block == x.block) ≡ false) → (due_of l x.block ≡ Some x.due → (place x l < length l) × (remove l (place x l) ≡ without l x.block))
-      → (place x (a ∷ l) < suc (length l)) × (remove (a ∷ l) (place x (a ∷ l)) ≡ without (a ∷ l) x.block)
+  by : ((a.block == x.block) ≡ true) ⊎ ((a.block == x.block) ≡ false) → (due_of l x.block ≡ Some x.due → (position x l < length l) × (remove l (position x l) ≡ without l x.block))
+      → (position x (a ∷ l) < suc (length l)) × (remove (a ∷ l) (position x (a ∷ l)) ≡ without (a ∷ l) x.block)
   by (inl t) again =
       let s : Some a.due ≡ Some x.due = sym (ap (λ b. if b then Some a.due else due_of l x.block) t) ∙ h in
       let e : a.due ≡ x.due = cc in
-      let here : place x (a ∷ l) ≡ 0 = ap (λ b. if b then suc (place x l) else 0) (not_self a x (same_timer a x e (equal_is a.block x.block t))) in
+      let here : position x (a ∷ l) ≡ 0 = ap (λ b. if b then suc (position x l) else 0) (not_self a x (same_timer a x e (equal_is a.block x.block t))) in
       (omega (arith, here), ap (λ i. remove (a ∷ l) i) here ∙ sym (ap (λ b. if b then l else a ∷ without l x.block) t))
   by (inr f) again =
       let g : due_of l x.block ≡ Some x.due = sym (ap (λ b. if b then Some a.due else due_of l x.block) f) ∙ h in
       let t : is_ahead a x ≡ true = all_told (λ (b : Armed). is_ahead a b ≡ true) l x.block x.due o.0 g in
-      let past : place x (a ∷ l) ≡ suc (place x l) = ap (λ b. if b then suc (place x l) else 0) t in
+      let past : position x (a ∷ l) ≡ suc (position x l) = ap (λ b. if b then suc (position x l) else 0) t in
       let rest = again g in
       (omega (arith, past, rest.0), ap (λ i. remove (a ∷ l) i) past ∙ ap (λ m. a ∷ m) rest.1 ∙ sym (ap (λ b. if b then l else a ∷ without l x.block) f))

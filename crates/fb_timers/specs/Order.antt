@@ -24,11 +24,11 @@ AreApart [] = Unit {0}
 AreApart (a ∷ as') = (due_of as' a.block ≡ None) × AreApart as'
 
 -- how many timers of an order stand before one
-abbrev pub place : Armed → List Armed → ℕ
-place x [] = 0
-place x (a ∷ as') = if is_ahead a x then suc (place x as') else 0
+abbrev pub position : Armed → List Armed → ℕ
+position x [] = 0
+position x (a ∷ as') = if is_ahead a x then suc (position x as') else 0
 
--- a timer in its place among others
+-- a timer in its position among others
 abbrev pub placed : Armed → List Armed → List Armed
 placed x [] = x ∷ []
 placed x (a ∷ as') = if is_ahead x a then x ∷ a ∷ as' else a ∷ placed x as'

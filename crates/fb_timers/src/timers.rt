@@ -1,7 +1,7 @@
 //! All timers of a device that are armed.
 
 ghost use Rattle.std.specs.Prelude.{ℕ, ◌≡◌, ◌≤◌, ◌<◌, [], length, slice_get, slice_set, slice_index_or, Option, None, Some, IfOk};
-ghost use Rattle.fb_timers.specs.Order.{place, placed, without, due_of, due_at, if_due, IsOrdered, AreApart};
+ghost use Rattle.fb_timers.specs.Order.{position, placed, without, due_of, due_at, if_due, IsOrdered, AreApart};
 
 use crate::armed::Armed;
 use std::alloc::{AllocError, Global};
@@ -30,9 +30,9 @@ impl Model for Timers {
 }
 
 // How many timers stand before one.
-fn place_of(armed: &VecDeque<Armed>, one: &Armed) -> usize
+fn position_of(armed: &VecDeque<Armed>, one: &Armed) -> usize
     requires { IsOrdered armed.now.items }
-    ensures place { result ≡ place one.now armed.now.items }
+    ensures position { result ≡ position one.now armed.now.items }
     ensures within { result ≤ length armed.now.items }
 {
     armed.partition_point(|other| other.is_ahead(one))
@@ -94,7 +94,7 @@ impl Timers {
         ensures room { self.new.room ≡ self.old.room }
     {
         let one = Armed { due, block };
-        let at = place_of(&self.armed, &one);
+        let at = position_of(&self.armed, &one);
         match self.armed.insert(at, one) {
             Ok(()) => {}
             Err(_) => unreachable!(),
@@ -108,7 +108,7 @@ impl Timers {
         ensures room { self.new.room ≡ self.old.room }
     {
         if let Some(due) = told_of(&self.moments, block) {
-            let at = place_of(&self.armed, &Armed { due, block });
+            let at = position_of(&self.armed, &Armed { due, block });
             let _ = self.armed.remove(at);
             tell(&mut self.moments, block, None);
         }

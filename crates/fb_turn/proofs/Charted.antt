@@ -14,13 +14,13 @@ use Rattle.fb_chart.specs.Views.{named, event_names, output_names, body_kind, ki
 use Rattle.fb_chart.specs.Sending.{Points}
 use Rattle.fb_chart.specs.Charting.{block_in, states_in, events_in, outputs_in, IsReady, IsStateNumber, cells_of, begun, FineFrom, HasRested}
 use Rattle.fb_chart.proofs.Coming.{outs_known}
-use Rattle.fb_chart.proofs.Turning.{chart_ready, chart_event}
+use Rattle.fb_chart.proofs.Invoking.{chart_ready, chart_event}
 use Rattle.fb_serve.specs.declared.standing.Ports.{Ports}
 use Rattle.fb_serve.specs.declared.standing.Standing.{Standing}
 use Rattle.fb_turn.specs.declared.memory.Condition.{Condition}
 use Rattle.fb_turn.specs.declared.memory.Condition.TheVariants as has
 use Rattle.fb_turn.specs.Conditions.{IsConditionOf, leaf_state}
-use Rattle.fb_turn.specs.Turning.{CanRun, HasRun, HasRoom}
+use Rattle.fb_turn.specs.Dispatching.{CanRun, HasRun, HasRoom}
 
 module _ (x : Block) (p : Ports) (own issued : List Cell) (condition : Condition) (event : ℕ) (values : List ℤ) (most room : ℕ) (can : CanRun x p own issued condition event values most room) (c : Chart) (body : x.body ≡ b.Chart c) where
   kind : kind_of x ≡ Charted (block_in c)

@@ -8,14 +8,14 @@ use Rattle.fb_chart.specs.Sampling.{sampled_by}
 use Rattle.fb_serve.specs.declared.standing.Ports.{Ports}
 use Rattle.fb_turn.specs.declared.memory.Condition.{Condition}
 use Rattle.fb_turn.specs.declared.memory.Memory.{Memory}
-use Rattle.fb_turn.specs.Turning.{CanRun, CanTurn}
+use Rattle.fb_turn.specs.Dispatching.{CanRun, CanDispatch}
 
 -- the same stores and inputs give the same values
 pub sampled_same : (issued issued' : List (List Cell)) (own own' : List Cell) (ts ts' : List Take) → issued ≡ issued' → own ≡ own' → ts ≡ ts' → sampled_by issued (forms_of own) ts (values_of own) ≡ sampled_by issued' (forms_of own') ts' (values_of own')
 sampled_same issued issued' own own' ts ts' ei eo et =
     ap (λ (xs : List (List Cell)). sampled_by xs (forms_of own) ts (values_of own)) ei ∙ ap (λ (o : List Cell). sampled_by issued' (forms_of o) ts (values_of o)) eo ∙ ap (λ (us : List Take). sampled_by issued' (forms_of own') us (values_of own')) et
 
-module _ (blocks : List Block) (ports : List Ports) (m : Memory) (p : Point) (values : List ℤ) (room : ℕ) (can : CanTurn blocks ports m p values room) (sampled : List Cell) where
+module _ (blocks : List Block) (ports : List Ports) (m : Memory) (p : Point) (values : List ℤ) (room : ℕ) (can : CanDispatch blocks ports m p values room) (sampled : List Cell) where
   pub sampled_can : (x : Block) (slots : Ports) (own issued : List Cell) (d : Condition) (steps : ℕ) → x ≡ can.at.block → slots ≡ can.at.slots → own ≡ sampled → issued ≡ can.at.issued → d ≡ can.at.condition → steps ≡ can.at.event.steps
       → forms_of sampled ≡ forms_of can.at.own → values_of sampled ≡ sampled_by m.issued.items (forms_of can.at.own) can.at.event.takes.items (values_of can.at.own)
       → CanRun x slots own issued d p.event values steps room

@@ -26,13 +26,13 @@ use Rattle.fb_serve.specs.declared.standing.Effect.{Effect}
 use Rattle.fb_serve.specs.declared.standing.Ports.{Ports}
 use Rattle.fb_serve.specs.declared.standing.Standing.{Standing}
 use Rattle.fb_serve.specs.Ports.{ServesPorts}
-use Rattle.fb_serve.specs.Turns.{event_at, leaf_of, effect_of}
+use Rattle.fb_serve.specs.Responses.{event_at, leaf_of, effect_of}
 use Rattle.fb_serve.specs.Serving.{SendsFit, CanServe, HasServed}
 use Rattle.fb_serve.proofs.Serving.{reply_outs}
 use Rattle.fb_turn.specs.declared.memory.Condition.{Condition}
 use Rattle.fb_turn.specs.declared.memory.Condition.TheVariants as has
 use Rattle.fb_turn.specs.Conditions.{IsConditionOf, leaf_state}
-use Rattle.fb_turn.specs.Turning.{CanRun, HasRun, HasRoom, SendsWell}
+use Rattle.fb_turn.specs.Dispatching.{CanRun, HasRun, HasRoom, SendsWell}
 
 abbrev AreKnown : List Name → List Name → Type 0
 AreKnown names os = AllByRecursion (λ (o : Name). is_in o names ≡ true) os

@@ -8,7 +8,7 @@ use Rattle.fb_model.specs.Certificates.{names}
 use Rattle.st_exec.specs.Cells.{Cell}
 use Rattle.fb_chart.specs.Views.{named}
 use Rattle.fb_chart.specs.Charting.{IsStateNumber, cells_of}
-use Rattle.fb_serve.specs.Turns.{condition_of}
+use Rattle.fb_serve.specs.Responses.{condition_of}
 use Rattle.fb_turn.specs.declared.memory.Condition.{Condition}
 use Rattle.fb_turn.specs.declared.memory.Condition.TheVariants as c
 

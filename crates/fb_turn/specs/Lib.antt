@@ -5,4 +5,4 @@ pub use Rattle.fb_serve.specs as fb_serve
 pub use Rattle.st_run.specs as st_run
 pub use Rattle.st_exec.specs as st_exec
 pub mod Conditions
-pub mod Turning
+pub mod Dispatching

@@ -4,7 +4,7 @@ ghost use Rattle.std.specs.Prelude.{◌≡◌, ◌≤◌, ◌+◌, length};
 ghost use Rattle.st_exec.specs.Cells.{forms_of};
 ghost use Rattle.fb_chart.specs.Views.{kind_of};
 ghost use Rattle.fb_turn.specs.Conditions.{IsConditionOf, leaf_state};
-ghost use Rattle.fb_turn.specs.Turning.{CanRun, HasRun, CanTurn, HasTurned};
+ghost use Rattle.fb_turn.specs.Dispatching.{CanRun, HasRun, CanDispatch, HasDispatched};
 
 use crate::memory::{Condition, Memory};
 use fb_chart::{Block, Body, Emit, Point, Store, invoke, sample};
@@ -82,7 +82,7 @@ fn run<E: Emit>(
 ///
 /// It does not trap. What its event outputs reach is emitted, for which there is room; the
 /// room falls by as many. It takes no memory.
-pub fn turn<E: Emit>(
+pub fn dispatch_block<E: Emit>(
     blocks: &[Block],
     ports: &[Ports],
     memory: &mut Memory,
@@ -91,8 +91,8 @@ pub fn turn<E: Emit>(
     clock: u64,
     emit: &mut E,
 ) -> Outcome
-    requires { CanTurn blocks.now ports.now memory.old point values.now (E.room emit.old) }
-    ensures turned { HasTurned blocks.now ports.now memory.old point values.now clock memory.new result.steps result.effect (E.sent emit.old) (E.sent emit.new) }
+    requires { CanDispatch blocks.now ports.now memory.old point values.now (E.room emit.old) }
+    ensures dispatched { HasDispatched blocks.now ports.now memory.old point values.now clock memory.new result.steps result.effect (E.sent emit.old) (E.sent emit.new) }
     ensures room { E.room emit.old + length (E.sent emit.old) ≡ E.room emit.new + length (E.sent emit.new) }
     ensures same_reference { E.reference emit.new ≡ E.reference emit.old }
 {

@@ -4,7 +4,7 @@
 mod dispatch;
 mod memory;
 
-pub use dispatch::{Outcome, turn};
+pub use dispatch::{Outcome, dispatch_block};
 pub use fb_chart;
 pub use fb_serve;
 pub use memory::{Condition, Memory};

@@ -8,7 +8,7 @@ use Rattle.std.specs.Str.{bytes_eq}
 use Rattle.std.specs.Map.{lookup}
 use Rattle.indexmap.specs.IndexMap.{insert_entry}
 use Rattle.fb_model.specs.Names.{Name, is_in}
-use Rattle.st_code.specs.declared.place.Place.{Place}
+use Rattle.st_code.specs.declared.location.Location.{Location}
 use Rattle.st_code.specs.Forms.{Form, slot_count, size_of, slot_in, names_in, bounds_in, plain_slot, IsDeclaredIn}
 use Rattle.st_code.specs.Laid.{Table, found, forms_in, IsLaid}
 
@@ -16,11 +16,11 @@ pub found_by : (t : Table) (x : Name) → lookup (λ k. bytes_eq x (string_bytes
 found_by [] x = refl
 found_by (e ∷ es) x = ap (λ r. if bytes_eq x (string_bytes e.0) then Some e.1 else r) (found_by es x)
 
-abbrev pub bounds_at : Option Place → Option (ℤ × ℤ)
+abbrev pub bounds_at : Option Location → Option (ℤ × ℤ)
 bounds_at None = None
 bounds_at (Some p) = p.bounds
 
-abbrev pub slot_at : ℕ → Option Place → ℕ
+abbrev pub slot_at : ℕ → Option Location → ℕ
 slot_at end None = end
 slot_at end (Some p) = p.first
 
@@ -52,12 +52,12 @@ size_found from end (e ∷ es) h = omega (arith, size_found (from + slot_count e
 
 -- ---- one more variable
 
-pub laid_more : (from end : ℕ) (t : Table) (e : String Global × Place) (more : ℕ) → IsLaid from t end → e.1.first ≡ end → more ≡ end + slot_count e.1.bounds → IsLaid from (t ++ e ∷ []) more
+pub laid_more : (from end : ℕ) (t : Table) (e : String Global × Location) (more : ℕ) → IsLaid from t end → e.1.first ≡ end → more ≡ end + slot_count e.1.bounds → IsLaid from (t ++ e ∷ []) more
 laid_more from end [] e more h f m = (omega (arith, h, f), omega (arith, h, m))
 laid_more from end (d ∷ ds) e more h f m = (h.0, laid_more (from + slot_count d.1.bounds) end ds e more h.1 f m)
 
 -- a key that is not there goes last
-pub insert_new : (t : Table) (key : String Global) (p : Place) → found t (string_bytes key) ≡ None → insert_entry string_eq t key p ≡ t ++ (key, p) ∷ []
+pub insert_new : (t : Table) (key : String Global) (p : Location) → found t (string_bytes key) ≡ None → insert_entry string_eq t key p ≡ t ++ (key, p) ∷ []
 insert_new [] key p h = refl
 insert_new (e ∷ es) key p h = by (bytes_eq (string_bytes key) (string_bytes e.0)) h (insert_new es key p) where
   by : (b : Bool) → (if b then Some e.1 else found es (string_bytes key)) ≡ None → (found es (string_bytes key) ≡ None → insert_entry string_eq es key p ≡ es ++ (key, p) ∷ [])
@@ -83,7 +83,7 @@ module _ (forms : List Form) (t : Table) (size : ℕ) (is : forms_in t ≡ forms
       let e = ap size_of is in
       omega (arith, s, e)
 
-  module _ (x : Name) (o : Option Place) (here : found t x ≡ o) where
+  module _ (x : Name) (o : Option Location) (here : found t x ≡ o) where
     pub slot_is : slot_at size o ≡ slot_in forms x
     slot_is =
         let s = slot_found 0 size t x laid in
@@ -99,7 +99,7 @@ module _ (forms : List Form) (t : Table) (size : ℕ) (is : forms_in t ≡ forms
 
     pub place_is : MatchOption o (is_in x (names_in forms) ≡ false) (λ p. (p.first ≡ slot_in forms x) × (p.bounds ≡ bounds_in forms x) × IsDeclaredIn forms x)
     place_is = by o slot_is bounds_are is_declared where
-      by : (q : Option Place) → slot_at size q ≡ slot_in forms x → bounds_at q ≡ bounds_in forms x → is_in x (names_in forms) ≡ is_some q
+      by : (q : Option Location) → slot_at size q ≡ slot_in forms x → bounds_at q ≡ bounds_in forms x → is_in x (names_in forms) ≡ is_some q
           → MatchOption q (is_in x (names_in forms) ≡ false) (λ p. (p.first ≡ slot_in forms x) × (p.bounds ≡ bounds_in forms x) × IsDeclaredIn forms x)
       by None s b d = d
       by (Some p) s b d = (s, b, d)

@@ -4,19 +4,19 @@ use Rattle.std.specs.declared.string.String.{String}
 use Rattle.std.specs.declared.alloc.Global.{Global}
 use Rattle.std.specs.Str.{bytes_eq}
 use Rattle.fb_model.specs.Names.{Name}
-use Rattle.st_code.specs.declared.place.Place.{Place}
+use Rattle.st_code.specs.declared.location.Location.{Location}
 use Rattle.st_code.specs.Forms.{Form, slot_count}
 
--- names with their places, in the order in which they were declared
+-- names with their locations, in the order in which they were declared
 abbrev pub Table : Type 0
-Table = List (String Global × Place)
+Table = List (String Global × Location)
 
--- the place of a name
-abbrev pub found : Table → Name → Option Place
+-- the location of a name
+abbrev pub found : Table → Name → Option Location
 found [] x = None
 found (e ∷ es) x = if bytes_eq x (string_bytes e.0) then Some e.1 else found es x
 
-abbrev pub form_in : String Global × Place → Form
+abbrev pub form_in : String Global × Location → Form
 form_in e = (string_bytes e.0, e.1.bounds)
 
 abbrev pub forms_in : Table → List Form

@@ -15,7 +15,7 @@ pub enum CodeStmt {
     If(Vec<CodeBranch>, Vec<CodeStmt>),
     /// CASE: the selector, the arms, and what is done where no label has its value.
     Case(Code, Vec<CodeArm>, Vec<CodeStmt>),
-    /// FOR, and what is done in each turn.
+    /// FOR, and what is done in each iteration.
     For(CodeCounting, Vec<CodeStmt>),
 }
 

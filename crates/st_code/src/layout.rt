@@ -5,7 +5,7 @@ ghost use Rattle.fb_model.specs.Names.{is_in};
 ghost use Rattle.st_code.specs.Forms.{slot_in, plain_slot, size_of, bounds_in, names_in, IsDeclaredIn};
 ghost use Rattle.st_code.specs.Laid.{found};
 
-use crate::place::{Place, find, give, same_places};
+use crate::location::{Location, find, give, same_locations};
 use indexmap::IndexMap;
 use std::alloc::{AllocError, Global};
 use std::marker::Model;
@@ -14,7 +14,7 @@ use std::marker::Model;
 /// the variables in this order, each with its bounds where it is an array.
 #[derive(Drop)]
 pub struct Layout {
-    places: IndexMap<String, Place>,
+    locations: IndexMap<String, Location>,
     size: usize,
 }
 
@@ -25,9 +25,9 @@ impl Model for Layout {
 
     ghost Value = { List Form };
 
-    ghost view = { λ l. forms_in l.places.entries };
+    ghost view = { λ l. forms_in l.locations.entries };
 
-    ghost invariant = { λ l. IsLaid 0 l.places.entries l.size };
+    ghost invariant = { λ l. IsLaid 0 l.locations.entries l.size };
 }
 
 impl Layout {
@@ -36,7 +36,7 @@ impl Layout {
         ensures { result ≡ [] }
     {
         Layout {
-            places: IndexMap::new(alloc),
+            locations: IndexMap::new(alloc),
             size: 0,
         }
     }
@@ -54,10 +54,10 @@ impl Layout {
         ensures added { IfOk result (λ is_new. self.new ≡ (if is_new then self.old ++ (name.now, bounds) ∷ [] else self.old)) }
         ensures unchanged { OnErr result (self.new ≡ self.old) }
     {
-        if find(&self.places, name).is_some() {
+        if find(&self.locations, name).is_some() {
             return Ok(false);
         }
-        match give(alloc, &mut self.places, self.size, name, bounds) {
+        match give(alloc, &mut self.locations, self.size, name, bounds) {
             Ok(end) => {
                 self.size = end;
                 Ok(true)
@@ -70,7 +70,7 @@ impl Layout {
     pub fn is_like(&self, other: &Layout) -> bool
         ensures { result ≡ true → self.now ≡ other.now }
     {
-        same_places(&self.places, &other.places)
+        same_locations(&self.locations, &other.locations)
     }
 
     /// How many slots there are.
@@ -81,18 +81,18 @@ impl Layout {
     }
 
     /// Where the numbers of a variable are; none where it is not declared.
-    pub fn place(&self, name: &str) -> Option<Place>
+    pub fn location(&self, name: &str) -> Option<Location>
         ensures { MatchOption result (is_in name.now (names_in self.now) ≡ false) (λ p. (p.first ≡ slot_in self.now name.now) × (p.bounds ≡ bounds_in self.now name.now) × IsDeclaredIn self.now name.now) }
     {
-        find(&self.places, name)
+        find(&self.locations, name)
     }
 
     /// The first slot of a variable; behind all slots where it is not declared.
     pub fn slot(&self, name: &str) -> usize
         ensures { result ≡ slot_in self.now name.now }
     {
-        match find(&self.places, name) {
-            Some(place) => place.first,
+        match find(&self.locations, name) {
+            Some(location) => location.first,
             None => self.size,
         }
     }
@@ -101,9 +101,9 @@ impl Layout {
     pub fn plain_slot(&self, name: &str) -> usize
         ensures { result ≡ plain_slot self.now name.now }
     {
-        match find(&self.places, name) {
-            Some(place) => match place.bounds {
-                None => place.first,
+        match find(&self.locations, name) {
+            Some(location) => match location.bounds {
+                None => location.first,
                 Some(_) => self.size,
             },
             None => self.size,

@@ -5,12 +5,12 @@ mod code;
 mod command;
 mod expression;
 mod layout;
-mod place;
+mod location;
 mod statement;
 
 pub use code::{Code, CodeLink};
 pub use command::{CodeArm, CodeBranch, CodeCounting, CodeStmt, Procedure};
 pub use expression::coded_term;
 pub use layout::Layout;
-pub use place::Place;
+pub use location::Location;
 pub use statement::coded_algorithm;

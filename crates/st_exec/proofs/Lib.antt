@@ -1,6 +1,6 @@
 pub mod Reading
 pub mod Writing
 pub mod Chaining
-pub mod Turns
+pub mod Iterations
 pub mod Serving
 pub mod Runs

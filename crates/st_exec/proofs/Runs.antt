@@ -5,7 +5,7 @@ use Rattle.std.proofs.lemmas.Int.{ints}
 use Rattle.fb_words.proofs.Types.{le_is}
 use Rattle.fb_model.specs.Names.{Name}
 use Rattle.fb_model.specs.Values.{One, Values}
-use Rattle.fb_model.specs.Language.{Outcome, Done, Trap, more, after, with_value, setting, setting_part, turn_count, turns}
+use Rattle.fb_model.specs.Language.{Outcome, Done, Trap, more, after, with_value, setting, setting_part, iteration_count, iterations}
 use Rattle.st_exec.specs.Runs.{IsWithin}
 
 more_zero : (o : Outcome) → more 0 o ≡ o
@@ -56,57 +56,57 @@ index_within limit n values x low high k v h = by (int_le low k) (int_le k high)
   by false true e f o h = absurd h
   by false false e f o h = absurd h
 
--- ---- turns
+-- ---- iterations
 
 after_at_least : (limit m r : ℕ) (o : Outcome) (f : Values → Outcome) → ((j : ℕ) (values : Values) → IsWithin limit (more (m + j) (f values)) → m + j + r ≤ limit) → IsWithin limit (more m (after o f)) → m + r ≤ limit
 after_at_least limit m r (Done values j) f go h = let a = go j values (subst (IsWithin limit) (more_more m j (f values)) h) in omega arith
 after_at_least limit m r Trap f go h = absurd h
 
-turns_more : (limit m n : ℕ) (body : Values → Outcome) (x : Name) (v k : ℤ) (values : Values) → IsWithin limit (more m (turns n body x v k values)) → m + n ≤ limit
-turns_more limit m zero body x v k values h = h
-turns_more limit m (suc n) body x v k values h =
-    let f = turns n body x (v +ℤ k) k in
+iterations_more : (limit m n : ℕ) (body : Values → Outcome) (x : Name) (v k : ℤ) (values : Values) → IsWithin limit (more m (iterations n body x v k values)) → m + n ≤ limit
+iterations_more limit m zero body x v k values h = h
+iterations_more limit m (suc n) body x v k values h =
+    let f = iterations n body x (v +ℤ k) k in
     let o = body (setting values x (One v)) in
     let g = subst (IsWithin limit) (more_more m 1 (after o f)) h in
-    let a : m + 1 + n ≤ limit = after_at_least limit (m + 1) n o f (λ j s r. turns_more limit (m + 1 + j) n body x (v +ℤ k) k s r) g in
+    let a : m + 1 + n ≤ limit = after_at_least limit (m + 1) n o f (λ j s r. iterations_more limit (m + 1 + j) n body x (v +ℤ k) k s r) g in
     omega (arith, a)
 
--- a FOR makes no more turns than it takes steps
-pub turns_within : (limit n : ℕ) (body : Values → Outcome) (x : Name) (v k : ℤ) (values : Values) → IsWithin limit (turns n body x v k values) → n ≤ limit
-turns_within limit n body x v k values h =
-    let a = turns_more limit 0 n body x v k values (subst (IsWithin limit) (sym (more_zero (turns n body x v k values))) h) in omega (arith, a)
+-- a FOR makes no more iterations than it takes steps
+pub iterations_within : (limit n : ℕ) (body : Values → Outcome) (x : Name) (v k : ℤ) (values : Values) → IsWithin limit (iterations n body x v k values) → n ≤ limit
+iterations_within limit n body x v k values h =
+    let a = iterations_more limit 0 n body x v k values (subst (IsWithin limit) (sym (more_zero (iterations n body x v k values))) h) in omega (arith, a)
 
-pub turns_from : (e n : ℕ) (body : Values → Outcome) (x : Name) (v w k : ℤ) (values : Values) → e ≡ n → v ≡ w → more 0 (turns e body x v k values) ≡ turns n body x w k values
-turns_from e n body x v w k values p q = more_zero (turns e body x v k values) ∙ ap (λ j. turns j body x v k values) p ∙ ap (λ z. turns n body x z k values) q
+pub iterations_from : (e n : ℕ) (body : Values → Outcome) (x : Name) (v w k : ℤ) (values : Values) → e ≡ n → v ≡ w → more 0 (iterations e body x v k values) ≡ iterations n body x w k values
+iterations_from e n body x v w k values p q = more_zero (iterations e body x v k values) ∙ ap (λ j. iterations j body x v k values) p ∙ ap (λ z. iterations n body x z k values) q
 
--- one turn of a FOR, after m steps, with r turns left and then one fewer
-module _ (m r r' : ℕ) (x : Name) (body : Values → Outcome) (v w k : ℤ) (values put : Values) (whole : Outcome) (e : more m (turns r body x v k values) ≡ whole) (left : r ≡ suc r') (same : w ≡ v) (now : put ≡ setting values x (One w)) where
-  turn_begun : more (m + 1) (after (body put) (turns r' body x (v +ℤ k) k)) ≡ whole
-  turn_begun =
-      ap (λ s. more (m + 1) (after (body s) (turns r' body x (v +ℤ k) k))) (now ∙ ap (λ z. setting values x (One z)) same)
-      ∙ sym (more_more m 1 (after (body (setting values x (One v))) (turns r' body x (v +ℤ k) k)))
-      ∙ ap (λ j. more m (turns j body x v k values)) (sym left) ∙ e
+-- one iteration of a FOR, after m steps, with r iterations left and then one fewer
+module _ (m r r' : ℕ) (x : Name) (body : Values → Outcome) (v w k : ℤ) (values put : Values) (whole : Outcome) (e : more m (iterations r body x v k values) ≡ whole) (left : r ≡ suc r') (same : w ≡ v) (now : put ≡ setting values x (One w)) where
+  iteration_begun : more (m + 1) (after (body put) (iterations r' body x (v +ℤ k) k)) ≡ whole
+  iteration_begun =
+      ap (λ s. more (m + 1) (after (body s) (iterations r' body x (v +ℤ k) k))) (now ∙ ap (λ z. setting values x (One z)) same)
+      ∙ sym (more_more m 1 (after (body (setting values x (One v))) (iterations r' body x (v +ℤ k) k)))
+      ∙ ap (λ j. more m (iterations j body x v k values)) (sym left) ∙ e
 
-  pub turn_within : (limit : ℕ) → IsWithin limit whole → IsWithin limit (body put)
-  turn_within limit h = part_within limit (m + 1) (body put) whole (turns r' body x (v +ℤ k) k) turn_begun h
+  pub iteration_within : (limit : ℕ) → IsWithin limit whole → IsWithin limit (body put)
+  iteration_within limit h = part_within limit (m + 1) (body put) whole (iterations r' body x (v +ℤ k) k) iteration_begun h
 
-  pub turn_done : (b : ℕ) (end : Values) (v' : ℤ) → body put ≡ Done end b → v' ≡ v +ℤ k → more (m + 1 + b) (turns r' body x v' k end) ≡ whole
-  turn_done b end v' d q = ap (λ z. more (m + 1 + b) (turns r' body x z k end)) q ∙ one_more (m + 1) b (body put) whole (turns r' body x (v +ℤ k) k) end turn_begun d
+  pub iteration_done : (b : ℕ) (end : Values) (v' : ℤ) → body put ≡ Done end b → v' ≡ v +ℤ k → more (m + 1 + b) (iterations r' body x v' k end) ≡ whole
+  iteration_done b end v' d q = ap (λ z. more (m + 1 + b) (iterations r' body x z k end)) q ∙ one_more (m + 1) b (body put) whole (iterations r' body x (v +ℤ k) k) end iteration_begun d
 
-  pub turn_steps : (limit b : ℕ) (end : Values) → IsWithin limit whole → body put ≡ Done end b → m + 1 + b ≤ limit
-  turn_steps limit b end h d = steps_within limit (m + 1 + b) (turns r' body x (v +ℤ k) k end) whole (turn_done b end (v +ℤ k) d refl) h
+  pub iteration_steps : (limit b : ℕ) (end : Values) → IsWithin limit whole → body put ≡ Done end b → m + 1 + b ≤ limit
+  iteration_steps limit b end h d = steps_within limit (m + 1 + b) (iterations r' body x (v +ℤ k) k end) whole (iteration_done b end (v +ℤ k) d refl) h
 
-pub turns_end : (m r : ℕ) (x : Name) (body : Values → Outcome) (v k : ℤ) (values : Values) (whole : Outcome) → more m (turns r body x v k values) ≡ whole → r ≡ 0 → whole ≡ Done values m
-turns_end m r x body v k values whole e z = sym e ∙ ap (λ j. more m (turns j body x v k values)) z ∙ ap (Done values) (omega arith)
+pub iterations_end : (m r : ℕ) (x : Name) (body : Values → Outcome) (v k : ℤ) (values : Values) (whole : Outcome) → more m (iterations r body x v k values) ≡ whole → r ≡ 0 → whole ≡ Done values m
+iterations_end m r x body v k values whole e z = sym e ∙ ap (λ j. more m (iterations j body x v k values)) z ∙ ap (Done values) (omega arith)
 
 pub next_value : (v k : ℤ) (i : ℕ) → v +ℤ pos (i + 1) *ℤ k ≡ v +ℤ pos i *ℤ k +ℤ k
 next_value v k i = omega (arith, ints)
 
 -- the whole of a FOR, with its bounds in other words
-pub same_whole : (first first' last last' step step' : ℤ) (body : Values → Outcome) (x : Name) (n : ℕ) (values : Values) → first' ≡ first → last' ≡ last → step' ≡ step → n ≡ turn_count first' last' step'
-    → turns n body x first' step' values ≡ turns (turn_count first last step) body x first step values
+pub same_whole : (first first' last last' step step' : ℤ) (body : Values → Outcome) (x : Name) (n : ℕ) (values : Values) → first' ≡ first → last' ≡ last → step' ≡ step → n ≡ iteration_count first' last' step'
+    → iterations n body x first' step' values ≡ iterations (iteration_count first last step) body x first step values
 same_whole first first' last last' step step' body x n values f l k e =
-    ap (λ j. turns j body x first' step' values) e
-    ∙ ap (λ z. turns (turn_count z last' step') body x z step' values) f
-    ∙ ap (λ z. turns (turn_count first z step') body x first step' values) l
-    ∙ ap (λ z. turns (turn_count first last z) body x first z values) k
+    ap (λ j. iterations j body x first' step' values) e
+    ∙ ap (λ z. iterations (iteration_count z last' step') body x z step' values) f
+    ∙ ap (λ z. iterations (iteration_count first z step') body x first step' values) l
+    ∙ ap (λ z. iterations (iteration_count first last z) body x first z values) k

@@ -8,7 +8,7 @@ use Rattle.fb_model.specs.TypedText.{Term, constant, Command, set, set_part, cho
 use Rattle.fb_model.specs.BlockTyping.{extent}
 use Rattle.fb_model.specs.Shapes.{written, written_choices, written_cases}
 use Rattle.st_exec.specs.Cells.{Form, shape_in, names_in}
-use Rattle.st_exec.specs.Runs.{AreAmong, Serves, ServesOne}
+use Rattle.st_exec.specs.Runs.{AreAmong, Supports, SupportsOne}
 
 in_front : (x : Name) (xs ys : List Name) → is_in x xs ≡ true → is_in x (xs ++ ys) ≡ true
 in_front x [] ys h = absurd (cc)
@@ -48,42 +48,42 @@ plain_alike None (Some c) e f = absurd (cc)
 plain_alike (Some b) c e f = absurd (cc)
 
 module _ (forms : List Form) where
-  pub first_served : (c : Command) (cs : Commands) → Serves forms (then_do c cs) → ServesOne forms c
+  pub first_served : (c : Command) (cs : Commands) → Supports forms (then_do c cs) → SupportsOne forms c
   first_served c cs s = (s.0, s.1, s.2.0, among_front _ (written cs) (names_in forms) s.3)
 
-  pub rest_served : (c : Command) (cs : Commands) → Serves forms (then_do c cs) → Serves forms cs
+  pub rest_served : (c : Command) (cs : Commands) → Supports forms (then_do c cs) → Supports forms cs
   rest_served c cs s = (s.0, s.1, s.2.1, among_back _ (written cs) (names_in forms) s.3)
 
-  pub set_served : (x : Name) (e : Term) → ServesOne forms (set x e) → (is_in x (names_in forms) ≡ true) × (shape_in forms x ≡ None)
+  pub set_served : (x : Name) (e : Term) → SupportsOne forms (set x e) → (is_in x (names_in forms) ≡ true) × (shape_in forms x ≡ None)
   set_served x e s = (first_among x [] (names_in forms) s.3, plain_alike (s.0 x) (shape_in forms x) (s.1 x) s.2.0)
 
   -- an array has as many elements as the bounds say by which it is written
-  pub part_served : (x : Name) (low high : ℤ) (i e : Term) → ServesOne forms (set_part x low high i e) → option_map extent (shape_in forms x) ≡ Some (extent (low, high))
+  pub part_served : (x : Name) (low high : ℤ) (i e : Term) → SupportsOne forms (set_part x low high i e) → option_map extent (shape_in forms x) ≡ Some (extent (low, high))
   part_served x low high i e s = sym (s.1 x) ∙ ap (option_map extent) s.2.0
 
   -- ---- a choice
 
-  pub choice_served : (e : Term) (body : Commands) (rest : Choices) (other : Commands) → ServesOne forms (choose (choice e body rest) other) → Serves forms body
+  pub choice_served : (e : Term) (body : Commands) (rest : Choices) (other : Commands) → SupportsOne forms (choose (choice e body rest) other) → Supports forms body
   choice_served e body rest other s =
       (s.0, s.1, s.2.0.1, among_front (written body) (written_choices rest) (names_in forms) (among_front (written body ++ written_choices rest) (written other) (names_in forms) s.3))
 
-  pub choices_served : (e : Term) (body : Commands) (rest : Choices) (other : Commands) → ServesOne forms (choose (choice e body rest) other) → ServesOne forms (choose rest other)
+  pub choices_served : (e : Term) (body : Commands) (rest : Choices) (other : Commands) → SupportsOne forms (choose (choice e body rest) other) → SupportsOne forms (choose rest other)
   choices_served e body rest other s = (s.0, s.1, (s.2.0.2, s.2.1), λ x h. s.3 x (deeper x (written body) (written_choices rest) (written other) h))
 
-  pub other_served : (other : Commands) → ServesOne forms (choose no_choice other) → Serves forms other
+  pub other_served : (other : Commands) → SupportsOne forms (choose no_choice other) → Supports forms other
   other_served other s = (s.0, s.1, s.2.1, s.3)
 
   -- ---- a case
 
-  pub case_served : (e : Term) (ls : List (ℤ × ℤ)) (body : Commands) (rest : Cases) (other : Commands) → ServesOne forms (match_on e (a_case ls body rest) other) → Serves forms body
+  pub case_served : (e : Term) (ls : List (ℤ × ℤ)) (body : Commands) (rest : Cases) (other : Commands) → SupportsOne forms (match_on e (a_case ls body rest) other) → Supports forms body
   case_served e ls body rest other s =
       (s.0, s.1, s.2.1.0, among_front (written body) (written_cases rest) (names_in forms) (among_front (written body ++ written_cases rest) (written other) (names_in forms) s.3))
 
-  pub cases_served : (e : Term) (ls : List (ℤ × ℤ)) (body : Commands) (rest : Cases) (other : Commands) → ServesOne forms (match_on e (a_case ls body rest) other) → ServesOne forms (match_on e rest other)
+  pub cases_served : (e : Term) (ls : List (ℤ × ℤ)) (body : Commands) (rest : Cases) (other : Commands) → SupportsOne forms (match_on e (a_case ls body rest) other) → SupportsOne forms (match_on e rest other)
   cases_served e ls body rest other s = (s.0, s.1, (s.2.0, s.2.1.1, s.2.2), λ x h. s.3 x (deeper x (written body) (written_cases rest) (written other) h))
 
-  pub no_case_served : (e : Term) (other : Commands) → ServesOne forms (match_on e no_case other) → Serves forms other
+  pub no_case_served : (e : Term) (other : Commands) → SupportsOne forms (match_on e no_case other) → Supports forms other
   no_case_served e other s = (s.0, s.1, s.2.2, s.3)
 
-  pub selected_served : (e : Term) (k : ℤ) (cases : Cases) (other : Commands) → ServesOne forms (match_on e cases other) → ServesOne forms (match_on (constant k) cases other)
+  pub selected_served : (e : Term) (k : ℤ) (cases : Cases) (other : Commands) → SupportsOne forms (match_on e cases other) → SupportsOne forms (match_on (constant k) cases other)
   selected_served e k cases other s = (s.0, s.1, (tt, s.2.1, s.2.2), s.3)

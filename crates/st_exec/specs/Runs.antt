@@ -22,9 +22,9 @@ abbrev pub IsAlike : List Form → Shape → Type 0
 IsAlike forms shape = (x : Name) → option_map extent (shape x) ≡ option_map extent (shape_in forms x)
 
 -- an algorithm reads and writes variables by such a shape, and those that it writes are declared
-abbrev pub Serves : List Form → Algorithm → Type 0
-Serves forms a = (shape : Shape) × IsAlike forms shape × AlgorithmFits shape a × AreAmong (written a) (names_in forms)
+abbrev pub Supports : List Form → Algorithm → Type 0
+Supports forms a = (shape : Shape) × IsAlike forms shape × AlgorithmFits shape a × AreAmong (written a) (names_in forms)
 
 -- the same of one statement
-abbrev pub ServesOne : List Form → Command → Type 0
-ServesOne forms c = (shape : Shape) × IsAlike forms shape × CommandFits shape c × AreAmong (written_one c) (names_in forms)
+abbrev pub SupportsOne : List Form → Command → Type 0
+SupportsOne forms c = (shape : Shape) × IsAlike forms shape × CommandFits shape c × AreAmong (written_one c) (names_in forms)

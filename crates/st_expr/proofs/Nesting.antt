@@ -7,7 +7,7 @@ use Rattle.fb_model.specs.Tokens.{Token, token, name, number, typed, duration, m
 use Rattle.fb_model.specs.Productions.{Word}
 use Rattle.fb_model.specs.StructuredText.{Expression}
 use Rattle.fb_model.specs.StructuredTextGrammar.{begins_number, levels}
-use Rattle.fb_read.specs.Reading.{too_deep, stuck, Read, next_is, after, expect, place_at, name_at, begins_name, list_at}
+use Rattle.fb_read.specs.Reading.{too_deep, stuck, Read, next_is, after, expect, offset_at, name_at, begins_name, list_at}
 use Rattle.fb_read.proofs.Readers.{some_left, shallow_name}
 use Rattle.fb_read.proofs.Nesting.{AtToken, Opens, at_then, at_if, at_shallow, at_expect, while_opens, separated_opens}
 use Rattle.st_expr.specs.Reading.{operator_at, begins_link, link_step, link_at, links_at, chain_at, level_at, opened_at, marked_at, literal_at, signed_at, minus_step, negative_at, inverse_at, parentheses_at, element_at, call_at, named_at, operand_of, nested_at, expression_at}
@@ -70,7 +70,7 @@ module _ (inner : Read Expression) (opens : Opens inner) where
 
   negative_opens : (depth : ℕ) → Opens (negative_at depth inner)
   unfolding negative_at
-  negative_opens depth ts = at_then _ (opened_at m.Minus depth ts) (at_opened m.Minus depth ts) (λ rest. minus_opens (place_at ts) rest)
+  negative_opens depth ts = at_then _ (opened_at m.Minus depth ts) (at_opened m.Minus depth ts) (λ rest. minus_opens (offset_at ts) rest)
 
   inverse_opens : (depth : ℕ) → Opens (inverse_at depth inner)
   unfolding inverse_at

@@ -11,7 +11,7 @@ use Rattle.fb_model.specs.Productions.{Gram, Word, IsName, IsSeparated}
 use Rattle.fb_model.specs.Trees.{Whole}
 use Rattle.fb_model.specs.StructuredText.{Expression, literal, element, negative, inverse}
 use Rattle.fb_model.specs.StructuredTextGrammar.{IsOperator, times, over, modulo, plus, minus, less, greater, less_equal, greater_equal, equal, not_equal, and_word, and_sign, xor_word, or_word, levels, IsLink, a_link, IsChain, a_chain, IsLevel, plain, with_type, time, yes, no, begins_number, IsOperand, a_literal, a_variable, an_element, a_call, in_parentheses, a_negative, a_minus, a_not, IsNested, IsExpression}
-use Rattle.fb_read.specs.Reading.{too_deep, stuck, Answer, Read, ◌>>=◌, next_is, expect, place_at, name_at, begins_name, list_at}
+use Rattle.fb_read.specs.Reading.{too_deep, stuck, Answer, Read, ◌>>=◌, next_is, expect, offset_at, name_at, begins_name, list_at}
 use Rattle.fb_read.proofs.Readers.{Meets, Sound, meets_if, meets_then, expect_then, name_sound}
 use Rattle.fb_read.proofs.Repetitions.{while_sound, separated_sound}
 use Rattle.st_expr.specs.declared.operator.Role.{Role}
@@ -122,13 +122,13 @@ module _ (G : Gram Expression) (inner : Read Expression) (sound : Sound G inner)
   unfolding negative_at
   negative_sound depth accepts ts =
       opens_nesting (IsOperand G ts) _ m.Minus depth ts
-      (λ lt s e rest d. subst (λ l. Meets (IsOperand G l) (minus_step inner (place_at l) rest)) (sym d) (minus_sound (accepts lt) s e rest))
+      (λ lt s e rest d. subst (λ l. Meets (IsOperand G l) (minus_step inner (offset_at l) rest)) (sym d) (minus_sound (accepts lt) s e rest))
 
   inverse_sound : (depth : ℕ) → Sound (IsOperand G) (inverse_at depth inner)
   unfolding inverse_at
   inverse_sound depth ts =
       opens_nesting (IsOperand G ts) _ m.Not depth ts
-      (λ lt s e rest d. subst (λ l. Meets (IsOperand G l) (inner rest >>= λ x. Ok (inverse (place_at l) x.0, x.1))) (sym d) (meets_then _ _ (inner rest) (sound rest) (λ x end p. a_not p)))
+      (λ lt s e rest d. subst (λ l. Meets (IsOperand G l) (inner rest >>= λ x. Ok (inverse (offset_at l) x.0, x.1))) (sym d) (meets_then _ _ (inner rest) (sound rest) (λ x end p. a_not p)))
 
   item_sound : Sound (IsLevel G levels) (level_at inner levels)
   item_sound = level_sound G inner sound levels
@@ -144,7 +144,7 @@ module _ (G : Gram Expression) (inner : Read Expression) (sound : Sound G inner)
   unfolding element_at
   element_sound depth all x ts h =
       opens_nesting (IsOperand G all) _ m.LBracket depth ts
-      (λ lt s e rest d. subst (λ l. IsName all x l → Meets (IsOperand G all) (level_at inner levels rest >>= λ i. expect m.RBracket i.1 >>= λ end. Ok (element x (place_at l) i.0, end))) (sym d)
+      (λ lt s e rest d. subst (λ l. IsName all x l → Meets (IsOperand G all) (level_at inner levels rest >>= λ i. expect m.RBracket i.1 >>= λ end. Ok (element x (offset_at l) i.0, end))) (sym d)
       (λ h'. meets_then _ _ (level_at inner levels rest) (item_sound rest) (λ i mid p. expect_then (λ l. IsLevel G levels rest i l) _ _ m.RBracket mid p (λ s' e' end q. an_element h' q))) h)
 
   call_sound : (depth : ℕ) (all : List Token) (x : Word) (ts : List Token) → IsName all x ts → Meets (IsOperand G all) (call_at depth (level_at inner levels) x ts)

@@ -9,7 +9,7 @@ use Rattle.fb_model.specs.Productions.{Gram, Word, none, last}
 use Rattle.fb_model.specs.Trees.{Whole}
 use Rattle.fb_model.specs.StructuredText.{Expression, literal, element, call, negative, inverse, expressions, grouped}
 use Rattle.fb_model.specs.StructuredTextGrammar.{IsOperator, levels, IsLink, a_link, IsChain, a_chain, IsLevel, begins_number, IsOperand, an_element, a_call, in_parentheses, a_negative, a_minus, a_not, IsNested, IsExpression}
-use Rattle.fb_read.specs.Reading.{Wrong, too_deep, stuck, Read, ◌>>=◌, next_is, expect, place_at, name_at, begins_name, list_at}
+use Rattle.fb_read.specs.Reading.{Wrong, too_deep, stuck, Read, ◌>>=◌, next_is, expect, offset_at, name_at, begins_name, list_at}
 use Rattle.fb_read.proofs.Readers.{Sound, Shorter, NotDeep, shallow_name}
 use Rattle.fb_read.proofs.Steady.{Steady, number_sees, steady_name}
 use Rattle.fb_read.proofs.Viable.{Span, Any, GoesOn, Viable, Marked, Behind, goes_with, goes_as, goes_if, goes_shallow, goes_done, begun_at, goes_next, viable_expect, viable_then, is_read, is_name, shallow_closing, while_viable, separated_viable}
@@ -130,14 +130,14 @@ module _ (G : Gram Expression) (inner : Read Expression) (sound : Sound G inner)
   negative_viable : (depth : ℕ) → Viable One (negative_at depth inner)
   unfolding negative_at
   negative_viable depth ts =
-      viable_opened One m.Minus depth (minus_step inner (place_at ts)) (λ rest. (nought ∷ rest, λ s e. (literal (record { value = Whole true 0; at = 0 }), a_negative (accepts 0 0 0 rest))))
-      (minus_viable (place_at ts)) ts
+      viable_opened One m.Minus depth (minus_step inner (offset_at ts)) (λ rest. (nought ∷ rest, λ s e. (literal (record { value = Whole true 0; at = 0 }), a_negative (accepts 0 0 0 rest))))
+      (minus_viable (offset_at ts)) ts
 
   inverse_viable : (depth : ℕ) → Viable One (inverse_at depth inner)
   unfolding inverse_at
   inverse_viable depth ts =
-      viable_opened One m.Not depth (λ rest. inner rest >>= λ x. Ok (inverse (place_at ts) x.0, x.1)) (λ rest. (nought ∷ rest, λ s e. (inverse s zero_tree, a_not (accepts 0 0 0 rest))))
-      (λ mid. goes_done (Marked m.Not One) mid (λ x. Ok (inverse (place_at ts) x.0, x.1)) (inner mid) (λ x. tt)
+      viable_opened One m.Not depth (λ rest. inner rest >>= λ x. Ok (inverse (offset_at ts) x.0, x.1)) (λ rest. (nought ∷ rest, λ s e. (inverse s zero_tree, a_not (accepts 0 0 0 rest))))
+      (λ mid. goes_done (Marked m.Not One) mid (λ x. Ok (inverse (offset_at ts) x.0, x.1)) (inner mid) (λ x. tt)
       (goes_as mid (inner mid) (λ rest. (rest, λ us h s e. (inverse s h.0, a_not h.1))) (viable mid))) ts
 
   parentheses_viable : (depth : ℕ) → Viable One (parentheses_at depth item)
@@ -151,9 +151,9 @@ module _ (G : Gram Expression) (inner : Read Expression) (sound : Sound G inner)
   element_viable : (depth : ℕ) (x : Word) → Viable (Behind name_at x One) (element_at depth item x)
   unfolding element_at
   element_viable depth x ts =
-      viable_opened (Behind name_at x One) m.LBracket depth (λ rest. item rest >>= λ i. expect m.RBracket i.1 >>= λ end. Ok (element x (place_at ts) i.0, end))
+      viable_opened (Behind name_at x One) m.LBracket depth (λ rest. item rest >>= λ i. expect m.RBracket i.1 >>= λ end. Ok (element x (offset_at ts) i.0, end))
       (λ rest. (nought ∷ closing m.RBracket ∷ rest, λ s e all d. (element x s zero_tree, an_element (is_name all x _ d) (level_alone G accepts levels (closing m.RBracket ∷ rest)))))
-      (λ mid. goes_done (Marked m.LBracket (Behind name_at x One)) mid (λ i. expect m.RBracket i.1 >>= λ end. Ok (element x (place_at ts) i.0, end)) (item mid) (λ i. shallow_closing m.RBracket i.1 (λ end. (element x (place_at ts) i.0, end)))
+      (λ mid. goes_done (Marked m.LBracket (Behind name_at x One)) mid (λ i. expect m.RBracket i.1 >>= λ end. Ok (element x (offset_at ts) i.0, end)) (item mid) (λ i. shallow_closing m.RBracket i.1 (λ end. (element x (offset_at ts) i.0, end)))
       (goes_as mid (item mid) (λ rest. (closing m.RBracket ∷ rest, λ us h s e all d. (element x s h.0, an_element (is_name all x _ d) h.1))) (item_viable mid))) ts
 
   call_viable : (depth : ℕ) (x : Word) → Viable (Behind name_at x One) (call_at depth item x)

@@ -11,7 +11,7 @@ use Rattle.fb_model.specs.Productions.{Word}
 use Rattle.fb_model.specs.Trees.{Whole, Typed, Duration, Truth}
 use Rattle.fb_model.specs.StructuredText.{Expression, literal, variable, element, call, negative, inverse, expressions, Link, grouped}
 use Rattle.fb_model.specs.StructuredTextGrammar.{begins_number, levels, most_nested}
-use Rattle.fb_read.specs.Reading.{Wrong, syntax, too_deep, stuck, Read, ◌>>=◌, next_is, after, expect, place_at, name_at, begins_name, all_at, list_at, whole_of}
+use Rattle.fb_read.specs.Reading.{Wrong, syntax, too_deep, stuck, Read, ◌>>=◌, next_is, after, expect, offset_at, name_at, begins_name, all_at, list_at, whole_of}
 
 -- ---- operators
 
@@ -127,14 +127,14 @@ minus_step inner s ts = if begins_number ts then signed_at ts else (inner ts >>=
 unfoldable pub negative_at : ℕ → Read Expression → Read Expression
 negative_at depth inner ts = do
   rest ← opened_at m.Minus depth ts
-  minus_step inner (place_at ts) rest
+  minus_step inner (offset_at ts) rest
 
 -- NOT operand
 unfoldable pub inverse_at : ℕ → Read Expression → Read Expression
 inverse_at depth inner ts = do
   rest ← opened_at m.Not depth ts
   x ← inner rest
-  Ok (inverse (place_at ts) x.0, x.1)
+  Ok (inverse (offset_at ts) x.0, x.1)
 
 -- '(' expr ')'
 unfoldable pub parentheses_at : ℕ → Read Expression → Read Expression
@@ -150,7 +150,7 @@ element_at depth item x ts = do
   rest ← opened_at m.LBracket depth ts
   i ← item rest
   end ← expect m.RBracket i.1
-  Ok (element x (place_at ts) i.0, end)
+  Ok (element x (offset_at ts) i.0, end)
 
 -- '(' expr {',' expr} ')' behind a name
 unfoldable pub call_at : ℕ → Read Expression → Word → Read Expression

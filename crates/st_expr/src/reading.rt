@@ -13,7 +13,7 @@ ghost use Rattle.st_expr.specs.Reading.{level_at, nested_at, links_at, link_at, 
 use crate::literal::{literal, signed};
 use crate::operator::{begins_link, operator_at};
 use fb_lex::Token;
-use fb_read::{Name, Stop, begins_name, begins_number, expect, next_is, place, read_name};
+use fb_read::{Name, Stop, begins_name, begins_number, expect, next_is, next_offset, read_name};
 use fb_words::Mark;
 use st_tree::{Expr, Link};
 use std::alloc::{AllocError, Global};
@@ -155,7 +155,7 @@ fn unnamed(alloc: Global, tokens: &[Token], depth: u32) -> Result<(Expr, &[Token
 fn negative(alloc: Global, tokens: &[Token], depth: u32) -> Result<(Expr, &[Token]), Stop>
     ensures { Gives (λ x. (expr_of x.0, tokens_of x.1.now)) result (negative_at depth (nested_at depth) (tokens_of tokens.now)) }
 {
-    let at = place(tokens);
+    let at = next_offset(tokens);
     let (rest, depth) = opened(tokens, Mark::Minus, depth)?;
     if begins_number(rest) {
         return signed(rest);
@@ -169,7 +169,7 @@ fn negative(alloc: Global, tokens: &[Token], depth: u32) -> Result<(Expr, &[Toke
 fn inverse(alloc: Global, tokens: &[Token], depth: u32) -> Result<(Expr, &[Token]), Stop>
     ensures { Gives (λ x. (expr_of x.0, tokens_of x.1.now)) result (inverse_at depth (nested_at depth) (tokens_of tokens.now)) }
 {
-    let at = place(tokens);
+    let at = next_offset(tokens);
     let (rest, depth) = opened(tokens, Mark::Not, depth)?;
     let (operand, rest) = operand(alloc, rest, depth)?;
     Ok((Expr::Inverse(at, Box::new(alloc, operand)?), rest))
@@ -212,7 +212,7 @@ fn element(
 ) -> Result<(Expr, &[Token]), Stop>
     ensures { Gives (λ x. (expr_of x.0, tokens_of x.1.now)) result (element_at depth (level_at (nested_at depth) levels) (word_of name) (tokens_of tokens.now)) }
 {
-    let at = place(tokens);
+    let at = next_offset(tokens);
     let (rest, depth) = opened(tokens, Mark::LBracket, depth)?;
     let (index, rest) = expression_below(alloc, rest, LEVELS, depth)?;
     let rest = expect(rest, Mark::RBracket)?;

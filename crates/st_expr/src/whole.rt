@@ -38,7 +38,7 @@ pub fn parse_expr(alloc: Global, tokens: &[Token]) -> Result<Expr, TextFault>
     ensures found { IfOk result (λ expr. IsExpression most_nested (tokens_of tokens.now) (expr_of expr) []) }
     ensures only { (x : Expression) → IsExpression most_nested (tokens_of tokens.now) x [] → FindsExpression result x }
     ensures syntax { IfSyntax result ((depth : ℕ) (x : Expression) → IsExpression depth (tokens_of tokens.now) x [] → ⊥) }
-    ensures place { SyntaxAt (tokens_of tokens.now) result }
+    ensures offset { SyntaxAt (tokens_of tokens.now) result }
     ensures deep { DeepAt (tokens_of tokens.now) result }
 {
     match whole(alloc, tokens) {

@@ -7,7 +7,7 @@ use Rattle.fb_model.specs.Productions.{Gram, Word, IsName, IsMany, none, more, I
 use Rattle.fb_model.specs.Trees.{Constant}
 use Rattle.fb_model.specs.StructuredText.{Expression, Bound, Statement, assign, assign_element, branch, select, repeat, Statements, statements, Branch, branches, Arm, arms}
 use Rattle.fb_model.specs.StructuredTextGrammar.{IsLabel, IsStep, IsBound, a_bound, IsList, end, lone, next, IsBranch, a_condition, IsArm, a_labelled, IsElse, absent, present, IsStatement, an_assignment, to_element, an_if, a_case, a_for, IsBody}
-use Rattle.fb_read.specs.Reading.{Answer, Read, ◌>>=◌, next_is, after, expect, place_at, name_at, all_at, list_at}
+use Rattle.fb_read.specs.Reading.{Answer, Read, ◌>>=◌, next_is, after, expect, offset_at, name_at, all_at, list_at}
 use Rattle.fb_read.proofs.Readers.{Meets, Sound, meets_if, meets_then, meets_as, expect_then, may_open, name_sound}
 use Rattle.fb_read.proofs.Repetitions.{while_sound}
 use Rattle.st_parse.specs.Reading.{headed, begins_integer, begins_block, begins_entry, label_at, step_at, assign_at, element_at, assignment_at, branch_at, else_at, elsifs_at, if_at, arm_at, arms_at, case_at, bound_at, head_at, for_at, block_at, statement_at, entry_at, statements_in, entries_at, nested_at, body_at}
@@ -15,8 +15,8 @@ use Rattle.st_parse.proofs.Headed.{IsHeaded, a_head, headed_sound}
 use Rattle.st_parse.proofs.Labels.{labels_sound, step_sound}
 
 -- a production that this mark opens, with the mark's place
-opens_at : {B : Type 0} (G : List Token → B → List Token → Type 0) (f : ℕ → List Token → Answer B) (k : Mark) (ts : List Token) → ((s e : ℕ) (rest : List Token) → Meets (G (token (mark k) s e ∷ rest)) (f s rest)) → Meets (G ts) (expect k ts >>= f (place_at ts))
-opens_at G f k ts g = expect_then (λ l. ts ≡ l) (G ts) (f (place_at ts)) k ts refl (λ s e rest q. subst (λ l. Meets (G l) (f (place_at l) rest)) (sym q) (g s e rest))
+opens_at : {B : Type 0} (G : List Token → B → List Token → Type 0) (f : ℕ → List Token → Answer B) (k : Mark) (ts : List Token) → ((s e : ℕ) (rest : List Token) → Meets (G (token (mark k) s e ∷ rest)) (f s rest)) → Meets (G ts) (expect k ts >>= f (offset_at ts))
+opens_at G f k ts g = expect_then (λ l. ts ≡ l) (G ts) (f (offset_at ts)) k ts refl (λ s e rest q. subst (λ l. Meets (G l) (f (offset_at l) rest)) (sym q) (g s e rest))
 
 -- [statement] ';'
 pub data IsEntry (G : Gram Statement) : List Token → Option Statement → List Token → Type 0 where
@@ -49,8 +49,8 @@ module _ (E : Gram Expression) (expr : Read Expression) (sound : Sound E expr) w
     assign_sound : (ts : List Token) (x : Word) (sign : List Token) → IsName ts x sign → Meets (IsStatement E IsInner ts) (assign_at expr x sign)
     unfolding assign_at
     assign_sound ts x sign p =
-        expect_then (λ l. IsName ts x l × (place_at sign ≡ place_at l)) _ _ m.Assign sign (p, refl) (λ s e mid p'.
-        meets_then _ _ (expr mid) (sound mid) (λ v rest q. assign_of (place_at sign) p'.1 p'.0 q))
+        expect_then (λ l. IsName ts x l × (offset_at sign ≡ offset_at l)) _ _ m.Assign sign (p, refl) (λ s e mid p'.
+        meets_then _ _ (expr mid) (sound mid) (λ v rest q. assign_of (offset_at sign) p'.1 p'.0 q))
 
     element_of : {s e s' e' s'' e'' : ℕ} {ts mid on rest : List Token} {x : Word} {i v : Expression} (bracket at : ℕ) → bracket ≡ s → at ≡ s'' → IsName ts x (token (mark m.LBracket) s e ∷ mid) → E mid i (token (mark m.RBracket) s' e' ∷ token (mark m.Assign) s'' e'' ∷ on) → E on v rest
         → IsStatement E IsInner ts (assign_element x bracket i at v) rest
@@ -60,11 +60,11 @@ module _ (E : Gram Expression) (expr : Read Expression) (sound : Sound E expr) w
     element_sound : (ts : List Token) (x : Word) (begin : List Token) → IsName ts x begin → Meets (IsStatement E IsInner ts) (element_at expr x begin)
     unfolding element_at
     element_sound ts x begin p =
-        expect_then (λ l. IsName ts x l × (place_at begin ≡ place_at l)) _ _ m.LBracket begin (p, refl) (λ s e mid p'.
+        expect_then (λ l. IsName ts x l × (offset_at begin ≡ offset_at l)) _ _ m.LBracket begin (p, refl) (λ s e mid p'.
         meets_then _ _ (expr mid) (sound mid) (λ i close q.
         expect_then (λ l. E mid i l) _ _ m.RBracket close q (λ s' e' sign q'.
-        expect_then (λ l. E mid i (token (mark m.RBracket) s' e' ∷ l) × (place_at sign ≡ place_at l)) _ _ m.Assign sign (q', refl) (λ s'' e'' on q''.
-        meets_then _ _ (expr on) (sound on) (λ v rest r. element_of (place_at begin) (place_at sign) p'.1 q''.1 p'.0 q''.0 r)))))
+        expect_then (λ l. E mid i (token (mark m.RBracket) s' e' ∷ l) × (offset_at sign ≡ offset_at l)) _ _ m.Assign sign (q', refl) (λ s'' e'' on q''.
+        meets_then _ _ (expr on) (sound on) (λ v rest r. element_of (offset_at begin) (offset_at sign) p'.1 q''.1 p'.0 q''.0 r)))))
 
     assignment_sound : Sound (IsStatement E IsInner) (assignment_at expr)
     unfolding assignment_at

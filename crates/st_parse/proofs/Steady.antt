@@ -6,7 +6,7 @@ use Rattle.fb_model.specs.Tokens.{Token}
 use Rattle.fb_model.specs.Productions.{Gram, Word}
 use Rattle.fb_model.specs.StructuredText.{Expression, Statement, assign, assign_element, branch, select, repeat, Statements, no_statement, statements, branches, arms}
 use Rattle.fb_model.specs.StructuredTextGrammar.{is_number, IsBranch, IsArm, IsStatement, IsBody}
-use Rattle.fb_read.specs.Reading.{Read, ◌>>=◌, next_is, expect, place_at, name_at, all_at, list_at}
+use Rattle.fb_read.specs.Reading.{Read, ◌>>=◌, next_is, expect, offset_at, name_at, all_at, list_at}
 use Rattle.fb_read.proofs.Readers.{Sound, Shorter}
 use Rattle.fb_read.proofs.Steady.{Same, here, there, Steady, within_then, goes_then, next_sees, steady_then, steady_done, steady_deep, steady_name, steady_test, steady_choice, steady_if, steady_expect, steady_place}
 use Rattle.fb_read.proofs.SteadyLists.{Shrinks, shrinks_of, steady_all}
@@ -73,7 +73,7 @@ module _ (E : Gram Expression) (expr : Read Expression) (sound : Sound E expr) (
   element_steady : (x : Word) → Steady (element_at expr x)
   unfolding element_at
   element_steady x =
-      steady_place (λ at ts. expect m.LBracket ts >>= λ begin. expr begin >>= λ i. expect m.RBracket i.1 >>= λ sign. expect m.Assign sign >>= λ rest. expr rest >>= λ v. Ok (assign_element x at i.0 (place_at sign) v.0, v.1)) (λ at.
+      steady_place (λ at ts. expect m.LBracket ts >>= λ begin. expr begin >>= λ i. expect m.RBracket i.1 >>= λ sign. expect m.Assign sign >>= λ rest. expr rest >>= λ v. Ok (assign_element x at i.0 (offset_at sign) v.0, v.1)) (λ at.
       steady_expect m.LBracket _
       (steady_then expr _ steady (λ i.
       steady_expect m.RBracket _

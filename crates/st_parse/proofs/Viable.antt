@@ -6,7 +6,7 @@ use Rattle.fb_model.specs.Tokens.{Token, token, name, mark}
 use Rattle.fb_model.specs.Productions.{Gram, Word, IsName, a_name, IsMany, none, IsSeparated, last}
 use Rattle.fb_model.specs.StructuredText.{Expression, Statement, assign, assign_element, branch, select, repeat, Statements, no_statement, statements, Branch, branches, Arm, arms}
 use Rattle.fb_model.specs.StructuredTextGrammar.{unsigned, IsLabel, one, no_step, IsList, end, IsBranch, a_condition, IsArm, a_labelled, IsElse, absent, present, is_number, IsBound, a_bound, IsStatement, an_assignment, to_element, an_if, a_case, a_for, IsBody, IsExpression, IsAlgorithm}
-use Rattle.fb_read.specs.Reading.{too_deep, Read, ◌>>=◌, next_is, after, expect, place_at, name_at, all_at, list_at}
+use Rattle.fb_read.specs.Reading.{too_deep, Read, ◌>>=◌, next_is, after, expect, offset_at, name_at, all_at, list_at}
 use Rattle.fb_read.proofs.Readers.{Sound, Shorter, shallow_then, shallow_name}
 use Rattle.fb_read.proofs.Repetitions.{separated_shallow}
 use Rattle.fb_read.proofs.Steady.{Steady, next_sees, steady_deep, steady_name}
@@ -49,21 +49,21 @@ module _ (E : Gram Expression) (expr : Read Expression) (sound : Sound E expr) (
     assign_viable : (x : Word) → Viable (Behind name_at x One) (assign_at expr x)
     unfolding assign_at
     assign_viable x ts =
-        viable_expect (Behind name_at x One) m.Assign (λ rest. expr rest >>= λ v. Ok (assign x (place_at ts) v.0, v.1))
-        (λ mid. goes_done (Marked m.Assign (Behind name_at x One)) mid (λ v. Ok (assign x (place_at ts) v.0, v.1)) (expr mid) (λ v. tt)
+        viable_expect (Behind name_at x One) m.Assign (λ rest. expr rest >>= λ v. Ok (assign x (offset_at ts) v.0, v.1))
+        (λ mid. goes_done (Marked m.Assign (Behind name_at x One)) mid (λ v. Ok (assign x (offset_at ts) v.0, v.1)) (expr mid) (λ v. tt)
         (goes_as mid (expr mid) (λ rest. (rest, λ us h s e all d. (assign x s h.0, an_assignment (is_name all x _ d) h.1))) (viable mid))) ts
 
     element_viable : (x : Word) → Viable (Behind name_at x One) (element_at expr x)
     unfolding element_at
     element_viable x ts =
-        let at = place_at ts in
+        let at = offset_at ts in
         let P : Span = Marked m.LBracket (Behind name_at x One) in
-        viable_expect (Behind name_at x One) m.LBracket (λ begin. expr begin >>= λ i. expect m.RBracket i.1 >>= λ sign. expect m.Assign sign >>= λ rest. expr rest >>= λ v. Ok (assign_element x at i.0 (place_at sign) v.0, v.1))
-        (viable_then P expr (λ i. expect m.RBracket i.1 >>= λ sign. expect m.Assign sign >>= λ rest. expr rest >>= λ v. Ok (assign_element x at i.0 (place_at sign) v.0, v.1)) steady
+        viable_expect (Behind name_at x One) m.LBracket (λ begin. expr begin >>= λ i. expect m.RBracket i.1 >>= λ sign. expect m.Assign sign >>= λ rest. expr rest >>= λ v. Ok (assign_element x at i.0 (offset_at sign) v.0, v.1))
+        (viable_then P expr (λ i. expect m.RBracket i.1 >>= λ sign. expect m.Assign sign >>= λ rest. expr rest >>= λ v. Ok (assign_element x at i.0 (offset_at sign) v.0, v.1)) steady
         (λ mid. goes_as mid (expr mid) (λ rest. (closing m.RBracket ∷ closing m.Assign ∷ nought ∷ rest, λ us h s e all d. (assign_element x s h.0 0 zero_tree, to_element (is_name all x _ d) h.1 (alone rest)))) (viable mid))
-        (λ i. viable_expect (Behind expr i P) m.RBracket (λ sign. expect m.Assign sign >>= λ rest. expr rest >>= λ v. Ok (assign_element x at i (place_at sign) v.0, v.1))
-        (λ sign. viable_expect (Marked m.RBracket (Behind expr i P)) m.Assign (λ rest. expr rest >>= λ v. Ok (assign_element x at i (place_at sign) v.0, v.1))
-        (λ on. goes_done (Marked m.Assign (Marked m.RBracket (Behind expr i P))) on (λ v. Ok (assign_element x at i (place_at sign) v.0, v.1)) (expr on) (λ v. tt)
+        (λ i. viable_expect (Behind expr i P) m.RBracket (λ sign. expect m.Assign sign >>= λ rest. expr rest >>= λ v. Ok (assign_element x at i (offset_at sign) v.0, v.1))
+        (λ sign. viable_expect (Marked m.RBracket (Behind expr i P)) m.Assign (λ rest. expr rest >>= λ v. Ok (assign_element x at i (offset_at sign) v.0, v.1))
+        (λ on. goes_done (Marked m.Assign (Marked m.RBracket (Behind expr i P))) on (λ v. Ok (assign_element x at i (offset_at sign) v.0, v.1)) (expr on) (λ v. tt)
         (goes_as on (expr on) (λ rest. (rest, λ us h s e s' e' mid d' s'' e'' all d. (assign_element x s'' i s h.0, to_element (is_name all x _ d) (is_read E expr sound mid i _ d') h.1))) (viable on))) sign))) ts
 
     assignment_viable : Viable One (assignment_at expr)
@@ -116,7 +116,7 @@ module _ (E : Gram Expression) (expr : Read Expression) (sound : Sound E expr) (
       branch_viable : (opening : Mark) → Viable (Any (IsBranch E IsInner opening)) (branch_at expr list opening)
       unfolding branch_at
       branch_viable opening ts =
-          let at = place_at ts in
+          let at = offset_at ts in
           let B : Span = Any (IsBranch E IsInner opening) in
           viable_expect B opening (λ begin. expr begin >>= λ c. expect m.Then c.1 >>= λ rest. list rest >>= λ xs. Ok ((at, c.0, xs.0), xs.1))
           (viable_then (Marked opening B) expr (λ c. expect m.Then c.1 >>= λ rest. list rest >>= λ xs. Ok ((at, c.0, xs.0), xs.1)) steady
@@ -177,7 +177,7 @@ module _ (E : Gram Expression) (expr : Read Expression) (sound : Sound E expr) (
       case_viable : Viable (One IsInner) (case_at expr list)
       unfolding case_at
       case_viable ts =
-          let at = place_at ts in
+          let at = offset_at ts in
           let S : Span = Marked m.Case (One IsInner) in
           viable_expect (One IsInner) m.Case (λ begin. expr begin >>= λ x. expect m.Of x.1 >>= λ rest. arm_at list rest >>= λ a. headed a.0 (arms_at list a.1) >>= λ others. else_at list others.1 >>= λ xs. expect m.EndCase xs.1 >>= λ last. Ok (select at x.0 (arms others.0) xs.0, last))
           (viable_then S expr (λ x. expect m.Of x.1 >>= λ rest. arm_at list rest >>= λ a. headed a.0 (arms_at list a.1) >>= λ others. else_at list others.1 >>= λ xs. expect m.EndCase xs.1 >>= λ last. Ok (select at x.0 (arms others.0) xs.0, last)) steady
@@ -231,7 +231,7 @@ module _ (E : Gram Expression) (expr : Read Expression) (sound : Sound E expr) (
       for_viable : Viable (One IsInner) (for_at expr list)
       unfolding for_at
       for_viable ts =
-          let at = place_at ts in
+          let at = offset_at ts in
           let S : Span = Marked m.For (One IsInner) in
           viable_expect (One IsInner) m.For (λ begin. head_at expr begin >>= λ h. list h.1 >>= λ xs. expect m.EndFor xs.1 >>= λ last. Ok (repeat at h.0.0 h.0.1 h.0.2 h.0.3 xs.0, last))
           (viable_then S (head_at expr) (λ h. list h.1 >>= λ xs. expect m.EndFor xs.1 >>= λ last. Ok (repeat at h.0.0 h.0.1 h.0.2 h.0.3 xs.0, last)) (head_steady E expr sound short steady IsInner list inner_sound no_longer inner_steady)

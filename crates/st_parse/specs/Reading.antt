@@ -7,7 +7,7 @@ use Rattle.fb_model.specs.Productions.{Word}
 use Rattle.fb_model.specs.Trees.{Whole, Constant}
 use Rattle.fb_model.specs.StructuredText.{Expression, Label, Bound, Statement, assign, assign_element, branch, select, repeat, Statements, no_statement, statements, Branch, branches, Arm, arms}
 use Rattle.fb_model.specs.StructuredTextGrammar.{begins_number, is_number, most_nested, most_nested_statements}
-use Rattle.fb_read.specs.Reading.{Wrong, too_deep, stuck, Answer, Read, ◌>>=◌, next_is, after, expect, place_at, name_at, begins_name, all_at, list_at, whole_of}
+use Rattle.fb_read.specs.Reading.{Wrong, too_deep, stuck, Answer, Read, ◌>>=◌, next_is, after, expect, offset_at, name_at, begins_name, all_at, list_at, whole_of}
 use Rattle.st_expr.specs.Reading.{expression_at}
 
 -- ---- items of which one begins
@@ -64,7 +64,7 @@ unfoldable pub assign_at : Read Expression → Word → Read Statement
 assign_at expr x ts = do
   rest ← expect m.Assign ts
   v ← expr rest
-  Ok (assign x (place_at ts) v.0, v.1)
+  Ok (assign x (offset_at ts) v.0, v.1)
 
 -- '[' expression ']' ':=' expression, behind a name
 unfoldable pub element_at : Read Expression → Word → Read Statement
@@ -74,7 +74,7 @@ element_at expr x ts = do
   sign ← expect m.RBracket i.1
   rest ← expect m.Assign sign
   v ← expr rest
-  Ok (assign_element x (place_at ts) i.0 (place_at sign) v.0, v.1)
+  Ok (assign_element x (offset_at ts) i.0 (offset_at sign) v.0, v.1)
 
 -- an assignment to a variable or to an element
 unfoldable pub assignment_at : Read Expression → Read Statement
@@ -89,7 +89,7 @@ branch_at expr list opening ts = do
   c ← expr begin
   rest ← expect m.Then c.1
   xs ← list rest
-  Ok ((place_at ts, c.0, xs.0), xs.1)
+  Ok ((offset_at ts, c.0, xs.0), xs.1)
 
 -- [ELSE list]
 unfoldable pub else_at : Read Statements → Read Statements
@@ -130,7 +130,7 @@ case_at expr list ts = do
   others ← headed a.0 (arms_at list a.1)
   xs ← else_at list others.1
   end ← expect m.EndCase xs.1
-  Ok (select (place_at ts) x.0 (arms others.0) xs.0, end)
+  Ok (select (offset_at ts) x.0 (arms others.0) xs.0, end)
 
 -- the first or the last value of a FOR, which is plain where the tokens that it takes are a number
 unfoldable pub bound_at : Read Expression → Read Bound
@@ -155,7 +155,7 @@ for_at expr list ts = do
   h ← head_at expr begin
   xs ← list h.1
   end ← expect m.EndFor xs.1
-  Ok (repeat (place_at ts) h.0.0 h.0.1 h.0.2 h.0.3 xs.0, end)
+  Ok (repeat (offset_at ts) h.0.0 h.0.1 h.0.2 h.0.3 xs.0, end)
 
 -- IF, CASE or FOR
 unfoldable pub block_at : Read Expression → Read Statements → Read Statement

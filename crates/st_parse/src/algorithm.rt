@@ -51,7 +51,7 @@ pub fn parse_algorithm(alloc: Global, tokens: &[Token]) -> Result<Vec<Stmt>, Tex
     ensures found { IfOk result (λ v. IsAlgorithm most_nested most_nested_statements (tokens_of tokens.now) (body_of v.items) []) }
     ensures only { (x : Statements) → IsAlgorithm most_nested most_nested_statements (tokens_of tokens.now) x [] → FindsAlgorithm result x }
     ensures syntax { IfSyntax result ((n k : ℕ) (x : Statements) → IsAlgorithm n k (tokens_of tokens.now) x [] → ⊥) }
-    ensures place { SyntaxAt (tokens_of tokens.now) result }
+    ensures offset { SyntaxAt (tokens_of tokens.now) result }
     ensures deep { TooDeepAt (tokens_of tokens.now) result }
 {
     match whole(alloc, tokens) {

@@ -11,7 +11,7 @@ ghost use Rattle.st_parse.specs.Reading.{headed, begins_block, begins_entry, ste
 
 use crate::label::{begins_integer, labels, optional};
 use fb_lex::Token;
-use fb_read::{Name, Stop, begins_name, begins_number, expect, next_is, place, read_name};
+use fb_read::{Name, Stop, begins_name, begins_number, expect, next_is, next_offset, read_name};
 use fb_words::Mark;
 use st_expr::expression;
 use st_tree::{Arm, Bound, Branch, Constant, Stmt};
@@ -36,7 +36,7 @@ fn begins_entry(tokens: &[Token]) -> bool
 fn assign(alloc: Global, tokens: &[Token], name: Name) -> Result<(Stmt, &[Token]), Stop>
     ensures { Gives (λ x. (stmt_of x.0, tokens_of x.1.now)) result (assign_at (expression_at most_nested) (word_of name) (tokens_of tokens.now)) }
 {
-    let at = place(tokens);
+    let at = next_offset(tokens);
     let rest = expect(tokens, Mark::Assign)?;
     let (value, rest) = expression(alloc, rest)?;
     Ok((Stmt::Assign(name, at, value), rest))
@@ -47,11 +47,11 @@ fn assign(alloc: Global, tokens: &[Token], name: Name) -> Result<(Stmt, &[Token]
 fn assign_element(alloc: Global, tokens: &[Token], name: Name) -> Result<(Stmt, &[Token]), Stop>
     ensures { Gives (λ x. (stmt_of x.0, tokens_of x.1.now)) result (element_at (expression_at most_nested) (word_of name) (tokens_of tokens.now)) }
 {
-    let bracket = place(tokens);
+    let bracket = next_offset(tokens);
     let rest = expect(tokens, Mark::LBracket)?;
     let (index, rest) = expression(alloc, rest)?;
     let rest = expect(rest, Mark::RBracket)?;
-    let at = place(rest);
+    let at = next_offset(rest);
     let rest = expect(rest, Mark::Assign)?;
     let (value, rest) = expression(alloc, rest)?;
     Ok((Stmt::AssignElement(name, bracket, index, at, value), rest))
@@ -167,7 +167,7 @@ fn branch(
 ) -> Result<(Branch, &[Token]), Stop>
     ensures { Gives (λ x. (branch_of x.0, tokens_of x.1.now)) result (branch_at (expression_at most_nested) (body_at (expression_at most_nested) depth) opening (tokens_of tokens.now)) }
 {
-    let at = place(tokens);
+    let at = next_offset(tokens);
     let rest = expect(tokens, opening)?;
     let (condition, rest) = expression(alloc, rest)?;
     let rest = expect(rest, Mark::Then)?;
@@ -222,7 +222,7 @@ fn otherwise(alloc: Global, tokens: &[Token], depth: u32) -> Result<(Vec<Stmt>, 
 fn selection(alloc: Global, tokens: &[Token], depth: u32) -> Result<(Stmt, &[Token]), Stop>
     ensures { Gives (λ x. (stmt_of x.0, tokens_of x.1.now)) result (case_at (expression_at most_nested) (body_at (expression_at most_nested) depth) (tokens_of tokens.now)) }
 {
-    let at = place(tokens);
+    let at = next_offset(tokens);
     let rest = expect(tokens, Mark::Case)?;
     let (selector, rest) = expression(alloc, rest)?;
     let rest = expect(rest, Mark::Of)?;
@@ -315,7 +315,7 @@ fn head(
 fn repetition(alloc: Global, tokens: &[Token], depth: u32) -> Result<(Stmt, &[Token]), Stop>
     ensures { Gives (λ x. (stmt_of x.0, tokens_of x.1.now)) result (for_at (expression_at most_nested) (body_at (expression_at most_nested) depth) (tokens_of tokens.now)) }
 {
-    let at = place(tokens);
+    let at = next_offset(tokens);
     let rest = expect(tokens, Mark::For)?;
     let ((variable, first, last, step), rest) = head(alloc, rest)?;
     let (body, rest) = list(alloc, rest, depth)?;

@@ -15,7 +15,7 @@ use Rattle.st_types.specs.CommandViews.{Chosen, Cased}
 use Rattle.st_code.specs.CodeViews.{code_command, code_commands, code_choice, code_choices, code_case, code_cases}
 use Rattle.st_types.proofs.Gathering.{drop_step}
 use Rattle.st_exec.specs.Cells.{Form}
-use Rattle.st_exec.specs.Runs.{Serves, ServesOne}
+use Rattle.st_exec.specs.Runs.{Supports, SupportsOne}
 use Rattle.st_exec.proofs.Serving.{choice_served, choices_served, case_served, cases_served}
 use Rattle.st_code.proofs.command.CodeStmt.TheLaws.{the_size as stmt_size}
 use Rattle.st_code.proofs.command.CodeBranch.TheLaws.{the_size as branch_size}
@@ -82,7 +82,7 @@ case_first e a v = search (rules, the_lemmas)
 pub case_rest : (e : Code) (a : Vec CodeArm Global) (v : Vec CodeStmt Global) → most stmt_size v.items + 1 ≤ stmt_size (Case e a v)
 case_rest e a v = search (rules, the_lemmas)
 
--- ---- one turn of a loop over arms or branches
+-- ---- one iteration of a loop over arms or branches
 
 module _ (list : List CodeArm) (i : ℕ) (a : CodeArm) (before : i < length list) (at : a ≡ get_or list i a) (k : ℤ) (body : List CodeStmt) (body_at : body ≡ a.body.items) where
   here : drop i list ≡ a ∷ drop (i + 1) list
@@ -98,14 +98,14 @@ module _ (list : List CodeArm) (i : ℕ) (a : CodeArm) (before : i < length list
     pub arm_passed : labelled a.labels.items k ≡ false → run_cases (code_cases (drop (i + 1) list)) k values o ≡ whole
     arm_passed z = sym (case_passed values o a (drop (i + 1) list) k z) ∙ left_here
 
-  module _ (forms : List Form) (other : Commands) (serves : ServesOne forms (match_on (constant k) (code_cases (drop i list)) other)) where
-    serves_here : ServesOne forms (match_on (constant k) (a_case a.labels.items (code_commands a.body.items) (code_cases (drop (i + 1) list))) other)
-    serves_here = subst (λ c. ServesOne forms (match_on (constant k) c other)) (ap code_cases here ∙ cases_cons a (drop (i + 1) list)) serves
+  module _ (forms : List Form) (other : Commands) (serves : SupportsOne forms (match_on (constant k) (code_cases (drop i list)) other)) where
+    serves_here : SupportsOne forms (match_on (constant k) (a_case a.labels.items (code_commands a.body.items) (code_cases (drop (i + 1) list))) other)
+    serves_here = subst (λ c. SupportsOne forms (match_on (constant k) c other)) (ap code_cases here ∙ cases_cons a (drop (i + 1) list)) serves
 
-    pub arm_serves : Serves forms (code_commands body)
-    arm_serves = subst (λ l. Serves forms (code_commands l)) (sym body_at) (case_served forms (constant k) a.labels.items (code_commands a.body.items) (code_cases (drop (i + 1) list)) other serves_here)
+    pub arm_serves : Supports forms (code_commands body)
+    arm_serves = subst (λ l. Supports forms (code_commands l)) (sym body_at) (case_served forms (constant k) a.labels.items (code_commands a.body.items) (code_cases (drop (i + 1) list)) other serves_here)
 
-    pub arms_serve : ServesOne forms (match_on (constant k) (code_cases (drop (i + 1) list)) other)
+    pub arms_serve : SupportsOne forms (match_on (constant k) (code_cases (drop (i + 1) list)) other)
     arms_serve = cases_served forms (constant k) a.labels.items (code_commands a.body.items) (code_cases (drop (i + 1) list)) other serves_here
 
   pub arm_smaller : (t : ℕ) → 4 * most arm_size list + 2 ≤ t → 4 * most stmt_size body + 1 < t
@@ -130,14 +130,14 @@ module _ (list : List CodeBranch) (i : ℕ) (b : CodeBranch) (before : i < lengt
     pub branch_passed : (v : ℤ) → value_of (code_term b.condition) values ≡ Some v → is_zero v ≡ true → run_choices (code_choices (drop (i + 1) list)) values o ≡ whole
     branch_passed v e z = sym (choice_passed values o b (drop (i + 1) list) v e z) ∙ left_there
 
-  module _ (forms : List Form) (other : Commands) (serves : ServesOne forms (choose (code_choices (drop i list)) other)) where
-    serves_there : ServesOne forms (choose (choice (code_term b.condition) (code_commands b.body.items) (code_choices (drop (i + 1) list))) other)
-    serves_there = subst (λ c. ServesOne forms (choose c other)) (ap code_choices there ∙ choices_cons b (drop (i + 1) list)) serves
+  module _ (forms : List Form) (other : Commands) (serves : SupportsOne forms (choose (code_choices (drop i list)) other)) where
+    serves_there : SupportsOne forms (choose (choice (code_term b.condition) (code_commands b.body.items) (code_choices (drop (i + 1) list))) other)
+    serves_there = subst (λ c. SupportsOne forms (choose c other)) (ap code_choices there ∙ choices_cons b (drop (i + 1) list)) serves
 
-    pub branch_serves : (body : List CodeStmt) → body ≡ b.body.items → Serves forms (code_commands body)
-    branch_serves body body_at = subst (λ l. Serves forms (code_commands l)) (sym body_at) (choice_served forms (code_term b.condition) (code_commands b.body.items) (code_choices (drop (i + 1) list)) other serves_there)
+    pub branch_serves : (body : List CodeStmt) → body ≡ b.body.items → Supports forms (code_commands body)
+    branch_serves body body_at = subst (λ l. Supports forms (code_commands l)) (sym body_at) (choice_served forms (code_term b.condition) (code_commands b.body.items) (code_choices (drop (i + 1) list)) other serves_there)
 
-    pub branches_serve : ServesOne forms (choose (code_choices (drop (i + 1) list)) other)
+    pub branches_serve : SupportsOne forms (choose (code_choices (drop (i + 1) list)) other)
     branches_serve = choices_served forms (code_term b.condition) (code_commands b.body.items) (code_choices (drop (i + 1) list)) other serves_there
 
   pub branch_smaller : (body : List CodeStmt) → body ≡ b.body.items → (t : ℕ) → 4 * most branch_size list + 2 ≤ t → 4 * most stmt_size body + 1 < t

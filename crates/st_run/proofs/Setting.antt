@@ -13,7 +13,7 @@ use Rattle.st_code.specs.Forms.{Form, size_of, slot_in}
 use Rattle.st_code.specs.CodeViews.{code_term, code_command}
 use Rattle.st_code.specs.Placed.{placed_stmt}
 use Rattle.st_exec.specs.Cells.{shape_in}
-use Rattle.st_exec.specs.Runs.{IsWithin, ServesOne}
+use Rattle.st_exec.specs.Runs.{IsWithin, SupportsOne}
 use Rattle.st_exec.proofs.Serving.{set_served, part_served}
 use Rattle.st_exec.proofs.Runs.{index_within}
 use Rattle.st_exec.proofs.Writing.{index_within as index_below}
@@ -28,15 +28,15 @@ element_view x s low high i e = search (rules, the_lemmas)
 
 module _ (fs : List Form) (c : CodeStmt) (right : placed_stmt fs c ≡ true) where
   -- a variable that is set has a slot
-  pub set_room : (x : String Global) (s : ℕ) (e : Code) → c ≡ Set x s e → ServesOne fs (code_command c) → s < size_of fs
+  pub set_room : (x : String Global) (s : ℕ) (e : Code) → c ≡ Set x s e → SupportsOne fs (code_command c) → s < size_of fs
   set_room x s e is serves =
       let p = set_slot fs c right x s e is in
-      let v = set_served fs (string_bytes x) (code_term e) (subst (ServesOne fs) (ap code_command is ∙ set_view x s e) serves) in
+      let v = set_served fs (string_bytes x) (code_term e) (subst (SupportsOne fs) (ap code_command is ∙ set_view x s e) serves) in
       let w = plain_within fs (string_bytes x) v.0 v.1 in
       omega (arith, p, w)
 
   -- an element, whose lowest index, index and number are passed on as equal ones
-  module _ (x : String Global) (s : ℕ) (low' high : ℤ) (i e : Code) (stands : c ≡ SetElement x s low' high i e) (serves : ServesOne fs (code_command c)) (values : Values) (index' number' : ℤ)
+  module _ (x : String Global) (s : ℕ) (low' high : ℤ) (i e : Code) (stands : c ≡ SetElement x s low' high i e) (serves : SupportsOne fs (code_command c)) (values : Values) (index' number' : ℤ)
       (found : value_of (code_term i) values ≡ Some index') (made : value_of (code_term e) values ≡ Some number') (low index number : ℤ) (same_low : low ≡ low') (same_index : index ≡ index') (same_number : number ≡ number') where
     is : c ≡ SetElement x s low high i e
     is = stands ∙ ap (λ z. SetElement x s z high i e) (sym same_low)
@@ -58,7 +58,7 @@ module _ (fs : List Form) (c : CodeStmt) (right : placed_stmt fs c ≡ true) whe
 
     -- as many elements as the bounds say
     pub element_count : option_map extent (shape_in fs (string_bytes x)) ≡ Some (extent (low, high))
-    element_count = part_served fs (string_bytes x) low high (code_term i) (code_term e) (subst (ServesOne fs) command_is serves)
+    element_count = part_served fs (string_bytes x) low high (code_term i) (code_term e) (subst (SupportsOne fs) command_is serves)
 
     pub element_slot : slot_in fs (string_bytes x) ≡ s
     element_slot = array_slot fs c right x s low high i e is

@@ -2,25 +2,25 @@
 
 ghost use Rattle.std.specs.Prelude.{◌≡◌, ◌^◌, true, ◌&&◌, map, string_bytes, None};
 ghost use Rattle.fb_model.specs.TypedText.{choose, match_on, constant};
-ghost use Rattle.fb_model.specs.Language.{Done, turn_count, turns, run_one, run, run_choices, run_cases};
+ghost use Rattle.fb_model.specs.Language.{Done, iteration_count, iterations, run_one, run, run_choices, run_cases};
 ghost use Rattle.st_code.specs.Forms.{plain_slot};
 ghost use Rattle.st_code.specs.CodeViews.{code_command, code_commands, code_choices, code_cases};
 ghost use Rattle.st_code.specs.Placed.{placed_stmt, placed_branch, placed_arm, placed_all, all_true};
 ghost use Rattle.st_exec.specs.Cells.{values_of, forms_of, shape_of, IsDeclared};
-ghost use Rattle.st_exec.specs.Runs.{IsWithin, Serves, ServesOne};
+ghost use Rattle.st_exec.specs.Runs.{IsWithin, Supports, SupportsOne};
 
 use crate::evaluate::eval;
+use crate::iterations::{is_labelled, iterations_of, taken};
 use crate::store::Store;
-use crate::turns::{is_labelled, taken, turns_of};
 use st_code::{CodeArm, CodeBranch, CodeCounting, CodeStmt, Procedure};
 use st_exec::arithmetic::is_zero;
 
-/// Runs an algorithm and answers its steps: one for each statement begun and each turn of a FOR, none for conditions.
+/// Runs an algorithm and answers its steps: one for each statement begun and each iteration of a FOR, none for conditions.
 ///
 /// The run does not trap and takes no more than 10^12 steps. No memory is taken.
 pub fn exec(procedure: &Procedure, store: &mut Store) -> u64
     requires placed { placed_all (forms_of store.old) procedure.now.statements.items ≡ true }
-    requires serves { Serves (forms_of store.old) (code_commands procedure.now.statements.items) }
+    requires serves { Supports (forms_of store.old) (code_commands procedure.now.statements.items) }
     requires small { IsWithin (10 ^ 12) (run (code_commands procedure.now.statements.items) (values_of store.old)) }
     ensures answers { run (code_commands procedure.now.statements.items) (values_of store.old) ≡ Done (values_of store.new) result }
     ensures unchanged { forms_of store.new ≡ forms_of store.old }
@@ -32,7 +32,7 @@ pub fn exec(procedure: &Procedure, store: &mut Store) -> u64
 #[cycle(running)]
 fn run_list(list: &[CodeStmt], store: &mut Store) -> u64
     requires placed { placed_all (forms_of store.old) list.now ≡ true }
-    requires serves { Serves (forms_of store.old) (code_commands list.now) }
+    requires serves { Supports (forms_of store.old) (code_commands list.now) }
     requires small { IsWithin (10 ^ 12) (run (code_commands list.now) (values_of store.old)) }
     ensures answers { run (code_commands list.now) (values_of store.old) ≡ Done (values_of store.new) result }
     ensures unchanged { forms_of store.new ≡ forms_of store.old }
@@ -47,7 +47,7 @@ fn run_list(list: &[CodeStmt], store: &mut Store) -> u64
 #[cycle(running)]
 fn run_statement(statement: &CodeStmt, store: &mut Store) -> u64
     requires placed { placed_stmt (forms_of store.old) statement.now ≡ true }
-    requires serves { ServesOne (forms_of store.old) (code_command statement.now) }
+    requires serves { SupportsOne (forms_of store.old) (code_command statement.now) }
     requires small { IsWithin (10 ^ 12) (run_one (code_command statement.now) (values_of store.old)) }
     ensures answers { run_one (code_command statement.now) (values_of store.old) ≡ Done (values_of store.new) result }
     ensures unchanged { forms_of store.new ≡ forms_of store.old }
@@ -72,7 +72,7 @@ fn run_statement(statement: &CodeStmt, store: &mut Store) -> u64
         CodeStmt::For(counting, body) => {
             let first = eval(&counting.first, store);
             let last = eval(&counting.last, store);
-            1 + run_turns(counting, first, last, body, store)
+            1 + run_iterations(counting, first, last, body, store)
         }
     }
 }
@@ -81,7 +81,7 @@ fn run_statement(statement: &CodeStmt, store: &mut Store) -> u64
 #[cycle(running)]
 fn run_branches(list: &[CodeBranch], rest: &[CodeStmt], store: &mut Store) -> u64
     requires placed { (all_true (map (placed_branch (forms_of store.old)) list.now) && placed_all (forms_of store.old) rest.now) ≡ true }
-    requires serves { ServesOne (forms_of store.old) (choose (code_choices list.now) (code_commands rest.now)) }
+    requires serves { SupportsOne (forms_of store.old) (choose (code_choices list.now) (code_commands rest.now)) }
     requires small { IsWithin (10 ^ 12) (run_choices (code_choices list.now) (values_of store.old) (run (code_commands rest.now) (values_of store.old))) }
     ensures answers { run_choices (code_choices list.now) (values_of store.old) (run (code_commands rest.now) (values_of store.old)) ≡ Done (values_of store.new) result }
     ensures unchanged { forms_of store.new ≡ forms_of store.old }
@@ -98,7 +98,7 @@ fn run_branches(list: &[CodeBranch], rest: &[CodeStmt], store: &mut Store) -> u6
 #[cycle(running)]
 fn run_arms(number: i64, list: &[CodeArm], rest: &[CodeStmt], store: &mut Store) -> u64
     requires placed { (all_true (map (placed_arm (forms_of store.old)) list.now) && placed_all (forms_of store.old) rest.now) ≡ true }
-    requires serves { ServesOne (forms_of store.old) (match_on (constant number) (code_cases list.now) (code_commands rest.now)) }
+    requires serves { SupportsOne (forms_of store.old) (match_on (constant number) (code_cases list.now) (code_commands rest.now)) }
     requires small { IsWithin (10 ^ 12) (run_cases (code_cases list.now) number (values_of store.old) (run (code_commands rest.now) (values_of store.old))) }
     ensures answers { run_cases (code_cases list.now) number (values_of store.old) (run (code_commands rest.now) (values_of store.old)) ≡ Done (values_of store.new) result }
     ensures unchanged { forms_of store.new ≡ forms_of store.old }
@@ -111,9 +111,9 @@ fn run_arms(number: i64, list: &[CodeArm], rest: &[CodeStmt], store: &mut Store)
     run_list(rest, store)
 }
 
-// The turns of a FOR.
+// The iterations of a FOR.
 #[cycle(running)]
-fn run_turns(
+fn run_iterations(
     counting: &CodeCounting,
     first: i64,
     last: i64,
@@ -124,14 +124,14 @@ fn run_turns(
     requires placed { placed_all (forms_of store.old) body.now ≡ true }
     requires plain { shape_of store.old (string_bytes counting.now.variable) ≡ None }
     requires declared { IsDeclared store.old (string_bytes counting.now.variable) }
-    requires serves { Serves (forms_of store.old) (code_commands body.now) }
-    requires small { IsWithin (10 ^ 12) (turns (turn_count first last counting.now.step) (run (code_commands body.now)) (string_bytes counting.now.variable) first counting.now.step (values_of store.old)) }
-    ensures answers { turns (turn_count first last counting.now.step) (run (code_commands body.now)) (string_bytes counting.now.variable) first counting.now.step (values_of store.old) ≡ Done (values_of store.new) result }
+    requires serves { Supports (forms_of store.old) (code_commands body.now) }
+    requires small { IsWithin (10 ^ 12) (iterations (iteration_count first last counting.now.step) (run (code_commands body.now)) (string_bytes counting.now.variable) first counting.now.step (values_of store.old)) }
+    ensures answers { iterations (iteration_count first last counting.now.step) (run (code_commands body.now)) (string_bytes counting.now.variable) first counting.now.step (values_of store.old) ≡ Done (values_of store.new) result }
     ensures unchanged { forms_of store.new ≡ forms_of store.old }
 {
     let mut steps = 0;
-    for turn in 0..turns_of(first, last, counting.step) {
-        let number = taken(first, last, counting.step, turn);
+    for iteration in 0..iterations_of(first, last, counting.step) {
+        let number = taken(first, last, counting.step, iteration);
         store.set_number(counting.slot, number);
         steps += 1;
         steps += run_list(body, store);

@@ -3,11 +3,11 @@
 
 mod evaluate;
 mod execute;
+mod iterations;
 mod row;
 mod store;
 #[cfg(test)]
 mod tests;
-mod turns;
 
 pub use evaluate::{eval, truth};
 pub use execute::exec;

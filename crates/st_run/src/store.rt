@@ -108,10 +108,10 @@ impl Store {
         ensures values { values_of self.new ≡ setting (values_of self.old) name.now (filled (shape_of self.old name.now) number) }
         ensures forms { forms_of self.new ≡ forms_of self.old }
     {
-        let Some(place) = self.layout.place(name) else {
+        let Some(location) = self.layout.location(name) else {
             unreachable!()
         };
-        self.fill(place.first, place.count(), number);
+        self.fill(location.first, location.count(), number);
     }
 
     /// Gives the variable that has so many slots from this one on the value of a variable of another store: both are no arrays, or arrays of one length.

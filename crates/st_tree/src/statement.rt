@@ -16,7 +16,7 @@ pub enum Stmt {
     If(Vec<Branch>, Vec<Stmt>),
     /// CASE and its place: the selector, the arms, and what is done where no label has the value.
     Case(usize, Expr, Vec<Arm>, Vec<Stmt>),
-    /// FOR and its place: the variable, the first and the last value, the step, and what is done in each turn.
+    /// FOR and its place: the variable, the first and the last value, the step, and what is done in each iteration.
     For(usize, Name, Bound, Bound, Option<Constant>, Vec<Stmt>),
 }
 

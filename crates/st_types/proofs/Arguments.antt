@@ -2,7 +2,7 @@
 use Rattle.std.proofs.Common.{◌≡◌, ℕ, ◌<◌, ◌≤◌, List, [], ◌∷◌, length, map, get_or, refl, sym, ap, ◌∙◌, arith, Result, Err}
 use Rattle.fb_words.specs.declared.operator.Operation.{Operation}
 use Rattle.fb_model.specs.StructuredText.{no_expression, expression, expressions}
-use Rattle.fb_model.specs.TextTyping.{Entry, Operand}
+use Rattle.fb_model.specs.TextTyping.{Symbol, Operand}
 use Rattle.fb_model.specs.TextFaults.{Fault, type_mismatch}
 use Rattle.st_tree.specs.declared.expression.Expr.{Expr}
 use Rattle.st_tree.specs.Views.{expr_of}
@@ -30,7 +30,7 @@ three_arguments (x ∷ y ∷ z ∷ []) a b c l h e f g =
     ∙ ap (λ k. expression (expr_of a) (expression (expr_of b) (expression (expr_of k) no_expression))) (sym g)
 three_arguments (x ∷ y ∷ z ∷ w ∷ es) a b c l h e f g = absurd (omega arith)
 
-pub more_arguments : (env : List Entry) (f : Operation) (s : ℕ) (es : List Expr) → 4 ≤ length es → let r : Result Operand Fault = Err (type_mismatch s) in typed_call env f s (expressions (map expr_of es)) ≡ r
+pub more_arguments : (env : List Symbol) (f : Operation) (s : ℕ) (es : List Expr) → 4 ≤ length es → let r : Result Operand Fault = Err (type_mismatch s) in typed_call env f s (expressions (map expr_of es)) ≡ r
 more_arguments env f s [] l = absurd (omega arith)
 more_arguments env f s (x ∷ []) l = absurd (omega arith)
 more_arguments env f s (x ∷ y ∷ []) l = absurd (omega arith)

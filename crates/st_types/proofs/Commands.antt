@@ -13,7 +13,7 @@ use Rattle.fb_model.specs.Productions.{Word}
 use Rattle.fb_model.specs.Trees.{Literal, Whole, Typed, Duration, Truth, Constant}
 use Rattle.fb_model.specs.StructuredText.{Expression, Label, Bound, Statement, assign, assign_element, branch, select, repeat, Statements, no_statement, statement, Branches, no_branch, a_branch, Arms, no_arm, an_arm}
 use Rattle.fb_model.specs.TypedText.{Term, Command, set, set_part, choose, match_on, count, Commands, done, then_do, Choices, no_choice, choice, Cases, no_case, a_case}
-use Rattle.fb_model.specs.TextTyping.{same_type, Entry, found, Operand, fixed, free, whole, IsTyped, IsAsked, IsCondition, IsAssignable, IsNumber, a_number, IsLabel, one, from_to, AreLabels, no_label, a_label, IsStep, no_step, a_step, IsSelector, an_integer, a_free_one, IsCommand, an_assignment, to_element, a_choice, a_selection, an_iteration, AreCommands, no_command, a_command, AreChoices, no_choices, more_choices, AreCases, no_cases, more_cases}
+use Rattle.fb_model.specs.TextTyping.{same_type, Symbol, found, Operand, fixed, free, whole, IsTyped, IsAsked, IsCondition, IsAssignable, IsNumber, a_number, IsLabel, one, from_to, AreLabels, no_label, a_label, IsStep, no_step, a_step, IsSelector, an_integer, a_free_one, IsCommand, an_assignment, to_element, a_choice, a_selection, an_iteration, AreCommands, no_command, a_command, AreChoices, no_choices, more_choices, AreCases, no_cases, more_cases}
 use Rattle.fb_model.specs.TextFaults.{type_mismatch, bad_literal, not_writable}
 use Rattle.st_types.specs.Elaborating.{◌>>=◌, known, bounds_by, settled, integer_of, truth_of, typed, taken, asked, condition}
 use Rattle.st_types.specs.Commanding.{idle_by, assignable, scalar_by, scalar, counter, number_by, number_of, high_of, label_of, labels_of, is_nought, step_of, Counted, counted, commanded, all_commanded, chosen, cased}
@@ -22,15 +22,15 @@ use Rattle.st_types.proofs.Elaboration.{known_ok, sound, complete}
 
 -- ---- where a type is asked for
 
-pub asked_sound : (env : List Entry) (a : ElemType) (s : ℕ) (e : Expression) (x : Term) → asked env a s e ≡ Ok x → IsAsked env a e x
+pub asked_sound : (env : List Symbol) (a : ElemType) (s : ℕ) (e : Expression) (x : Term) → asked env a s e ≡ Ok x → IsAsked env a e x
 asked_sound env a s e x h =
     let p = bind_ok (typed env e) (λ p. taken a s p) x h in
     record { operand = p.0; typed = sound env e p.0 p.1; taken = taken_sound a s p.0 x p.2 }
 
-pub asked_complete : (env : List Entry) (a : ElemType) (s : ℕ) (e : Expression) (x : Term) → IsAsked env a e x → asked env a s e ≡ Ok x
+pub asked_complete : (env : List Symbol) (a : ElemType) (s : ℕ) (e : Expression) (x : Term) → IsAsked env a e x → asked env a s e ≡ Ok x
 asked_complete env a s e x h = rw (complete env e h.operand h.typed) (taken_complete a s h.operand x h.taken)
 
-pub one_asked : (env : List Entry) (a : ElemType) (e : Expression) (x y : Term) → IsAsked env a e x → IsAsked env a e y → x ≡ y
+pub one_asked : (env : List Symbol) (a : ElemType) (e : Expression) (x y : Term) → IsAsked env a e x → IsAsked env a e y → x ≡ y
 one_asked env a e x y h k = ok_same x y (sym (asked_complete env a 0 e x h) ∙ asked_complete env a 0 e y k)
 
 pub truth_sound : (s : ℕ) (p : Operand) (x : Term) → truth_of s p ≡ Ok x → p ≡ fixed t.Bool x
@@ -40,38 +40,38 @@ truth_sound s (fixed a y) x h =
 truth_sound s (free l) x h = absurd (cc)
 truth_sound s whole x h = absurd (cc)
 
-pub condition_sound : (env : List Entry) (s : ℕ) (e : Expression) (x : Term) → condition env s e ≡ Ok x → IsCondition env e x
+pub condition_sound : (env : List Symbol) (s : ℕ) (e : Expression) (x : Term) → condition env s e ≡ Ok x → IsCondition env e x
 condition_sound env s e x h =
     let p = bind_ok (typed env e) (λ p. truth_of s p) x h in
     subst (IsTyped env e) (truth_sound s p.0 x p.2) (sound env e p.0 p.1)
 
-pub condition_complete : (env : List Entry) (s : ℕ) (e : Expression) (x : Term) → IsCondition env e x → condition env s e ≡ Ok x
+pub condition_complete : (env : List Symbol) (s : ℕ) (e : Expression) (x : Term) → IsCondition env e x → condition env s e ≡ Ok x
 condition_complete env s e x h = rw (complete env e (fixed t.Bool x) h) refl
 
-pub one_condition : (env : List Entry) (e : Expression) (x y : Term) → IsCondition env e x → IsCondition env e y → x ≡ y
+pub one_condition : (env : List Symbol) (e : Expression) (x y : Term) → IsCondition env e x → IsCondition env e y → x ≡ y
 one_condition env e x y h k = ok_same x y (sym (condition_complete env 0 e x h) ∙ condition_complete env 0 e y k)
 
 -- ---- what is assigned
 
-idle_ok : (s : ℕ) (v u : Entry) (b : Bool) → idle_by s v b ≡ Ok u → (b ≡ false) × (v ≡ u)
+idle_ok : (s : ℕ) (v u : Symbol) (b : Bool) → idle_by s v b ≡ Ok u → (b ≡ false) × (v ≡ u)
 idle_ok s v u true h = absurd (cc)
 idle_ok s v u false h = (refl, ok_same v u h)
 
-pub assignable_sound : (env : List Entry) (busy : List Name) (x : Word) (v : Entry) → assignable env busy x ≡ Ok v → IsAssignable env busy x.text v
+pub assignable_sound : (env : List Symbol) (busy : List Name) (x : Word) (v : Symbol) → assignable env busy x ≡ Ok v → IsAssignable env busy x.text v
 assignable_sound env busy x v h =
     let p = bind_ok (known env x.text x.at) (λ u. cond u.writable (idle_by x.at u (is_in x.text busy)) (Err (not_writable x.at))) v h in
     let q = test_ok p.0.writable (idle_by x.at p.0 (is_in x.text busy)) (not_writable x.at) v p.2 in
     let r = idle_ok x.at p.0 v (is_in x.text busy) q.1 in
     subst (IsAssignable env busy x.text) r.1 (record { known = known_ok x.at (found env x.text) p.0 p.1; writable = q.0; idle = r.0 })
 
-pub assignable_complete : (env : List Entry) (busy : List Name) (x : Word) (v : Entry) → IsAssignable env busy x.text v → assignable env busy x ≡ Ok v
+pub assignable_complete : (env : List Symbol) (busy : List Name) (x : Word) (v : Symbol) → IsAssignable env busy x.text v → assignable env busy x ≡ Ok v
 assignable_complete env busy x v h = rw (h.known, h.writable, h.idle) refl
 
 pub scalar_ok : (s : ℕ) (a b : ElemType) (o : Option (ℤ × ℤ)) → scalar_by s a o ≡ Ok b → (o ≡ None) × (a ≡ b)
 scalar_ok s a b None h = (refl, ok_same a b h)
 scalar_ok s a b (Some r) h = absurd (cc)
 
-pub counter_ok : (s : ℕ) (v : Entry) (a : ElemType) → counter s v ≡ Ok a → (v.bounds ≡ None) × (is_integer v.type ≡ true) × (v.type ≡ a)
+pub counter_ok : (s : ℕ) (v : Symbol) (a : ElemType) → counter s v ≡ Ok a → (v.bounds ≡ None) × (is_integer v.type ≡ true) × (v.type ≡ a)
 counter_ok s v a h =
     let p = bind_ok (scalar s v) (λ b. cond (is_integer b) (Ok b) (Err (type_mismatch s))) a h in
     let q = scalar_ok s v.type p.0 v.bounds p.1 in
@@ -173,11 +173,11 @@ selector_complete s p a x (a_free_one {l = l} k) = rw (settled_complete t.Lint l
 -- ---- how a FOR counts
 
 -- what it counts with, and what the rules say of it
-abbrev Counts : List Entry → List Name → Word → Bound → Bound → Option Constant → Counted → Type 0
-Counts env busy x e g step k = (v : Entry) × IsAssignable env busy x.text v × (v.bounds ≡ None) × (is_integer v.type ≡ true) × IsAsked env v.type e.value k.first × IsAsked env v.type g.value k.last × IsStep v.type step k.step
+abbrev Counts : List Symbol → List Name → Word → Bound → Bound → Option Constant → Counted → Type 0
+Counts env busy x e g step k = (v : Symbol) × IsAssignable env busy x.text v × (v.bounds ≡ None) × (is_integer v.type ≡ true) × IsAsked env v.type e.value k.first × IsAsked env v.type g.value k.last × IsStep v.type step k.step
     × (record { variable = x.text; type = v.type; first = k.first; last = k.last; step = k.step; plain = e.plain && g.plain } ≡ k)
 
-counted_sound : (env : List Entry) (busy : List Name) (s : ℕ) (x : Word) (e g : Bound) (step : Option Constant) (k : Counted) → counted env busy s x e g step ≡ Ok k → Counts env busy x e g step k
+counted_sound : (env : List Symbol) (busy : List Name) (s : ℕ) (x : Word) (e g : Bound) (step : Option Constant) (k : Counted) → counted env busy s x e g step ≡ Ok k → Counts env busy x e g step k
 counted_sound env busy s x e g step k h =
     let given : ElemType → Term → Term → ℤ → Counted = λ a y z n. record { variable = x.text; type = a; first = y; last = z; step = n; plain = e.plain && g.plain } in
     let p = bind_ok (assignable env busy x) (λ v. counter s v >>= λ a. asked env a s e.value >>= λ y. asked env a s g.value >>= λ z. step_of a step >>= λ n. Ok (given a y z n)) k h in
@@ -198,7 +198,7 @@ counted_sound env busy s x e g step k h =
       ap (λ a. given a i.0 j.0 m.0) c.2,
     )
 
-counted_complete : (env : List Entry) (busy : List Name) (s : ℕ) (x : Word) (e g : Bound) (step : Option Constant) (v : Entry) (y z : Term) (n : ℤ) → IsAssignable env busy x.text v → v.bounds ≡ None → is_integer v.type ≡ true → IsAsked env v.type e.value y → IsAsked env v.type g.value z → IsStep v.type step n
+counted_complete : (env : List Symbol) (busy : List Name) (s : ℕ) (x : Word) (e g : Bound) (step : Option Constant) (v : Symbol) (y z : Term) (n : ℤ) → IsAssignable env busy x.text v → v.bounds ≡ None → is_integer v.type ≡ true → IsAsked env v.type e.value y → IsAsked env v.type g.value z → IsStep v.type step n
     → counted env busy s x e g step ≡ Ok (record { variable = x.text; type = v.type; first = y; last = z; step = n; plain = e.plain && g.plain })
 counted_complete env busy s x e g step v y z n h k m i j d =
     rw (assignable_complete env busy x v h, k, m, asked_complete env v.type s e.value y i, asked_complete env v.type s g.value z j, step_complete v.type step n d) refl
@@ -206,7 +206,7 @@ counted_complete env busy s x e g step v y z n h k m i j d =
 -- ---- statements
 
 mutual
-  pub command_sound : (env : List Entry) (busy : List Name) (x : Statement) (c : Command) → commanded env busy x ≡ Ok c → IsCommand env busy x c
+  pub command_sound : (env : List Symbol) (busy : List Name) (x : Statement) (c : Command) → commanded env busy x ≡ Ok c → IsCommand env busy x c
   command_sound env busy (assign x s e) c h =
       let p = bind_ok (assignable env busy x) (λ v. scalar s v >>= λ a. asked env a s e >>= λ y. Ok (set x.text y)) c h in
       let q = bind_ok (scalar s p.0) (λ a. asked env a s e >>= λ y. Ok (set x.text y)) c p.2 in
@@ -241,14 +241,14 @@ mutual
       (ap (λ (r : Counted). count r.variable r.type r.first r.last r.step r.plain q.0) k.7 ∙ ok_same (count p.0.variable p.0.type p.0.first p.0.last p.0.step p.0.plain q.0) c q.2)
       (an_iteration k.1 k.2 k.3 k.4 k.5 k.6 (commands_sound env (busy ++ x.text ∷ []) xs q.0 q.1))
 
-  pub commands_sound : (env : List Entry) (busy : List Name) (xs : Statements) (c : Commands) → all_commanded env busy xs ≡ Ok c → AreCommands env busy xs c
+  pub commands_sound : (env : List Symbol) (busy : List Name) (xs : Statements) (c : Commands) → all_commanded env busy xs ≡ Ok c → AreCommands env busy xs c
   commands_sound env busy no_statement c h = subst (AreCommands env busy no_statement) (ok_same done c h) no_command
   commands_sound env busy (statement x xs) c h =
       let p = bind_ok (commanded env busy x) (λ d. all_commanded env busy xs >>= λ ds. Ok (then_do d ds)) c h in
       let q = bind_ok (all_commanded env busy xs) (λ ds. Ok (then_do p.0 ds)) c p.2 in
       subst (AreCommands env busy (statement x xs)) (ok_same (then_do p.0 q.0) c q.2) (a_command (command_sound env busy x p.0 p.1) (commands_sound env busy xs q.0 q.1))
 
-  pub choices_sound : (env : List Entry) (busy : List Name) (bs : Branches) (cs : Choices) → chosen env busy bs ≡ Ok cs → AreChoices env busy bs cs
+  pub choices_sound : (env : List Symbol) (busy : List Name) (bs : Branches) (cs : Choices) → chosen env busy bs ≡ Ok cs → AreChoices env busy bs cs
   choices_sound env busy no_branch cs h = subst (AreChoices env busy no_branch) (ok_same no_choice cs h) no_choices
   choices_sound env busy (a_branch s e xs bs) cs h =
       let p = bind_ok (condition env s e) (λ y. all_commanded env busy xs >>= λ c. chosen env busy bs >>= λ ds. Ok (choice y c ds)) cs h in
@@ -257,7 +257,7 @@ mutual
       subst (AreChoices env busy (a_branch s e xs bs)) (ok_same (choice p.0 q.0 r.0) cs r.2)
       (more_choices (condition_sound env s e p.0 p.1) (commands_sound env busy xs q.0 q.1) (choices_sound env busy bs r.0 r.1))
 
-  pub cases_sound : (env : List Entry) (busy : List Name) (a : ElemType) (bs : Arms) (cs : Cases) → cased env busy a bs ≡ Ok cs → AreCases env busy a bs cs
+  pub cases_sound : (env : List Symbol) (busy : List Name) (a : ElemType) (bs : Arms) (cs : Cases) → cased env busy a bs ≡ Ok cs → AreCases env busy a bs cs
   cases_sound env busy a no_arm cs h = subst (AreCases env busy a no_arm) (ok_same no_case cs h) no_cases
   cases_sound env busy a (an_arm ls xs bs) cs h =
       let p = bind_ok (labels_of a ls) (λ rs. all_commanded env busy xs >>= λ c. cased env busy a bs >>= λ ds. Ok (a_case rs c ds)) cs h in
@@ -266,7 +266,7 @@ mutual
       subst (AreCases env busy a (an_arm ls xs bs)) (ok_same (a_case p.0 q.0 r.0) cs r.2) (more_cases (labels_sound a ls p.0 p.1) (commands_sound env busy xs q.0 q.1) (cases_sound env busy a bs r.0 r.1))
 
 mutual
-  pub command_complete : (env : List Entry) (busy : List Name) (x : Statement) (c : Command) → IsCommand env busy x c → commanded env busy x ≡ Ok c
+  pub command_complete : (env : List Symbol) (busy : List Name) (x : Statement) (c : Command) → IsCommand env busy x c → commanded env busy x ≡ Ok c
   command_complete env busy (assign x s e) c (an_assignment {v = v} {y = y} h k m) = rw (assignable_complete env busy x v h, k, asked_complete env v.type s e y m) refl
   command_complete env busy (assign_element x b i s e) c (to_element {v = v} {p = p} {j = j} {y = y} h k m n d) =
       let q = integer_complete b p j n in
@@ -277,28 +277,28 @@ mutual
   command_complete env busy (repeat s x e g step xs) c (an_iteration {v = v} {y = y} {z = z} {n = n} {c = d} h k m i j p q) =
       rw (counted_complete env busy s x e g step v y z n h k m i j p, commands_complete env (busy ++ x.text ∷ []) xs d q) refl
 
-  pub commands_complete : (env : List Entry) (busy : List Name) (xs : Statements) (c : Commands) → AreCommands env busy xs c → all_commanded env busy xs ≡ Ok c
+  pub commands_complete : (env : List Symbol) (busy : List Name) (xs : Statements) (c : Commands) → AreCommands env busy xs c → all_commanded env busy xs ≡ Ok c
   commands_complete env busy no_statement c no_command = refl
   commands_complete env busy (statement x xs) c (a_command {c = d} {cs = ds} h k) = rw (command_complete env busy x d h, commands_complete env busy xs ds k) refl
 
-  pub choices_complete : (env : List Entry) (busy : List Name) (bs : Branches) (cs : Choices) → AreChoices env busy bs cs → chosen env busy bs ≡ Ok cs
+  pub choices_complete : (env : List Symbol) (busy : List Name) (bs : Branches) (cs : Choices) → AreChoices env busy bs cs → chosen env busy bs ≡ Ok cs
   choices_complete env busy no_branch cs no_choices = refl
   choices_complete env busy (a_branch s e xs bs) cs (more_choices {y = y} {c = c} {cs = ds} h k m) = rw (condition_complete env s e y h, commands_complete env busy xs c k, choices_complete env busy bs ds m) refl
 
-  pub cases_complete : (env : List Entry) (busy : List Name) (a : ElemType) (bs : Arms) (cs : Cases) → AreCases env busy a bs cs → cased env busy a bs ≡ Ok cs
+  pub cases_complete : (env : List Symbol) (busy : List Name) (a : ElemType) (bs : Arms) (cs : Cases) → AreCases env busy a bs cs → cased env busy a bs ≡ Ok cs
   cases_complete env busy a no_arm cs no_cases = refl
   cases_complete env busy a (an_arm ls xs bs) cs (more_cases {rs = rs} {c = c} {cs = ds} h k m) = rw (labels_complete a ls rs h, commands_complete env busy xs c k, cases_complete env busy a bs ds m) refl
 
 -- ---- one at most
 
-pub one_command : (env : List Entry) (busy : List Name) (x : Statement) (c d : Command) → IsCommand env busy x c → IsCommand env busy x d → c ≡ d
+pub one_command : (env : List Symbol) (busy : List Name) (x : Statement) (c d : Command) → IsCommand env busy x c → IsCommand env busy x d → c ≡ d
 one_command env busy x c d h k = ok_same c d (sym (command_complete env busy x c h) ∙ command_complete env busy x d k)
 
-pub one_command_list : (env : List Entry) (busy : List Name) (xs : Statements) (c d : Commands) → AreCommands env busy xs c → AreCommands env busy xs d → c ≡ d
+pub one_command_list : (env : List Symbol) (busy : List Name) (xs : Statements) (c d : Commands) → AreCommands env busy xs c → AreCommands env busy xs d → c ≡ d
 one_command_list env busy xs c d h k = ok_same c d (sym (commands_complete env busy xs c h) ∙ commands_complete env busy xs d k)
 
-pub one_choices : (env : List Entry) (busy : List Name) (bs : Branches) (c d : Choices) → AreChoices env busy bs c → AreChoices env busy bs d → c ≡ d
+pub one_choices : (env : List Symbol) (busy : List Name) (bs : Branches) (c d : Choices) → AreChoices env busy bs c → AreChoices env busy bs d → c ≡ d
 one_choices env busy bs c d h k = ok_same c d (sym (choices_complete env busy bs c h) ∙ choices_complete env busy bs d k)
 
-pub one_cases : (env : List Entry) (busy : List Name) (a : ElemType) (bs : Arms) (c d : Cases) → AreCases env busy a bs c → AreCases env busy a bs d → c ≡ d
+pub one_cases : (env : List Symbol) (busy : List Name) (a : ElemType) (bs : Arms) (c d : Cases) → AreCases env busy a bs c → AreCases env busy a bs d → c ≡ d
 one_cases env busy a bs c d h k = ok_same c d (sym (cases_complete env busy a bs c h) ∙ cases_complete env busy a bs d k)

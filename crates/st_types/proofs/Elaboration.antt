@@ -11,7 +11,7 @@ use Rattle.fb_model.specs.Productions.{Word}
 use Rattle.fb_model.specs.Trees.{Literal, Whole, Typed, Duration, Truth}
 use Rattle.fb_model.specs.StructuredText.{Expression, literal, variable, element, call, negative, inverse, binary, Expressions, no_expression, expression}
 use Rattle.fb_model.specs.TypedText.{Term, constant, part}
-use Rattle.fb_model.specs.TextTyping.{Entry, found, called, arity, bit, loose_number, Operand, fixed, free, IsTyped, a_whole_number, a_typed_number, a_time, a_truth, a_variable, an_array, an_element, a_negation, an_inversion, an_operation, on_one, on_two, on_three}
+use Rattle.fb_model.specs.TextTyping.{Symbol, found, called, arity, bit, loose_number, Operand, fixed, free, IsTyped, a_whole_number, a_typed_number, a_time, a_truth, a_variable, an_array, an_element, a_negation, an_inversion, an_operation, on_one, on_two, on_three}
 use Rattle.fb_model.specs.TextFaults.{Fault, unknown_name, type_mismatch, bad_literal, IsArgument, first, later, IsWrong, bad_typed, bad_time, not_an_array, bad_index}
 use Rattle.st_types.specs.Elaborating as book
 use Rattle.st_types.specs.Elaborating.{◌>>=◌, typed, typed_call, constant_of, known, known_by, value_by, value_of, bounds_by, integer_of, element_of, literal_of, function_by, function_of, applied_one, applied_two, applied_three}
@@ -20,12 +20,12 @@ use Rattle.st_types.proofs.Refusals.{test_err, never_err, not_integer_of}
 
 -- ---- parts
 
-pub known_ok : (s : ℕ) (o : Option Entry) (v : Entry) → known_by s o ≡ Ok v → o ≡ Some v
+pub known_ok : (s : ℕ) (o : Option Symbol) (v : Symbol) → known_by s o ≡ Ok v → o ≡ Some v
 known_ok s None v h = absurd (cc)
 known_ok s (Some u) v h = cc
 
-pub known_err : (s : ℕ) (o : Option Entry) (w : Fault) → known_by s o ≡ Err w → (o ≡ None) × (unknown_name s ≡ w)
-known_err s None w h = (refl, let k : (let l : Result Entry Fault = Err (unknown_name s) in l) ≡ Err w = h in cc)
+pub known_err : (s : ℕ) (o : Option Symbol) (w : Fault) → known_by s o ≡ Err w → (o ≡ None) × (unknown_name s ≡ w)
+known_err s None w h = (refl, let k : (let l : Result Symbol Fault = Err (unknown_name s) in l) ≡ Err w = h in cc)
 known_err s (Some u) w h = absurd (never_err u w h)
 
 pub function_ok : (s : ℕ) (o : Option Operation) (f : Operation) → function_by s o ≡ Ok f → o ≡ Some f
@@ -36,7 +36,7 @@ pub function_err : (s : ℕ) (o : Option Operation) (w : Fault) → function_by 
 function_err s None w h = (refl, let k : (let l : Result Operation Fault = Err (unknown_name s) in l) ≡ Err w = h in cc)
 function_err s (Some g) w h = absurd (never_err g w h)
 
-value_typed : (env : List Entry) (x : Word) (v : Entry) → found env x.text ≡ Some v → (b : Option (ℤ × ℤ)) → v.bounds ≡ b → IsTyped env (variable x) (value_by v.type x.text b)
+value_typed : (env : List Symbol) (x : Word) (v : Symbol) → found env x.text ≡ Some v → (b : Option (ℤ × ℤ)) → v.bounds ≡ b → IsTyped env (variable x) (value_by v.type x.text b)
 value_typed env x v h None e = a_variable h e
 value_typed env x v h (Some b) e = an_array h e
 
@@ -48,13 +48,13 @@ bounds_err : (s : ℕ) (o : Option (ℤ × ℤ)) (w : Fault) → bounds_by s o �
 bounds_err s None w h = (refl, let k : (let l : Result (ℤ × ℤ) Fault = Err (type_mismatch s) in l) ≡ Err w = h in cc)
 bounds_err s (Some c) w h = absurd (never_err c w h)
 
-element_sound : (env : List Entry) (x : Word) (s : ℕ) (i : Expression) (v : Entry) (p r : Operand) → found env x.text ≡ Some v → IsTyped env i p → element_of x.text s v p ≡ Ok r → IsTyped env (element x s i) r
+element_sound : (env : List Symbol) (x : Word) (s : ℕ) (i : Expression) (v : Symbol) (p r : Operand) → found env x.text ≡ Some v → IsTyped env i p → element_of x.text s v p ≡ Ok r → IsTyped env (element x s i) r
 element_sound env x s i v p r h k m =
     let a = bind_ok (bounds_by s v.bounds) (λ b. integer_of s p >>= λ j. Ok (fixed v.type (part x.text b.0 b.1 j.1))) r m in
     let c = bind_ok (integer_of s p) (λ j. Ok (fixed v.type (part x.text a.0.0 a.0.1 j.1))) r a.2 in
     subst (IsTyped env (element x s i)) (ok_same (fixed v.type (part x.text a.0.0 a.0.1 c.0.1)) r c.2) (an_element h (bounds_ok s v.bounds a.0 a.1) k (integer_sound s p c.0 c.1))
 
-pub element_refused : (env : List Entry) (x : Word) (s : ℕ) (i : Expression) (v : Entry) (p : Operand) (w : Fault) → found env x.text ≡ Some v → IsTyped env i p → element_of x.text s v p ≡ Err w → IsWrong env (element x s i) w
+pub element_refused : (env : List Symbol) (x : Word) (s : ℕ) (i : Expression) (v : Symbol) (p : Operand) (w : Fault) → found env x.text ≡ Some v → IsTyped env i p → element_of x.text s v p ≡ Err w → IsWrong env (element x s i) w
 element_refused env x s i v p w h k m = at_bounds (bind_err (bounds_by s v.bounds) (λ b. integer_of s p >>= λ j. Ok (fixed v.type (part x.text b.0 b.1 j.1))) w m)
   where
     at_index : (b : ℤ × ℤ) → ((integer_of s p ≡ Err w) ⊎ ((j : ElemType × Term) × (integer_of s p ≡ Ok j) × ((let l : Result Operand Fault = Ok (fixed v.type (part x.text b.0 b.1 j.1)) in l) ≡ Err w))) → IsWrong env (element x s i) w
@@ -83,13 +83,13 @@ number_err a n s w h = by (bind_err (constant_of a n s) (λ x. Ok (fixed a x)) w
     by (inl k) = fit (test_err (in_type a n) (Ok (constant n)) (bad_literal s) w k)
     by (inr k) = absurd (never_err (fixed a k.0) w k.2)
 
-literal_sound : (env : List Entry) (l : Literal) (s : ℕ) (r : Operand) → literal_of s l ≡ Ok r → IsTyped env (literal (record { value = l; at = s })) r
+literal_sound : (env : List Symbol) (l : Literal) (s : ℕ) (r : Operand) → literal_of s l ≡ Ok r → IsTyped env (literal (record { value = l; at = s })) r
 literal_sound env (Whole b n) s r h = subst (IsTyped env (literal (record { value = Whole b n; at = s }))) (ok_same (free (loose_number (signed b n) s)) r h) a_whole_number
 literal_sound env (Typed a b n) s r h = let p = number_ok a (signed b n) s r h in subst (IsTyped env (literal (record { value = Typed a b n; at = s }))) p.1 (a_typed_number p.0)
 literal_sound env (Duration b n) s r h = let p = number_ok t.Time (signed b n) s r h in subst (IsTyped env (literal (record { value = Duration b n; at = s }))) p.1 (a_time p.0)
 literal_sound env (Truth b) s r h = subst (IsTyped env (literal (record { value = Truth b; at = s }))) (ok_same (fixed t.Bool (constant (bit b))) r h) a_truth
 
-pub literal_refused : (env : List Entry) (l : Literal) (s : ℕ) (w : Fault) → literal_of s l ≡ Err w → IsWrong env (literal (record { value = l; at = s })) w
+pub literal_refused : (env : List Symbol) (l : Literal) (s : ℕ) (w : Fault) → literal_of s l ≡ Err w → IsWrong env (literal (record { value = l; at = s })) w
 literal_refused env (Whole b n) s w h = absurd (never_err (free (loose_number (signed b n) s)) w h)
 literal_refused env (Typed a b n) s w h = let p = number_err a (signed b n) s w h in subst (IsWrong env (literal (record { value = Typed a b n; at = s }))) p.1 (bad_typed p.0)
 literal_refused env (Duration b n) s w h = let p = number_err t.Time (signed b n) s w h in subst (IsWrong env (literal (record { value = Duration b n; at = s }))) p.1 (bad_time p.0)
@@ -107,10 +107,10 @@ three_is_limit (Convert a b) h = absurd (omega (arith, h))
 
 -- ---- sound
 
-abbrev SoundAt : List Entry → Expression → Type 0
+abbrev SoundAt : List Symbol → Expression → Type 0
 SoundAt env e = (r : Operand) → typed env e ≡ Ok r → IsTyped env e r
 
-call_sound : (env : List Entry) (x : Word) (f : Operation) → called x.text ≡ Some f → (es : Expressions) → ((e : Expression) → IsArgument e es → SoundAt env e) → (r : Operand) → typed_call env f x.at es ≡ Ok r → IsTyped env (call x es) r
+call_sound : (env : List Symbol) (x : Word) (f : Operation) → called x.text ≡ Some f → (es : Expressions) → ((e : Expression) → IsArgument e es → SoundAt env e) → (r : Operand) → typed_call env f x.at es ≡ Ok r → IsTyped env (call x es) r
 call_sound env x f n no_expression inside r h = absurd (cc)
 call_sound env x f n (expression a no_expression) inside r h =
     let p = bind_ok (typed env a) (λ p. applied_one f x.at p) r h in
@@ -130,7 +130,7 @@ call_sound env x f n (expression a (expression b (expression c no_expression))) 
 call_sound env x f n (expression a (expression b (expression c (expression d es)))) inside r h = absurd (cc)
 
 mutual
-  pub sound : (env : List Entry) (e : Expression) → SoundAt env e
+  pub sound : (env : List Symbol) (e : Expression) → SoundAt env e
   sound env (literal c) r h = literal_sound env c.value c.at r h
   sound env (variable x) r h =
       let p = bind_ok (known env x.text x.at) (λ v. Ok (value_of x.text v)) r h in
@@ -149,14 +149,14 @@ mutual
       let p = bind_ok (function_of x.text x.at) (λ f. typed_call env f x.at es) r h in
       call_sound env x p.0 (function_ok x.at (called x.text) p.0 p.1) es (sound_arguments env es) r p.2
 
-  sound_arguments : (env : List Entry) (es : Expressions) (e : Expression) → IsArgument e es → SoundAt env e
+  sound_arguments : (env : List Symbol) (es : Expressions) (e : Expression) → IsArgument e es → SoundAt env e
   sound_arguments env no_expression e i = elim i [ ]
   sound_arguments env (expression d es) e first = sound env d
   sound_arguments env (expression d es) e (later i) = sound_arguments env es e i
 
 -- ---- complete
 
-pub complete : (env : List Entry) (e : Expression) (r : Operand) → IsTyped env e r → typed env e ≡ Ok r
+pub complete : (env : List Symbol) (e : Expression) (r : Operand) → IsTyped env e r → typed env e ≡ Ok r
 complete env e r a_whole_number = refl
 complete env e r (a_typed_number h) = rw h refl
 complete env e r (a_time h) = rw h refl
@@ -171,5 +171,5 @@ complete env (call x (expression e no_expression)) r (on_one {f = f} {p = p} n a
 complete env (call x (expression e (expression g no_expression))) r (on_two {f = f} {p = p} {q = q} n a k m d) = rw (n, complete env e p k, complete env g q m, eq-eqb (arity f) 2 a) (two_complete f x.at p q r d)
 complete env (call x (expression e (expression g (expression h no_expression)))) r (on_three {p = p} {q = q} {r = j} n k m i d) = rw (n, complete env e p k, complete env g q m, complete env h j i) (three_complete x.at p q j r d)
 
-pub one_operand : (env : List Entry) (e : Expression) (p q : Operand) → IsTyped env e p → IsTyped env e q → p ≡ q
+pub one_operand : (env : List Symbol) (e : Expression) (p q : Operand) → IsTyped env e p → IsTyped env e q → p ≡ q
 one_operand env e p q a b = ok_same p q (sym (complete env e p a) ∙ complete env e q b)

@@ -14,8 +14,8 @@ use Rattle.fb_model.specs.Productions.{Word}
 use Rattle.fb_model.specs.Trees.{Whole, Constant}
 use Rattle.fb_model.specs.StructuredText.{Expression, element, call, negative, inverse, binary, Expressions, no_expression, expression, Label, Statement, assign, assign_element, branch, select, repeat, Statements, no_statement, statement, Branches, no_branch, a_branch, Arms, no_arm, an_arm}
 use Rattle.fb_model.specs.TypedText.{Term, Command, Commands, Choices, Cases}
-use Rattle.fb_model.specs.TextTyping.{allows, stays_free, asks, called, arity, Entry, Loose, Operand, fixed, free, whole, may_be, is_free, Settles, a_number, a_single, a_double, Takes, widened, settles, IsOneOf, front, behind, Brings, alone, Single, one_free, one, Double, two_free, two, Triple, three_free, three, IsIndex, an_integer, a_free_one, IsTyped, a_whole_number, a_typed_number, a_time, a_truth, a_variable, an_array, an_element, a_negation, an_inversion, an_operation, on_one, on_two, on_three, IsAsked, IsCondition, IsAssignable, IsNumber, IsLabel, from_to, AreLabels, a_label, IsStep, a_step, IsSelector, IsCommand, an_assignment, to_element, a_choice, a_selection, an_iteration, AreCommands, a_command, AreChoices, more_choices, AreCases, more_cases}
-use Rattle.fb_model.specs.TextFaults.{Fault, Unsettled, bad_number, bad_single, bad_double, in_single, in_left, in_right, NotTaken, too_wide, unsettled, NotInteger, another_type, unsettled_one, NotOn, mismatched, not_settled, first, later, AreTyped, no_operand, an_operand, IsWrong, bad_typed, bad_time, unknown_variable, unknown_array, not_an_array, in_index, bad_index, in_negation, bad_negation, in_inversion, bad_inversion, in_first, in_second, bad_operation, unknown_function, bad_count, in_argument, bad_call, IsNotAsked, in_it, not_taken, is_truth, IsNoCondition, in_condition, no_truth, IsNotAssignable, unknown, read_only, counted_with, IsNoNumber, not_fitting, not_whole, IsNoLabel, bad_low, bad_high, SomeNoLabel, this_label, later_label, IsNoStep, bad_step, no_progress, IsMisdone, bad_target, whole_array, bad_value, bad_element, no_array, wrong_index, no_index, bad_element_value, in_branches, in_else, in_selector, bad_selector, in_arms, in_other_arm, bad_counter, array_counter, no_integer, bad_first, bad_last, wrong_step, in_turn, SomeMisdone, this_one, later_one, SomeBranchWrong, bad_condition, in_branch, later_branch, SomeArmWrong, bad_label, in_arm, later_arm}
+use Rattle.fb_model.specs.TextTyping.{allows, stays_free, asks, called, arity, Symbol, Loose, Operand, fixed, free, whole, may_be, is_free, Settles, a_number, a_single, a_double, TakesType, widened, settles, IsOneOf, front, behind, Brings, alone, Single, one_free, one, Double, two_free, two, Triple, three_free, three, IsIndex, an_integer, a_free_one, IsTyped, a_whole_number, a_typed_number, a_time, a_truth, a_variable, an_array, an_element, a_negation, an_inversion, an_operation, on_one, on_two, on_three, IsAsked, IsCondition, IsAssignable, IsNumber, IsLabel, from_to, AreLabels, a_label, IsStep, a_step, IsSelector, IsCommand, an_assignment, to_element, a_choice, a_selection, an_iteration, AreCommands, a_command, AreChoices, more_choices, AreCases, more_cases}
+use Rattle.fb_model.specs.TextFaults.{Fault, Unsettled, bad_number, bad_single, bad_double, in_single, in_left, in_right, NotTaken, too_wide, unsettled, NotInteger, another_type, unsettled_one, NotOn, mismatched, not_settled, first, later, AreTyped, no_operand, an_operand, IsWrong, bad_typed, bad_time, unknown_variable, unknown_array, not_an_array, in_index, bad_index, in_negation, bad_negation, in_inversion, bad_inversion, in_first, in_second, bad_operation, unknown_function, bad_count, in_argument, bad_call, IsNotAsked, in_it, not_taken, is_truth, IsNoCondition, in_condition, no_truth, IsNotAssignable, unknown, read_only, counted_with, IsNoNumber, not_fitting, not_whole, IsNoLabel, bad_low, bad_high, SomeNoLabel, this_label, later_label, IsNoStep, bad_step, no_progress, IsMisdone, bad_target, whole_array, bad_value, bad_element, no_array, wrong_index, no_index, bad_element_value, in_branches, in_else, in_selector, bad_selector, in_arms, in_other_arm, bad_counter, array_counter, no_integer, bad_first, bad_last, wrong_step, in_iteration, SomeMisdone, this_one, later_one, SomeBranchWrong, bad_condition, in_branch, later_branch, SomeArmWrong, bad_label, in_arm, later_arm}
 use Rattle.st_types.proofs.Rules.{brings_one}
 use Rattle.st_types.proofs.Elaboration.{one_operand}
 
@@ -29,8 +29,8 @@ one_answer : {A : Type 0} {x : Option A} {v u : A} → x ≡ Some v → x ≡ So
 one_answer h k = cc
 
 -- a variable is an array or not
-array_or_not : {x : Option Entry} (v u : Entry) (b : ℤ × ℤ) → x ≡ Some v → v.bounds ≡ Some b → x ≡ Some u → u.bounds ≡ None → ⊥
-array_or_not v u b h k i n = none_some n (sym (ap (λ (y : Entry). y.bounds) (one_answer h i)) ∙ k)
+array_or_not : {x : Option Symbol} (v u : Symbol) (b : ℤ × ℤ) → x ≡ Some v → v.bounds ≡ Some b → x ≡ Some u → u.bounds ≡ None → ⊥
+array_or_not v u b h k i n = none_some n (sym (ap (λ (y : Symbol). y.bounds) (one_answer h i)) ∙ k)
 
 -- ---- operands
 
@@ -42,7 +42,7 @@ settled_faultless a l x w (a_double h s d) (bad_double k) = not_both h k
 settled_faultless a l x w (a_double {l = m} {x = y} h s d) (in_left u) = settled_faultless a m y w s u
 settled_faultless a l x w (a_double {k = m} {y = y} h s d) (in_right u) = settled_faultless a m y w d u
 
-taken_faultless : (a : ElemType) (s : ℕ) (p : Operand) (x : Term) (w : Fault) → Takes a p x → NotTaken a s p w → ⊥
+taken_faultless : (a : ElemType) (s : ℕ) (p : Operand) (x : Term) (w : Fault) → TakesType a p x → NotTaken a s p w → ⊥
 taken_faultless a s p x w (widened h) (too_wide k) = not_both h k
 taken_faultless a s p x w (settles {l = l} h) (unsettled u) = settled_faultless a l x w h u
 
@@ -101,9 +101,9 @@ stays_allows (Convert a b) h = refl
 -- operands that all take the type
 data AllTake (a : ElemType) : List Operand → Type 0 where
   none_takes : AllTake a []
-  one_takes : {p : Operand} {ps : List Operand} {x : Term} → Takes a p x → AllTake a ps → AllTake a (p ∷ ps)
+  one_takes : {p : Operand} {ps : List Operand} {x : Term} → TakesType a p x → AllTake a ps → AllTake a (p ∷ ps)
 
-takes_may : (a : ElemType) (p : Operand) (x : Term) → Takes a p x → may_be a p ≡ true
+takes_may : (a : ElemType) (p : Operand) (x : Term) → TakesType a p x → may_be a p ≡ true
 takes_may a (fixed b y) x (widened h) = h
 takes_may a (free l) x k = refl
 takes_may a whole x k = elim k [ ]
@@ -112,7 +112,7 @@ all_may : (a : ElemType) (ps : List Operand) → AllTake a ps → list_all (may_
 all_may a ps none_takes = refl
 all_may a (p ∷ ps) (one_takes {x = x} h k) = ap (λ b. b && list_all (may_be a) ps) (takes_may a p x h) ∙ all_may a ps k
 
-free_takes : (a : ElemType) (l : Loose) (x : Term) → Takes a (free l) x → (w : Fault) → Unsettled a l w → ⊥
+free_takes : (a : ElemType) (l : Loose) (x : Term) → TakesType a (free l) x → (w : Fault) → Unsettled a l w → ⊥
 free_takes a l x (settles h) w u = settled_faultless a l x w h u
 
 all_settle : (a : ElemType) (ps : List Operand) (l : Loose) (w : Fault) → AllTake a ps → IsOneOf (free l) ps → Unsettled a l w → ⊥
@@ -146,7 +146,7 @@ triple_faultless s p q r k w (three {a = a} n b h x y z) m = brought_faultless L
 -- ---- expressions
 
 -- arguments are one list of operands at most
-one_list : (env : List Entry) (es : Expressions) (ps qs : List Operand) → AreTyped env es ps → AreTyped env es qs → ps ≡ qs
+one_list : (env : List Symbol) (es : Expressions) (ps qs : List Operand) → AreTyped env es ps → AreTyped env es qs → ps ≡ qs
 one_list env es ps qs no_operand no_operand = refl
 one_list env (expression e es) ps qs (an_operand {p = p} {ps = rs} h k) (an_operand {p = q} {ps = us} i j) =
     ap (λ v. v ∷ rs) (one_operand env e p q h i) ∙ ap (λ v. q ∷ v) (one_list env es rs us k j)
@@ -158,7 +158,7 @@ same_on f g s ps qs w e k n = subst (λ h. NotOn h s qs w) e (subst (λ rs. NotO
 count_faultless : (x : Word) (f g : Operation) (n : ℕ) → called x.text ≡ Some f → arity f ≡ n → called x.text ≡ Some g → n ≢ arity g → ⊥
 count_faultless x f g n h a k m = m (sym a ∙ ap arity (one_answer h k))
 
-pub typed_faultless : (env : List Entry) (e : Expression) (p : Operand) (w : Fault) → IsTyped env e p → IsWrong env e w → ⊥
+pub typed_faultless : (env : List Symbol) (e : Expression) (p : Operand) (w : Fault) → IsTyped env e p → IsWrong env e w → ⊥
 typed_faultless env e r w a_whole_number k = elim k [ ]
 typed_faultless env e r w (a_typed_number h) (bad_typed k) = not_both h k
 typed_faultless env e r w (a_time h) (bad_time k) = not_both h k
@@ -204,26 +204,26 @@ typed_faultless env (call x es) r w (on_three {p = p} {q = q} {r = o} c i j h d)
     triple_faultless x.at p q o r w d (same_on g Limit x.at ps (p ∷ q ∷ o ∷ []) w (one_answer k c) (one_list env es ps (p ∷ q ∷ o ∷ []) m (an_operand i (an_operand j (an_operand h no_operand)))) n)
 
 -- the same where a type is asked for
-pub asked_faultless : (env : List Entry) (a : ElemType) (s : ℕ) (e : Expression) (x : Term) (w : Fault) → IsAsked env a e x → IsNotAsked env a s e w → ⊥
+pub asked_faultless : (env : List Symbol) (a : ElemType) (s : ℕ) (e : Expression) (x : Term) (w : Fault) → IsAsked env a e x → IsNotAsked env a s e w → ⊥
 asked_faultless env a s e x w h (in_it k) = typed_faultless env e h.operand w h.typed k
 asked_faultless env a s e x w h (not_taken {p = q} k n) =
     taken_faultless a s h.operand x w h.taken (subst (λ v. NotTaken a s v w) (one_operand env e q h.operand k h.typed) n)
 
 -- and of a condition
-pub condition_faultless : (env : List Entry) (s : ℕ) (e : Expression) (x : Term) (w : Fault) → IsCondition env e x → IsNoCondition env s e w → ⊥
+pub condition_faultless : (env : List Symbol) (s : ℕ) (e : Expression) (x : Term) (w : Fault) → IsCondition env e x → IsNoCondition env s e w → ⊥
 condition_faultless env s e x w h (in_condition k) = typed_faultless env e (fixed t.Bool x) w h k
 condition_faultless env s e x w h (no_truth {p = p} k n) = true≢false (subst (λ q. is_truth q ≡ false) (one_operand env e p (fixed t.Bool x) k h) n)
 
 -- and where the type is that of a variable
-asked_by_variable : {x : Option Entry} (env : List Entry) (v u : Entry) (s : ℕ) (e : Expression) (y : Term) (w : Fault) → x ≡ Some v → IsAsked env v.type e y → x ≡ Some u → IsNotAsked env u.type s e w → ⊥
+asked_by_variable : {x : Option Symbol} (env : List Symbol) (v u : Symbol) (s : ℕ) (e : Expression) (y : Term) (w : Fault) → x ≡ Some v → IsAsked env v.type e y → x ≡ Some u → IsNotAsked env u.type s e w → ⊥
 asked_by_variable env v u s e y w h k i n =
-    asked_faultless env v.type s e y w k (subst (λ (z : Entry). IsNotAsked env z.type s e w) (one_answer i h) n)
+    asked_faultless env v.type s e y w k (subst (λ (z : Symbol). IsNotAsked env z.type s e w) (one_answer i h) n)
 
 -- ---- what is assigned, labels and steps
 
-assignable_faultless : (env : List Entry) (busy : List Name) (x : Word) (v : Entry) (w : Fault) → IsAssignable env busy x.text v → IsNotAssignable env busy x w → ⊥
+assignable_faultless : (env : List Symbol) (busy : List Name) (x : Word) (v : Symbol) (w : Fault) → IsAssignable env busy x.text v → IsNotAssignable env busy x w → ⊥
 assignable_faultless env busy x v w h (unknown k) = none_some k h.known
-assignable_faultless env busy x v w h (read_only k n) = not_both h.writable (subst (λ (y : Entry). y.writable ≡ false) (one_answer k h.known) n)
+assignable_faultless env busy x v w h (read_only k n) = not_both h.writable (subst (λ (y : Symbol). y.writable ≡ false) (one_answer k h.known) n)
 assignable_faultless env busy x v w h (counted_with k) = not_both k h.idle
 
 number_faultless : (a : ElemType) (c : Constant) (n : ℤ) (w : Fault) → IsNumber a c n → IsNoNumber a c w → ⊥
@@ -248,13 +248,13 @@ step_faultless : (a : ElemType) (c : Constant) (n : ℤ) (w : Fault) → IsNumbe
 step_faultless a c n w h k (bad_step u) = number_faultless a c n w h u
 step_faultless a c n w h k (no_progress {b = b} {n = m} {s = s} e) = k (whole_is a b m s n h ∙ e)
 
-step_by_variable : {x : Option Entry} (v u : Entry) (c : Constant) (n : ℤ) (w : Fault) → x ≡ Some v → IsStep v.type (Some c) n → x ≡ Some u → IsNoStep u.type c w → ⊥
-step_by_variable v u c n w h (a_step k d) i m = step_faultless v.type c n w k d (subst (λ (z : Entry). IsNoStep z.type c w) (one_answer i h) m)
+step_by_variable : {x : Option Symbol} (v u : Symbol) (c : Constant) (n : ℤ) (w : Fault) → x ≡ Some v → IsStep v.type (Some c) n → x ≡ Some u → IsNoStep u.type c w → ⊥
+step_by_variable v u c n w h (a_step k d) i m = step_faultless v.type c n w k d (subst (λ (z : Symbol). IsNoStep z.type c w) (one_answer i h) m)
 
 -- ---- statements
 
 mutual
-  pub command_faultless : (env : List Entry) (busy : List Name) (x : Statement) (c : Command) (w : Fault) → IsCommand env busy x c → IsMisdone env busy x w → ⊥
+  pub command_faultless : (env : List Symbol) (busy : List Name) (x : Statement) (c : Command) (w : Fault) → IsCommand env busy x c → IsMisdone env busy x w → ⊥
   command_faultless env busy (assign x s e) c w (an_assignment {v = v} h b k) (bad_target n) = assignable_faultless env busy x v w h n
   command_faultless env busy (assign x s e) c w (an_assignment {v = v} h b k) (whole_array {v = u} {r = r} i n) = array_or_not u v r i n h.known b
   command_faultless env busy (assign x s e) c w (an_assignment {v = v} {y = y} h b k) (bad_value {v = u} i n) = asked_by_variable env v u s e y w h.known k i n
@@ -275,24 +275,24 @@ mutual
   command_faultless env busy (select s e bs xs) c w (a_selection {c = d} h i j k) (in_other_arm n) = commands_faultless env busy xs d w k n
   command_faultless env busy (repeat s x e g step xs) c w (an_iteration {v = v} h b i j k m o) (bad_counter n) = assignable_faultless env busy x v w h n
   command_faultless env busy (repeat s x e g step xs) c w (an_iteration {v = v} h b i j k m o) (array_counter {v = u} {r = r} d n) = array_or_not u v r d n h.known b
-  command_faultless env busy (repeat s x e g step xs) c w (an_iteration h b i j k m o) (no_integer d n) = not_both i (subst (λ (z : Entry). is_integer z.type ≡ false) (one_answer d h.known) n)
+  command_faultless env busy (repeat s x e g step xs) c w (an_iteration h b i j k m o) (no_integer d n) = not_both i (subst (λ (z : Symbol). is_integer z.type ≡ false) (one_answer d h.known) n)
   command_faultless env busy (repeat s x e g step xs) c w (an_iteration {v = v} {y = y} h b i j k m o) (bad_first {v = u} d n) = asked_by_variable env v u s e.value y w h.known j d n
   command_faultless env busy (repeat s x e g step xs) c w (an_iteration {v = v} {z = z} h b i j k m o) (bad_last {v = u} d n) = asked_by_variable env v u s g.value z w h.known k d n
   command_faultless env busy (repeat s x e g step xs) c w (an_iteration {v = v} {n = q} h b i j k m o) (wrong_step {c = l} {v = u} d n) = step_by_variable v u l q w h.known m d n
-  command_faultless env busy (repeat s x e g step xs) c w (an_iteration {c = d} h b i j k m o) (in_turn n) = commands_faultless env (busy ++ x.text ∷ []) xs d w o n
+  command_faultless env busy (repeat s x e g step xs) c w (an_iteration {c = d} h b i j k m o) (in_iteration n) = commands_faultless env (busy ++ x.text ∷ []) xs d w o n
 
-  pub commands_faultless : (env : List Entry) (busy : List Name) (xs : Statements) (c : Commands) (w : Fault) → AreCommands env busy xs c → SomeMisdone env busy xs w → ⊥
+  pub commands_faultless : (env : List Symbol) (busy : List Name) (xs : Statements) (c : Commands) (w : Fault) → AreCommands env busy xs c → SomeMisdone env busy xs w → ⊥
   commands_faultless env busy no_statement c w h n = elim n [ ]
   commands_faultless env busy (statement x xs) c w (a_command {c = d} h k) (this_one n) = command_faultless env busy x d w h n
   commands_faultless env busy (statement x xs) c w (a_command {cs = ds} h k) (later_one n) = commands_faultless env busy xs ds w k n
 
-  pub choices_faultless : (env : List Entry) (busy : List Name) (bs : Branches) (cs : Choices) (w : Fault) → AreChoices env busy bs cs → SomeBranchWrong env busy bs w → ⊥
+  pub choices_faultless : (env : List Symbol) (busy : List Name) (bs : Branches) (cs : Choices) (w : Fault) → AreChoices env busy bs cs → SomeBranchWrong env busy bs w → ⊥
   choices_faultless env busy no_branch cs w h n = elim n [ ]
   choices_faultless env busy (a_branch s e xs bs) cs w (more_choices {y = y} h k m) (bad_condition n) = condition_faultless env s e y w h n
   choices_faultless env busy (a_branch s e xs bs) cs w (more_choices {c = c} h k m) (in_branch n) = commands_faultless env busy xs c w k n
   choices_faultless env busy (a_branch s e xs bs) cs w (more_choices {cs = ds} h k m) (later_branch n) = choices_faultless env busy bs ds w m n
 
-  pub cases_faultless : (env : List Entry) (busy : List Name) (a : ElemType) (bs : Arms) (cs : Cases) (w : Fault) → AreCases env busy a bs cs → SomeArmWrong env busy a bs w → ⊥
+  pub cases_faultless : (env : List Symbol) (busy : List Name) (a : ElemType) (bs : Arms) (cs : Cases) (w : Fault) → AreCases env busy a bs cs → SomeArmWrong env busy a bs w → ⊥
   cases_faultless env busy a no_arm cs w h n = elim n [ ]
   cases_faultless env busy a (an_arm ls xs bs) cs w (more_cases {rs = rs} h k m) (bad_label n) = labels_faultless a ls rs w h n
   cases_faultless env busy a (an_arm ls xs bs) cs w (more_cases {c = c} h k m) (in_arm n) = commands_faultless env busy xs c w k n

@@ -9,8 +9,8 @@ use Rattle.fb_model.specs.Productions.{Word}
 use Rattle.fb_model.specs.Trees.{Literal, Whole, Typed, Duration, Truth, Constant}
 use Rattle.fb_model.specs.StructuredText.{Expression, Label, Bound, Statement, assign, assign_element, branch, select, repeat, Statements, no_statement, statement, Branches, no_branch, a_branch, Arms, no_arm, an_arm}
 use Rattle.fb_model.specs.TypedText.{Term, set, set_part, choose, match_on, count, done, then_do, no_choice, choice, no_case, a_case}
-use Rattle.fb_model.specs.TextTyping.{same_type, Entry, found, Operand, fixed, free, whole, IsNumber, a_number}
-use Rattle.fb_model.specs.TextFaults.{Fault, type_mismatch, bad_literal, not_writable, IsNotAsked, in_it, not_taken, is_truth, IsNoCondition, in_condition, no_truth, IsNotAssignable, unknown, read_only, counted_with, IsNoNumber, not_fitting, not_whole, IsNoLabel, bad_low, bad_high, SomeNoLabel, this_label, later_label, IsNoStep, bad_step, no_progress, IsMisdone, bad_target, whole_array, bad_value, bad_element, no_array, wrong_index, no_index, bad_element_value, in_branches, in_else, in_selector, bad_selector, in_arms, in_other_arm, bad_counter, array_counter, no_integer, bad_first, bad_last, wrong_step, in_turn, SomeMisdone, this_one, later_one, SomeBranchWrong, bad_condition, in_branch, later_branch, SomeArmWrong, bad_label, in_arm, later_arm}
+use Rattle.fb_model.specs.TextTyping.{same_type, Symbol, found, Operand, fixed, free, whole, IsNumber, a_number}
+use Rattle.fb_model.specs.TextFaults.{Fault, type_mismatch, bad_literal, not_writable, IsNotAsked, in_it, not_taken, is_truth, IsNoCondition, in_condition, no_truth, IsNotAssignable, unknown, read_only, counted_with, IsNoNumber, not_fitting, not_whole, IsNoLabel, bad_low, bad_high, SomeNoLabel, this_label, later_label, IsNoStep, bad_step, no_progress, IsMisdone, bad_target, whole_array, bad_value, bad_element, no_array, wrong_index, no_index, bad_element_value, in_branches, in_else, in_selector, bad_selector, in_arms, in_other_arm, bad_counter, array_counter, no_integer, bad_first, bad_last, wrong_step, in_iteration, SomeMisdone, this_one, later_one, SomeBranchWrong, bad_condition, in_branch, later_branch, SomeArmWrong, bad_label, in_arm, later_arm}
 use Rattle.st_types.specs.Elaborating.{◌>>=◌, known, bounds_by, integer_of, truth_of, typed, taken, asked, condition}
 use Rattle.st_types.specs.Commanding.{idle_by, assignable, scalar_by, scalar, counter, number_by, number_of, high_of, label_of, labels_of, is_nought, step_of, Counted, counted, commanded, all_commanded, chosen, cased}
 use Rattle.st_types.proofs.Rules.{bind_err}
@@ -46,7 +46,7 @@ test_step {A} b r v w Q fail on h = by (test_err b r v w h)
 
 -- ---- where a type is asked for
 
-pub asked_refused : (env : List Entry) (a : ElemType) (s : ℕ) (e : Expression) (w : Fault) → asked env a s e ≡ Err w → IsNotAsked env a s e w
+pub asked_refused : (env : List Symbol) (a : ElemType) (s : ℕ) (e : Expression) (w : Fault) → asked env a s e ≡ Err w → IsNotAsked env a s e w
 asked_refused env a s e w h =
     step (typed env e) (λ p. taken a s p) w (IsNotAsked env a s e w) (λ k. in_it (refused env e w k)) (λ p k m. not_taken (sound env e p k) (not_taken_of a s p w m)) h
 
@@ -56,18 +56,18 @@ not_truth s (fixed a x) w h =
 not_truth s (free l) w h = (refl, same_fault {A = Term} (type_mismatch s) w h)
 not_truth s whole w h = (refl, same_fault {A = Term} (type_mismatch s) w h)
 
-pub condition_refused : (env : List Entry) (s : ℕ) (e : Expression) (w : Fault) → condition env s e ≡ Err w → IsNoCondition env s e w
+pub condition_refused : (env : List Symbol) (s : ℕ) (e : Expression) (w : Fault) → condition env s e ≡ Err w → IsNoCondition env s e w
 condition_refused env s e w h =
     step (typed env e) (λ p. truth_of s p) w (IsNoCondition env s e w) (λ k. in_condition (refused env e w k))
     (λ p k m. let q = not_truth s p w m in subst (IsNoCondition env s e) q.1 (no_truth (sound env e p k) q.0)) h
 
 -- ---- what is assigned
 
-idle_err : (s : ℕ) (v : Entry) (b : Bool) (w : Fault) → idle_by s v b ≡ Err w → (b ≡ true) × (not_writable s ≡ w)
-idle_err s v true w h = (refl, same_fault {A = Entry} (not_writable s) w h)
+idle_err : (s : ℕ) (v : Symbol) (b : Bool) (w : Fault) → idle_by s v b ≡ Err w → (b ≡ true) × (not_writable s ≡ w)
+idle_err s v true w h = (refl, same_fault {A = Symbol} (not_writable s) w h)
 idle_err s v false w h = absurd (never_err v w h)
 
-pub assignable_refused : (env : List Entry) (busy : List Name) (x : Word) (w : Fault) → assignable env busy x ≡ Err w → IsNotAssignable env busy x w
+pub assignable_refused : (env : List Symbol) (busy : List Name) (x : Word) (w : Fault) → assignable env busy x ≡ Err w → IsNotAssignable env busy x w
 assignable_refused env busy x w h =
     step (known env x.text x.at) (λ v. cond v.writable (idle_by x.at v (is_in x.text busy)) (Err (not_writable x.at))) w (IsNotAssignable env busy x w)
     (λ k. let p = known_err x.at (found env x.text) w k in subst (IsNotAssignable env busy x) p.1 (unknown p.0))
@@ -128,7 +128,7 @@ step_refused a (Some c) w h = (
 
 -- ---- statements without their parts
 
-assignment_refused : (env : List Entry) (busy : List Name) (x : Word) (s : ℕ) (e : Expression) (w : Fault) → commanded env busy (assign x s e) ≡ Err w → IsMisdone env busy (assign x s e) w
+assignment_refused : (env : List Symbol) (busy : List Name) (x : Word) (s : ℕ) (e : Expression) (w : Fault) → commanded env busy (assign x s e) ≡ Err w → IsMisdone env busy (assign x s e) w
 assignment_refused env busy x s e w h =
     let Q = IsMisdone env busy (assign x s e) w in
     step (assignable env busy x) (λ v. scalar s v >>= λ a. asked env a s e >>= λ y. Ok (set x.text y)) w Q (λ k. bad_target (assignable_refused env busy x w k))
@@ -137,7 +137,7 @@ assignment_refused env busy x s e w h =
     (λ a m. let same = (scalar_ok s v.type a v.bounds m).1 in
     last_step (asked env a s e) (λ y. set x.text y) w Q (λ n. bad_value there (subst (λ b. IsNotAsked env b s e w) (sym same) (asked_refused env a s e w n))))) h
 
-element_assignment_refused : (env : List Entry) (busy : List Name) (x : Word) (b : ℕ) (i : Expression) (s : ℕ) (e : Expression) (w : Fault) → commanded env busy (assign_element x b i s e) ≡ Err w → IsMisdone env busy (assign_element x b i s e) w
+element_assignment_refused : (env : List Symbol) (busy : List Name) (x : Word) (b : ℕ) (i : Expression) (s : ℕ) (e : Expression) (w : Fault) → commanded env busy (assign_element x b i s e) ≡ Err w → IsMisdone env busy (assign_element x b i s e) w
 element_assignment_refused env busy x b i s e w h =
     let Q = IsMisdone env busy (assign_element x b i s e) w in
     step (assignable env busy x) (λ v. bounds_by b v.bounds >>= λ r. typed env i >>= λ p. integer_of b p >>= λ j. asked env v.type s e >>= λ y. Ok (set_part x.text r.0 r.1 j.1 y)) w Q (λ k. bad_element (assignable_refused env busy x w k))
@@ -148,14 +148,14 @@ element_assignment_refused env busy x b i s e w h =
     (λ p n. step (integer_of b p) (λ j. asked env v.type s e >>= λ y. Ok (set_part x.text r.0 r.1 j.1 y)) w Q (λ d. no_index (sound env i p n) (not_integer_of b p w d))
     (λ j d. last_step (asked env v.type s e) (λ y. set_part x.text r.0 r.1 j.1 y) w Q (λ g. bad_element_value there (asked_refused env v.type s e w g)))))) h
 
-counter_refused : (env : List Entry) (busy : List Name) (s : ℕ) (x : Word) (e g : Bound) (o : Option Constant) (xs : Statements) (v : Entry) (w : Fault) → found env x.text ≡ Some v → counter s v ≡ Err w → IsMisdone env busy (repeat s x e g o xs) w
+counter_refused : (env : List Symbol) (busy : List Name) (s : ℕ) (x : Word) (e g : Bound) (o : Option Constant) (xs : Statements) (v : Symbol) (w : Fault) → found env x.text ≡ Some v → counter s v ≡ Err w → IsMisdone env busy (repeat s x e g o xs) w
 counter_refused env busy s x e g o xs v w there h =
     step (scalar s v) (λ a. cond (is_integer a) (Ok a) (Err (type_mismatch s))) w (IsMisdone env busy (repeat s x e g o xs) w)
     (λ k. let p = scalar_err s v.type v.bounds w k in subst (IsMisdone env busy (repeat s x e g o xs)) p.2 (array_counter there p.1))
     (λ a k. let same = (scalar_ok s v.type a v.bounds k).1 in
     test_step (is_integer a) (Ok a) (type_mismatch s) w (IsMisdone env busy (repeat s x e g o xs)) (λ m. no_integer there (subst (λ b. is_integer b ≡ false) (sym same) m)) (λ m n. absurd (never_err a w n))) h
 
-counted_refused : (env : List Entry) (busy : List Name) (s : ℕ) (x : Word) (e g : Bound) (o : Option Constant) (xs : Statements) (w : Fault) → counted env busy s x e g o ≡ Err w → IsMisdone env busy (repeat s x e g o xs) w
+counted_refused : (env : List Symbol) (busy : List Name) (s : ℕ) (x : Word) (e g : Bound) (o : Option Constant) (xs : Statements) (w : Fault) → counted env busy s x e g o ≡ Err w → IsMisdone env busy (repeat s x e g o xs) w
 counted_refused env busy s x e g o xs w h =
     let Q = IsMisdone env busy (repeat s x e g o xs) w in
     let given : ElemType → Term → Term → ℤ → Counted = λ a y z n. record { variable = x.text; type = a; first = y; last = z; step = n; plain = e.plain && g.plain } in
@@ -171,7 +171,7 @@ counted_refused env busy s x e g o xs w h =
 -- ---- statements
 
 mutual
-  pub command_refused : (env : List Entry) (busy : List Name) (x : Statement) (w : Fault) → commanded env busy x ≡ Err w → IsMisdone env busy x w
+  pub command_refused : (env : List Symbol) (busy : List Name) (x : Statement) (w : Fault) → commanded env busy x ≡ Err w → IsMisdone env busy x w
   command_refused env busy (assign x s e) w h = assignment_refused env busy x s e w h
   command_refused env busy (assign_element x b i s e) w h = element_assignment_refused env busy x b i s e w h
   command_refused env busy (branch bs xs) w h =
@@ -190,9 +190,9 @@ mutual
   command_refused env busy (repeat s x e g o xs) w h =
       let inside = commands_refused env (busy ++ x.text ∷ []) xs w in
       step (counted env busy s x e g o) (λ k. all_commanded env (busy ++ x.text ∷ []) xs >>= λ c. Ok (count k.variable k.type k.first k.last k.step k.plain c)) w (IsMisdone env busy (repeat s x e g o xs) w) (λ k. counted_refused env busy s x e g o xs w k)
-      (λ k m. last_step (all_commanded env (busy ++ x.text ∷ []) xs) (λ c. count k.variable k.type k.first k.last k.step k.plain c) w (IsMisdone env busy (repeat s x e g o xs) w) (λ n. in_turn (inside n))) h
+      (λ k m. last_step (all_commanded env (busy ++ x.text ∷ []) xs) (λ c. count k.variable k.type k.first k.last k.step k.plain c) w (IsMisdone env busy (repeat s x e g o xs) w) (λ n. in_iteration (inside n))) h
 
-  pub commands_refused : (env : List Entry) (busy : List Name) (xs : Statements) (w : Fault) → all_commanded env busy xs ≡ Err w → SomeMisdone env busy xs w
+  pub commands_refused : (env : List Symbol) (busy : List Name) (xs : Statements) (w : Fault) → all_commanded env busy xs ≡ Err w → SomeMisdone env busy xs w
   commands_refused env busy no_statement w h = absurd (never_err done w h)
   commands_refused env busy (statement x xs) w h =
       let this = command_refused env busy x w in
@@ -200,7 +200,7 @@ mutual
       step (commanded env busy x) (λ c. all_commanded env busy xs >>= λ cs. Ok (then_do c cs)) w (SomeMisdone env busy (statement x xs) w) (λ k. this_one (this k))
       (λ c k. last_step (all_commanded env busy xs) (λ cs. then_do c cs) w (SomeMisdone env busy (statement x xs) w) (λ m. later_one (more m))) h
 
-  pub choices_refused : (env : List Entry) (busy : List Name) (bs : Branches) (w : Fault) → chosen env busy bs ≡ Err w → SomeBranchWrong env busy bs w
+  pub choices_refused : (env : List Symbol) (busy : List Name) (bs : Branches) (w : Fault) → chosen env busy bs ≡ Err w → SomeBranchWrong env busy bs w
   choices_refused env busy no_branch w h = absurd (never_err no_choice w h)
   choices_refused env busy (a_branch s e xs bs) w h =
       let inside = commands_refused env busy xs w in
@@ -210,7 +210,7 @@ mutual
       (λ y k. step (all_commanded env busy xs) (λ c. chosen env busy bs >>= λ cs. Ok (choice y c cs)) w Q (λ m. in_branch (inside m))
       (λ c m. last_step (chosen env busy bs) (λ cs. choice y c cs) w Q (λ n. later_branch (more n)))) h
 
-  pub cases_refused : (env : List Entry) (busy : List Name) (a : ElemType) (bs : Arms) (w : Fault) → cased env busy a bs ≡ Err w → SomeArmWrong env busy a bs w
+  pub cases_refused : (env : List Symbol) (busy : List Name) (a : ElemType) (bs : Arms) (w : Fault) → cased env busy a bs ≡ Err w → SomeArmWrong env busy a bs w
   cases_refused env busy a no_arm w h = absurd (never_err no_case w h)
   cases_refused env busy a (an_arm ls xs bs) w h =
       let inside = commands_refused env busy xs w in

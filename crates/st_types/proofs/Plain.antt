@@ -5,7 +5,7 @@ use Rattle.fb_model.specs.StructuredText.{Expression, binary, Link, grouped, sta
 use Rattle.fb_model.specs.StructuredText as text
 use Rattle.fb_model.specs.Names.{Name}
 use Rattle.fb_model.specs.TypedText.{Term, Commands}
-use Rattle.fb_model.specs.TextTyping.{Entry}
+use Rattle.fb_model.specs.TextTyping.{Symbol}
 use Rattle.st_types.specs.declared.fault.TypingFault.{TypingFault}
 use Rattle.st_types.specs.declared.term.TypedExpr.{TypedExpr}
 use Rattle.st_types.specs.declared.command.TypedStmt.{TypedStmt}
@@ -44,13 +44,13 @@ view_case ls v = search (rules, typed.the_lemmas)
 
 -- ---- a condition and its body, step by step
 
-pub condition_fails : (env : List Entry) (busy : List Name) (s : ℕ) (e : Expression) (xs : text.Statements) (w : TypingFault) → Fails w (condition env s e) → Fails w (one_chosen env busy (s, e, xs))
+pub condition_fails : (env : List Symbol) (busy : List Name) (s : ℕ) (e : Expression) (xs : text.Statements) (w : TypingFault) → Fails w (condition env s e) → Fails w (one_chosen env busy (s, e, xs))
 condition_fails env busy s e xs w h = fails_then w (condition env s e) (λ y. all_commanded env busy xs >>= λ c. Ok (y, c)) h
 
-pub body_fails : (env : List Entry) (busy : List Name) (s : ℕ) (e : Expression) (xs : text.Statements) (y : Term) (w : TypingFault) → condition env s e ≡ Ok y → Fails w (all_commanded env busy xs) → Fails w (one_chosen env busy (s, e, xs))
+pub body_fails : (env : List Symbol) (busy : List Name) (s : ℕ) (e : Expression) (xs : text.Statements) (y : Term) (w : TypingFault) → condition env s e ≡ Ok y → Fails w (all_commanded env busy xs) → Fails w (one_chosen env busy (s, e, xs))
 body_fails env busy s e xs y w h f = subst (λ r. Fails {Y = Chosen} w (r >>= λ y. all_commanded env busy xs >>= λ c. Ok (y, c))) (sym h) (fails_then w (all_commanded env busy xs) (λ c. Ok (y, c)) f)
 
-pub choice_is : (env : List Entry) (busy : List Name) (s : ℕ) (e : Expression) (xs : text.Statements) (y : Term) (c : Commands) → condition env s e ≡ Ok y → all_commanded env busy xs ≡ Ok c → one_chosen env busy (s, e, xs) ≡ Ok (y, c)
+pub choice_is : (env : List Symbol) (busy : List Name) (s : ℕ) (e : Expression) (xs : text.Statements) (y : Term) (c : Commands) → condition env s e ≡ Ok y → all_commanded env busy xs ≡ Ok c → one_chosen env busy (s, e, xs) ≡ Ok (y, c)
 choice_is env busy s e xs y c h f = ap (λ r. r >>= λ y. all_commanded env busy xs >>= λ c. Ok (y, c)) h ∙ ap (λ r. r >>= λ c. Ok (y, c)) f
 
 -- the body of a FOR is smaller than the FOR

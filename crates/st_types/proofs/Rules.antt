@@ -8,7 +8,7 @@ use Rattle.fb_words.specs.declared.operator.Operation.TheVariants.{Min, Max, Lim
 use Rattle.fb_model.specs.Values.{in_type}
 use Rattle.fb_model.specs.Spelling.{is_integer}
 use Rattle.fb_model.specs.TypedText.{Term, constant, single, double}
-use Rattle.fb_model.specs.TextTyping.{allows, gives, stays_free, asks, widens, Loose, loose_number, loose_single, loose_double, Operand, fixed, free, whole, may_be, is_free, Settles, a_number, a_single, a_double, Takes, widened, settles, IsOneOf, front, behind, Brings, asked, alone, together, Single, one_free, one, Double, two_free, two, Triple, three_free, three, IsIndex, an_integer, a_free_one}
+use Rattle.fb_model.specs.TextTyping.{allows, gives, stays_free, asks, widens, Loose, loose_number, loose_single, loose_double, Operand, fixed, free, whole, may_be, is_free, Settles, a_number, a_single, a_double, TakesType, widened, settles, IsOneOf, front, behind, Brings, asked, alone, together, Single, one_free, one, Double, two_free, two, Triple, three_free, three, IsIndex, an_integer, a_free_one}
 use Rattle.fb_model.specs.TextFaults.{Fault, type_mismatch, bad_literal}
 use Rattle.st_types.specs.Elaborating.{◌>>=◌, fixed_type, offered, or_else, common, brought, allowed, operands_type, settled, taken, typed_single, typed_double, typed_limit, on_one, on_two, on_three, integer_of}
 use Rattle.st_types.proofs.Widening.{one_type}
@@ -48,14 +48,14 @@ settled_complete t (loose_number n s) x (a_number h) = rw h refl
 settled_complete t (loose_single o s a) z (a_single {x = x} h k) = rw (h, settled_complete t a x k) refl
 settled_complete t (loose_double o s a b) z (a_double {x = x} {y = y} h k m) = rw (h, settled_complete t a x k, settled_complete t b y m) refl
 
-pub taken_sound : (t : ElemType) (s : ℕ) (p : Operand) (x : Term) → taken t s p ≡ Ok x → Takes t p x
+pub taken_sound : (t : ElemType) (s : ℕ) (p : Operand) (x : Term) → taken t s p ≡ Ok x → TakesType t p x
 taken_sound t s (fixed u y) x h =
     let p = test_ok (widens u t) (Ok y) (type_mismatch s) x h in
-    subst (Takes t (fixed u y)) (ok_same y x p.1) (widened p.0)
+    subst (TakesType t (fixed u y)) (ok_same y x p.1) (widened p.0)
 taken_sound t s (free l) x h = settles (settled_sound t l x h)
 taken_sound t s whole x h = absurd (cc)
 
-pub taken_complete : (t : ElemType) (s : ℕ) (p : Operand) (x : Term) → Takes t p x → taken t s p ≡ Ok x
+pub taken_complete : (t : ElemType) (s : ℕ) (p : Operand) (x : Term) → TakesType t p x → taken t s p ≡ Ok x
 taken_complete t s (fixed u y) x (widened h) = rw h refl
 taken_complete t s (free l) x (settles k) = settled_complete t l x k
 taken_complete t s whole x k = elim k [ ]
@@ -173,7 +173,7 @@ double_sound o s p q r n h =
     let t = type_sound o s (p ∷ q ∷ []) a.0 a.1 in
     subst (Double o s p q) (ok_same (fixed (gives o a.0) (double o a.0 b.0 c.0)) r c.2) (two n t.0 t.1 (taken_sound a.0 s p b.0 b.1) (taken_sound a.0 s q c.0 c.1))
 
-double_complete : (o : Operation) (s : ℕ) (p q : Operand) (t : ElemType) (x y : Term) → Brings o (p ∷ q ∷ []) t → allows o t ≡ true → Takes t p x → Takes t q y → typed_double o s p q ≡ Ok (fixed (gives o t) (double o t x y))
+double_complete : (o : Operation) (s : ℕ) (p q : Operand) (t : ElemType) (x y : Term) → Brings o (p ∷ q ∷ []) t → allows o t ≡ true → TakesType t p x → TakesType t q y → typed_double o s p q ≡ Ok (fixed (gives o t) (double o t x y))
 double_complete o s p q t x y b h k m = rw (type_complete o s (p ∷ q ∷ []) t b h, taken_complete t s p x k, taken_complete t s q y m) refl
 
 pub two_sound : (o : Operation) (s : ℕ) (p q r : Operand) → on_two o s p q ≡ Ok r → Double o s p q r
@@ -211,7 +211,7 @@ single_sound o s p r n h =
     let t = type_sound o s (p ∷ []) a.0 a.1 in
     subst (Single o s p) (ok_same (fixed (gives o a.0) (single o a.0 b.0)) r b.2) (one n t.0 t.1 (taken_sound a.0 s p b.0 b.1))
 
-single_complete : (o : Operation) (s : ℕ) (p : Operand) (t : ElemType) (x : Term) → Brings o (p ∷ []) t → allows o t ≡ true → Takes t p x → typed_single o s p ≡ Ok (fixed (gives o t) (single o t x))
+single_complete : (o : Operation) (s : ℕ) (p : Operand) (t : ElemType) (x : Term) → Brings o (p ∷ []) t → allows o t ≡ true → TakesType t p x → typed_single o s p ≡ Ok (fixed (gives o t) (single o t x))
 single_complete o s p t x b h k = rw (type_complete o s (p ∷ []) t b h, taken_complete t s p x k) refl
 
 pub one_sound : (o : Operation) (s : ℕ) (p r : Operand) → on_one o s p ≡ Ok r → Single o s p r
@@ -245,7 +245,7 @@ limit_sound s p q r k n h =
     let t = type_sound Limit s (p ∷ q ∷ r ∷ []) a.0 a.1 in
     subst (Triple s p q r) (ok_same (fixed a.0 (double Min a.0 (double Max a.0 c.0 b.0) d.0)) k d.2) (three n t.0 t.1 (taken_sound a.0 s p b.0 b.1) (taken_sound a.0 s q c.0 c.1) (taken_sound a.0 s r d.0 d.1))
 
-limit_complete : (s : ℕ) (p q r : Operand) (t : ElemType) (x y z : Term) → Brings Limit (p ∷ q ∷ r ∷ []) t → allows Limit t ≡ true → Takes t p x → Takes t q y → Takes t r z
+limit_complete : (s : ℕ) (p q r : Operand) (t : ElemType) (x y z : Term) → Brings Limit (p ∷ q ∷ r ∷ []) t → allows Limit t ≡ true → TakesType t p x → TakesType t q y → TakesType t r z
     → typed_limit s p q r ≡ Ok (fixed t (double Min t (double Max t y x) z))
 limit_complete s p q r t x y z b h k m j = rw (type_complete Limit s (p ∷ q ∷ r ∷ []) t b h, taken_complete t s p x k, taken_complete t s q y m, taken_complete t s r z j) refl
 

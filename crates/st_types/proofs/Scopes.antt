@@ -9,12 +9,12 @@ use Rattle.std.specs.declared.alloc.Global.{Global}
 use Rattle.fb_model.specs.Names.{Name}
 use Rattle.fb_model.specs.TextTyping.{found}
 use Rattle.st_types.specs.declared.scope.Variable.{Variable}
-use Rattle.st_types.specs.Views.{entry_of}
+use Rattle.st_types.specs.Views.{symbol_of}
 
-pub found_by : (x : Name) (es : List (String Global × Variable)) → option_map (entry_of x) (lookup (λ k. bytes_eq x (string_bytes k)) es) ≡ found (map (λ p. entry_of (string_bytes p.0) p.1) es) x
+pub found_by : (x : Name) (es : List (String Global × Variable)) → option_map (symbol_of x) (lookup (λ k. bytes_eq x (string_bytes k)) es) ≡ found (map (λ p. symbol_of (string_bytes p.0) p.1) es) x
 found_by x [] = refl
 found_by x (e ∷ es) = by (bytes_eq x (string_bytes e.0)) refl (found_by x es) where
-  by : (b : Bool) → bytes_eq x (string_bytes e.0) ≡ b → option_map (entry_of x) (lookup (λ k. bytes_eq x (string_bytes k)) es) ≡ found (map (λ p. entry_of (string_bytes p.0) p.1) es) x
-      → option_map (entry_of x) (cond b (Some e.1) (lookup (λ k. bytes_eq x (string_bytes k)) es)) ≡ cond b (Some (entry_of (string_bytes e.0) e.1)) (found (map (λ p. entry_of (string_bytes p.0) p.1) es) x)
-  by true h again = let same : x ≡ string_bytes e.0 = (bytes_eq-Decides x (string_bytes e.0)).0 h in ap (λ n. Some (entry_of n e.1)) same
+  by : (b : Bool) → bytes_eq x (string_bytes e.0) ≡ b → option_map (symbol_of x) (lookup (λ k. bytes_eq x (string_bytes k)) es) ≡ found (map (λ p. symbol_of (string_bytes p.0) p.1) es) x
+      → option_map (symbol_of x) (cond b (Some e.1) (lookup (λ k. bytes_eq x (string_bytes k)) es)) ≡ cond b (Some (symbol_of (string_bytes e.0) e.1)) (found (map (λ p. symbol_of (string_bytes p.0) p.1) es) x)
+  by true h again = let same : x ≡ string_bytes e.0 = (bytes_eq-Decides x (string_bytes e.0)).0 h in ap (λ n. Some (symbol_of n e.1)) same
   by false h again = again

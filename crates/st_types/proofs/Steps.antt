@@ -4,7 +4,7 @@ use Rattle.fb_words.specs.declared.elem_type.ElemType.{ElemType}
 use Rattle.fb_words.specs.declared.operator.Operation.TheVariants.{Infix}
 use Rattle.fb_model.specs.StructuredText.{Expression, binary, Link, grouped}
 use Rattle.fb_model.specs.TypedText.{Term, double}
-use Rattle.fb_model.specs.TextTyping.{allows, Entry, Loose, loose_double, Operand}
+use Rattle.fb_model.specs.TextTyping.{allows, Symbol, Loose, loose_double, Operand}
 use Rattle.fb_model.specs.TextFaults.{Fault, type_mismatch}
 use Rattle.st_types.specs.declared.fault.TypingFault.{TypingFault}
 use Rattle.st_types.specs.declared.fault.TypingFault.TheVariants.{OutOfMemory, UnknownName, TypeMismatch, BadLiteral, NotWritable}
@@ -24,10 +24,10 @@ pub bind_same : {A B : Type 0} (r : Result A Fault) (f g : A → Result B Fault)
 bind_same (Ok x) f g h = h x
 bind_same (Err e) f g h = refl
 
-typed_turn : (env : List Entry) (l : Link) (ls : List Link) (p : Operand) → ((typed env l.2 >>= λ q. on_two (Infix l.0) l.1 p q) >>= λ r. typed_links env r ls) ≡ typed_links env p (l ∷ ls)
+typed_turn : (env : List Symbol) (l : Link) (ls : List Link) (p : Operand) → ((typed env l.2 >>= λ q. on_two (Infix l.0) l.1 p q) >>= λ r. typed_links env r ls) ≡ typed_links env p (l ∷ ls)
 typed_turn env l ls p = bind_again (typed env l.2) (λ q. on_two (Infix l.0) l.1 p q) (λ r. typed_links env r ls)
 
-pub typed_grouped : (env : List Entry) (x : Expression) (ls : List Link) → typed env (grouped x ls) ≡ (typed env x >>= λ p. typed_links env p ls)
+pub typed_grouped : (env : List Symbol) (x : Expression) (ls : List Link) → typed env (grouped x ls) ≡ (typed env x >>= λ p. typed_links env p ls)
 typed_grouped env x [] = bind_ok (typed env x)
 typed_grouped env x (l ∷ ls) =
     typed_grouped env (binary l.0 l.1 x l.2) ls
@@ -64,8 +64,8 @@ settling_fails a x ls e h = subst (λ r. Fails e r) (sym (settled_joined a x ls)
 pub settling_goes_on : (a : ElemType) (x : Loose) (ls : List LooseTail) (y : Term) → settled a x ≡ Ok y → settled a (joined_loose x ls) ≡ settled_tails a y ls
 settling_goes_on a x ls y h = settled_joined a x ls ∙ ap (λ r. r >>= λ z. settled_tails a z ls) h
 
-pub typing_fails : (env : List Entry) (x : Expression) (ls : List Link) (e : TypingFault) → Fails e (typed env x) → Fails e (typed env (grouped x ls))
+pub typing_fails : (env : List Symbol) (x : Expression) (ls : List Link) (e : TypingFault) → Fails e (typed env x) → Fails e (typed env (grouped x ls))
 typing_fails env x ls e h = subst (λ r. Fails e r) (sym (typed_grouped env x ls)) (fails_then e (typed env x) (λ p. typed_links env p ls) h)
 
-pub typing_goes_on : (env : List Entry) (x : Expression) (ls : List Link) (p : Operand) → typed env x ≡ Ok p → typed env (grouped x ls) ≡ typed_links env p ls
+pub typing_goes_on : (env : List Symbol) (x : Expression) (ls : List Link) (p : Operand) → typed env x ≡ Ok p → typed env (grouped x ls) ≡ typed_links env p ls
 typing_goes_on env x ls p h = typed_grouped env x ls ∙ ap (λ r. r >>= λ q. typed_links env q ls) h

@@ -6,7 +6,7 @@ use Rattle.fb_words.specs.declared.operator.Operation.{Operation}
 use Rattle.fb_words.specs.declared.operator.Operation.TheVariants.{Infix, Negate, Not, Abs, Min, Max, Limit, Convert}
 use Rattle.fb_model.specs.Productions.{Word}
 use Rattle.fb_model.specs.StructuredText.{Expression, literal, variable, element, call, negative, inverse, binary, Expressions, no_expression, expression}
-use Rattle.fb_model.specs.TextTyping.{Entry, found, called, arity, Operand, IsTyped}
+use Rattle.fb_model.specs.TextTyping.{Symbol, found, called, arity, Operand, IsTyped}
 use Rattle.fb_model.specs.TextFaults.{Fault, type_mismatch, IsArgument, first, later, argument_count, no_operand, an_operand, IsWrong, unknown_variable, unknown_array, in_index, in_negation, bad_negation, in_inversion, bad_inversion, in_first, in_second, bad_operation, unknown_function, bad_count, in_argument, bad_call}
 use Rattle.st_types.specs.Elaborating as book
 use Rattle.st_types.specs.Elaborating.{◌>>=◌, typed, typed_call, known, value_of, element_of, function_of, applied_one, applied_two, applied_three}
@@ -45,7 +45,7 @@ same_fault v w h = cc
 -- ---- steps
 
 -- an expression is wrong, or what goes on with its operand
-typed_step : {B : Type 0} (env : List Entry) (e : Expression) (w : Fault) (f : Operand → Result B Fault) (Q : Type 0) → (typed env e ≡ Err w → Q) → ((p : Operand) → IsTyped env e p → f p ≡ Err w → Q) → (typed env e >>= f) ≡ Err w → Q
+typed_step : {B : Type 0} (env : List Symbol) (e : Expression) (w : Fault) (f : Operand → Result B Fault) (Q : Type 0) → (typed env e ≡ Err w → Q) → ((p : Operand) → IsTyped env e p → f p ≡ Err w → Q) → (typed env e >>= f) ≡ Err w → Q
 typed_step {B} env e w f Q inside on h = by (bind_err (typed env e) f w h)
   where
     by : ((typed env e ≡ Err w) ⊎ ((p : Operand) × (typed env e ≡ Ok p) × (f p ≡ Err w))) → Q
@@ -53,17 +53,17 @@ typed_step {B} env e w f Q inside on h = by (bind_err (typed env e) f w h)
     by (inr k) = on k.0 (sound env e k.0 k.1) k.2
 
 -- another number of arguments, or what the function gives on them
-count_step : {A : Type 0} (env : List Entry) (x : Word) (es : Expressions) (f : Operation) (n : ℕ) (r : Result A Fault) (w : Fault) → called x.text ≡ Some f → argument_count es ≡ n → (arity f ≡ n → r ≡ Err w → IsWrong env (call x es) w) → cond (nat_eq (arity f) n) r (Err (type_mismatch x.at)) ≡ Err w → IsWrong env (call x es) w
+count_step : {A : Type 0} (env : List Symbol) (x : Word) (es : Expressions) (f : Operation) (n : ℕ) (r : Result A Fault) (w : Fault) → called x.text ≡ Some f → argument_count es ≡ n → (arity f ≡ n → r ≡ Err w → IsWrong env (call x es) w) → cond (nat_eq (arity f) n) r (Err (type_mismatch x.at)) ≡ Err w → IsWrong env (call x es) w
 count_step {A} env x es f n r w c e on h = by (nat_eq (arity f) n) refl h
   where
     by : (b : Bool) → nat_eq (arity f) n ≡ b → cond b r (Err (type_mismatch x.at)) ≡ Err w → IsWrong env (call x es) w
     by true k m = on (eqb-true (arity f) n k) m
     by false k m = subst (IsWrong env (call x es)) (same_fault {A = A} (type_mismatch x.at) w m) (bad_count c (λ q. other_count (arity f) n k (sym e ∙ q)))
 
-abbrev WrongAt : List Entry → Expression → Type 0
+abbrev WrongAt : List Symbol → Expression → Type 0
 WrongAt env e = (w : Fault) → typed env e ≡ Err w → IsWrong env e w
 
-call_refused : (env : List Entry) (x : Word) (f : Operation) → called x.text ≡ Some f → (es : Expressions) → ((e : Expression) → IsArgument e es → WrongAt env e) → (w : Fault) → typed_call env f x.at es ≡ Err w → IsWrong env (call x es) w
+call_refused : (env : List Symbol) (x : Word) (f : Operation) → called x.text ≡ Some f → (es : Expressions) → ((e : Expression) → IsArgument e es → WrongAt env e) → (w : Fault) → typed_call env f x.at es ≡ Err w → IsWrong env (call x es) w
 call_refused env x f c no_expression inside w h =
     subst (IsWrong env (call x no_expression)) (same_fault {A = Operand} (type_mismatch x.at) w h) (bad_count c (λ e. let a = has_one f in omega (arith, e)))
 call_refused env x f c (expression a no_expression) inside w h =
@@ -88,16 +88,16 @@ call_refused env x f c (expression a (expression b (expression d (expression e e
 -- ---- whole expressions
 
 mutual
-  pub refused : (env : List Entry) (e : Expression) → WrongAt env e
+  pub refused : (env : List Symbol) (e : Expression) → WrongAt env e
   refused env (literal c) w h = literal_refused env c.value c.at w h
   refused env (variable x) w h = by (bind_err (known env x.text x.at) (λ v. Ok (value_of x.text v)) w h)
     where
-      by : ((known env x.text x.at ≡ Err w) ⊎ ((v : Entry) × (known env x.text x.at ≡ Ok v) × ((let l : Result Operand Fault = Ok (value_of x.text v) in l) ≡ Err w))) → IsWrong env (variable x) w
+      by : ((known env x.text x.at ≡ Err w) ⊎ ((v : Symbol) × (known env x.text x.at ≡ Ok v) × ((let l : Result Operand Fault = Ok (value_of x.text v) in l) ≡ Err w))) → IsWrong env (variable x) w
       by (inl k) = let p = known_err x.at (found env x.text) w k in subst (IsWrong env (variable x)) p.1 (unknown_variable p.0)
       by (inr k) = absurd (never_err (value_of x.text k.0) w k.2)
   refused env (element x s i) w h = by (refused env i) (bind_err (known env x.text x.at) (λ v. typed env i >>= λ p. element_of x.text s v p) w h)
     where
-      by : WrongAt env i → ((known env x.text x.at ≡ Err w) ⊎ ((v : Entry) × (known env x.text x.at ≡ Ok v) × ((typed env i >>= λ p. element_of x.text s v p) ≡ Err w))) → IsWrong env (element x s i) w
+      by : WrongAt env i → ((known env x.text x.at ≡ Err w) ⊎ ((v : Symbol) × (known env x.text x.at ≡ Ok v) × ((typed env i >>= λ p. element_of x.text s v p) ≡ Err w))) → IsWrong env (element x s i) w
       by inside (inl k) = let p = known_err x.at (found env x.text) w k in subst (IsWrong env (element x s i)) p.1 (unknown_array p.0)
       by inside (inr k) = typed_step env i w (λ p. element_of x.text s k.0 p) (IsWrong env (element x s i) w) (λ m. in_index (inside w m)) (λ p j m. element_refused env x s i k.0 p w (known_ok x.at (found env x.text) k.0 k.1) j m) k.2
   refused env (negative s e) w h =
@@ -118,7 +118,7 @@ mutual
       by inside (inl k) = let p = function_err x.at (called x.text) w k in subst (IsWrong env (call x es)) p.1 (unknown_function p.0)
       by inside (inr k) = call_refused env x k.0 (function_ok x.at (called x.text) k.0 k.1) es inside w k.2
 
-  refused_arguments : (env : List Entry) (es : Expressions) (e : Expression) → IsArgument e es → WrongAt env e
+  refused_arguments : (env : List Symbol) (es : Expressions) (e : Expression) → IsArgument e es → WrongAt env e
   refused_arguments env no_expression e i = elim i [ ]
   refused_arguments env (expression d es) e first = refused env d
   refused_arguments env (expression d es) e (later i) = refused_arguments env es e i

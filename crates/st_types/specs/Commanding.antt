@@ -8,18 +8,18 @@ use Rattle.fb_model.specs.Productions.{Word}
 use Rattle.fb_model.specs.Trees.{Literal, Whole, Constant}
 use Rattle.fb_model.specs.StructuredText.{Label, Bound, Statement, assign, assign_element, branch, select, repeat, Statements, no_statement, statement, Branches, no_branch, a_branch, Branch, Arms, no_arm, an_arm, Arm}
 use Rattle.fb_model.specs.TypedText.{Term, Command, set, set_part, choose, match_on, count, Commands, done, then_do, Choices, no_choice, choice, Cases, no_case, a_case}
-use Rattle.fb_model.specs.TextTyping.{Entry}
+use Rattle.fb_model.specs.TextTyping.{Symbol}
 use Rattle.fb_model.specs.TextFaults.{Fault, type_mismatch, bad_literal, not_writable}
 use Rattle.st_types.specs.Elaborating.{◌>>=◌, known, bounds_by, integer_of, typed, asked, condition}
 
 -- ---- what is assigned
 
-abbrev pub idle_by : ℕ → Entry → Bool → Result Entry Fault
+abbrev pub idle_by : ℕ → Symbol → Bool → Result Symbol Fault
 idle_by s v true = Err (not_writable s)
 idle_by s v false = Ok v
 
 -- a variable that may be assigned
-abbrev pub assignable : List Entry → List Name → Word → Result Entry Fault
+abbrev pub assignable : List Symbol → List Name → Word → Result Symbol Fault
 assignable env busy x = known env x.text x.at >>= λ v. cond v.writable (idle_by x.at v (is_in x.text busy)) (Err (not_writable x.at))
 
 -- the type of a variable that is no array, at a place
@@ -27,11 +27,11 @@ abbrev pub scalar_by : ℕ → ElemType → Option (ℤ × ℤ) → Result ElemT
 scalar_by s a None = Ok a
 scalar_by s a (Some b) = Err (type_mismatch s)
 
-abbrev pub scalar : ℕ → Entry → Result ElemType Fault
+abbrev pub scalar : ℕ → Symbol → Result ElemType Fault
 scalar s v = scalar_by s v.type v.bounds
 
 -- and an integer
-abbrev pub counter : ℕ → Entry → Result ElemType Fault
+abbrev pub counter : ℕ → Symbol → Result ElemType Fault
 counter s v = scalar s v >>= λ a. cond (is_integer a) (Ok a) (Err (type_mismatch s))
 
 -- ---- numbers
@@ -72,7 +72,7 @@ pub record Counted : Type 0 where
   pub step : ℤ
   pub plain : Bool
 
-abbrev pub counted : List Entry → List Name → ℕ → Word → Bound → Bound → Option Constant → Result Counted Fault
+abbrev pub counted : List Symbol → List Name → ℕ → Word → Bound → Bound → Option Constant → Result Counted Fault
 counted env busy s x e g step =
     assignable env busy x >>= λ v. counter s v >>= λ a. asked env a s e.value >>= λ y. asked env a s g.value >>= λ z. step_of a step >>= λ n.
     Ok (record { variable = x.text; type = a; first = y; last = z; step = n; plain = e.plain && g.plain })
@@ -80,7 +80,7 @@ counted env busy s x e g step =
 -- ---- statements
 
 abbrev mutual
-  pub commanded : List Entry → List Name → Statement → Result Command Fault
+  pub commanded : List Symbol → List Name → Statement → Result Command Fault
   commanded env busy (assign x s e) = assignable env busy x >>= λ v. scalar s v >>= λ a. asked env a s e >>= λ y. Ok (set x.text y)
   commanded env busy (assign_element x b i s e) =
       assignable env busy x >>= λ v. bounds_by b v.bounds >>= λ r. typed env i >>= λ p. integer_of b p >>= λ j. asked env v.type s e >>= λ y. Ok (set_part x.text r.0 r.1 j.1 y)
@@ -89,22 +89,22 @@ abbrev mutual
   commanded env busy (repeat s x e g step xs) =
       counted env busy s x e g step >>= λ k. all_commanded env (busy ++ x.text ∷ []) xs >>= λ c. Ok (count k.variable k.type k.first k.last k.step k.plain c)
 
-  pub all_commanded : List Entry → List Name → Statements → Result Commands Fault
+  pub all_commanded : List Symbol → List Name → Statements → Result Commands Fault
   all_commanded env busy no_statement = Ok done
   all_commanded env busy (statement x xs) = commanded env busy x >>= λ c. all_commanded env busy xs >>= λ cs. Ok (then_do c cs)
 
-  pub chosen : List Entry → List Name → Branches → Result Choices Fault
+  pub chosen : List Symbol → List Name → Branches → Result Choices Fault
   chosen env busy no_branch = Ok no_choice
   chosen env busy (a_branch s e xs bs) = condition env s e >>= λ y. all_commanded env busy xs >>= λ c. chosen env busy bs >>= λ cs. Ok (choice y c cs)
 
-  pub cased : List Entry → List Name → ElemType → Arms → Result Cases Fault
+  pub cased : List Symbol → List Name → ElemType → Arms → Result Cases Fault
   cased env busy a no_arm = Ok no_case
   cased env busy a (an_arm ls xs bs) = labels_of a ls >>= λ rs. all_commanded env busy xs >>= λ c. cased env busy a bs >>= λ cs. Ok (a_case rs c cs)
 
 -- one condition, with what is done where it holds
-abbrev pub one_chosen : List Entry → List Name → Branch → Result (Term × Commands) Fault
+abbrev pub one_chosen : List Symbol → List Name → Branch → Result (Term × Commands) Fault
 one_chosen env busy b = condition env b.0 b.1 >>= λ y. all_commanded env busy b.2 >>= λ c. Ok (y, c)
 
 -- one arm
-abbrev pub one_cased : List Entry → List Name → ElemType → Arm → Result (List (ℤ × ℤ) × Commands) Fault
+abbrev pub one_cased : List Symbol → List Name → ElemType → Arm → Result (List (ℤ × ℤ) × Commands) Fault
 one_cased env busy a arm = labels_of a arm.0 >>= λ rs. all_commanded env busy arm.1 >>= λ c. Ok (rs, c)

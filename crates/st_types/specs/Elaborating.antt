@@ -11,7 +11,7 @@ use Rattle.fb_model.specs.Values.{signed, in_type}
 use Rattle.fb_model.specs.Trees.{Literal, Whole, Typed, Duration, Truth}
 use Rattle.fb_model.specs.StructuredText.{Expression, literal, variable, element, call, negative, inverse, binary, Expressions, no_expression, expression, Link}
 use Rattle.fb_model.specs.TypedText.{Term, constant, read, part, single, double}
-use Rattle.fb_model.specs.TextTyping.{same_type, allows, gives, stays_free, asks, called, arity, Entry, found, Loose, loose_number, loose_single, loose_double, Operand, fixed, free, whole, widens, may_be, is_free, bit}
+use Rattle.fb_model.specs.TextTyping.{same_type, allows, gives, stays_free, asks, called, arity, Symbol, found, Loose, loose_number, loose_single, loose_double, Operand, fixed, free, whole, widens, may_be, is_free, bit}
 use Rattle.fb_model.specs.TextFaults.{Fault, unknown_name, type_mismatch, bad_literal}
 use Rattle.st_types.specs.Views.{LooseTail}
 
@@ -107,11 +107,11 @@ on_three s p q r = typed_limit s p q r
 
 -- ---- variables
 
-abbrev pub known_by : ℕ → Option Entry → Result Entry Fault
+abbrev pub known_by : ℕ → Option Symbol → Result Symbol Fault
 known_by s None = Err (unknown_name s)
 known_by s (Some v) = Ok v
 
-abbrev pub known : List Entry → Name → ℕ → Result Entry Fault
+abbrev pub known : List Symbol → Name → ℕ → Result Symbol Fault
 known env x s = known_by s (found env x)
 
 -- a variable, or a whole array
@@ -119,7 +119,7 @@ abbrev pub value_by : ElemType → Name → Option (ℤ × ℤ) → Operand
 value_by a x None = fixed a (read x)
 value_by a x (Some b) = whole
 
-abbrev pub value_of : Name → Entry → Operand
+abbrev pub value_of : Name → Symbol → Operand
 value_of x v = value_by v.type x v.bounds
 
 -- the bounds of an array, at the bracket that asks for it
@@ -133,7 +133,7 @@ integer_of s (fixed a x) = cond (is_integer a) (Ok (a, x)) (Err (type_mismatch s
 integer_of s (free l) = settled t.Lint l >>= λ x. Ok (t.Lint, x)
 integer_of s whole = Err (type_mismatch s)
 
-abbrev pub element_of : Name → ℕ → Entry → Operand → Result Operand Fault
+abbrev pub element_of : Name → ℕ → Symbol → Operand → Result Operand Fault
 element_of x s v p = bounds_by s v.bounds >>= λ b. integer_of s p >>= λ j. Ok (fixed v.type (part x b.0 b.1 j.1))
 
 -- ---- literals
@@ -167,7 +167,7 @@ applied_three f s p q r = cond (nat_eq (arity f) 3) (on_three s p q r) (Err (typ
 -- ---- whole expressions
 
 abbrev mutual
-  pub typed : List Entry → Expression → Result Operand Fault
+  pub typed : List Symbol → Expression → Result Operand Fault
   typed env (literal c) = literal_of c.at c.value
   typed env (variable x) = known env x.text x.at >>= λ v. Ok (value_of x.text v)
   typed env (element x s i) = known env x.text x.at >>= λ v. typed env i >>= λ p. element_of x.text s v p
@@ -176,7 +176,7 @@ abbrev mutual
   typed env (binary f s e g) = typed env e >>= λ p. typed env g >>= λ q. on_two (Infix f) s p q
   typed env (call x es) = function_of x.text x.at >>= λ f. typed_call env f x.at es
 
-  pub typed_call : List Entry → Operation → ℕ → Expressions → Result Operand Fault
+  pub typed_call : List Symbol → Operation → ℕ → Expressions → Result Operand Fault
   typed_call env f s no_expression = Err (type_mismatch s)
   typed_call env f s (expression a no_expression) = typed env a >>= λ p. applied_one f s p
   typed_call env f s (expression a (expression b no_expression)) = typed env a >>= λ p. typed env b >>= λ q. applied_two f s p q
@@ -185,14 +185,14 @@ abbrev mutual
   typed_call env f s (expression a (expression b (expression c (expression d es)))) = Err (type_mismatch s)
 
 -- operators that follow an operand, each with its second operand
-abbrev pub typed_links : List Entry → Operand → List Link → Result Operand Fault
+abbrev pub typed_links : List Symbol → Operand → List Link → Result Operand Fault
 typed_links env p [] = Ok p
 typed_links env p (l ∷ ls) = typed env l.2 >>= λ q. on_two (Infix l.0) l.1 p q >>= λ r. typed_links env r ls
 
 -- an expression where a type is asked for at a place
-abbrev pub asked : List Entry → ElemType → ℕ → Expression → Result Term Fault
+abbrev pub asked : List Symbol → ElemType → ℕ → Expression → Result Term Fault
 asked env a s e = typed env e >>= λ p. taken a s p
 
 -- a condition, at a place
-abbrev pub condition : List Entry → ℕ → Expression → Result Term Fault
+abbrev pub condition : List Symbol → ℕ → Expression → Result Term Fault
 condition env s e = typed env e >>= λ p. truth_of s p

@@ -20,11 +20,11 @@ use Rattle.st_types.specs.declared.operand.Operand.TheVariants as o
 
 -- ---- variables
 
-abbrev pub entry_of : Name → Variable → typing.Entry
-entry_of name v = record { name = name; type = v.of_type; bounds = v.bounds; writable = v.writable }
+abbrev pub symbol_of : Name → Variable → typing.Symbol
+symbol_of name v = record { name = name; type = v.of_type; bounds = v.bounds; writable = v.writable }
 
-abbrev pub entries : {S : Type 0} → IndexMap (String Global) Variable S → List typing.Entry
-entries m = map (λ p. entry_of (string_bytes p.0) p.1) m.entries
+abbrev pub entries : {S : Type 0} → IndexMap (String Global) Variable S → List typing.Symbol
+entries m = map (λ p. symbol_of (string_bytes p.0) p.1) m.entries
 
 -- ---- typed expressions
 

@@ -15,7 +15,7 @@ pub enum TypedStmt {
     If(Vec<TypedBranch>, Vec<TypedStmt>),
     /// CASE: the selector, the arms, and what is done where no label has its value.
     Case(TypedExpr, Vec<TypedArm>, Vec<TypedStmt>),
-    /// FOR, and what is done in each turn.
+    /// FOR, and what is done in each iteration.
     For(Counting, Vec<TypedStmt>),
 }
 

@@ -8,7 +8,7 @@ ghost use Rattle.st_tree.specs.Views.{literal_of, expr_of, link_of};
 ghost use Rattle.fb_read.specs.Answers.{word_of};
 ghost use Rattle.st_types.specs.Answers.{Gives};
 ghost use Rattle.st_types.specs.Elaborating as book;
-ghost use Rattle.st_types.specs.Views.{term_of, operand_of, entries, entry_of};
+ghost use Rattle.st_types.specs.Views.{term_of, operand_of, entries, symbol_of};
 
 use crate::fault::TypingFault;
 use crate::operand::{
@@ -180,7 +180,7 @@ fn applied_three(
 
 /// The variable of a name, which has to be known.
 pub(crate) fn known(scope: &Scope, name: &Name) -> Result<Variable, TypingFault>
-    ensures { Gives (entry_of (word_of name.now).text) result (book.known (entries scope.now) (word_of name.now).text name.now.at) }
+    ensures { Gives (symbol_of (word_of name.now).text) result (book.known (entries scope.now) (word_of name.now).text name.now.at) }
 {
     match find(scope, name.text.as_str()) {
         Some(variable) => Ok(variable),
@@ -189,7 +189,7 @@ pub(crate) fn known(scope: &Scope, name: &Name) -> Result<Variable, TypingFault>
 }
 
 fn value(name: &Name, variable: Variable) -> Result<Operand, TypingFault>
-    ensures { Gives operand_of result (Ok (book.value_of (word_of name.now).text (entry_of (word_of name.now).text variable))) }
+    ensures { Gives operand_of result (Ok (book.value_of (word_of name.now).text (symbol_of (word_of name.now).text variable))) }
 {
     match variable.bounds {
         None => Ok(Operand::Fixed(variable.of_type, TypedExpr::Read(name.text.clone()?))),
@@ -204,7 +204,7 @@ fn element(
     variable: Variable,
     index: Operand,
 ) -> Result<Operand, TypingFault>
-    ensures { Gives operand_of result (book.element_of (word_of name.now).text at (entry_of (word_of name.now).text variable) (operand_of index)) }
+    ensures { Gives operand_of result (book.element_of (word_of name.now).text at (symbol_of (word_of name.now).text variable) (operand_of index)) }
 {
     match variable.bounds {
         None => Err(TypingFault::TypeMismatch(at)),

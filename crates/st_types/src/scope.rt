@@ -3,7 +3,7 @@
 ghost use Rattle.std.specs.Prelude.{◌≡◌};
 ghost use Rattle.std.specs.Option.{option_map};
 ghost use Rattle.fb_model.specs.TextTyping.{found};
-ghost use Rattle.st_types.specs.Views.{entries, entry_of};
+ghost use Rattle.st_types.specs.Views.{entries, symbol_of};
 
 use fb_words::ElemType;
 use indexmap::IndexMap;
@@ -23,7 +23,7 @@ pub type Scope = IndexMap<String, Variable>;
 
 /// The variable of a name.
 pub fn find(scope: &Scope, name: &str) -> Option<Variable>
-    ensures { option_map (entry_of name.now) result ≡ found (entries scope.now) name.now }
+    ensures { option_map (symbol_of name.now) result ≡ found (entries scope.now) name.now }
 {
     scope.get(name).copied()
 }

@@ -8,7 +8,7 @@ ghost use Rattle.st_tree.specs.Views as tree;
 ghost use Rattle.st_types.specs.Answers.{Gives};
 ghost use Rattle.st_types.specs.Commanding as book;
 ghost use Rattle.st_types.specs.Elaborating as elaborating;
-ghost use Rattle.st_types.specs.Views.{entries, entry_of};
+ghost use Rattle.st_types.specs.Views.{entries, symbol_of};
 ghost use Rattle.st_types.specs.CommandViews.{busy_of, counting_of, command_of, commands_of, choice_of, choices_of, case_of, cases_of};
 
 use crate::command::{Counting, TypedArm, TypedBranch, TypedStmt};
@@ -47,7 +47,7 @@ fn with_name(alloc: Global, busy: &[String], name: &String) -> Result<Vec<String
 
 // A variable that may be assigned.
 fn assignable(scope: &Scope, busy: &[String], name: &Name) -> Result<Variable, TypingFault>
-    ensures { Gives (entry_of (word_of name.now).text) result (book.assignable (entries scope.now) (busy_of busy.now) (word_of name.now)) }
+    ensures { Gives (symbol_of (word_of name.now).text) result (book.assignable (entries scope.now) (busy_of busy.now) (word_of name.now)) }
 {
     let variable = known(scope, name)?;
     if !variable.writable {
@@ -61,7 +61,7 @@ fn assignable(scope: &Scope, busy: &[String], name: &Name) -> Result<Variable, T
 
 // The type of a variable that is no array.
 fn scalar(name: &Name, at: usize, variable: Variable) -> Result<ElemType, TypingFault>
-    ensures { Gives (λ a. a) result (book.scalar at (entry_of (word_of name.now).text variable)) }
+    ensures { Gives (λ a. a) result (book.scalar at (symbol_of (word_of name.now).text variable)) }
 {
     match variable.bounds {
         None => Ok(variable.of_type),
@@ -71,7 +71,7 @@ fn scalar(name: &Name, at: usize, variable: Variable) -> Result<ElemType, Typing
 
 // The type of an integer that is no array.
 fn counter(name: &Name, at: usize, variable: Variable) -> Result<ElemType, TypingFault>
-    ensures { Gives (λ a. a) result (book.counter at (entry_of (word_of name.now).text variable)) }
+    ensures { Gives (λ a. a) result (book.counter at (symbol_of (word_of name.now).text variable)) }
 {
     let of = scalar(name, at, variable)?;
     if !is_integer(of) {
@@ -149,7 +149,7 @@ fn assignment(
 }
 
 fn bounds(name: &Name, at: usize, variable: Variable) -> Result<(i64, i64), TypingFault>
-    ensures { Gives (λ b. b) result (elaborating.bounds_by at (entry_of (word_of name.now).text variable).bounds) }
+    ensures { Gives (λ b. b) result (elaborating.bounds_by at (symbol_of (word_of name.now).text variable).bounds) }
 {
     match variable.bounds {
         Some(bounds) => Ok(bounds),
@@ -235,14 +235,14 @@ fn command(
         }
         Stmt::For(at, name, first, last, by, body) => {
             let counting = counting(alloc, scope, busy, *at, name, first, last, by)?;
-            Ok(TypedStmt::For(counting, turn(alloc, scope, busy, name, body)?))
+            Ok(TypedStmt::For(counting, loop_body(alloc, scope, busy, name, body)?))
         }
     }
 }
 
-// What is done in each turn of a FOR, which counts with the variable.
+// What is done in each iteration of a FOR, which counts with the variable.
 #[cycle(commanding)]
-fn turn(
+fn loop_body(
     alloc: Global,
     scope: &Scope,
     busy: &[String],

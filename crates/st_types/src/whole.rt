@@ -4,7 +4,7 @@ ghost use Rattle.std.specs.Prelude.{◌≡◌, ℕ, List, [], IfOk};
 ghost use Rattle.fb_model.specs.Names.{Name};
 ghost use Rattle.fb_model.specs.StructuredText.{Expression, Statements};
 ghost use Rattle.fb_model.specs.TypedText.{Term, Commands};
-ghost use Rattle.fb_model.specs.TextTyping.{Entry, IsAsked, IsCondition, AreCommands};
+ghost use Rattle.fb_model.specs.TextTyping.{Symbol, IsAsked, IsCondition, AreCommands};
 ghost use Rattle.fb_model.specs.TextFaults.{Fault, IsNotAsked, IsNoCondition, SomeMisdone};
 ghost use Rattle.st_tree.specs.Views.{expr_of, body_of};
 ghost use Rattle.st_types.specs.Answers.{Finds, Refuses};
@@ -78,18 +78,18 @@ pub fn resolve_algorithm(alloc: Global, scope: &Scope, list: &[Stmt]) -> Result<
 
 /// An expression has one typed form at most where a type is asked for, and so has a condition.
 pub fn one_term()
-    ensures asked { (env : List Entry) (a : ElemType) (e : Expression) (x y : Term) → IsAsked env a e x → IsAsked env a e y → x ≡ y }
-    ensures conditions { (env : List Entry) (e : Expression) (x y : Term) → IsCondition env e x → IsCondition env e y → x ≡ y }
+    ensures asked { (env : List Symbol) (a : ElemType) (e : Expression) (x y : Term) → IsAsked env a e x → IsAsked env a e y → x ≡ y }
+    ensures conditions { (env : List Symbol) (e : Expression) (x y : Term) → IsCondition env e x → IsCondition env e y → x ≡ y }
 {}
 
 /// Statements have one typed form at most.
 pub fn one_algorithm()
-    ensures { (env : List Entry) (busy : List Name) (xs : Statements) (x y : Commands) → AreCommands env busy xs x → AreCommands env busy xs y → x ≡ y }
+    ensures { (env : List Symbol) (busy : List Name) (xs : Statements) (x y : Commands) → AreCommands env busy xs x → AreCommands env busy xs y → x ≡ y }
 {}
 
 /// What is well typed has no fault that a refusal could name.
 pub fn refusals_are_true()
-    ensures expressions { (env : List Entry) (a : ElemType) (s : ℕ) (e : Expression) (x : Term) (w : Fault) → IsAsked env a e x → IsNotAsked env a s e w → ⊥ }
-    ensures conditions { (env : List Entry) (s : ℕ) (e : Expression) (x : Term) (w : Fault) → IsCondition env e x → IsNoCondition env s e w → ⊥ }
-    ensures statements { (env : List Entry) (busy : List Name) (xs : Statements) (c : Commands) (w : Fault) → AreCommands env busy xs c → SomeMisdone env busy xs w → ⊥ }
+    ensures expressions { (env : List Symbol) (a : ElemType) (s : ℕ) (e : Expression) (x : Term) (w : Fault) → IsAsked env a e x → IsNotAsked env a s e w → ⊥ }
+    ensures conditions { (env : List Symbol) (s : ℕ) (e : Expression) (x : Term) (w : Fault) → IsCondition env e x → IsNoCondition env s e w → ⊥ }
+    ensures statements { (env : List Symbol) (busy : List Name) (xs : Statements) (c : Commands) (w : Fault) → AreCommands env busy xs c → SomeMisdone env busy xs w → ⊥ }
 {}

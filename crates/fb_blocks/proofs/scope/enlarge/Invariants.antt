@@ -1,5 +1,5 @@
 use Rattle.std.proofs.Common.{◌≡◌, ◌++◌, map, drop, string_bytes}
-use Rattle.fb_model.specs.BlockTyping.{entry_of, names_in}
+use Rattle.fb_model.specs.BlockTyping.{symbol_of, names_in}
 use Rattle.fb_model.specs.Typing.{AreNew}
 use Rattle.st_types.specs.Views.{entries}
 use Rattle.fb_blocks.specs.Answers.{names_in_map}
@@ -12,5 +12,5 @@ invariant-loop-index l =
     let rest = map (λ p. declared_of (string_bytes p.0) p.1) (drop l.index l.variables.entries) in
     record {
       new : AreNew (names_in_map l.scope) (names_in rest);
-      value : entries l.scope ++ map (entry_of l.writable) rest ≡ entries l.initial.scope ++ map (entry_of l.writable) (declared_in l.variables);
+      value : entries l.scope ++ map (symbol_of l.writable) rest ≡ entries l.initial.scope ++ map (symbol_of l.writable) (declared_in l.variables);
     }

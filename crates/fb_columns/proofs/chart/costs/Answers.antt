@@ -3,7 +3,7 @@ use Rattle.std.specs.List.{sum_by}
 use Rattle.fb_rows.specs.fb_blocks.declared.typed.Action.{Action}
 use Rattle.fb_rows.proofs.of_fb_blocks.Lists.{mapped_more}
 use Rattle.fb_columns.specs.Sums.{IsSum}
-use Rattle.fb_columns.specs.Reckoning.{Entry, acted, own_of}
+use Rattle.fb_columns.specs.Reckoning.{NamedActions, acted, own_of}
 use Rattle.fb_columns.proofs.Each.{got}
 use Rattle.fb_columns.proofs.Values.{more_sums}
 use Rattle.fb_columns.proofs.chart.costs.Goals as goal
@@ -12,7 +12,7 @@ pub loop-index-preserved : goal.loop-index-preserved
 loop-index-preserved c =
     λ ns h.
     let k = c.args.block.now in
-    let s : Entry = (c.in-Some.field-0-0.now, c.in-Some.actions.now) in
+    let s : NamedActions = (c.in-Some.field-0-0.now, c.in-Some.actions.now) in
     let g = got c.args.states.now.entries c.loop-index.index s c.in-Some.ensures.entry in
     let cost : IsSum c.own.result (own_of k ns s) = subst (λ (xs : List Action). IsSum c.own.result (sum_by (acted k ns) xs)) c.as_slice.ensures.value (c.own.ensures ns h) in
     let e = mapped_more (own_of k ns) c.args.states.now.entries c.loop-index.index s g.0 g.1 in

@@ -3,7 +3,7 @@ use Rattle.std.specs.List.{sum_by}
 use Rattle.std.proofs.lemmas.Result.{err_from_is_err_and}
 use Rattle.fb_rows.specs.fb_blocks.declared.typed.Action.{Action}
 use Rattle.fb_columns.specs.Sums.{IsSum}
-use Rattle.fb_columns.specs.Reckoning.{Entry, acted, own_of}
+use Rattle.fb_columns.specs.Reckoning.{NamedActions, acted, own_of}
 use Rattle.fb_columns.specs.Paying.{StatePays}
 use Rattle.fb_columns.proofs.Each.{got, all_more, one_charge}
 use Rattle.fb_columns.proofs.chart.states_pay.Goals as goal
@@ -13,18 +13,18 @@ returns-in_err-state_pays c =
     λ ns h.
     let p = err_from_is_err_and c.from_residual.result c.from_residual.ensures.1 in
     let k = c.args.block.now in
-    let s : Entry = (c.in-Some.name.now, c.in-Some.actions.now) in
+    let s : NamedActions = (c.in-Some.name.now, c.in-Some.actions.now) in
     let g = got c.args.states.now.entries c.loop-index.index s c.in-Some.ensures.entry in
     let cost : IsSum c.own-cost.result (own_of k ns s) = subst (λ (xs : List Action). IsSum c.own-cost.result (sum_by (acted k ns) xs)) c.as_slice.ensures.value (c.own-cost.ensures ns h) in
     let pays = StatePays c.args.column c.args.certificate.now c.args.path.now k ns in
-    rw (p.1, p.2) (one_charge c.args.path.now (λ (x : Entry). string_bytes x.0) pays c.args.states.now.entries c.loop-index.index s c.in_err-state_pays.field-0.0 g.0 g.1
+    rw (p.1, p.2) (one_charge c.args.path.now (λ (x : NamedActions). string_bytes x.0) pays c.args.states.now.entries c.loop-index.index s c.in_err-state_pays.field-0.0 g.0 g.1
     (rw c.as_str.ensures.value at (c.in_err-state_pays.ensures (own_of k ns s) cost)))
 
 pub loop-index-preserved : goal.loop-index-preserved
 loop-index-preserved c =
     λ ns h.
     let k = c.args.block.now in
-    let s : Entry = (c.in-Some.name.now, c.in-Some.actions.now) in
+    let s : NamedActions = (c.in-Some.name.now, c.in-Some.actions.now) in
     let g = got c.args.states.now.entries c.loop-index.index s c.in-Some.ensures.entry in
     let cost : IsSum c.own-cost.result (own_of k ns s) = subst (λ (xs : List Action). IsSum c.own-cost.result (sum_by (acted k ns) xs)) c.as_slice.ensures.value (c.own-cost.ensures ns h) in
     let pays = StatePays c.args.column c.args.certificate.now c.args.path.now k ns in

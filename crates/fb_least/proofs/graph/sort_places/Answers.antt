@@ -1,8 +1,8 @@
 use Rattle.std.proofs.Common.{◌≡◌, ◌<◌, length, ℕ, [], arith, subst, sym, ap, ◌∙◌, ◌++◌, ◌∷◌, List, drop, below_more}
 use Rattle.fb_least.specs.Graphs.{IsClosed}
 use Rattle.std.proofs.lemmas.List.{length-map}
-use Rattle.fb_least.specs.Searches.{IsTurned, rows_of, IsLast, IsSearching}
-use Rattle.fb_least.proofs.Searching.{walk_turns, all_ordered, none_from, mark_read}
+use Rattle.fb_least.specs.Searches.{IsRotated, rows_of, IsLast, IsSearching}
+use Rattle.fb_least.proofs.Searching.{walk_rotates, all_ordered, none_from, mark_read}
 use Rattle.fb_least.proofs.graph.sort_places.Goals as goal
 use Rattle.fb_least.proofs.graph.sort_places.Goals.{in-New+in_ok-open_place+in_default-last_place, in_default}
 
@@ -28,4 +28,4 @@ returns-in-Some-2 c =
     let k = rw c.in-Some-2.is at c.in_ok-first.ensures.closes in
     let e : c.in_ok-walk.walk.items ≡ drop c.in-Some-2.first c.advance.new.path.items ++ c.in-Some-2.next ∷ [] = c.in_ok-walk.ensures ∙ ap (λ p. drop c.in-Some-2.first p ++ c.in-Some-2.next ∷ []) c.deref-in-Some-2.ensures.value in
     let w : IsClosed (rows_of c.args.graph.now) c.in_ok-walk.walk.items = subst (λ (p : List ℕ). IsClosed (rows_of c.args.graph.now) p) (sym e) k.1 in
-    walk_turns (rows_of c.args.graph.now) c.in_ok-walk.walk.items c.in_ok-turn_walk.field-0 w (subst (λ (p : List ℕ). IsTurned p c.in_ok-turn_walk.field-0) c.deref-in-Some-2-2.ensures.value c.in_ok-turn_walk.ensures)
+    walk_rotates (rows_of c.args.graph.now) c.in_ok-walk.walk.items c.in_ok-rotate_walk.field-0 w (subst (λ (p : List ℕ). IsRotated p c.in_ok-rotate_walk.field-0) c.deref-in-Some-2-2.ensures.value c.in_ok-rotate_walk.ensures)

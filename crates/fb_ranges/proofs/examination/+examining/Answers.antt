@@ -6,7 +6,7 @@ use Rattle.std.proofs.lemmas.Int.{ints}
 use Rattle.fb_model.specs.Names.{Name}
 use Rattle.fb_model.specs.TypedText.{Commands, set_part}
 use Rattle.fb_model.specs.Spans.{Span, span, within}
-use Rattle.fb_model.specs.Clear.{Spans, Clear, Leaves, Traps, changed, narrowed, reset, range_of, with_range, are_kept, kept, taken, left_with, most_turns, looped, assigned, examine, examine_one, examine_choices, examine_cases}
+use Rattle.fb_model.specs.Clear.{Spans, Clear, Leaves, Traps, changed, narrowed, reset, range_of, with_range, are_kept, kept, taken, left_with, most_iterations, looped, assigned, examine, examine_one, examine_choices, examine_cases}
 use Rattle.fb_asking.specs.Asking.{Asked, point, range_in, asking_all, asked_loop, ask, ask_one, ask_choices, ask_cases}
 use Rattle.fb_asking.proofs.Ending.{Ends, ends}
 use Rattle.st_types.specs.declared.command.TypedStmt.{TypedStmt}
@@ -14,15 +14,15 @@ use Rattle.st_types.specs.Views.{term_of}
 use Rattle.st_types.specs.CommandViews.{Cased, Chosen, busy_of, cases_of, case_of, command_of, commands_of, choice_of, choices_of}
 use Rattle.st_types.proofs.Gathering.{drop_all}
 use Rattle.fb_ranges.specs.declared.told.Told.TheVariants as told
-use Rattle.fb_ranges.specs.Finding.{in_turn, longer, tell, turned}
+use Rattle.fb_ranges.specs.Finding.{in_sequence, longer, tell, iterated}
 use Rattle.fb_ranges.specs.Meeting.{Besides, joint, met_by, ranges_after}
 use Rattle.fb_ranges.specs.Narrowing.{read_in}
 use Rattle.fb_intervals.specs.Views.{span_of}
 use Rattle.fb_ranges.specs.Views.{mark_of, spans_of}
-use Rattle.fb_ranges.proofs.Blocks.{command_set, command_element, next_asked, next_told, choice_is, on_ok, turns_asked}
+use Rattle.fb_ranges.proofs.Blocks.{command_set, command_element, next_asked, next_told, choice_is, on_ok, iterations_asked}
 use Rattle.fb_ranges.proofs.Branches.{branch_asked, branch_besides, branch_told, arm_asked, arm_told, case_is, way_ends}
 use Rattle.fb_ranges.proofs.Frames.{all_besides}
-use Rattle.fb_ranges.proofs.Joins.{back_at, reset_besides, turns_leave}
+use Rattle.fb_ranges.proofs.Joins.{back_at, reset_besides, iterations_leave}
 use Rattle.fb_ranges.proofs.Telling.{tell_last, tell_looped, told_kept}
 use Rattle.fb_ranges.proofs.examination.+examining.Goals as goal
 
@@ -40,9 +40,9 @@ examine-loop-statement-preserved t c =
     record {
       asks = next_asked rows list i y a b (ask rows (commands_of list) (point (spans_of c.args.ranges.now) (spans_of c.args.asked.now))) c.loop-statement-test.true c.statement-item.is h.asks c.in_ok-told.ensures.asks;
       tells =
-          ap (λ u. in_turn u rest) c.in_turn-all.ensures
+          ap (λ u. in_sequence u rest) c.in_sequence-all.ensures
           ∙ next_told rows list i y a b c.loop-statement.all one (tell (examine rows (commands_of list) (spans_of c.args.ranges.now))) c.loop-statement-test.true c.statement-item.is h.tells c.in_ok-told.ensures.tells c.in_ok-told.ensures.asks;
-      last = ap (λ u. in_turn u (told.Steps 0)) c.in_turn-all.ensures ∙ tell_last c.loop-statement.all one ∙ sym c.in_turn-all.ensures;
+      last = ap (λ u. in_sequence u (told.Steps 0)) c.in_sequence-all.ensures ∙ tell_last c.loop-statement.all one ∙ sym c.in_sequence-all.ensures;
     }
 
 pub examine-returns-clause-tells : goal.examine-returns-clause-tells
@@ -52,7 +52,7 @@ examine-returns-clause-tells t c =
     let list = c.args.list.now in
     let all = c.loop-statement.all in
     sym h.last
-    ∙ ap (λ (l : List TypedStmt). in_turn all (tell (examine rows (commands_of l) (spans_of c.loop-statement.ranges)))) (sym (drop_all list c.loop-statement.statement-index c.loop-statement-test.false))
+    ∙ ap (λ (l : List TypedStmt). in_sequence all (tell (examine rows (commands_of l) (spans_of c.loop-statement.ranges)))) (sym (drop_all list c.loop-statement.statement-index c.loop-statement-test.false))
     ∙ h.tells
 
 pub examine_one-returns-in-Set-clause-asks : goal.examine_one-returns-in-Set-clause-asks
@@ -225,15 +225,15 @@ examine_way-returns-clause-unchanged t c =
     let noted = subst (λ (l : List (String Global)). (base : Spans) → reset (busy_of l) (spans_of c.in_ok-before.before) base ≡ reset (busy_of l) s base) c.deref.ensures.value c.in_ok-before.ensures in
     back_at (busy_of c.in_ok-names.names.items) s after (spans_of c.in_ok-before.before) (spans_of c.ended.new.ranges) besides noted c.in_ok-ended.ensures.ranges
 
-pub examine_turns-turned-requires : goal.examine_turns-turned-requires
-examine_turns-turned-requires t c =
+pub examine_iterations-iterated-requires : goal.examine_iterations-iterated-requires
+examine_iterations-iterated-requires t c =
     let r = span_of c.args.first in
     let s = span_of c.args.last in
     let k : to_z w64 (of_z w64 c.args.step) ≡ c.args.step = omega (arith, ints) in
-    subst (λ m. 0 < m) (sym (c.most_turns-turns.ensures ∙ ap (most_turns r s) k)) c.requires.1.1
+    subst (λ m. 0 < m) (sym (c.most_iterations-iterations.ensures ∙ ap (most_iterations r s) k)) c.requires.1.1
 
-pub examine_turns-returns-clause-asks : goal.examine_turns-returns-clause-asks
-examine_turns-returns-clause-asks t c =
+pub examine_iterations-returns-clause-asks : goal.examine_iterations-returns-clause-asks
+examine_iterations-returns-clause-asks t c =
     let r = span_of c.args.first in
     let s = span_of c.args.last in
     let rows = spans_of c.args.rows.now in
@@ -247,10 +247,10 @@ examine_turns-returns-clause-asks t c =
     let x = c.args.name.now in
     let f = ask rows (commands_of c.args.body.now) in
     let xs = assigned (commands_of c.args.body.now) in
-    let n = c.most_turns-turns.result in
+    let n = c.most_iterations-iterations.result in
     let k : to_z w64 (of_z w64 c.args.step) ≡ c.args.step = omega (arith, ints) in
-    let turns : n ≡ most_turns r s c.args.step = c.most_turns-turns.ensures ∙ ap (most_turns r s) k in
-    let some : 0 < n = subst (λ m. 0 < m) (sym turns) c.requires.1.1 in
+    let iterations : n ≡ most_iterations r s c.args.step = c.most_iterations-iterations.ensures ∙ ap (most_iterations r s) k in
+    let some : 0 < n = subst (λ m. 0 < m) (sym iterations) c.requires.1.1 in
     let begins : asked ≡ asking_all xs spans q = c.in_ok-ask_all.ensures ∙ ap (λ ys. asking_all ys spans q) (ap busy_of c.deref-2.ensures.value ∙ c.in_ok-names.ensures) in
     let same : base ≡ reset xs rows spans = c.in_ok-reset.ensures ∙ ap (λ ys. reset ys rows spans) (ap busy_of c.deref-3.ensures.value ∙ c.in_ok-names.ensures) in
     let o : own ≡ taken r s c.args.step n = c.taken-own.ensures ∙ ap (λ z. taken r s z n) k in
@@ -259,14 +259,14 @@ examine_turns-returns-clause-asks t c =
     let put : after ≡ changed x (λ b. left) base =
     c.in_ok-insert.ensures.set
     ∙ ap (changed x (λ b. left)) (c.in_ok-told.ensures.rest ∙ ap₂ (λ (ys : List Name) (u : Spans). reset ys rows (changed x (λ b. own) u)) names same)
-    ∙ turns_leave xs rows spans x own left
+    ∙ iterations_leave xs rows spans x own left
     ∙ ap (changed x (λ b. left)) (sym same) in
     let end = f (point (changed x (λ b. own) base) asked) in
-    turns_asked n xs rows f x r s c.args.step (point spans q) base after asked (spans_of c.examine_body.new.asked) own left some same o l put begins (c.in_ok-told.ensures.asks ∙ ap (λ ys. asking_all ys end.spans end.rows) names)
-    ∙ ap (λ m. asked_loop m xs rows f x r s c.args.step (point spans q)) turns
+    iterations_asked n xs rows f x r s c.args.step (point spans q) base after asked (spans_of c.examine_body.new.asked) own left some same o l put begins (c.in_ok-told.ensures.asks ∙ ap (λ ys. asking_all ys end.spans end.rows) names)
+    ∙ ap (λ m. asked_loop m xs rows f x r s c.args.step (point spans q)) iterations
 
-pub examine_turns-returns-clause-tells : goal.examine_turns-returns-clause-tells
-examine_turns-returns-clause-tells t c =
+pub examine_iterations-returns-clause-tells : goal.examine_iterations-returns-clause-tells
+examine_iterations-returns-clause-tells t c =
     let r = span_of c.args.first in
     let s = span_of c.args.last in
     let rows = spans_of c.args.rows.now in
@@ -276,19 +276,19 @@ examine_turns-returns-clause-tells t c =
     let x = c.args.name.now in
     let body = examine rows (commands_of c.args.body.now) in
     let xs = assigned (commands_of c.args.body.now) in
-    let n = c.most_turns-turns.result in
+    let n = c.most_iterations-iterations.result in
     let k : to_z w64 (of_z w64 c.args.step) ≡ c.args.step = omega (arith, ints) in
-    let turns : n ≡ most_turns r s c.args.step = c.most_turns-turns.ensures ∙ ap (most_turns r s) k in
-    let some : 0 < n = subst (λ m. 0 < m) (sym turns) c.requires.1.1 in
+    let iterations : n ≡ most_iterations r s c.args.step = c.most_iterations-iterations.ensures ∙ ap (most_iterations r s) k in
+    let some : 0 < n = subst (λ m. 0 < m) (sym iterations) c.requires.1.1 in
     let begins : c.are_kept-begins.result ≡ are_kept xs rows spans = c.are_kept-begins.ensures ∙ ap (λ ys. are_kept ys rows spans) (ap busy_of c.deref.ensures.value ∙ c.in_ok-names.ensures) in
     let same : base ≡ reset xs rows spans = c.in_ok-reset.ensures ∙ ap (λ ys. reset ys rows spans) (ap busy_of c.deref-3.ensures.value ∙ c.in_ok-names.ensures) in
     let o : own ≡ taken r s c.args.step n = c.taken-own.ensures ∙ ap (λ z. taken r s z n) k in
     let names = ap busy_of c.deref-4.ensures.value ∙ c.in_ok-names.ensures in
     let told = c.in_ok-told.ensures.tells ∙ ap (λ ys. tell (kept rows ys (body (changed x (λ b. own) base)))) names ∙ ap₂ (λ p (u : Spans). tell (kept rows xs (body (changed x (λ b. p) u)))) o same in
-    c.turned.ensures
-    ∙ ap₂ (turned n) begins told
+    c.iterated.ensures
+    ∙ ap₂ (iterated n) begins told
     ∙ sym (tell_looped n xs rows body x r s c.args.step spans some)
-    ∙ ap (λ m. tell (looped m xs rows body x r s c.args.step spans)) turns
+    ∙ ap (λ m. tell (looped m xs rows body x r s c.args.step spans)) iterations
 
 pub examine_body-returns-clause-asks : goal.examine_body-returns-clause-asks
 examine_body-returns-clause-asks t c =

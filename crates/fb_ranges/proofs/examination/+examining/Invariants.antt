@@ -5,7 +5,7 @@ use Rattle.fb_model.specs.Clear.{examine, examine_choices, examine_cases}
 use Rattle.st_types.specs.CommandViews.{commands_of, choices_of, cases_of}
 use Rattle.fb_asking.specs.Asking.{point, ask, ask_choices, ask_cases}
 use Rattle.fb_ranges.specs.declared.told.Told.TheVariants as t
-use Rattle.fb_ranges.specs.Finding.{in_turn, longer, tell}
+use Rattle.fb_ranges.specs.Finding.{in_sequence, longer, tell}
 use Rattle.fb_ranges.specs.Meeting.{Dated, met_by, ranges_after}
 use Rattle.fb_ranges.specs.Views.{mark_of, spans_of}
 use Rattle.st_types.proofs.command.TypedStmt.TheLaws.{the_size as stmt_size}
@@ -37,8 +37,8 @@ decreases-examine_way l = 5 * most stmt_size l.body.now + 2
 abbrev pub decreases-examine_for : goal.decreases-examine_for
 decreases-examine_for l = 5 * most stmt_size l.body.now + 4
 
-abbrev pub decreases-examine_turns : goal.decreases-examine_turns
-decreases-examine_turns l = 5 * most stmt_size l.body.now + 3
+abbrev pub decreases-examine_iterations : goal.decreases-examine_iterations
+decreases-examine_iterations l = 5 * most stmt_size l.body.now + 3
 
 abbrev pub decreases-examine_body : goal.decreases-examine_body
 decreases-examine_body l = 5 * most stmt_size l.body.now + 2
@@ -50,9 +50,9 @@ invariant-examine-loop-statement l =
           ask (spans_of l.rows) (commands_of (drop l.statement-index l.list)) (point (spans_of l.ranges) (spans_of l.asked))
           ≡ ask (spans_of l.rows) (commands_of l.list) (point (spans_of l.initial.ranges) (spans_of l.initial.asked));
       tells :
-          in_turn l.all (tell (examine (spans_of l.rows) (commands_of (drop l.statement-index l.list)) (spans_of l.ranges)))
+          in_sequence l.all (tell (examine (spans_of l.rows) (commands_of (drop l.statement-index l.list)) (spans_of l.ranges)))
           ≡ tell (examine (spans_of l.rows) (commands_of l.list) (spans_of l.initial.ranges));
-      last : in_turn l.all (t.Steps 0) ≡ l.all;
+      last : in_sequence l.all (t.Steps 0) ≡ l.all;
     }
 
 abbrev pub invariant-examine_branches-loop-branch : goal.invariant-examine_branches-loop-branch

@@ -5,7 +5,7 @@ use Rattle.fb_model.specs.Store.{first_input}
 use Rattle.fb_model.specs.Wires.{Source}
 use Rattle.fb_flat.specs.Tables.{source_at}
 use Rattle.fb_intervals.specs.Views.{span_of}
-use Rattle.fb_rows.specs.Beginning.{Entry, entry_name, shown, IsRange, InputBegins}
+use Rattle.fb_rows.specs.Beginning.{NamedVariable, entry_name, shown, IsRange, InputBegins}
 use Rattle.fb_rows.specs.Clearing.{InputFails}
 use Rattle.fb_rows.proofs.Lists.{got, all_more}
 use Rattle.fb_rows.proofs.Blaming.{one_named}
@@ -14,7 +14,7 @@ use Rattle.fb_rows.proofs.begin.inputs_begin.Goals as goal
 pub returns-in_err-variable_begins : goal.returns-in_err-variable_begins
 returns-in_err-variable_begins c =
     let p = err_from_is_err_and c.from_residual.result c.from_residual.ensures.1 in
-    let e : Entry = (c.in-Some.name.now, c.in-Some.variable.now) in
+    let e : NamedVariable = (c.in-Some.name.now, c.in-Some.variable.now) in
     let g = got c.args.variables.now.entries c.loop-index.index e c.in-Some.ensures.entry in
     let source = source_at c.args.inputs.now in
     let first : IsRange (span_of c.first_range-first.result) (first_input (source (entry_name e)) (start_of (shown e))) =
@@ -24,10 +24,10 @@ returns-in_err-variable_begins c =
 
 pub loop-index-preserved : goal.loop-index-preserved
 loop-index-preserved c =
-    let e : Entry = (c.in-Some.name.now, c.in-Some.variable.now) in
+    let e : NamedVariable = (c.in-Some.name.now, c.in-Some.variable.now) in
     let g = got c.args.variables.now.entries c.loop-index.index e c.in-Some.ensures.entry in
     let source = source_at c.args.inputs.now in
     let first : IsRange (span_of c.first_range-first.result) (first_input (source (entry_name e)) (start_of (shown e))) =
     subst (λ (s : Source). IsRange (span_of c.first_range-first.result) (first_input s (start_of (shown e)))) (c.source_named.ensures ∙ ap source c.as_str-name.ensures.value) (c.first_range-first.ensures (entry_name e)) in
-    all_more (λ (x : Entry). InputBegins c.args.certificate.now c.args.path.now source (shown x)) c.args.variables.now.entries c.loop-index.index e g.0 g.1 c.loop-index.invariant
+    all_more (λ (x : NamedVariable). InputBegins c.args.certificate.now c.args.path.now source (shown x)) c.args.variables.now.entries c.loop-index.index e g.0 g.1 c.loop-index.invariant
     (rw c.as_str-name.ensures.value at (c.in_ok-variable_begins.ensures (first_input (source (entry_name e)) (start_of (shown e))) first))

@@ -3,8 +3,8 @@ use Rattle.std.specs.List.{AllByRecursion}
 use Rattle.fb_flat.specs.declared.flat.Leaf.{Leaf}
 use Rattle.fb_flat.specs.Tables.{source_at}
 use Rattle.fb_rows.specs.Places.{ArePlaces}
-use Rattle.fb_rows.specs.Beginning.{Entry, shown, LinkLies}
+use Rattle.fb_rows.specs.Beginning.{NamedVariable, shown, LinkLies}
 use Rattle.fb_rows.proofs.link.links_lie.Given as goal
 
 abbrev pub invariant-loop-index : goal.invariant-loop-index
-invariant-loop-index l = (ls : List Leaf) → ArePlaces ls l.places → AllByRecursion (λ (e : Entry). LinkLies l.certificate l.path ls (source_at l.inputs) (shown e)) (take l.index l.variables.entries)
+invariant-loop-index l = (ls : List Leaf) → ArePlaces ls l.places → AllByRecursion (λ (e : NamedVariable). LinkLies l.certificate l.path ls (source_at l.inputs) (shown e)) (take l.index l.variables.entries)

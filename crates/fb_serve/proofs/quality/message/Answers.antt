@@ -7,7 +7,7 @@ use Rattle.fb_model.specs.Serving.{stamped}
 use Rattle.st_code.specs.Forms.{plain_slot}
 use Rattle.st_exec.specs.Cells.{values_of, forms_of}
 use Rattle.fb_chart.proofs.Lists.{stands_at}
-use Rattle.fb_serve.specs.Turns.{stamps_in}
+use Rattle.fb_serve.specs.Responses.{stamps_in}
 use Rattle.fb_serve.proofs.Replies.{numbered_length}
 use Rattle.fb_serve.proofs.Sending.{none_filled, all_filled, sent_slot, next_fits, next_filled}
 use Rattle.fb_serve.proofs.quality.message.Goals as goal

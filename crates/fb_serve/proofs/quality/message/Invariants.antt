@@ -1,6 +1,6 @@
 use Rattle.fb_model.specs.Serving.{stamped}
 use Rattle.st_exec.specs.Cells.{values_of}
-use Rattle.fb_serve.specs.Turns.{stamps_in}
+use Rattle.fb_serve.specs.Responses.{stamps_in}
 use Rattle.fb_serve.proofs.Sending.{IsFilled}
 use Rattle.fb_serve.proofs.quality.message.Given as goal
 

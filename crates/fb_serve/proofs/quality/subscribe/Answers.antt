@@ -5,7 +5,7 @@ use Rattle.fb_model.specs.Services.{qo}
 use Rattle.fb_model.specs.Serving as book
 use Rattle.st_exec.specs.Cells.{values_of}
 use Rattle.fb_serve.specs.Ports.{slots_of, received_in}
-use Rattle.fb_serve.specs.Turns.{condition_of}
+use Rattle.fb_serve.specs.Responses.{condition_of}
 use Rattle.fb_serve.proofs.quality.subscribe.Goals as goal
 
 pub returns-clause-values : goal.returns-clause-values

@@ -8,8 +8,8 @@ pub count-requires : goal.count-requires
 count-requires c =
     let fs = c.args.layout.now in
     let x = c.args.name.now in
-    let d : (c.in-Some.place.first ≡ slot_in fs x) × (c.in-Some.place.bounds ≡ bounds_in fs x) × IsDeclaredIn fs x = c.in-Some.ensures in
-    let w = place_within fs fs x c.in-Some.place.first (slot_count c.in-Some.place.bounds) c.in-Some.place.bounds refl d.0 d.1 d.2 refl in
+    let d : (c.in-Some.location.first ≡ slot_in fs x) × (c.in-Some.location.bounds ≡ bounds_in fs x) × IsDeclaredIn fs x = c.in-Some.ensures in
+    let w = place_within fs fs x c.in-Some.location.first (slot_count c.in-Some.location.bounds) c.in-Some.location.bounds refl d.0 d.1 d.2 refl in
     let small : c.size-room.result < 2 ^ 64 = search rules in
     omega (arith, w, c.size-room.ensures, small)
 

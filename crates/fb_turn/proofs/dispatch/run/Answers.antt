@@ -6,7 +6,7 @@ use Rattle.fb_chart.specs.declared.table.Output.{Output}
 use Rattle.fb_chart.specs.Views.{named}
 use Rattle.fb_chart.specs.Sending.{sent_to}
 use Rattle.fb_chart.specs.Charting.{block_in, states_in, IsReady, cells_of, begun, FineFrom, HasRested}
-use Rattle.fb_serve.specs.Turns.{event_at, leaf_of, effect_of}
+use Rattle.fb_serve.specs.Responses.{event_at, leaf_of, effect_of}
 use Rattle.fb_serve.specs.Serving.{CanServe, HasServed}
 use Rattle.fb_turn.proofs.Charted.{chart_alone, ready, known_event, known_state, fine, condition_after, chart_ran}
 use Rattle.fb_turn.proofs.Served.{service_alone, can_serve, can_receive, sends_fit, can_send, service_after, service_ran}

@@ -19,8 +19,8 @@ returns-in-Err-clause-syntax c =
     let ts = tokens_of c.args.tokens.now in
     reads_syntax ts c.fault.result (reads_of c.end_of.result ts c.in-Err.stop c.fault.result c.end_of.ensures c.fault.ensures c.in-Err.ensures)
 
-pub returns-in-Err-clause-place : goal.returns-in-Err-clause-place
-returns-in-Err-clause-place c =
+pub returns-in-Err-clause-offset : goal.returns-in-Err-clause-offset
+returns-in-Err-clause-offset c =
     let ts = tokens_of c.args.tokens.now in
     reads_place ts c.fault.result (reads_of c.end_of.result ts c.in-Err.stop c.fault.result c.end_of.ensures c.fault.ensures c.in-Err.ensures)
 

@@ -4,17 +4,17 @@ use Rattle.fb_model.specs.Language.{run, run_one, more}
 use Rattle.st_code.specs.CodeViews.{code_command, code_commands}
 use Rattle.st_types.proofs.Gathering.{drop_step, drop_all}
 use Rattle.st_exec.specs.Cells.{Form, values_of, forms_of}
-use Rattle.st_exec.specs.Runs.{Serves, ServesOne, IsWithin}
+use Rattle.st_exec.specs.Runs.{Supports, SupportsOne, IsWithin}
 use denote.Param.Weighed.{most, at_most}
 use Rattle.fb_model.specs.TypedText.{constant, choose, match_on}
-use Rattle.fb_model.specs.Language.{value_of, is_zero, labelled, run_choices, run_cases, turn_count}
+use Rattle.fb_model.specs.Language.{value_of, is_zero, labelled, run_choices, run_cases, iteration_count}
 use Rattle.st_code.specs.CodeViews.{code_term}
 use Rattle.st_code.specs.CodeViews.{code_choices, code_cases}
 use Rattle.st_code.proofs.command.CodeStmt.TheLaws.{the_size as stmt_size}
 use Rattle.st_code.proofs.command.CodeBranch.TheLaws.{the_size as branch_size}
 use Rattle.st_code.proofs.command.CodeArm.TheLaws.{the_size as arm_size}
 use Rattle.st_exec.proofs.Serving.{first_served, rest_served, other_served, no_case_served, selected_served}
-use Rattle.st_exec.proofs.Runs.{part_within, one_more, within_more, given_within, turns_within, turns_from, turn_within, turn_done, turn_steps, turns_end, next_value, same_whole}
+use Rattle.st_exec.proofs.Runs.{part_within, one_more, within_more, given_within, iterations_within, iterations_from, iteration_within, iteration_done, iteration_steps, iterations_end, next_value, same_whole}
 use Rattle.st_code.specs.Forms.{size_of, plain_slot}
 use Rattle.st_code.specs.Placed.{placed_stmt, placed_branch, placed_arm, placed_all, all_true}
 use Rattle.st_run.proofs.Chaining.{and_second}
@@ -31,11 +31,11 @@ run_list-loop-statement-preserved t c =
     let ls = drop (i + 1) c.args.list.now in
     let V = values_of c.loop-statement.store in
     let d = drop_step c.args.list.now i x c.loop-statement-test.true c.statement-item.is in
-    let s : Serves (forms_of c.loop-statement.store) (code_commands (x ∷ ls)) = subst (λ l. Serves (forms_of c.loop-statement.store) (code_commands l)) d c.loop-statement.invariant.serves in
+    let s : Supports (forms_of c.loop-statement.store) (code_commands (x ∷ ls)) = subst (λ l. Supports (forms_of c.loop-statement.store) (code_commands l)) d c.loop-statement.invariant.serves in
     record {
       left = one_more c.loop-statement.steps c.run_statement-steps.result (run_one (code_command x) V) (run (code_commands c.args.list.now) (values_of c.args.store.now)) (run (code_commands ls)) (values_of c.run_statement-steps.new.store)
           (ap (λ l. more c.loop-statement.steps (run (code_commands l) V)) (sym d) ∙ c.loop-statement.invariant.left) c.run_statement-steps.ensures.answers;
-      serves = subst (λ f. Serves f (code_commands ls)) (sym c.run_statement-steps.ensures.unchanged) (rest_served (forms_of c.loop-statement.store) (code_command x) (code_commands ls) s);
+      serves = subst (λ f. Supports f (code_commands ls)) (sym c.run_statement-steps.ensures.unchanged) (rest_served (forms_of c.loop-statement.store) (code_command x) (code_commands ls) s);
       same = c.run_statement-steps.ensures.unchanged ∙ c.loop-statement.invariant.same;
       slots = ap (λ f. placed_all f ls) c.run_statement-steps.ensures.unchanged ∙ items_right (placed_stmt (forms_of c.loop-statement.store)) c.args.list.now i x c.loop-statement-test.true c.statement-item.is c.loop-statement.invariant.slots;
     }
@@ -47,7 +47,7 @@ run_list-run_statement-steps-requires t c =
     let ls = drop (i + 1) c.args.list.now in
     let V = values_of c.loop-statement.store in
     let d = drop_step c.args.list.now i x c.loop-statement-test.true c.statement-item.is in
-    let s : Serves (forms_of c.loop-statement.store) (code_commands (x ∷ ls)) = subst (λ l. Serves (forms_of c.loop-statement.store) (code_commands l)) d c.loop-statement.invariant.serves in
+    let s : Supports (forms_of c.loop-statement.store) (code_commands (x ∷ ls)) = subst (λ l. Supports (forms_of c.loop-statement.store) (code_commands l)) d c.loop-statement.invariant.serves in
     let e : more c.loop-statement.steps (run (code_commands (x ∷ ls)) V) ≡ run (code_commands c.args.list.now) (values_of c.args.store.now) = ap (λ l. more c.loop-statement.steps (run (code_commands l) V)) (sym d) ∙ c.loop-statement.invariant.left in
     let m = at_most stmt_size c.args.list.now i x c.loop-statement-test.true in
     let g = ap stmt_size c.statement-item.is in (
@@ -68,8 +68,8 @@ run_arms-run_list-requires-2 t c =
     let V = values_of c.loop-arm.store in
     let V0 = values_of c.args.store.now in
     let n = drop_all c.args.list.now c.loop-arm.arm-index c.loop-arm-test.false in
-    let s : ServesOne (forms_of c.loop-arm.store) (match_on (constant k) (code_cases []) (code_commands c.args.rest.now)) =
-    subst (λ l. ServesOne (forms_of c.loop-arm.store) (match_on (constant k) (code_cases l) (code_commands c.args.rest.now))) n c.loop-arm.invariant.serves in
+    let s : SupportsOne (forms_of c.loop-arm.store) (match_on (constant k) (code_cases []) (code_commands c.args.rest.now)) =
+    subst (λ l. SupportsOne (forms_of c.loop-arm.store) (match_on (constant k) (code_cases l) (code_commands c.args.rest.now))) n c.loop-arm.invariant.serves in
     let e : run (code_commands c.args.rest.now) V ≡ run_cases (code_cases c.args.list.now) k V0 (run (code_commands c.args.rest.now) V0) =
     ap (λ l. run_cases (code_cases l) k V (run (code_commands c.args.rest.now) V)) (sym n) ∙ c.loop-arm.invariant.left in
     let h : IsWithin (10 ^ 12) (run_cases (code_cases c.args.list.now) k V0 (run (code_commands c.args.rest.now) V0)) =
@@ -81,8 +81,8 @@ run_branches-run_list-requires-2 t c =
     let V = values_of c.loop-branch.store in
     let V0 = values_of c.args.store.now in
     let n = drop_all c.args.list.now c.loop-branch.branch-index c.loop-branch-test.false in
-    let s : ServesOne (forms_of c.loop-branch.store) (choose (code_choices []) (code_commands c.args.rest.now)) =
-    subst (λ l. ServesOne (forms_of c.loop-branch.store) (choose (code_choices l) (code_commands c.args.rest.now))) n c.loop-branch.invariant.serves in
+    let s : SupportsOne (forms_of c.loop-branch.store) (choose (code_choices []) (code_commands c.args.rest.now)) =
+    subst (λ l. SupportsOne (forms_of c.loop-branch.store) (choose (code_choices l) (code_commands c.args.rest.now))) n c.loop-branch.invariant.serves in
     let e : run (code_commands c.args.rest.now) V ≡ run_choices (code_choices c.args.list.now) V0 (run (code_commands c.args.rest.now) V0) =
     ap (λ l. run_choices (code_choices l) V (run (code_commands c.args.rest.now) V)) (sym n) ∙ c.loop-branch.invariant.left in
     (omega (arith, c.decreases), (and_second (all_true (map (placed_branch (forms_of c.loop-branch.store)) (drop c.loop-branch.branch-index c.args.list.now))) (placed_all (forms_of c.loop-branch.store) c.args.rest.now) c.loop-branch.invariant.slots, (other_served (forms_of c.loop-branch.store) (code_commands c.args.rest.now) s, subst (λ x. IsWithin (10 ^ 12) x) (sym e) c.requires.small)))
@@ -168,7 +168,7 @@ run_statement-run_branches-requires t c =
     let d = ap (most branch_size) c.deref.ensures.value in
     let e = ap (most stmt_size) c.deref-in-If.ensures.value in
     let h : IsWithin (10 ^ 12) (run_one (choose (code_choices bs) (code_commands rest)) V) = subst (λ x. IsWithin (10 ^ 12) (run_one x V)) is c.requires.small in
-    (omega (arith, a, b, g, d, e, c.decreases), (if_placed (forms_of c.args.store.now) c.args.statement.now c.requires.placed c.in-If.branches c.in-If.rest c.in-If.is bs rest c.deref.ensures.value c.deref-in-If.ensures.value, (subst (ServesOne (forms_of c.args.store.now)) is c.requires.serves, within_more (10 ^ 12) 1 _ h)))
+    (omega (arith, a, b, g, d, e, c.decreases), (if_placed (forms_of c.args.store.now) c.args.statement.now c.requires.placed c.in-If.branches c.in-If.rest c.in-If.is bs rest c.deref.ensures.value c.deref-in-If.ensures.value, (subst (SupportsOne (forms_of c.args.store.now)) is c.requires.serves, within_more (10 ^ 12) 1 _ h)))
 
 pub run_statement-run_arms-requires : goal.run_statement-run_arms-requires
 run_statement-run_arms-requires t c =
@@ -185,103 +185,103 @@ run_statement-run_arms-requires t c =
     let d = ap (most arm_size) c.deref-in-Case.ensures.value in
     let e = ap (most stmt_size) c.deref-in-Case-2.ensures.value in
     let h : IsWithin (10 ^ 12) (run_one (match_on (code_term c.in-Case.selector) (code_cases as') (code_commands rest)) V) = subst (λ x. IsWithin (10 ^ 12) (run_one x V)) is c.requires.small in
-    let s = selected_served (forms_of c.args.store.now) (code_term c.in-Case.selector) (to_z w64 (of_z w64 c.eval-selector.result)) (code_cases as') (code_commands rest) (subst (ServesOne (forms_of c.args.store.now)) is c.requires.serves) in
+    let s = selected_served (forms_of c.args.store.now) (code_term c.in-Case.selector) (to_z w64 (of_z w64 c.eval-selector.result)) (code_cases as') (code_commands rest) (subst (SupportsOne (forms_of c.args.store.now)) is c.requires.serves) in
     let i = given_within (10 ^ 12) (value_of (code_term c.in-Case.selector) V) (to_z w64 (of_z w64 c.eval-selector.result)) (λ v. more 1 (run_cases (code_cases as') v V (run (code_commands rest) V))) (c.eval-selector.ensures ∙ ap Some (sym q)) h in
     (omega (arith, a, b, g, d, e, c.decreases), (arms_placed (forms_of c.args.store.now) c.args.statement.now c.requires.placed c.in-Case.selector c.in-Case.arms c.in-Case.rest c.in-Case.is as' rest c.deref-in-Case.ensures.value c.deref-in-Case-2.ensures.value, (s, within_more (10 ^ 12) 1 _ i)))
 
-pub run_turns-turns_of-turn-end-requires : goal.run_turns-turns_of-turn-end-requires
-run_turns-turns_of-turn-end-requires t c =
+pub run_iterations-iterations_of-iteration-end-requires : goal.run_iterations-iterations_of-iteration-end-requires
+run_iterations-iterations_of-iteration-end-requires t c =
     let f = to_z-of_z w64 c.args.first c.ranges.first in
     let l = to_z-of_z w64 c.args.last c.ranges.last in
     let k : to_z w64 (of_z w64 c.args.counting.now.step) ≡ c.args.counting.now.step = to_z-of_z w64 c.args.counting.now.step (search rules) in
     let body = run (code_commands c.args.body.now) in
     let V0 = values_of c.args.store.now in
-    let h : turn_count c.args.first c.args.last c.args.counting.now.step ≤ 10 ^ 12 = turns_within (10 ^ 12) (turn_count c.args.first c.args.last c.args.counting.now.step) body (string_bytes c.args.counting.now.variable) c.args.first c.args.counting.now.step V0 c.requires.small in
+    let h : iteration_count c.args.first c.args.last c.args.counting.now.step ≤ 10 ^ 12 = iterations_within (10 ^ 12) (iteration_count c.args.first c.args.last c.args.counting.now.step) body (string_bytes c.args.counting.now.variable) c.args.first c.args.counting.now.step V0 c.requires.small in
     rw (f, l, k) (omega arith)
 
-pub run_turns-loop-turn-init : goal.run_turns-loop-turn-init
-run_turns-loop-turn-init t c =
-    let n = c.turns_of-turn-end.result in
+pub run_iterations-loop-iteration-init : goal.run_iterations-loop-iteration-init
+run_iterations-loop-iteration-init t c =
+    let n = c.iterations_of-iteration-end.result in
     let p : n - 0 ≡ n = omega arith in
     let f = to_z w64 (of_z w64 c.args.first) in
     let k = c.args.counting.now.step in
     let e : to_z w64 (of_z w64 k) ≡ k = to_z-of_z w64 k (search rules) in
     let q : f +ℤ pos 0 *ℤ k ≡ f = omega (arith, ints) in
     record {
-      count = c.turns_of-turn-end.ensures ∙ ap (λ z. turn_count (to_z w64 (of_z w64 c.args.first)) (to_z w64 (of_z w64 c.args.last)) z) e;
-      left = turns_from (n - 0) n (run (code_commands c.args.body.now)) (string_bytes c.args.counting.now.variable) (f +ℤ pos 0 *ℤ k) f k (values_of c.args.store.now) p q;
+      count = c.iterations_of-iteration-end.ensures ∙ ap (λ z. iteration_count (to_z w64 (of_z w64 c.args.first)) (to_z w64 (of_z w64 c.args.last)) z) e;
+      left = iterations_from (n - 0) n (run (code_commands c.args.body.now)) (string_bytes c.args.counting.now.variable) (f +ℤ pos 0 *ℤ k) f k (values_of c.args.store.now) p q;
       same = refl;
     }
 
-pub run_turns-run_list-steps-requires : goal.run_turns-run_list-steps-requires
-run_turns-run_list-steps-requires t c =
+pub run_iterations-run_list-steps-requires : goal.run_iterations-run_list-steps-requires
+run_iterations-run_list-steps-requires t c =
     let f = to_z-of_z w64 c.args.first c.ranges.first in
     let l = to_z-of_z w64 c.args.last c.ranges.last in
     let k : to_z w64 (of_z w64 c.args.counting.now.step) ≡ c.args.counting.now.step = to_z-of_z w64 c.args.counting.now.step (search rules) in
     let body = run (code_commands c.args.body.now) in
     let V0 = values_of c.args.store.now in
-    let w = same_whole c.args.first (to_z w64 (of_z w64 c.args.first)) c.args.last (to_z w64 (of_z w64 c.args.last)) c.args.counting.now.step (c.args.counting.now.step) body (string_bytes c.args.counting.now.variable) c.turns_of-turn-end.result V0 f l refl (c.turns_of-turn-end.ensures ∙ ap (λ z. turn_count (to_z w64 (of_z w64 c.args.first)) (to_z w64 (of_z w64 c.args.last)) z) k) in
-    let V = values_of c.loop-turn.store in
+    let w = same_whole c.args.first (to_z w64 (of_z w64 c.args.first)) c.args.last (to_z w64 (of_z w64 c.args.last)) c.args.counting.now.step (c.args.counting.now.step) body (string_bytes c.args.counting.now.variable) c.iterations_of-iteration-end.result V0 f l refl (c.iterations_of-iteration-end.ensures ∙ ap (λ z. iteration_count (to_z w64 (of_z w64 c.args.first)) (to_z w64 (of_z w64 c.args.last)) z) k) in
+    let V = values_of c.loop-iteration.store in
     let put = values_of c.set_number.new.self in
-    let m = c.loop-turn.steps in
-    let v = to_z w64 (of_z w64 c.args.first) +ℤ pos c.loop-turn.turn *ℤ c.args.counting.now.step in
+    let m = c.loop-iteration.steps in
+    let v = to_z w64 (of_z w64 c.args.first) +ℤ pos c.loop-iteration.iteration *ℤ c.args.counting.now.step in
     let n = to_z w64 (of_z w64 c.taken-number.result) in
-    let r : c.turns_of-turn-end.result - c.loop-turn.turn ≡ suc (c.turns_of-turn-end.result - (c.loop-turn.turn + 1)) = omega arith in
-    let u : n ≡ v = to_z-of_z w64 c.taken-number.result (search rules) ∙ c.taken-number.ensures ∙ ap (λ z. to_z w64 (of_z w64 c.args.first) +ℤ pos c.loop-turn.turn *ℤ z) (to_z-of_z w64 c.args.counting.now.step (search rules)) in
-    let i = turn_within m (c.turns_of-turn-end.result - c.loop-turn.turn) (c.turns_of-turn-end.result - (c.loop-turn.turn + 1)) (string_bytes c.args.counting.now.variable) body v n (c.args.counting.now.step) V put _ (c.loop-turn.invariant.left ∙ w) r u (c.set_number.ensures.values (string_bytes c.args.counting.now.variable) (ap (λ f. plain_slot f (string_bytes c.args.counting.now.variable)) c.loop-turn.invariant.same ∙ c.requires.slot)) (10 ^ 12) c.requires.small in
-    let s = subst (λ (x : List Form). Serves x (code_commands c.args.body.now)) (sym (c.set_number.ensures.forms ∙ c.loop-turn.invariant.same)) c.requires.serves in
-    (omega (arith, c.decreases), (ap (λ f. placed_all f c.args.body.now) (c.set_number.ensures.forms ∙ c.loop-turn.invariant.same) ∙ c.requires.placed, (s, i)))
+    let r : c.iterations_of-iteration-end.result - c.loop-iteration.iteration ≡ suc (c.iterations_of-iteration-end.result - (c.loop-iteration.iteration + 1)) = omega arith in
+    let u : n ≡ v = to_z-of_z w64 c.taken-number.result (search rules) ∙ c.taken-number.ensures ∙ ap (λ z. to_z w64 (of_z w64 c.args.first) +ℤ pos c.loop-iteration.iteration *ℤ z) (to_z-of_z w64 c.args.counting.now.step (search rules)) in
+    let i = iteration_within m (c.iterations_of-iteration-end.result - c.loop-iteration.iteration) (c.iterations_of-iteration-end.result - (c.loop-iteration.iteration + 1)) (string_bytes c.args.counting.now.variable) body v n (c.args.counting.now.step) V put _ (c.loop-iteration.invariant.left ∙ w) r u (c.set_number.ensures.values (string_bytes c.args.counting.now.variable) (ap (λ f. plain_slot f (string_bytes c.args.counting.now.variable)) c.loop-iteration.invariant.same ∙ c.requires.slot)) (10 ^ 12) c.requires.small in
+    let s = subst (λ (x : List Form). Supports x (code_commands c.args.body.now)) (sym (c.set_number.ensures.forms ∙ c.loop-iteration.invariant.same)) c.requires.serves in
+    (omega (arith, c.decreases), (ap (λ f. placed_all f c.args.body.now) (c.set_number.ensures.forms ∙ c.loop-iteration.invariant.same) ∙ c.requires.placed, (s, i)))
 
-pub run_turns-overflow_add-steps-in-loop-turn : goal.run_turns-overflow_add-steps-in-loop-turn
-run_turns-overflow_add-steps-in-loop-turn t c =
+pub run_iterations-overflow_add-steps-in-loop-iteration : goal.run_iterations-overflow_add-steps-in-loop-iteration
+run_iterations-overflow_add-steps-in-loop-iteration t c =
     let f = to_z-of_z w64 c.args.first c.ranges.first in
     let l = to_z-of_z w64 c.args.last c.ranges.last in
     let k : to_z w64 (of_z w64 c.args.counting.now.step) ≡ c.args.counting.now.step = to_z-of_z w64 c.args.counting.now.step (search rules) in
     let body = run (code_commands c.args.body.now) in
     let V0 = values_of c.args.store.now in
-    let w = same_whole c.args.first (to_z w64 (of_z w64 c.args.first)) c.args.last (to_z w64 (of_z w64 c.args.last)) c.args.counting.now.step (c.args.counting.now.step) body (string_bytes c.args.counting.now.variable) c.turns_of-turn-end.result V0 f l refl (c.turns_of-turn-end.ensures ∙ ap (λ z. turn_count (to_z w64 (of_z w64 c.args.first)) (to_z w64 (of_z w64 c.args.last)) z) k) in
-    let V = values_of c.loop-turn.store in
+    let w = same_whole c.args.first (to_z w64 (of_z w64 c.args.first)) c.args.last (to_z w64 (of_z w64 c.args.last)) c.args.counting.now.step (c.args.counting.now.step) body (string_bytes c.args.counting.now.variable) c.iterations_of-iteration-end.result V0 f l refl (c.iterations_of-iteration-end.ensures ∙ ap (λ z. iteration_count (to_z w64 (of_z w64 c.args.first)) (to_z w64 (of_z w64 c.args.last)) z) k) in
+    let V = values_of c.loop-iteration.store in
     let put = values_of c.set_number.new.self in
-    let m = c.loop-turn.steps in
-    let v = to_z w64 (of_z w64 c.args.first) +ℤ pos c.loop-turn.turn *ℤ c.args.counting.now.step in
+    let m = c.loop-iteration.steps in
+    let v = to_z w64 (of_z w64 c.args.first) +ℤ pos c.loop-iteration.iteration *ℤ c.args.counting.now.step in
     let n = to_z w64 (of_z w64 c.taken-number.result) in
-    let r : c.turns_of-turn-end.result - c.loop-turn.turn ≡ suc (c.turns_of-turn-end.result - (c.loop-turn.turn + 1)) = omega arith in
-    let u : n ≡ v = to_z-of_z w64 c.taken-number.result (search rules) ∙ c.taken-number.ensures ∙ ap (λ z. to_z w64 (of_z w64 c.args.first) +ℤ pos c.loop-turn.turn *ℤ z) (to_z-of_z w64 c.args.counting.now.step (search rules)) in
-    let h : m + 1 + c.run_list-steps.result ≤ 10 ^ 12 = turn_steps m (c.turns_of-turn-end.result - c.loop-turn.turn) (c.turns_of-turn-end.result - (c.loop-turn.turn + 1)) (string_bytes c.args.counting.now.variable) body v n (c.args.counting.now.step) V put _ (c.loop-turn.invariant.left ∙ w) r u (c.set_number.ensures.values (string_bytes c.args.counting.now.variable) (ap (λ f. plain_slot f (string_bytes c.args.counting.now.variable)) c.loop-turn.invariant.same ∙ c.requires.slot)) (10 ^ 12) c.run_list-steps.result (values_of c.run_list-steps.new.store) c.requires.small c.run_list-steps.ensures.answers in
+    let r : c.iterations_of-iteration-end.result - c.loop-iteration.iteration ≡ suc (c.iterations_of-iteration-end.result - (c.loop-iteration.iteration + 1)) = omega arith in
+    let u : n ≡ v = to_z-of_z w64 c.taken-number.result (search rules) ∙ c.taken-number.ensures ∙ ap (λ z. to_z w64 (of_z w64 c.args.first) +ℤ pos c.loop-iteration.iteration *ℤ z) (to_z-of_z w64 c.args.counting.now.step (search rules)) in
+    let h : m + 1 + c.run_list-steps.result ≤ 10 ^ 12 = iteration_steps m (c.iterations_of-iteration-end.result - c.loop-iteration.iteration) (c.iterations_of-iteration-end.result - (c.loop-iteration.iteration + 1)) (string_bytes c.args.counting.now.variable) body v n (c.args.counting.now.step) V put _ (c.loop-iteration.invariant.left ∙ w) r u (c.set_number.ensures.values (string_bytes c.args.counting.now.variable) (ap (λ f. plain_slot f (string_bytes c.args.counting.now.variable)) c.loop-iteration.invariant.same ∙ c.requires.slot)) (10 ^ 12) c.run_list-steps.result (values_of c.run_list-steps.new.store) c.requires.small c.run_list-steps.ensures.answers in
     omega arith
 
-pub run_turns-loop-turn-preserved : goal.run_turns-loop-turn-preserved
-run_turns-loop-turn-preserved t c =
+pub run_iterations-loop-iteration-preserved : goal.run_iterations-loop-iteration-preserved
+run_iterations-loop-iteration-preserved t c =
     let body = run (code_commands c.args.body.now) in
-    let V = values_of c.loop-turn.store in
+    let V = values_of c.loop-iteration.store in
     let put = values_of c.set_number.new.self in
-    let m = c.loop-turn.steps in
-    let v = to_z w64 (of_z w64 c.args.first) +ℤ pos c.loop-turn.turn *ℤ c.args.counting.now.step in
+    let m = c.loop-iteration.steps in
+    let v = to_z w64 (of_z w64 c.args.first) +ℤ pos c.loop-iteration.iteration *ℤ c.args.counting.now.step in
     let n = to_z w64 (of_z w64 c.taken-number.result) in
-    let r : c.turns_of-turn-end.result - c.loop-turn.turn ≡ suc (c.turns_of-turn-end.result - (c.loop-turn.turn + 1)) = omega arith in
-    let u : n ≡ v = to_z-of_z w64 c.taken-number.result (search rules) ∙ c.taken-number.ensures ∙ ap (λ z. to_z w64 (of_z w64 c.args.first) +ℤ pos c.loop-turn.turn *ℤ z) (to_z-of_z w64 c.args.counting.now.step (search rules)) in
+    let r : c.iterations_of-iteration-end.result - c.loop-iteration.iteration ≡ suc (c.iterations_of-iteration-end.result - (c.loop-iteration.iteration + 1)) = omega arith in
+    let u : n ≡ v = to_z-of_z w64 c.taken-number.result (search rules) ∙ c.taken-number.ensures ∙ ap (λ z. to_z w64 (of_z w64 c.args.first) +ℤ pos c.loop-iteration.iteration *ℤ z) (to_z-of_z w64 c.args.counting.now.step (search rules)) in
     record {
-      count = c.loop-turn.invariant.count;
-      left = turn_done m (c.turns_of-turn-end.result - c.loop-turn.turn) (c.turns_of-turn-end.result - (c.loop-turn.turn + 1)) (string_bytes c.args.counting.now.variable) body v n (c.args.counting.now.step) V put _ c.loop-turn.invariant.left r u (c.set_number.ensures.values (string_bytes c.args.counting.now.variable) (ap (λ f. plain_slot f (string_bytes c.args.counting.now.variable)) c.loop-turn.invariant.same ∙ c.requires.slot)) c.run_list-steps.result (values_of c.run_list-steps.new.store) _ c.run_list-steps.ensures.answers (next_value (to_z w64 (of_z w64 c.args.first)) (c.args.counting.now.step) c.loop-turn.turn);
-      same = c.run_list-steps.ensures.unchanged ∙ c.set_number.ensures.forms ∙ c.loop-turn.invariant.same;
+      count = c.loop-iteration.invariant.count;
+      left = iteration_done m (c.iterations_of-iteration-end.result - c.loop-iteration.iteration) (c.iterations_of-iteration-end.result - (c.loop-iteration.iteration + 1)) (string_bytes c.args.counting.now.variable) body v n (c.args.counting.now.step) V put _ c.loop-iteration.invariant.left r u (c.set_number.ensures.values (string_bytes c.args.counting.now.variable) (ap (λ f. plain_slot f (string_bytes c.args.counting.now.variable)) c.loop-iteration.invariant.same ∙ c.requires.slot)) c.run_list-steps.result (values_of c.run_list-steps.new.store) _ c.run_list-steps.ensures.answers (next_value (to_z w64 (of_z w64 c.args.first)) (c.args.counting.now.step) c.loop-iteration.iteration);
+      same = c.run_list-steps.ensures.unchanged ∙ c.set_number.ensures.forms ∙ c.loop-iteration.invariant.same;
     }
 
-pub run_turns-returns-clause-answers : goal.run_turns-returns-clause-answers
-run_turns-returns-clause-answers t c =
+pub run_iterations-returns-clause-answers : goal.run_iterations-returns-clause-answers
+run_iterations-returns-clause-answers t c =
     let f = to_z-of_z w64 c.args.first c.ranges.first in
     let l = to_z-of_z w64 c.args.last c.ranges.last in
     let k : to_z w64 (of_z w64 c.args.counting.now.step) ≡ c.args.counting.now.step = to_z-of_z w64 c.args.counting.now.step (search rules) in
     let body = run (code_commands c.args.body.now) in
     let V0 = values_of c.args.store.now in
-    let w = same_whole c.args.first (to_z w64 (of_z w64 c.args.first)) c.args.last (to_z w64 (of_z w64 c.args.last)) c.args.counting.now.step (c.args.counting.now.step) body (string_bytes c.args.counting.now.variable) c.turns_of-turn-end.result V0 f l refl (c.turns_of-turn-end.ensures ∙ ap (λ z. turn_count (to_z w64 (of_z w64 c.args.first)) (to_z w64 (of_z w64 c.args.last)) z) k) in
-    let z : c.turns_of-turn-end.result - c.loop-turn.turn ≡ 0 = omega arith in
-    sym w ∙ turns_end c.loop-turn.steps (c.turns_of-turn-end.result - c.loop-turn.turn) (string_bytes c.args.counting.now.variable) body _ _ (values_of c.loop-turn.store) _ c.loop-turn.invariant.left z
+    let w = same_whole c.args.first (to_z w64 (of_z w64 c.args.first)) c.args.last (to_z w64 (of_z w64 c.args.last)) c.args.counting.now.step (c.args.counting.now.step) body (string_bytes c.args.counting.now.variable) c.iterations_of-iteration-end.result V0 f l refl (c.iterations_of-iteration-end.ensures ∙ ap (λ z. iteration_count (to_z w64 (of_z w64 c.args.first)) (to_z w64 (of_z w64 c.args.last)) z) k) in
+    let z : c.iterations_of-iteration-end.result - c.loop-iteration.iteration ≡ 0 = omega arith in
+    sym w ∙ iterations_end c.loop-iteration.steps (c.iterations_of-iteration-end.result - c.loop-iteration.iteration) (string_bytes c.args.counting.now.variable) body _ _ (values_of c.loop-iteration.store) _ c.loop-iteration.invariant.left z
 
-pub run_turns-set_number-requires : goal.run_turns-set_number-requires
-run_turns-set_number-requires t c =
+pub run_iterations-set_number-requires : goal.run_iterations-set_number-requires
+run_iterations-set_number-requires t c =
     let x = string_bytes c.args.counting.now.variable in
     let w = plain_within (forms_of c.args.store.now) x c.requires.declared c.requires.plain in
-    let e = ap size_of c.loop-turn.invariant.same in
+    let e = ap size_of c.loop-iteration.invariant.same in
     omega (arith, w, e, c.requires.slot)
 
 pub run_statement-set_number-requires : goal.run_statement-set_number-requires

@@ -56,8 +56,8 @@ cases-loop-arm-preserved t c =
 pub cases-returns : goal.cases-returns
 cases-returns t c = cases_gathered (entries c.args.scope.now) (busy_of c.args.busy.now) c.args.of (map arm_of c.args.list.now) ∙ ends_at (one_cased (entries c.args.scope.now) (busy_of c.args.busy.now) c.args.of) no_case put_case all_cases (λ r. refl) (λ c cs r. refl) arm_of c.args.list.now c.loop-arm.arm-index (map case_of c.loop-arm.done.items) (drop_all c.args.list.now c.loop-arm.arm-index c.loop-arm-test.false) c.loop-arm.invariant
 
-pub command-turn-requires : goal.command-turn-requires
-command-turn-requires t c =
+pub command-loop_body-requires : goal.command-loop_body-requires
+command-loop_body-requires t c =
     let d = c.decreases in
     let i = ap stmt_size c.in-For.is in
     let f = for_size c.in-For.at c.in-For.name c.in-For.first c.in-For.last c.in-For.by c.in-For.body in

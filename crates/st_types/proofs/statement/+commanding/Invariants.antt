@@ -15,8 +15,8 @@ decreases-command l = 4 * stmt_size l.stmt.now
 abbrev pub decreases-commands : goal.decreases-commands
 decreases-commands l = 4 * most stmt_size l.list.now + 1
 
-abbrev pub decreases-turn : goal.decreases-turn
-decreases-turn l = 4 * most stmt_size l.body.now + 2
+abbrev pub decreases-loop_body : goal.decreases-loop_body
+decreases-loop_body l = 4 * most stmt_size l.body.now + 2
 
 abbrev pub decreases-choice : goal.decreases-choice
 decreases-choice l = 4 * branch_size l.branch.now

@@ -2,7 +2,7 @@ use Rattle.std.proofs.Common.{ℕ, ◌≡◌, ◌<◌, List, Option, Some, None,
 use Rattle.std.proofs.lemmas.List.{length-set, with_items_is}
 use Rattle.std.specs.Vec.{with_items}
 use Rattle.fb_timers.specs.declared.armed.Armed.{Armed}
-use Rattle.fb_timers.specs.Order.{IsOrdered, AreApart, AreTold, place, placed, due_of}
+use Rattle.fb_timers.specs.Order.{IsOrdered, AreApart, AreTold, position, placed, due_of}
 use Rattle.fb_timers.proofs.Ordered.{ordered_placed, apart_placed}
 use Rattle.fb_timers.proofs.Seats.{place_inserts}
 use Rattle.fb_timers.proofs.Moments.{told_placed, told_within}
@@ -30,7 +30,7 @@ invariant_of-self c =
     let moments = c.self.inside.moments.items in
     let quiet : due_of old c.args.block ≡ None = ap (λ t. due_of t.armed c.args.block) c.self.view_is ∙ c.requires.quiet in
     let known : c.args.block < length moments = subst (λ t. c.args.block < t.room) (sym c.self.view_is) c.requires.known in
-    let at : c.place_of-at.result ≡ place x old = c.place_of-at.ensures.place in
+    let at : c.position_of-at.result ≡ position x old = c.position_of-at.ensures.position in
     let is : c.insert.new.self.items ≡ placed x old = c.in-Ok.ensures.items ∙ ap (λ i. insert old i x) at ∙ place_inserts x old quiet in
     let new : c.tell.new.moments ≡ set moments c.args.block (Some c.args.due) = c.tell.ensures ∙ ap (λ (ms : List (Option ℕ)). set ms c.args.block (Some c.args.due)) c.deref_mut.ensures.value in
     let long : length c.tell.new.moments ≡ length moments = ap length new ∙ length-set moments c.args.block (Some c.args.due) in
@@ -48,5 +48,5 @@ returns-clause-armed c =
     let x : Armed = record { due = c.args.due; block = c.args.block } in
     let old = c.args.self.now.armed in
     let view = ap (λ t. t.armed) c.self.view_is in
-    let at : c.place_of-at.result ≡ place x old = c.place_of-at.ensures.place ∙ ap (place x) view in
-    c.in-Ok.ensures.items ∙ ap (λ (l : List Armed). insert l c.place_of-at.result x) view ∙ ap (λ i. insert old i x) at ∙ place_inserts x old c.requires.quiet
+    let at : c.position_of-at.result ≡ position x old = c.position_of-at.ensures.position ∙ ap (position x) view in
+    c.in-Ok.ensures.items ∙ ap (λ (l : List Armed). insert l c.position_of-at.result x) view ∙ ap (λ i. insert old i x) at ∙ place_inserts x old c.requires.quiet

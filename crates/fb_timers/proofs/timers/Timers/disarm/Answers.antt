@@ -3,7 +3,7 @@ use Rattle.std.proofs.lemmas.List.{length-set, with_items_is}
 use Rattle.std.specs.Prelude.{OnSome}
 use Rattle.std.specs.Vec.{with_items}
 use Rattle.fb_timers.specs.declared.armed.Armed.{Armed}
-use Rattle.fb_timers.specs.Order.{IsOrdered, AreApart, AreTold, place, without, due_of}
+use Rattle.fb_timers.specs.Order.{IsOrdered, AreApart, AreTold, position, without, due_of}
 use Rattle.fb_timers.proofs.Ordered.{ordered_without, apart_without}
 use Rattle.fb_timers.proofs.Seats.{place_removes}
 use Rattle.fb_timers.proofs.Moments.{told_is, told_without, told_within, none_without}
@@ -20,9 +20,9 @@ invariant_of-self c =
     let old = c.self.inside.armed.items in
     let moments = c.self.inside.moments.items in
     let due : due_of old c.args.block ≡ Some c.in-Some.due = told_is c.self.inside.moments.items c.deref.result.now c.self.inside.armed.items c.args.block (Some c.in-Some.due) c.self.invariant.2 c.deref.ensures.value c.in-Some.ensures in
-    let at : c.place_of-at.result ≡ place x old = c.place_of-at.ensures.place in
-    let fits : c.place_of-at.result < c.self.inside.armed.len = omega (arith, at, (place_removes x old c.self.invariant.0 due).0, c.self.inside.armed.ok.0) in
-    let gone : c.remove.new.self.items ≡ remove old c.place_of-at.result = subst (λ (r : Option Armed). OnSome r (c.remove.new.self.items ≡ remove old c.place_of-at.result)) (c.remove.ensures.succeeds x fits) c.remove.ensures.items in
+    let at : c.position_of-at.result ≡ position x old = c.position_of-at.ensures.position in
+    let fits : c.position_of-at.result < c.self.inside.armed.len = omega (arith, at, (place_removes x old c.self.invariant.0 due).0, c.self.inside.armed.ok.0) in
+    let gone : c.remove.new.self.items ≡ remove old c.position_of-at.result = subst (λ (r : Option Armed). OnSome r (c.remove.new.self.items ≡ remove old c.position_of-at.result)) (c.remove.ensures.succeeds x fits) c.remove.ensures.items in
     let is : c.remove.new.self.items ≡ without old c.args.block = gone ∙ ap (remove old) at ∙ (place_removes x old c.self.invariant.0 due).1 in
     let new : c.tell.new.moments ≡ set moments c.args.block None = c.tell.ensures ∙ ap (λ (ms : List (Option ℕ)). set ms c.args.block None) c.deref_mut.ensures.value in
     let long : length c.tell.new.moments ≡ length moments = ap length new ∙ length-set moments c.args.block None in
@@ -41,9 +41,9 @@ returns-in-Some-clause-armed c =
     let x : Armed = record { due = c.in-Some.due; block = c.args.block } in
     let old = c.self.inside.armed.items in
     let due : due_of old c.args.block ≡ Some c.in-Some.due = told_is c.self.inside.moments.items c.deref.result.now c.self.inside.armed.items c.args.block (Some c.in-Some.due) c.self.invariant.2 c.deref.ensures.value c.in-Some.ensures in
-    let at : c.place_of-at.result ≡ place x old = c.place_of-at.ensures.place in
-    let fits : c.place_of-at.result < c.self.inside.armed.len = omega (arith, at, (place_removes x old c.self.invariant.0 due).0, c.self.inside.armed.ok.0) in
-    let gone : c.remove.new.self.items ≡ remove old c.place_of-at.result = subst (λ (r : Option Armed). OnSome r (c.remove.new.self.items ≡ remove old c.place_of-at.result)) (c.remove.ensures.succeeds x fits) c.remove.ensures.items in
+    let at : c.position_of-at.result ≡ position x old = c.position_of-at.ensures.position in
+    let fits : c.position_of-at.result < c.self.inside.armed.len = omega (arith, at, (place_removes x old c.self.invariant.0 due).0, c.self.inside.armed.ok.0) in
+    let gone : c.remove.new.self.items ≡ remove old c.position_of-at.result = subst (λ (r : Option Armed). OnSome r (c.remove.new.self.items ≡ remove old c.position_of-at.result)) (c.remove.ensures.succeeds x fits) c.remove.ensures.items in
     gone ∙ ap (remove old) at ∙ (place_removes x old c.self.invariant.0 due).1 ∙ ap (λ t. without t.armed c.args.block) c.self.view_is
 
 pub returns-in_default-clause-armed : goal.returns-in_default-clause-armed

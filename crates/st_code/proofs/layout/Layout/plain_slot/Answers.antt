@@ -4,14 +4,14 @@ use Rattle.st_code.proofs.layout.Layout.plain_slot.Goals as goal
 
 pub returns-in-None-bounds : goal.returns-in-None-bounds
 returns-in-None-bounds c =
-    ap (λ b. one_slot b c.in-Some.place.first c.self.inside.size) (sym c.in-None-bounds.is)
-    ∙ plain_is c.args.self.now c.self.inside.places.entries c.self.inside.size c.self.view_is c.self.invariant c.args.name.now (Some c.in-Some.place) (sym c.find.ensures ∙ c.in-Some.is)
+    ap (λ b. one_slot b c.in-Some.location.first c.self.inside.size) (sym c.in-None-bounds.is)
+    ∙ plain_is c.args.self.now c.self.inside.locations.entries c.self.inside.size c.self.view_is c.self.invariant c.args.name.now (Some c.in-Some.location) (sym c.find.ensures ∙ c.in-Some.is)
 
 pub returns-in-Some-bounds : goal.returns-in-Some-bounds
 returns-in-Some-bounds c =
-    ap (λ b. one_slot b c.in-Some.place.first c.self.inside.size) (sym c.in-Some-bounds.is)
-    ∙ plain_is c.args.self.now c.self.inside.places.entries c.self.inside.size c.self.view_is c.self.invariant c.args.name.now (Some c.in-Some.place) (sym c.find.ensures ∙ c.in-Some.is)
+    ap (λ b. one_slot b c.in-Some.location.first c.self.inside.size) (sym c.in-Some-bounds.is)
+    ∙ plain_is c.args.self.now c.self.inside.locations.entries c.self.inside.size c.self.view_is c.self.invariant c.args.name.now (Some c.in-Some.location) (sym c.find.ensures ∙ c.in-Some.is)
 
 pub returns-in-None : goal.returns-in-None
 returns-in-None c =
-    plain_is c.args.self.now c.self.inside.places.entries c.self.inside.size c.self.view_is c.self.invariant c.args.name.now None (sym c.find.ensures ∙ c.in-None.is)
+    plain_is c.args.self.now c.self.inside.locations.entries c.self.inside.size c.self.view_is c.self.invariant c.args.name.now None (sym c.find.ensures ∙ c.in-None.is)

@@ -17,21 +17,21 @@ unreachable-requires c =
 
 pub count-requires : goal.count-requires
 count-requires c =
-    let d : (c.in-Some.place.first ≡ slot_in c.deref.result.now c.args.name.now) × (c.in-Some.place.bounds ≡ bounds_in c.deref.result.now c.args.name.now) × IsDeclaredIn c.deref.result.now c.args.name.now = c.in-Some.ensures in
+    let d : (c.in-Some.location.first ≡ slot_in c.deref.result.now c.args.name.now) × (c.in-Some.location.bounds ≡ bounds_in c.deref.result.now c.args.name.now) × IsDeclaredIn c.deref.result.now c.args.name.now = c.in-Some.ensures in
     let fs = c.deref.ensures ∙ sym (forms_are c.args.self.now c.self.inside.layout.value c.self.inside.numbers.items c.self.view_is c.self.invariant) in
     let r = room_is c.args.self.now c.self.inside.layout.value c.self.inside.numbers.items c.self.view_is c.self.invariant in
-    let w = place_within c.deref.result.now (forms_of c.args.self.now) c.args.name.now c.in-Some.place.first (slot_count c.in-Some.place.bounds) c.in-Some.place.bounds fs d.0 d.1 d.2 refl in
+    let w = place_within c.deref.result.now (forms_of c.args.self.now) c.args.name.now c.in-Some.location.first (slot_count c.in-Some.location.bounds) c.in-Some.location.bounds fs d.0 d.1 d.2 refl in
     omega (arith, w, r, c.self.inside.numbers.ok.0, c.self.inside.numbers.small)
 
 pub fill-requires : goal.fill-requires
 fill-requires c =
-    let d : (c.in-Some.place.first ≡ slot_in c.deref.result.now c.args.name.now) × (c.in-Some.place.bounds ≡ bounds_in c.deref.result.now c.args.name.now) × IsDeclaredIn c.deref.result.now c.args.name.now = c.in-Some.ensures in
+    let d : (c.in-Some.location.first ≡ slot_in c.deref.result.now c.args.name.now) × (c.in-Some.location.bounds ≡ bounds_in c.deref.result.now c.args.name.now) × IsDeclaredIn c.deref.result.now c.args.name.now = c.in-Some.ensures in
     let fs = c.deref.ensures ∙ sym (forms_are c.args.self.now c.self.inside.layout.value c.self.inside.numbers.items c.self.view_is c.self.invariant) in
-    place_within c.deref.result.now (forms_of c.args.self.now) c.args.name.now c.in-Some.place.first c.count.result c.in-Some.place.bounds fs d.0 d.1 d.2 c.count.ensures
+    place_within c.deref.result.now (forms_of c.args.self.now) c.args.name.now c.in-Some.location.first c.count.result c.in-Some.location.bounds fs d.0 d.1 d.2 c.count.ensures
 
 pub returns-clause-values : goal.returns-clause-values
 returns-clause-values c =
-    let d : (c.in-Some.place.first ≡ slot_in c.deref.result.now c.args.name.now) × (c.in-Some.place.bounds ≡ bounds_in c.deref.result.now c.args.name.now) × IsDeclaredIn c.deref.result.now c.args.name.now = c.in-Some.ensures in
+    let d : (c.in-Some.location.first ≡ slot_in c.deref.result.now c.args.name.now) × (c.in-Some.location.bounds ≡ bounds_in c.deref.result.now c.args.name.now) × IsDeclaredIn c.deref.result.now c.args.name.now = c.in-Some.ensures in
     let fs = c.deref.ensures ∙ sym (forms_are c.args.self.now c.self.inside.layout.value c.self.inside.numbers.items c.self.view_is c.self.invariant) in
     let x = c.args.name.now in
     let q = to_z-of_z w64 c.args.number c.ranges.number in
