@@ -55,6 +55,14 @@ module _ (ranges : List Range) (path : Path) (service : Service) (own : Values) 
       let row : rows ranges path (Serviced service) (sent n) ≡ whole type = ap (λ o. elim o [ None ↦ whole t.Lint | Some v ↦ row_of ranges path (Serviced service) v ]) h.0 in
       (number_in type (own (sent n)) (subst (λ s. AllByRecursion (IsIn s) (numbers_of (own (sent n)))) row (lie (sent n)).numbers), typed (n + 1) types h.1)
 
+-- what a PUBLISH sends lies in its types
+pub sent_lie : (ranges : List Range) (path : Path) (channel : Channel) (types : List ElemType) (own : Values) → AllLie ranges path (Serviced (Publish channel types)) own → AllByRecursion (λ (v : Typed). in_type v.type v.value ≡ true) (typed_values 1 types own)
+sent_lie ranges path channel types own lie = typed ranges path (Publish channel types) own lie 1 types first where
+  first : AllByRecursion (λ (v : Variable). variable_named (variables (Serviced (Publish channel types))) v.name ≡ Some v) (ports sent 1 types)
+  first =
+      all_left (λ (v : Variable). variable_named (variables (Serviced (Publish channel types))) v.name ≡ Some v) (ports sent 1 types) (service_outputs (Publish channel types))
+      (first_each (variables (Serviced (Publish channel types))) (service_apart (Publish channel types))).1
+
 values_count : (n : ℕ) (types : List ElemType) (own : Values) → length (typed_values n types own) ≡ length types
 values_count n [] own = refl
 values_count n (type ∷ types) own = ap suc (values_count (n + 1) types own)
@@ -83,18 +91,13 @@ module _ (ranges : List Range) (path : Path) where
     message : Message
     message = record { purpose = To_channel; number = channel.number; stamp = stamped (stamps_of s.condition); values = typed_values 1 types s.cells.own }
 
-    first : AllByRecursion (λ (v : Variable). variable_named (variables (Serviced (Publish channel types))) v.name ≡ Some v) (ports sent 1 types)
-    first =
-        all_left (λ (v : Variable). variable_named (variables (Serviced (Publish channel types))) v.name ≡ Some v) (ports sent 1 types) (service_outputs (Publish channel types))
-        (first_each (variables (Serviced (Publish channel types))) (service_apart (Publish channel types))).1
-
     spells : Spells message (spelling message)
     spells =
         record {
           number = few.number;
           stamp = stamp_fits channel.format (stamps_of s.condition) upcoming;
           count = omega (arith, values_count 1 types s.cells.own, few.few);
-          values = typed ranges path (Publish channel types) s.cells.own lie 1 types first;
+          values = sent_lie ranges path channel types s.cells.own lie;
           bytes_are = refl;
         }
 

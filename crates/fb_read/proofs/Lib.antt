@@ -4,6 +4,5 @@ pub mod Readers
 pub mod Repetitions
 pub mod Steady
 pub mod SteadyLists
-pub mod Nesting
 pub mod Viable
 pub mod Whole

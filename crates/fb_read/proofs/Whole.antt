@@ -12,9 +12,8 @@ use Rattle.fb_read.specs.Answers.{Fails}
 use Rattle.fb_read.specs.Faults.{start_or, start_of, offset_of, Says}
 use Rattle.fb_read.specs.Whole.{Tells, Finds, IfSyntax, CannotStand, OpensTooMany, PlacesSyntax, PlacesTooDeep}
 use Rattle.fb_read.proofs.Fronts.{front, same_front}
-use Rattle.fb_read.proofs.Nesting.{AtToken, Opens, at_then}
 use Rattle.fb_read.proofs.Readers.{Meets, Sound, Gets, Complete, NotDeep, gets_then}
-use Rattle.fb_read.proofs.Steady.{Same, here, there, Within, Goes, Steady, IsStuck, IsDeep}
+use Rattle.fb_read.proofs.Steady.{Same, here, there, Goes, Steady, IsStuck, IsDeep}
 use Rattle.fb_read.proofs.Viable.{Span, Begun, GoesOn, Viable, goes_done}
 
 -- ---- what is found
@@ -75,27 +74,16 @@ module _ {A : Type 0} where
   deep_goes t q q' (Err (too_deep l)) (Err (syntax k)) (inr h) left e lt = h
   deep_goes t q q' (Err (too_deep l)) (Err (too_deep k)) (inr h) left e lt = tt
 
-  deep_within : (n : ℕ) (r : Answer A) → Within n r → (left : ℕ) → (r >>= λ x. ended x.0 x.1) ≡ Err (too_deep left) → left ≤ n
-  deep_within n (Ok x) w left e = absurd (ended_shallow x.0 x.1 left e)
-  deep_within n (Err (syntax l)) w left e = absurd cc
-  deep_within n (Err (too_deep l)) w left e = let f : l ≡ left = cc in omega arith
-
-  ended_opens : (x : A) (rest : List Token) → AtToken (ended x rest)
-  ended_opens x [] = tt
-  ended_opens x (t ∷ rest) = tt
-
--- What refuses tokens at one of them refuses, for the same reason, all tokens that begin with those up to it, and with it; where it is too deep, there is such a token.
+-- What refuses tokens at one of them refuses, for the same reason, all tokens that begin with those up to it, and with it.
 pub record Points {A : Type 0} (read : List Token → Result A Wrong) : Type 0 where
   pub stuck_stays : (t : Token) (q q' ts us : List Token) → Same t q q' ts us → (left : ℕ) → read ts ≡ Err (syntax left) → length q < left → IsStuck (read us)
   pub deep_stays : (t : Token) (q q' ts us : List Token) → Same t q q' ts us → (left : ℕ) → read ts ≡ Err (too_deep left) → length q < left → IsDeep (read us)
-  pub deep_at : (ts : List Token) (left : ℕ) → read ts ≡ Err (too_deep left) → (0 < left) × (left ≤ length ts)
 
-pub whole_points : {A : Type 0} (read : Read A) → Steady read → Opens read → Points (whole_of read)
-whole_points read steady opens =
+pub whole_points : {A : Type 0} (read : Read A) → Steady read → Points (whole_of read)
+whole_points read steady =
     record {
       stuck_stays = λ t q q' ts us s left e lt. stuck_goes t q q' (read ts) (read us) (steady.local t q q' ts us s) left e lt;
       deep_stays = λ t q q' ts us s left e lt. deep_goes t q q' (read ts) (read us) (steady.local t q q' ts us s) left e lt;
-      deep_at = λ ts left e. (subst (λ r. AtToken r) e (at_then _ (read ts) (opens ts) (λ x. ended_opens x.0 x.1)), deep_within (length ts) (read ts) (steady.bounded ts) left e);
     }
 
 -- where no token is left, the place is the end

@@ -18,11 +18,10 @@ use Rattle.fb_read.proofs.Whole.{Points, whole_sound, whole_complete, whole_poin
 use Rattle.fb_read.proofs.Whole as answers
 use Rattle.st_expr.specs.Reading.{continues, expression_at}
 use Rattle.st_expr.proofs.Laws.{expression_sound, expression_complete, expression_shorter, expression_steady}
-use Rattle.st_expr.proofs.Nesting.{expression_opens}
 use Rattle.st_expr.proofs.Viable.{expression_wide, expression_viable}
 use Rattle.st_parse.specs.Reading.{algorithm_at}
 use Rattle.st_parse.proofs.Complete.{deeper}
-use Rattle.st_parse.proofs.Laws.{algorithm_sound, algorithm_complete, algorithm_no_longer, algorithm_steady, algorithm_opens}
+use Rattle.st_parse.proofs.Laws.{algorithm_sound, algorithm_complete, algorithm_no_longer, algorithm_steady}
 use Rattle.fb_text.specs.declared.tree.FileTree.{FileTree}
 use Rattle.fb_text.specs.Views.{source_of}
 use Rattle.fb_text.specs.Reading.{file_at, whole_at}
@@ -31,7 +30,6 @@ use Rattle.fb_text.proofs.Sound.{IsFront, a_front, file_sound}
 use Rattle.fb_text.proofs.Complete.{file_complete}
 use Rattle.fb_text.proofs.Steady.{file_steady}
 use Rattle.st_parse.proofs.Viable.{algorithm_wide, algorithm_viable}
-use Rattle.fb_text.proofs.Opens.{file_opens}
 use Rattle.fb_text.proofs.Viable.{file_viable}
 
 -- ---- files that nest so deep
@@ -102,7 +100,6 @@ source_points =
     let k = most_nested_statements in
     whole_points (file_at (expression_at d) (algorithm_at d k))
     (file_steady (IsExpression d) (IsAlgorithm d k) (expression_at d) (expression_sound d) (expression_shorter d) (expression_steady d) (algorithm_at d k) (algorithm_sound d k) (algorithm_no_longer d k) (algorithm_steady d k))
-    (file_opens (expression_at d) (expression_opens d) (algorithm_at d k) (algorithm_opens d k))
 
 -- Where a text is too deep, a deeper tree goes on.
 whole_goes_on : Viable (Any (Front (suc most_nested) (suc most_nested_statements))) whole_at

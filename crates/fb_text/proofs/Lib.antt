@@ -9,7 +9,6 @@ pub mod ChartComplete
 pub mod Complete
 pub mod NetworkSteady
 pub mod Steady
-pub mod Opens
 pub mod Shallow
 pub mod Viable
 pub mod Laws

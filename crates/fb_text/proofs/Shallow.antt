@@ -12,7 +12,7 @@ use Rattle.fb_read.specs.Reading.{Wrong, stuck, ◌>>=◌, next_is, after, expec
 use Rattle.fb_read.proofs.Readers.{NotDeep, Shallow, shallow_then, shallow_if, shallow_expect, shallow_name}
 use Rattle.fb_read.proofs.Repetitions.{closed_shallow, section_shallow, separated_shallow}
 use Rattle.st_parse.specs.Reading.{integer_at}
-use Rattle.st_parse.proofs.Places.{integer_shallow}
+use Rattle.st_parse.proofs.Shallow.{integer_shallow}
 use Rattle.fb_text.specs.Reading.{negative_at, marked_at, constant_at, word_at, kind_at, with_at, event_at, start_at, plain_at, names_at, variable_at, bounds_at, array_at, internal_at, parameter_at, parameters_at, type_list_at, types_at, instance_at, second_at, port_at, connection_at, network_at, output_at, emitting_at, running_at, action_at, actions_at, state_at, states_at, resource_at, device_at, system_at}
 
 -- a mark, and what is done behind it

@@ -22,7 +22,6 @@ use Rattle.st_expr.specs.Answers.{Reads, FindsExpression, IsSomeExpression, IsWi
 use Rattle.st_expr.proofs.Sound as sound
 use Rattle.st_expr.proofs.Complete as complete
 use Rattle.st_expr.proofs.Steady as steady
-use Rattle.st_expr.proofs.Nesting.{expression_opens}
 use Rattle.st_expr.proofs.Viable.{expression_viable}
 
 -- ---- the reader of expressions
@@ -71,7 +70,7 @@ not_deep ts x s h = subst (λ r. IsDeep r) (whole_found ts x h) s
 -- Tokens that begin with those up to the one where reading stopped, and with it, are refused in the same way.
 pub expression_points : Points whole_at
 unfolding whole_at
-expression_points = whole_points (expression_at most_nested) (expression_steady most_nested) (expression_opens most_nested)
+expression_points = whole_points (expression_at most_nested) (expression_steady most_nested)
 
 -- Where an expression is too deep, a deeper one goes on.
 whole_goes_on : Viable (Any (IsExpression (suc most_nested))) whole_at

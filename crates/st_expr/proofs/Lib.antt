@@ -1,6 +1,5 @@
 pub mod Sound
 pub mod Complete
 pub mod Steady
-pub mod Nesting
 pub mod Viable
 pub mod Laws

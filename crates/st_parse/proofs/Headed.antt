@@ -7,7 +7,6 @@ use Rattle.fb_read.proofs.Readers.{Meets, Sound, Gets, Complete, Shorter, meets_
 use Rattle.fb_read.proofs.Repetitions.{while_sound, while_complete}
 use Rattle.fb_read.proofs.Steady.{Steady, SeesFirst, steady_then, steady_done}
 use Rattle.fb_read.proofs.SteadyLists.{Shrinks, steady_all}
-use Rattle.fb_read.proofs.Nesting.{AtToken, Opens, at_then, while_opens}
 use Rattle.st_parse.specs.Reading.{headed}
 
 -- a first item, and those behind it
@@ -24,6 +23,3 @@ module _ {A : Type 0} (Deep : Type 0) (G : Gram A) (item : Read A) (short : Shor
 
 pub steady_headed : {A : Type 0} (begins : List Token → Bool) → SeesFirst begins → (item : Read A) → Steady item → Shrinks item → (x : A) → Steady (λ ts. headed x (all_at begins item ts))
 steady_headed begins sees item steady shrinks x = steady_then (all_at begins item) _ (steady_all item steady shrinks begins sees) (λ xs. steady_done (x ∷ xs))
-
-pub headed_opens : {A : Type 0} (begins : List Token → Bool) (item : Read A) → Opens item → (x : A) (ts : List Token) → AtToken (headed x (all_at begins item ts))
-headed_opens begins item opens x ts = at_then _ (all_at begins item ts) (while_opens item opens begins (length ts) ts) (λ xs. tt)

@@ -6,17 +6,14 @@ use Rattle.fb_model.specs.StructuredTextGrammar.{IsExpression, IsAlgorithm, most
 use Rattle.fb_read.specs.Reading.{too_deep, Answer}
 use Rattle.fb_read.proofs.Readers.{Sound, Gets, Complete}
 use Rattle.fb_read.proofs.Steady.{Steady}
-use Rattle.fb_read.proofs.Nesting.{Opens}
 use Rattle.fb_read.proofs.Whole.{Points, whole_sound, whole_complete, whole_points}
 use Rattle.st_expr.specs.Reading.{continues, expression_at}
 use Rattle.st_parse.specs.Reading.{begins_entry, algorithm_at, whole_at}
 use Rattle.st_expr.proofs.Laws.{expression_sound, expression_complete, expression_shorter, expression_steady}
-use Rattle.st_expr.proofs.Nesting.{expression_opens}
 use Rattle.st_parse.proofs.Sound.{body_sound}
 use Rattle.st_parse.proofs.Shorter.{NoLonger, body_no_longer}
 use Rattle.st_parse.proofs.Complete.{deeper, body_complete}
 use Rattle.st_parse.proofs.Steady.{body_steady}
-use Rattle.st_parse.proofs.Places.{body_opens}
 
 -- ---- algorithms that stand first
 
@@ -35,10 +32,6 @@ algorithm_no_longer n k = body_no_longer (IsExpression n) (expression_shorter n)
 
 pub algorithm_steady : (d j : ℕ) → Steady (algorithm_at d j)
 algorithm_steady d j = body_steady (IsExpression d) (expression_at d) (expression_sound d) (expression_shorter d) (expression_steady d) j
-
--- TooDeep is before a token.
-pub algorithm_opens : (d j : ℕ) → Opens (algorithm_at d j)
-algorithm_opens d j = body_opens (expression_at d) (expression_opens d) j
 
 -- ---- algorithms that are all of the tokens
 
@@ -75,4 +68,4 @@ whole_spelled {ts = ts} {x = x} e = whole_sound (IsAlgorithm most_nested most_ne
 -- Tokens that begin with those up to the one where reading stopped, and with it, are refused too, and for the same reason.
 pub algorithm_points : Points whole_at
 unfolding whole_at
-algorithm_points = whole_points (algorithm_at most_nested most_nested_statements) (algorithm_steady most_nested most_nested_statements) (algorithm_opens most_nested most_nested_statements)
+algorithm_points = whole_points (algorithm_at most_nested most_nested_statements) (algorithm_steady most_nested most_nested_statements)

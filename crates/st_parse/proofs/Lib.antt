@@ -6,7 +6,7 @@ pub mod Sound
 pub mod Shorter
 pub mod Complete
 pub mod Steady
-pub mod Places
+pub mod Shallow
 pub mod Viable
 pub mod Laws
 pub mod Faults

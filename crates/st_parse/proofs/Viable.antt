@@ -17,7 +17,7 @@ use Rattle.st_expr.proofs.Viable.{nought, zero_tree, closing, expression_wide, e
 use Rattle.st_parse.specs.Reading.{headed, begins_integer, begins_block, begins_entry, label_at, step_at, assign_at, element_at, assignment_at, branch_at, else_at, elsifs_at, if_at, arm_at, arms_at, case_at, bound_at, head_at, for_at, block_at, statement_at, entry_at, statements_in, entries_at, nested_at, body_at, algorithm_at}
 use Rattle.st_parse.proofs.Headed.{IsHeaded, a_head, headed_sound, steady_headed}
 use Rattle.st_parse.proofs.Labels.{labels_sound, labels_steady, integer_sees}
-use Rattle.st_parse.proofs.Places.{option_shallow, label_shallow}
+use Rattle.st_parse.proofs.Shallow.{option_shallow, label_shallow}
 use Rattle.st_parse.proofs.Shorter.{NoLonger, statement_shorter, body_no_longer}
 use Rattle.st_parse.proofs.Sound.{IsEntry, an_entry, list_of, entry_sound, list_sound, branch_sound, if_of, arm_sound, case_of, bound_sound, IsHead, a_front, head_sound, for_of, block_sound, statement_sound}
 use Rattle.st_parse.proofs.Steady.{entry_steady, branch_steady, elsif_shrinks, arm_steady, arm_shrinks, bound_steady, head_steady, statement_steady, block_steady, body_steady}

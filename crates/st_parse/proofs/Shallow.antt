@@ -1,0 +1,28 @@
+-- Labels and steps do not nest.
+use Rattle.std.proofs.Common.{Bool, true, false, [], ◌∷◌, None, Some, Ok}
+use Rattle.fb_words.specs.declared.mark.Mark.{Mark}
+use Rattle.fb_words.specs.declared.mark.Mark.TheVariants as m
+use Rattle.fb_model.specs.Tokens.{token, name, number, typed, duration, mark}
+use Rattle.fb_read.specs.Reading.{◌>>=◌, next_is, after}
+use Rattle.fb_read.proofs.Readers.{Shallow, shallow_then, shallow_if}
+use Rattle.st_parse.specs.Reading.{number_at, integer_at, optional_at, label_at}
+
+number_shallow : (b : Bool) → Shallow (number_at b)
+number_shallow b [] = tt
+number_shallow b (token (name x) s e ∷ ts) = tt
+number_shallow b (token (number n) s e ∷ ts) = tt
+number_shallow b (token (typed t c n) s e ∷ ts) = tt
+number_shallow b (token (duration c n) s e ∷ ts) = tt
+number_shallow b (token (mark k) s e ∷ ts) = tt
+
+pub integer_shallow : Shallow integer_at
+unfolding integer_at
+integer_shallow ts = shallow_if (next_is m.Minus ts) (number_at true (after ts)) (number_at false ts) (number_shallow true (after ts)) (number_shallow false ts)
+
+pub option_shallow : (k : Mark) → Shallow (optional_at k)
+unfolding optional_at
+option_shallow k ts = shallow_if (next_is k ts) (integer_at (after ts) >>= λ c. Ok (Some c.0, c.1)) (Ok (None, ts)) (shallow_then _ (integer_at (after ts)) (integer_shallow (after ts)) (λ c. tt)) tt
+
+pub label_shallow : Shallow label_at
+unfolding label_at
+label_shallow ts = shallow_then _ (integer_at ts) (integer_shallow ts) (λ c. shallow_then _ (optional_at m.DotDot c.1) (option_shallow m.DotDot c.1) (λ d. tt))
