@@ -1,5 +1,5 @@
 -- The search for a ring of composites: along uses from a type, with a path of the types above and a table of those not yet met.
-use Rattle.std.specs.Prelude.{ℕ, ◌≡◌, ◌⊎◌, true, false, cond, List, [], ◌∷◌, map, string_bytes, Option, None, Some}
+use Rattle.std.specs.Prelude.{ℕ, ◌≡◌, ◌⊎◌, true, false, cond, List, [], ◌∷◌, string_bytes, Option, None, Some}
 use Rattle.std.specs.List.{AllByRecursion, Any, Contains}
 use Rattle.std.specs.Option.{option_map}
 use Rattle.std.specs.Map.{lookup}

@@ -1,4 +1,4 @@
-use Rattle.std.proofs.Common.{◌≡◌, true, false, map, take, refl, sym, ap, subst, ◌∙◌}
+use Rattle.std.proofs.Common.{◌≡◌, true, false, map, take, refl, sym, subst, ◌∙◌}
 use Rattle.std.specs.List.{Any}
 use Rattle.fb_model.specs.Declarations.{BlockTree}
 use Rattle.std.proofs.lemmas.List.{take_all}

@@ -1,12 +1,12 @@
-use Rattle.std.proofs.Common.{◌≡◌, ◌++◌, ◌∷◌, [], ◌+◌, ◌*◌, cond, length, map, Some, None, refl, sym, ap, subst, ◌∙◌, arith}
+use Rattle.std.proofs.Common.{◌≡◌, ◌++◌, ◌∷◌, [], ◌+◌, cond, map, Some, None, sym, ap, subst, ◌∙◌}
 use Rattle.std.specs.Str.{bytes_eq}
 use Rattle.std.specs.Option.{MatchOption, option_to_list}
-use Rattle.std.proofs.lemmas.List.{map_push, append-nil}
+use Rattle.std.proofs.lemmas.List.{map_push}
 use Rattle.fb_networks.specs.fb_text.Views as trees_of
 use Rattle.fb_types.specs.Made.{tree_of}
 use Rattle.fb_types.specs.Rings.{found_in, IsSearching, IsRingBelow}
 use Rattle.fb_types.proofs.Tabled.{found_without}
-use Rattle.fb_types.proofs.Ringed.{search_begun, search_ended, none_there}
+use Rattle.fb_types.proofs.Ringed.{search_begun}
 use Rattle.fb_types.proofs.rings.ring.Goals as goal
 
 pub loop-top-init : goal.loop-top-init
