@@ -44,12 +44,6 @@ got_at f [] i x h = absurd cc
 got_at f (y ∷ ys) zero x h = let e : x ≡ y = cc in (omega arith, ap f e)
 got_at f (y ∷ ys) (suc i) x h = let k = got_at f ys i x h in (omega (arith, k.0), k.1)
 
--- the item at an index
-pub got : {X : Type 0} (xs : List X) (i : ℕ) (x : X) → Some x ≡ slice_get xs i → (i < length xs) × (x ≡ get_or xs i x)
-got [] i x h = absurd cc
-got (y ∷ ys) zero x h = let e : x ≡ y = cc in (omega arith, e)
-got (y ∷ ys) (suc i) x h = let k = got ys i x h in (omega (arith, k.0), k.1)
-
 pub names_charge : (path x y : Name) (P Q : Type 0) (r : Result (Unit {0}) Shortfall) → x ≡ y → (P → Q) → (Q → P) → Names (IsCharge path) x P r → Names (IsCharge path) y Q r
 names_charge path x y P Q (Ok u) e f g h = f h
 names_charge path x y P Q (Err d) e f g h = charge_weaker path _ _ d (λ z p. (sym e ∙ p.0, λ q. p.1 (g q))) h

@@ -52,7 +52,8 @@ use Rattle.fb_wire.specs.Views.{stamped_of}
 use Rattle.fb_model.specs.Messages.{IsStamp}
 use Rattle.fb_arrive.specs.fb_state.fb_serve.Responses.{stamps_in}
 use Rattle.fb_device.specs.Starting.{upcoming_of, latest_of, first_of, AreEmpty, IsAtRest}
-use Rattle.fb_device.proofs.Silent.{silent_sound, none_armed}
+use Rattle.fb_model.proofs.Starting.{silent_sound}
+use Rattle.fb_device.proofs.Silent.{none_armed}
 
 -- ---- queues
 

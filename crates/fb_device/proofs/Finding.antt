@@ -21,11 +21,6 @@ use Rattle.fb_device.specs.Finding.{first_named}
 use Rattle.fb_arrive.proofs.of_fb_state.Lists.{same_at}
 use Rattle.fb_arrive.proofs.of_fb_state.Blocks.{Pair, block_of, block_count, leaf_of, within, mapped, events_same}
 
--- a number among what is left, as one among all
-abbrev pub moved_by : ℕ → Option ℕ → Option ℕ
-moved_by n None = None
-moved_by n (Some k) = Some (n + k)
-
 -- none has the name
 pub none_named : (xs : List (List ℕ)) (name : List ℕ) → first_named xs name ≡ None → AllByRecursion (λ x. is_same_path x name ≡ false) xs
 none_named [] name h = tt

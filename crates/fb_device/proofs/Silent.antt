@@ -1,46 +1,12 @@
--- A device to which nothing has happened is sound.
-use Rattle.std.proofs.Common.{◌≡◌, ℕ, Bool, true, false, cond, List, [], ◌∷◌, slice_get, Option, None, Some, refl, sym, ap, subst, arith}
-use Rattle.std.specs.List.{AllByRecursion}
-use Rattle.fb_model.specs.Names.{Path, at_place, path_eq}
-use Rattle.fb_model.specs.System.{Device, Input, Output, Publish, Subscribe, Delay, Cycle, Restart}
-use Rattle.fb_model.specs.Wires.{Kind, Charted, Serviced, Leaf, leaves, leaf_at}
+-- No timer of a device to which nothing has happened is armed.
+use Rattle.std.proofs.Common.{◌≡◌, Bool, true, false, cond, List, [], ◌∷◌, slice_get, Option, None, Some, refl, sym}
+use Rattle.fb_model.specs.Names.{Path, path_eq}
+use Rattle.fb_model.specs.System.{Input, Output, Publish, Subscribe, Delay, Cycle, Restart}
+use Rattle.fb_model.specs.Wires.{Kind, Charted, Serviced, Leaf}
 use Rattle.fb_model.specs.Store.{first_store, first_cells, first_condition}
-use Rattle.fb_model.specs.Ranges.{Range, CellsLie, LeafLies}
-use Rattle.fb_model.specs.Certificates.{Certificate, IsWired, DeviceHolds}
-use Rattle.fb_model.specs.Devices.{due, is_timer, silent}
-use Rattle.fb_model.specs.Headline.{IsSound}
-use Rattle.fb_model.specs.Messages.{Stamp, IsStamp}
-use Rattle.fb_model.proofs.Stamping.{first_stamps}
+use Rattle.fb_model.specs.Devices.{due, is_timer}
+use Rattle.fb_model.specs.Messages.{Stamp}
 use Rattle.fb_arrive.specs.fb_state.fb_timers.Expiry.{moment_of, AreArmed}
-
-first_store_at : (stamp : Stamp) (all : List Leaf) (path : Path) (leaf : Leaf) → leaf_at all path ≡ Some leaf → (first_store stamp all path).cells ≡ first_cells leaf
-first_store_at stamp [] path leaf h = cc
-first_store_at stamp (k ∷ ks) path leaf h = go (path_eq k.path path) h (first_store_at stamp ks path leaf)
-  where
-    go : (t : Bool) → cond t (Some k) (leaf_at ks path) ≡ Some leaf → (leaf_at ks path ≡ Some leaf → (first_store stamp ks path).cells ≡ first_cells leaf)
-        → (cond t (record { cells = first_cells k; condition = first_condition stamp k.kind }) (first_store stamp ks path)).cells ≡ first_cells leaf
-    go true f r = (let k_is : k ≡ leaf = cc in ap first_cells k_is)
-    go false f r = r f
-
-first_lies : (ranges : List Range) (stamp : Stamp) (all ls : List Leaf) → AllByRecursion (IsWired all) ls → AllByRecursion (LeafLies ranges all) ls → AllByRecursion (λ leaf. CellsLie ranges leaf.path leaf.kind (first_store stamp all leaf.path).cells) ls
-first_lies ranges stamp all [] w l = tt
-first_lies ranges stamp all (leaf ∷ rest) w l =
-    (subst (CellsLie ranges leaf.path leaf.kind) (sym (first_store_at stamp all leaf.path leaf w.0.found)) l.0.starts, first_lies ranges stamp all rest w.1 l.1)
-
-pub silent_sound : (cert : Certificate) (device : Device) → DeviceHolds cert device → (first : ℕ) (stamp : Stamp) → IsStamp stamp → IsSound cert device (silent device first stamp)
-silent_sound cert device holds first stamp is = record {
-  opening_of = λ c. at_place [] [];
-  home_of = λ c. 0;
-  entries = λ q. tt;
-  steps = λ q c p. cc;
-  places = λ q c. omega arith;
-  fresh = λ c l. refl;
-  depth = λ q. omega arith;
-  lies = first_lies cert.ranges stamp (leaves device) (leaves device) holds.wired holds.ranges;
-  stamps = first_stamps stamp (leaves device) (leaves device) is holds.wired;
-}
-
--- ---- no timer is armed
 
 never_due : (stamp : Stamp) (kind : Kind) → due (first_condition stamp kind) ≡ None
 never_due stamp (Charted block) = refl

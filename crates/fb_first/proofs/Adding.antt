@@ -1,7 +1,8 @@
 -- Variables that are added one after another.
-use Rattle.std.proofs.Common.{◌≡◌, ◌∙◌, ℕ, zero, suc, ◌+◌, ◌<◌, ℤ, List, [], ◌∷◌, ◌++◌, map, take, length, get_or, slice_get, Some, refl, sym, ap, string_bytes, Global, arith}
+use Rattle.std.proofs.Common.{◌≡◌, ◌∙◌, ℕ, ◌+◌, ◌<◌, ℤ, List, [], ◌∷◌, ◌++◌, map, take, length, get_or, slice_get, Some, refl, sym, ap, string_bytes, Global}
 use Rattle.std.specs.declared.string.String.{String}
 use Rattle.std.proofs.lemmas.List.{take_more, map_push, append_assoc}
+use Rattle.fb_model.proofs.Lists.{got}
 use Rattle.fb_model.specs.Names.{Name}
 use Rattle.fb_model.specs.System.{start_of}
 use Rattle.fb_model.specs.BlockTyping.{variable_of}
@@ -36,11 +37,6 @@ entry_cells es = map variable_cell (map (λ (p : NamedVariable). declared_of (st
 entries_are : (es : List NamedVariable) → map entry_cell es ≡ entry_cells es
 entries_are [] = refl
 entries_are (e ∷ es) = ap (λ cs. entry_cell e ∷ cs) (entries_are es)
-
-got : {X : Type 0} (xs : List X) (i : ℕ) (x : X) → Some x ≡ slice_get xs i → (i < length xs) × (x ≡ get_or xs i x)
-got [] i x h = absurd cc
-got (y ∷ ys) zero x h = let e : x ≡ y = cc in (omega arith, e)
-got (y ∷ ys) (suc i) x h = let k = got ys i x h in (omega (arith, k.0), k.1)
 
 -- one more variable
 pub entry_next : (es : List NamedVariable) (i : ℕ) (e : NamedVariable) (a s t : List Cell) (name : Name) (number : ℤ) → Some e ≡ slice_get es i → name ≡ string_bytes e.0 → number ≡ number_in (start_of (variable_of (declared_of (string_bytes e.0) e.1)))

@@ -1,10 +1,10 @@
 -- Lists, and what is so of their elements.
-use Rattle.std.proofs.Common.{◌≡◌, ◌↔◌, ℕ, zero, suc, ◌+◌, ◌<◌, ◌≤◌, ◌++◌, List, [], ◌∷◌, map, take, drop, length, get_or, Some, refl, sym, ap, subst, ◌∙◌, arith}
+use Rattle.std.proofs.Common.{◌≡◌, ◌↔◌, ℕ, zero, suc, ◌+◌, ◌<◌, ◌≤◌, ◌++◌, List, [], ◌∷◌, map, take, drop, length, get_or, Some, sym, ap, subst, ◌∙◌, arith}
 use Rattle.std.specs.Prelude.{slice_get}
 use Rattle.std.specs.List.{AllByRecursion, Any}
 use Rattle.std.proofs.lemmas.List.{take_more}
 use Rattle.std.proofs.Math.Seq.{drop-cons}
-use Rattle.fb_model.proofs.Lists.{all_append}
+use Rattle.fb_model.proofs.Lists.{got, all_append}
 
 -- ---- in order
 
@@ -17,12 +17,6 @@ all_on P xs i x l e p before rest =
     let here : drop i xs ≡ x ∷ drop (suc i) xs = drop-cons xs i x l ∙ ap (λ y. y ∷ drop (suc i) xs) (sym e) in
     let next : i + 1 ≡ suc i = omega arith in
     before (subst (AllByRecursion P) (sym here) (p, subst (λ n. AllByRecursion P (drop n xs)) next rest))
-
--- the item at an index
-pub got : {X : Type 0} (xs : List X) (i : ℕ) (x : X) → Some x ≡ slice_get xs i → (i < length xs) × (x ≡ get_or xs i x)
-got [] i x h = absurd cc
-got (y ∷ ys) zero x h = let e : x ≡ y = cc in (omega arith, e)
-got (y ∷ ys) (suc i) x h = let k = got ys i x h in (omega (arith, k.0), k.1)
 
 pub take_get : {X : Type 0} (xs : List X) (i : ℕ) (x : X) → Some x ≡ slice_get xs i → take (i + 1) xs ≡ take i xs ++ x ∷ []
 take_get xs i x h = let g = got xs i x h in take_more xs i x g.0 ∙ ap (λ y. take i xs ++ y ∷ []) (sym g.1)

@@ -2,6 +2,7 @@
 use Rattle.std.proofs.Common.{◌≡◌, ℕ, zero, suc, ◌+◌, ◌<◌, List, [], ◌∷◌, ◌++◌, map, take, length, get_or, slice_get, Some, refl, sym, ap, subst, ◌∙◌, arith}
 use Rattle.std.specs.List.{AllByRecursion}
 use Rattle.std.proofs.lemmas.List.{take_more}
+use Rattle.fb_model.proofs.Lists.{got}
 use Rattle.fb_chart.specs.Tables.{Each}
 
 pub each_push : {X Y : Type 0} (R : X → Y → Type 0) (xs : List X) (ys : List Y) (x : X) (y : Y) → Each R xs ys → R x y → Each R (xs ++ x ∷ []) (ys ++ y ∷ [])
@@ -75,12 +76,6 @@ pub image_at : {X Y : Type 0} (f : X → Y) (xs : List X) (n : ℕ) (x : X) → 
 image_at f [] n x h = absurd cc
 image_at f (y ∷ xs) zero x h = let e : y ≡ x = cc in ap (λ z. Some (f z)) e
 image_at f (y ∷ xs) (suc n) x h = image_at f xs n x h
-
--- the item at an index, and its image among images
-pub got : {X : Type 0} (xs : List X) (i : ℕ) (x : X) → Some x ≡ slice_get xs i → (i < length xs) × (x ≡ get_or xs i x)
-got [] i x h = absurd cc
-got (y ∷ ys) zero x h = let e : x ≡ y = cc in (omega arith, e)
-got (y ∷ ys) (suc i) x h = let k = got ys i x h in (omega (arith, k.0), k.1)
 
 pub got_at : {X Y : Type 0} (f : X → Y) (xs : List X) (i : ℕ) (x : X) → Some x ≡ slice_get xs i → (i < length (map f xs)) × (f x ≡ get_or (map f xs) i (f x))
 got_at f xs i x h = let k = got xs i x h in there f xs i x k.0 k.1

@@ -4,7 +4,7 @@ use Rattle.fb_rows.specs.fb_blocks.declared.typed.Action.{Action}
 use Rattle.fb_rows.proofs.of_fb_blocks.Lists.{mapped_more}
 use Rattle.fb_columns.specs.Sums.{IsSum}
 use Rattle.fb_columns.specs.Reckoning.{NamedActions, acted, own_of}
-use Rattle.fb_columns.proofs.Each.{got}
+use Rattle.fb_model.proofs.Lists.{got}
 use Rattle.fb_columns.proofs.Values.{more_sums}
 use Rattle.fb_columns.proofs.chart.costs.Goals as goal
 

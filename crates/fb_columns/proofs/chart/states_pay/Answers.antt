@@ -5,7 +5,8 @@ use Rattle.fb_rows.specs.fb_blocks.declared.typed.Action.{Action}
 use Rattle.fb_columns.specs.Sums.{IsSum}
 use Rattle.fb_columns.specs.Reckoning.{NamedActions, acted, own_of}
 use Rattle.fb_columns.specs.Paying.{StatePays}
-use Rattle.fb_columns.proofs.Each.{got, all_more, one_charge}
+use Rattle.fb_model.proofs.Lists.{got}
+use Rattle.fb_columns.proofs.Each.{all_more, one_charge}
 use Rattle.fb_columns.proofs.chart.states_pay.Goals as goal
 
 pub returns-in_err-state_pays : goal.returns-in_err-state_pays

@@ -6,7 +6,7 @@ use Rattle.fb_model.specs.Ranges.{IsClearAlgorithm}
 use Rattle.fb_rows.specs.st_types.declared.whole.Algo.{Algo}
 use Rattle.fb_rows.specs.fb_ranges.Views.{spans_of}
 use Rattle.fb_columns.specs.Columns.{unit_of}
-use Rattle.fb_columns.proofs.Each.{got}
+use Rattle.fb_model.proofs.Lists.{got}
 use Rattle.fb_columns.proofs.Lists.{all_at}
 use Rattle.fb_columns.proofs.Values.{more_sums}
 use Rattle.fb_columns.proofs.Costing.{procedure_of, twice_more}

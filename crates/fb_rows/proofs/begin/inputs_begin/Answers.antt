@@ -7,7 +7,8 @@ use Rattle.fb_flat.specs.Tables.{source_at}
 use Rattle.fb_intervals.specs.Views.{span_of}
 use Rattle.fb_rows.specs.Beginning.{NamedVariable, entry_name, shown, IsRange, InputBegins}
 use Rattle.fb_rows.specs.Clearing.{InputFails}
-use Rattle.fb_rows.proofs.Lists.{got, all_more}
+use Rattle.fb_model.proofs.Lists.{got}
+use Rattle.fb_rows.proofs.Lists.{all_more}
 use Rattle.fb_rows.proofs.Blaming.{one_named}
 use Rattle.fb_rows.proofs.begin.inputs_begin.Goals as goal
 

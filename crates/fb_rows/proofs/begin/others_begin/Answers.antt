@@ -2,7 +2,8 @@ use Rattle.std.proofs.lemmas.Result.{err_from_is_err_and}
 use Rattle.fb_model.specs.System.{start_of}
 use Rattle.fb_rows.specs.Beginning.{NamedVariable, entry_name, shown, OtherBegins}
 use Rattle.fb_rows.specs.Clearing.{OtherFails}
-use Rattle.fb_rows.proofs.Lists.{got, all_more}
+use Rattle.fb_model.proofs.Lists.{got}
+use Rattle.fb_rows.proofs.Lists.{all_more}
 use Rattle.fb_rows.proofs.Blaming.{one_named}
 use Rattle.fb_rows.proofs.begin.others_begin.Goals as goal
 

@@ -2,7 +2,8 @@ use Rattle.std.proofs.lemmas.Result.{err_from_is_err_and}
 use Rattle.fb_flat.specs.Tables.{source_at}
 use Rattle.fb_rows.specs.Beginning.{NamedVariable, entry_name, shown, LinkLies}
 use Rattle.fb_rows.specs.Clearing.{LinkFails}
-use Rattle.fb_rows.proofs.Lists.{got, all_more}
+use Rattle.fb_model.proofs.Lists.{got}
+use Rattle.fb_rows.proofs.Lists.{all_more}
 use Rattle.fb_rows.proofs.Blaming.{one_named}
 use Rattle.fb_rows.proofs.link.links_lie.Goals as goal
 

@@ -2,7 +2,8 @@ use Rattle.std.proofs.lemmas.Result.{err_from_is_err_and}
 use Rattle.fb_model.specs.Ranges.{IsClearAlgorithm}
 use Rattle.fb_ranges.specs.Views.{spans_of}
 use Rattle.fb_rows.specs.Clearing.{Procedure, procedure_name, procedure_text, AlgorithmFails}
-use Rattle.fb_rows.proofs.Lists.{got, all_more}
+use Rattle.fb_model.proofs.Lists.{got}
+use Rattle.fb_rows.proofs.Lists.{all_more}
 use Rattle.fb_rows.proofs.Blaming.{one_named}
 use Rattle.fb_rows.proofs.run.algorithms_clear.Goals as goal
 

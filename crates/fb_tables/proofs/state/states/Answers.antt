@@ -1,5 +1,6 @@
 use Rattle.fb_tables.specs.Filling.{NamedActions, IsStateMade}
-use Rattle.fb_tables.proofs.Lists.{got, each_more}
+use Rattle.fb_model.proofs.Lists.{got}
+use Rattle.fb_tables.proofs.Lists.{each_more}
 use Rattle.fb_tables.proofs.state.states.Goals as goal
 
 pub loop-index-preserved : goal.loop-index-preserved
