@@ -1,4 +1,4 @@
--- Networks with indexes: the places of names, the connections of ends, and the networks inside.
+-- Networks with indexes: the positions of names, the connections of ends, and the networks inside.
 use Rattle.std.specs.Prelude.{ℕ, suc, ◌≡◌, ◌+◌, List, [], ◌∷◌, map}
 use Rattle.std.specs.declared.string.String.{String}
 use Rattle.std.specs.declared.alloc.Global.{Global}
@@ -30,8 +30,8 @@ AreInside (i ∷ is) [] = ⊥
 AreInside (i ∷ is) (x ∷ xs) = IsInside (out-Body i.body) x × AreInside is xs
 
 -- the indexes are those of a network
-pub record IsIndexed {S T U : Type 0} (n : Network-F Body Instance Network) (places : IndexMap (String Global) ℕ S) (events : Bundles T) (values : Bundles U) (inside : List Inside) : Type 0 where
-  pub places_are : AreNames n.instances.items places
+pub record IsIndexed {S T U : Type 0} (n : Network-F Body Instance Network) (positions : IndexMap (String Global) ℕ S) (events : Bundles T) (values : Bundles U) (inside : List Inside) : Type 0 where
+  pub positions_are : AreNames n.instances.items positions
   pub events_are : IsBundled source_of (map connection_of n.events.items) events
   pub values_are : IsBundled target_of (map connection_of n.values.items) values
   pub inside_are : AreInside n.instances.items inside

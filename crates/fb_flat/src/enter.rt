@@ -89,12 +89,19 @@ pub fn enter_named(
     ensures counted { OnOk result (walk.new.left + enter_count_in (inner_of indexed.now) name.now port.now ≡ walk.old.left) }
     ensures refused { IfErr result (IsStop (walk.old.left < enter_count_in (inner_of indexed.now) name.now port.now)) }
 {
-    match indexed.place(name) {
+    match indexed.position(name) {
         None => Ok(()),
-        Some(place) => {
-            let instance = &indexed.instances()[place];
+        Some(position) => {
+            let instance = &indexed.instances()[position];
             let trail = Trail::Inside(instance.name.as_str(), &*trail);
-            enter(instance, indexed.inside(place), port, &trail, walk, alloc)
+            enter(
+                instance,
+                indexed.inside(position),
+                port,
+                &trail,
+                walk,
+                alloc,
+            )
         }
     }
 }

@@ -88,12 +88,12 @@ pub fn give_named(
 ) -> Result<Source, AllocError>
     ensures { IfOk result (λ s. source_of s ≡ written_source (given_in (inner_of indexed.now) (path_of trail.now) name.now port.now)) }
 {
-    match indexed.place(name) {
+    match indexed.position(name) {
         None => Ok(Source::Number(0)),
-        Some(place) => {
-            let instance = &indexed.instances()[place];
+        Some(position) => {
+            let instance = &indexed.instances()[position];
             let trail = Trail::Inside(instance.name.as_str(), &*trail);
-            give(instance, indexed.inside(place), port, &trail, alloc)
+            give(instance, indexed.inside(position), port, &trail, alloc)
         }
     }
 }

@@ -261,12 +261,12 @@ fn collect_all<'a, 'n>(
     ensures counted { OnOk result (table.new.left + count_of (composed indexed.now) (left_count around.now) ≡ table.old.left) }
     ensures refused { IfErr result (IsStop (table.old.left < count_of (composed indexed.now) (left_count around.now))) }
 {
-    for (place, instance) in indexed.instances().iter().enumerate() {
+    for (position, instance) in indexed.instances().iter().enumerate() {
         let inside = Trail::Inside(instance.name.as_str(), &*trail);
         let level = Around::Level(&*indexed, &*instance, &*trail, &*around);
         collect(
             instance,
-            indexed.inside(place),
+            indexed.inside(position),
             &inside,
             &level,
             table,

@@ -12,7 +12,7 @@ mod laws;
 mod leave;
 mod leaves;
 mod lookup;
-mod place;
+mod position;
 mod site;
 mod walk;
 

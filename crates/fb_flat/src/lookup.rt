@@ -13,18 +13,18 @@ ghost use Rattle.fb_flat.specs.Bundled.{key_of, seen, ending, source_of, target_
 ghost use Rattle.fb_flat.specs.Indexes.{IsInside};
 
 use crate::bundle::{Bundles, at, by_source, by_target};
-use crate::place::{Places, places};
+use crate::position::{Positions, positions};
 use fb_networks::fb_services::fb_blocks::Face;
 use fb_networks::{Body, Connection, Instance, Network};
 use std::alloc::{AllocError, Global};
 use std::marker::Model;
 
-/// A network with indexes: the places of its instances by name, its connections by their ends, and what is inside its instances.
+/// A network with indexes: the positions of its instances by name, its connections by their ends, and what is inside its instances.
 #[derive(Drop)]
 #[cycle(indexed)]
 pub struct Indexed<'a> {
     network: &'a Network,
-    places: Places,
+    positions: Positions,
     events: Bundles<'a>,
     values: Bundles<'a>,
     inside: Vec<Inside<'a>>,
@@ -51,7 +51,7 @@ impl<'a> Model for Indexed<'a> {
 
     ghost view = { λ a. a.network.now };
 
-    ghost invariant = { λ a. IsIndexed (out-Network a.network.now) a.places a.events a.values a.inside.items };
+    ghost invariant = { λ a. IsIndexed (out-Network a.network.now) a.positions a.events a.values a.inside.items };
 
     ghost size = { size_of };
 
@@ -83,7 +83,7 @@ pub fn index<'a>(alloc: Global, network: &'a Network) -> Result<Indexed<'a>, All
     }
     Ok(Indexed {
         network,
-        places: places(alloc, &network.instances)?,
+        positions: positions(alloc, &network.instances)?,
         events: by_source(alloc, &network.events)?,
         values: by_target(alloc, &network.values)?,
         inside,
@@ -98,20 +98,20 @@ impl<'a> Indexed<'a> {
         &self.network.instances
     }
 
-    /// What is inside the instance at a place.
-    pub fn inside(&self, place: usize) -> &Inside<'a>
-        requires { place < length (out-Network self.now).instances.items }
-        ensures { (i : Instance) → slice_get (out-Network self.now).instances.items place ≡ Some i → IsInside (out-Body i.body) result.now }
+    /// What is inside the instance at a position.
+    pub fn inside(&self, position: usize) -> &Inside<'a>
+        requires { position < length (out-Network self.now).instances.items }
+        ensures { (i : Instance) → slice_get (out-Network self.now).instances.items position ≡ Some i → IsInside (out-Body i.body) result.now }
     {
-        &self.inside[place]
+        &self.inside[position]
     }
 
-    /// The place of the first instance of a name.
-    pub fn place(&self, name: &str) -> Option<usize>
+    /// The position of the first instance of a name.
+    pub fn position(&self, name: &str) -> Option<usize>
         ensures first { MatchOption result (first_named (out-Network self.now).instances.items name.now ≡ None) (λ k. slice_get (out-Network self.now).instances.items k ≡ first_named (out-Network self.now).instances.items name.now) }
         ensures within { IfSome result (λ k. k < length (out-Network self.now).instances.items) }
     {
-        self.places.get(name).copied()
+        self.positions.get(name).copied()
     }
 
     /// Event connections, in text order, among which are all whose source has this text.

@@ -34,9 +34,9 @@ enter-returns-in-Composite-clause-refused t c =
 pub enter_named-enter-requires : goal.enter_named-enter-requires
 enter_named-enter-requires t c =
     let n = c.args.indexed.now in
-    let x = c.index-instances-place.result in
-    let at = stands c.instances.result.now (out-Network n).instances.items c.in-Some.place x c.instances.ensures c.in-Some.ensures.within c.index-instances-place.is in
-    let l = sized_at n c.in-Some.place x at in
+    let x = c.index-instances-position.result in
+    let at = stands c.instances.result.now (out-Network n).instances.items c.in-Some.position x c.instances.ensures c.in-Some.ensures.within c.index-instances-position.is in
+    let l = sized_at n c.in-Some.position x at in
     (omega (arith, l), c.inside.ensures x at)
 
 pub enter_named-returns-in-None-clause-reached : goal.enter_named-returns-in-None-clause-reached
@@ -52,8 +52,8 @@ enter_named-returns-in-None-clause-counted t c =
 pub enter_named-returns-in-Some-clause-reached : goal.enter_named-returns-in-Some-clause-reached
 enter_named-returns-in-Some-clause-reached t c =
     let n = c.args.indexed.now in
-    let x = c.index-instances-place.result in
-    let at = stands c.instances.result.now (out-Network n).instances.items c.in-Some.place x c.instances.ensures c.in-Some.ensures.within c.index-instances-place.is in
+    let x = c.index-instances-position.result in
+    let at = stands c.instances.result.now (out-Network n).instances.items c.in-Some.position x c.instances.ensures c.in-Some.ensures.within c.index-instances-position.is in
     let path = path_of c.args.trail.now in
     let port = c.args.port.now in
     let places : entered (body_of x.body) (path ++ c.as_str.result.now ∷ []) port ≡ entered_in (inner_of n) path c.args.name.now port =
@@ -63,15 +63,15 @@ enter_named-returns-in-Some-clause-reached t c =
 pub enter_named-returns-in-Some-clause-counted : goal.enter_named-returns-in-Some-clause-counted
 enter_named-returns-in-Some-clause-counted t c =
     let n = c.args.indexed.now in
-    let x = c.index-instances-place.result in
-    let at = stands c.instances.result.now (out-Network n).instances.items c.in-Some.place x c.instances.ensures c.in-Some.ensures.within c.index-instances-place.is in
+    let x = c.index-instances-position.result in
+    let at = stands c.instances.result.now (out-Network n).instances.items c.in-Some.position x c.instances.ensures c.in-Some.ensures.within c.index-instances-position.is in
     subst (λ m. OnOk c.enter.result (c.enter.new.walk.left + m ≡ c.args.walk.now.left)) (sym (counts_at n c.args.name.now c.args.port.now (Some x) (sym c.in-Some.ensures.first ∙ at))) c.enter.ensures.counted
 
 pub enter_named-returns-in-Some-clause-refused : goal.enter_named-returns-in-Some-clause-refused
 enter_named-returns-in-Some-clause-refused t c =
     let n = c.args.indexed.now in
-    let x = c.index-instances-place.result in
-    let at = stands c.instances.result.now (out-Network n).instances.items c.in-Some.place x c.instances.ensures c.in-Some.ensures.within c.index-instances-place.is in
+    let x = c.index-instances-position.result in
+    let at = stands c.instances.result.now (out-Network n).instances.items c.in-Some.position x c.instances.ensures c.in-Some.ensures.within c.index-instances-position.is in
     subst (λ m. IfErr c.enter.result (IsStop (c.args.walk.now.left < m))) (sym (counts_at n c.args.name.now c.args.port.now (Some x) (sym c.in-Some.ensures.first ∙ at))) c.enter.ensures.refused
 
 pub pass-returns-in-None-clause-reached : goal.pass-returns-in-None-clause-reached

@@ -28,9 +28,9 @@ give-pass-requires t c =
 pub give_named-give-requires : goal.give_named-give-requires
 give_named-give-requires t c =
     let n = c.args.indexed.now in
-    let x = c.index-instances-place.result in
-    let at = stands c.instances.result.now (out-Network n).instances.items c.in-Some.place x c.instances.ensures c.in-Some.ensures.within c.index-instances-place.is in
-    let l = sized_at n c.in-Some.place x at in
+    let x = c.index-instances-position.result in
+    let at = stands c.instances.result.now (out-Network n).instances.items c.in-Some.position x c.instances.ensures c.in-Some.ensures.within c.index-instances-position.is in
+    let l = sized_at n c.in-Some.position x at in
     (omega (arith, l), c.inside.ensures x at)
 
 pub give_named-returns-in-None : goal.give_named-returns-in-None
@@ -39,8 +39,8 @@ give_named-returns-in-None t c = ap written_source (sym (gives_at c.args.indexed
 pub give_named-returns-in-Some : goal.give_named-returns-in-Some
 give_named-returns-in-Some t c =
     let n = c.args.indexed.now in
-    let x = c.index-instances-place.result in
-    let at = stands c.instances.result.now (out-Network n).instances.items c.in-Some.place x c.instances.ensures c.in-Some.ensures.within c.index-instances-place.is in
+    let x = c.index-instances-position.result in
+    let at = stands c.instances.result.now (out-Network n).instances.items c.in-Some.position x c.instances.ensures c.in-Some.ensures.within c.index-instances-position.is in
     let path = path_of c.args.trail.now in
     let port = c.args.port.now in
     let given : given_by (body_of x.body) (path ++ c.as_str.result.now ∷ []) port ≡ given_in (inner_of n) path c.args.name.now port =

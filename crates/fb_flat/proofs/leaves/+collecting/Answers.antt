@@ -41,10 +41,10 @@ collect_all-collect-requires t c =
     let r = c.args.trail.now in
     let a = c.args.around.now in
     let xs = (out-Network n).instances.items in
-    let k = c.loop-place.place in
+    let k = c.loop-position.position in
     let x = c.instance-item.result in
     let many : length c.instances-instance-items.result.now ≡ length xs = ap length c.instances-instance-items.ensures in
-    let test = c.loop-place-test.true in
+    let test = c.loop-position-test.true in
     let lt : k < length xs = omega (arith, many, test) in
     let at : x ≡ get_or xs k x = c.instance-item.is ∙ ap (λ l. get_or l k x) c.instances-instance-items.ensures in
     let here = stands xs xs k x refl lt at in
@@ -57,36 +57,36 @@ collect_all-returns-in_err-collect-clause-refused t c =
     let r = c.args.trail.now in
     let a = c.args.around.now in
     let xs = (out-Network n).instances.items in
-    let k = c.loop-place.place in
+    let k = c.loop-position.position in
     let x = c.instance-item.result in
     let many : length c.instances-instance-items.result.now ≡ length xs = ap length c.instances-instance-items.ensures in
-    let test = c.loop-place-test.true in
+    let test = c.loop-position-test.true in
     let lt : k < length xs = omega (arith, many, test) in
     let at : x ≡ get_or xs k x = c.instance-item.is ∙ ap (λ l. get_or l k x) c.instances-instance-items.ensures in
     let p = err_from_is_err_and c.from_residual.result c.from_residual.ensures.1 in
-    let over : IsStop (c.loop-place.table.left < count_of (body_of x.body) (counts_in n a (string_bytes x.name))) c.in_err-collect.field-0.0 = c.in_err-collect.ensures.refused in
-    rw (p.1, p.2) (stop_weaker _ _ c.in_err-collect.field-0.0 (λ h. unpaid (counts_in n a) xs k x lt at c.loop-place.table.left c.args.table.now.left c.loop-place.invariant.left h (inner_of n) (inner_is n)) over)
+    let over : IsStop (c.loop-position.table.left < count_of (body_of x.body) (counts_in n a (string_bytes x.name))) c.in_err-collect.field-0.0 = c.in_err-collect.ensures.refused in
+    rw (p.1, p.2) (stop_weaker _ _ c.in_err-collect.field-0.0 (λ h. unpaid (counts_in n a) xs k x lt at c.loop-position.table.left c.args.table.now.left c.loop-position.invariant.left h (inner_of n) (inner_is n)) over)
 
-pub collect_all-loop-place-preserved : goal.collect_all-loop-place-preserved
-collect_all-loop-place-preserved t c =
+pub collect_all-loop-position-preserved : goal.collect_all-loop-position-preserved
+collect_all-loop-position-preserved t c =
     let n = c.args.indexed.now in
     let r = c.args.trail.now in
     let a = c.args.around.now in
     let xs = (out-Network n).instances.items in
-    let k = c.loop-place.place in
+    let k = c.loop-position.position in
     let x = c.instance-item.result in
     let many : length c.instances-instance-items.result.now ≡ length xs = ap length c.instances-instance-items.ensures in
-    let test = c.loop-place-test.true in
+    let test = c.loop-position-test.true in
     let lt : k < length xs = omega (arith, many, test) in
     let at : x ≡ get_or xs k x = c.instance-item.is ∙ ap (λ l. get_or l k x) c.instances-instance-items.ensures in
     let one = leaves_under (path_of r) (targets_in n r a) (sources_in n r a) in
-    let made : map leaf_of c.collect.new.table.leaves.items ≡ map leaf_of c.loop-place.table.leaves.items ++ one c.as_str.result.now x = c.in_ok-collect.ensures.added in
-    let paid : c.collect.new.table.left + count_of (body_of x.body) (counts_in n a (string_bytes x.name)) ≡ c.loop-place.table.left = c.in_ok-collect.ensures.counted in
+    let made : map leaf_of c.collect.new.table.leaves.items ≡ map leaf_of c.loop-position.table.leaves.items ++ one c.as_str.result.now x = c.in_ok-collect.ensures.added in
+    let paid : c.collect.new.table.left + count_of (body_of x.body) (counts_in n a (string_bytes x.name)) ≡ c.loop-position.table.left = c.in_ok-collect.ensures.counted in
     record {
       added =
           gathered_more (leaves_among (path_of r) (targets_in n r a) (sources_in n r a)) (λ y. one (string_bytes y.name) y) (leaves_step (path_of r) (targets_in n r a) (sources_in n r a))
-          xs k x lt at _ _ _ c.loop-place.invariant.added (made ∙ ap (λ m. map leaf_of c.loop-place.table.leaves.items ++ one m x) c.as_str.ensures.value);
-      left = paid_on (counts_in n a) xs k x lt at c.loop-place.table.left c.collect.new.table.left c.args.table.now.left c.loop-place.invariant.left paid;
+          xs k x lt at _ _ _ c.loop-position.invariant.added (made ∙ ap (λ m. map leaf_of c.loop-position.table.leaves.items ++ one m x) c.as_str.ensures.value);
+      left = paid_on (counts_in n a) xs k x lt at c.loop-position.table.left c.collect.new.table.left c.args.table.now.left c.loop-position.invariant.left paid;
     }
 
 pub collect_all-returns-clause-added : goal.collect_all-returns-clause-added
@@ -95,11 +95,11 @@ collect_all-returns-clause-added t c =
     let r = c.args.trail.now in
     let a = c.args.around.now in
     let xs = (out-Network n).instances.items in
-    let k = c.loop-place.place in
+    let k = c.loop-position.position in
     let many : length c.instances-instance-items.result.now ≡ length xs = ap length c.instances-instance-items.ensures in
-    let test = c.loop-place-test.false in
+    let test = c.loop-position-test.false in
     let le : length xs ≤ k = omega (arith, many, test) in
-    gathered_all (leaves_among (path_of r) (targets_in n r a) (sources_in n r a)) refl xs k le _ _ c.loop-place.invariant.added
+    gathered_all (leaves_among (path_of r) (targets_in n r a) (sources_in n r a)) refl xs k le _ _ c.loop-position.invariant.added
     ∙ ap (λ (is : book.Instances). map leaf_of c.args.table.now.leaves.items ++ map written (leaves_in is 0 (path_of r) (targets_in n r a) (sources_in n r a))) (sym (inner_is n))
 
 pub collect_all-returns-clause-counted : goal.collect_all-returns-clause-counted
@@ -108,8 +108,8 @@ collect_all-returns-clause-counted t c =
     let r = c.args.trail.now in
     let a = c.args.around.now in
     let xs = (out-Network n).instances.items in
-    let k = c.loop-place.place in
+    let k = c.loop-position.position in
     let many : length c.instances-instance-items.result.now ≡ length xs = ap length c.instances-instance-items.ensures in
-    let test = c.loop-place-test.false in
+    let test = c.loop-position-test.false in
     let le : length xs ≤ k = omega (arith, many, test) in
-    paid_all (counts_in n a) xs k le c.loop-place.table.left c.args.table.now.left c.loop-place.invariant.left (inner_of n) (inner_is n)
+    paid_all (counts_in n a) xs k le c.loop-position.table.left c.args.table.now.left c.loop-position.invariant.left (inner_of n) (inner_is n)

@@ -7,17 +7,17 @@ use Rattle.fb_flat.proofs.Collecting.{targets_in, sources_in, counts_in, leaves_
 use Rattle.fb_flat.proofs.leaves.+collecting.Given as goal
 
 -- the leaves so far, with those of the instances left, are all; and the budget pays for those so far
-abbrev pub invariant-collect_all-loop-place : goal.invariant-collect_all-loop-place
-invariant-collect_all-loop-place l =
+abbrev pub invariant-collect_all-loop-position : goal.invariant-collect_all-loop-position
+invariant-collect_all-loop-position l =
     let n = l.initial.indexed in
     let t = l.initial.trail in
     let a = l.initial.around in
     let xs = (out-Network n).instances.items in
     record {
       added :
-          map leaf_of l.table.leaves.items ++ leaves_among (path_of t) (targets_in n t a) (sources_in n t a) (drop l.place xs)
+          map leaf_of l.table.leaves.items ++ leaves_among (path_of t) (targets_in n t a) (sources_in n t a) (drop l.position xs)
           ≡ map leaf_of l.initial.table.leaves.items ++ leaves_among (path_of t) (targets_in n t a) (sources_in n t a) xs;
-      left : l.table.left + count_among (counts_in n a) xs ≡ l.initial.table.left + count_among (counts_in n a) (drop l.place xs);
+      left : l.table.left + count_among (counts_in n a) xs ≡ l.initial.table.left + count_among (counts_in n a) (drop l.position xs);
     }
 
 -- larger composites are gone through before smaller ones

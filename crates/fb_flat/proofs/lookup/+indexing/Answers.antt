@@ -18,7 +18,7 @@ index-loop-instance-preserved t c =
 
 pub index-invariant_of-result : goal.index-invariant_of-result
 index-invariant_of-result t c = record {
-  places_are = subst (λ l. AreNames l c.in_ok-places.field-0) c.deref.ensures.value c.in_ok-places.ensures;
+  positions_are = subst (λ l. AreNames l c.in_ok-positions.field-0) c.deref.ensures.value c.in_ok-positions.ensures;
   events_are = subst (λ l. IsBundled source_of (map connection_of l) c.in_ok-by_source.field-0) c.deref-2.ensures.value c.in_ok-by_source.ensures;
   values_are = subst (λ l. IsBundled target_of (map connection_of l) c.in_ok-by_target.field-0) c.deref-3.ensures.value c.in_ok-by_target.ensures;
   inside_are =

@@ -20,5 +20,5 @@ returns c = λ i e.
     let h : length is ≡ length xs = inside_length is xs c.self.invariant.inside_are in
     let v : length is ≡ length (out-Network c.args.self.now).instances.items = ap (λ n. length (out-Network n).instances.items) c.self.view_is in
     let r = c.requires in
-    inside_at is xs c.args.place i c.index.result.now c.self.invariant.inside_are (ap (λ n. slice_get (out-Network n).instances.items c.args.place) c.self.view_is ∙ e)
-    (slice_get-get_or xs c.args.place c.index.result.now (omega (arith, h, v, r)) ∙ ap Some (sym c.index.ensures))
+    inside_at is xs c.args.position i c.index.result.now c.self.invariant.inside_are (ap (λ n. slice_get (out-Network n).instances.items c.args.position) c.self.view_is ∙ e)
+    (slice_get-get_or xs c.args.position c.index.result.now (omega (arith, h, v, r)) ∙ ap Some (sym c.index.ensures))

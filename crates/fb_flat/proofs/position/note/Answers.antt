@@ -1,6 +1,6 @@
 use Rattle.std.proofs.Common.{arith}
 use Rattle.std.proofs.lemmas.Map.Text.{text_keys}
-use Rattle.fb_flat.proofs.place.note.Goals as goal
+use Rattle.fb_flat.proofs.position.note.Goals as goal
 
 pub returns : goal.returns
 returns c = λ x. grind (arith, text_keys)
