@@ -32,7 +32,7 @@ use Rattle.fb_check.specs.declared.refusal.Refusal.TheVariants.{OutOfMemory, Tex
 use Rattle.fb_check.specs.Refusals.{of_text, of_type, of_certificate}
 use Rattle.fb_model.specs.Certificates.{Fits}
 use Rattle.fb_columns.specs.fb_types.declared.typed.Configuration.{Configuration}
-use Rattle.fb_columns.specs.fb_types.Views.{system_of, system_places, all_places}
+use Rattle.fb_columns.specs.fb_types.Views.{system_of, system_offsets, all_offsets}
 use Rattle.fb_check.specs.Verdicts.{IsSystemOf, IsTypedOf, IsWritten, IsTypingFault, IsTextFault, IsCertificateFault, IsOfTexts, system_in, certificate_in}
 
 pub typing_fault : (source : SourceTree) (f : TypeFault) → IsRefused source f → IsTypingFault source (of_type f)
@@ -129,11 +129,11 @@ words s (text, is) =
 pub along : (x y : SourceTree) (system : System) → x ≡ y → Elaborates y system → Elaborates x system
 along x y system e h = subst (λ s. Elaborates s system) (sym e) h
 
--- what is typed of a text has the places of its names
+-- what is typed of a text has the offsets of its names
 pub typed_of : (text : List ℕ) (source : SourceTree) (r : Result Configuration Refusal) → IsSource text source → IfOk r (λ t. Elaborates source (system_of t))
-    → IfOk r (λ t. system_places t.devices.items ≡ all_places source.system.devices) → IfOk r (IsTypedOf text)
-typed_of text source (Ok t) is typed places = record { system_is = record { source = source; source_is = is; typed = typed }; places = places }
-typed_of text source (Err f) is typed places = tt
+    → IfOk r (λ t. system_offsets t.devices.items ≡ all_offsets source.system.devices) → IfOk r (IsTypedOf text)
+typed_of text source (Ok t) is typed offsets = record { system_is = record { source = source; source_is = is; typed = typed }; offsets = offsets }
+typed_of text source (Err f) is typed offsets = tt
 
 -- what is verified of a system and a certificate that stand in texts
 pub accepted_by : (text certificate : List ℕ) (system : System) (rows : book.Certificate) (r : Result Checked Refusal) → IsSystemOf text system → Spells certificate rows

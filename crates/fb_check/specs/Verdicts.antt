@@ -7,7 +7,7 @@ use Rattle.fb_model.specs.CertificateText.{Spells}
 pub use Rattle.fb_model.specs.CertificateText.{IsTold}
 use Rattle.fb_columns.specs.fb_text.Answers.{IsSource, ReadsText}
 use Rattle.fb_columns.specs.fb_types.declared.typed.Configuration.{Configuration}
-use Rattle.fb_columns.specs.fb_types.Views.{system_of, system_places, all_places}
+use Rattle.fb_columns.specs.fb_types.Views.{system_of, system_offsets, all_offsets}
 use Rattle.fb_columns.specs.fb_types.Beforehand.{IsRefused}
 pub use Rattle.fb_columns.specs.fb_types.Written.{IsSystemOf, IsWritten}
 use Rattle.fb_columns.specs.fb_flat.Leaves.{flat_device, written_device}
@@ -30,10 +30,10 @@ certificate_in v = certificate_of v.certificate
 abbrev pub AreTables : Checked → Type 0
 AreTables v = map flat_device v.flat.devices.items ≡ map written_device (system_in v).devices
 
--- this is its typed system, whose resources have the places of their names in the text
+-- this is its typed system, whose resources have the offsets of their names in the text
 pub record IsTypedOf (text : List ℕ) (typed : Configuration) : Type 0 where
   pub system_is : IsSystemOf text (system_of typed)
-  pub places : system_places typed.devices.items ≡ all_places system_is.source.system.devices
+  pub offsets : system_offsets typed.devices.items ≡ all_offsets system_is.source.system.devices
 
 -- the system is that of the application's text, the certificate is that of the other, and it fits
 pub record IsOfTexts (text certificate : List ℕ) (v : Checked) : Type 0 where

@@ -12,7 +12,7 @@ ghost use Rattle.fb_cert.specs.declared.fault.CertFault.TheVariants as certs;
 ghost use Rattle.fb_cert.specs.Views.{certificate_of};
 ghost use Rattle.fb_columns.specs.fb_text.Answers.{IsSource};
 ghost use Rattle.fb_columns.specs.fb_text.Views.{source_of};
-ghost use Rattle.fb_columns.specs.fb_types.Views.{system_of, system_places, all_places};
+ghost use Rattle.fb_columns.specs.fb_types.Views.{system_of, system_offsets, all_offsets};
 ghost use Rattle.fb_check.specs.Verdicts.{IsTypedOf, IsTextFault, IsTypingFault, IsCertificateFault};
 ghost use Rattle.fb_check.specs.declared.refusal.Refusal.TheVariants.{OutOfMemory};
 ghost use Rattle.fb_check.specs.declared.refusal.Refusal.TheVariants as refusals;
@@ -26,7 +26,7 @@ use std::alloc::Global;
 // The system of a source tree.
 fn resolved(alloc: Global, source: &Source) -> Result<Typed, Refusal>
     ensures typed { IfOk result (λ t. Elaborates (source_of source.now) (system_of t)) }
-    ensures places { IfOk result (λ t. system_places t.devices.items ≡ all_places (source_of source.now).system.devices) }
+    ensures offsets { IfOk result (λ t. system_offsets t.devices.items ≡ all_offsets (source_of source.now).system.devices) }
     ensures refused { IfErr result (IsTypingFault (source_of source.now)) }
     ensures accepts { (system : System) → Elaborates (source_of source.now) system → MatchResult result (λ t. system_of t ≡ system) (λ f. f ≡ OutOfMemory) }
 {
@@ -36,7 +36,7 @@ fn resolved(alloc: Global, source: &Source) -> Result<Typed, Refusal>
     }
 }
 
-/// The system of an application's text, whose resources have the places of their names.
+/// The system of an application's text, whose resources have the offsets of their names.
 pub fn read_system(alloc: Global, text: &str) -> Result<Typed, Refusal>
     ensures typed { IfOk result (IsTypedOf text.now) }
     ensures within { IfOk result (λ t. length text.now ≤ text_limit) }

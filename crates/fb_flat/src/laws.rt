@@ -18,7 +18,7 @@ ghost use Rattle.fb_flat.specs.declared.flat.FlatDevice.{FlatDevice};
 ghost use Rattle.fb_flat.specs.Sources.{written_inputs};
 ghost use Rattle.fb_flat.specs.Leaves.{flat_device, written_device, IsFull};
 ghost use Rattle.fb_types.specs.declared.typed.Configuration.{Configuration};
-ghost use Rattle.fb_types.specs.Views.{system_of, system_places, all_places};
+ghost use Rattle.fb_types.specs.Views.{system_of, system_offsets, all_offsets};
 ghost use Rattle.fb_types.specs.Beforehand.{IsCrowdedSource};
 ghost use Rattle.fb_flat.specs.Tables.{AreDevices};
 
@@ -33,9 +33,9 @@ pub fn tables_are_leaves()
 {}
 
 /// Where a resource of a typed source follows too many connections, it is at the name of one in the source whose resource does, if resources have
-/// the places that they have there.
+/// the offsets that they have there.
 pub fn limits_are_at_resources()
-    ensures { (source : SourceTree) (typed : Configuration) (at : ℕ) → Elaborates source (system_of typed) → system_places typed.devices.items ≡ all_places source.system.devices → Any (λ d. Any (λ r. IsFull r at) d.resources.items) typed.devices.items → IsCrowdedSource source at }
+    ensures { (source : SourceTree) (typed : Configuration) (at : ℕ) → Elaborates source (system_of typed) → system_offsets typed.devices.items ≡ all_offsets source.system.devices → Any (λ d. Any (λ r. IsFull r at) d.resources.items) typed.devices.items → IsCrowdedSource source at }
 {}
 
 /// All data inputs of the leaves of a well typed system are written, since its services have few values.

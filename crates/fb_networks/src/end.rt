@@ -166,7 +166,7 @@ impl<'a> Site<'a> {
         }
     }
 
-    /// The end that a port is, and what it carries. `at` is the place of the connection's TO.
+    /// The end that a port is, and what it carries. `at` is the offset of the connection's TO.
     pub fn end(&self, way: Way, at: usize, port: &PortTree) -> Result<(End, Carried), TypeFault>
         ensures end { IsTabled (names_of self.now.names.now) self.now.instances.now → IfOk result (λ x. IsPortEnd way (face_of self.now.face.now) (inner_of self.now.instances.now) (trees_of.port_of port.now) (end_of x.0) x.1) }
         ensures refused { IsTabled (names_of self.now.names.now) self.now.instances.now → IfErr result (IsEndFault way (face_of self.now.face.now) (inner_of self.now.instances.now) at (trees_of.port_of port.now)) }

@@ -119,7 +119,7 @@ fn instance(
     body: Body,
 ) -> Result<Instance, AllocError>
     ensures parts { IfOk result (λ i. placed_of i ≡ (string_bytes source.now.name.text, map parameter_of parameters.items, body_of body)) }
-    ensures place { IfOk result (λ i. (out-Instance i).at ≡ source.now.name.at) }
+    ensures offset { IfOk result (λ i. (out-Instance i).at ≡ source.now.name.at) }
     ensures body { IfOk result (λ i. (out-Instance i).body ≡ body) }
 {
     let name = source.name.text.clone()?;
@@ -134,7 +134,7 @@ fn instance(
 // An instance of a declared type.
 fn declared(alloc: Global, source: &InstanceTree, body: Body) -> Result<Instance, TypeFault>
     ensures typed { IfOk result (λ i. IsPlaced (trees_of.instance_of source.now) (body_of body) (placed_of i)) }
-    ensures place { IfOk result (λ i. (out-Instance i).at ≡ (trees_of.instance_of source.now).name.at) }
+    ensures offset { IfOk result (λ i. (out-Instance i).at ≡ (trees_of.instance_of source.now).name.at) }
     ensures body { IfOk result (λ i. (out-Instance i).body ≡ body) }
     ensures refused { IfErr result (IsPlainFault (trees_of.instance_of source.now) (body_of body)) }
 {
@@ -149,7 +149,7 @@ fn declared(alloc: Global, source: &InstanceTree, body: Body) -> Result<Instance
 /// data input, `TwoSources` at the `:=` of one that is given again, and as a constant is at a value that is not one of its type.
 pub fn plain(alloc: Global, source: &InstanceTree, body: Body) -> Result<Instance, TypeFault>
     ensures typed { IfOk result (λ i. IsPlaced (trees_of.instance_of source.now) (body_of body) (placed_of i)) }
-    ensures place { IfOk result (λ i. (out-Instance i).at ≡ (trees_of.instance_of source.now).name.at) }
+    ensures offset { IfOk result (λ i. (out-Instance i).at ≡ (trees_of.instance_of source.now).name.at) }
     ensures body { IfOk result (λ i. (out-Instance i).body ≡ body) }
     ensures refused { IfErr result (IsPlainFault (trees_of.instance_of source.now) (body_of body)) }
     ensures only { (qs : List book.Parameter) → IsPlaced (trees_of.instance_of source.now) (body_of body) ((trees_of.instance_of source.now).name.text, qs, body_of body) → FindsPlaced result ((trees_of.instance_of source.now).name.text, qs, body_of body) }
@@ -165,7 +165,7 @@ fn with_service(
 ) -> Result<Instance, TypeFault>
     ensures parts { IfOk result (λ i. ((placed_of i).0 ≡ (trees_of.instance_of source.now).name.text) × ((placed_of i).2 ≡ book.Served (service_of service))) }
     ensures typed { IfOk result (λ i. AreParameters (inputs_of (book.Served (service_of service))) [] (lacking (reserved (service_of service)) (trees_of.instance_of source.now).parameters) (placed_of i).1) }
-    ensures place { IfOk result (λ i. (out-Instance i).at ≡ (trees_of.instance_of source.now).name.at) }
+    ensures offset { IfOk result (λ i. (out-Instance i).at ≡ (trees_of.instance_of source.now).name.at) }
     ensures body { IfOk result (λ i. (out-Instance i).body ≡ Served service) }
     ensures refused { IfErr result (λ f. (f ≡ OutOfMemory) ⊎ IsParametersFault (inputs_of (book.Served (service_of service))) [] (lacking (reserved (service_of service)) (trees_of.instance_of source.now).parameters) f) }
 {
@@ -176,7 +176,7 @@ fn with_service(
 // An instance of a service, none where its type's name is no service's.
 fn of_service(alloc: Global, source: &InstanceTree) -> Result<Option<Instance>, TypeFault>
     ensures typed { IfOk result (λ o. IfSome o (λ i. IsServedAs (trees_of.instance_of source.now) (placed_of i))) }
-    ensures place { IfOk result (λ o. IfSome o (λ i. (out-Instance i).at ≡ (trees_of.instance_of source.now).name.at)) }
+    ensures offset { IfOk result (λ o. IfSome o (λ i. (out-Instance i).at ≡ (trees_of.instance_of source.now).name.at)) }
     ensures body { IfOk result (λ o. IfSome o (λ i. (s : Made) × ((out-Instance i).body ≡ Served s))) }
     ensures none { IfOk result (λ o. IfNone o (is_in (trees_of.instance_of source.now).type.text service_names ≡ false)) }
     ensures refused { IfErr result (IsServedFault (trees_of.instance_of source.now)) }
@@ -192,7 +192,7 @@ fn of_service(alloc: Global, source: &InstanceTree) -> Result<Option<Instance>, 
 /// Refused as services are, and as `plain` is for the parameters that are data inputs.
 pub fn served(alloc: Global, source: &InstanceTree) -> Result<Option<Instance>, TypeFault>
     ensures typed { IfOk result (λ o. IfSome o (λ i. IsServedAs (trees_of.instance_of source.now) (placed_of i))) }
-    ensures place { IfOk result (λ o. IfSome o (λ i. (out-Instance i).at ≡ (trees_of.instance_of source.now).name.at)) }
+    ensures offset { IfOk result (λ o. IfSome o (λ i. (out-Instance i).at ≡ (trees_of.instance_of source.now).name.at)) }
     ensures body { IfOk result (λ o. IfSome o (λ i. (s : Made) × ((out-Instance i).body ≡ Served s))) }
     ensures none { IfOk result (λ o. IfNone o (is_in (trees_of.instance_of source.now).type.text service_names ≡ false)) }
     ensures refused { IfErr result (IsServedFault (trees_of.instance_of source.now)) }

@@ -36,7 +36,7 @@ pub enum Body {
     Composite(Rc<Face>, Rc<Network>),
 }
 
-/// A function block instance, with the place of its name.
+/// A function block instance, with the offset of its name.
 #[derive(Drop)]
 #[cycle(body)]
 pub struct Instance {

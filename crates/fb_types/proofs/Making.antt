@@ -161,11 +161,11 @@ named_self bs x b h = subst (λ n. type_named bs n ≡ Some b) (has_name bs x b 
 -- a type of a name on a path
 pub on_path : (bs : List BlockTree) (path : List BlockTree) (i : InstanceTree) (c : BlockTree) (at : ℕ) → Any (λ (b : BlockTree). b.name.text ≡ i.type.text) path → ((d : BlockTree) → IsOf bs i d → IsPath bs path d) → IsOf bs i c
     → at ≡ i.type.at → IsRing bs path i (faults.RecursiveComposite at)
-on_path bs path i c at (k, b, l, e, named) leads o place =
+on_path bs path i c at (k, b, l, e, named) leads o offset =
     let inside : Contains path b = (k, l, e) in
     let p = (all_member (OnPath bs c) path b (leads c o) inside).0 in
     let same : b ≡ c = one_type bs i.type.text b c (subst (λ n. type_named bs n ≡ Some b) named p) o.named in
-    record { tree = c; of_type = o; among = subst (Contains path) same inside; fault_is = ap faults.RecursiveComposite place }
+    record { tree = c; of_type = o; among = subst (Contains path) same inside; fault_is = ap faults.RecursiveComposite offset }
 
 -- ---- instances
 
@@ -174,13 +174,13 @@ used_as x = search (rules, the_lemmas)
 
 pub typed_part : (bs : List BlockTree) (room : ℕ) (i : InstanceTree) (c : BlockTree) (x : Instance) (y : Body) (n : ℕ) → IsOf bs i c → IsTypedBody bs room c y n → IsPlaced i (body_of y) (placed_of x) → (out-Instance x).body ≡ y → (out-Instance x).at ≡ i.name.at
     → IsPart bs room i x n
-typed_part bs room i c x y n o h p e place =
+typed_part bs room i c x y n o h p e offset =
     record {
       name = p.name;
       typed = subst (λ z. IsInstance bs room i ((placed_of x).1) z) (sym p.body_is) (of_type o.declared o.named p.bare h.made p.parameters);
       deep_is = h.deep_is ∙ ap deep (sym p.body_is);
       uses = subst (λ us. InstanceProvides bs i us) (sym (used_as x)) (subst (λ z. InstanceProvides bs i (body_uses z (out-Instance x).at)) (sym e) (by_type o (h.uses ((out-Instance x).at))));
-      place = place;
+      offset = offset;
     }
 
 served_body : (s : Service) → body_of (v.Served s) ≡ book.Served (service_of s)
@@ -196,16 +196,16 @@ same_service : {s k : book.Service} → book.Served s ≡ book.Served k → s �
 same_service e = cc
 
 pub served_part : (bs : List BlockTree) (room : ℕ) (i : InstanceTree) (x : Instance) (s : Service) → IsServedAs i (placed_of x) → (out-Instance x).body ≡ v.Served s → (out-Instance x).at ≡ i.name.at → IsPart bs room i x 0
-served_part bs room i x s p e place =
+served_part bs room i x s p e offset =
     let same : service_of s ≡ p.service = same_service (sym (served_body s) ∙ ap body_of (sym e) ∙ sym (placed_body x) ∙ p.body_is) in
     let used : uses_of x ≡ (i.name.at, p.service) ∷ []
-    = used_as x ∙ ap (λ z. body_uses z (out-Instance x).at) e ∙ served_uses s (out-Instance x).at ∙ ap (λ n. (n, service_of s) ∷ []) place ∙ ap (λ z. (i.name.at, z) ∷ []) same in
+    = used_as x ∙ ap (λ z. body_uses z (out-Instance x).at) e ∙ served_uses s (out-Instance x).at ∙ ap (λ n. (n, service_of s) ∷ []) offset ∙ ap (λ z. (i.name.at, z) ∷ []) same in
     record {
       name = p.name;
       typed = subst (λ z. IsInstance bs room i ((placed_of x).1) z) (sym p.body_is) (of_service p.served);
       deep_is = ap deep (sym p.body_is);
       uses = subst (λ us. InstanceProvides bs i us) (sym used) (by_service (is_service i p.service ((placed_of x).1) p.served));
-      place = place;
+      offset = offset;
     }
   where
     is_service : (i : InstanceTree) (s : book.Service) (qs : List book.Parameter) → IsServed i s qs → IsService i s
@@ -256,7 +256,7 @@ used_behind [] x = append-nil (uses_of x)
 used_behind (y ∷ ys) x = ap (λ l. uses_of y ++ l) (used_behind ys x) ∙ sym (append_assoc (uses_of y) (uses_in ys) (uses_of x))
 
 pub parts_begun : (bs : List BlockTree) (d : ℕ) → AreParts bs d [] [] 0
-parts_begun bs d = record { typed = no_instance; deepest_is = refl; uses = by_none; places = refl }
+parts_begun bs d = record { typed = no_instance; deepest_is = refl; uses = by_none; offsets = refl }
 
 pub parts_more : (bs : List BlockTree) (d : ℕ) (is : List InstanceTree) (i : InstanceTree) (xs : List Instance) (x : Instance) (n m : ℕ) → AreParts bs d is xs n → IsPart bs d i x m → AreParts bs d (is ++ i ∷ []) (xs ++ x ∷ []) (max n m)
 parts_more bs d is i xs x n m h k =
@@ -266,7 +266,7 @@ parts_more bs d is i xs x n m h k =
       typed = subst (λ r. AreInstances bs d (is ++ i ∷ []) r) (sym seen) (made_behind bs d is (instances_of xs) i (p.0) (p.1) (p.2) h.typed k.name k.typed);
       deepest_is = ap (λ a. max a m) h.deepest_is ∙ ap (max (deepest (instances_of xs))) k.deep_is ∙ sym (deepest_behind (instances_of xs) (p.0) (p.1) (p.2)) ∙ ap deepest (sym seen);
       uses = subst (λ us. AllProvide bs (is ++ i ∷ []) us) (sym (used_behind xs x)) (provide_behind bs is (uses_in xs) i (uses_of x) h.uses k.uses);
-      places = map_push (λ y. (out-Instance y).at) xs x ∙ ap (λ l. l ++ (out-Instance x).at ∷ []) h.places ∙ ap (λ a. map (λ j. j.name.at) is ++ a ∷ []) k.place ∙ sym (map_push (λ j. j.name.at) is i);
+      offsets = map_push (λ y. (out-Instance y).at) xs x ∙ ap (λ l. l ++ (out-Instance x).at ∷ []) h.offsets ∙ ap (λ a. map (λ j. j.name.at) is ++ a ∷ []) k.offset ∙ sym (map_push (λ j. j.name.at) is i);
     }
 
 -- ---- composites

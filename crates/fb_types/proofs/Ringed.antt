@@ -46,7 +46,7 @@ fault_led bs b c f itself h = h
 fault_led bs b c f (further {c = a} {i = i} l u) h = fault_led bs b a f l (faulty_part {i = i} u.composite u.among (faulty_type u.of_type h))
 
 pub ring_fault : (bs : List BlockTree) (b : BlockTree) (at : ℕ) → IsRingBelow bs b at → IsTypeFault bs b (faults.RecursiveComposite at)
-ring_fault bs b at h = fault_led bs b h.outer (faults.RecursiveComposite at) h.leads (ring {i = h.part} h.uses h.back (ap faults.RecursiveComposite h.place))
+ring_fault bs b at h = fault_led bs b h.outer (faults.RecursiveComposite at) h.leads (ring {i = h.part} h.uses h.back (ap faults.RecursiveComposite h.offset))
 
 -- ---- paths
 
@@ -176,7 +176,7 @@ search_closing bs b left xs top i at h a m = by m.on where
   by (k, p, l, e, name) =
       let q = all_member (λ z. (type_named bs z.name.text ≡ Some z) × Leads bs z top) (xs ++ top ∷ []) p (line_path bs xs top h.line) (k, l, e) in
       let o : IsOf bs i p = record { declared = m.declared; named = subst (λ n. type_named bs n ≡ Some p) name q.0 } in
-      record { outer = top; inner = p; part = i; leads = all_last (Leads bs b) xs top h.led; uses = used_by bs top i p a o; back = q.1; place = m.place }
+      record { outer = top; inner = p; part = i; leads = all_last (Leads bs b) xs top h.led; uses = used_by bs top i p a o; back = q.1; offset = m.offset }
 
 -- nothing is left on the path
 pub search_ended : (bs : List BlockTree) (b : BlockTree) (left : Name → Option BlockTree) → IsNamed bs b → IsSearching bs b left [] → Ends bs b

@@ -27,7 +27,7 @@ use Rattle.fb_networks.specs.Answers.{IsWired, AreNamed}
 use Rattle.fb_types.specs.declared.typed.Resource.{Resource}
 use Rattle.fb_types.specs.declared.typed.Device.{Device}
 use Rattle.fb_types.specs.Uses.{Used, uses_in}
-use Rattle.fb_types.specs.Views.{resource_of, resource_places, system_places, places_in, all_places, resource_uses, device_uses, system_uses}
+use Rattle.fb_types.specs.Views.{resource_of, resource_offsets, system_offsets, offsets_in, all_offsets, resource_uses, device_uses, system_uses}
 use Rattle.fb_types.specs.Counts.{IsCrowded, crowded}
 use Rattle.fb_types.specs.Nesting.{AllProvide, ResourcesProvide, by_no_resource, by_each_resource, DevicesProvide, by_no_device, by_each_device}
 use Rattle.fb_types.specs.Refusals.{IsInstanceFault, IsTooDeep, IsBlockFault, IsFirstFault, IsCrowd}
@@ -82,7 +82,7 @@ record Split (bs : List BlockTree) (d : ℕ) (is : List InstanceTree) (before : 
   pub parts : is ≡ front ++ one ∷ back
   pub earlier : AreInstances bs d front (instances_of before)
   pub made : IsInstance bs d one ((placed_of x).1) ((placed_of x).2)
-  pub place : (out-Instance x).at ≡ one.name.at
+  pub offset : (out-Instance x).at ≡ one.name.at
 
 heads : {a b : ℕ} {xs ys : List ℕ} → a ∷ xs ≡ b ∷ ys → a ≡ b
 heads e = cc
@@ -90,24 +90,24 @@ heads e = cc
 tails : {a b : ℕ} {xs ys : List ℕ} → a ∷ xs ≡ b ∷ ys → xs ≡ ys
 tails e = cc
 
-abbrev places : List Instance → List ℕ
-places xs = map (λ x. (out-Instance x).at) xs
+abbrev offsets : List Instance → List ℕ
+offsets xs = map (λ x. (out-Instance x).at) xs
 
 abbrev name_places : List InstanceTree → List ℕ
 name_places is = map (λ i. i.name.at) is
 
-split : (bs : List BlockTree) (d : ℕ) (before : List Instance) (x : Instance) (after : List Instance) (is : List InstanceTree) → AreInstances bs d is (instances_of (before ++ x ∷ after)) → places (before ++ x ∷ after) ≡ name_places is → Split bs d is before x
+split : (bs : List BlockTree) (d : ℕ) (before : List Instance) (x : Instance) (after : List Instance) (is : List InstanceTree) → AreInstances bs d is (instances_of (before ++ x ∷ after)) → offsets (before ++ x ∷ after) ≡ name_places is → Split bs d is before x
 split bs d [] x after is h e =
     let k = first_made bs d is ((placed_of x).0) ((placed_of x).1) ((placed_of x).2) (instances_of after) h in
-    record { front = []; back = k.others; one = k.one; parts = k.parts; earlier = no_instance; made = k.made; place = heads (e ∙ ap name_places k.parts) }
+    record { front = []; back = k.others; one = k.one; parts = k.parts; earlier = no_instance; made = k.made; offset = heads (e ∙ ap name_places k.parts) }
 split bs d (y ∷ before) x after is h e =
     let k = first_made bs d is ((placed_of y).0) ((placed_of y).1) ((placed_of y).2) (instances_of (before ++ x ∷ after)) h in
     let s = split bs d before x after k.others k.later (tails (e ∙ ap name_places k.parts)) in
-    record { front = k.one ∷ s.front; back = s.back; one = s.one; parts = k.parts ∙ ap (λ l. k.one ∷ l) s.parts; earlier = subst (λ n. AreInstances bs d (k.one ∷ s.front) (book.instance n ((placed_of y).1) ((placed_of y).2) (instances_of before))) (sym k.named) (an_instance k.made s.earlier); made = s.made; place = s.place }
+    record { front = k.one ∷ s.front; back = s.back; one = s.one; parts = k.parts ∙ ap (λ l. k.one ∷ l) s.parts; earlier = subst (λ n. AreInstances bs d (k.one ∷ s.front) (book.instance n ((placed_of y).1) ((placed_of y).2) (instances_of before))) (sym k.named) (an_instance k.made s.earlier); made = s.made; offset = s.offset }
 
 pub crowd : (bs : List BlockTree) (most d : ℕ) (is : List InstanceTree) (xs : List Instance) (n : ℕ) (f : TypeFault) → AreParts bs d is xs n → IsCrowded most xs f → IsCrowd bs most is f
 crowd bs most d is xs n f h (crowded before after i parts fits more e) =
-    let s = split bs d before i after is (subst (λ l. AreInstances bs d is (instances_of l)) parts h.typed) (subst (λ l. places l ≡ name_places is) parts h.places) in
+    let s = split bs d before i after is (subst (λ l. AreInstances bs d is (instances_of l)) parts h.typed) (subst (λ l. offsets l ≡ name_places is) parts h.offsets) in
     record {
       before = s.front;
       after = s.back;
@@ -121,7 +121,7 @@ crowd bs most d is xs n f h (crowded before after i parts fits more e) =
       made = s.made;
       fits = fits;
       more = more;
-      fault_is = e ∙ ap faults.Limit s.place;
+      fault_is = e ∙ ap faults.Limit s.offset;
     }
 
 -- ---- resources
@@ -154,19 +154,19 @@ placed_more : {X Y T : Type 0} (f : X → T) (g : Y → T) (made : List Y) (xs :
 placed_more f g made xs i x new y lt is e h k =
     ap (map g) e ∙ map_push g made y ∙ ap (λ l. l ++ g y ∷ []) h ∙ ap (λ p. map f (take i xs) ++ p ∷ []) k ∙ sym (mapped_more f xs i x lt is)
 
-pub places_more : (made : List Resource) (xs : List ResourceRow) (i : ℕ) (x : ResourceRow) (new : List Resource) (q : Resource) → i < length xs → x ≡ get_or xs i x → new ≡ made ++ q ∷ []
-    → resource_places made ≡ places_in (map trees_of.resource_of (take i xs)) → q.at ≡ (trees_of.resource_of x).name.at → resource_places new ≡ places_in (map trees_of.resource_of (take (i + 1) xs))
-places_more made xs i x new q lt is e h k =
+pub offsets_more : (made : List Resource) (xs : List ResourceRow) (i : ℕ) (x : ResourceRow) (new : List Resource) (q : Resource) → i < length xs → x ≡ get_or xs i x → new ≡ made ++ q ∷ []
+    → resource_offsets made ≡ offsets_in (map trees_of.resource_of (take i xs)) → q.at ≡ (trees_of.resource_of x).name.at → resource_offsets new ≡ offsets_in (map trees_of.resource_of (take (i + 1) xs))
+offsets_more made xs i x new q lt is e h k =
     let view : ResourceRow → ResourceTree = trees_of.resource_of in
-    let place : ResourceTree → ℕ = λ r. r.name.at in
-    placed_more (λ (r : ResourceRow). place (view r)) (λ (r : Resource). r.at) made xs i x new q lt is e (h ∙ map_map place view (take i xs)) k ∙ sym (map_map place view (take (i + 1) xs))
+    let offset : ResourceTree → ℕ = λ r. r.name.at in
+    placed_more (λ (r : ResourceRow). offset (view r)) (λ (r : Resource). r.at) made xs i x new q lt is e (h ∙ map_map offset view (take i xs)) k ∙ sym (map_map offset view (take (i + 1) xs))
 
-pub all_places_more : (made : List Device) (xs : List DeviceRow) (i : ℕ) (x : DeviceRow) (new : List Device) (q : Device) → i < length xs → x ≡ get_or xs i x → new ≡ made ++ q ∷ []
-    → system_places made ≡ all_places (map trees_of.device_of (take i xs)) → resource_places q.resources.items ≡ places_in (trees_of.device_of x).resources → system_places new ≡ all_places (map trees_of.device_of (take (i + 1) xs))
-all_places_more made xs i x new q lt is e h k =
+pub all_offsets_more : (made : List Device) (xs : List DeviceRow) (i : ℕ) (x : DeviceRow) (new : List Device) (q : Device) → i < length xs → x ≡ get_or xs i x → new ≡ made ++ q ∷ []
+    → system_offsets made ≡ all_offsets (map trees_of.device_of (take i xs)) → resource_offsets q.resources.items ≡ offsets_in (trees_of.device_of x).resources → system_offsets new ≡ all_offsets (map trees_of.device_of (take (i + 1) xs))
+all_offsets_more made xs i x new q lt is e h k =
     let view : DeviceRow → DeviceTree = trees_of.device_of in
-    let place : DeviceTree → List ℕ = λ d. places_in d.resources in
-    placed_more (λ (d : DeviceRow). place (view d)) (λ (d : Device). resource_places d.resources.items) made xs i x new q lt is e (h ∙ map_map place view (take i xs)) k ∙ sym (map_map place view (take (i + 1) xs))
+    let offset : DeviceTree → List ℕ = λ d. offsets_in d.resources in
+    placed_more (λ (d : DeviceRow). offset (view d)) (λ (d : Device). resource_offsets d.resources.items) made xs i x new q lt is e (h ∙ map_map offset view (take i xs)) k ∙ sym (map_map offset view (take (i + 1) xs))
 
 pub resources_more : (bs : List BlockTree) (rs : List ResourceTree) (qs : List book.Resource) (r : ResourceTree) (q : book.Resource) → AreResources bs rs qs → IsResource bs r q → AreResources bs (rs ++ r ∷ []) (qs ++ q ∷ [])
 resources_more bs rs qs r q no_resource h = a_resource h no_resource

@@ -15,7 +15,7 @@ pub record IsRefused (source : SourceTree) (f : TypeFault) : Type 0 where
 
 -- ---- connections that are followed
 
--- in one of these resources more connections are followed than may be, and this is the place of its name
+-- in one of these resources more connections are followed than may be, and this is the offset of its name
 pub data AnyCrowded : List ResourceTree → List Resource → ℕ → Type 0 where
   this_resource : {r : ResourceTree} {rs : List ResourceTree} {q : Resource} {qs : List Resource} → most_followed < resource_count q → AnyCrowded (r ∷ rs) (q ∷ qs) r.name.at
   later_resource : {r : ResourceTree} {rs : List ResourceTree} {q : Resource} {qs : List Resource} {at : ℕ} → AnyCrowded rs qs at → AnyCrowded (r ∷ rs) (q ∷ qs) at

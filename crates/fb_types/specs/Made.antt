@@ -53,7 +53,7 @@ abbrev pub shape_uses : Shape → List Used
 shape_uses (s.Basic k) = []
 shape_uses (s.Composite f n) = uses_in (out-Network n.value).instances.items
 
--- the services in a body, of an instance whose name stands at this place
+-- the services in a body, of an instance whose name stands at this offset
 abbrev pub body_uses : Body → ℕ → List Used
 body_uses = fold-Body (ℕ → List Used) (List Used) (List Used) body_step instance_step network_step
 
@@ -101,14 +101,14 @@ module _ (bs : List BlockTree) where
     pub typed : IsInstance bs d i ((placed_of x).1) ((placed_of x).2)
     pub deep_is : n ≡ deep ((placed_of x).2)
     pub uses : InstanceProvides bs i (uses_of x)
-    pub place : (out-Instance x).at ≡ i.name.at
+    pub offset : (out-Instance x).at ≡ i.name.at
 
   -- instances, with how deep composites nest in them
   pub record AreParts (d : ℕ) (is : List InstanceTree) (xs : List Instance) (n : ℕ) : Type 0 where
     pub typed : AreInstances bs d is (instances_of xs)
     pub deepest_is : n ≡ deepest (instances_of xs)
     pub uses : AllProvide bs is (uses_in xs)
-    pub places : map (λ x. (out-Instance x).at) xs ≡ map (λ i. i.name.at) is
+    pub offsets : map (λ x. (out-Instance x).at) xs ≡ map (λ i. i.name.at) is
 
   -- these instances are made, with composites nested as deep as they may
   pub record AreMade (is : List InstanceTree) (xs : List Instance) : Type 0 where

@@ -50,7 +50,7 @@ module _ (bs : List BlockTree) where
     outside : {b c : BlockTree} {i : InstanceTree} {n : ℕ} → Uses b i c → Nests c n → Nests b (suc n)
 
   mutual
-    -- the services in a type with the places of their instances' names, depth first in text order
+    -- the services in a type with the offsets of their instances' names, depth first in text order
     pub data Provides : BlockTree → List Used → Type 0 where
       by_basic : {b : BlockTree} {c : ChartTree} → b.body ≡ Chart c → Provides b []
       by_composite : {b : BlockTree} {n : NetworkTree} {us : List Used} → b.body ≡ Network n → AllProvide n.instances us → Provides b us

@@ -35,11 +35,11 @@ IsOnPath path i = Any (λ b. b.name.text ≡ i.type.text) path
 abbrev pub IsPassed : (Name → Option BlockTree) → List BlockTree → InstanceTree → Type 0
 IsPassed left path i = (is_in i.type.text service_names ≡ true) ⊎ ((IsOnPath path i → ⊥) × (left i.type.text ≡ None))
 
--- its type is on the path, and this is the place of the type's name
+-- its type is on the path, and this is the offset of the type's name
 pub record IsClosing (path : List BlockTree) (i : InstanceTree) (at : ℕ) : Type 0 where
   pub declared : is_in i.type.text service_names ≡ false
   pub on : IsOnPath path i
-  pub place : at ≡ i.type.at
+  pub offset : at ≡ i.type.at
 
 -- its type is this one, met for the first time
 pub record IsMet (left later : Name → Option BlockTree) (i : InstanceTree) (c : BlockTree) : Type 0 where
@@ -65,7 +65,7 @@ module _ (bs : List BlockTree) where
   pub data Ends : BlockTree → Type 0 where
     all_end : {b : BlockTree} → ((i : InstanceTree) (c : BlockTree) → Uses bs b i c → Ends c) → Ends b
 
-  -- a ring to which a type leads closes at this place: that of the type's name of an instance
+  -- a ring to which a type leads closes at this offset: that of the type's name of an instance
   pub record IsRingBelow (b : BlockTree) (at : ℕ) : Type 0 where
     pub outer : BlockTree
     pub inner : BlockTree
@@ -73,7 +73,7 @@ module _ (bs : List BlockTree) where
     pub leads : Leads bs b outer
     pub uses : Uses bs outer part inner
     pub back : Leads bs inner outer
-    pub place : at ≡ part.type.at
+    pub offset : at ≡ part.type.at
 
   -- each type on a path is the one of its name, and leads to those behind it
   abbrev pub IsLine : List BlockTree → Type 0
@@ -89,7 +89,7 @@ module _ (bs : List BlockTree) where
     -- a type that is met is on the path, or all chains from it end
     pub met : (c : BlockTree) → type_named bs c.name.text ≡ Some c → left c.name.text ≡ None → Contains path c ⊎ Ends c
 
-  -- what it finds: the place of a ring, or that there is none
+  -- what it finds: the offset of a ring, or that there is none
   abbrev pub IsSearched : BlockTree → Option ℕ → Type 0
   IsSearched b None = Ends b
   IsSearched b (Some at) = IsRingBelow b at

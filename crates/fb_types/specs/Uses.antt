@@ -1,4 +1,4 @@
--- The services of instances with the places of the instances' names, depth first in text order.
+-- The services of instances with the offsets of the instances' names, depth first in text order.
 use Rattle.std.specs.Prelude.{ℕ, List, [], ◌∷◌, ◌++◌, map}
 use Rattle.fb_model.specs.System.{Service}
 use Rattle.fb_networks.specs.declared.typed.Body.TheOpen.{Body-F, Instance-F, Network-F}
@@ -6,7 +6,7 @@ use Rattle.fb_networks.specs.declared.typed.Instance.{Instance, fold-Instance}
 use Rattle.fb_networks.specs.fb_services.Views.{service_of}
 use Rattle.fb_types.specs.declared.uses.Use.{Use}
 
--- a service, and the place of its instance's name
+-- a service, and the offset of its instance's name
 abbrev pub Used : Type 0
 Used = ℕ × Service
 
@@ -23,7 +23,7 @@ abbrev pub joined : List (List Used) → List Used
 joined [] = []
 joined (xs ∷ rest) = xs ++ joined rest
 
--- one level, with what is inside seen already: at the place of the name of its instance
+-- one level, with what is inside seen already: at the offset of the name of its instance
 abbrev pub body_step : Body-F (ℕ → List Used) (List Used) (List Used) → ℕ → List Used
 body_step (Body-F.Basic k) at = []
 body_step (Body-F.Served s) at = (at, service_of s) ∷ []

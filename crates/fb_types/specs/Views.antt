@@ -1,4 +1,4 @@
--- What typed systems are in the book, without where they lie in memory, and the services in them with their places.
+-- What typed systems are in the book, without where they lie in memory, and the services in them with their offsets.
 use Rattle.std.specs.Prelude.{ℕ, List, [], ◌∷◌, ◌++◌, map, string_bytes}
 use Rattle.fb_model.specs.System as book
 use Rattle.fb_model.specs.Declarations as decl
@@ -18,19 +18,19 @@ device_of d = record { name = string_bytes d.name; resources = map resource_of d
 abbrev pub system_of : Configuration → book.System
 system_of t = record { devices = map device_of t.devices.items }
 
--- the places of the names of resources, and of those of devices, in order
-abbrev pub resource_places : List Resource → List ℕ
-resource_places rs = map (λ r. r.at) rs
+-- the offsets of the names of resources, and of those of devices, in order
+abbrev pub resource_offsets : List Resource → List ℕ
+resource_offsets rs = map (λ r. r.at) rs
 
-abbrev pub system_places : List Device → List (List ℕ)
-system_places ds = map (λ d. resource_places d.resources.items) ds
+abbrev pub system_offsets : List Device → List (List ℕ)
+system_offsets ds = map (λ d. resource_offsets d.resources.items) ds
 
 -- as they stand in a source
-abbrev pub places_in : List decl.ResourceTree → List ℕ
-places_in rs = map (λ r. r.name.at) rs
+abbrev pub offsets_in : List decl.ResourceTree → List ℕ
+offsets_in rs = map (λ r. r.name.at) rs
 
-abbrev pub all_places : List decl.DeviceTree → List (List ℕ)
-all_places ds = map (λ d. places_in d.resources) ds
+abbrev pub all_offsets : List decl.DeviceTree → List (List ℕ)
+all_offsets ds = map (λ d. offsets_in d.resources) ds
 
 abbrev pub resource_uses : Resource → List Used
 resource_uses r = uses_in (out-Network r.network).instances.items

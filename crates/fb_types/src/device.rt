@@ -5,7 +5,7 @@ ghost use Rattle.std.specs.List.{Contains};
 ghost use Rattle.fb_model.specs.Declarations as decl;
 ghost use Rattle.fb_model.specs.NetworkTyping.{IsDevice, AreDevices};
 ghost use Rattle.fb_networks.specs.fb_text.Views as trees_of;
-ghost use Rattle.fb_types.specs.Views.{device_of, resource_places, system_places, places_in, all_places, device_uses, system_uses};
+ghost use Rattle.fb_types.specs.Views.{device_of, resource_offsets, system_offsets, offsets_in, all_offsets, device_uses, system_uses};
 ghost use Rattle.fb_types.specs.Nesting.{ResourcesProvide, DevicesProvide};
 ghost use Rattle.fb_types.specs.Refusals.{IsDeviceFault};
 ghost use Rattle.fb_types.specs.Made.{IsTable, IsMemo};
@@ -30,7 +30,7 @@ fn device<'a>(
     source: &'a DeviceTree,
 ) -> Result<Device, TypeFault>
     ensures typed { (bs : List decl.BlockTree) → IsTable bs types.now → IsMemo bs memo.old → IfOk result (λ e. IsDevice bs (trees_of.device_of source.now) (device_of e)) }
-    ensures places { IfOk result (λ e. resource_places e.resources.items ≡ places_in (trees_of.device_of source.now).resources) }
+    ensures offsets { IfOk result (λ e. resource_offsets e.resources.items ≡ offsets_in (trees_of.device_of source.now).resources) }
     ensures uses { (bs : List decl.BlockTree) → IsTable bs types.now → IsMemo bs memo.old → IfOk result (λ e. ResourcesProvide bs (trees_of.device_of source.now).resources (device_uses e.resources.items)) }
     ensures kept { (bs : List decl.BlockTree) → IsTable bs types.now → IsMemo bs memo.old → OnOk result (IsMemo bs memo.new) }
     ensures refused { (bs : List decl.BlockTree) → IsTable bs types.now → IsMemo bs memo.old → IfErr result (IsDeviceFault bs (trees_of.device_of source.now)) }
@@ -51,7 +51,7 @@ pub(crate) fn devices<'a>(
     sources: &'a [DeviceTree],
 ) -> Result<Vec<Device>, TypeFault>
     ensures typed { (bs : List decl.BlockTree) → IsTable bs types.now → IsMemo bs memo.old → IfOk result (λ v. AreDevices bs (map trees_of.device_of sources.now) (map device_of v.items)) }
-    ensures places { IfOk result (λ v. system_places v.items ≡ all_places (map trees_of.device_of sources.now)) }
+    ensures offsets { IfOk result (λ v. system_offsets v.items ≡ all_offsets (map trees_of.device_of sources.now)) }
     ensures uses { (bs : List decl.BlockTree) → IsTable bs types.now → IsMemo bs memo.old → IfOk result (λ v. DevicesProvide bs (map trees_of.device_of sources.now) (system_uses v.items)) }
     ensures refused { (bs : List decl.BlockTree) → IsTable bs types.now → IsMemo bs memo.old → IfErr result (λ f. (d : decl.DeviceTree) × Contains (map trees_of.device_of sources.now) d × IsDeviceFault bs d f) }
 {

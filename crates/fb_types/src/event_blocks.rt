@@ -5,7 +5,7 @@ ghost use Rattle.fb_model.specs.System as book;
 ghost use Rattle.fb_model.specs.EventBlocks.{Elaborates};
 ghost use Rattle.fb_networks.specs.fb_text.Views as trees_of;
 ghost use Rattle.fb_networks.specs.Answers.{Finds};
-ghost use Rattle.fb_types.specs.Views.{system_of, system_places, all_places};
+ghost use Rattle.fb_types.specs.Views.{system_of, system_offsets, all_offsets};
 ghost use Rattle.fb_types.specs.Beforehand.{IsRefused};
 
 use crate::source::resolve_with;
@@ -18,7 +18,7 @@ use std::alloc::Global;
 // The system of a tree.
 fn resolve_tree(alloc: Global, tree: &FileTree) -> Result<Configuration, TypeFault>
     ensures typed { IfOk result (λ t. Elaborates (trees_of.source_of tree.now) (system_of t)) }
-    ensures places { IfOk result (λ t. system_places t.devices.items ≡ all_places (trees_of.source_of tree.now).system.devices) }
+    ensures offsets { IfOk result (λ t. system_offsets t.devices.items ≡ all_offsets (trees_of.source_of tree.now).system.devices) }
     ensures refused { IfErr result (IsRefused (trees_of.source_of tree.now)) }
     ensures only { (s : book.System) → Elaborates (trees_of.source_of tree.now) s → Finds system_of result s }
 {
@@ -34,10 +34,10 @@ fn resolve_tree(alloc: Global, tree: &FileTree) -> Result<Configuration, TypeFau
 
 /// The typed system of a source: types of the text, and the event blocks that are declared beforehand.
 ///
-/// A type of the text comes before an event block of the same name. Each resource has the place of its name.
+/// A type of the text comes before an event block of the same name. Each resource has the offset of its name.
 pub fn resolve(alloc: Global, source: &Source) -> Result<Typed, TypeFault>
     ensures typed { IfOk result (λ t. Elaborates (trees_of.source_of source.now) (system_of t)) }
-    ensures places { IfOk result (λ t. system_places t.devices.items ≡ all_places (trees_of.source_of source.now).system.devices) }
+    ensures offsets { IfOk result (λ t. system_offsets t.devices.items ≡ all_offsets (trees_of.source_of source.now).system.devices) }
     ensures refused { IfErr result (IsRefused (trees_of.source_of source.now)) }
     ensures only { (s : book.System) → Elaborates (trees_of.source_of source.now) s → Finds system_of result s }
 {

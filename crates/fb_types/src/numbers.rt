@@ -58,7 +58,7 @@ fn number(kind: Kind, service: &Service) -> Option<u16>
     }
 }
 
-// The refusal of a number that is taken, by an instance whose name stands at this place.
+// The refusal of a number that is taken, by an instance whose name stands at this offset.
 fn taken(kind: Kind, at: usize) -> TypeFault
     ensures { result ≡ taken_fault kind at }
 {

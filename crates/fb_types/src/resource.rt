@@ -6,7 +6,7 @@ ghost use Rattle.fb_model.specs.Declarations as decl;
 ghost use Rattle.fb_model.specs.NetworkTyping.{IsResource, AreResources, no_face};
 ghost use Rattle.fb_networks.specs.fb_text.Views as trees_of;
 ghost use Rattle.fb_networks.specs.fb_blocks.Views.{face_of};
-ghost use Rattle.fb_types.specs.Views.{resource_of, resource_places, places_in, resource_uses, device_uses};
+ghost use Rattle.fb_types.specs.Views.{resource_of, resource_offsets, offsets_in, resource_uses, device_uses};
 ghost use Rattle.fb_types.specs.Nesting.{AllProvide, ResourcesProvide};
 ghost use Rattle.fb_types.specs.Refusals.{IsResourceFault};
 ghost use Rattle.fb_types.specs.Made.{IsTable, IsMemo, IsNamed, IsDeeper, IsUnmade, IsHalted, IsRefusedType, IsRefusedInstance, AreMade};
@@ -85,7 +85,7 @@ fn resource<'a>(
     source: &'a ResourceTree,
 ) -> Result<Resource, TypeFault>
     ensures typed { (bs : List decl.BlockTree) → IsTable bs types.now → IsMemo bs memo.old → IfOk result (λ q. IsResource bs (trees_of.resource_of source.now) (resource_of q)) }
-    ensures place { IfOk result (λ q. q.at ≡ (trees_of.resource_of source.now).name.at) }
+    ensures offset { IfOk result (λ q. q.at ≡ (trees_of.resource_of source.now).name.at) }
     ensures uses { (bs : List decl.BlockTree) → IsTable bs types.now → IsMemo bs memo.old → IfOk result (λ q. AllProvide bs (trees_of.resource_of source.now).network.instances (resource_uses q)) }
     ensures kept { (bs : List decl.BlockTree) → IsTable bs types.now → IsMemo bs memo.old → OnOk result (IsMemo bs memo.new) }
     ensures refused { (bs : List decl.BlockTree) → IsTable bs types.now → IsMemo bs memo.old → IfErr result (IsResourceFault bs (trees_of.resource_of source.now)) }
@@ -109,7 +109,7 @@ pub(crate) fn resources<'a>(
     sources: &'a [ResourceTree],
 ) -> Result<Vec<Resource>, TypeFault>
     ensures typed { (bs : List decl.BlockTree) → IsTable bs types.now → IsMemo bs memo.old → IfOk result (λ v. AreResources bs (map trees_of.resource_of sources.now) (map resource_of v.items)) }
-    ensures places { IfOk result (λ v. resource_places v.items ≡ places_in (map trees_of.resource_of sources.now)) }
+    ensures offsets { IfOk result (λ v. resource_offsets v.items ≡ offsets_in (map trees_of.resource_of sources.now)) }
     ensures uses { (bs : List decl.BlockTree) → IsTable bs types.now → IsMemo bs memo.old → IfOk result (λ v. ResourcesProvide bs (map trees_of.resource_of sources.now) (device_uses v.items)) }
     ensures kept { (bs : List decl.BlockTree) → IsTable bs types.now → IsMemo bs memo.old → OnOk result (IsMemo bs memo.new) }
     ensures refused { (bs : List decl.BlockTree) → IsTable bs types.now → IsMemo bs memo.old → IfErr result (λ f. (r : decl.ResourceTree) × Contains (map trees_of.resource_of sources.now) r × IsResourceFault bs r f) }

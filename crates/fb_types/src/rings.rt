@@ -22,7 +22,7 @@ use std::alloc::{AllocError, Global};
 pub(crate) enum Step<'a> {
     /// There is nothing more to search here.
     Passed,
-    /// A ring closes; this is the place of the type's name of an instance.
+    /// A ring closes; this is the offset of the type's name of an instance.
     Closing(usize),
     /// In a type that is met for the first time.
     Inside(&'a BlockTree),
@@ -89,7 +89,7 @@ fn look_among<'a>(
     Step::Passed
 }
 
-// Searches on from the type that was taken from the end of a path: the place of a ring, where one closes there.
+// Searches on from the type that was taken from the end of a path: the offset of a ring, where one closes there.
 fn advance<'a>(
     left: &mut Types<'a>,
     path: &mut Vec<&'a BlockTree>,
@@ -137,7 +137,7 @@ fn copied<'a>(alloc: Global, types: &Types<'a>) -> Result<Types<'a>, AllocError>
     Ok(copy)
 }
 
-/// The place of a ring of composites to which a type leads: that of the type's name in the instance by which it closes.
+/// The offset of a ring of composites to which a type leads: that of the type's name in the instance by which it closes.
 ///
 /// Types are searched depth first in text order, each once. The path is on the heap, however long it is.
 pub(crate) fn ring<'a>(

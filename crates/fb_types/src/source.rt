@@ -7,7 +7,7 @@ ghost use Rattle.fb_model.specs.System as book;
 ghost use Rattle.fb_model.specs.NetworkTyping.{IsProper, ElaboratesWith};
 ghost use Rattle.fb_networks.specs.fb_text.Views as trees_of;
 ghost use Rattle.fb_networks.specs.fb_blocks.Answers.{Finds};
-ghost use Rattle.fb_types.specs.Views.{system_of, system_places, all_places};
+ghost use Rattle.fb_types.specs.Views.{system_of, system_offsets, all_offsets};
 ghost use Rattle.fb_types.specs.Refusals.{IsBlockFault, IsFirstFault, IsSourceFault};
 ghost use Rattle.fb_types.specs.Made.{IsTable, IsMemo, IsNamed};
 
@@ -70,7 +70,7 @@ fn resolved(
     source: &FileTree,
 ) -> Result<Configuration, TypeFault>
     ensures typed { IfOk result (λ t. ElaboratesWith (map trees_of.block_of library.now) (trees_of.source_of source.now) (system_of t)) }
-    ensures places { IfOk result (λ t. system_places t.devices.items ≡ all_places (trees_of.source_of source.now).system.devices) }
+    ensures offsets { IfOk result (λ t. system_offsets t.devices.items ≡ all_offsets (trees_of.source_of source.now).system.devices) }
     ensures refused { IfErr result (IsSourceFault (map trees_of.block_of library.now) (trees_of.source_of source.now)) }
 {
     table(alloc, &source.blocks)?;
@@ -100,7 +100,7 @@ pub fn resolve_with(
     source: &FileTree,
 ) -> Result<Configuration, TypeFault>
     ensures typed { IfOk result (λ t. ElaboratesWith (map trees_of.block_of library.now) (trees_of.source_of source.now) (system_of t)) }
-    ensures places { IfOk result (λ t. system_places t.devices.items ≡ all_places (trees_of.source_of source.now).system.devices) }
+    ensures offsets { IfOk result (λ t. system_offsets t.devices.items ≡ all_offsets (trees_of.source_of source.now).system.devices) }
     ensures refused { IfErr result (IsSourceFault (map trees_of.block_of library.now) (trees_of.source_of source.now)) }
     ensures only { (s : book.System) → ElaboratesWith (map trees_of.block_of library.now) (trees_of.source_of source.now) s → Finds system_of result s }
 {

@@ -7,7 +7,7 @@ ghost use Rattle.fb_types.specs.Written.{IsWritten};
 use fb_networks::Network;
 use std::marker::Model;
 
-/// A resource: its instances and their connections. `at` is the place of its name.
+/// A resource: its instances and their connections. `at` is the offset of its name.
 #[derive(Drop)]
 pub struct Resource {
     pub name: String,

@@ -12,7 +12,7 @@ use fb_networks::fb_services::fb_blocks::TypeFault;
 use fb_networks::{Body, Instance};
 use std::alloc::Global;
 
-/// A service of an instance, with the place of the instance's name.
+/// A service of an instance, with the offset of the instance's name.
 #[derive(Clone, Copy)]
 pub struct Use<'a> {
     pub at: usize,

@@ -10,4 +10,4 @@ pub returns-in-Err-clause-accepts : goal.returns-in-Err-clause-accepts
 returns-in-Err-clause-accepts c = λ source system short is e. c.from.ensures ∙ no_memory c.in-Err.fault source (c.in-Err.ensures.only source is short)
 
 pub returns-in-Ok-clause-typed : goal.returns-in-Ok-clause-typed
-returns-in-Ok-clause-typed c = typed_of c.args.text.now (source_of c.in-Ok.source) c.resolved-typed.result c.in-Ok.ensures.found c.resolved-typed.ensures.typed c.resolved-typed.ensures.places
+returns-in-Ok-clause-typed c = typed_of c.args.text.now (source_of c.in-Ok.source) c.resolved-typed.result c.in-Ok.ensures.found c.resolved-typed.ensures.typed c.resolved-typed.ensures.offsets

@@ -9,7 +9,7 @@ use Rattle.fb_networks.specs.fb_blocks.Refusals.{IsRepetition, IsExcess}
 use Rattle.fb_types.specs.Ends.{IsNumberFault}
 use Rattle.fb_types.specs.Nesting.{ResourcesProvide}
 use Rattle.fb_types.specs.Refusals.{repeated_resource, excess_resource, faulty_resource, faulty_numbers}
-use Rattle.fb_types.specs.Views.{resource_of, resource_places, places_in, device_uses}
+use Rattle.fb_types.specs.Views.{resource_of, resource_offsets, offsets_in, device_uses}
 use Rattle.fb_types.proofs.Systems.{resource_words, resource_names}
 use Rattle.fb_types.proofs.device.device.Goals as goal
 
@@ -38,8 +38,8 @@ returns-in_err-numbers_differ-clause-refused c = λ bs table memo.
     let f = c.in_err-numbers_differ.field-0.0 in
     rw (p.1, p.2) (faulty_numbers uses (subst (λ l. IsNumberFault (device_uses l) f) c.deref-4.ensures.value c.in_err-numbers_differ.ensures.refused))
 
-pub returns-clause-places : goal.returns-clause-places
-returns-clause-places c = subst (λ l. resource_places c.in_ok-resources.resources.items ≡ places_in (map trees_of.resource_of l)) c.deref-3.ensures.value c.in_ok-resources.ensures.places
+pub returns-clause-offsets : goal.returns-clause-offsets
+returns-clause-offsets c = subst (λ l. resource_offsets c.in_ok-resources.resources.items ≡ offsets_in (map trees_of.resource_of l)) c.deref-3.ensures.value c.in_ok-resources.ensures.offsets
 
 pub returns-clause-typed : goal.returns-clause-typed
 returns-clause-typed c = λ bs table memo.

@@ -4,15 +4,15 @@ use Rattle.std.proofs.lemmas.List.{take_all, map_push}
 use Rattle.fb_model.specs.NetworkTyping.{AreDevices, no_device}
 use Rattle.fb_networks.specs.fb_text.Views as trees_of
 use Rattle.fb_networks.proofs.of_fb_blocks.Lists.{mapped_more}
-use Rattle.fb_types.specs.Views.{device_of, system_places, all_places, device_uses, system_uses}
+use Rattle.fb_types.specs.Views.{device_of, system_offsets, all_offsets, device_uses, system_uses}
 use Rattle.fb_types.specs.Nesting.{DevicesProvide, by_no_device}
 use Rattle.fb_types.specs.Refusals.{no_memory_for_device}
 use Rattle.fb_types.proofs.Nested.{among_at}
-use Rattle.fb_types.proofs.Systems.{all_places_more, devices_more, devices_provide_more, system_uses_more}
+use Rattle.fb_types.proofs.Systems.{all_offsets_more, devices_more, devices_provide_more, system_uses_more}
 use Rattle.fb_types.proofs.device.devices.Goals as goal
 
 pub loop-source-init : goal.loop-source-init
-loop-source-init c = record { places = rw c.new-devices.ensures.items refl; kept = λ bs table memo. memo; typed = λ bs table memo. rw c.new-devices.ensures.items no_device; uses = λ bs table memo. rw c.new-devices.ensures.items by_no_device }
+loop-source-init c = record { offsets = rw c.new-devices.ensures.items refl; kept = λ bs table memo. memo; typed = λ bs table memo. rw c.new-devices.ensures.items no_device; uses = λ bs table memo. rw c.new-devices.ensures.items by_no_device }
 
 pub returns-in_err-device-clause-refused : goal.returns-in_err-device-clause-refused
 returns-in_err-device-clause-refused c = λ bs table memo.
@@ -37,7 +37,7 @@ loop-source-preserved c =
     let q = c.in_ok-device.field-0 in
     let next = sym (mapped_more trees_of.device_of xs i x c.loop-source-test.true c.source-item.is) in
     record {
-      places = all_places_more made xs i x c.push.new.self.items q c.loop-source-test.true c.source-item.is c.in_ok-push.ensures.items c.loop-source.invariant.places c.in_ok-device.ensures.places;
+      offsets = all_offsets_more made xs i x c.push.new.self.items q c.loop-source-test.true c.source-item.is c.in_ok-push.ensures.items c.loop-source.invariant.offsets c.in_ok-device.ensures.offsets;
       kept = λ bs table memo. c.in_ok-device.ensures.kept bs table (c.loop-source.invariant.kept bs table memo);
       typed = λ bs table memo.
           let one = c.in_ok-device.ensures.typed bs table (c.loop-source.invariant.kept bs table memo) in
@@ -49,9 +49,9 @@ loop-source-preserved c =
           subst (λ l. DevicesProvide bs l (system_uses c.push.new.self.items)) next (subst (λ l. DevicesProvide bs (map trees_of.device_of (take i xs) ++ trees_of.device_of x ∷ []) l) (sym (ap system_uses c.in_ok-push.ensures.items ∙ system_uses_more made q)) more);
     }
 
-pub returns-clause-places : goal.returns-clause-places
-returns-clause-places c =
-    subst (λ l. system_places c.loop-source.devices.items ≡ all_places (map trees_of.device_of l)) (take_all c.loop-source.source-index c.args.sources.now c.loop-source-test.false) c.loop-source.invariant.places
+pub returns-clause-offsets : goal.returns-clause-offsets
+returns-clause-offsets c =
+    subst (λ l. system_offsets c.loop-source.devices.items ≡ all_offsets (map trees_of.device_of l)) (take_all c.loop-source.source-index c.args.sources.now c.loop-source-test.false) c.loop-source.invariant.offsets
 
 pub returns-clause-typed : goal.returns-clause-typed
 returns-clause-typed c = λ bs table memo.

@@ -4,14 +4,14 @@ use Rattle.fb_model.specs.NetworkTyping.{AreDevices}
 use Rattle.fb_networks.specs.fb_text.Views as trees_of
 use Rattle.fb_types.specs.Made.{IsTable, IsMemo}
 use Rattle.fb_types.specs.Nesting.{DevicesProvide}
-use Rattle.fb_types.specs.Views.{device_of, system_places, all_places, system_uses}
+use Rattle.fb_types.specs.Views.{device_of, system_offsets, all_offsets, system_uses}
 use Rattle.fb_types.proofs.device.devices.Given as goal
 
 -- those so far are typed, and what is remembered is made
 abbrev pub invariant-loop-source : goal.invariant-loop-source
 invariant-loop-source l =
     record {
-      places : system_places l.devices.items ≡ all_places (map trees_of.device_of (take l.source-index l.initial.sources));
+      offsets : system_offsets l.devices.items ≡ all_offsets (map trees_of.device_of (take l.source-index l.initial.sources));
       kept : (bs : List decl.BlockTree) → IsTable bs l.initial.types → IsMemo bs l.initial.memo → IsMemo bs l.memo;
       typed : (bs : List decl.BlockTree) → IsTable bs l.initial.types → IsMemo bs l.initial.memo → AreDevices bs (map trees_of.device_of (take l.source-index l.initial.sources)) (map device_of l.devices.items);
       uses : (bs : List decl.BlockTree) → IsTable bs l.initial.types → IsMemo bs l.initial.memo → DevicesProvide bs (map trees_of.device_of (take l.source-index l.initial.sources)) (system_uses l.devices.items);

@@ -113,9 +113,9 @@ pub part-returns-in-Some-clause-made : goal.part-returns-in-Some-clause-made
 part-returns-in-Some-clause-made t c = λ bs table memo.
     let i = trees_of.instance_of c.args.source.now in
     let typed = rw c.in-Some.is at c.in_ok-instance.ensures.typed in
-    let place = rw c.in-Some.is at c.in_ok-instance.ensures.place in
+    let offset = rw c.in-Some.is at c.in_ok-instance.ensures.offset in
     let body = rw c.in-Some.is at c.in_ok-instance.ensures.body in
-    served_part bs c.args.room i c.in-Some.instance body.0 typed body.1 place
+    served_part bs c.args.room i c.in-Some.instance body.0 typed body.1 offset
 
 pub part-returns-in_default-type_of-clause-refused : goal.part-returns-in_default-type_of-clause-refused
 part-returns-in_default-type_of-clause-refused t c = λ bs table memo leads.
@@ -160,7 +160,7 @@ part-returns-clause-made t c = λ bs table memo.
     let named : type_named bs i.type.text ≡ Some (tree_of b) = subst (λ n. type_named bs n ≡ Some (tree_of b)) c.as_str.ensures.value (sym (c.type_of.ensures bs table) ∙ ap (option_map tree_of) c.in-Some-type_of.is) in
     let own = named_self bs i.type.text (tree_of b) named in
     let of : IsOf bs i (tree_of b) = record { declared = rw c.in_default.is at c.in_ok-instance.ensures.none; named = named } in
-    typed_part bs c.args.room i (tree_of b) c.in_ok-plain.field-0 c.in_ok-body.body c.in_ok-body.deep of (c.in_ok-body.ensures.made bs table memo own) c.in_ok-plain.ensures.typed c.in_ok-plain.ensures.body c.in_ok-plain.ensures.place
+    typed_part bs c.args.room i (tree_of b) c.in_ok-plain.field-0 c.in_ok-body.body c.in_ok-body.deep of (c.in_ok-body.ensures.made bs table memo own) c.in_ok-plain.ensures.typed c.in_ok-plain.ensures.body c.in_ok-plain.ensures.offset
 
 pub part-returns-clause-kept : goal.part-returns-clause-kept
 part-returns-clause-kept t c = λ bs table memo.

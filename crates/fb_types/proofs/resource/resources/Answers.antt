@@ -4,15 +4,15 @@ use Rattle.std.proofs.lemmas.List.{take_all, map_push}
 use Rattle.fb_model.specs.NetworkTyping.{AreResources, no_resource}
 use Rattle.fb_networks.specs.fb_text.Views as trees_of
 use Rattle.fb_networks.proofs.of_fb_blocks.Lists.{mapped_more}
-use Rattle.fb_types.specs.Views.{resource_of, resource_places, places_in, resource_uses, device_uses}
+use Rattle.fb_types.specs.Views.{resource_of, resource_offsets, offsets_in, resource_uses, device_uses}
 use Rattle.fb_types.specs.Nesting.{ResourcesProvide, by_no_resource}
 use Rattle.fb_types.specs.Refusals.{no_memory_for_resource}
 use Rattle.fb_types.proofs.Nested.{among_at}
-use Rattle.fb_types.proofs.Systems.{places_more, resources_more, resources_provide_more, device_uses_more}
+use Rattle.fb_types.proofs.Systems.{offsets_more, resources_more, resources_provide_more, device_uses_more}
 use Rattle.fb_types.proofs.resource.resources.Goals as goal
 
 pub loop-source-init : goal.loop-source-init
-loop-source-init c = record { places = rw c.new-resources.ensures.items refl; kept = λ bs table memo. memo; typed = λ bs table memo. rw c.new-resources.ensures.items no_resource; uses = λ bs table memo. rw c.new-resources.ensures.items by_no_resource }
+loop-source-init c = record { offsets = rw c.new-resources.ensures.items refl; kept = λ bs table memo. memo; typed = λ bs table memo. rw c.new-resources.ensures.items no_resource; uses = λ bs table memo. rw c.new-resources.ensures.items by_no_resource }
 
 pub returns-in_err-resource-clause-refused : goal.returns-in_err-resource-clause-refused
 returns-in_err-resource-clause-refused c = λ bs table memo.
@@ -37,7 +37,7 @@ loop-source-preserved c =
     let q = c.in_ok-resource.field-0 in
     let next = sym (mapped_more trees_of.resource_of xs i x c.loop-source-test.true c.source-item.is) in
     record {
-      places = places_more made xs i x c.push.new.self.items q c.loop-source-test.true c.source-item.is c.in_ok-push.ensures.items c.loop-source.invariant.places c.in_ok-resource.ensures.place;
+      offsets = offsets_more made xs i x c.push.new.self.items q c.loop-source-test.true c.source-item.is c.in_ok-push.ensures.items c.loop-source.invariant.offsets c.in_ok-resource.ensures.offset;
       kept = λ bs table memo. c.in_ok-resource.ensures.kept bs table (c.loop-source.invariant.kept bs table memo);
       typed = λ bs table memo.
           let one = c.in_ok-resource.ensures.typed bs table (c.loop-source.invariant.kept bs table memo) in
@@ -49,9 +49,9 @@ loop-source-preserved c =
           subst (λ l. ResourcesProvide bs l (device_uses c.push.new.self.items)) next (subst (λ l. ResourcesProvide bs (map trees_of.resource_of (take i xs) ++ trees_of.resource_of x ∷ []) l) (sym (ap device_uses c.in_ok-push.ensures.items ∙ device_uses_more made q)) more);
     }
 
-pub returns-clause-places : goal.returns-clause-places
-returns-clause-places c =
-    subst (λ l. resource_places c.loop-source.resources.items ≡ places_in (map trees_of.resource_of l)) (take_all c.loop-source.source-index c.args.sources.now c.loop-source-test.false) c.loop-source.invariant.places
+pub returns-clause-offsets : goal.returns-clause-offsets
+returns-clause-offsets c =
+    subst (λ l. resource_offsets c.loop-source.resources.items ≡ offsets_in (map trees_of.resource_of l)) (take_all c.loop-source.source-index c.args.sources.now c.loop-source-test.false) c.loop-source.invariant.offsets
 
 pub returns-clause-typed : goal.returns-clause-typed
 returns-clause-typed c = λ bs table memo.

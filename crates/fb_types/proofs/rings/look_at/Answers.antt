@@ -23,7 +23,7 @@ returns-then-is_on_or_at-clause-step c =
       record {
         declared = subst (λ n. is_in n service_names ≡ false) c.as_str-name.ensures.value (sym c.is_service.ensures ∙ c.if-is_service.false);
         on = subst (λ n. Any (λ (b : BlockTree). b.name.text ≡ n) path) c.as_str-name.ensures.value (c.is_on_or_at.ensures.0 c.if-is_on_or_at.true);
-        place = refl;
+        offset = refl;
       },
     )
 

@@ -10,7 +10,7 @@ use Rattle.fb_types.specs.Ends.{IsChannelFault}
 use Rattle.fb_types.specs.Nesting.{DevicesProvide}
 use Rattle.fb_types.specs.Refusals.{IsFirstFault, repeated_type, faulty_declaration, repeated_device, excess_device, faulty_device, faulty_channels}
 use Rattle.fb_types.specs.Made.{IsTable, IsMemo, IsNamed}
-use Rattle.fb_types.specs.Views.{device_of, system_places, all_places, system_uses}
+use Rattle.fb_types.specs.Views.{device_of, system_offsets, all_offsets, system_uses}
 use Rattle.fb_types.proofs.Systems.{block_words, block_names, device_words, device_names, nothing_made}
 use Rattle.fb_types.proofs.Whole.{all_named}
 use Rattle.fb_types.proofs.source.resolved.Goals as goal
@@ -74,8 +74,8 @@ returns-in_err-channels_alike-clause-refused c =
     let uses = subst (λ l. DevicesProvide bs (map trees_of.device_of l) (system_uses c.in_ok-devices.devices.items)) c.deref-6.ensures.value (c.in_ok-devices.ensures.uses bs table kept) in
     rw (p.1, p.2) (faulty_channels uses (subst (λ l. IsChannelFault (system_uses l) f) c.deref-7.ensures.value c.in_err-channels_alike.ensures.refused))
 
-pub returns-clause-places : goal.returns-clause-places
-returns-clause-places c = subst (λ l. system_places c.in_ok-devices.devices.items ≡ all_places (map trees_of.device_of l)) c.deref-6.ensures.value c.in_ok-devices.ensures.places
+pub returns-clause-offsets : goal.returns-clause-offsets
+returns-clause-offsets c = subst (λ l. system_offsets c.in_ok-devices.devices.items ≡ all_offsets (map trees_of.device_of l)) c.deref-6.ensures.value c.in_ok-devices.ensures.offsets
 
 pub returns-clause-typed : goal.returns-clause-typed
 returns-clause-typed c =
