@@ -17,6 +17,14 @@ pub(crate) enum Mark {
     Done,
 }
 
+/// The last place of the path: itself, its depth, and how many of its demands are done.
+#[derive(Clone, Copy)]
+struct Top {
+    place: usize,
+    depth: usize,
+    seen: usize,
+}
+
 /// What the search finds.
 #[derive(Drop)]
 pub enum Sorted {
@@ -55,22 +63,20 @@ fn close_place(
     marks: &mut Vec<Mark>,
     path: &mut Vec<usize>,
     order: &mut Vec<usize>,
-    top: usize,
-    depth: usize,
-    seen: usize,
+    top: Top,
 ) -> Result<(), AllocError>
     requires searching { IsSearching (rows_of graph.now) marks.old.items path.old.items order.old.items }
-    requires last { IsLast path.old.items top }
+    requires last { IsLast path.old.items top.place }
     requires some { 0 < length path.old.items }
-    requires was { mark marks.old.items top ≡ Mark.Open depth seen }
-    requires full { length (row (rows_of graph.now) top) ≤ seen }
+    requires was { mark marks.old.items top.place ≡ Mark.Open top.depth top.seen }
+    requires full { length (row (rows_of graph.now) top.place) ≤ top.seen }
     ensures searching { IfOk result (λ u. IsSearching (rows_of graph.now) marks.new.items path.new.items order.new.items) }
     ensures falls { IfOk result (λ u. work (rows_of graph.now) marks.new.items < work (rows_of graph.now) marks.old.items) }
     ensures begun { IfOk result (λ u. (p : ℕ) → mark marks.old.items p ≢ Mark.New → mark marks.new.items p ≢ Mark.New) }
 {
-    order.push(top)?;
+    order.push(top.place)?;
     let _last = path.pop();
-    marks[top] = Mark::Done;
+    marks[top.place] = Mark::Done;
     Ok(())
 }
 
@@ -152,7 +158,12 @@ fn advance(
             Mark::Done => marks[top] = Mark::Open(depth, seen + 1),
         }
     } else {
-        close_place(graph, marks, path, order, top, depth, seen)?;
+        let top = Top {
+            place: top,
+            depth,
+            seen,
+        };
+        close_place(graph, marks, path, order, top)?;
     }
     Ok(None)
 }

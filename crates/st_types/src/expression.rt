@@ -22,6 +22,13 @@ use fb_words::{ElemType, Operation};
 use st_tree::{Constant, Expr, Link, Literal};
 use std::alloc::Global;
 
+// The function of a call, and its place.
+#[derive(Clone, Copy)]
+struct Callee {
+    function: Operation,
+    at: usize,
+}
+
 fn typed_single(
     alloc: Global,
     operation: Operation,
@@ -323,74 +330,69 @@ fn call(
     let Some(function) = called(name.text.as_str()) else {
         return Err(TypingFault::UnknownName(name.at));
     };
-    typed_call(alloc, scope, function, name.at, arguments)
+    let callee = Callee {
+        function,
+        at: name.at,
+    };
+    typed_call(alloc, scope, callee, arguments)
 }
 
 #[cycle(typing)]
 fn typed_call(
     alloc: Global,
     scope: &Scope,
-    function: Operation,
-    at: usize,
+    callee: Callee,
     arguments: &[Expr],
 ) -> Result<Operand, TypingFault>
-    ensures { Gives operand_of result (book.typed_call (entries scope.now) function at (expressions (map expr_of arguments.now))) }
+    ensures { Gives operand_of result (book.typed_call (entries scope.now) callee.function callee.at (expressions (map expr_of arguments.now))) }
 {
     match arguments {
-        [] => Err(TypingFault::TypeMismatch(at)),
-        [a] => call_one(alloc, scope, function, at, a),
-        [a, b] => call_two(alloc, scope, function, at, a, b),
-        [a, b, c] => call_three(alloc, scope, function, at, a, b, c),
-        [_, _, _, _, ..] => Err(TypingFault::TypeMismatch(at)),
+        [] => Err(TypingFault::TypeMismatch(callee.at)),
+        [a] => call_one(alloc, scope, callee, a),
+        [a, b] => call_two(alloc, scope, callee, a, b),
+        [a, b, c] => call_three(alloc, scope, callee, a, b, c),
+        [_, _, _, _, ..] => Err(TypingFault::TypeMismatch(callee.at)),
     }
 }
 
 #[cycle(typing)]
-fn call_one(
-    alloc: Global,
-    scope: &Scope,
-    function: Operation,
-    at: usize,
-    a: &Expr,
-) -> Result<Operand, TypingFault>
-    ensures { Gives operand_of result (book.typed_call (entries scope.now) function at (expression (expr_of a.now) no_expression)) }
+fn call_one(alloc: Global, scope: &Scope, callee: Callee, a: &Expr) -> Result<Operand, TypingFault>
+    ensures { Gives operand_of result (book.typed_call (entries scope.now) callee.function callee.at (expression (expr_of a.now) no_expression)) }
 {
     let a = typed(alloc, scope, a)?;
-    applied_one(alloc, function, at, a)
+    applied_one(alloc, callee.function, callee.at, a)
 }
 
 #[cycle(typing)]
 fn call_two(
     alloc: Global,
     scope: &Scope,
-    function: Operation,
-    at: usize,
+    callee: Callee,
     a: &Expr,
     b: &Expr,
 ) -> Result<Operand, TypingFault>
-    ensures { Gives operand_of result (book.typed_call (entries scope.now) function at (expression (expr_of a.now) (expression (expr_of b.now) no_expression))) }
+    ensures { Gives operand_of result (book.typed_call (entries scope.now) callee.function callee.at (expression (expr_of a.now) (expression (expr_of b.now) no_expression))) }
 {
     let a = typed(alloc, scope, a)?;
     let b = typed(alloc, scope, b)?;
-    applied_two(alloc, function, at, a, b)
+    applied_two(alloc, callee.function, callee.at, a, b)
 }
 
 #[cycle(typing)]
 fn call_three(
     alloc: Global,
     scope: &Scope,
-    function: Operation,
-    at: usize,
+    callee: Callee,
     a: &Expr,
     b: &Expr,
     c: &Expr,
 ) -> Result<Operand, TypingFault>
-    ensures { Gives operand_of result (book.typed_call (entries scope.now) function at (expression (expr_of a.now) (expression (expr_of b.now) (expression (expr_of c.now) no_expression)))) }
+    ensures { Gives operand_of result (book.typed_call (entries scope.now) callee.function callee.at (expression (expr_of a.now) (expression (expr_of b.now) (expression (expr_of c.now) no_expression)))) }
 {
     let a = typed(alloc, scope, a)?;
     let b = typed(alloc, scope, b)?;
     let c = typed(alloc, scope, c)?;
-    applied_three(alloc, function, at, a, b, c)
+    applied_three(alloc, callee.function, callee.at, a, b, c)
 }
 
 /// An expression where a type is asked for at a place.

@@ -22,6 +22,24 @@ use fb_words::ElemType;
 use st_tree::{Arm, Bound, Branch, Constant, Expr, Label, Literal, Stmt};
 use std::alloc::{AllocError, Global};
 
+// An element of an array that gets a value: the array's name, the place of the bracket, and the index.
+#[derive(Clone, Copy)]
+struct Target<'a> {
+    name: &'a Name,
+    bracket: usize,
+    index: &'a Expr,
+}
+
+// The head of a FOR.
+#[derive(Clone, Copy)]
+struct Head<'a> {
+    at: usize,
+    name: &'a Name,
+    first: &'a Bound,
+    last: &'a Bound,
+    by: &'a Option<Constant>,
+}
+
 fn is_busy(busy: &[String], name: &str) -> bool
     ensures { result ≡ is_in name.now (busy_of busy.now) }
 {
@@ -161,20 +179,18 @@ fn element(
     alloc: Global,
     scope: &Scope,
     busy: &[String],
-    name: &Name,
-    bracket: usize,
-    index: &Expr,
+    target: &Target,
     at: usize,
     value: &Expr,
 ) -> Result<TypedStmt, TypingFault>
-    ensures { Gives command_of result (book.commanded (entries scope.now) (busy_of busy.now) (text.assign_element (word_of name.now) bracket (tree.expr_of index.now) at (tree.expr_of value.now))) }
+    ensures { Gives command_of result (book.commanded (entries scope.now) (busy_of busy.now) (text.assign_element (word_of target.now.name.now) target.now.bracket (tree.expr_of target.now.index.now) at (tree.expr_of value.now))) }
 {
-    let variable = assignable(scope, busy, name)?;
-    let (low, high) = bounds(name, bracket, variable)?;
-    let operand = typed(alloc, scope, index)?;
-    let (_, index) = integer(alloc, bracket, operand)?;
+    let variable = assignable(scope, busy, target.name)?;
+    let (low, high) = bounds(target.name, target.bracket, variable)?;
+    let operand = typed(alloc, scope, target.index)?;
+    let (_, index) = integer(alloc, target.bracket, operand)?;
     let value = asked(alloc, scope, variable.of_type, at, value)?;
-    Ok(TypedStmt::SetElement(name.text.clone()?, low, high, index, value))
+    Ok(TypedStmt::SetElement(target.name.text.clone()?, low, high, index, value))
 }
 
 // How a FOR counts.
@@ -182,22 +198,18 @@ fn counting(
     alloc: Global,
     scope: &Scope,
     busy: &[String],
-    at: usize,
-    name: &Name,
-    first: &Bound,
-    last: &Bound,
-    by: &Option<Constant>,
+    head: &Head,
 ) -> Result<Counting, TypingFault>
-    ensures { Gives counting_of result (book.counted (entries scope.now) (busy_of busy.now) at (word_of name.now) (tree.bound_of first.now) (tree.bound_of last.now) (optional tree.constant_of by.now)) }
+    ensures { Gives counting_of result (book.counted (entries scope.now) (busy_of busy.now) head.now.at (word_of head.now.name.now) (tree.bound_of head.now.first.now) (tree.bound_of head.now.last.now) (optional tree.constant_of head.now.by.now)) }
 {
-    let variable = assignable(scope, busy, name)?;
-    let of_type = counter(name, at, variable)?;
-    let plain = first.plain && last.plain;
-    let first = asked(alloc, scope, of_type, at, &first.value)?;
-    let last = asked(alloc, scope, of_type, at, &last.value)?;
-    let step = step(of_type, by)?;
+    let variable = assignable(scope, busy, head.name)?;
+    let of_type = counter(head.name, head.at, variable)?;
+    let plain = head.first.plain && head.last.plain;
+    let first = asked(alloc, scope, of_type, head.at, &head.first.value)?;
+    let last = asked(alloc, scope, of_type, head.at, &head.last.value)?;
+    let step = step(of_type, head.by)?;
     Ok(Counting {
-        variable: name.text.clone()?,
+        variable: head.name.text.clone()?,
         of_type,
         first,
         last,
@@ -219,7 +231,12 @@ fn command(
     match stmt {
         Stmt::Assign(name, at, value) => assignment(alloc, scope, busy, name, *at, value),
         Stmt::AssignElement(name, bracket, index, at, value) => {
-            element(alloc, scope, busy, name, *bracket, index, *at, value)
+            let target = Target {
+                name,
+                bracket: *bracket,
+                index,
+            };
+            element(alloc, scope, busy, &target, *at, value)
         }
         Stmt::If(branches, otherwise) => {
             let branches = choices(alloc, scope, busy, branches)?;
@@ -234,7 +251,14 @@ fn command(
             Ok(TypedStmt::Case(selector, arms, otherwise))
         }
         Stmt::For(at, name, first, last, by, body) => {
-            let counting = counting(alloc, scope, busy, *at, name, first, last, by)?;
+            let head = Head {
+                at: *at,
+                name,
+                first,
+                last,
+                by,
+            };
+            let counting = counting(alloc, scope, busy, &head)?;
             Ok(TypedStmt::For(counting, loop_body(alloc, scope, busy, name, body)?))
         }
     }
