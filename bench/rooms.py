@@ -4,7 +4,7 @@
     bench/rooms.py            prints the table of docs/ARCHITECTURE.md: room by room, each crate behind those that it stands on
     bench/rooms.py --write    writes it into that page, between its two marks
     bench/rooms.py --chain    prints the longest chain of crates, and below it those that no other crate stands on
-    bench/rooms.py --pages    says which crates, edits and clauses that the pages name are not there
+    bench/rooms.py --pages    says which crates, names in them, edits and clauses that the pages name are not there
 
 The head of a crate is the comment with which src/lib.rt or src/main.rt begins. Its first line says the room, and what the crate is for:
 `//! Room: checker. The verdict: ..`."""
@@ -87,15 +87,18 @@ def plain(text):
 
 
 def tell_pages(crates):
-    """What pages name that is not there: crates, edits as `CRATE/NAME`, and the lines of ```clause blocks."""
-    sources = itertools.chain(TOP.glob("crates/*/src/**/*.rt"), TOP.glob("crates/*/specs/**/*.antt"))
-    code = plain("\n".join(it.read_text() for it in sources))
+    """What pages name that is not there: crates, what is in them as `CRATE::NAME`, edits as `CRATE/NAME`, and the lines of ```clause blocks."""
+    texts = {name: "\n".join(it.read_text() for part in ("src", "specs") for it in sorted(TOP.glob(f"crates/{name}/{part}/**/*.*"))) for name in crates}
+    code = plain("\n".join(texts.values()))
     wrong = []
     for page in PAGES:
         text = (TOP / page).read_text()
         for word in sorted(set(re.findall(r"`(?:crates/)?((?:fb|st|fbr)_\w+)[`/:.]", text))):
             if word not in crates:
                 wrong.append(f"{page}: no crate {word}")
+        for crate, name in sorted(set(re.findall(r"\b(\w+)::(\w+)", text))):
+            if crate in crates and not re.search(rf"\b{name}\b", texts[crate]):
+                wrong.append(f"{page}: no {name} in {crate}")
         for crate, name in sorted(set(re.findall(r"`(\w+)/([a-z0-9_]+)`", text))):
             if crate in crates and name not in ("src", "specs", "proofs") and not (TOP / f"crates/{crate}/must-fail/{name}.edit").exists():
                 wrong.append(f"{page}: the gate tries no edit {crate}/{name}")
