@@ -10,7 +10,7 @@ use Rattle.fb_cert.proofs.Places.{at_view}
 use Rattle.fb_cert.proofs.certificate.Certificate.range_at.Goals as goal
 
 pub returns-clause-row : goal.returns-clause-row
-returns-clause-row c = rw (← c.self.view_is) (at_view (λ (p : (List ℕ) × Bounds). (p.0, span_of p.1)) c.self.inside.lists.ranges.entries c.args.index c.in_ok-path.path.now c.as_str.result.now c.in_ok-path.bounds.now c.in_ok-path.ensures.text_row c.as_str.ensures.value)
+returns-clause-row c = rw (← c.self.view_is) (at_view (λ (p : (List ℕ) × Bounds). (p.0, span_of p.1)) c.self.inside.lists.ranges.entries c.args.index c.in_ok-path.path.now c.as_str.result.now c.in_ok-path.bounds.now c.in_ok-path.ensures.entry c.as_str.ensures.value)
 
 pub returns-clause-book : goal.returns-clause-book
 returns-clause-book c =
