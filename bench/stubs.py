@@ -1,0 +1,267 @@
+#!/usr/bin/env python3
+"""Writes a checkout's crates with assumed bodies, and builds them, so that a crate can be checked in minutes over stand-ins of all that lies below it:
+
+  bench/stubs.py OUT [--of FOLDER] [--real NAME..] [--jobs N] [--only-write]
+
+OUT gets every crate of FOLDER (a checkout; without it, this one) with its types, contracts, ghost items, specs/ and lemma files, and with each body of a
+function in the place of which stands one that promises all. The crates after --real stay as they are, and only what these stand on is built then.
+The libraries are built N at a time (without it, 2), a crate in 5 to 60 s. A second run builds what has changed, and what stands on it.
+
+  cp -r OUT MINE                                  a tree of your own: the folders of all crates below are locked while one is checked
+  rm -r MINE/crates/NAME/*; cp -r FOLDER/crates/NAME/* MINE/crates/NAME/     the real crate
+  cd MINE/crates/NAME; RT_ALLOW_C=1 rt check      (or --only PATH, or --allow-holes)
+
+Traps:
+- What is checked over stand-ins is not proved: it is, where all below it is, which only the gate says.
+- A stand-in is as old as its sources. Where a contract, a type or a definition changes, run this script again before crates above are checked.
+- Where an enum or a struct gets another case or field, each crate above that matches or makes it has to be checked.
+- A function with a promise that no body keeps is let through here, in the crates that stand in.
+- `rt must-fail` and `rt ci` do not run over stand-ins, and `rt test` and `rt run` make a program that does nothing.
+- `rt lib` builds one library; `rt check` in a crate whose libraries are not built first reads all their sources, for minutes.
+"""
+import argparse
+import importlib.machinery
+import importlib.util
+import os
+import re
+import shutil
+import sys
+import threading
+import time
+from concurrent.futures import FIRST_COMPLETED, ThreadPoolExecutor, wait
+
+TOP = os.path.dirname(os.path.dirname(os.path.abspath(__file__)))
+TOKEN = re.compile(
+    r"""//[^\n]*|/\*.*?\*/|[bc]?r(?P<marks>#*)".*?"(?P=marks)|[bc]?"(?:[^"\\]|\\.)*"|'(?:\\(?:x..|u\{[^}]*\}|.)|[^'\\\n])'|'[A-Za-z_]\w*|\w+|\s+|.""",
+    re.S,
+)
+OPEN, CLOSE = "([{", ")]}"
+ASSUMED = "assumed_body"
+# What stands for a body. A name that no source has.
+BODY = f"{{\n    crate::{ASSUMED}::promise();\n    unreachable!()\n}}"
+MODULE = """//! Promises all, so that a body that calls it is assumed.
+
+unsafe extern "C" {
+    pub(crate) safe fn promise()
+        ensures { ⊥ };
+}
+"""
+# The mark of functions that call one another; types that reach themselves have it too, and keep it.
+CYCLE = re.compile(r"#\[cycle\(\w+\)\]\s*(?=(#\[[^\n]*\]\s*|pub(\([\w:]+\))?\s+)*fn\b)")
+PROOFS = ("Invariants.antt", "Answers.antt", "Proof.antt")
+
+
+def tokens(text):
+    return [it[0] for it in TOKEN.finditer(text)]
+
+
+def is_plain(token):
+    """Whether a token is more than room and comment."""
+    return not token.isspace() and not token.startswith(("//", "/*"))
+
+
+def end_of(parts, at):
+    """Behind the bracket that closes the one at a place."""
+    depth = 0
+    while True:
+        depth += (parts[at] in OPEN) - (parts[at] in CLOSE)
+        at += 1
+        if not depth:
+            return at
+
+
+def is_clause(parts, at):
+    """Whether a brace opens a clause of a contract, as in `requires name {`, and no body."""
+    before = [it for it in parts[:at] if is_plain(it)][-3:]
+    words = {"requires", "ensures", "decreases"}
+    return bool(before) and (before[-1] in (*words, "*", "=", ":") or len(before) > 1 and before[-2] in words or len(before) > 2 and before[-3] in words and before[-2] == "*")
+
+
+def body_of(parts, at):
+    """Where the body of the function stands whose `fn` is at a place, or None where it has none."""
+    first = at
+    while True:
+        it = parts[at]
+        if it == ";":
+            return None
+        if it == "{" and not is_clause(parts[first:], at - first):
+            return at, end_of(parts, at)
+        at = end_of(parts, at) if it in OPEN else at + 1
+
+
+def without_tests(parts):
+    """The tokens without items that only tests have."""
+    text = "".join(parts)
+    text = re.sub(r"#\[cfg\(test\)\]\s*(pub )?mod \w+;\n", "", text)
+    found = re.search(r"#\[cfg\(test\)\]\s*mod \w+ (?=\{)", text)
+    while found:
+        inner = tokens(text[found.end() :])
+        text = text[: found.start()] + "".join(inner[end_of(inner, 0) :])
+        found = re.search(r"#\[cfg\(test\)\]\s*mod \w+ (?=\{)", text)
+    return tokens(text)
+
+
+def assumed(text):
+    """The source with assumed bodies."""
+    parts, out, at = without_tests(tokens(text)), [], 0
+    while at < len(parts):
+        if parts[at] == "fn" and re.match(r"\w", next((it for it in parts[at + 1 :] if is_plain(it)), "")):
+            body = body_of(parts, at)
+            if body:
+                out += parts[at : body[0]] + [BODY]
+                at = body[1]
+                continue
+        out.append(parts[at])
+        at += 1
+    return "".join(out)
+
+
+def with_module(text):
+    """The root of a crate with the module that promises, behind the lines that speak of the whole crate."""
+    head = re.match(r"((//!|#!).*\n|\s*\n)*", text).end()
+    return f"{text[:head]}mod {ASSUMED};\n{text[head:]}"
+
+
+def write(path, text):
+    os.makedirs(os.path.dirname(path), exist_ok=True)
+    with open(path, "w", encoding="utf-8") as it:
+        it.write(text)
+
+
+def read(path):
+    with open(path, encoding="utf-8") as it:
+        return it.read()
+
+
+def files_below(folder):
+    return [os.path.relpath(f"{at}/{name}", folder) for at, _, names in os.walk(folder) for name in sorted(names)]
+
+
+def write_crate(one, other, is_real):
+    """Writes a crate, with what an earlier run built of it left in out/."""
+    for name in os.listdir(other) if os.path.isdir(other) else []:
+        if name != "out":
+            path = f"{other}/{name}"
+            (shutil.rmtree if os.path.isdir(path) else os.remove)(path)
+    os.makedirs(other, exist_ok=True)
+    if is_real:
+        shutil.copytree(one, other, dirs_exist_ok=True, ignore=lambda at, names: ["out"] if at == one else [])
+        return
+    roots = ("src/lib.rt", "src/main.rt")
+    for file in files_below(f"{one}/src"):
+        text = read(f"{one}/src/{file}")
+        if "#[test]" not in text or f"src/{file}" in roots:
+            text = assumed(CYCLE.sub("", text))
+            write(f"{other}/src/{file}", with_module(text) if f"src/{file}" in roots else text)
+    write(f"{other}/src/{ASSUMED}.rt", MODULE)
+    write(f"{other}/c/{ASSUMED}.c", "void promise(void) { __builtin_trap(); }\n")
+    for part in ("specs", "proofs"):
+        for file in files_below(f"{one}/{part}"):
+            if part == "specs" or os.path.basename(file) not in PROOFS:
+                write(f"{other}/{part}/{file}", read(f"{one}/{part}/{file}"))
+
+
+def listed(folder):
+    """The crates by name, each with the crates right below it."""
+    told = [line.partition("#")[0].partition(":") for line in read(f"{folder}/crates.txt").splitlines()]
+    found = {name.split()[0]: rest.split() for name, sign, rest in told if sign}
+    return {name: [it for it in below if it in found] for name, below in found.items()}
+
+
+def kit():
+    """The library behind `rt`: its own commands lock the crates below, so that two of them cannot build side by side."""
+    path = f"{os.path.dirname(os.path.realpath(shutil.which('rt')))}/rtlib.py"
+    spec = importlib.util.spec_from_loader("rtlib", importlib.machinery.SourceFileLoader("rtlib", path))
+    found = importlib.util.module_from_spec(spec)
+    sys.modules["rtlib"] = found
+    spec.loader.exec_module(found)
+    return found
+
+
+def build(out, wanted, at_once):
+    """Builds the libraries, each once those below it are built. Returns those that failed."""
+    os.environ["RT_ALLOW_C"] = "1"
+    os.nice(5)
+    rtlib = kit()
+    rtlib.guarded()
+    known = {it.name: it for it in rtlib.crates_below(out)}
+    behind = {name: 0 for name in wanted}
+    for crate in sorted(known.values(), key=lambda it: -len(it.below())):
+        for it in crate.deps:
+            if crate.name in behind:
+                behind[it.name] = max(behind[it.name], behind[crate.name] + 1)
+    # Those with the longest chain of others on them first.
+    left = {name: known[name] for name in sorted(wanted, key=lambda it: -behind[it]) if known[name].makes_rlib()}
+    locks = rtlib.lock(left.values())
+    done, failed, running, whole, began = set(), [], {}, len(left), time.monotonic()
+    printing = threading.Lock()
+
+    def work(crate):
+        os.makedirs(f"{crate.folder}/out", exist_ok=True)
+        start = time.monotonic()
+        with open(f"{crate.folder}/out/said", "w+", encoding="utf-8", errors="replace") as crate.out:
+            status = crate.build_rlib(["--jobs", "1"], anew=False)
+            crate.out.seek(0)
+            said = crate.out.read()
+        with printing:
+            print(f"{crate.name}: {'built' if not status else 'NOT BUILT'} ({time.monotonic() - start:.0f} s; {len(done) + 1} of {whole} after {time.monotonic() - began:.0f} s)", flush=True)
+            if status:
+                print("\n".join(said.splitlines()[-30:]), flush=True)
+        return status
+
+    with ThreadPoolExecutor(at_once) as pool:
+        while left or running:
+            ready = [name for name, crate in left.items() if all(it.name in done for it in crate.below())]
+            for name in ready[: at_once - len(running)]:
+                running[pool.submit(work, left.pop(name))] = name
+            if not running:
+                break
+            for ended in wait(running, return_when=FIRST_COMPLETED).done:
+                name = running.pop(ended)
+                if ended.result():
+                    failed.append(name)
+                else:
+                    done.add(name)
+    for it in locks:
+        os.close(it)
+    return failed, list(left)
+
+
+def main():
+    parser = argparse.ArgumentParser(description=__doc__, formatter_class=argparse.RawDescriptionHelpFormatter)
+    parser.add_argument("out")
+    parser.add_argument("--of", default=TOP)
+    parser.add_argument("--real", nargs="*", default=[])
+    parser.add_argument("--jobs", type=int, default=2)
+    parser.add_argument("--only-write", action="store_true")
+    given = parser.parse_args()
+    crates = listed(given.of)
+    for name in given.real:
+        if name not in crates:
+            sys.exit(f"{name} is no crate of crates.txt")
+    for name in ("crates.txt", "HANDLES"):
+        if os.path.exists(f"{given.of}/{name}"):
+            write(f"{given.out}/{name}", read(f"{given.of}/{name}"))
+    for name in os.listdir(f"{given.out}/crates") if os.path.isdir(f"{given.out}/crates") else []:
+        if name not in crates:
+            shutil.rmtree(f"{given.out}/crates/{name}")
+    for name in crates:
+        write_crate(f"{given.of}/crates/{name}", f"{given.out}/crates/{name}", name in given.real)
+    if given.only_write:
+        return 0
+    wanted, more = set(), [it for name in given.real for it in crates[name]] if given.real else list(crates)
+    while more:
+        name = more.pop()
+        if name not in wanted:
+            wanted.add(name)
+            more += crates[name]
+    failed, left = build(os.path.abspath(given.out), [it for it in crates if it in wanted and it not in given.real], given.jobs)
+    if failed or left:
+        sys.exit(f"not built: {' '.join(failed)}; not tried: {' '.join(left) or 'none'}")
+    for name in given.real or ["NAME"]:
+        print(f"cd {given.out}/crates/{name} && RT_ALLOW_C=1 rt check")
+    return 0
+
+
+if __name__ == "__main__":
+    sys.exit(main())
