@@ -154,7 +154,7 @@ pub fn meaning_of(code: u8) -> Option<Meaning> {
         ),
         58 => said("the SUBSCRIBE is closed: INIT with QI opens it", ""),
         60 => said(
-            "this line of the script is no call, or names a device or resource that is not there, or a number does not fit",
+            "this line of the script is no call, or names a device, a resource or a datagram that is not there, or a number does not fit",
             "mend the line; what stands before it has run",
         ),
         61 => said("not readable, no UTF-8, or more than 33,554,432 bytes", ""),

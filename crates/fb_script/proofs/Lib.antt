@@ -4,4 +4,5 @@ pub use Rattle.fb_device.proofs as of_fb_device
 pub use Rattle.fb_device.proofs.of_fb_tables as of_fb_tables
 pub mod Numbers
 pub mod Names
+pub mod Sending
 pub mod Lines

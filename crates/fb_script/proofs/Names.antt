@@ -26,9 +26,13 @@ use Rattle.fb_device.specs.fb_serve.declared.standing.Effect.TheVariants as outs
 use Rattle.fb_device.specs.fb_tables.Tables.{IsPoint}
 use Rattle.fb_device.specs.fb_dispatch.declared.answer.Ran.{Ran as RanRecord}
 use Rattle.fb_device.specs.fb_dispatch.declared.answer.Dispatched.TheVariants as dispatched
-use Rattle.fb_script.specs.Lines.{Offer, Tick, Dispatch}
+use Rattle.fb_script.specs.Lines.{Offer, Deliver, Tick, Dispatch}
+use Rattle.fb_script.specs.Sending.{datagram_numbered}
+use Rattle.fb_device.specs.Sessions.{Session}
+use Rattle.fb_device.specs.declared.answer.Answer.{Answer as Reply}
 use Rattle.fb_script.specs.Playing.{Asks, Plays}
-use Rattle.fb_script.specs.Texts.{place_text, values_text, effect_text, end_text, outside_text, done_text, ended_text, denial_text, why_text, told_text, answer_text}
+use Rattle.fb_script.specs.Views.{IsPlayed}
+use Rattle.fb_script.specs.Texts.{place_text, effect_text, end_text, outside_text, done_text, ended_text, denial_text, why_text, told_text, answer_text}
 use Rattle.fb_script.specs.declared.told.Told.TheVariants as told
 
 place_named : (all : List Leaf) (block event : ℕ) (path name : List ℕ) → IsNamed all block event path name → place_text (place_at all (record { block = block; event = event })) ≡ path ++ codes "." ++ name
@@ -87,33 +91,49 @@ same_why d.Shape = refl
 same_why d.Closed = refl
 same_why (d.Stale boot sequence) = refl
 
--- ---- devices and resources that are named
+-- ---- devices, resources and datagrams that are named
 
-pub no_offer : (device : Device) (name : List ℕ) (n : ℕ) (values : List ℤ) → is_same_path device.name name ≡ false → (event : Event) → Asks device (Offer name n values) event → ⊥
-no_offer device name n values e event a = let h = a.0 in absurd cc
+pub no_offer : (device : Device) (sent : List (List ℕ)) (name : List ℕ) (n : ℕ) (values : List ℤ) → is_same_path device.name name ≡ false → (event : Event) → Asks device sent (Offer name n values) event → ⊥
+no_offer device sent name n values e event a = let h = a.0 in absurd cc
 
-pub no_tick : (device : Device) (name : List ℕ) (now : ℕ) → is_same_path device.name name ≡ false → (event : Event) → Asks device (Tick name now) event → ⊥
-no_tick device name now e event a = let h = a.0 in absurd cc
+pub no_deliver : (device : Device) (sent : List (List ℕ)) (n : ℕ) (name : List ℕ) → is_same_path device.name name ≡ false → (event : Event) → Asks device sent (Deliver n name) event → ⊥
+no_deliver device sent n name e event a = let h = a.0 in absurd cc
 
-pub no_dispatch : (device : Device) (name resource : List ℕ) → is_same_path device.name name ≡ false → (event : Event) → Asks device (Dispatch name resource) event → ⊥
-no_dispatch device name resource e event a = let h = a.0 in absurd cc
+pub no_tick : (device : Device) (sent : List (List ℕ)) (name : List ℕ) (now : ℕ) → is_same_path device.name name ≡ false → (event : Event) → Asks device sent (Tick name now) event → ⊥
+no_tick device sent name now e event a = let h = a.0 in absurd cc
+
+pub no_dispatch : (device : Device) (sent : List (List ℕ)) (name resource : List ℕ) → is_same_path device.name name ≡ false → (event : Event) → Asks device sent (Dispatch name resource) event → ⊥
+no_dispatch device sent name resource e event a = let h = a.0 in absurd cc
 
 none_there : (rs : List Resource) (name : List ℕ) (n : ℕ) (r : Resource) → IsNoNumber rs name → slice_get rs n ≡ Some r → is_same_path r.name name ≡ true → ⊥
 none_there [] name n r h e s = absurd cc
 none_there (x ∷ xs) name zero r h e s = let f = h.0 in absurd cc
 none_there (x ∷ xs) name (suc n) r h e s = none_there xs name n r h.1 e s
 
-pub no_resource : (device : Device) (name resource : List ℕ) → IsNoNumber device.resources resource → (event : Event) → Asks device (Dispatch name resource) event → ⊥
-no_resource device name resource h event a = none_there device.resources resource a.1.0 a.1.1.resource h a.1.1.stands a.1.1.same
+pub no_resource : (device : Device) (sent : List (List ℕ)) (name resource : List ℕ) → IsNoNumber device.resources resource → (event : Event) → Asks device sent (Dispatch name resource) event → ⊥
+no_resource device sent name resource h event a = none_there device.resources resource a.1.0 a.1.1.resource h a.1.1.stands a.1.1.same
 
-pub offers : (cert : Certificate) (device : Device) (name : List ℕ) (n : ℕ) (values : List ℤ) (old : Machine) (answer : model.Answer) (new : Machine) → is_same_path device.name name ≡ true
-    → Happens cert device old (model.Offer n values) answer new → Plays cert device (Offer name n values) old answer new
-offers cert device name n values old answer new e h = (model.Offer n values, (e, refl), h)
+pub no_datagram : (device : Device) (sent : List (List ℕ)) (n : ℕ) (name : List ℕ) → datagram_numbered sent n ≡ None → (event : Event) → Asks device sent (Deliver n name) event → ⊥
+no_datagram device sent n name e event a = let h = a.1.1 in absurd cc
 
-pub ticks : (cert : Certificate) (device : Device) (name : List ℕ) (now : ℕ) (old : Machine) (answer : model.Answer) (new : Machine) → is_same_path device.name name ≡ true
-    → Happens cert device old (model.Tick now) answer new → Plays cert device (Tick name now) old answer new
-ticks cert device name now old answer new e h = (model.Tick now, (e, refl), h)
+pub offers : (cert : Certificate) (device : Device) (sent : List (List ℕ)) (name : List ℕ) (n : ℕ) (values : List ℤ) (old : Machine) (answer : model.Answer) (new : Machine) → is_same_path device.name name ≡ true
+    → Happens cert device old (model.Offer n values) answer new → Plays cert device sent (Offer name n values) old answer new
+offers cert device sent name n values old answer new e h = (model.Offer n values, (e, refl), h)
 
-pub dispatches : (cert : Certificate) (device : Device) (name resource : List ℕ) (n : ℕ) (old : Machine) (answer : model.Answer) (new : Machine) → is_same_path device.name name ≡ true
-    → IsNumberOf device.resources resource n → Happens cert device old (model.Dispatch n) answer new → Plays cert device (Dispatch name resource) old answer new
-dispatches cert device name resource n old answer new e is h = (model.Dispatch n, (e, (n, is, refl)), h)
+pub delivers : (cert : Certificate) (device : Device) (sent : List (List ℕ)) (n : ℕ) (name bytes : List ℕ) (old : Machine) (answer : model.Answer) (new : Machine) → is_same_path device.name name ≡ true
+    → datagram_numbered sent n ≡ Some bytes → Happens cert device old (model.Deliver bytes) answer new → Plays cert device sent (Deliver n name) old answer new
+delivers cert device sent n name bytes old answer new e is h = (model.Deliver bytes, (e, (bytes, is, refl)), h)
+
+pub ticks : (cert : Certificate) (device : Device) (sent : List (List ℕ)) (name : List ℕ) (now : ℕ) (old : Machine) (answer : model.Answer) (new : Machine) → is_same_path device.name name ≡ true
+    → Happens cert device old (model.Tick now) answer new → Plays cert device sent (Tick name now) old answer new
+ticks cert device sent name now old answer new e h = (model.Tick now, (e, refl), h)
+
+pub dispatches : (cert : Certificate) (device : Device) (sent : List (List ℕ)) (name resource : List ℕ) (n : ℕ) (old : Machine) (answer : model.Answer) (new : Machine) → is_same_path device.name name ≡ true
+    → IsNumberOf device.resources resource n → Happens cert device old (model.Dispatch n) answer new → Plays cert device sent (Dispatch name resource) old answer new
+dispatches cert device sent name resource n old answer new e is h = (model.Dispatch n, (e, (n, is, refl)), h)
+
+-- ---- a dispatch does the same, whatever was sent
+
+pub as_dispatch : (sent : List (List ℕ)) (old new : Session) (name resource : List ℕ) (r : Option Reply) → IsPlayed old [] (Dispatch name resource) r new → IsPlayed old sent (Dispatch name resource) r new
+as_dispatch sent old new name resource None h = h
+as_dispatch sent old new name resource (Some answer) h = h

@@ -7,7 +7,7 @@ use Rattle.std.specs.Str.{all_ascii_digits}
 use Rattle.std.specs.Str.Parse.{ParsesUnsigned, ParsesSigned}
 use Rattle.std.proofs.lemmas.Str.Parse.{IsNumeralModel, numerals_by_fold, tells_all_ascii_digits, parse_plain, parse_signed_plain, parse_signed_minus}
 use Rattle.fb_model.specs.CertificateText.{decimal_from}
-use Rattle.fb_script.specs.Lines.{number_below, number_in, moment_in, value_in}
+use Rattle.fb_script.specs.Lines.{number_below, number_in, wide_number_in, value_in}
 use mir.Syntax.{w64}
 
 own : IsNumeralModel (λ ds. all_ascii_digits ds ≡ true) (decimal_from 0)
@@ -47,8 +47,8 @@ no_plus bs h = grind (arith, h)
 pub number : {E : Type 0} (bs : List ℕ) (r : Result ℕ E) → (slice_index bs 0 == 43) ≡ false → ParsesUnsigned 16 10 bs r → result_ok r ≡ number_in bs
 number bs r n h = below bs (2 ^ 16) r (λ k. k) (parse_plain own 16 bs r h (no_plus bs n)) ∙ same (number_in bs)
 
-pub moment : {E : Type 0} (bs : List ℕ) (r : Result ℕ E) → (slice_index bs 0 == 43) ≡ false → ParsesUnsigned 64 10 bs r → result_ok r ≡ moment_in bs
-moment bs r n h = below bs (2 ^ 64) r (λ k. k) (parse_plain own 64 bs r h (no_plus bs n)) ∙ same (moment_in bs)
+pub wide_number : {E : Type 0} (bs : List ℕ) (r : Result ℕ E) → (slice_index bs 0 == 43) ≡ false → ParsesUnsigned 64 10 bs r → result_ok r ≡ wide_number_in bs
+wide_number bs r n h = below bs (2 ^ 64) r (λ k. k) (parse_plain own 64 bs r h (no_plus bs n)) ∙ same (wide_number_in bs)
 
 at_most : {T E : Type 0} (r : Result T E) (A B : Type 0) (n k : ℕ) (v : T) → OkIff r (A × B × (n ≤ k)) v → OkIff r (A × B × (n < k + 1)) v
 at_most (Ok x) A B n k v h = ((h.0.0, h.0.1, omega (arith, h.0.2)), h.1)

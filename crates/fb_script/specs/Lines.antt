@@ -6,6 +6,8 @@ use Rattle.fb_model.specs.CertificateText.{decimal_from}
 
 pub data Command : Type 0 where
   Offer : (device : List ℕ) (number : ℕ) (values : List ℤ) → Command
+  -- a datagram that was sent, by its number, to a device
+  Deliver : (number : ℕ) (device : List ℕ) → Command
   Tick : (device : List ℕ) (now : ℕ) → Command
   Dispatch : (device resource : List ℕ) → Command
 
@@ -21,8 +23,8 @@ abbrev pub number_in : List ℕ → Option ℕ
 number_in cs = number_below (2 ^ 16) cs
 
 -- a number of 64 bits
-abbrev pub moment_in : List ℕ → Option ℕ
-moment_in cs = number_below (2 ^ 64) cs
+abbrev pub wide_number_in : List ℕ → Option ℕ
+wide_number_in cs = number_below (2 ^ 64) cs
 
 -- a number of 64 bits with a sign: a minus may stand before it, and no plus
 abbrev pub value_in : List ℕ → Option ℤ
@@ -46,18 +48,23 @@ offered device (Some number) (Some values) = Some (Offer device number values)
 offered device None values = None
 offered device (Some number) None = None
 
+abbrev pub delivered : Option ℕ → List ℕ → Option Command
+delivered (Some number) device = Some (Deliver number device)
+delivered None device = None
+
 abbrev pub ticked : List ℕ → Option ℕ → Option Command
 ticked device (Some now) = Some (Tick device now)
 ticked device None = None
 
--- `offer DEVICE NUMBER VALUES`, `tick DEVICE NOW`, and `dispatch DEVICE RESOURCE`
+-- `offer DEVICE NUMBER VALUES`, `deliver NUMBER DEVICE`, `tick DEVICE NOW`, and `dispatch DEVICE RESOURCE`
 abbrev pub command_by : List ℕ → List ℕ → List ℕ → List (List ℕ) → Option Command
-command_by word device third rest =
-    if bytes_eq word (codes "offer") then offered device (number_in third) (values_in rest)
-    else (if bytes_eq word (codes "tick") && length rest == 0 then ticked device (moment_in third)
-    else (if bytes_eq word (codes "dispatch") && length rest == 0 then Some (Dispatch device third) else None))
+command_by word second third rest =
+    if bytes_eq word (codes "offer") then offered second (number_in third) (values_in rest)
+    else (if bytes_eq word (codes "deliver") && length rest == 0 then delivered (wide_number_in second) third
+    else (if bytes_eq word (codes "tick") && length rest == 0 then ticked second (wide_number_in third)
+    else (if bytes_eq word (codes "dispatch") && length rest == 0 then Some (Dispatch second third) else None)))
 
 -- the command that the words of a line are
 abbrev pub command_in : List (List ℕ) → Option Command
-command_in (word ∷ device ∷ third ∷ rest) = command_by word device third rest
+command_in (word ∷ second ∷ third ∷ rest) = command_by word second third rest
 command_in ws = None

@@ -1,6 +1,7 @@
 -- What one line of a script does, in the terms of the code.
-use Rattle.std.specs.Prelude.{◌≡◌, ◌⊎◌, ℕ, Bool, true, false, List, [], ◌∷◌, ◌++◌, Option, Some, None, Result, Ok, Err}
+use Rattle.std.specs.Prelude.{◌≡◌, ◌+◌, ◌⊎◌, ℕ, List, [], ◌∷◌, ◌++◌, length, Option, Some, None}
 use Rattle.std.specs.Io.KnownBytes.{Appends}
+use Rattle.fb_model.specs.Messages.{Message}
 use Rattle.fb_model.specs.Devices.{Event, Answer}
 use Rattle.fb_model.specs.CertificateText.{words}
 use Rattle.fb_device.specs.Sessions.{Session}
@@ -8,10 +9,11 @@ use Rattle.fb_device.specs.Machines.{device_in, cert_in, machine_of}
 use Rattle.fb_device.specs.declared.answer.Answer.{Answer as Reply}
 use Rattle.fb_device.specs.declared.answer.Answer.TheVariants as r
 use Rattle.fb_device.specs.fb_dispatch.declared.answer.Dispatched.TheVariants as dispatched
-use Rattle.fb_device.specs.fb_serve.declared.standing.Effect.TheVariants as outside
+use Rattle.fb_device.specs.fb_serve.Responses.{effect_of}
 use Rattle.fb_script.specs.Lines.{Command}
 use Rattle.fb_script.specs.Playing.{Asks, Plays, IsBad}
-use Rattle.fb_script.specs.Texts.{answer_text, next_send}
+use Rattle.fb_script.specs.Sending.{message_of, message_in, Sends}
+use Rattle.fb_script.specs.Texts.{answer_text}
 use Rattle.fb_script.specs.Runs.{Answers}
 use Rattle.fb_script.specs.declared.run.End.{End}
 use Rattle.fb_script.specs.declared.run.End.TheVariants.{Line, OutOfMemory}
@@ -20,26 +22,26 @@ use Rattle.fb_script.specs.declared.run.End.TheVariants.{Line, OutOfMemory}
 abbrev pub IsWritten : ℕ → Answer → Option (List ℕ) → Option (List ℕ) → Type 0
 IsWritten send answer before after = Appends before after (answer_text send answer ++ 10 ∷ [])
 
--- whether an answer tells a send
-abbrev pub sends : Reply → Bool
-sends (r.Admitted answer) = false
-sends (r.Fired count) = false
-sends (r.Served dispatched.Idle) = false
-sends (r.Served (dispatched.Ran ran)) = elim ran.effect [ None ↦ false | Some e ↦ elim e [ outside.Send message ↦ true | outside.Write number values ↦ false ] ]
+-- the message that an answer tells to be sent
+abbrev pub message_told : Reply → Option Message
+message_told (r.Admitted answer) = None
+message_told (r.Fired count) = None
+message_told (r.Served dispatched.Idle) = None
+message_told (r.Served (dispatched.Ran ran)) = message_of (effect_of ran.effect)
 
 -- nothing happens
-abbrev pub Stays : Session → Option (List ℕ) → Option (List ℕ) → Session → Type 0
-Stays old before after new = Appends before after [] × (machine_of new ≡ machine_of old)
+abbrev pub Stays : Session → List (List ℕ) → Option (List ℕ) → Option (List ℕ) → List (List ℕ) → Session → Type 0
+Stays old sent before after sent_after new = Appends before after [] × (machine_of new ≡ machine_of old) × (sent_after ≡ sent)
 
 -- a command is played and its answer is written, or it asks for nothing
-abbrev pub IsObeyed : Session → Command → ℕ → ℕ → Option (List ℕ) → Option (List ℕ) → Result ℕ End → Session → Type 0
-IsObeyed old command n send before after (Ok next) new =
-    (answer : Answer) × Plays (cert_in old) (device_in old) command (machine_of old) answer (machine_of new) × IsWritten send answer before after × (next ≡ next_send send answer)
-IsObeyed old command n send before after (Err end) new = (end ≡ Line n) × ((event : Event) → Asks (device_in old) command event → ⊥) × Stays old before after new
+abbrev pub IsObeyed : Session → List (List ℕ) → Command → ℕ → Option (List ℕ) → Option (List ℕ) → Option End → List (List ℕ) → Session → Type 0
+IsObeyed old sent command n before after None sent_after new =
+    (answer : Answer) × Plays (cert_in old) (device_in old) sent command (machine_of old) answer (machine_of new) × IsWritten (length sent + 1) answer before after × Sends sent (message_in answer) sent_after
+IsObeyed old sent command n before after (Some end) sent_after new = (end ≡ Line n) × ((event : Event) → Asks (device_in old) sent command event → ⊥) × Stays old sent before after sent_after new
 
 -- a line has no words, or it is answered, or the script ends there
-abbrev pub IsStep : Session → List ℕ → ℕ → ℕ → Option (List ℕ) → Option (List ℕ) → Result ℕ End → Session → Type 0
-IsStep old line n send before after (Ok next) new =
-    ((words line ≡ []) × (next ≡ send) × Stays old before after new)
-    ⊎ ((text : List ℕ) × Answers (cert_in old) (device_in old) send line (machine_of old) text next (machine_of new) × Appends before after (text ++ 10 ∷ []))
-IsStep old line n send before after (Err end) new = ((end ≡ OutOfMemory) ⊎ (IsBad (device_in old) line × (end ≡ Line n))) × Stays old before after new
+abbrev pub IsStep : Session → List (List ℕ) → List ℕ → ℕ → Option (List ℕ) → Option (List ℕ) → Option End → List (List ℕ) → Session → Type 0
+IsStep old sent line n before after None sent_after new =
+    ((words line ≡ []) × Stays old sent before after sent_after new)
+    ⊎ ((text : List ℕ) × Answers (cert_in old) (device_in old) sent line (machine_of old) text sent_after (machine_of new) × Appends before after (text ++ 10 ∷ []))
+IsStep old sent line n before after (Some end) sent_after new = ((end ≡ OutOfMemory) ⊎ (IsBad (device_in old) sent line × (end ≡ Line n))) × Stays old sent before after sent_after new

@@ -1,6 +1,6 @@
 -- How an answer is printed: this project's profile.
 use denote.Ref.{Bor}
-use Rattle.std.specs.Prelude.{ℕ, ℤ, ◌+◌, flat_map, List, [], ◌++◌, codes, Option, None, Some}
+use Rattle.std.specs.Prelude.{ℕ, ℤ, flat_map, List, [], ◌++◌, codes, Option, None, Some}
 use Rattle.std.specs.Fmt.{decimal, signed_decimal}
 use Rattle.std.specs.List.{join_with_byte}
 use Rattle.fb_model.specs.Names.{Place}
@@ -68,20 +68,6 @@ answer_text send (Denied why) = codes "denied " ++ denial_text why
 answer_text send (Expired count) = codes "fired " ++ decimal count
 answer_text send Idle = codes "idle"
 answer_text send (Ran cause place steps effect ended) = codes "ran " ++ place_text place ++ codes " steps " ++ decimal steps ++ effect_text send effect ++ end_text ended
-
--- the number of the next send after what was done
-abbrev pub send_after : ℕ → Option Effect → ℕ
-send_after send None = send
-send_after send (Some (Write number values)) = send
-send_after send (Some (Send message)) = send + 1
-
--- and after an answer
-abbrev pub next_send : ℕ → Answer → ℕ
-next_send send (Admitted cause) = send
-next_send send (Denied why) = send
-next_send send (Expired count) = send
-next_send send Idle = send
-next_send send (Ran cause place steps effect ended) = send_after send effect
 
 -- ---- answers of the program
 

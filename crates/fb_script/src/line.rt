@@ -5,7 +5,7 @@ ghost use Rattle.fb_model.specs.CertificateText.{words};
 ghost use Rattle.fb_script.specs.Views.{texts, AreValues, IsRead, IsLine};
 ghost use Rattle.fb_script.specs.declared.line.LineFault.TheVariants.{OutOfMemory};
 
-use crate::number::{read_moment, read_number, read_value};
+use crate::number::{read_number, read_value, read_wide_number};
 use std::alloc::{AllocError, AllocFailed, Global};
 
 /// A line that has words.
@@ -16,6 +16,11 @@ pub enum Line<'a> {
         device: &'a str,
         number: u16,
         values: Vec<i64>,
+    },
+    /// `deliver NUMBER DEVICE`: the datagram of a number, of those that were sent, comes to the device.
+    Deliver {
+        number: u64,
+        device: &'a str,
     },
     /// `tick DEVICE NOW`: the clock comes to a moment, in milliseconds.
     Tick {
@@ -34,7 +39,7 @@ pub enum Line<'a> {
 pub enum LineFault {
     /// Memory ran out.
     OutOfMemory,
-    /// The words are none of the three forms, or one of them is no number that fits.
+    /// The words are none of the forms, or one of them is no number that fits.
     Form,
 }
 
@@ -111,10 +116,19 @@ fn read_offer<'a>(
     }
 }
 
+fn read_deliver<'a>(number: &str, device: &'a str) -> Result<Line<'a>, LineFault>
+    ensures { IsRead (codes "deliver" ∷ number.now ∷ device.now ∷ []) result }
+{
+    match read_wide_number(number) {
+        Some(number) => Ok(Line::Deliver { number, device }),
+        None => Err(LineFault::Form),
+    }
+}
+
 fn read_tick<'a>(device: &'a str, now: &str) -> Result<Line<'a>, LineFault>
     ensures { IsRead (codes "tick" ∷ device.now ∷ now.now ∷ []) result }
 {
-    match read_moment(now) {
+    match read_wide_number(now) {
         Some(now) => Ok(Line::Tick { device, now }),
         None => Err(LineFault::Form),
     }
@@ -124,21 +138,24 @@ fn read_tick<'a>(device: &'a str, now: &str) -> Result<Line<'a>, LineFault>
 fn read_by<'a>(
     alloc: Global,
     word: &str,
-    device: &'a str,
+    second: &'a str,
     third: &'a str,
     rest: &[&str],
 ) -> Result<Line<'a>, LineFault>
-    ensures { IsRead (word.now ∷ device.now ∷ third.now ∷ texts rest.now) result }
+    ensures { IsRead (word.now ∷ second.now ∷ third.now ∷ texts rest.now) result }
 {
     if word == "offer" {
-        return read_offer(alloc, device, third, rest);
+        return read_offer(alloc, second, third, rest);
+    }
+    if word == "deliver" && rest.is_empty() {
+        return read_deliver(second, third);
     }
     if word == "tick" && rest.is_empty() {
-        return read_tick(device, third);
+        return read_tick(second, third);
     }
     if word == "dispatch" && rest.is_empty() {
         return Ok(Line::Dispatch {
-            device,
+            device: second,
             resource: third,
         });
     }
@@ -150,7 +167,7 @@ fn read_words<'a>(alloc: Global, words: &[&'a str]) -> Result<Line<'a>, LineFaul
     ensures { IsRead (texts words.now) result }
 {
     match words {
-        [word, device, third, rest @ ..] => read_by(alloc, word, device, third, rest),
+        [word, second, third, rest @ ..] => read_by(alloc, word, second, third, rest),
         _ => Err(LineFault::Form),
     }
 }

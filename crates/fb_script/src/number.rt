@@ -1,7 +1,7 @@
 //! Numbers in scripts.
 
 ghost use Rattle.std.specs.Prelude.{◌≡◌, ◌==◌, slice_index};
-ghost use Rattle.fb_script.specs.Lines.{number_in, moment_in, value_in};
+ghost use Rattle.fb_script.specs.Lines.{number_in, wide_number_in, value_in};
 
 // Whether a plus stands first, which no number of a script has.
 fn has_plus(word: &str) -> bool
@@ -24,8 +24,8 @@ pub fn read_number(word: &str) -> Option<u16>
 }
 
 /// The number of 64 bits that digits write.
-pub(crate) fn read_moment(word: &str) -> Option<u64>
-    ensures { result ≡ moment_in word.now }
+pub(crate) fn read_wide_number(word: &str) -> Option<u64>
+    ensures { result ≡ wide_number_in word.now }
 {
     if has_plus(word) {
         return None;

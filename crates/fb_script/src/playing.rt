@@ -1,6 +1,6 @@
 //! One line, and its answer.
 
-ghost use Rattle.std.specs.Prelude.{◌≡◌, IfSome, None, List, ℕ, ℤ};
+ghost use Rattle.std.specs.Prelude.{◌≡◌, IfSome, None, [], List, ℕ, ℤ};
 ghost use Rattle.fb_model.specs.Devices.{Event};
 ghost use Rattle.fb_model.specs.Wires.{leaves};
 ghost use Rattle.fb_device.specs.fb_check.Lookups.{is_same_path};
@@ -9,12 +9,14 @@ ghost use Rattle.fb_device.specs.Answers.{answer_of, HasPlace};
 ghost use Rattle.fb_device.specs.fb_dispatch.Answers.{dispatched_of, HasPoint};
 ghost use Rattle.fb_device.specs.fb_dispatch.declared.answer.Dispatched.TheVariants as dispatched;
 ghost use Rattle.fb_script.specs.Lines as book;
-ghost use Rattle.fb_script.specs.Views.{command_of, IsPlayed};
+ghost use Rattle.fb_script.specs.Views.{command_of, bytes_of, IsPlayed};
 ghost use Rattle.fb_script.specs.Texts.{told_text, answer_text};
 
 use crate::line::Line;
+use crate::sent::datagram_numbered;
 use crate::told::Told;
 use fb_device::{Answer, Device, Dispatched, Ran};
+use fb_wire::Datagram;
 
 // Whether this is the device's name. Letter case has no meaning in it.
 fn is_named(device: &Device, name: &str) -> bool
@@ -24,7 +26,7 @@ fn is_named(device: &Device, name: &str) -> bool
 }
 
 fn play_offer(device: &mut Device, name: &str, number: u16, values: &[i64]) -> Option<Answer>
-    ensures plays { IsPlayed device.old (book.Offer name.now number values.now) result device.new }
+    ensures plays { IsPlayed device.old [] (book.Offer name.now number values.now) result device.new }
     ensures place { IfSome result (HasPlace (leaves (device_in device.new))) }
     ensures same { (device.new.verified ≡ device.old.verified) × (device.new.number ≡ device.old.number) }
 {
@@ -34,8 +36,22 @@ fn play_offer(device: &mut Device, name: &str, number: u16, values: &[i64]) -> O
     Some(Answer::Admitted(device.offer(number, values)))
 }
 
+fn play_deliver(device: &mut Device, sent: &[Datagram], number: u64, name: &str) -> Option<Answer>
+    ensures plays { IsPlayed device.old (bytes_of sent.now) (book.Deliver number name.now) result device.new }
+    ensures place { IfSome result (HasPlace (leaves (device_in device.new))) }
+    ensures same { (device.new.verified ≡ device.old.verified) × (device.new.number ≡ device.old.number) }
+{
+    if !is_named(device, name) {
+        return None;
+    }
+    match datagram_numbered(sent, number) {
+        Some(bytes) => Some(Answer::Admitted(device.deliver(bytes))),
+        None => None,
+    }
+}
+
 fn play_tick(device: &mut Device, name: &str, now: u64) -> Option<Answer>
-    ensures plays { IsPlayed device.old (book.Tick name.now now) result device.new }
+    ensures plays { IsPlayed device.old [] (book.Tick name.now now) result device.new }
     ensures place { IfSome result (HasPlace (leaves (device_in device.new))) }
     ensures same { (device.new.verified ≡ device.old.verified) × (device.new.number ≡ device.old.number) }
 {
@@ -46,7 +62,7 @@ fn play_tick(device: &mut Device, name: &str, now: u64) -> Option<Answer>
 }
 
 fn play_dispatch(device: &mut Device, name: &str, resource: &str) -> Option<Answer>
-    ensures plays { IsPlayed device.old (book.Dispatch name.now resource.now) result device.new }
+    ensures plays { IsPlayed device.old [] (book.Dispatch name.now resource.now) result device.new }
     ensures place { IfSome result (HasPlace (leaves (device_in device.new))) }
     ensures same { (device.new.verified ≡ device.old.verified) × (device.new.number ≡ device.old.number) }
 {
@@ -59,10 +75,10 @@ fn play_dispatch(device: &mut Device, name: &str, resource: &str) -> Option<Answ
     }
 }
 
-/// Runs a line on a device, and gives what the device answers. `None` where the line is for another device, or for a resource that
-/// the device has not: it is as it was then.
-pub fn play(device: &mut Device, line: &Line<'_>) -> Option<Answer>
-    ensures plays { IsPlayed device.old (command_of line.now) result device.new }
+/// Runs a line on a device, where these datagrams were sent, and gives what the device answers. `None` where the line is for another device, for a
+/// resource that the device has not, or of a datagram that was not sent: the device is as it was then.
+pub fn play(device: &mut Device, sent: &[Datagram], line: &Line<'_>) -> Option<Answer>
+    ensures plays { IsPlayed device.old (bytes_of sent.now) (command_of line.now) result device.new }
     ensures place { IfSome result (HasPlace (leaves (device_in device.new))) }
     ensures same { (device.new.verified ≡ device.old.verified) × (device.new.number ≡ device.old.number) }
 {
@@ -72,6 +88,10 @@ pub fn play(device: &mut Device, line: &Line<'_>) -> Option<Answer>
             number,
             values,
         } => play_offer(device, name, *number, values.as_slice()),
+        Line::Deliver {
+            number,
+            device: name,
+        } => play_deliver(device, sent, *number, name),
         Line::Tick { device: name, now } => play_tick(device, name, *now),
         Line::Dispatch {
             device: name,

@@ -1,16 +1,18 @@
 //! Whole scripts.
 
-ghost use Rattle.std.specs.Prelude.{◌≡◌, ◌≤◌, length, IfOk};
+ghost use Rattle.std.specs.Prelude.{◌≡◌, ◌≤◌, ◌<◌, length, vec_len, vec_capacity, IfOk};
 ghost use Rattle.fb_model.specs.Wires.{leaves};
 ghost use Rattle.fb_device.specs.Machines.{device_in};
 ghost use Rattle.fb_device.specs.Answers.{answer_of, HasPlace};
-ghost use Rattle.fb_script.specs.Views.{command_of};
-ghost use Rattle.fb_script.specs.Steps.{IsWritten, IsObeyed, IsStep, sends};
+ghost use Rattle.fb_script.specs.Views.{command_of, bytes_of};
+ghost use Rattle.fb_script.specs.Steps.{IsWritten, IsObeyed, IsStep};
 ghost use Rattle.fb_script.specs.Runs.{IsRun};
 
 use crate::line::{Line, LineFault, read_line};
 use crate::playing::{play, tell};
-use fb_device::{Answer, Device, Dispatched, Effect};
+use crate::sent::{keep, next_number};
+use fb_device::{Answer, Device};
+use fb_wire::Datagram;
 use std::alloc::Global;
 use std::io;
 use std::io::Write;
@@ -20,7 +22,7 @@ use std::io::Write;
 pub enum End {
     /// Every line was run.
     Done,
-    /// The line of this number, counted from 1, is of another form, or its device or resource is unknown. Neither it nor a later one was run.
+    /// The line of this number, counted from 1, is of another form, or its device, its resource or its datagram is unknown. Neither it nor a later one was run.
     Line(usize),
     /// Memory ran out at a line. Neither it nor a later one was run.
     OutOfMemory,
@@ -40,63 +42,54 @@ fn write_answer<W: Write>(
     writeln!(output, "{told}")
 }
 
-// Whether a dispatch has sent something.
-fn has_sent(answer: &Answer) -> bool
-    ensures { result ≡ sends answer.now }
-{
-    match answer {
-        Answer::Served(Dispatched::Ran(ran)) => match &ran.effect {
-            Some(Effect::Send(_)) => true,
-            _ => false,
-        },
-        _ => false,
-    }
-}
-
-// Runs a command, and writes its answer. Gives the number of the next send, or how the script ends.
+// Runs a command, keeps what it sends, and writes its answer. Gives how the script ends, if it does there.
 fn obey<W: Write>(
     device: &mut Device,
+    sent: &mut Vec<Datagram>,
     line: &Line<'_>,
     number: usize,
-    send: u64,
     output: &mut W,
-) -> io::Result<Result<u64, End>>
-    requires { send ≤ 33554433 }
-    ensures obeys { IfOk result (λ next. IsObeyed device.old (command_of line.now) number send (W.contents output.old) (W.contents output.new) next device.new) }
+) -> io::Result<Option<End>>
+    requires { vec_len sent.old < vec_capacity sent.old }
+    ensures obeys { IfOk result (λ end. IsObeyed device.old (bytes_of sent.old.items) (command_of line.now) number (W.contents output.old) (W.contents output.new) end (bytes_of sent.new.items) device.new) }
     ensures same { (device.new.verified ≡ device.old.verified) × (device.new.number ≡ device.old.number) }
 {
-    let Some(answer) = play(device, line) else {
-        return Ok(Err(End::Line(number)));
+    let Some(answer) = play(device, sent.as_slice(), line) else {
+        return Ok(Some(End::Line(number)));
     };
+    let send = next_number(sent.as_slice());
+    keep(sent, &answer);
     match write_answer(device, &answer, send, output) {
-        Ok(()) if has_sent(&answer) => Ok(Ok(send + 1)),
-        Ok(()) => Ok(Ok(send)),
+        Ok(()) => Ok(None),
         Err(error) => Err(error),
     }
 }
 
-// Runs a line. Gives the number of the next send, or how the script ends.
+// Runs a line. Gives how the script ends, if it does there.
 fn step<W: Write>(
     alloc: Global,
     device: &mut Device,
+    sent: &mut Vec<Datagram>,
     line: &str,
     number: usize,
-    send: u64,
     output: &mut W,
-) -> io::Result<Result<u64, End>>
-    requires { send ≤ 33554433 }
-    ensures steps { IfOk result (λ next. IsStep device.old line.now number send (W.contents output.old) (W.contents output.new) next device.new) }
+) -> io::Result<Option<End>>
+    ensures steps { IfOk result (λ end. IsStep device.old (bytes_of sent.old.items) line.now number (W.contents output.old) (W.contents output.new) end (bytes_of sent.new.items) device.new) }
     ensures same { (device.new.verified ≡ device.old.verified) × (device.new.number ≡ device.old.number) }
 {
     match read_line(alloc, line) {
-        Ok(Some(line)) => obey(device, &line, number, send, output),
-        Ok(None) => Ok(Ok(send)),
-        Err(LineFault::Form) => Ok(Err(End::Line(number))),
-        Err(LineFault::OutOfMemory) => Ok(Err(End::OutOfMemory)),
+        Ok(Some(line)) => match sent.reserve(1) {
+            Ok(()) => obey(device, sent, &line, number, output),
+            Err(_) => Ok(Some(End::OutOfMemory)),
+        },
+        Ok(None) => Ok(None),
+        Err(LineFault::Form) => Ok(Some(End::Line(number))),
+        Err(LineFault::OutOfMemory) => Ok(Some(End::OutOfMemory)),
     }
 }
 
-/// Runs the lines of a script on a device, in order, up to the first that is bad. Each answer is written on a line of its own. Sends are numbered from 1.
+/// Runs the lines of a script on a device, in order, up to the first that is bad. Each answer is written on a line of its own. What is sent is kept, by numbers
+/// from 1, and comes to the device where a line delivers it.
 pub fn simulate<W: Write>(
     alloc: Global,
     device: &mut Device,
@@ -108,12 +101,12 @@ pub fn simulate<W: Write>(
     ensures same { (device.new.verified ≡ device.old.verified) × (device.new.number ≡ device.old.number) }
 {
     let mut number = 0;
-    let mut send = 1;
+    let mut sent = Vec::new(alloc);
     for line in script.lines() {
         number += 1;
-        match step(alloc, device, line, number, send, output) {
-            Ok(Ok(next)) => send = next,
-            Ok(Err(end)) => return Ok(end),
+        match step(alloc, device, &mut sent, line, number, output) {
+            Ok(None) => {}
+            Ok(Some(end)) => return Ok(end),
             Err(error) => return Err(error),
         }
     }
