@@ -1,6 +1,6 @@
 -- The names of answers.
-use Rattle.std.proofs.Common.{◌≡◌, ◌≤◌, ℕ, zero, suc, List, [], ◌∷◌, ◌++◌, length, true, false, Option, Some, None, refl, sym, ◌∙◌, ap, arith, Bor, codes}
-use Rattle.std.specs.Prelude.{slice_get, ℤ}
+use Rattle.std.proofs.Common.{◌≡◌, ◌≤◌, ℕ, zero, suc, List, [], ◌∷◌, ◌++◌, length, true, Option, Some, None, refl, sym, ◌∙◌, ap, arith, Bor, codes}
+use Rattle.std.specs.Prelude.{slice_get}
 use Rattle.std.specs.Fmt.{decimal}
 use Rattle.std.specs.List.{join_with_byte}
 use Rattle.std.specs.Option.{option_map, option_copied}
@@ -16,23 +16,19 @@ use Rattle.fb_device.specs.fb_tables.Views.{place_at, place_in}
 use Rattle.fb_device.specs.Answers.{IsNamed, IsNoPoint, IsNumberOf, IsNoNumber}
 use Rattle.fb_device.specs.fb_dispatch.Answers.{dispatched_of, end_of}
 use Rattle.fb_device.specs.fb_serve.Responses.{effect_of}
-use Rattle.fb_device.specs.fb_arrive.Answers.{denial_of}
-use Rattle.fb_device.specs.fb_arrive.declared.denied.Denied.{Denied}
-use Rattle.fb_device.specs.fb_arrive.declared.denied.Denied.TheVariants as d
-use Rattle.fb_device.specs.fb_arrive.fb_wire.declared.fault.WireFault.TheVariants as w
 use Rattle.fb_device.specs.fb_dispatch.declared.answer.Ended.{Ended}
 use Rattle.fb_device.specs.fb_serve.declared.standing.Effect.{Effect as Outside}
 use Rattle.fb_device.specs.fb_serve.declared.standing.Effect.TheVariants as outside
 use Rattle.fb_device.specs.fb_tables.Tables.{IsPoint}
 use Rattle.fb_device.specs.fb_dispatch.declared.answer.Ran.{Ran as RanRecord}
 use Rattle.fb_device.specs.fb_dispatch.declared.answer.Dispatched.TheVariants as dispatched
-use Rattle.fb_script.specs.Lines.{Offer, Deliver, Tick, Dispatch}
+use Rattle.fb_script.specs.Lines.{Deliver, Dispatch}
 use Rattle.fb_script.specs.Sending.{datagram_numbered}
 use Rattle.fb_device.specs.Sessions.{Session}
 use Rattle.fb_device.specs.declared.answer.Answer.{Answer as Reply}
 use Rattle.fb_script.specs.Playing.{Asks, Plays}
 use Rattle.fb_script.specs.Views.{IsPlayed}
-use Rattle.fb_script.specs.Texts.{place_text, effect_text, end_text, outside_text, done_text, ended_text, denial_text, why_text, told_text, answer_text}
+use Rattle.fb_script.specs.Texts.{place_text, effect_text, end_text, outside_text, done_text, ended_text, told_text, answer_text}
 use Rattle.fb_script.specs.declared.told.Told.TheVariants as told
 
 place_named : (all : List Leaf) (block event : ℕ) (path name : List ℕ) → IsNamed all block event path name → place_text (place_at all (record { block = block; event = event })) ≡ path ++ codes "." ++ name
@@ -72,38 +68,7 @@ never_unnamed all block event p h = absurd (omega (arith, p.event, none_there_at
     none_there_at (x ∷ xs) zero e = absurd cc
     none_there_at (x ∷ xs) (suc k) e = let l = none_there_at xs k e in omega arith
 
-pub same_why : (why : Denied) → why_text why ≡ denial_text (denial_of why)
-same_why d.UnknownInput = refl
-same_why d.BadCount = refl
-same_why (d.BadValue n) = refl
-same_why (d.NoCredit needs free) = refl
-same_why d.Spent = refl
-same_why (d.Wire w.Short) = refl
-same_why (d.Wire w.Magic) = refl
-same_why (d.Wire w.Version) = refl
-same_why (d.Wire w.Kind) = refl
-same_why (d.Wire w.Count) = refl
-same_why (d.Wire w.TypeCode) = refl
-same_why (d.Wire w.Value) = refl
-same_why (d.Wire w.Trailing) = refl
-same_why d.NoSubscriber = refl
-same_why d.Shape = refl
-same_why d.Closed = refl
-same_why (d.Stale boot sequence) = refl
-
 -- ---- devices, resources and datagrams that are named
-
-pub no_offer : (device : Device) (sent : List (List ℕ)) (name : List ℕ) (n : ℕ) (values : List ℤ) → is_same_path device.name name ≡ false → (event : Event) → Asks device sent (Offer name n values) event → ⊥
-no_offer device sent name n values e event a = let h = a.0 in absurd cc
-
-pub no_deliver : (device : Device) (sent : List (List ℕ)) (n : ℕ) (name : List ℕ) → is_same_path device.name name ≡ false → (event : Event) → Asks device sent (Deliver n name) event → ⊥
-no_deliver device sent n name e event a = let h = a.0 in absurd cc
-
-pub no_tick : (device : Device) (sent : List (List ℕ)) (name : List ℕ) (now : ℕ) → is_same_path device.name name ≡ false → (event : Event) → Asks device sent (Tick name now) event → ⊥
-no_tick device sent name now e event a = let h = a.0 in absurd cc
-
-pub no_dispatch : (device : Device) (sent : List (List ℕ)) (name resource : List ℕ) → is_same_path device.name name ≡ false → (event : Event) → Asks device sent (Dispatch name resource) event → ⊥
-no_dispatch device sent name resource e event a = let h = a.0 in absurd cc
 
 none_there : (rs : List Resource) (name : List ℕ) (n : ℕ) (r : Resource) → IsNoNumber rs name → slice_get rs n ≡ Some r → is_same_path r.name name ≡ true → ⊥
 none_there [] name n r h e s = absurd cc
@@ -116,17 +81,9 @@ no_resource device sent name resource h event a = none_there device.resources re
 pub no_datagram : (device : Device) (sent : List (List ℕ)) (n : ℕ) (name : List ℕ) → datagram_numbered sent n ≡ None → (event : Event) → Asks device sent (Deliver n name) event → ⊥
 no_datagram device sent n name e event a = let h = a.1.1 in absurd cc
 
-pub offers : (cert : Certificate) (device : Device) (sent : List (List ℕ)) (name : List ℕ) (n : ℕ) (values : List ℤ) (old : Machine) (answer : model.Answer) (new : Machine) → is_same_path device.name name ≡ true
-    → Happens cert device old (model.Offer n values) answer new → Plays cert device sent (Offer name n values) old answer new
-offers cert device sent name n values old answer new e h = (model.Offer n values, (e, refl), h)
-
 pub delivers : (cert : Certificate) (device : Device) (sent : List (List ℕ)) (n : ℕ) (name bytes : List ℕ) (old : Machine) (answer : model.Answer) (new : Machine) → is_same_path device.name name ≡ true
     → datagram_numbered sent n ≡ Some bytes → Happens cert device old (model.Deliver bytes) answer new → Plays cert device sent (Deliver n name) old answer new
 delivers cert device sent n name bytes old answer new e is h = (model.Deliver bytes, (e, (bytes, is, refl)), h)
-
-pub ticks : (cert : Certificate) (device : Device) (sent : List (List ℕ)) (name : List ℕ) (now : ℕ) (old : Machine) (answer : model.Answer) (new : Machine) → is_same_path device.name name ≡ true
-    → Happens cert device old (model.Tick now) answer new → Plays cert device sent (Tick name now) old answer new
-ticks cert device sent name now old answer new e h = (model.Tick now, (e, refl), h)
 
 pub dispatches : (cert : Certificate) (device : Device) (sent : List (List ℕ)) (name resource : List ℕ) (n : ℕ) (old : Machine) (answer : model.Answer) (new : Machine) → is_same_path device.name name ≡ true
     → IsNumberOf device.resources resource n → Happens cert device old (model.Dispatch n) answer new → Plays cert device sent (Dispatch name resource) old answer new
