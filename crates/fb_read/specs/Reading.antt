@@ -82,7 +82,7 @@ many_step item others false ts = do
   xs ← others x.1
   Ok (x.0 ∷ xs.0, xs.1)
 
--- items up to a mark, which is left; the number bounds the turns
+-- items up to a mark, which is left; the number bounds the steps
 unfoldable pub many_at : {A : Type 0} → Mark → Read A → ℕ → Read (List A)
 many_at close item zero ts = stuck ts
 many_at close item (suc n) ts = many_step item (many_at close item n) (next_is close ts) ts
@@ -95,7 +95,7 @@ while_step item others true ts = do
   xs ← others x.1
   Ok (x.0 ∷ xs.0, xs.1)
 
--- items as long as one begins; the number bounds the turns
+-- items as long as one begins; the number bounds the steps
 unfoldable pub while_at : {A : Type 0} → (List Token → Bool) → Read A → ℕ → Read (List A)
 while_at begins item zero ts = Ok ([], ts)
 while_at begins item (suc n) ts = while_step item (while_at begins item n) (begins ts) ts
@@ -104,7 +104,7 @@ abbrev pub separated_step : {A : Type 0} → Read (List A) → A → Bool → Re
 separated_step others x true ts = others (after ts) >>= λ xs. Ok (x ∷ xs.0, xs.1)
 separated_step others x false ts = Ok (x ∷ [], ts)
 
--- an item, and another behind each separator; the number bounds the turns
+-- an item, and another behind each separator; the number bounds the steps
 unfoldable pub separated_at : {A : Type 0} → Mark → Read A → ℕ → Read (List A)
 separated_at separator item zero ts = stuck ts
 separated_at separator item (suc n) ts = item ts >>= λ x. separated_step (separated_at separator item n) x.0 (next_is separator x.1) x.1

@@ -74,7 +74,7 @@ line_more : (bs xs : List BlockTree) (y c : BlockTree) (i : InstanceTree) → Is
 line_more bs [] y c i h u n = (h.0, (further {i = i} itself u, tt), (n, tt, tt))
 line_more bs (p ∷ xs) y c i h u n = (h.0, all_more (Leads bs p) (xs ++ y ∷ []) c h.1 (further {i = i} (all_last (Leads bs p) xs y h.1) u), line_more bs xs y c i h.2 u n)
 
--- ---- one turn
+-- ---- one step
 
 none_some : {X : Type 0} {x : X} → None ≡ Some x → ⊥
 none_some e = cc

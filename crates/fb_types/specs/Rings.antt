@@ -80,7 +80,7 @@ module _ (bs : List BlockTree) where
   IsLine [] = Unit {0}
   IsLine (p ∷ rest) = (type_named bs p.name.text ≡ Some p) × AllByRecursion (Leads bs p) rest × IsLine rest
 
-  -- what is so at each turn of the search from a type
+  -- what is so at each step of the search from a type
   pub record IsSearching (b : BlockTree) (left : Name → Option BlockTree) (path : List BlockTree) : Type 0 where
     pub line : IsLine path
     pub led : AllByRecursion (Leads bs b) path
