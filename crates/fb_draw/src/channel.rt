@@ -1,10 +1,12 @@
 //! Channels, as nodes of their own outside all devices.
 
-use crate::edge::end_edge;
+use crate::edge::end_of_edge;
+use crate::margin::put;
 use crate::picture::Sheet;
 use crate::walk::{comes_to_channel, goes_to_channel, leaves_channel};
 use fb_flat::fb_types::fb_networks::fb_services::Service;
 use fb_flat::{Body, Leaf};
+use fb_solved::Place;
 use indexmap::IndexSet;
 use std::alloc::{AllocError, Global};
 use std::io;
@@ -46,22 +48,36 @@ fn draw_channel<W: Write>(is_walked: bool, channel: u16, output: &mut W) -> io::
     )
 }
 
+// Draws what joins a leaf, which has a number, to the channel that it sends on.
+fn draw_sent<W: Write>(number: usize, channel: u16, end: &str, output: &mut W) -> io::Result<()> {
+    writeln!(output, "    n{number}:head:e -> channel_{channel}{end}")
+}
+
+// Draws what joins a channel to a leaf, which has a number, that receives from it.
+fn draw_received<W: Write>(
+    number: usize,
+    channel: u16,
+    end: &str,
+    output: &mut W,
+) -> io::Result<()> {
+    writeln!(output, "    channel_{channel} -> n{number}:head:w{end}")
+}
+
 // Draws what joins a leaf, which has a number, to its channel.
 fn draw_end<W: Write>(
-    sheet: &Sheet<'_>,
+    walk: &[Place],
     leaf: &Leaf,
     number: usize,
     output: &mut W,
 ) -> io::Result<()> {
-    let walk = sheet.picture.walk;
     let path = leaf.path.as_str();
     if let Some(channel) = sent_on(&leaf.body) {
-        write!(output, "    n{number}:head:e -> channel_{channel}")?;
-        return end_edge(goes_to_channel(walk, path, channel), output);
+        let is_walked = goes_to_channel(walk, path, channel);
+        return draw_sent(number, channel, end_of_edge(is_walked), output);
     }
     if let Some(channel) = received_from(&leaf.body) {
-        write!(output, "    channel_{channel} -> n{number}:head:w")?;
-        return end_edge(leaves_channel(walk, channel, path), output);
+        let is_walked = leaves_channel(walk, channel, path);
+        return draw_received(number, channel, end_of_edge(is_walked), output);
     }
     Ok(())
 }
@@ -76,17 +92,16 @@ pub fn draw_channels<W: Write>(
     if numbers.is_empty() {
         return Ok(());
     }
-    writeln!(output, "  subgraph channels {{")?;
-    writeln!(output, "    edge [style=dotted, penwidth=1.4];")?;
+    let walk = sheet.picture.walk;
+    put(
+        "  subgraph channels {\n    edge [style=dotted, penwidth=1.4];\n",
+        output,
+    )?;
     for channel in &numbers {
-        draw_channel(
-            comes_to_channel(sheet.picture.walk, *channel),
-            *channel,
-            output,
-        )?;
+        draw_channel(comes_to_channel(walk, *channel), *channel, output)?;
     }
     for (number, leaf) in leaves.iter().enumerate() {
-        draw_end(sheet, *leaf, number, output)?;
+        draw_end(walk, *leaf, number, output)?;
     }
-    writeln!(output, "  }}")
+    put("  }\n", output)
 }

@@ -1,6 +1,6 @@
 //! Boxes around what devices, resources and composites have in them.
 
-use crate::margin::{depth_of, indent};
+use crate::margin::{depth_of, indent, line, put};
 use crate::picture::Sheet;
 use fb_spots::instance_at;
 use std::io;
@@ -10,25 +10,27 @@ use std::io::Write;
 pub fn open_cluster<W: Write>(path: &str, style: &str, output: &mut W) -> io::Result<()> {
     let depth = depth_of(path);
     indent(depth, output)?;
-    writeln!(output, "subgraph \"cluster_{path}\" {{")?;
+    put("subgraph \"cluster_", output)?;
+    put(path, output)?;
+    put("\" {\n", output)?;
     let inside = depth.saturating_add(1);
     indent(inside, output)?;
-    writeln!(output, "style={style};")?;
+    put("style=", output)?;
+    put(style, output)?;
+    put(";\n", output)?;
+    line(inside, "margin=14;", output)?;
     indent(inside, output)?;
-    writeln!(output, "margin=14;")?;
-    indent(inside, output)?;
-    write!(output, "label=\"")
+    put("label=\"", output)
 }
 
 /// Ends the label of a box.
 pub fn end_label<W: Write>(output: &mut W) -> io::Result<()> {
-    writeln!(output, "\";")
+    put("\";\n", output)
 }
 
 /// Ends a box at a depth.
 pub fn close_cluster<W: Write>(depth: usize, output: &mut W) -> io::Result<()> {
-    indent(depth, output)?;
-    writeln!(output, "}}")
+    line(depth, "}", output)
 }
 
 // How many names two paths begin with in common.
@@ -51,10 +53,10 @@ fn open_composite<W: Write>(
     output: &mut W,
 ) -> io::Result<()> {
     open_cluster(path, "dashed", output)?;
-    write!(output, "{name}")?;
+    put(name, output)?;
     if let Some(instance) = instance_at(sheet.picture.file, path) {
-        let of_type = instance.of_type.text.as_str();
-        write!(output, " : {of_type}")?;
+        put(" : ", output)?;
+        put(instance.of_type.text.as_str(), output)?;
     }
     end_label(output)
 }

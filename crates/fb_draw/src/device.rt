@@ -2,39 +2,42 @@
 
 use crate::cluster::{close_cluster, cross, end_label, open_cluster};
 use crate::leaf::draw_leaf;
+use crate::margin::put;
 use crate::picture::Sheet;
+use fb_cert::Certificate;
 use fb_flat::{FlatDevice, FlatResource, Leaf};
 use std::io;
 use std::io::Write;
 
 // Writes what a resource is called, and how deep its queue is.
 fn write_label<W: Write>(
-    sheet: &Sheet<'_>,
-    resource: &FlatResource,
+    certificate: Option<&Certificate>,
+    path: &str,
     output: &mut W,
 ) -> io::Result<()> {
-    let path = resource.path.as_str();
     let name = match path.split_once('.') {
         Some((_, name)) => name,
         None => path,
     };
-    write!(output, "{name}")?;
-    if let Some(certificate) = sheet.picture.certificate {
-        if let Some(depth) = certificate.depth(path) {
-            write!(output, " · queue of {depth}")?;
-        }
+    put(name, output)?;
+    let depth = match certificate {
+        Some(certificate) => certificate.depth(path),
+        None => None,
+    };
+    match depth {
+        Some(depth) => write!(output, " · queue of {depth}"),
+        None => Ok(()),
     }
-    Ok(())
 }
 
 // The path of the composite that a leaf stands in, or of its resource where composites have no boxes.
-fn around<'a>(boxes: bool, resource: &'a FlatResource, leaf: &'a Leaf) -> &'a str {
+fn around<'a>(boxes: bool, resource: &'a str, leaf: &'a str) -> &'a str {
     if boxes {
-        if let Some((path, _)) = leaf.path.rsplit_once('.') {
+        if let Some((path, _)) = leaf.rsplit_once('.') {
             return path;
         }
     }
-    resource.path.as_str()
+    resource
 }
 
 // Draws the leaves of a resource, in the boxes of their composites.
@@ -43,14 +46,15 @@ fn draw_leaves<W: Write>(
     resource: &FlatResource,
     output: &mut W,
 ) -> io::Result<()> {
-    let mut from = resource.path.as_str();
+    let path = resource.path.as_str();
+    let mut from = path;
     for leaf in &resource.leaves {
-        let to = around(sheet.picture.boxes, resource, leaf);
+        let to = around(sheet.picture.boxes, path, leaf.path.as_str());
         cross(sheet, from, to, output)?;
         draw_leaf(sheet, leaf, output)?;
         from = to;
     }
-    cross(sheet, from, resource.path.as_str(), output)
+    cross(sheet, from, path, output)
 }
 
 // Draws a resource.
@@ -59,8 +63,9 @@ fn draw_resource<W: Write>(
     resource: &FlatResource,
     output: &mut W,
 ) -> io::Result<()> {
-    open_cluster(resource.path.as_str(), "solid", output)?;
-    write_label(sheet, resource, output)?;
+    let path = resource.path.as_str();
+    open_cluster(path, "solid", output)?;
+    write_label(sheet.picture.certificate, path, output)?;
     end_label(output)?;
     draw_leaves(sheet, resource, output)?;
     close_cluster(2, output)
@@ -74,7 +79,7 @@ pub fn draw_device<W: Write>(
 ) -> io::Result<()> {
     let name = device.name.as_str();
     open_cluster(name, "bold", output)?;
-    write!(output, "{name}")?;
+    put(name, output)?;
     end_label(output)?;
     for resource in &device.resources {
         draw_resource(sheet, resource, output)?;

@@ -1,24 +1,22 @@
 //! Connections, as edges.
 
+use crate::margin::put;
+use crate::number::Numbers;
 use crate::picture::Sheet;
 use crate::walk::goes_to_event;
 use fb_flat::{Input, Leaf, Output, Source, Target};
 use std::io;
 use std::io::Write;
 
-/// Ends an edge, in red if a walk goes along it.
-pub fn end_edge<W: Write>(is_walked: bool, output: &mut W) -> io::Result<()> {
-    if is_walked {
-        writeln!(output, " [color=red];")
-    } else {
-        writeln!(output, ";")
-    }
+/// What ends an edge, in red if a walk goes along it.
+pub fn end_of_edge(is_walked: bool) -> &'static str {
+    if is_walked { " [color=red];" } else { ";" }
 }
 
 // Draws a connection of an event output of a leaf, which has a number.
 fn draw_event<W: Write>(
     sheet: &Sheet<'_>,
-    leaf: &Leaf,
+    leaf: &str,
     number: usize,
     name: &str,
     target: &Target,
@@ -28,9 +26,8 @@ fn draw_event<W: Write>(
     let event = target.event.as_str();
     match sheet.numbers.get(path).copied() {
         Some(to) => {
-            write!(output, "    n{number}:o_{name}:e -> n{to}:i_{event}:w")?;
-            let walk = sheet.picture.walk;
-            end_edge(goes_to_event(walk, leaf.path.as_str(), path, event), output)
+            let end = end_of_edge(goes_to_event(sheet.picture.walk, leaf, path, event));
+            writeln!(output, "    n{number}:o_{name}:e -> n{to}:i_{event}:w{end}")
         }
         None => Ok(()),
     }
@@ -39,7 +36,7 @@ fn draw_event<W: Write>(
 // Draws the connections of an event output of a leaf, which has a number.
 fn draw_targets<W: Write>(
     sheet: &Sheet<'_>,
-    leaf: &Leaf,
+    leaf: &str,
     number: usize,
     event: &Output,
     output: &mut W,
@@ -56,26 +53,28 @@ pub fn draw_events<W: Write>(
     leaves: &[&Leaf],
     output: &mut W,
 ) -> io::Result<()> {
-    writeln!(output, "  subgraph events {{")?;
-    writeln!(output, "    edge [penwidth=1.4, weight=2];")?;
+    put(
+        "  subgraph events {\n    edge [penwidth=1.4, weight=2];\n",
+        output,
+    )?;
     for (number, leaf) in leaves.iter().enumerate() {
         for event in &leaf.outputs {
-            draw_targets(sheet, *leaf, number, event, output)?;
+            draw_targets(sheet, leaf.path.as_str(), number, event, output)?;
         }
     }
-    writeln!(output, "  }}")
+    put("  }\n", output)
 }
 
 // Draws the connection of a data input of a leaf, which has a number.
 fn draw_value<W: Write>(
-    sheet: &Sheet<'_>,
+    numbers: &Numbers,
     number: usize,
     input: &Input,
     output: &mut W,
 ) -> io::Result<()> {
     let name = input.name.as_str();
     match &input.source {
-        Source::Output(path, port) => match sheet.numbers.get(path.as_str()).copied() {
+        Source::Output(path, port) => match numbers.get(path.as_str()).copied() {
             Some(from) => writeln!(output, "    n{from}:r_{port}:e -> n{number}:d_{name}:w;"),
             None => Ok(()),
         },
@@ -89,15 +88,14 @@ pub fn draw_values<W: Write>(
     leaves: &[&Leaf],
     output: &mut W,
 ) -> io::Result<()> {
-    writeln!(output, "  subgraph data {{")?;
-    writeln!(
+    put(
+        "  subgraph data {\n    edge [style=dashed, color=gray50, arrowsize=0.5];\n",
         output,
-        "    edge [style=dashed, color=gray50, arrowsize=0.5];"
     )?;
     for (number, leaf) in leaves.iter().enumerate() {
         for input in &leaf.inputs {
-            draw_value(sheet, number, input, output)?;
+            draw_value(sheet.numbers, number, input, output)?;
         }
     }
-    writeln!(output, "  }}")
+    put("  }\n", output)
 }

@@ -1,6 +1,6 @@
 //! The heads of leaves: their names, what they are, and the states of a walk.
 
-use crate::margin::indent;
+use crate::margin::{indent, put, put_number};
 use crate::picture::Sheet;
 use crate::walk::state_of;
 use fb_flat::fb_types::fb_networks::fb_services::Service;
@@ -49,18 +49,21 @@ fn number_of(body: &Body) -> Option<u16> {
 fn draw_name<W: Write>(sheet: &Sheet<'_>, leaf: &Leaf, output: &mut W) -> io::Result<()> {
     let path = leaf.path.as_str();
     let name = name_of(sheet.picture.boxes, path);
-    write!(
+    put(
+        "<TR><TD COLSPAN=\"2\" PORT=\"head\" BGCOLOR=\"gray94\"><B>",
         output,
-        "<TR><TD COLSPAN=\"2\" PORT=\"head\" BGCOLOR=\"gray94\"><B>{name}</B>"
     )?;
+    put(name, output)?;
+    put("</B>", output)?;
     if let Some(instance) = instance_at(sheet.picture.file, path) {
-        let of_type = instance.of_type.text.as_str();
-        write!(output, "<BR/>{of_type}")?;
+        put("<BR/>", output)?;
+        put(instance.of_type.text.as_str(), output)?;
     }
     if let Some(number) = number_of(&leaf.body) {
-        write!(output, " {number}")?;
+        put(" ", output)?;
+        put_number(u64::from(number), output)?;
     }
-    writeln!(output, "</TD></TR>")
+    put("</TD></TR>\n", output)
 }
 
 // The places of a walk, each once: the last is the first again.
@@ -73,27 +76,25 @@ fn without_last(walk: &[Place]) -> &[Place] {
 
 // Draws the states of a leaf that a walk comes to, in a row if there are some.
 fn draw_states<W: Write>(
-    sheet: &Sheet<'_>,
-    leaf: &Leaf,
+    walk: &[Place],
+    leaf: &str,
     depth: usize,
     output: &mut W,
 ) -> io::Result<()> {
     let mut begun = false;
-    for place in without_last(sheet.picture.walk) {
-        if let Some(state) = state_of(place, leaf.path.as_str()) {
+    for place in without_last(walk) {
+        if let Some(state) = state_of(place, leaf) {
             if begun {
-                write!(output, " → {state}")?;
+                put(" → ", output)?;
             } else {
                 indent(depth, output)?;
-                write!(output, "<TR><TD COLSPAN=\"2\"><FONT COLOR=\"red\">{state}")?;
+                put("<TR><TD COLSPAN=\"2\"><FONT COLOR=\"red\">", output)?;
                 begun = true;
             }
+            put(state, output)?;
         }
     }
-    if begun {
-        writeln!(output, "</FONT></TD></TR>")?;
-    }
-    Ok(())
+    put(if begun { "</FONT></TD></TR>\n" } else { "" }, output)
 }
 
 /// Draws the head of a leaf.
@@ -105,5 +106,5 @@ pub fn draw_head<W: Write>(
 ) -> io::Result<()> {
     indent(depth, output)?;
     draw_name(sheet, leaf, output)?;
-    draw_states(sheet, leaf, depth, output)
+    draw_states(sheet.picture.walk, leaf.path.as_str(), depth, output)
 }

@@ -1,7 +1,7 @@
 //! Leaves, as tables: their heads, events and below these their data.
 
 use crate::head::draw_head;
-use crate::margin::{depth_of, indent};
+use crate::margin::{depth_of, indent, line, put};
 use crate::picture::Sheet;
 use crate::port::{draw_arrival, draw_event_input, draw_event_output, draw_input, draw_output};
 use crate::walk::comes_to;
@@ -55,8 +55,7 @@ fn draw_rule<W: Write>(rows: usize, depth: usize, output: &mut W) -> io::Result<
     if rows == 0 {
         return Ok(());
     }
-    indent(depth, output)?;
-    writeln!(output, "<HR/>")
+    line(depth, "<HR/>", output)
 }
 
 // Draws the rows of events.
@@ -71,10 +70,10 @@ fn draw_events<W: Write>(
     draw_rule(rows, depth, output)?;
     for index in 0..rows {
         indent(depth, output)?;
-        write!(output, "<TR>")?;
-        draw_event_input(sheet, leaf, names.get(index).copied(), output)?;
+        put("<TR>", output)?;
+        draw_event_input(sheet, leaf.path.as_str(), names.get(index).copied(), output)?;
         draw_event_output(leaf.outputs.get(index), output)?;
-        writeln!(output, "</TR>")?;
+        put("</TR>\n", output)?;
     }
     Ok(())
 }
@@ -92,9 +91,9 @@ fn draw_outside<W: Write>(
                 return Ok(());
             }
             indent(depth, output)?;
-            write!(output, "<TR>")?;
-            draw_arrival(sheet, leaf, event, output)?;
-            writeln!(output, "</TR>")
+            put("<TR>", output)?;
+            draw_arrival(sheet, leaf.path.as_str(), event, output)?;
+            put("</TR>\n", output)
         }
         None => Ok(()),
     }
@@ -112,10 +111,10 @@ fn draw_data<W: Write>(
     draw_rule(rows, depth, output)?;
     for index in 0..rows {
         indent(depth, output)?;
-        write!(output, "<TR>")?;
+        put("<TR>", output)?;
         draw_input(leaf.inputs.get(index), output)?;
         draw_output(names.get(index), output)?;
-        writeln!(output, "</TR>")?;
+        put("</TR>\n", output)?;
     }
     Ok(())
 }
@@ -128,22 +127,22 @@ fn draw_table<W: Write>(
     output: &mut W,
 ) -> io::Result<()> {
     let border = if comes_to(sheet.picture.walk, leaf.path.as_str()) {
-        "BORDER=\"2\" COLOR=\"red\""
+        "<TABLE BORDER=\"2\" COLOR=\"red\""
     } else {
-        "BORDER=\"1\""
+        "<TABLE BORDER=\"1\""
     };
     let rows = depth.saturating_add(1);
     indent(depth, output)?;
-    writeln!(
+    put(border, output)?;
+    put(
+        " CELLBORDER=\"0\" CELLSPACING=\"0\" CELLPADDING=\"3\">\n",
         output,
-        "<TABLE {border} CELLBORDER=\"0\" CELLSPACING=\"0\" CELLPADDING=\"3\">"
     )?;
     draw_head(sheet, leaf, rows, output)?;
     draw_events(sheet, leaf, rows, output)?;
     draw_outside(sheet, leaf, rows, output)?;
     draw_data(sheet, leaf, rows, output)?;
-    indent(depth, output)?;
-    writeln!(output, "</TABLE>")
+    line(depth, "</TABLE>", output)
 }
 
 /// Draws a leaf as a node.
@@ -160,6 +159,5 @@ pub fn draw_leaf<W: Write>(sheet: &Sheet<'_>, leaf: &Leaf, output: &mut W) -> io
     indent(depth, output)?;
     writeln!(output, "n{number} [label=<")?;
     draw_table(sheet, leaf, depth.saturating_add(1), output)?;
-    indent(depth, output)?;
-    writeln!(output, ">];")
+    line(depth, ">];", output)
 }

@@ -3,6 +3,7 @@
 use crate::channel::draw_channels;
 use crate::device::draw_device;
 use crate::edge::{draw_events, draw_values};
+use crate::margin::put;
 use crate::number::{leaves_of, numbered};
 use crate::picture::{Picture, Sheet};
 use fb_flat::Flat;
@@ -12,18 +13,16 @@ use std::io::Write;
 
 // Writes how everything is drawn of which nothing else is said.
 fn write_defaults<W: Write>(output: &mut W) -> io::Result<()> {
-    writeln!(output, "  rankdir=LR;")?;
-    writeln!(output, "  ranksep=0.8;")?;
-    writeln!(output, "  nodesep=0.3;")?;
-    writeln!(
+    put("  rankdir=LR;\n  ranksep=0.8;\n  nodesep=0.3;\n", output)?;
+    put(
+        "  graph [fontname=\"Helvetica\", fontsize=12, labeljust=l];\n",
         output,
-        "  graph [fontname=\"Helvetica\", fontsize=12, labeljust=l];"
     )?;
-    writeln!(
+    put(
+        "  node [shape=plain, fontname=\"Helvetica\", fontsize=10];\n",
         output,
-        "  node [shape=plain, fontname=\"Helvetica\", fontsize=10];"
     )?;
-    writeln!(output, "  edge [arrowsize=0.7];")
+    put("  edge [arrowsize=0.7];\n", output)
 }
 
 /// Writes the system as a graph in DOT.
@@ -40,8 +39,9 @@ pub fn draw<W: Write>(
         picture,
         numbers: &numbers,
     };
-    let name = picture.file.system.name.text.as_str();
-    writeln!(output, "digraph \"{name}\" {{")?;
+    put("digraph \"", output)?;
+    put(picture.file.system.name.text.as_str(), output)?;
+    put("\" {\n", output)?;
     write_defaults(output)?;
     for device in &flat.devices {
         draw_device(&sheet, device, output)?;
@@ -49,5 +49,5 @@ pub fn draw<W: Write>(
     draw_events(&sheet, leaves.as_slice(), output)?;
     draw_values(&sheet, leaves.as_slice(), output)?;
     draw_channels(&sheet, leaves.as_slice(), output)?;
-    writeln!(output, "}}")
+    put("}\n", output)
 }

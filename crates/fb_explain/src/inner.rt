@@ -1,5 +1,6 @@
 //! Statements and operations at fault.
 
+use crate::put::put;
 use crate::spotted::{Named, tell_spot};
 use fb_columns::fb_rows::fb_ranges::Ranges;
 use fb_faults::{Fault, algorithm_fault, guard_fault, tell_fault};
@@ -69,7 +70,7 @@ pub fn tell_inner<W: Write>(
         Some(fault) => {
             tell_spot(app.name, Spot::of_byte(app.text, fault.at), output)?;
             tell_fault(&fault, output)?;
-            writeln!(output)?;
+            put("\n", output)?;
             Ok(true)
         }
         None => Ok(false),

@@ -8,6 +8,7 @@ mod inner;
 mod meaning;
 mod owed;
 mod place;
+mod put;
 mod queue;
 mod range;
 mod row;

@@ -1,5 +1,6 @@
 //! What arrivals take of a queue.
 
+use crate::put::{put, put_number};
 use crate::seen::resource_at;
 use fb_cert::Certificate;
 use fb_flat::fb_types::fb_networks::fb_services::Service;
@@ -50,16 +51,22 @@ pub fn tell_depth<W: Write>(
         return Ok(());
     };
     let depth = certificate.depth(path).unwrap_or(0);
-    writeln!(
+    put("DEPTH ", output)?;
+    put(path, output)?;
+    put(" says ", output)?;
+    put_number(depth, output)?;
+    put(
+        ", and has to hold each of these, and all BEGIN together:\n",
         output,
-        "DEPTH {path} says {depth}, and has to hold each of these, and all BEGIN together:"
     )?;
     let mut begins: u64 = 0;
     for leaf in &resource.leaves {
         begins = begins.saturating_add(tell_arrival(alloc, certificate, leaf, output)?);
     }
-    if begins > 0 {
-        writeln!(output, "    {begins} places for all BEGIN together")?;
+    if begins == 0 {
+        return Ok(());
     }
-    Ok(())
+    put("    ", output)?;
+    put_number(begins, output)?;
+    put(" places for all BEGIN together\n", output)
 }

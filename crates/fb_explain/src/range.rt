@@ -1,5 +1,6 @@
 //! What rows RANGE say beside what variables hold.
 
+use crate::put::put;
 use crate::seen::{block_in, leaf_at, place_at};
 use fb_cert::Certificate;
 use fb_columns::fb_rows::fb_ranges::Interval;
@@ -32,7 +33,9 @@ fn begins_with(leaf: &Leaf, block: &Block, name: &str, variable: &Variable) -> I
 
 // Writes the row of a variable.
 fn tell_row<W: Write>(path: &str, row: Interval, output: &mut W) -> io::Result<()> {
-    write!(output, "RANGE {path} says ")?;
+    put("RANGE ", output)?;
+    put(path, output)?;
+    put(" says ", output)?;
     tell_numbers(row.low, row.high, output)
 }
 
@@ -62,7 +65,7 @@ pub fn tell_start<W: Write>(
     )?;
     let first = begins_with(leaf, block, name, variable);
     tell_numbers(first.low, first.high, output)?;
-    writeln!(output)
+    put("\n", output)
 }
 
 // Writes what a data output of a leaf may have.
@@ -77,7 +80,11 @@ fn tell_output<W: Write>(
     let Some(leaf) = leaf_at(flat, path) else {
         return Ok(());
     };
-    write!(output, "; {path}.{name}, which is connected to it, may be ")?;
+    put("; ", output)?;
+    put(path, output)?;
+    put(".", output)?;
+    put(name, output)?;
+    put(", which is connected to it, may be ", output)?;
     let row = leaf_row(alloc, certificate, leaf, name)?;
     tell_numbers(row.low, row.high, output)
 }
@@ -107,5 +114,5 @@ pub fn tell_link<W: Write>(
         }
         _ => {}
     }
-    writeln!(output)
+    put("\n", output)
 }

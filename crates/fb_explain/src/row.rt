@@ -1,9 +1,18 @@
 //! The row that a certificate lacks.
 
+use crate::put::{put, put_number};
 use fb_cert::{Amount, Bounds, Certificate};
 use fb_spots::Declared;
 use std::io;
 use std::io::Write;
+
+// Begins the line of a row.
+fn begin<W: Write>(kind: &str, path: &str, output: &mut W) -> io::Result<()> {
+    put("The row to add: ", output)?;
+    put(kind, output)?;
+    put(" ", output)?;
+    put(path, output)
+}
 
 // Writes a row of two numbers, where it is known.
 fn tell_amount<W: Write>(
@@ -12,13 +21,22 @@ fn tell_amount<W: Write>(
     found: Option<Amount>,
     output: &mut W,
 ) -> io::Result<()> {
+    begin(kind, path, output)?;
     match found {
         Some(amount) => {
             let steps = amount.steps;
             let places = amount.places;
-            writeln!(output, "The row to add: {kind} {path} {steps} {places}")
+            writeln!(output, " {steps} {places}")
         }
-        None => writeln!(output, "The row to add: {kind} {path} STEPS PLACES"),
+        None => put(" STEPS PLACES\n", output),
+    }
+}
+
+// Ends a row of one number, where it is known.
+fn end<W: Write>(found: Option<u64>, output: &mut W) -> io::Result<()> {
+    match found {
+        Some(number) => writeln!(output, " {number}"),
+        None => put(" NUMBER\n", output),
     }
 }
 
@@ -29,21 +47,20 @@ fn tell_number<W: Write>(
     found: Option<u64>,
     output: &mut W,
 ) -> io::Result<()> {
-    match found {
-        Some(number) => writeln!(output, "The row to add: {kind} {path} {number}"),
-        None => writeln!(output, "The row to add: {kind} {path} NUMBER"),
-    }
+    begin(kind, path, output)?;
+    end(found, output)
 }
 
 // Writes a row RANGE, where it is known.
 fn tell_range<W: Write>(path: &str, found: Option<Bounds>, output: &mut W) -> io::Result<()> {
+    begin("RANGE", path, output)?;
     match found {
         Some(bounds) => {
             let low = bounds.low;
             let high = bounds.high;
-            writeln!(output, "The row to add: RANGE {path} {low} {high}")
+            writeln!(output, " {low} {high}")
         }
-        None => writeln!(output, "The row to add: RANGE {path} LOWEST HIGHEST"),
+        None => put(" LOWEST HIGHEST\n", output),
     }
 }
 
@@ -54,20 +71,18 @@ fn tell_state<W: Write>(
     path: &str,
     output: &mut W,
 ) -> io::Result<()> {
-    match certificate.charge(path) {
-        None => tell_amount(
-            "CHARGE",
-            path,
-            found.and_then(|all| all.charge(path)),
-            output,
-        ),
-        Some(_) => tell_number(
-            "FARSTATE",
-            path,
-            found.and_then(|all| all.far_state(path)),
-            output,
-        ),
+    if certificate.charge(path).is_none() {
+        let row = match found {
+            Some(all) => all.charge(path),
+            None => None,
+        };
+        return tell_amount("CHARGE", path, row, output);
     }
+    let row = match found {
+        Some(all) => all.far_state(path),
+        None => None,
+    };
+    tell_number("FARSTATE", path, row, output)
 }
 
 // The same of an event input or arrival.
@@ -77,15 +92,40 @@ fn tell_event<W: Write>(
     path: &str,
     output: &mut W,
 ) -> io::Result<()> {
-    match certificate.weight(path) {
-        None => tell_amount(
-            "WEIGHT",
-            path,
-            found.and_then(|all| all.weight(path)),
-            output,
-        ),
-        Some(_) => tell_number("FAR", path, found.and_then(|all| all.far(path)), output),
+    if certificate.weight(path).is_none() {
+        let row = match found {
+            Some(all) => all.weight(path),
+            None => None,
+        };
+        return tell_amount("WEIGHT", path, row, output);
     }
+    let row = match found {
+        Some(all) => all.far(path),
+        None => None,
+    };
+    tell_number("FAR", path, row, output)
+}
+
+// The same of a resource.
+fn tell_depth<W: Write>(found: Option<&Certificate>, path: &str, output: &mut W) -> io::Result<()> {
+    let row = match found {
+        Some(all) => all.depth(path),
+        None => None,
+    };
+    tell_number("DEPTH", path, row, output)
+}
+
+// The same of a variable.
+fn tell_variable<W: Write>(
+    found: Option<&Certificate>,
+    path: &str,
+    output: &mut W,
+) -> io::Result<()> {
+    let row = match found {
+        Some(all) => all.range(path),
+        None => None,
+    };
+    tell_range(path, row, output)
 }
 
 /// Writes the row of a declared place that a certificate lacks, with the numbers that another one has there.
@@ -97,16 +137,12 @@ pub fn tell_missing<W: Write>(
     output: &mut W,
 ) -> io::Result<()> {
     match declared {
-        Some(Declared::Resource(_)) => {
-            tell_number("DEPTH", path, found.and_then(|all| all.depth(path)), output)
-        }
+        Some(Declared::Resource(_)) => tell_depth(found, path, output),
         Some(Declared::State(_, _)) => tell_state(certificate, found, path, output),
         Some(Declared::Event(_) | Declared::Port(_)) => {
             tell_event(certificate, found, path, output)
         }
-        Some(Declared::Variable(_, _)) => {
-            tell_range(path, found.and_then(|all| all.range(path)), output)
-        }
+        Some(Declared::Variable(_, _)) => tell_variable(found, path, output),
         _ => Ok(()),
     }
 }
@@ -117,8 +153,11 @@ pub fn tell_missing_channel<W: Write>(
     number: u16,
     output: &mut W,
 ) -> io::Result<()> {
-    match found.and_then(|all| all.channel(number)) {
-        Some(steps) => writeln!(output, "The row to add: CHANNEL {number} {steps}"),
-        None => writeln!(output, "The row to add: CHANNEL {number} NUMBER"),
-    }
+    let row = match found {
+        Some(all) => all.channel(number),
+        None => None,
+    };
+    put("The row to add: CHANNEL ", output)?;
+    put_number(u64::from(number), output)?;
+    end(row, output)
 }

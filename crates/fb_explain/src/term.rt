@@ -1,5 +1,6 @@
 //! What a row of a certificate has to pay for, term by term.
 
+use crate::put::{put, put_number};
 use fb_cert::Certificate;
 use fb_columns::Column;
 use std::alloc::Global;
@@ -68,32 +69,48 @@ impl Page<'_> {
 
     // Writes what a term is there for.
     fn tell_cause<W: Write>(&self, cause: &Cause, output: &mut W) -> io::Result<()> {
-        let state = self.state_row();
-        let event = self.event_row();
         match cause {
-            Cause::Own => writeln!(output, "the event itself"),
-            Cause::Dispatch => writeln!(output, "the dispatch of the event"),
-            Cause::Crossing => writeln!(output, "the crossing of the transition"),
-            Cause::Algorithm(name) => writeln!(output, "algorithm {name}"),
-            Cause::State(path) => writeln!(output, "{state} {path}"),
-            Cause::Event(path) => writeln!(output, "{event} {path}"),
-            Cause::Channel(number) => writeln!(output, "CHANNEL {number}"),
-            Cause::Delivery(1, path) => writeln!(output, "one delivery: FAR {path}"),
-            Cause::Delivery(times, path) => {
-                writeln!(output, "{times} deliveries, each FAR {path}")
+            Cause::Own => put("the event itself", output),
+            Cause::Dispatch => put("the dispatch of the event", output),
+            Cause::Crossing => put("the crossing of the transition", output),
+            Cause::Algorithm(name) => put_row("algorithm", name.as_str(), output),
+            Cause::State(path) => put_row(self.state_row(), path.as_str(), output),
+            Cause::Event(path) => put_row(self.event_row(), path.as_str(), output),
+            Cause::Channel(number) => {
+                put("CHANNEL ", output)?;
+                put_number(u64::from(*number), output)
             }
+            Cause::Delivery(times, path) => tell_delivery(*times, path.as_str(), output),
         }
     }
 
     /// Writes terms, one a line.
     pub fn tell_terms<W: Write>(&self, terms: &[Term], output: &mut W) -> io::Result<()> {
         for term in terms {
-            let amount = term.amount;
-            write!(output, "    {amount} for ")?;
+            put("    ", output)?;
+            put_number(term.amount, output)?;
+            put(" for ", output)?;
             self.tell_cause(&term.cause, output)?;
+            put("\n", output)?;
         }
         Ok(())
     }
+}
+
+// Writes a kind of row, or of what has a name, and the name.
+fn put_row<W: Write>(kind: &str, name: &str, output: &mut W) -> io::Result<()> {
+    put(kind, output)?;
+    put(" ", output)?;
+    put(name, output)
+}
+
+// Writes so many deliveries to the SUBSCRIBE whose arrival has this path.
+fn tell_delivery<W: Write>(times: u8, path: &str, output: &mut W) -> io::Result<()> {
+    if times == 1 {
+        return put_row("one delivery: FAR", path, output);
+    }
+    put_number(u64::from(times), output)?;
+    put_row(" deliveries, each FAR", path, output)
 }
 
 /// What terms are together.

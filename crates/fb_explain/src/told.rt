@@ -4,6 +4,7 @@ use crate::inner::tell_inner;
 use crate::meaning::{Meaning, meaning_of};
 use crate::owed::{tell_channel, tell_charge, tell_far, tell_weight};
 use crate::place::{byte_in, channel_line, line_in, path_in, row_line};
+use crate::put::put;
 use crate::queue::tell_depth;
 use crate::range::{tell_link, tell_start};
 use crate::row::{tell_missing, tell_missing_channel};
@@ -33,14 +34,13 @@ pub struct Refused<'a> {
 pub fn tell_meaning<W: Write>(meaning: Option<Meaning>, output: &mut W) -> io::Result<()> {
     match meaning {
         Some(meaning) => {
-            let says = meaning.says;
-            let remedy = meaning.remedy;
-            writeln!(output, "What it says: {says}")?;
-            if remedy.is_empty() {
-                Ok(())
-            } else {
-                writeln!(output, "What to do: {remedy}")
+            put("What it says: ", output)?;
+            put(meaning.says, output)?;
+            if !meaning.remedy.is_empty() {
+                put("\nWhat to do: ", output)?;
+                put(meaning.remedy, output)?;
             }
+            put("\n", output)
         }
         None => Ok(()),
     }

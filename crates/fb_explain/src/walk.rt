@@ -1,5 +1,6 @@
 //! Walks, told place by place.
 
+use crate::put::{put, put_number};
 use crate::seen::place_at;
 use fb_check::Place;
 use fb_flat::{Flat, Leaf};
@@ -17,6 +18,20 @@ fn output_to<'a>(leaf: &'a Leaf, path: &str) -> Option<&'a str> {
         }
     }
     None
+}
+
+// Writes a line of two texts.
+fn put_line<W: Write>(one: &str, two: &str, output: &mut W) -> io::Result<()> {
+    put(one, output)?;
+    put(two, output)?;
+    put("\n", output)
+}
+
+// Writes a line of a text and the number of a channel.
+fn put_channel<W: Write>(text: &str, number: u16, output: &mut W) -> io::Result<()> {
+    put(text, output)?;
+    put_number(u64::from(number), output)?;
+    put("\n", output)
 }
 
 // Writes how a place of a leaf leads to an event.
@@ -40,14 +55,12 @@ fn tell_to_state<W: Write>(from: &Place, to: &str, output: &mut W) -> io::Result
         Some((_, name)) => name,
         None => to,
     };
-    match from {
-        Place::State(_) => writeln!(
-            output,
-            "        a transition without an event leads to {name}"
-        ),
-        Place::Event(_) => writeln!(output, "        a transition that it opens leads to {name}"),
-        Place::Channel(_) => Ok(()),
-    }
+    let how = match from {
+        Place::State(_) => "        a transition without an event leads to ",
+        Place::Event(_) => "        a transition that it opens leads to ",
+        Place::Channel(_) => return Ok(()),
+    };
+    put_line(how, name, output)
 }
 
 // Writes how a place leads to the next one of a walk.
@@ -58,21 +71,22 @@ fn tell_link<W: Write>(flat: &Flat, from: &Place, to: &Place, output: &mut W) ->
             Place::State(begin) | Place::Event(begin) => {
                 tell_to_event(flat, begin.as_str(), path.as_str(), output)
             }
-            Place::Channel(_) => writeln!(output, "        its datagrams come to {path}"),
+            Place::Channel(_) => {
+                put_line("        its datagrams come to ", path.as_str(), output)
+            }
         },
-        Place::Channel(number) => writeln!(
-            output,
-            "        it sends a datagram of channel {number}"
-        ),
+        Place::Channel(number) => {
+            put_channel("        it sends a datagram of channel ", *number, output)
+        }
     }
 }
 
 // Writes a place.
 fn tell_place<W: Write>(place: &Place, output: &mut W) -> io::Result<()> {
     match place {
-        Place::State(path) => writeln!(output, "    state {path}"),
-        Place::Event(path) => writeln!(output, "    event {path}"),
-        Place::Channel(number) => writeln!(output, "    channel {number}"),
+        Place::State(path) => put_line("    state ", path.as_str(), output),
+        Place::Event(path) => put_line("    event ", path.as_str(), output),
+        Place::Channel(number) => put_channel("    channel ", *number, output),
     }
 }
 

@@ -13,9 +13,19 @@ pub(crate) struct Brought {
     pub range: Interval,
 }
 
-// Whether a variable lies in its row.
-fn is_kept(rows: &Ranges, name: &str, ranges: &Ranges) -> bool {
-    is_within(ranges.find(name), rows.find(name))
+/// A variable whose way out of its row is looked for, with the rows of all variables.
+#[derive(Clone, Copy)]
+pub(crate) struct Sought<'a> {
+    pub alloc: Global,
+    pub rows: &'a Ranges,
+    pub name: &'a str,
+}
+
+impl Sought<'_> {
+    // Whether the variable lies in its row.
+    fn is_kept(self, ranges: &Ranges) -> bool {
+        is_within(ranges.find(self.name), self.rows.find(self.name))
+    }
 }
 
 /// The last of some statements that brings a variable out of its row, which it has at their end; none where it is in its row there.
@@ -23,25 +33,23 @@ fn is_kept(rows: &Ranges, name: &str, ranges: &Ranges) -> bool {
 /// The ranges are those that the statements begin with, and then those that they end with.
 #[cycle(bringing)]
 pub(crate) fn brought_by_list(
-    alloc: Global,
-    rows: &Ranges,
-    name: &str,
+    sought: Sought<'_>,
     list: &[TypedStmt],
     lines: Lines<'_>,
     ranges: &mut Ranges,
 ) -> Result<Option<Brought>, AllocError> {
-    let mut asked = Ranges::new(alloc);
+    let mut asked = Ranges::new(sought.alloc);
     let mut found = None;
     for (i, statement) in list.iter().enumerate() {
         let mut before = copied(ranges)?;
-        examine_one(alloc, rows, statement, ranges, &mut asked)?;
-        if is_kept(rows, name, &before) && !is_kept(rows, name, ranges) {
-            let whole = ranges.find(name);
+        examine_one(sought.alloc, sought.rows, statement, ranges, &mut asked)?;
+        if sought.is_kept(&before) && !sought.is_kept(ranges) {
+            let whole = ranges.find(sought.name);
             let one = lines.line(i);
-            found = Some(brought_by_one(alloc, rows, name, statement, one, whole, &mut before)?);
+            found = Some(brought_by_one(sought, statement, one, whole, &mut before)?);
         }
     }
-    if is_kept(rows, name, ranges) {
+    if sought.is_kept(ranges) {
         return Ok(None);
     }
     Ok(found)
@@ -50,9 +58,7 @@ pub(crate) fn brought_by_list(
 // The same of one statement, which brings the variable to a range outside of its row.
 #[cycle(bringing)]
 fn brought_by_one(
-    alloc: Global,
-    rows: &Ranges,
-    name: &str,
+    sought: Sought<'_>,
     statement: &TypedStmt,
     line: Line<'_>,
     range: Interval,
@@ -60,11 +66,9 @@ fn brought_by_one(
 ) -> Result<Brought, AllocError> {
     let inner = match statement {
         TypedStmt::If(branches, other) => {
-            brought_by_branches(alloc, rows, name, branches, other, line, ranges)?
+            brought_by_branches(sought, branches, other, line, ranges)?
         }
-        TypedStmt::Case(_, arms, other) => {
-            brought_by_arms(alloc, rows, name, arms, other, line, ranges)?
-        }
+        TypedStmt::Case(_, arms, other) => { brought_by_arms(sought, arms, other, line, ranges)? }
         TypedStmt::Set(_, _) | TypedStmt::SetElement(_, _, _, _, _) | TypedStmt::For(_, _) => None,
     };
     Ok(inner.unwrap_or(Brought { at: line.at, range }))
@@ -72,9 +76,7 @@ fn brought_by_one(
 
 #[cycle(bringing)]
 fn brought_by_branches(
-    alloc: Global,
-    rows: &Ranges,
-    name: &str,
+    sought: Sought<'_>,
     branches: &[TypedBranch],
     other: &[TypedStmt],
     line: Line<'_>,
@@ -84,20 +86,18 @@ fn brought_by_branches(
         let mut inside = copied(ranges)?;
         narrow(&branch.condition, true, &mut inside)?;
         let lines = line.branch_body(i);
-        let found = brought_by_list(alloc, rows, name, &branch.body, lines, &mut inside)?;
+        let found = brought_by_list(sought, &branch.body, lines, &mut inside)?;
         if found.is_some() {
             return Ok(found);
         }
         narrow(&branch.condition, false, ranges)?;
     }
-    brought_by_list(alloc, rows, name, other, line.rest(), ranges)
+    brought_by_list(sought, other, line.rest(), ranges)
 }
 
 #[cycle(bringing)]
 fn brought_by_arms(
-    alloc: Global,
-    rows: &Ranges,
-    name: &str,
+    sought: Sought<'_>,
     arms: &[TypedArm],
     other: &[TypedStmt],
     line: Line<'_>,
@@ -106,10 +106,10 @@ fn brought_by_arms(
     for (i, arm) in arms.iter().enumerate() {
         let mut inside = copied(ranges)?;
         let lines = line.arm_body(i);
-        let found = brought_by_list(alloc, rows, name, &arm.body, lines, &mut inside)?;
+        let found = brought_by_list(sought, &arm.body, lines, &mut inside)?;
         if found.is_some() {
             return Ok(found);
         }
     }
-    brought_by_list(alloc, rows, name, other, line.rest(), ranges)
+    brought_by_list(sought, other, line.rest(), ranges)
 }

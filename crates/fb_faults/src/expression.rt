@@ -8,20 +8,26 @@ use fb_words::{Operation, Operator};
 use st_types::{TypedExpr, TypedLink};
 use std::alloc::AllocError;
 
+/// An array, with its lowest and highest index.
+#[derive(Clone, Copy)]
+pub(crate) struct Array<'a> {
+    pub name: &'a String,
+    pub low: i64,
+    pub high: i64,
+}
+
 /// An index that may lie outside of an array.
 pub(crate) fn index_fault(
     at: usize,
-    name: &String,
-    low: i64,
-    high: i64,
+    array: Array<'_>,
     index: Interval,
 ) -> Result<Option<Fault>, AllocError> {
-    if is_between(index, low, high) {
+    if is_between(index, array.low, array.high) {
         return Ok(None);
     }
     Ok(Some(Fault {
         at,
-        wrong: Wrong::Index(name.clone()?, index, low, high),
+        wrong: Wrong::Index(array.name.clone()?, index, array.low, array.high),
     }))
 }
 
@@ -51,9 +57,14 @@ pub(crate) fn expression_fault(
         TypedExpr::Unary(_, _, operand) => expression_fault(operand, origin.operand(), ranges),
         TypedExpr::Element(name, low, high, index) => {
             let inner = origin.index();
+            let array = Array {
+                name,
+                low: *low,
+                high: *high,
+            };
             match expression_fault(index, inner, ranges)? {
                 Some(fault) => Ok(Some(fault)),
-                None => index_fault(inner.at, name, *low, *high, range(index, ranges).range),
+                None => index_fault(inner.at, array, range(index, ranges).range),
             }
         }
         TypedExpr::Chain(first, links) => {

@@ -1,12 +1,20 @@
 //! Variables that leave their rows.
 
-use crate::brought::brought_by_list;
+use crate::brought::{Sought, brought_by_list};
 use crate::found::{Fault, leaving};
 use crate::line::Lines;
 use fb_intervals::is_within;
-use fb_ranges::Ranges;
+use fb_ranges::{Ranges, copied};
 use st_types::TypedStmt;
 use std::alloc::{AllocError, Global};
+
+/// Statements that have run, where they stand in the text, and the ranges that they began with.
+#[derive(Clone, Copy)]
+pub(crate) struct Past<'a> {
+    pub list: &'a [TypedStmt],
+    pub lines: Lines<'a>,
+    pub start: &'a Ranges,
+}
 
 // The first of these variables that is outside of its row.
 fn first_outside<'a>(names: &'a [String], rows: &Ranges, ranges: &Ranges) -> Option<&'a String> {
@@ -18,7 +26,7 @@ fn first_outside<'a>(names: &'a [String], rows: &Ranges, ranges: &Ranges) -> Opt
     None
 }
 
-/// The first of these variables that is outside of its row in certain ranges, with the assignment in statements that brought it out;
+/// The first of these variables that is outside of its row in certain ranges, with the assignment in past statements that brought it out;
 /// the place `at` where these have none.
 pub(crate) fn outside_fault(
     alloc: Global,
@@ -26,14 +34,18 @@ pub(crate) fn outside_fault(
     names: &[String],
     ranges: &Ranges,
     at: usize,
-    list: &[TypedStmt],
-    lines: Lines<'_>,
-    start: &mut Ranges,
+    past: Past<'_>,
 ) -> Result<Option<Fault>, AllocError> {
     let Some(name) = first_outside(names, rows, ranges) else {
         return Ok(None);
     };
-    let fault = match brought_by_list(alloc, rows, name.as_str(), list, lines, start)? {
+    let sought = Sought {
+        alloc,
+        rows,
+        name: name.as_str(),
+    };
+    let mut start = copied(past.start)?;
+    let fault = match brought_by_list(sought, past.list, past.lines, &mut start)? {
         Some(brought) => leaving(brought.at, name, brought.range, rows)?,
         None => leaving(at, name, ranges.find(name.as_str()), rows)?,
     };

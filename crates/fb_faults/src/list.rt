@@ -1,8 +1,8 @@
 //! Statements at fault.
 
-use crate::expression::{expression_fault, index_fault};
+use crate::expression::{Array, expression_fault, index_fault};
 use crate::found::{Fault, leaving};
-use crate::kept::outside_fault;
+use crate::kept::{Past, outside_fault};
 use crate::line::{Line, Lines};
 use fb_intervals::{Interval, is_within, most_iterations, taken};
 use fb_ranges::{Ranges, Told, copied, examine_one, names_assigned, narrow, range, reset};
@@ -25,9 +25,7 @@ fn element_leaves(
 // The first fault of an assigned element.
 fn element_fault(
     rows: &Ranges,
-    name: &String,
-    low: i64,
-    high: i64,
+    array: Array<'_>,
     index: &TypedExpr,
     value: &TypedExpr,
     line: Line<'_>,
@@ -41,10 +39,10 @@ fn element_fault(
         return Ok(Some(fault));
     }
     let index = range(index, ranges).range;
-    if let Some(fault) = index_fault(origin.at, name, low, high, index)? {
+    if let Some(fault) = index_fault(origin.at, array, index)? {
         return Ok(Some(fault));
     }
-    element_leaves(line.at, name, range(value, ranges).range, rows)
+    element_leaves(line.at, array.name, range(value, ranges).range, rows)
 }
 
 // A variable that is outside of its row where a FOR begins that assigns it; the statements before the FOR may have brought it out.
@@ -54,14 +52,12 @@ fn beginning_fault(
     statement: &TypedStmt,
     ranges: &Ranges,
     at: usize,
-    list: &[TypedStmt],
-    lines: Lines<'_>,
-    start: &mut Ranges,
+    past: Past<'_>,
 ) -> Result<Option<Fault>, AllocError> {
     match statement {
         TypedStmt::For(_, body) => {
             let names = names_assigned(alloc, body)?;
-            outside_fault(alloc, rows, &names, ranges, at, list, lines, start)
+            outside_fault(alloc, rows, &names, ranges, at, past)
         }
         _ => Ok(None),
     }
@@ -77,14 +73,17 @@ pub(crate) fn body_fault(
     lines: Lines<'_>,
     ranges: &mut Ranges,
 ) -> Result<Option<Fault>, AllocError> {
-    let mut start = copied(ranges)?;
+    let start = copied(ranges)?;
     let found = list_fault(alloc, rows, list, lines, ranges)?;
     if found.is_some() {
         return Ok(found);
     }
-    outside_fault(
-        alloc, rows, names, ranges, lines.at, list, lines, &mut start,
-    )
+    let past = Past {
+        list,
+        lines,
+        start: &start,
+    };
+    outside_fault(alloc, rows, names, ranges, lines.at, past)
 }
 
 // The first fault of statements. The ranges are those that they begin with, and then those that they end with.
@@ -97,7 +96,7 @@ fn list_fault(
     ranges: &mut Ranges,
 ) -> Result<Option<Fault>, AllocError> {
     let mut asked = Ranges::new(alloc);
-    let mut start = copied(ranges)?;
+    let start = copied(ranges)?;
     for (i, statement) in list.iter().enumerate() {
         let mut before = copied(ranges)?;
         let one = lines.line(i);
@@ -105,10 +104,12 @@ fn list_fault(
             Told::Steps(_) => {}
             Told::Traps => return one_fault(alloc, rows, statement, one, &mut before),
             Told::Leaves => {
-                let list = &list[..i];
-                let found = beginning_fault(
-                    alloc, rows, statement, &before, one.at, list, lines, &mut start,
-                )?;
+                let past = Past {
+                    list: &list[..i],
+                    lines,
+                    start: &start,
+                };
+                let found = beginning_fault(alloc, rows, statement, &before, one.at, past)?;
                 if found.is_some() {
                     return Ok(found);
                 }
@@ -131,7 +132,12 @@ fn one_fault(
     match statement {
         TypedStmt::Set(_, value) => expression_fault(value, line.value(), ranges),
         TypedStmt::SetElement(name, low, high, index, value) => {
-            element_fault(rows, name, *low, *high, index, value, line, ranges)
+            let array = Array {
+                name,
+                low: *low,
+                high: *high,
+            };
+            element_fault(rows, array, index, value, line, ranges)
         }
         TypedStmt::If(branches, other) => {
             branches_fault(alloc, rows, branches, other, line, ranges)

@@ -5,17 +5,28 @@ use fb_ranges::Interval;
 use std::io;
 use std::io::Write;
 
+// Writes a text.
+fn put<W: Write>(text: &str, output: &mut W) -> io::Result<()> {
+    output.write_all(text.as_bytes())
+}
+
+// Writes a number.
+fn put_number<W: Write>(number: i64, output: &mut W) -> io::Result<()> {
+    write!(output, "{number}")
+}
+
 /// Writes the numbers from one to another, or the one number that they are: `0 to 9`, `7`.
 pub fn tell_numbers<W: Write>(low: i64, high: i64, output: &mut W) -> io::Result<()> {
+    put_number(low, output)?;
     if low == high {
-        write!(output, "{low}")
-    } else {
-        write!(output, "{low} to {high}")
+        return Ok(());
     }
+    put(" to ", output)?;
+    put_number(high, output)
 }
 
 fn tell_divisor<W: Write>(divisor: Interval, output: &mut W) -> io::Result<()> {
-    write!(output, "the divisor may be 0: it is ")?;
+    put("the divisor may be 0: it is ", output)?;
     tell_numbers(divisor.low, divisor.high, output)
 }
 
@@ -26,9 +37,11 @@ fn tell_index<W: Write>(
     high: i64,
     output: &mut W,
 ) -> io::Result<()> {
-    write!(output, "the index of {name} is ")?;
+    put("the index of ", output)?;
+    put(name, output)?;
+    put(" is ", output)?;
     tell_numbers(index.low, index.high, output)?;
-    write!(output, ", and the array has ")?;
+    put(", and the array has ", output)?;
     tell_numbers(low, high, output)
 }
 
@@ -38,9 +51,10 @@ fn tell_leaving<W: Write>(
     row: Interval,
     output: &mut W,
 ) -> io::Result<()> {
-    write!(output, "{name} may get ")?;
+    put(name, output)?;
+    put(" may get ", output)?;
     tell_numbers(value.low, value.high, output)?;
-    write!(output, ", and its row is ")?;
+    put(", and its row is ", output)?;
     tell_numbers(row.low, row.high, output)
 }
 

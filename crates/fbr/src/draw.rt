@@ -26,27 +26,33 @@ pub struct Drawing<'a> {
     pub boxes: bool,
 }
 
+// A system that is drawn, with its text, and whether composites are boxes.
+#[derive(Clone, Copy)]
+struct Drawn<'a> {
+    alloc: Global,
+    app: &'a str,
+    flat: &'a Flat,
+    boxes: bool,
+}
+
 // Writes the graph of a system with a certificate, or with a walk.
 fn draw_flat<W: Write>(
-    alloc: Global,
-    app: &str,
-    flat: &Flat,
+    system: Drawn<'_>,
     certificate: Option<&Certificate>,
     walk: &[Place],
-    boxes: bool,
     output: &mut W,
 ) -> io::Result<u8>
     ensures status { IfOk result (λ status. status ≤ 4) }
 {
-    match tree_of(alloc, app) {
+    match tree_of(system.alloc, system.app) {
         Some(tree) => {
             let picture = Picture {
                 file: &tree,
                 certificate,
                 walk,
-                boxes,
+                boxes: system.boxes,
             };
-            let drawn = draw(alloc, flat, &picture, output);
+            let drawn = draw(system.alloc, system.flat, &picture, output);
             tree.let_go();
             drawn?;
             Ok(0)
@@ -72,25 +78,20 @@ fn named_certificate<'a, S: Sources>(
 
 // Writes the graph of a system with what is known of its bounds.
 fn draw_bounds<W: Write>(
-    alloc: Global,
-    app: &str,
-    flat: &Flat,
+    system: Drawn<'_>,
     bounds: Result<Certificate, Fault<'_>>,
-    boxes: bool,
     output: &mut W,
 ) -> io::Result<u8>
     ensures status { IfOk result (λ status. status ≤ 4) }
 {
     match bounds {
         Ok(certificate) => {
-            let drawn = draw_flat(alloc, app, flat, Some(&certificate), &[], boxes, output);
+            let drawn = draw_flat(system, Some(&certificate), &[], output);
             certificate.let_go();
             drawn
         }
-        Err(Fault::Unbound(NoBound::Cycle(walk))) => {
-            draw_flat(alloc, app, flat, None, &walk, boxes, output)
-        }
-        Err(Fault::Unbound(_)) => draw_flat(alloc, app, flat, None, &[], boxes, output),
+        Err(Fault::Unbound(NoBound::Cycle(walk))) => draw_flat(system, None, &walk, output),
+        Err(Fault::Unbound(_)) => draw_flat(system, None, &[], output),
         Err(fault) => print_outcome(Err(fault), output),
     }
 }
@@ -113,7 +114,13 @@ fn draw_typed<'a, S: Sources, W: Write>(
                 Some(name) => named_certificate(alloc, files, name),
                 None => found_for(alloc, typed, drawing.repeats),
             };
-            let drawn = draw_bounds(alloc, app, &flat, bounds, drawing.boxes, output);
+            let system = Drawn {
+                alloc,
+                app,
+                flat: &flat,
+                boxes: drawing.boxes,
+            };
+            let drawn = draw_bounds(system, bounds, output);
             flat.let_go();
             drawn
         }

@@ -2,7 +2,8 @@
 
 use crate::programs::commands;
 use crate::tally::Tally;
-use fb_probe::{Case, answer};
+use fbr_cases_device::{datagrams, devices};
+use fbr_cases_language::{Case, answer};
 use std::alloc::AllocError;
 use std::{fs, io};
 
@@ -41,6 +42,8 @@ fn run_case(
 ) -> io::Result<bool> {
     let answered = match kind {
         "commands" => commands(rt, case)?,
+        "datagrams" => datagrams(rt.alloc(), case)?,
+        "devices" => devices(rt.alloc(), case)?,
         _ => answer(rt.alloc(), kind, case)?,
     };
     let same = answered.as_str() == stored;

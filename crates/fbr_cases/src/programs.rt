@@ -1,7 +1,7 @@
 //! What the program prints.
 
-use fb_probe::{Case, ended};
 use fbr::{ReadFault, Sources, command};
+use fbr_cases_language::{Case, ended};
 use std::alloc::{AllocError, Global};
 use std::io;
 
