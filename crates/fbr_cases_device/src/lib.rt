@@ -1,8 +1,8 @@
 //! What the product's calls answer for cases of devices and datagrams, as short text: what no command shows.
 #![tactic(auto)]
 
-mod datagrams;
-mod devices;
+mod datagram;
+mod device;
 
-pub use datagrams::datagrams;
-pub use devices::devices;
+pub use datagram::datagrams;
+pub use device::devices;
