@@ -20,6 +20,15 @@ use crate::table::{Chart, Output};
 use st_code::{Code, Procedure};
 use st_run::{Store, exec, truth};
 
+/// An invocation of a chart: the chart, what its outputs lead to, the number of the event, and the most steps that it may take.
+#[derive(Clone, Copy)]
+pub struct Invocation<'a> {
+    pub chart: &'a Chart,
+    pub outputs: &'a [Output],
+    pub event: u16,
+    pub most: u64,
+}
+
 // Whether the event of a transition lets it be crossed.
 fn is_open(named: Option<u16>, event: Option<u16>) -> bool
     ensures { result ≡ is_open_to named event }
@@ -83,29 +92,27 @@ fn work(procedures: &[Procedure], algorithm: Option<u16>, own: &mut Store) -> u6
 
 // Does the actions of a state in order, and answers the steps so far.
 fn act<E: Emit>(
-    chart: &Chart,
-    outputs: &[Output],
+    invocation: &Invocation,
     state: u16,
+    before: u64,
     own: &mut Store,
     issued: &mut Store,
-    before: u64,
-    most: u64,
     emit: &mut E,
 ) -> u64
-    requires ready { IsReady chart.now outputs.now (forms_of own.old) (forms_of issued.old) }
-    requires state { state < length (states_in chart.now) }
-    requires few { most ≤ most_steps }
-    requires fine { FineFrom (block_in chart.now) outputs.now most (E.room emit.old) (entered chart.now state (cells_of own.old issued.old) before) }
-    ensures come { HasCome (block_in chart.now) outputs.now (entered chart.now state (cells_of own.old issued.old) before) (named (states_in chart.now) state) (cells_of own.new issued.new) Settling result (E.sent emit.old) (E.sent emit.new) }
+    requires ready { IsReady invocation.now.chart.now invocation.now.outputs.now (forms_of own.old) (forms_of issued.old) }
+    requires state { state < length (states_in invocation.now.chart.now) }
+    requires few { invocation.now.most ≤ most_steps }
+    requires fine { FineFrom (block_in invocation.now.chart.now) invocation.now.outputs.now invocation.now.most (E.room emit.old) (entered invocation.now.chart.now state (cells_of own.old issued.old) before) }
+    ensures come { HasCome (block_in invocation.now.chart.now) invocation.now.outputs.now (entered invocation.now.chart.now state (cells_of own.old issued.old) before) (named (states_in invocation.now.chart.now) state) (cells_of own.new issued.new) Settling result (E.sent emit.old) (E.sent emit.new) }
     ensures own { forms_of own.new ≡ forms_of own.old }
     ensures issued { forms_of issued.new ≡ forms_of issued.old }
     ensures room { E.room emit.old + length (E.sent emit.old) ≡ E.room emit.new + length (E.sent emit.new) }
     ensures same_reference { E.reference emit.new ≡ E.reference emit.old }
 {
     let mut steps = before;
-    for action in &chart.code.states[state as usize].actions {
-        steps += work(&chart.code.procedures, action.algorithm, own);
-        send(outputs, action.output, own, issued, emit);
+    for action in &invocation.chart.code.states[state as usize].actions {
+        steps += work(&invocation.chart.code.procedures, action.algorithm, own);
+        send(invocation.outputs, action.output, own, issued, emit);
     }
     steps
 }
@@ -114,23 +121,20 @@ fn act<E: Emit>(
 ///
 /// It does not trap. What its event outputs reach is emitted, for which there is room; the room falls by as many.
 pub fn invoke<E: Emit>(
-    chart: &Chart,
-    outputs: &[Output],
+    invocation: &Invocation,
     state: u16,
-    event: u16,
     own: &mut Store,
     issued: &mut Store,
-    most: u64,
     emit: &mut E,
 ) -> (u16, u64)
-    requires ready { IsReady chart.now outputs.now (forms_of own.old) (forms_of issued.old) }
-    requires state { IsStateNumber state (block_in chart.now) }
-    requires event { event < length (events_in chart.now) }
-    requires few { most ≤ most_steps }
-    requires fine { FineFrom (block_in chart.now) outputs.now most (E.room emit.old) (begun chart.now state (cells_of own.old issued.old) event) }
-    ensures rested { HasRested (block_in chart.now) outputs.now (begun chart.now state (cells_of own.old issued.old) event) (named (states_in chart.now) result.0) (cells_of own.new issued.new) result.1 (E.sent emit.old) (E.sent emit.new) }
-    ensures steps { result.1 ≤ most }
-    ensures state { IsStateNumber result.0 (block_in chart.now) }
+    requires ready { IsReady invocation.now.chart.now invocation.now.outputs.now (forms_of own.old) (forms_of issued.old) }
+    requires state { IsStateNumber state (block_in invocation.now.chart.now) }
+    requires event { invocation.now.event < length (events_in invocation.now.chart.now) }
+    requires few { invocation.now.most ≤ most_steps }
+    requires fine { FineFrom (block_in invocation.now.chart.now) invocation.now.outputs.now invocation.now.most (E.room emit.old) (begun invocation.now.chart.now state (cells_of own.old issued.old) invocation.now.event) }
+    ensures rested { HasRested (block_in invocation.now.chart.now) invocation.now.outputs.now (begun invocation.now.chart.now state (cells_of own.old issued.old) invocation.now.event) (named (states_in invocation.now.chart.now) result.0) (cells_of own.new issued.new) result.1 (E.sent emit.old) (E.sent emit.new) }
+    ensures steps { result.1 ≤ invocation.now.most }
+    ensures state { IsStateNumber result.0 (block_in invocation.now.chart.now) }
     ensures own { forms_of own.new ≡ forms_of own.old }
     ensures issued { forms_of issued.new ≡ forms_of issued.old }
     ensures room { E.room emit.old + length (E.sent emit.old) ≡ E.room emit.new + length (E.sent emit.new) }
@@ -138,11 +142,11 @@ pub fn invoke<E: Emit>(
 {
     let mut now = state;
     let mut steps = 1;
-    let mut waiting = Some(event);
-    while let Some(target) = next_state(chart, now, waiting, own) {
+    let mut waiting = Some(invocation.event);
+    while let Some(target) = next_state(invocation.chart, now, waiting, own) {
         now = target;
         waiting = None;
-        steps = act(chart, outputs, now, own, issued, steps + 1, most, emit);
+        steps = act(invocation, now, steps + 1, own, issued, emit);
     }
     (now, steps)
 }

@@ -8,7 +8,7 @@ mod emit;
 mod sampling;
 mod table;
 
-pub use chart::invoke;
+pub use chart::{Invocation, invoke};
 pub use emit::{Emit, send};
 pub use sampling::sample;
 pub use st_run::Store;

@@ -9,6 +9,6 @@ mod standing;
 mod timer;
 mod transfer;
 
-pub use dispatch::serve;
+pub use dispatch::{ServiceTable, serve};
 pub use fb_wire;
-pub use standing::{Effect, Ports, Stamps, Standing};
+pub use standing::{Effect, Occurrence, Ports, Stamps, Standing};

@@ -14,7 +14,7 @@ ghost use Rattle.fb_serve.specs.Responses.{Replies};
 ghost use Rattle.fb_serve.specs.Serving.{SendsFit, CanReply};
 
 use crate::quality::{open, publish, subscribe};
-use crate::standing::{Effect, Ports, Response, Standing, silent};
+use crate::standing::{Effect, Occurrence, Ports, Standing, Response, silent};
 use crate::timer::{cycle, delay};
 use crate::transfer::{receive, sent_values};
 use fb_chart::Store;
@@ -105,25 +105,27 @@ fn subscribed(
 pub(crate) fn reply(
     service: &Service,
     ports: &Ports,
-    event: u16,
-    values: &[i64],
-    clock: u64,
+    occurrence: &Occurrence,
     standing: Standing,
     own: &mut Store,
 ) -> Response
-    requires ready { CanReply (service_of service.now) ports.now (forms_of own.old) values.now }
+    requires ready { CanReply (service_of service.now) ports.now (forms_of own.old) occurrence.now.values.now }
     requires sends { SendsFit (service_of service.now) (values_of own.old) }
     ensures output { IfSome result.output (λ k. k < length (service_event_outputs (service_of service.now))) }
-    ensures reply { (issued : BookValues) → Replies (service_of service.now) clock event values.now (values_of own.old) (values_of own.new) issued standing result }
+    ensures reply { (issued : BookValues) → Replies (service_of service.now) occurrence.now.clock occurrence.now.point.event occurrence.now.values.now (values_of own.old) (values_of own.new) issued standing result }
     ensures forms { forms_of own.new ≡ forms_of own.old }
 {
+    let event = occurrence.point.event;
+    let clock = occurrence.clock;
     match service {
-        Service::Input(_, _) => arrive(&ports.received, values, standing, own),
+        Service::Input(_, _) => arrive(&ports.received, occurrence.values, standing, own),
         Service::Output(number, _) => write(*number, &ports.sent, standing, own),
         Service::Publish(channel, types) => {
             published(channel, types, ports, event, standing, own)
         }
-        Service::Subscribe(_, _) => subscribed(ports, event, values, standing, own),
+        Service::Subscribe(_, _) => {
+            subscribed(ports, event, occurrence.values, standing, own)
+        }
         Service::Delay => delay(ports.time, event, clock, standing, own),
         Service::Cycle => cycle(ports.time, event, clock, standing, own),
         Service::Restart => Response {

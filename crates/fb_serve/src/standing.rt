@@ -2,7 +2,7 @@
 
 ghost use Rattle.std.specs.Prelude.{◌≡◌, None};
 
-use fb_chart::Values;
+use fb_chart::{Point, Values};
 use fb_wire::{Message, Stamp};
 
 /// What a PUBLISH or SUBSCRIBE keeps of stamps, be it open or closed: this project's profile.
@@ -53,6 +53,14 @@ pub struct Ports {
     pub time: usize,
     pub sent: Vec<usize>,
     pub received: Vec<usize>,
+}
+
+/// An occurrence of an event: the event's block and number, the values of an arrival, and the moment.
+#[derive(Clone, Copy)]
+pub struct Occurrence<'a> {
+    pub point: Point,
+    pub values: &'a [i64],
+    pub clock: u64,
 }
 
 /// What a dispatch comes to: what the service remembers after it, the number of the event output that it emits, and its effect.

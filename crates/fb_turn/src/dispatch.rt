@@ -7,8 +7,8 @@ ghost use Rattle.fb_turn.specs.Conditions.{IsConditionOf, leaf_state};
 ghost use Rattle.fb_turn.specs.Dispatching.{CanRun, HasRun, CanDispatch, HasDispatched};
 
 use crate::memory::{Condition, Memory};
-use fb_chart::{Block, Body, Emit, Point, Store, invoke, sample};
-use fb_serve::{Effect, Ports, serve};
+use fb_chart::{Block, Body, Emit, Invocation, Point, Store, invoke, sample};
+use fb_serve::{Effect, Occurrence, Ports, ServiceTable, serve};
 
 /// What a dispatch has come to: its steps, and what it did outside of the device.
 #[derive(Drop)]
@@ -17,40 +17,42 @@ pub struct Outcome {
     pub effect: Option<Effect>,
 }
 
+// A block that is dispatched: the block, the slots of its variables as a service, and the most steps that it may take.
+#[derive(Clone, Copy)]
+struct Dispatched<'a> {
+    block: &'a Block,
+    ports: &'a Ports,
+    most: u64,
+}
+
 // Runs a block whose inputs are sampled, and answers what it remembers.
 fn run<E: Emit>(
-    block: &Block,
-    ports: &Ports,
+    dispatched: &Dispatched,
+    occurrence: &Occurrence,
+    condition: Condition,
     own: &mut Store,
     issued: &mut Store,
-    condition: Condition,
-    event: u16,
-    values: &[i64],
-    clock: u64,
-    most: u64,
     emit: &mut E,
 ) -> (Condition, Outcome)
-    requires { CanRun block.now ports.now own.old issued.old condition event values.now most (E.room emit.old) }
-    ensures ran { HasRun block.now event values.now clock (leaf_state (kind_of block.now) own.old issued.old condition) (leaf_state (kind_of block.now) own.new issued.new result.0) result.1.steps result.1.effect (E.sent emit.old) (E.sent emit.new) }
-    ensures condition { IsConditionOf (kind_of block.now) result.0 }
+    requires { CanRun dispatched.now.block.now dispatched.now.ports.now own.old issued.old condition occurrence.now.point.event occurrence.now.values.now dispatched.now.most (E.room emit.old) }
+    ensures ran { HasRun dispatched.now.block.now occurrence.now.point.event occurrence.now.values.now occurrence.now.clock (leaf_state (kind_of dispatched.now.block.now) own.old issued.old condition) (leaf_state (kind_of dispatched.now.block.now) own.new issued.new result.0) result.1.steps result.1.effect (E.sent emit.old) (E.sent emit.new) }
+    ensures condition { IsConditionOf (kind_of dispatched.now.block.now) result.0 }
     ensures own { forms_of own.new ≡ forms_of own.old }
     ensures issued { forms_of issued.new ≡ forms_of issued.old }
     ensures room { E.room emit.old + length (E.sent emit.old) ≡ E.room emit.new + length (E.sent emit.new) }
     ensures same_reference { E.reference emit.new ≡ E.reference emit.old }
 {
+    let block = dispatched.block;
     match &block.body {
         Body::Chart(chart) => match condition {
             Condition::State(state) => {
-                let (state, steps) = invoke(
+                let invocation = Invocation {
                     chart,
-                    &block.outputs,
-                    state,
-                    event,
-                    own,
-                    issued,
-                    most,
-                    emit,
-                );
+                    outputs: &block.outputs,
+                    event: occurrence.point.event,
+                    most: dispatched.most,
+                };
+                let (state, steps) = invoke(&invocation, state, own, issued, emit);
                 let effect = None;
                 (Condition::State(state), Outcome { steps, effect })
             }
@@ -59,18 +61,12 @@ fn run<E: Emit>(
         Body::Served(service) => match condition {
             Condition::State(_) => unreachable!(),
             Condition::Service(standing) => {
-                let (standing, effect) = serve(
+                let table = ServiceTable {
                     service,
-                    ports,
-                    &block.outputs,
-                    event,
-                    values,
-                    clock,
-                    standing,
-                    own,
-                    issued,
-                    emit,
-                );
+                    ports: dispatched.ports,
+                    outputs: &block.outputs,
+                };
+                let (standing, effect) = serve(&table, occurrence, standing, own, issued, emit);
                 (Condition::Service(standing), Outcome { steps: 1, effect })
             }
         },
@@ -100,16 +96,22 @@ pub fn dispatch_block<E: Emit>(
     let block = &blocks[at];
     let event = &block.events[point.event as usize];
     sample(&event.takes, &memory.issued, &mut memory.own[at]);
-    let (condition, outcome) = run(
+    let dispatched = Dispatched {
         block,
-        &ports[at],
-        &mut memory.own[at],
-        &mut memory.issued[at],
-        memory.conditions[at],
-        point.event,
+        ports: &ports[at],
+        most: event.steps,
+    };
+    let occurrence = Occurrence {
+        point,
         values,
         clock,
-        event.steps,
+    };
+    let (condition, outcome) = run(
+        &dispatched,
+        &occurrence,
+        memory.conditions[at],
+        &mut memory.own[at],
+        &mut memory.issued[at],
         emit,
     );
     memory.conditions[at] = condition;

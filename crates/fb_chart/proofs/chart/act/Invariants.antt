@@ -10,8 +10,8 @@ use Rattle.fb_chart.proofs.chart.act.Given as goal
 -- these actions are left
 abbrev pub invariant-loop-action : goal.invariant-loop-action
 invariant-loop-action g l =
-    (left : List Action) × Each (IsAction (block_in l.chart) (outputs_in l.chart)) left (drop l.action-index l.action-items)
-    × HasCome (block_in l.chart) l.outputs (entered l.chart l.state (cells_of l.fn.own l.fn.issued) l.before) (named (states_in l.chart) l.state) (cells_of l.own l.issued) (Acting left) l.steps (g.E.Emit.sent l.fn.emit) (g.E.Emit.sent l.emit)
+    (left : List Action) × Each (IsAction (block_in l.invocation.chart.now) (outputs_in l.invocation.chart.now)) left (drop l.action-index l.action-items)
+    × HasCome (block_in l.invocation.chart.now) l.invocation.outputs.now (entered l.invocation.chart.now l.state (cells_of l.fn.own l.fn.issued) l.before) (named (states_in l.invocation.chart.now) l.state) (cells_of l.own l.issued) (Acting left) l.steps (g.E.Emit.sent l.fn.emit) (g.E.Emit.sent l.emit)
     × (forms_of l.own ≡ forms_of l.fn.own) × (forms_of l.issued ≡ forms_of l.fn.issued)
     × (g.E.Emit.room l.fn.emit + length (g.E.Emit.sent l.fn.emit) ≡ g.E.Emit.room l.emit + length (g.E.Emit.sent l.emit))
     × (g.E.Emit.reference l.emit ≡ g.E.Emit.reference l.fn.emit)

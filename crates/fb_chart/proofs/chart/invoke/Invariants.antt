@@ -8,9 +8,9 @@ use Rattle.fb_chart.proofs.chart.invoke.Given as goal
 -- it has come so far, and what it sent is emitted
 abbrev pub invariant-loop-target : goal.invariant-loop-target
 invariant-loop-target g l = record {
-  come : HasCome (block_in l.chart) l.outputs (begun l.chart l.state (cells_of l.fn.own l.fn.issued) l.event) (named (states_in l.chart) l.now) (cells_of l.own l.issued) (phase_of (events_in l.chart) l.waiting) l.steps (g.E.Emit.sent l.fn.emit) (g.E.Emit.sent l.emit);
-  state : IsStateNumber l.now (block_in l.chart);
-  event : IfSome l.waiting (λ e. e < length (events_in l.chart));
+  come : HasCome (block_in l.invocation.chart.now) l.invocation.outputs.now (begun l.invocation.chart.now l.state (cells_of l.fn.own l.fn.issued) l.invocation.event) (named (states_in l.invocation.chart.now) l.now) (cells_of l.own l.issued) (phase_of (events_in l.invocation.chart.now) l.waiting) l.steps (g.E.Emit.sent l.fn.emit) (g.E.Emit.sent l.emit);
+  state : IsStateNumber l.now (block_in l.invocation.chart.now);
+  event : IfSome l.waiting (λ e. e < length (events_in l.invocation.chart.now));
   own_forms : forms_of l.own ≡ forms_of l.fn.own;
   issued_forms : forms_of l.issued ≡ forms_of l.fn.issued;
   kept : g.E.Emit.room l.fn.emit + length (g.E.Emit.sent l.fn.emit) ≡ g.E.Emit.room l.emit + length (g.E.Emit.sent l.emit);
@@ -18,4 +18,4 @@ invariant-loop-target g l = record {
 }
 
 abbrev pub decreases-loop-target : goal.decreases-loop-target
-decreases-loop-target g l = l.most - l.steps
+decreases-loop-target g l = l.invocation.most - l.steps
