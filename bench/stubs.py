@@ -1,15 +1,15 @@
 #!/usr/bin/env python3
 """Writes a checkout's crates with assumed bodies, and builds them, so that a crate can be checked in minutes over stand-ins of all that lies below it:
 
-  bench/stubs.py OUT [--of FOLDER] [--real NAME..] [--jobs N] [--only-write]
+  bench/stubs.py OUT [--of FOLDER] [--real NAME..] [--jobs N] [--only-write | --check [FLAG..]]
 
 OUT gets every crate of FOLDER (a checkout; without it, this one) with its types, contracts, ghost items, specs/ and those lemma files that other crates name;
 for each body of a function stands one that promises all. The crates after --real stay as they are, and only what these stand on is built then. N libraries are
 built at a time (without it, 2), each in 5 to 60 processor seconds, of which lemma files take the most. A second run leaves what is unchanged, and builds the rest.
 
   cp -r OUT MINE                                  a tree of your own: while a crate is checked, the folders of all crates below are locked
-  bench/stubs.py MINE --of FOLDER --real NAME     puts the real crate there, and builds what it stands on
-  cd MINE/crates/NAME; RT_ALLOW_C=1 rt check      (or --only PATH, or --allow-holes)
+  bench/stubs.py MINE --of FOLDER --real NAME --check [--only PATH]     puts the real crate there, builds what it stands on, and checks it
+  cd MINE/crates/NAME; RT_ALLOW_C=1 rt check      does the same again, but `rt` hashes what lies below along each path through crates.txt: of `fbr` for minutes
 
 Traps:
 - What is checked over stand-ins is not proved: it is, where all below it is, which only the gate says.
@@ -239,13 +239,8 @@ def kit():
     return found
 
 
-def build(out, wanted, at_once):
-    """Builds the libraries, each once those below it are built. Returns those that failed."""
-    os.environ["RT_ALLOW_C"] = "1"
-    os.nice(5)
-    rtlib = kit()
-    rtlib.guarded()
-    known = {it.name: it for it in rtlib.crates_below(out)}
+def build(rtlib, known, wanted, at_once):
+    """Builds the libraries, each once those below it are built. Returns those that failed, and those that were not tried."""
     behind = {name: 0 for name in wanted}
     for crate in sorted(known.values(), key=lambda it: -len(it.below())):
         for it in crate.deps:
@@ -289,13 +284,16 @@ def build(out, wanted, at_once):
 
 
 def main():
-    parser = argparse.ArgumentParser(description=__doc__, formatter_class=argparse.RawDescriptionHelpFormatter)
+    parser = argparse.ArgumentParser(description=__doc__, formatter_class=argparse.RawDescriptionHelpFormatter, allow_abbrev=False)
     parser.add_argument("out")
     parser.add_argument("--of", default=TOP)
     parser.add_argument("--real", nargs="*", default=[])
     parser.add_argument("--jobs", type=int, default=2)
     parser.add_argument("--only-write", action="store_true")
-    given = parser.parse_args()
+    parser.add_argument("--check", action="store_true")
+    given, flags = parser.parse_known_args()
+    if flags and not given.check:
+        parser.error(f"{flags[0]} needs --check")
     crates = listed(given.of)
     for name in given.real:
         if name not in crates:
@@ -317,12 +315,24 @@ def main():
         if name not in wanted:
             wanted.add(name)
             more += crates[name]
-    failed, left = build(os.path.abspath(given.out), [it for it in crates if it in wanted and it not in given.real], given.jobs)
+    os.environ["RT_ALLOW_C"] = "1"
+    os.nice(5)
+    rtlib = kit()
+    rtlib.guarded()
+    known = {it.name: it for it in rtlib.crates_below(os.path.abspath(given.out))}
+    failed, left = build(rtlib, known, [it for it in crates if it in wanted and it not in given.real], given.jobs)
     if failed or left:
         sys.exit(f"not built: {' '.join(failed)}; not tried: {' '.join(left) or 'none'}")
-    for name in given.real or ["NAME"]:
-        print(f"cd {given.out}/crates/{name} && RT_ALLOW_C=1 rt check")
-    return 0
+    status = 0
+    for name in given.real:
+        print(f"cd {given.out}/crates/{name} && RT_ALLOW_C=1 rt check {' '.join(flags)}", flush=True)
+        if given.check:
+            locks = rtlib.lock([*known[name].below(), known[name]])
+            os.makedirs(f"{known[name].folder}/out", exist_ok=True)
+            status = known[name].check(flags) or status
+            for it in locks:
+                os.close(it)
+    return status
 
 
 if __name__ == "__main__":
