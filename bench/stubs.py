@@ -1,25 +1,28 @@
 #!/usr/bin/env python3
 """Writes a checkout's crates with assumed bodies, and builds them, so that a crate can be checked in minutes over stand-ins of all that lies below it:
 
-  bench/stubs.py OUT [--of FOLDER] [--real NAME..] [--jobs N] [--only-write]
+  bench/stubs.py OUT [--of FOLDER] [--real NAME..] [--jobs N] [--only-write | --check [FLAG..]]
 
-OUT gets every crate of FOLDER (a checkout; without it, this one) with its types, contracts, ghost items, specs/ and lemma files, and with each body of a
-function in the place of which stands one that promises all. The crates after --real stay as they are, and only what these stand on is built then.
-The libraries are built N at a time (without it, 2), a crate in 5 to 60 s. A second run builds what has changed, and what stands on it.
+OUT gets every crate of FOLDER (a checkout; without it, this one) with its types, contracts, ghost items, specs/ and those lemma files that other crates name;
+for each body of a function stands one that promises all. The crates after --real stay as they are, and only what these stand on is built then. N libraries are
+built at a time (without it, 2), each in 5 to 60 processor seconds, of which lemma files take the most. A second run leaves what is unchanged, and builds the rest.
 
-  cp -r OUT MINE                                  a tree of your own: the folders of all crates below are locked while one is checked
-  rm -r MINE/crates/NAME/*; cp -r FOLDER/crates/NAME/* MINE/crates/NAME/     the real crate
-  cd MINE/crates/NAME; RT_ALLOW_C=1 rt check      (or --only PATH, or --allow-holes)
+  cp -r OUT MINE                                  a tree of your own: while a crate is checked, the folders of all crates below are locked
+  bench/stubs.py MINE --of FOLDER --real NAME --check [--only PATH]     puts the real crate there, builds what it stands on, and checks it
+  cd MINE/crates/NAME; RT_ALLOW_C=1 rt check      does the same again, but `rt` hashes what lies below along each path through crates.txt: of `fbr` for minutes
 
 Traps:
 - What is checked over stand-ins is not proved: it is, where all below it is, which only the gate says.
-- A stand-in is as old as its sources. Where a contract, a type or a definition changes, run this script again before crates above are checked.
-- Where an enum or a struct gets another case or field, each crate above that matches or makes it has to be checked.
-- A function with a promise that no body keeps is let through here, in the crates that stand in.
-- `rt must-fail` and `rt ci` do not run over stand-ins, and `rt test` and `rt run` make a program that does nothing.
-- `rt lib` builds one library; `rt check` in a crate whose libraries are not built first reads all their sources, for minutes.
+- A stand-in is as old as its sources. Where a contract, a type or a definition changes, or a proof names another lemma file of a crate below, run this script
+  again before crates above are checked.
+- Where an enum or a struct gets another case or field, check each crate above that matches or makes it, though its own files are unchanged.
+- A function with a promise that no body keeps is let through in the crates that stand in.
+- `rt must-fail` and `rt ci` do not run over stand-ins, and a program over them stops at the first call.
+- `rt check` in a crate whose libraries are not built first reads all their sources, for minutes.
 """
 import argparse
+import functools
+import hashlib
 import importlib.machinery
 import importlib.util
 import os
@@ -46,8 +49,8 @@ unsafe extern "C" {
         ensures { ⊥ };
 }
 """
-# The mark of functions that call one another; types that reach themselves have it too, and keep it.
-CYCLE = re.compile(r"#\[cycle\(\w+\)\]\s*(?=(#\[[^\n]*\]\s*|pub(\([\w:]+\))?\s+)*fn\b)")
+# The marks of functions that call one another, and of what their proofs use. Types that reach themselves have the first too, and keep it.
+MARKS = re.compile(r"#\[(?:cycle|tactic)\([^\n]*\)\]\s*(?=(?:#\[[^\n]*\]\s*|pub(?:\([\w:]+\))?\s+)*fn\b)")
 PROOFS = ("Invariants.antt", "Answers.antt", "Proof.antt")
 
 
@@ -137,8 +140,57 @@ def files_below(folder):
     return [os.path.relpath(f"{at}/{name}", folder) for at, _, names in os.walk(folder) for name in sorted(names)]
 
 
-def write_crate(one, other, is_real):
-    """Writes a crate, with what an earlier run built of it left in out/."""
+def is_lemmas(file):
+    return file.endswith(".antt") and os.path.basename(file) not in PROOFS
+
+
+def lemmas_named(folder, crates):
+    """The lemma files of each crate that other crates name, and those that these name in their own."""
+    named, inside = {name: set() for name in crates}, {name: {} for name in crates}
+    for name in crates:
+        for file in files_below(f"{folder}/crates/{name}"):
+            if not file.endswith((".antt", ".rt")) or file.startswith("out/"):
+                continue
+            text = read(f"{folder}/crates/{name}/{file}")
+            own = set()
+            for first, path in re.findall(r"(?:Rattle\.)?\b(\w+)(?:\.|::)proofs((?:(?:\.|::)[^\s.:{},()]+)+)", text):
+                at = first
+                for part in re.split(r"\.|::", path)[1:]:
+                    if not (part.startswith("of_") and part[3:] in crates):
+                        (own if at == name else named.get(at, set())).add(part)
+                        break
+                    at = part[3:]
+            if file.startswith("proofs/") and is_lemmas(file):
+                inside[name][os.path.basename(file)[: -len(".antt")]] = own
+    for name in crates:
+        more = list(named[name])
+        while more:
+            for it in inside[name].get(more.pop(), set()) - named[name]:
+                named[name].add(it)
+                more.append(it)
+    return named
+
+
+def sum_of(folder):
+    total = hashlib.sha256()
+    for file in files_below(folder):
+        if file.startswith(("src/", "specs/", "proofs/")):
+            total.update(f"{file}\n{read(f'{folder}/{file}')}".encode())
+    return total.hexdigest()
+
+
+def stands(one, other, lemmas):
+    """Whether a stand-in is there, of these sources and with these lemma files."""
+    kept = f"{other}/out/stands_for"
+    has = {os.path.basename(it)[: -len(".antt")] for it in files_below(f"{other}/proofs")}
+    wanted = {it for it in lemmas if os.path.exists(f"{one}/proofs/{it}.antt")}
+    return os.path.exists(kept) and os.path.exists(f"{other}/src/{ASSUMED}.rt") and read(kept) == sum_of(one) and wanted <= has
+
+
+def write_crate(one, other, is_real, lemmas):
+    """Writes a crate, with what an earlier run built of it left in out/. Of its lemma files a stand-in has those that other crates name."""
+    if not is_real and stands(one, other, lemmas):
+        return
     for name in os.listdir(other) if os.path.isdir(other) else []:
         if name != "out":
             path = f"{other}/{name}"
@@ -151,14 +203,20 @@ def write_crate(one, other, is_real):
     for file in files_below(f"{one}/src"):
         text = read(f"{one}/src/{file}")
         if "#[test]" not in text or f"src/{file}" in roots:
-            text = assumed(CYCLE.sub("", text))
+            text = assumed(MARKS.sub("", text))
             write(f"{other}/src/{file}", with_module(text) if f"src/{file}" in roots else text)
     write(f"{other}/src/{ASSUMED}.rt", MODULE)
     write(f"{other}/c/{ASSUMED}.c", "void promise(void) { __builtin_trap(); }\n")
-    for part in ("specs", "proofs"):
-        for file in files_below(f"{one}/{part}"):
-            if part == "specs" or os.path.basename(file) not in PROOFS:
-                write(f"{other}/{part}/{file}", read(f"{one}/{part}/{file}"))
+    for file in files_below(f"{one}/specs"):
+        write(f"{other}/specs/{file}", read(f"{one}/specs/{file}"))
+    for file in filter(is_lemmas, files_below(f"{one}/proofs")):
+        text = read(f"{one}/proofs/{file}")
+        if os.path.basename(file) == "Lib.antt":
+            text = re.sub(r"(?m)^(?:pub )?mod (\S+)\n", lambda it: it[0] if it[1] in lemmas else "", text)
+        elif file.split("/")[0].removesuffix(".antt") not in lemmas:
+            continue
+        write(f"{other}/proofs/{file}", text)
+    write(f"{other}/out/stands_for", sum_of(one))
 
 
 def listed(folder):
@@ -175,16 +233,14 @@ def kit():
     found = importlib.util.module_from_spec(spec)
     sys.modules["rtlib"] = found
     spec.loader.exec_module(found)
+    # It walks every path through crates.txt anew, again and again.
+    for name in ("below", "stamp"):
+        setattr(found.Crate, name, functools.lru_cache(None)(getattr(found.Crate, name)))
     return found
 
 
-def build(out, wanted, at_once):
-    """Builds the libraries, each once those below it are built. Returns those that failed."""
-    os.environ["RT_ALLOW_C"] = "1"
-    os.nice(5)
-    rtlib = kit()
-    rtlib.guarded()
-    known = {it.name: it for it in rtlib.crates_below(out)}
+def build(rtlib, known, wanted, at_once):
+    """Builds the libraries, each once those below it are built. Returns those that failed, and those that were not tried."""
     behind = {name: 0 for name in wanted}
     for crate in sorted(known.values(), key=lambda it: -len(it.below())):
         for it in crate.deps:
@@ -228,13 +284,16 @@ def build(out, wanted, at_once):
 
 
 def main():
-    parser = argparse.ArgumentParser(description=__doc__, formatter_class=argparse.RawDescriptionHelpFormatter)
+    parser = argparse.ArgumentParser(description=__doc__, formatter_class=argparse.RawDescriptionHelpFormatter, allow_abbrev=False)
     parser.add_argument("out")
     parser.add_argument("--of", default=TOP)
     parser.add_argument("--real", nargs="*", default=[])
     parser.add_argument("--jobs", type=int, default=2)
     parser.add_argument("--only-write", action="store_true")
-    given = parser.parse_args()
+    parser.add_argument("--check", action="store_true")
+    given, flags = parser.parse_known_args()
+    if flags and not given.check:
+        parser.error(f"{flags[0]} needs --check")
     crates = listed(given.of)
     for name in given.real:
         if name not in crates:
@@ -245,8 +304,9 @@ def main():
     for name in os.listdir(f"{given.out}/crates") if os.path.isdir(f"{given.out}/crates") else []:
         if name not in crates:
             shutil.rmtree(f"{given.out}/crates/{name}")
+    lemmas = lemmas_named(given.of, crates)
     for name in crates:
-        write_crate(f"{given.of}/crates/{name}", f"{given.out}/crates/{name}", name in given.real)
+        write_crate(f"{given.of}/crates/{name}", f"{given.out}/crates/{name}", name in given.real, lemmas[name])
     if given.only_write:
         return 0
     wanted, more = set(), [it for name in given.real for it in crates[name]] if given.real else list(crates)
@@ -255,12 +315,24 @@ def main():
         if name not in wanted:
             wanted.add(name)
             more += crates[name]
-    failed, left = build(os.path.abspath(given.out), [it for it in crates if it in wanted and it not in given.real], given.jobs)
+    os.environ["RT_ALLOW_C"] = "1"
+    os.nice(5)
+    rtlib = kit()
+    rtlib.guarded()
+    known = {it.name: it for it in rtlib.crates_below(os.path.abspath(given.out))}
+    failed, left = build(rtlib, known, [it for it in crates if it in wanted and it not in given.real], given.jobs)
     if failed or left:
         sys.exit(f"not built: {' '.join(failed)}; not tried: {' '.join(left) or 'none'}")
-    for name in given.real or ["NAME"]:
-        print(f"cd {given.out}/crates/{name} && RT_ALLOW_C=1 rt check")
-    return 0
+    status = 0
+    for name in given.real:
+        print(f"cd {given.out}/crates/{name} && RT_ALLOW_C=1 rt check {' '.join(flags)}", flush=True)
+        if given.check:
+            locks = rtlib.lock([*known[name].below(), known[name]])
+            os.makedirs(f"{known[name].folder}/out", exist_ok=True)
+            status = known[name].check(flags) or status
+            for it in locks:
+                os.close(it)
+    return status
 
 
 if __name__ == "__main__":
