@@ -71,7 +71,7 @@ both_long (v ∷ vs) ws x = by (bytes_eq x v.name) (both_long vs ws x) where
   by false h = h
 
 -- a variable that is the first of its name has its length there
-first_long : (all vs : List book.Variable) (x : Name) → good.HaveFirstCells all vs → is_in x (variable_names vs) ≡ true → length_in vs x ≡ length_in all x
+first_long : (all vs : List book.Variable) (x : Name) → good.AreFirst all vs → is_in x (variable_names vs) ≡ true → length_in vs x ≡ length_in all x
 first_long all [] x f h = absurd cc
 first_long all (v ∷ vs) x f h = by (bytes_eq x v.name) refl h (first_long all vs x f.1) where
   by : (c : Bool) → bytes_eq x v.name ≡ c → (c || is_in x (variable_names vs)) ≡ true → (is_in x (variable_names vs) ≡ true → length_in vs x ≡ length_in all x)
@@ -87,7 +87,7 @@ none_started (v ∷ vs) x h = subst (λ c. HasLength (length_in (v ∷ vs) x) (c
   by false h again = again h
 
 -- outputs have their forms, also where there is none of a name
-issued_form : (all vs : List book.Variable) → good.HaveFirstCells all vs → ((y : Name) → is_in y (variable_names vs) ≡ true → HasLength (length_in all y) (start_in vs y)) → (y : Name) → HasLength (length_in vs y) (start_in vs y)
+issued_form : (all vs : List book.Variable) → good.AreFirst all vs → ((y : Name) → is_in y (variable_names vs) ≡ true → HasLength (length_in all y) (start_in vs y)) → (y : Name) → HasLength (length_in vs y) (start_in vs y)
 issued_form all vs f h y = by (is_in y (variable_names vs)) refl where
   by : (c : Bool) → is_in y (variable_names vs) ≡ c → HasLength (length_in vs y) (start_in vs y)
   by true e = subst (λ n. HasLength n (start_in vs y)) (sym (first_long all vs y f e)) (h y e)
