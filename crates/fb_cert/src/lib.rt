@@ -1,4 +1,5 @@
-//! Certificates and their texts.
+//! Room: checker. Certificates: read from a text, made row by row, looked up and printed.
+//! `parse_cert` answers exactly the certificate that the text spells, and `print_cert` one text that spells it (`spelled_once`, `printed_spells`).
 #![tactic(auto)]
 
 mod bounds;

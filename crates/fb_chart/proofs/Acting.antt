@@ -19,9 +19,9 @@ use Rattle.fb_model.specs.Certificates.{names}
 use Rattle.fb_model.specs.Charts.{Moment, At, Acting, Reaches, then as and_then, acts, work, algorithm_of, emission, issue_all, actions_of}
 use Rattle.fb_model.proofs.Lists.{all_both, at_listed}
 use Rattle.fb_model.proofs.Placed.{Apart, apart, name_same}
-use Rattle.fb_shapes.specs.Shaped.{IsShapely, AreOwn}
-use Rattle.st_code.specs.declared.command.Procedure.{Procedure}
-use Rattle.st_code.specs.CodeViews.{code_commands}
+use Rattle.fb_model_laws.specs.Shaped.{IsShapely, AreOwn}
+use Rattle.st_exec.specs.declared.command.Procedure.{Procedure}
+use Rattle.st_exec.specs.CodeViews.{code_commands}
 use Rattle.st_exec.specs.Cells.{Form, names_in}
 use Rattle.st_exec.specs.Runs.{IsWithin, AreAmong, Supports}
 use Rattle.fb_chart.specs.declared.table.State.{State}

@@ -13,9 +13,9 @@ use Rattle.fb_model.specs.Typing.{AreDistinct}
 use Rattle.fb_model.specs.Store.{Cells}
 use Rattle.fb_model.specs.Certificates.{names}
 use Rattle.fb_model.specs.Charts.{Choice, Cross, Stay, Fail, choice, guarded, tested, is_open, At, Traps, Rests}
-use Rattle.fb_leaves.specs.Leaves.{IsClosedBlock}
-use Rattle.st_code.specs.CodeViews.{code_term}
-use Rattle.st_code.specs.Placed.{placed}
+use Rattle.fb_model_laws.specs.Leaves.{IsClosedBlock}
+use Rattle.st_exec.specs.CodeViews.{code_term}
+use Rattle.st_exec.specs.Placed.{placed}
 use Rattle.st_exec.specs.Cells.{Form}
 use Rattle.fb_chart.specs.declared.table.Transition.{Transition}
 use Rattle.fb_chart.specs.declared.table.State.{State}

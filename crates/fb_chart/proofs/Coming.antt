@@ -11,7 +11,7 @@ use Rattle.fb_model.specs.Wires.{Charted}
 use Rattle.fb_model.specs.Store.{Cells}
 use Rattle.fb_model.specs.Charts.{Cross, choice, Phase, Waiting, Acting, Settling, Moment, At, Moves, with_event, freely, acts, settles, Reaches, here, then as and_then, Traps, emission, issue_all, actions_of}
 use Rattle.fb_model.proofs.Lists.{all_append}
-use Rattle.fb_leaves.specs.Leaves.{IsListed}
+use Rattle.fb_model_laws.specs.Leaves.{IsListed}
 use Rattle.fb_chart.specs.declared.table.Output.{Output}
 use Rattle.fb_chart.specs.Views.{named}
 use Rattle.fb_chart.specs.Sending.{Points, targets_of, sent_to}

@@ -7,8 +7,8 @@ use Rattle.fb_model.specs.Wires.{Kind, Charted}
 use Rattle.fb_model.specs.Store as st
 use Rattle.fb_model.specs.Certificates.{events_of}
 use Rattle.fb_model.specs.Typing.{AreDistinct}
-use Rattle.fb_leaves.specs.Leaves.{OnChart, IsClosed}
-use Rattle.fb_shapes.specs.Shaped.{IsShapely}
+use Rattle.fb_model_laws.specs.Leaves.{OnChart, IsClosed}
+use Rattle.fb_model_laws.specs.Shaped.{IsShapely}
 use Rattle.st_exec.specs.Cells.{Form}
 use Rattle.fb_chart.specs.declared.table.Event.{Event}
 use Rattle.fb_chart.specs.declared.table.Output.{Output}

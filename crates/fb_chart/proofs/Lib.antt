@@ -6,3 +6,12 @@ pub mod Acting
 pub mod Coming
 pub mod Doing
 pub mod Invoking
+pub mod Slots
+pub mod Replies
+pub mod Placing
+pub mod Sending
+pub mod Serving
+pub mod Stood
+pub mod Sampled
+pub mod Charted
+pub mod Served

@@ -13,9 +13,9 @@ use Rattle.fb_model.specs.Language.{setting}
 use Rattle.fb_model.specs.Store.{where_in}
 use Rattle.fb_model.proofs.Lists.{same_name}
 use Rattle.fb_model.proofs.Names.{eq_turned}
-use Rattle.st_code.specs.Forms.{slot_in, slot_count, size_of}
+use Rattle.st_exec.specs.Forms.{slot_in, slot_count, size_of}
 use Rattle.st_exec.specs.Cells.{Cell, Form, values_of, forms_of, shape_in}
-use Rattle.st_run.proofs.Slots.{shape_is, declared_within}
+use Rattle.st_exec.proofs.Slots.{shape_is, declared_within}
 use Rattle.fb_chart.specs.declared.table.Source.TheVariants as s
 use Rattle.fb_chart.specs.declared.table.Take.{Take}
 use Rattle.fb_chart.specs.declared.table.Give.{Give}

@@ -13,12 +13,12 @@ use Rattle.fb_model.specs.Store.{Cells, where_in, gives}
 use Rattle.fb_model.specs.Certificates.{names, events_of}
 use Rattle.fb_model.specs.Charts.{Choice, Cross, Stay, Phase, Waiting, Acting, Settling, Moment, At, Traps, Reaches, Rests, actions_of}
 use Rattle.fb_model.specs.Headline.{emitted_of}
-use Rattle.fb_leaves.specs.Leaves.{IsClosedBlock}
-use Rattle.fb_shapes.specs.Shaped.{IsShapely}
-use Rattle.fb_blocks.specs.Views.{block_of}
-use Rattle.st_code.specs.declared.command.Procedure.{Procedure}
-use Rattle.st_code.specs.CodeViews.{code_commands}
-use Rattle.st_code.specs.Placed.{placed_all}
+use Rattle.fb_model_laws.specs.Leaves.{IsClosedBlock}
+use Rattle.fb_model_laws.specs.Shaped.{IsShapely}
+use Rattle.fb_types_blocks.specs.Views.{block_of}
+use Rattle.st_exec.specs.declared.command.Procedure.{Procedure}
+use Rattle.st_exec.specs.CodeViews.{code_commands}
+use Rattle.st_exec.specs.Placed.{placed_all}
 use Rattle.st_exec.specs.Cells.{Cell, Form, values_of}
 use Rattle.st_exec.specs.Runs.{Supports}
 use Rattle.fb_chart.specs.declared.table.Output.{Output}

@@ -10,7 +10,7 @@ use Rattle.fb_model.specs.Wires.{Kind}
 use Rattle.fb_model.specs.Store.{variable_names, outputs}
 use Rattle.fb_model.specs.Ranges.{variables, length_in}
 use Rattle.fb_model.specs.Language.{setting}
-use Rattle.st_code.specs.Forms.{slot_in, slot_count, bounds_in}
+use Rattle.st_exec.specs.Forms.{slot_in, slot_count, bounds_in}
 use Rattle.st_exec.specs.Cells.{Cell, Form, values_of, forms_of, names_in, shape_in, filled}
 use Rattle.fb_chart.specs.declared.table.Source.{Source}
 use Rattle.fb_chart.specs.declared.table.Source.TheVariants as s

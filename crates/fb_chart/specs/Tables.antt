@@ -10,11 +10,11 @@ use Rattle.fb_model.specs.Typing.{AreDistinct}
 use Rattle.fb_model.specs.Store.{takes, gives}
 use Rattle.fb_model.specs.Charts.{algorithm_of}
 use Rattle.fb_model.specs.Certificates.{names, events_of}
-use Rattle.fb_blocks.specs.Views.{block_of}
-use Rattle.fb_services.specs.Views.{service_of, values_of}
-use Rattle.st_code.specs.declared.command.Procedure.{Procedure}
-use Rattle.st_code.specs.CodeViews.{code_term, code_commands}
-use Rattle.st_code.specs.Placed.{placed, placed_all}
+use Rattle.fb_types_blocks.specs.Views.{block_of}
+use Rattle.fb_types_services.specs.Views.{service_of, values_of}
+use Rattle.st_exec.specs.declared.command.Procedure.{Procedure}
+use Rattle.st_exec.specs.CodeViews.{code_term, code_commands}
+use Rattle.st_exec.specs.Placed.{placed, placed_all}
 use Rattle.st_exec.specs.Cells.{Form}
 use Rattle.fb_chart.specs.declared.table.Action.{Action}
 use Rattle.fb_chart.specs.declared.table.State.{State}

@@ -4,8 +4,8 @@ use Rattle.fb_model.specs.Names.{Name}
 use Rattle.fb_model.specs.Services.{service_event_outputs}
 use Rattle.fb_model.specs.Wires.{Kind, Charted, Serviced}
 use Rattle.fb_model.specs.Certificates.{event_names as event_names_of}
-use Rattle.fb_blocks.specs.Views.{block_of}
-use Rattle.fb_services.specs.Views.{service_of}
+use Rattle.fb_types_blocks.specs.Views.{block_of}
+use Rattle.fb_types_services.specs.Views.{service_of}
 use Rattle.fb_chart.specs.declared.table.Event.{Event}
 use Rattle.fb_chart.specs.declared.table.Output.{Output}
 use Rattle.fb_chart.specs.declared.table.Take.{Take}

@@ -6,9 +6,9 @@ ghost use Rattle.std.specs.Option.{option_map};
 ghost use Rattle.fb_model.specs.Typing.{AreDistinct};
 ghost use Rattle.fb_model.specs.Language.{Done};
 ghost use Rattle.fb_model.specs.Charts.{Fail, Settling, choice, tested, work as runs};
-ghost use Rattle.fb_leaves.specs.Leaves.{IsClosedBlock};
-ghost use Rattle.st_code.specs.CodeViews.{code_term};
-ghost use Rattle.st_code.specs.Placed.{placed};
+ghost use Rattle.fb_model_laws.specs.Leaves.{IsClosedBlock};
+ghost use Rattle.st_exec.specs.CodeViews.{code_term};
+ghost use Rattle.st_exec.specs.Placed.{placed};
 ghost use Rattle.st_exec.specs.Cells.{values_of, forms_of};
 ghost use Rattle.st_exec.specs.Runs.{IsWithin};
 ghost use Rattle.fb_chart.specs.Views.{named};
@@ -17,8 +17,7 @@ ghost use Rattle.fb_chart.specs.Charting.{block_in, states_in, events_in, output
 
 use crate::emit::{Emit, send};
 use crate::table::{Chart, Output};
-use st_code::{Code, Procedure};
-use st_run::{Store, exec, truth};
+use st_exec::{Code, Procedure, Store, exec, truth};
 
 /// An invocation of a chart: the chart, what its outputs lead to, the number of the event, and the most steps that it may take.
 #[derive(Clone, Copy)]

@@ -9,7 +9,7 @@ ghost use Rattle.fb_chart.specs.Charting.{sent_by, issued_by};
 
 use crate::sampling::issue;
 use crate::table::{Output, Point};
-use st_run::Store;
+use st_exec::Store;
 
 /// What takes emissions, one after another: IEC 61499-1 edition 2, 5.2.2.
 pub trait Emit {

@@ -8,7 +8,7 @@ ghost use Rattle.fb_chart.specs.Views.{given_names};
 ghost use Rattle.fb_chart.specs.Sampling.{CanTake, CanGive, sampled_by};
 
 use crate::table::{Give, Source, Take};
-use st_run::Store;
+use st_exec::Store;
 
 // A data input takes the value of its source.
 fn sample_one(taken: &Take, issued: &[Store], own: &mut Store)

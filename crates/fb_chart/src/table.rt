@@ -1,9 +1,9 @@
 //! Blocks, events, states and variables by numbers and slots, each beside its name.
 
 use arrayvec::ArrayVec;
-use fb_blocks::Block as BlockType;
-use fb_services::Service;
-use st_code::{Code, Procedure};
+use fb_types_blocks::Block as BlockType;
+use fb_types_services::Service;
+use st_exec::{Code, Procedure};
 use std::rc::Rc;
 
 /// The most values of one event.

@@ -1,16 +1,5 @@
-//! The checker: whether a certificate fits a system.
+//! Room: checker. What programs ask of the checker: the verdict, and whether places that are shown are a closed walk. It hands on names alone.
 #![tactic(auto)]
 
-mod law;
-mod refusal;
-mod texts;
-mod verdict;
-mod verified;
-
-pub use fb_columns;
-pub use fb_walk::{Place, check_walk};
-pub use law::devices_hold;
-pub use refusal::Refusal;
-pub use texts::read_system;
-pub use verdict::{check, check_text};
-pub use verified::Verified;
+pub use fb_find_demands::{Place, check_walk};
+pub use fb_verdict::{Refusal, Verified, check, check_text, read_system};

@@ -15,42 +15,42 @@ use Rattle.fb_model.specs.Certificates.{Certificate, DeviceHolds, names, depth_o
 use Rattle.fb_model.specs.Devices as machines
 use Rattle.fb_model.specs.Devices.{silent}
 use Rattle.fb_model.specs.Headline.{IsSound}
-use Rattle.fb_arrive.proofs.of_fb_state.of_fb_tables.of_fb_check.Composed.{devices_hold}
-use Rattle.fb_leaves.proofs.Few.{devices_few}
-use Rattle.fb_arrive.specs.fb_state.fb_tables.fb_check.declared.verified.Verified.{Verified}
-use Rattle.fb_arrive.specs.fb_state.fb_tables.fb_check.Verdicts.{system_in, certificate_in, IsChecked}
-use Rattle.fb_arrive.specs.fb_state.fb_tables.fb_types.Views.{device_of}
-use Rattle.fb_arrive.specs.fb_state.st_exec.Cells.{Cell, values_of, forms_of}
-use Rattle.fb_arrive.specs.fb_state.fb_chart.declared.table.Block.{Block}
-use Rattle.fb_arrive.specs.fb_state.fb_chart.Views.{named, kind_of}
-use Rattle.fb_arrive.specs.fb_state.fb_chart.Sampling.{AreStores}
-use Rattle.fb_arrive.proofs.of_fb_state.of_fb_chart.Lists.{all_got}
-use Rattle.fb_arrive.specs.fb_state.fb_tables.declared.table.Resource.{Resource}
-use Rattle.fb_arrive.specs.fb_state.fb_tables.declared.table.Tables.{Tables}
-use Rattle.fb_arrive.specs.fb_state.fb_tables.Tables.{AreTables, AreResources}
-use Rattle.fb_arrive.specs.fb_state.fb_turn.declared.memory.Condition.{Condition}
-use Rattle.fb_arrive.specs.fb_state.fb_turn.Conditions.{condition_at, leaf_state, IsConditionOf}
-use Rattle.fb_arrive.specs.fb_state.fb_sched.declared.reaction.Reaction.{Reaction}
-use Rattle.fb_arrive.specs.fb_state.fb_sched.Agenda.{Agenda, IsAgenda, slot_at}
-use Rattle.fb_arrive.specs.fb_state.fb_sched.Steps.{spent}
-use Rattle.fb_arrive.specs.fb_state.fb_timers.Expiry.{AreArmed}
-use Rattle.fb_arrive.specs.fb_state.fb_tables.fb_first.First.{HaveFirstCells}
-use Rattle.fb_arrive.specs.fb_state.fb_tables.fb_first.declared.first.FirstValues.{FirstValues}
-use Rattle.fb_arrive.specs.fb_state.declared.program.Program.{Program}
-use Rattle.fb_arrive.specs.fb_state.declared.program.Running.{Running}
-use Rattle.fb_arrive.specs.fb_state.Sessions.{session_of, next_of}
-use Rattle.fb_arrive.specs.fb_state.Machines.{device_at, queue_at, entries_in, standing, store_from, spent_in, machine_of}
-use Rattle.fb_arrive.specs.fb_state.Keeping.{IsStanding, ArePlaced, IsQueue, IsProgram, IsGood}
-use Rattle.fb_arrive.proofs.of_fb_state.Devices.{device_stands}
-use Rattle.fb_arrive.proofs.of_fb_state.Storing.{standing_at}
-use Rattle.fb_arrive.proofs.of_fb_state.Blocks.{Pair, block_of, block_count, mapped}
-use Rattle.fb_arrive.proofs.of_fb_state.Arriving.{resource_count}
+use Rattle.fb_device_dispatch.proofs.of_fb_verdict.Composed.{devices_hold}
+use Rattle.fb_model_laws.proofs.Few.{devices_few}
+use Rattle.fb_device_dispatch.specs.fb_verdict.declared.verified.Verified.{Verified}
+use Rattle.fb_device_dispatch.specs.fb_verdict.Verdicts.{system_in, certificate_in, IsChecked}
+use Rattle.fb_types.specs.Views.{device_of}
+use Rattle.st_exec.specs.Cells.{Cell, values_of, forms_of}
+use Rattle.fb_chart.specs.declared.table.Block.{Block}
+use Rattle.fb_chart.specs.Views.{named, kind_of}
+use Rattle.fb_chart.specs.Sampling.{AreStores}
+use Rattle.fb_chart.proofs.Lists.{all_got}
+use Rattle.fb_device_dispatch.specs.fb_device_tables.declared.table.Resource.{Resource}
+use Rattle.fb_device_dispatch.specs.fb_device_tables.declared.table.Tables.{Tables}
+use Rattle.fb_device_dispatch.specs.fb_device_tables.Tables.{AreTables, AreResources}
+use Rattle.fb_chart.specs.declared.memory.Condition.{Condition}
+use Rattle.fb_chart.specs.Conditions.{condition_at, leaf_state, IsConditionOf}
+use Rattle.fb_sched.specs.declared.reaction.Reaction.{Reaction}
+use Rattle.fb_sched.specs.Agenda.{Agenda, IsAgenda, slot_at}
+use Rattle.fb_sched.specs.Steps.{spent}
+use Rattle.fb_sched.specs.Expiry.{AreArmed}
+use Rattle.fb_device_dispatch.specs.fb_device_values.First.{HaveFirstCells}
+use Rattle.fb_device_dispatch.specs.fb_device_values.declared.first.FirstValues.{FirstValues}
+use Rattle.fb_device_dispatch.specs.fb_device_state.declared.program.Program.{Program}
+use Rattle.fb_device_dispatch.specs.fb_device_state.declared.program.Running.{Running}
+use Rattle.fb_device_dispatch.specs.fb_device_state.Sessions.{session_of, next_of}
+use Rattle.fb_device_dispatch.specs.fb_device_state.Machines.{device_at, queue_at, entries_in, standing, store_from, spent_in, machine_of}
+use Rattle.fb_device_dispatch.specs.fb_device_state.Keeping.{IsStanding, ArePlaced, IsQueue, IsProgram, IsGood}
+use Rattle.fb_device_dispatch.proofs.of_fb_device_state.Devices.{device_stands}
+use Rattle.fb_device_dispatch.proofs.of_fb_device_state.Storing.{standing_at}
+use Rattle.fb_device_dispatch.proofs.of_fb_device_state.Blocks.{Pair, block_of, block_count, mapped}
+use Rattle.fb_device_dispatch.proofs.of_fb_device_state.Arriving.{resource_count}
 use Rattle.fb_words.specs.declared.format.Format.{Format}
 use Rattle.fb_words.specs.declared.format.Format.TheVariants.{First, Second}
 use Rattle.fb_wire.specs.declared.message.Stamp.{Stamp}
 use Rattle.fb_wire.specs.Views.{stamped_of}
 use Rattle.fb_model.specs.Messages.{IsStamp}
-use Rattle.fb_arrive.specs.fb_state.fb_serve.Responses.{stamps_in}
+use Rattle.fb_chart.specs.Responses.{stamps_in}
 use Rattle.fb_device.specs.Starting.{upcoming_of, latest_of, first_of, AreEmpty, IsAtRest}
 use Rattle.fb_model.proofs.Starting.{silent_sound}
 use Rattle.fb_device.proofs.Silent.{none_armed}

@@ -5,17 +5,17 @@ use Rattle.fb_model.specs.System.{Device}
 use Rattle.fb_model.specs.Messages.{Stamp, IsStamp}
 use Rattle.fb_model.specs.Wires.{leaves}
 use Rattle.fb_model.specs.Devices.{Machine, silent}
-use Rattle.fb_leaves.proofs.Few.{devices_few}
-use Rattle.fb_arrive.specs.fb_state.fb_tables.fb_check.declared.verified.Verified.{Verified}
-use Rattle.fb_arrive.specs.fb_state.fb_tables.fb_check.Verdicts.{system_in, IsChecked}
-use Rattle.fb_arrive.specs.fb_state.fb_tables.fb_types.Views.{device_of}
-use Rattle.fb_arrive.proofs.of_fb_state.of_fb_chart.Lists.{all_got}
-use Rattle.fb_arrive.specs.fb_state.declared.program.Program.{Program}
-use Rattle.fb_arrive.specs.fb_state.declared.program.Running.{Running}
-use Rattle.fb_arrive.specs.fb_state.Sessions.{session_of, next_of}
-use Rattle.fb_arrive.specs.fb_state.Machines.{device_at, device_in, machine_of}
-use Rattle.fb_arrive.specs.fb_state.Keeping.{IsGood}
-use Rattle.fb_arrive.proofs.of_fb_state.Devices.{device_stands}
+use Rattle.fb_model_laws.proofs.Few.{devices_few}
+use Rattle.fb_device_dispatch.specs.fb_verdict.declared.verified.Verified.{Verified}
+use Rattle.fb_device_dispatch.specs.fb_verdict.Verdicts.{system_in, IsChecked}
+use Rattle.fb_types.specs.Views.{device_of}
+use Rattle.fb_chart.proofs.Lists.{all_got}
+use Rattle.fb_device_dispatch.specs.fb_device_state.declared.program.Program.{Program}
+use Rattle.fb_device_dispatch.specs.fb_device_state.declared.program.Running.{Running}
+use Rattle.fb_device_dispatch.specs.fb_device_state.Sessions.{session_of, next_of}
+use Rattle.fb_device_dispatch.specs.fb_device_state.Machines.{device_at, device_in, machine_of}
+use Rattle.fb_device_dispatch.specs.fb_device_state.Keeping.{IsGood}
+use Rattle.fb_device_dispatch.proofs.of_fb_device_state.Devices.{device_stands}
 use Rattle.fb_device.specs.Silence.{IsSilent}
 
 -- a device of what was checked has few leaves

@@ -6,7 +6,7 @@ use Rattle.fb_model.specs.Wires.{Kind, Charted, Serviced, Leaf}
 use Rattle.fb_model.specs.Store.{first_store, first_cells, first_condition}
 use Rattle.fb_model.specs.Devices.{due, is_timer}
 use Rattle.fb_model.specs.Messages.{Stamp}
-use Rattle.fb_arrive.specs.fb_state.fb_timers.Expiry.{moment_of, AreArmed}
+use Rattle.fb_sched.specs.Expiry.{moment_of, AreArmed}
 
 never_due : (stamp : Stamp) (kind : Kind) → due (first_condition stamp kind) ≡ None
 never_due stamp (Charted block) = refl

@@ -8,11 +8,11 @@ use Rattle.fb_model.specs.CertificateText.{names_in}
 use Rattle.fb_model.specs.Devices as book
 use Rattle.fb_model.specs.Devices.{Machine, steps_row, is_pending}
 use Rattle.fb_model.specs.Headline.{IsOpen}
-use Rattle.fb_arrive.specs.fb_state.fb_tables.fb_check.Lookups.{is_same_path}
-use Rattle.fb_arrive.specs.fb_state.fb_tables.Views.{place_at}
-use Rattle.fb_arrive.specs.fb_state.fb_tables.Tables.{far_at}
-use Rattle.fb_arrive.specs.Answers.{admission_of}
-use Rattle.fb_dispatch.specs.Answers.{dispatched_of, HasPoint}
+use Rattle.fb_device_dispatch.specs.fb_verdict.Lookups.{is_same_path}
+use Rattle.fb_device_dispatch.specs.fb_device_tables.Views.{place_at}
+use Rattle.fb_device_dispatch.specs.fb_device_tables.Tables.{far_at}
+use Rattle.fb_device_arrivals.specs.Answers.{admission_of}
+use Rattle.fb_device_dispatch.specs.Answers.{dispatched_of, HasPoint}
 use Rattle.fb_device.specs.declared.answer.Opening.{Opening}
 use Rattle.fb_device.specs.declared.answer.Step.{Step}
 use Rattle.fb_device.specs.declared.answer.Step.TheVariants.{Offer, Deliver, Tick, Dispatch}

@@ -1,13 +1,8 @@
-pub use Rattle.fb_arrive.specs.fb_state.fb_tables.fb_check as fb_check
-pub use Rattle.fb_arrive.specs.fb_state.fb_tables as fb_tables
-pub use Rattle.fb_arrive.specs.fb_state.fb_tables.fb_text as fb_text
-pub use Rattle.fb_arrive.specs.fb_state.fb_tables.fb_types as fb_types
-pub use Rattle.fb_arrive.specs.fb_state as fb_state
-pub use Rattle.fb_arrive.specs.fb_state.Sessions as Sessions
-pub use Rattle.fb_arrive.specs.fb_state.Machines as Machines
-pub use Rattle.fb_arrive.specs.fb_state.fb_serve as fb_serve
-pub use Rattle.fb_arrive.specs as fb_arrive
-pub use Rattle.fb_dispatch.specs as fb_dispatch
+pub use Rattle.fb_device_dispatch.specs as fb_device_dispatch
+pub use Rattle.fb_device_arrivals.specs as fb_device_arrivals
+pub use Rattle.fb_device_dispatch.specs.fb_device_state as fb_device_state
+pub use Rattle.fb_device_dispatch.specs.fb_device_tables as fb_device_tables
+pub use Rattle.fb_device_dispatch.specs.fb_verdict as fb_verdict
 pub mod Refusals
 pub mod Answers
 pub mod Promises

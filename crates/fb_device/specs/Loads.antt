@@ -1,19 +1,18 @@
 -- What a loaded device is of its texts.
-use Rattle.std.specs.Prelude.{ℕ, ◌≡◌, true, false, List, Some, slice_get}
+use Rattle.std.specs.Prelude.{ℕ, ◌≡◌, true, false, List, Some, slice_get, string_bytes}
 use Rattle.std.specs.List.{AllByRecursion}
-use Rattle.std.specs.Prelude.{string_bytes}
 use Rattle.fb_model.specs.System.{Device, System}
 use Rattle.fb_model.specs.Spelling.{upper}
 use Rattle.fb_model.specs.Messages.{Stamp}
 use Rattle.fb_model.specs.Devices.{silent}
-use Rattle.fb_arrive.specs.fb_state.fb_tables.fb_check.Verdicts.{system_in, IsSystemOf, IsOfTexts, IsFaultOf}
-use Rattle.fb_arrive.specs.fb_state.fb_tables.fb_check.Lookups.{is_same_path}
+use Rattle.fb_device_dispatch.specs.fb_verdict.Verdicts.{system_in, IsSystemOf, IsOfTexts, IsFaultOf}
+use Rattle.fb_device_dispatch.specs.fb_verdict.Lookups.{is_same_path}
 use Rattle.fb_device.specs.declared.refusal.Refusal.{Refusal}
 use Rattle.fb_device.specs.declared.refusal.Refusal.TheVariants.{Checked, NoDevice, Limit}
-use Rattle.fb_arrive.specs.fb_state.fb_tables.fb_check.declared.verified.Verified.{Verified}
-use Rattle.fb_arrive.specs.fb_state.fb_tables.fb_check.declared.refusal.Refusal.TheVariants as checks
-use Rattle.fb_arrive.specs.fb_state.Sessions.{Session}
-use Rattle.fb_arrive.specs.fb_state.Machines.{machine_of}
+use Rattle.fb_device_dispatch.specs.fb_verdict.declared.verified.Verified.{Verified}
+use Rattle.fb_device_dispatch.specs.fb_verdict.declared.refusal.Refusal.TheVariants as checks
+use Rattle.fb_device_dispatch.specs.fb_device_state.Sessions.{Session}
+use Rattle.fb_device_dispatch.specs.fb_device_state.Machines.{machine_of}
 use Rattle.fb_device.specs.Silence.{IsWithin}
 
 -- the texts are spelled, well typed and fit, the device is one of this name in them, and nothing has happened yet; it begins with this cause and this stamp

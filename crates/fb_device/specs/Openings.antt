@@ -1,11 +1,11 @@
 -- The arrival that opened a cause, by numbers.
 use Rattle.std.specs.Prelude.{ℕ, ◌≡◌, List, Option, None, Some, slice_get}
-use Rattle.fb_arrive.specs.fb_state.fb_chart.declared.table.Point.{Point}
-use Rattle.fb_arrive.specs.fb_state.fb_chart.declared.table.Block.{Block}
-use Rattle.fb_arrive.specs.fb_state.fb_chart.declared.table.Event.{Event}
-use Rattle.fb_arrive.specs.fb_state.fb_sched.declared.reaction.Reaction.{Reaction}
-use Rattle.fb_arrive.specs.fb_state.fb_sched.Agenda.{Agenda, IsNew, IsReactionOf}
-use Rattle.fb_arrive.specs.fb_state.Numbers.{event_at, steps_in}
+use Rattle.fb_chart.specs.declared.table.Point.{Point}
+use Rattle.fb_chart.specs.declared.table.Block.{Block}
+use Rattle.fb_chart.specs.declared.table.Event.{Event}
+use Rattle.fb_sched.specs.declared.reaction.Reaction.{Reaction}
+use Rattle.fb_sched.specs.Agenda.{Agenda, IsNew, IsReactionOf}
+use Rattle.fb_device_dispatch.specs.fb_device_state.Numbers.{event_at, steps_in}
 use Rattle.fb_device.specs.declared.answer.Opening.{Opening}
 
 -- the steps of the FAR row of an event

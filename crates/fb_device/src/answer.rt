@@ -1,7 +1,7 @@
 //! What a device is asked, and what it answers.
 
-use fb_arrive::Denied;
-use fb_dispatch::Dispatched;
+use fb_device_arrivals::Denied;
+use fb_device_dispatch::Dispatched;
 
 /// The arrival that opened a cause: its block and event by number, the steps of its WEIGHT row, and those of its FAR row where the certificate has REPEATS.
 #[derive(Clone, Copy)]

@@ -5,18 +5,18 @@ ghost use Rattle.std.specs.List.{AllByRecursion};
 ghost use Rattle.fb_model.specs.Devices.{Happens, Offer, Deliver, Tick, Dispatch, Expired, Run, begun};
 ghost use Rattle.fb_model.specs.Headline.{KeepsBounds, StaysWithinAll};
 ghost use Rattle.fb_model.specs.Wires.{leaves};
-ghost use Rattle.fb_arrive.specs.Answers.{admission_of};
-ghost use Rattle.fb_dispatch.specs.Answers.{dispatched_of, HasPoint};
-ghost use Rattle.fb_arrive.specs.fb_state.Machines.{device_in, cert_in, machine_of};
+ghost use Rattle.fb_device_arrivals.specs.Answers.{admission_of};
+ghost use Rattle.fb_device_dispatch.specs.Answers.{dispatched_of, HasPoint};
+ghost use Rattle.fb_device_dispatch.specs.fb_device_state.Machines.{device_in, cert_in, machine_of};
 ghost use Rattle.fb_device.specs.Answers.{answer_of, event_of, HasPlace, IsOpening, IsNamed, IsNoPoint, IsNumberOf, IsNoNumber};
 ghost use Rattle.fb_device.specs.Promises.{IsBounded};
 ghost use Rattle.fb_device.specs.Silence.{IsSilent};
 
 use crate::answer::{Answer, Opening, Step};
 use crate::names::{name, opening, path, resource};
-use fb_arrive::fb_state::{Program, Running};
-use fb_arrive::{Denied, begin, deliver, offer, tick};
-use fb_dispatch::{Dispatched, dispatch};
+use fb_device_arrivals::{Denied, begin, deliver, offer, tick};
+use fb_device_dispatch::fb_device_state::{Program, Running};
+use fb_device_dispatch::{Dispatched, dispatch};
 use std::marker::Model;
 
 /// A device that runs a checked application. Its calls take no memory.
@@ -29,9 +29,9 @@ pub struct Device {
 }
 
 impl Model for Device {
-    ghost use Rattle.fb_arrive.specs.fb_state.Sessions.{Session, session_of};
-    ghost use Rattle.fb_arrive.specs.fb_state.Keeping.{IsGood};
-    ghost use Rattle.fb_arrive.specs.fb_state.fb_tables.fb_check.contracts.verified.Verified as checked;
+    ghost use Rattle.fb_device_dispatch.specs.fb_device_state.Sessions.{Session, session_of};
+    ghost use Rattle.fb_device_dispatch.specs.fb_device_state.Keeping.{IsGood};
+    ghost use Rattle.fb_device_dispatch.specs.fb_verdict.contracts.verified.Verified as checked;
     ghost use Rattle.std.specs.Coded.{codes};
 
     ghost Value = { Session };

@@ -1,4 +1,6 @@
-//! A device that runs an application whose certificate fits: it answers as the chart machine of its text, within the certified bounds.
+//! Room: device. A device that runs an application whose certificate fits: it answers as the chart machine of its text, within the certified bounds.
+//! `load` accepts only texts that fit, and refuses those that fit for want of memory alone. Each call is one step of the book's device, and from each state that it
+//! comes to causes are bounded and end, queues keep their depth, and nothing traps (`IsBounded`).
 #![tactic(auto)]
 
 mod answer;
@@ -9,10 +11,8 @@ mod refusal;
 
 pub use answer::{Answer, Opening, Step};
 pub use device::Device;
-pub use fb_arrive::Denied;
-pub use fb_arrive::fb_state::fb_tables;
-pub use fb_arrive::fb_state::fb_turn::fb_chart::Values;
-pub use fb_arrive::fb_state::fb_turn::fb_serve::Effect;
-pub use fb_dispatch::{Dispatched, Ended, Ran};
+pub use fb_chart::{Effect, Values};
+pub use fb_device_arrivals::Denied;
+pub use fb_device_dispatch::{Dispatched, Ended, Ran};
 pub use loading::{Ready, load, load_boot, load_checked, load_from};
 pub use refusal::Refusal;

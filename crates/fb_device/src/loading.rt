@@ -12,13 +12,13 @@ ghost use Rattle.fb_model.specs.EventBlocks.{Elaborates};
 ghost use Rattle.fb_model.specs.Wires.{leaves};
 ghost use Rattle.fb_model.specs.Devices.{at_first, begun, first_stamp, silent};
 ghost use Rattle.fb_wire.specs.Views.{stamped_of};
-ghost use Rattle.fb_arrive.specs.fb_state.st_exec.Cells.{Form, forms_of};
-ghost use Rattle.fb_arrive.specs.fb_state.fb_chart.Views.{body_kind, kind_of};
-ghost use Rattle.fb_arrive.specs.fb_state.fb_tables.fb_first.First.{HaveFirstCells};
-ghost use Rattle.fb_arrive.specs.fb_state.fb_tables.fb_check.Verdicts.{system_in, certificate_in, IsSystemOf};
-ghost use Rattle.fb_arrive.specs.fb_state.fb_tables.fb_text.Answers.{IsSource};
-ghost use Rattle.fb_arrive.specs.fb_state.fb_tables.Tables.{AreTables};
-ghost use Rattle.fb_arrive.specs.fb_state.Machines.{device_in, cert_in, machine_of};
+ghost use Rattle.st_exec.specs.Cells.{Form, forms_of};
+ghost use Rattle.fb_chart.specs.Views.{body_kind, kind_of};
+ghost use Rattle.fb_device_dispatch.specs.fb_device_values.First.{HaveFirstCells};
+ghost use Rattle.fb_device_dispatch.specs.fb_verdict.Verdicts.{system_in, certificate_in, IsSystemOf};
+ghost use Rattle.fb_tree.specs.Sources.{IsSource};
+ghost use Rattle.fb_device_dispatch.specs.fb_device_tables.Tables.{AreTables};
+ghost use Rattle.fb_device_dispatch.specs.fb_device_state.Machines.{device_in, cert_in, machine_of};
 ghost use Rattle.fb_device.specs.Promises.{IsBounded};
 ghost use Rattle.fb_device.specs.Refusals.{no_memory};
 ghost use Rattle.fb_device.specs.Silence.{last_first, IsWithin};
@@ -30,16 +30,13 @@ ghost use Rattle.fb_device.specs.Loads.{IsLoaded, IsLoadFault, IsBeginFault, IsT
 use crate::device::Device;
 use crate::names::is_same;
 use crate::refusal::Refusal;
-use fb_arrive::fb_state::fb_sched::{Outbox, Queue};
-use fb_arrive::fb_state::fb_tables::fb_check::{Verified, check_text};
-use fb_arrive::fb_state::fb_tables::fb_first::{FirstValues, first_values};
-use fb_arrive::fb_state::fb_tables::{Resource, Tables, fb_check, tables};
-use fb_arrive::fb_state::fb_timers::Timers;
-use fb_arrive::fb_state::fb_turn::fb_chart::{Block, Body};
-use fb_arrive::fb_state::fb_turn::fb_serve::{Stamps, Standing};
-use fb_arrive::fb_state::fb_turn::{Condition, Memory};
-use fb_arrive::fb_state::{Program, Running};
-use fb_services::Service;
+use fb_chart::{Block, Body, Condition, Memory, Stamps, Standing};
+use fb_device_dispatch::fb_device_state::{Program, Running};
+use fb_device_dispatch::fb_device_tables::{Resource, Tables, tables};
+use fb_device_dispatch::fb_device_values::{FirstValues, first_values};
+use fb_device_dispatch::fb_verdict::{Verified, check_text};
+use fb_sched::{Outbox, Queue, Timers};
+use fb_types_services::Service;
 use fb_wire::Stamp;
 use fb_words::Format;
 use std::alloc::{AllocError, Global};
@@ -62,8 +59,8 @@ pub struct Ready {
 
 impl Model for Ready {
     ghost use Rattle.std.specs.Coded.{codes};
-    ghost use Rattle.fb_arrive.specs.fb_state.fb_tables.fb_check.contracts.verified.Verified as checked;
-    ghost use Rattle.fb_arrive.specs.fb_state.Sessions.{Session};
+    ghost use Rattle.fb_device_dispatch.specs.fb_verdict.contracts.verified.Verified as checked;
+    ghost use Rattle.fb_device_dispatch.specs.fb_device_state.Sessions.{Session};
     ghost use Rattle.fb_device.specs.Silence.{IsSilent};
 
     ghost Value = { Session };
@@ -254,7 +251,7 @@ fn numbered_ready(
         }
         Err(_) => {
             verified.let_go();
-            Err(Refusal::Checked(fb_check::Refusal::OutOfMemory))
+            Err(Refusal::Checked(fb_device_dispatch::fb_verdict::Refusal::OutOfMemory))
         }
     }
 }
@@ -280,7 +277,7 @@ fn no_device(alloc: Global, device: &str) -> Refusal
             name.make_ascii_uppercase();
             Refusal::NoDevice(name)
         }
-        Err(_) => Refusal::Checked(fb_check::Refusal::OutOfMemory),
+        Err(_) => Refusal::Checked(fb_device_dispatch::fb_verdict::Refusal::OutOfMemory),
     }
 }
 
@@ -339,7 +336,7 @@ fn loaded(
 /// Loads the device of a name. Its first cause is 1, and its first messages are stamped with the boot 0 and the sequence number 1. Letter case has no meaning
 /// in the name.
 ///
-/// Refused as [`check_text`](fb_check::check_text) refuses, and with `NoDevice` where the text has no such device.
+/// Refused as [`check_text`](fb_device_dispatch::fb_verdict::check_text) refuses, and with `NoDevice` where the text has no such device.
 pub fn load(alloc: Global, text: &str, certificate: &str, device: &str) -> Result<Ready, Refusal>
     ensures loaded { IfOk result (IsLoaded text.now certificate.now device.now 1 first_stamp) }
     ensures within { IfOk result (λ d. (length text.now ≤ text_limit) × (length certificate.now ≤ most_characters)) }

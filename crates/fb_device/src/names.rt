@@ -4,24 +4,24 @@ ghost use Rattle.std.specs.Prelude.{ℕ, ◌≡◌, ◌<◌, ◌≤◌, length, 
 ghost use Rattle.std.specs.List.{AllByRecursion};
 ghost use Rattle.fb_model.specs.Wires.{Leaf};
 ghost use Rattle.fb_model.specs.Certificates.{Certificate};
-ghost use Rattle.fb_arrive.specs.fb_state.st_exec.Cells.{Form};
-ghost use Rattle.fb_arrive.specs.fb_state.fb_serve.declared.standing.Ports.{Ports};
-ghost use Rattle.fb_arrive.specs.fb_state.fb_tables.fb_check.Verdicts.{system_in};
-ghost use Rattle.fb_arrive.specs.fb_state.fb_tables.fb_check.Lookups.{is_same_path};
-ghost use Rattle.fb_arrive.specs.fb_state.fb_tables.Tables.{AreBlocks};
-ghost use Rattle.fb_arrive.specs.fb_state.fb_sched.declared.reaction.Reaction.{Reaction};
-ghost use Rattle.fb_arrive.specs.fb_state.fb_sched.Agenda.{Agenda, slot_at};
-ghost use Rattle.fb_arrive.specs.fb_state.Machines.{device_at};
-ghost use Rattle.fb_arrive.specs.fb_state.Numbers.{IsKnown};
+ghost use Rattle.st_exec.specs.Cells.{Form};
+ghost use Rattle.fb_chart.specs.declared.standing.Ports.{Ports};
+ghost use Rattle.fb_device_dispatch.specs.fb_verdict.Verdicts.{system_in};
+ghost use Rattle.fb_device_dispatch.specs.fb_verdict.Lookups.{is_same_path};
+ghost use Rattle.fb_device_dispatch.specs.fb_device_tables.Tables.{AreBlocks};
+ghost use Rattle.fb_sched.specs.declared.reaction.Reaction.{Reaction};
+ghost use Rattle.fb_sched.specs.Agenda.{Agenda, slot_at};
+ghost use Rattle.fb_device_dispatch.specs.fb_device_state.Machines.{device_at};
+ghost use Rattle.fb_device_dispatch.specs.fb_device_state.Numbers.{IsKnown};
 ghost use Rattle.fb_device.specs.Answers.{IsNamed, IsNoPoint};
 ghost use Rattle.fb_device.specs.Finding.{first_named};
 ghost use Rattle.fb_device.specs.Openings.{opening_at, IsOpeningIn};
 
 use crate::answer::Opening;
-use fb_arrive::fb_state::Program;
-use fb_arrive::fb_state::fb_sched::Queue;
-use fb_arrive::fb_state::fb_tables::Resource;
-use fb_arrive::fb_state::fb_turn::fb_chart::{Block, Point};
+use fb_chart::{Block, Point};
+use fb_device_dispatch::fb_device_state::Program;
+use fb_device_dispatch::fb_device_tables::Resource;
+use fb_sched::Queue;
 
 /// The name of the device.
 pub fn name(program: &Program) -> &str

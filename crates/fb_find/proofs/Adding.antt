@@ -8,17 +8,17 @@ use Rattle.fb_model.specs.System.{System}
 use Rattle.fb_model.specs.Ranges.{Range}
 use Rattle.fb_model.specs.Certificates.{all_leaves}
 use Rattle.fb_model.specs.CertificateText.{most_places, most_steps}
-use Rattle.fb_demands.specs.Columns.{demands}
+use Rattle.fb_model_laws.specs.Columns.{demands}
 use Rattle.fb_cert.specs.Adding.{is_upper_path}
 use Rattle.fb_cert.specs.Views.{Rows}
-use Rattle.fb_check.specs.fb_flat.declared.flat.FlatDevice.{FlatDevice}
-use Rattle.fb_ledger.specs.Texts.{texts_of}
-use Rattle.fb_ledger.specs.declared.kind.RowKind.{RowKind}
-use Rattle.fb_ledger.specs.declared.kind.RowKind.TheVariants.{Charge, Weight}
-use Rattle.fb_ranged.proofs.Capitals.{rows_have_capitals}
-use Rattle.fb_solved.specs.Numbers.{amounts, CanBeSaid, with_charges, with_weights}
-use Rattle.fb_places.specs.declared.numbering.Numbering.{Numbering}
-use Rattle.fb_found.specs.Columns.{AreSmallest}
+use Rattle.fb_flat.specs.declared.flat.FlatDevice.{FlatDevice}
+use Rattle.fb_check_rows.specs.Texts.{texts_of}
+use Rattle.fb_check_rows.specs.declared.kind.RowKind.{RowKind}
+use Rattle.fb_check_rows.specs.declared.kind.RowKind.TheVariants.{Charge, Weight}
+use Rattle.fb_find_ranges.proofs.Capitals.{rows_have_capitals}
+use Rattle.fb_find_rows.specs.Numbers.{amounts, CanBeSaid, with_charges, with_weights}
+use Rattle.fb_find_demands.specs.declared.numbered.Numbering.{Numbering}
+use Rattle.fb_find.specs.Columns.{AreSmallest}
 use Rattle.fb_find.specs.Parts.{CanBeAdded, events_in, HasFoundRanges, IsReady, states_in, with_columns}
 
 -- ---- one kind after the other

@@ -11,28 +11,28 @@ use Rattle.fb_model.specs.Ranges.{HoldsIn, Range, row_at, SourceFits, variables}
 use Rattle.fb_model.specs.Spans.{within, whole}
 use Rattle.fb_model.specs.Certificates.{all_leaves}
 use Rattle.fb_model.proofs.Lists.{all_both}
-use Rattle.fb_spelled.specs.Words.{IsWordyDevice, IsWordyLeaf}
-use Rattle.fb_leaves.specs.Leaves.{IsClosed}
-use Rattle.fb_leaves.proofs.Closed.{all_charts_closed}
-use Rattle.fb_rounds.specs.Holding.{ChartBegins, LeafIsFed, LeafIsGood}
-use Rattle.fb_rounds.proofs.Among.{found_rows_hold}
-use Rattle.fb_rounds.proofs.Beginning.{good_rows_begin, RowsBegin}
+use Rattle.fb_model_laws.specs.Words.{IsWordyDevice, IsWordyLeaf}
+use Rattle.fb_model_laws.specs.Leaves.{IsClosed}
+use Rattle.fb_model_laws.proofs.Closed.{all_charts_closed}
+use Rattle.fb_model_laws.specs.Holding.{ChartBegins, LeafIsFed, LeafIsGood}
+use Rattle.fb_model_laws.proofs.Among.{found_rows_hold}
+use Rattle.fb_model_laws.proofs.Beginning.{good_rows_begin, RowsBegin}
 use Rattle.fb_cert.specs.Adding.{is_upper_path}
 use Rattle.fb_cert.specs.Views.{no_rows, range_rows, Rows}
-use Rattle.fb_check.specs.fb_flat.declared.flat.FlatDevice.{FlatDevice}
-use Rattle.fb_rows.specs.declared.fault.Unclear.{Unclear}
-use Rattle.fb_rows.specs.declared.fault.Unclear.TheVariants as unclear
-use Rattle.fb_rows.specs.Beginning.{Begins}
-use Rattle.fb_rows.specs.Fitting.{AllClear, AreKnown, ChartFails, IsKnownLeaf, IsUnclear, KindFails, LeafFails}
-use Rattle.fb_rows.specs.Reasons.{Reason, Starts, Links}
-use Rattle.fb_growing.specs.Found.{spelled}
-use Rattle.fb_ledger.specs.declared.kind.RowKind.TheVariants as rows_of_kind
-use Rattle.fb_ledger.specs.Texts.{texts_of}
-use Rattle.fb_ranged.specs.AddedRows.{AddsRanges}
-use Rattle.fb_ranged.specs.FoundTables.{AreFoundTables}
-use Rattle.fb_ranged.proofs.Capitals.{rows_have_capitals}
-use Rattle.fb_ranged.proofs.Distinct.{ranges_are_apart}
-use Rattle.fb_found.specs.Given.{IsGiven}
+use Rattle.fb_flat.specs.declared.flat.FlatDevice.{FlatDevice}
+use Rattle.fb_check_ranges.specs.declared.fault.Unclear.{Unclear}
+use Rattle.fb_check_ranges.specs.declared.fault.Unclear.TheVariants as unclear
+use Rattle.fb_check_ranges.specs.Beginning.{Begins}
+use Rattle.fb_check_ranges.specs.Fitting.{AllClear, AreKnown, ChartFails, IsKnownLeaf, IsUnclear, KindFails, LeafFails}
+use Rattle.fb_check_ranges.specs.Reasons.{Reason, Starts, Links}
+use Rattle.fb_find_ranges.specs.Found.{spelled}
+use Rattle.fb_check_rows.specs.declared.kind.RowKind.TheVariants as rows_of_kind
+use Rattle.fb_check_rows.specs.Texts.{texts_of}
+use Rattle.fb_find_ranges.specs.AddedRows.{AddsRanges}
+use Rattle.fb_find_ranges.specs.FoundTables.{AreFoundTables}
+use Rattle.fb_find_ranges.proofs.Capitals.{rows_have_capitals}
+use Rattle.fb_find_ranges.proofs.Distinct.{ranges_are_apart}
+use Rattle.fb_find.specs.Given.{IsGiven}
 use Rattle.fb_find.specs.Bounds.{IsNoBound}
 use Rattle.fb_find.specs.Parts.{HasFoundRanges, told_of}
 use Rattle.fb_find.proofs.Lists.{none_lacks, zip_length}

@@ -3,21 +3,21 @@ use Rattle.std.proofs.Common.{ℕ, ◌≡◌, ◌∙◌, refl, sym, List, [], Op
 use Rattle.fb_model.specs.System.{System}
 use Rattle.fb_model.specs.Ranges.{Range}
 use Rattle.fb_model.specs.Certificates.{all_leaves, channels_of}
-use Rattle.fb_leaves.proofs.Closed.{all_charts_closed}
-use Rattle.fb_demands.specs.Demands.{bare_demands}
-use Rattle.fb_demands.specs.Columns.{demands, network_demands}
-use Rattle.fb_numbered.specs.Numbered.{AreNumbers, AreOf}
-use Rattle.fb_finding.specs.Nodes.{Numbered, number, nodes_of, AreRowsOf, AskForAll}
-use Rattle.fb_finding.proofs.Nodes.{rows_numbered}
-use Rattle.fb_finding.proofs.Laws.{of_nodes, network_nodes}
-use Rattle.fb_finding.proofs.Orders.{columns_alike, like_asks, network_asks, network_asks_devices}
-use Rattle.fb_check.specs.fb_blocks.Views.{names_of}
-use Rattle.fb_check.specs.fb_flat.declared.flat.FlatDevice.{FlatDevice}
-use Rattle.fb_places.specs.declared.numbering.Numbering.{Numbering}
-use Rattle.fb_places.specs.Rights.{numbered, numbers_of}
-use Rattle.fb_sums.specs.Leaves.{AreClosed}
-use Rattle.fb_found.specs.Given.{nodes_in}
-use Rattle.fb_found.specs.Columns.{asked, IsColumn}
+use Rattle.fb_model_laws.proofs.Closed.{all_charts_closed}
+use Rattle.fb_model_laws.specs.Demands.{bare_demands}
+use Rattle.fb_model_laws.specs.Columns.{demands, network_demands}
+use Rattle.fb_find_laws.specs.Numbered.{AreNumbers, AreOf}
+use Rattle.fb_find_laws.specs.Nodes.{Numbered, number, nodes_of, AreRowsOf, AskForAll}
+use Rattle.fb_find_laws.proofs.Nodes.{rows_numbered}
+use Rattle.fb_find_laws.proofs.Laws.{of_nodes, network_nodes}
+use Rattle.fb_find_laws.proofs.Orders.{columns_alike, like_asks, network_asks, network_asks_devices}
+use Rattle.fb_types_blocks.specs.Views.{names_of}
+use Rattle.fb_flat.specs.declared.flat.FlatDevice.{FlatDevice}
+use Rattle.fb_find_demands.specs.declared.numbered.Numbering.{Numbering}
+use Rattle.fb_find_demands.specs.Rights.{numbered, numbers_of}
+use Rattle.fb_find_demands.specs.Leaves.{AreClosed}
+use Rattle.fb_find.specs.Given.{nodes_in}
+use Rattle.fb_find.specs.Columns.{asked, IsColumn}
 use Rattle.fb_find.specs.Parts.{events_in, states_in, IsReady}
 
 -- what a column of a device asks is asked whatever algorithms cost

@@ -5,18 +5,18 @@ use Rattle.fb_model.specs.Names.{Name}
 use Rattle.fb_model.specs.Spelling.{IsWord}
 use Rattle.fb_model.specs.System as book
 use Rattle.fb_model.specs.CertificateText.{names_in}
-use Rattle.fb_spelled.specs.Words.{IsWordyDevice}
-use Rattle.fb_check.specs.Verdicts.{IsWritten}
-use Rattle.fb_check.proofs.Reading.{words}
-use Rattle.fb_check.proofs.of_fb_flat.Dotted.{names_back}
-use Rattle.fb_check.specs.fb_types.declared.typed.Configuration.{Configuration}
-use Rattle.fb_check.specs.fb_types.declared.typed.Device.{Device}
-use Rattle.fb_check.specs.fb_types.declared.typed.Resource.{Resource}
-use Rattle.fb_check.specs.fb_types.Views.{device_of, resource_of, system_of}
-use Rattle.fb_depths.proofs.Loops.{any_in}
-use Rattle.fb_solved.specs.declared.fault.NoBound.{NoBound}
-use Rattle.fb_solved.specs.declared.fault.NoBound.TheVariants.{OutOfMemory, Cycle, NoRange, Limit}
-use Rattle.fb_queues.specs.Needs.{IsPastFault}
+use Rattle.fb_model_laws.specs.Words.{IsWordyDevice}
+use Rattle.fb_verdict.specs.Verdicts.{IsWritten}
+use Rattle.fb_verdict.proofs.Reading.{words}
+use Rattle.fb_flat.proofs.Dotted.{names_back}
+use Rattle.fb_types.specs.declared.typed.Configuration.{Configuration}
+use Rattle.fb_types.specs.declared.typed.Device.{Device}
+use Rattle.fb_types.specs.declared.typed.Resource.{Resource}
+use Rattle.fb_types.specs.Views.{device_of, resource_of, system_of}
+use Rattle.fb_check_rows.proofs.Loops.{any_in}
+use Rattle.fb_find_rows.specs.declared.fault.NoBound.{NoBound}
+use Rattle.fb_find_rows.specs.declared.fault.NoBound.TheVariants.{OutOfMemory, Cycle, NoRange, Limit}
+use Rattle.fb_find_rows.specs.Needs.{IsPastFault}
 use Rattle.fb_find.specs.Bounds.{follows_many, IsNoBound}
 use Rattle.fb_find.specs.Crowds.{IsCrowded}
 use Rattle.fb_find.proofs.Lists.{all_at, in_image}

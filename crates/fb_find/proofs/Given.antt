@@ -9,42 +9,42 @@ use Rattle.fb_model.specs.Certificates as certs
 use Rattle.fb_model.specs.Certificates.{all_leaves, FollowsFew, Fits}
 use Rattle.fb_model.specs.StructuredTextGrammar.{most_nested, most_nested_statements}
 use Rattle.fb_model.proofs.Lists.{all_weaker}
-use Rattle.fb_events.specs.declared.library.TheConstants.{EVENT_BLOCKS}
-use Rattle.fb_events.proofs.EventTrees.{event_trees, event_source}
-use Rattle.fb_events.proofs.Spelled.{event_source_spelled}
-use Rattle.fb_spelled.specs.Words.{IsCapitalDevice}
-use Rattle.fb_spelled.proofs.Systems.{capital}
-use Rattle.fb_demands.specs.Demands.{Node, IsClosedWalk}
-use Rattle.fb_demands.proofs.Walks.{walks_exclude}
-use Rattle.fb_demands.proofs.Networks.{networks_exclude}
-use Rattle.fb_solved.specs.Places.{node_of}
-use Rattle.fb_check.specs.Verdicts.{IsWritten}
-use Rattle.fb_check.specs.fb_flat.declared.flat.FlatDevice.{FlatDevice}
-use Rattle.fb_check.specs.fb_flat.Leaves.{flat_device, written_device}
-use Rattle.fb_check.proofs.Reading.{with_event_trees, words}
-use Rattle.fb_check.proofs.Composed.{tables_are}
+use Rattle.fb_types_events.specs.declared.library.TheConstants.{EVENT_BLOCKS}
+use Rattle.fb_types_events.proofs.EventTrees.{event_trees, event_source}
+use Rattle.fb_types_events.proofs.Spelled.{event_source_spelled}
+use Rattle.fb_model_laws.specs.Words.{IsCapitalDevice}
+use Rattle.fb_model_laws.proofs.Systems.{capital}
+use Rattle.fb_model_laws.specs.Demands.{Node, IsClosedWalk}
+use Rattle.fb_model_laws.proofs.Walks.{walks_exclude}
+use Rattle.fb_model_laws.proofs.Networks.{networks_exclude}
+use Rattle.fb_find_rows.specs.Places.{node_of}
+use Rattle.fb_verdict.specs.Verdicts.{IsWritten}
+use Rattle.fb_flat.specs.declared.flat.FlatDevice.{FlatDevice}
+use Rattle.fb_flat.specs.Leaves.{flat_device, written_device}
+use Rattle.fb_verdict.proofs.Reading.{with_event_trees, words}
+use Rattle.fb_verdict.proofs.Composed.{tables_are}
 use Rattle.fb_cert.specs.Views.{Rows}
-use Rattle.fb_rows.specs.Fitting.{AllClear}
-use Rattle.fb_ranged.specs.FoundTables.{AreFoundTables}
-use Rattle.fb_ranged.proofs.Distinct.{on_all_leaves, charges_are_apart, weights_are_apart}
+use Rattle.fb_check_ranges.specs.Fitting.{AllClear}
+use Rattle.fb_find_ranges.specs.FoundTables.{AreFoundTables}
+use Rattle.fb_find_ranges.proofs.Distinct.{on_all_leaves, charges_are_apart, weights_are_apart}
 use Rattle.fb_model.specs.CertificateText.{names_in, place_of}
-use Rattle.fb_sums.specs.Ends.{end_of}
-use Rattle.fb_finding.specs.Nodes.{AreRowsOf}
-use Rattle.fb_check.specs.fb_blocks.Views.{names_of}
-use Rattle.fb_ledger.specs.Members.{gathered}
-use Rattle.fb_ledger.specs.Texts.{texts_of}
-use Rattle.fb_ledger.specs.declared.kind.RowKind.TheVariants.{Charge, Weight}
-use Rattle.fb_ledger.proofs.Members.{each_gathered}
-use Rattle.fb_ledger.proofs.Systems.{devices_placed}
-use Rattle.fb_growing.specs.Found.{spelled}
-use Rattle.fb_solved.specs.declared.fault.NoBound.{NoBound}
-use Rattle.fb_solved.specs.declared.fault.NoBound.TheVariants.{OutOfMemory, Cycle, NoRange, Limit}
-use Rattle.fb_sums.specs.Prices.{AreClear, HasClear}
-use Rattle.fb_found.specs.Given.{IsGiven}
-use Rattle.fb_found.specs.Columns.{asked, IsCycle, FulfilsAll}
+use Rattle.fb_find_demands.specs.Ends.{end_of}
+use Rattle.fb_find_laws.specs.Nodes.{AreRowsOf}
+use Rattle.fb_types_blocks.specs.Views.{names_of}
+use Rattle.fb_check_rows.specs.Members.{gathered}
+use Rattle.fb_check_rows.specs.Texts.{texts_of}
+use Rattle.fb_check_rows.specs.declared.kind.RowKind.TheVariants.{Charge, Weight}
+use Rattle.fb_check_rows.proofs.Members.{each_gathered}
+use Rattle.fb_check_rows.proofs.Systems.{devices_placed}
+use Rattle.fb_find_ranges.specs.Found.{spelled}
+use Rattle.fb_find_rows.specs.declared.fault.NoBound.{NoBound}
+use Rattle.fb_find_rows.specs.declared.fault.NoBound.TheVariants.{OutOfMemory, Cycle, NoRange, Limit}
+use Rattle.fb_find_demands.specs.Prices.{AreClear, HasClear}
+use Rattle.fb_find.specs.Given.{IsGiven}
+use Rattle.fb_find.specs.Columns.{asked, IsCycle, FulfilsAll}
 use Rattle.fb_find.specs.Bounds.{IsDenied, IsNoBound, IsWalk}
 use Rattle.fb_find.specs.Parts.{HasFoundRanges, HasNumbering, HasTables, IsReady}
-use Rattle.fb_places.specs.declared.numbering.Numbering.{Numbering}
+use Rattle.fb_find_demands.specs.declared.numbered.Numbering.{Numbering}
 use Rattle.fb_ranges.specs.Views.{spans_of}
 use Rattle.fb_ranges.specs.declared.rows.Ranges.{Ranges}
 

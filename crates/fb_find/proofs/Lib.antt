@@ -1,3 +1,4 @@
+mod Nodes
 mod Lists
 mod Clearing
 mod Crowding

@@ -9,15 +9,15 @@ use Rattle.fb_model.specs.Ranges.{Range}
 use Rattle.fb_model.specs.Certificates.{all_leaves}
 use Rattle.fb_model.specs.CertificateText.{repeats, most_repeats, most_steps}
 use Rattle.fb_model.proofs.Networks.{AreRising, channels_rise}
-use Rattle.fb_demands.specs.Columns.{network_demands}
+use Rattle.fb_model_laws.specs.Columns.{network_demands}
 use Rattle.fb_cert.specs.Adding.{is_within, is_sayable}
 use Rattle.fb_cert.specs.Views.{has_row, with_row, Rows}
-use Rattle.fb_check.specs.fb_flat.declared.flat.FlatDevice.{FlatDevice}
-use Rattle.fb_ledger.specs.declared.kind.RowKind.TheVariants.{Charge, Weight}
-use Rattle.fb_ranged.proofs.Capitals.{rows_have_capitals}
-use Rattle.fb_solved.specs.Numbers.{counts, CanBeCounted, ChannelsCanBeCounted, with_channels, with_far_states, with_fars}
-use Rattle.fb_places.specs.declared.numbering.Numbering.{Numbering}
-use Rattle.fb_found.specs.Columns.{AreSmallest}
+use Rattle.fb_flat.specs.declared.flat.FlatDevice.{FlatDevice}
+use Rattle.fb_check_rows.specs.declared.kind.RowKind.TheVariants.{Charge, Weight}
+use Rattle.fb_find_ranges.proofs.Capitals.{rows_have_capitals}
+use Rattle.fb_find_rows.specs.Numbers.{counts, CanBeCounted, ChannelsCanBeCounted, with_channels, with_far_states, with_fars}
+use Rattle.fb_find_demands.specs.declared.numbered.Numbering.{Numbering}
+use Rattle.fb_find.specs.Columns.{AreSmallest}
 use Rattle.fb_find.specs.Parts.{events_in, states_in, IsReady}
 use Rattle.fb_find.specs.Networks.{behind_events, behind_states, with_repeat, with_places, with_network, CanBeFar, CanBePlaced, HasNetwork, HasNoNetwork}
 use Rattle.fb_find.proofs.Adding.{upper_names}

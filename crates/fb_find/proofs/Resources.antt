@@ -9,21 +9,21 @@ use Rattle.fb_model.specs.Wires.{Leaf}
 use Rattle.fb_model.specs.Certificates.{all_leaves, channel_in, channels_of, with_number, with_repeats}
 use Rattle.fb_model.specs.CertificateText.{names_in, place_of}
 use Rattle.fb_model.proofs.Networks.{among_with, number_turned}
-use Rattle.fb_demands.specs.Demands.{Demand, Node, state, event, channel, node_in}
-use Rattle.fb_numbered.specs.Numbered.{AreNumbers}
-use Rattle.fb_finding.specs.Nodes.{number, nodes_of}
-use Rattle.fb_finding.proofs.Nodes.{place_names}
-use Rattle.fb_check.specs.fb_blocks.Views.{names_of}
-use Rattle.fb_check.specs.fb_flat.declared.flat.FlatDevice.{FlatDevice}
-use Rattle.fb_ledger.specs.Channels.{is_one}
-use Rattle.fb_ledger.proofs.Channels.{number_at}
-use Rattle.fb_solved.specs.Places.{text_at}
-use Rattle.fb_solved.specs.Faults.{IsResourceIn}
-use Rattle.fb_sums.specs.Ends.{end_of, names_channel}
-use Rattle.fb_places.specs.declared.numbering.Numbering.{Numbering}
-use Rattle.fb_places.specs.Rights.{numbers_of}
-use Rattle.fb_found.specs.Given.{nodes_in}
-use Rattle.fb_found.specs.Columns.{IsPast, text_of}
+use Rattle.fb_model_laws.specs.Demands.{Demand, Node, state, event, channel, node_in}
+use Rattle.fb_find_laws.specs.Numbered.{AreNumbers}
+use Rattle.fb_find_laws.specs.Nodes.{number, nodes_of}
+use Rattle.fb_find_laws.proofs.Nodes.{place_names}
+use Rattle.fb_types_blocks.specs.Views.{names_of}
+use Rattle.fb_flat.specs.declared.flat.FlatDevice.{FlatDevice}
+use Rattle.fb_check_rows.specs.Channels.{is_one}
+use Rattle.fb_check_rows.proofs.Channels.{number_at}
+use Rattle.fb_find_rows.specs.Places.{text_at}
+use Rattle.fb_find_rows.specs.Faults.{IsResourceIn}
+use Rattle.fb_find_demands.specs.Ends.{end_of, names_channel}
+use Rattle.fb_find_demands.specs.declared.numbered.Numbering.{Numbering}
+use Rattle.fb_find_demands.specs.Rights.{numbers_of}
+use Rattle.fb_find.specs.Given.{nodes_in}
+use Rattle.fb_find.specs.Columns.{IsPast, text_of}
 use Rattle.fb_find.specs.Bounds.{IsGreat, IsResourceOf}
 use Rattle.fb_find.specs.Parts.{events_in, states_in, IsReady}
 use Rattle.fb_find.proofs.Columns.{nodes_have}

@@ -7,19 +7,19 @@ use Rattle.fb_model.specs.Wires.{Leaf, most_followed, resource_count}
 use Rattle.fb_model.specs.Ranges.{Range}
 use Rattle.fb_model.specs.Certificates.{Certificate, all_leaves, channel_in, places_of}
 use Rattle.fb_model.specs.CertificateText.{names_in, most_places, most_steps}
-use Rattle.fb_demands.specs.Demands.{Demand, Node, state, event, channel}
-use Rattle.fb_demands.specs.Columns.{demands, network_demands, MeetAll, number_of}
-use Rattle.fb_finding.specs.Nodes.{IsFirstWalk}
-use Rattle.fb_rounds.specs.FinderRanges.{AreFound}
-use Rattle.fb_rows.specs.declared.fault.Unclear.TheVariants as unclear
-use Rattle.fb_rows.specs.Fitting.{IsUnclear}
-use Rattle.fb_solved.specs.declared.fault.NoBound.{NoBound}
-use Rattle.fb_solved.specs.declared.fault.NoBound.TheVariants.{OutOfMemory, Cycle, NoRange, Limit}
-use Rattle.fb_solved.specs.Places.{node_of}
-use Rattle.fb_queues.specs.Needs.{IsPastAmong}
-use Rattle.fb_places.specs.declared.numbering.Numbering.{Numbering}
-use Rattle.fb_found.specs.Columns as columns
-use Rattle.fb_found.specs.Columns.{asked}
+use Rattle.fb_model_laws.specs.Demands.{Demand, Node, state, event, channel}
+use Rattle.fb_model_laws.specs.Columns.{demands, network_demands, MeetAll, number_of}
+use Rattle.fb_find_laws.specs.Nodes.{IsFirstWalk}
+use Rattle.fb_model_laws.specs.FinderRanges.{AreFound}
+use Rattle.fb_check_ranges.specs.declared.fault.Unclear.TheVariants as unclear
+use Rattle.fb_check_ranges.specs.Fitting.{IsUnclear}
+use Rattle.fb_find_rows.specs.declared.fault.NoBound.{NoBound}
+use Rattle.fb_find_rows.specs.declared.fault.NoBound.TheVariants.{OutOfMemory, Cycle, NoRange, Limit}
+use Rattle.fb_find_rows.specs.Places.{node_of}
+use Rattle.fb_find_rows.specs.Needs.{IsPastAmong}
+use Rattle.fb_find_demands.specs.declared.numbered.Numbering.{Numbering}
+use Rattle.fb_find.specs.Columns as columns
+use Rattle.fb_find.specs.Columns.{asked}
 
 -- the resource of this path has the node: the first two names of its place, or those of a PUBLISH or SUBSCRIBE of its channel
 abbrev pub IsResourceOf : List Leaf → Node → Name → Type 0

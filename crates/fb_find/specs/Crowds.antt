@@ -2,9 +2,9 @@
 use Rattle.std.specs.Prelude.{◌≡◌, ◌<◌, string_bytes}
 use Rattle.fb_model.specs.Names.{Name}
 use Rattle.fb_model.specs.Wires.{most_followed, resource_count}
-use Rattle.fb_check.specs.fb_flat.Sites.{dotted}
-use Rattle.fb_check.specs.fb_types.declared.typed.Resource.{Resource}
-use Rattle.fb_check.specs.fb_types.Views.{resource_of}
+use Rattle.fb_flat.specs.Sites.{dotted}
+use Rattle.fb_types.specs.declared.typed.Resource.{Resource}
+use Rattle.fb_types.specs.Views.{resource_of}
 
 -- this one of a device does, and this is its path
 abbrev pub IsCrowded : Name → Name → Resource → Type 0

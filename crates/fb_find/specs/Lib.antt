@@ -1,4 +1,5 @@
-pub use Rattle.fb_check.specs as fb_check
+pub mod Given
+pub mod Columns
 pub mod Bounds
 pub mod Parts
 pub mod Crowds

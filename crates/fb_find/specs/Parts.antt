@@ -5,24 +5,24 @@ use Rattle.fb_model.specs.Clear.{Spans}
 use Rattle.fb_model.specs.Ranges.{Range}
 use Rattle.fb_model.specs.System.{System}
 use Rattle.fb_model.specs.Certificates.{all_leaves}
-use Rattle.fb_rounds.specs.FinderRanges.{AreFound}
+use Rattle.fb_model_laws.specs.FinderRanges.{AreFound}
 use Rattle.fb_cert.specs.Views.{range_rows, Rows}
-use Rattle.fb_check.specs.fb_flat.declared.flat.FlatDevice.{FlatDevice}
-use Rattle.fb_rows.specs.declared.fault.Unclear.{Unclear}
-use Rattle.fb_rows.specs.declared.fault.Unclear.TheVariants as unclear
-use Rattle.fb_rows.specs.Fitting.{AllClear}
-use Rattle.fb_solved.specs.declared.fault.NoBound.{NoBound}
-use Rattle.fb_solved.specs.declared.fault.NoBound.TheVariants.{OutOfMemory, NoRange}
-use Rattle.fb_places.specs.declared.numbering.Numbering.{Numbering}
-use Rattle.fb_check.specs.fb_blocks.Views.{names_of}
-use Rattle.fb_ledger.specs.Texts.{texts_of}
-use Rattle.fb_ledger.specs.declared.kind.RowKind.TheVariants.{Charge, Weight}
-use Rattle.fb_solved.specs.Numbers.{amounts, CanBeSaid, with_charges, with_weights}
+use Rattle.fb_flat.specs.declared.flat.FlatDevice.{FlatDevice}
+use Rattle.fb_check_ranges.specs.declared.fault.Unclear.{Unclear}
+use Rattle.fb_check_ranges.specs.declared.fault.Unclear.TheVariants as unclear
+use Rattle.fb_check_ranges.specs.Fitting.{AllClear}
+use Rattle.fb_find_rows.specs.declared.fault.NoBound.{NoBound}
+use Rattle.fb_find_rows.specs.declared.fault.NoBound.TheVariants.{OutOfMemory, NoRange}
+use Rattle.fb_find_demands.specs.declared.numbered.Numbering.{Numbering}
+use Rattle.fb_types_blocks.specs.Views.{names_of}
+use Rattle.fb_check_rows.specs.Texts.{texts_of}
+use Rattle.fb_check_rows.specs.declared.kind.RowKind.TheVariants.{Charge, Weight}
+use Rattle.fb_find_rows.specs.Numbers.{amounts, CanBeSaid, with_charges, with_weights}
 use Rattle.fb_model.specs.CertificateText.{names_in}
-use Rattle.fb_sums.specs.Ends.{end_of}
-use Rattle.fb_sums.specs.Prices.{AreClear, AreTables}
-use Rattle.fb_found.specs.Columns.{FulfilsAll}
-use Rattle.fb_found.specs.Given.{IsNumbered}
+use Rattle.fb_find_demands.specs.Ends.{end_of}
+use Rattle.fb_find_demands.specs.Prices.{AreClear, AreTables}
+use Rattle.fb_find.specs.Columns.{FulfilsAll}
+use Rattle.fb_find.specs.Given.{IsNumbered}
 
 -- the rows are the rows RANGE that are found, and all is clear under them
 pub record HasFoundRanges (s : System) (ranges : List Range) (rows : Rows) : Type 0 where

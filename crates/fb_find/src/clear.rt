@@ -5,18 +5,18 @@ ghost use Rattle.fb_model.specs.System.{System};
 ghost use Rattle.fb_model.specs.Certificates.{all_leaves};
 ghost use Rattle.fb_cert.specs.Views.{rows_of};
 ghost use Rattle.fb_ranges.specs.Views.{spans_of};
-ghost use Rattle.fb_growing.specs.Found.{spelled};
-ghost use Rattle.fb_ranged.specs.FoundTables.{AreFoundTables};
-ghost use Rattle.fb_found.specs.Given.{IsGiven};
+ghost use Rattle.fb_find_ranges.specs.Found.{spelled};
+ghost use Rattle.fb_find_ranges.specs.FoundTables.{AreFoundTables};
+ghost use Rattle.fb_find.specs.Given.{IsGiven};
 ghost use Rattle.fb_find.specs.Bounds.{IsNoBound};
 ghost use Rattle.fb_find.specs.Parts.{HasFoundRanges, told_of};
 
 use fb_cert::Certificate;
+use fb_check_ranges::{Unclear, rows_clear};
+use fb_find_ranges::add_ranges;
+use fb_find_rows::NoBound;
 use fb_flat::Flat;
-use fb_ranged::add_ranges;
 use fb_ranges::Ranges;
-use fb_rows::{Unclear, rows_clear};
-use fb_solved::NoBound;
 use std::alloc::Global;
 
 // What is unclear under the ranges that are found has no range.

@@ -4,17 +4,17 @@ ghost use Rattle.std.specs.Prelude.{◌≡◌, ◌≤◌, ℕ, Option, map, stri
 ghost use Rattle.std.specs.List.{AllByRecursion, Any};
 ghost use Rattle.fb_model.specs.Certificates.{FollowsFew};
 ghost use Rattle.fb_model.specs.Wires.{most_followed, resource_count};
-ghost use Rattle.fb_check.specs.Verdicts.{IsWritten};
-ghost use Rattle.fb_check.specs.fb_flat.Leaves.{flat_device, written_device};
-ghost use Rattle.fb_check.specs.fb_types.Views.{system_of, resource_of, device_of};
-ghost use Rattle.fb_queues.specs.Needs.{IsPastFault};
+ghost use Rattle.fb_verdict.specs.Verdicts.{IsWritten};
+ghost use Rattle.fb_flat.specs.Leaves.{flat_device, written_device};
+ghost use Rattle.fb_types.specs.Views.{system_of, resource_of, device_of};
+ghost use Rattle.fb_find_rows.specs.Needs.{IsPastFault};
 ghost use Rattle.fb_find.specs.Bounds.{IsNoBound};
 ghost use Rattle.fb_find.specs.Crowds.{IsCrowded};
 
-use fb_flat::fb_types::fb_networks::fb_services::fb_blocks::TypeFault;
-use fb_flat::fb_types::{Configuration, Device, Resource, Typed};
+use fb_find_rows::NoBound;
 use fb_flat::{Flat, flatten, flatten_resource, joined};
-use fb_solved::NoBound;
+use fb_types::{Configuration, Device, Resource, Typed};
+use fb_types_blocks::TypeFault;
 use std::alloc::Global;
 
 // Whether a resource follows few connections.

@@ -5,23 +5,22 @@ ghost use Rattle.fb_model.specs.System.{System};
 ghost use Rattle.fb_model.specs.Certificates as book;
 ghost use Rattle.fb_model.specs.Certificates.{Fits};
 ghost use Rattle.fb_cert.specs.Views.{certificate_of};
-ghost use Rattle.fb_check.specs.fb_types.Views.{system_of};
-ghost use Rattle.fb_finding.specs.Finding.{IsFound};
-ghost use Rattle.fb_found.specs.Given.{IsGiven};
+ghost use Rattle.fb_types.specs.Views.{system_of};
+ghost use Rattle.fb_find_laws.specs.Finding.{IsFound};
+ghost use Rattle.fb_find.specs.Given.{IsGiven};
 ghost use Rattle.fb_find.specs.Parts.{HasNumbering};
 ghost use Rattle.fb_find.specs.Bounds.{IsNoBound, IsWalk, IsDenied};
 
 use crate::clear::with_ranges;
 use crate::crowded::leaves;
 use crate::least::with_numbers;
+use crate::order;
 use fb_cert::Certificate;
+use fb_find_demands::{Numbering, numbering};
+use fb_find_ranges::tables;
+use fb_find_rows::NoBound;
 use fb_flat::Flat;
-use fb_flat::fb_types::Typed;
-use fb_found::order;
-use fb_places::Numbering;
-use fb_ranged::tables;
-use fb_solved::NoBound;
-use fb_sums::numbering;
+use fb_types::Typed;
 use std::alloc::{AllocError, Global};
 
 // The numbers of a system's nodes, those of channels where datagrams are followed.

@@ -7,22 +7,20 @@ ghost use Rattle.fb_model.specs.Ranges.{Range};
 ghost use Rattle.fb_model.specs.Certificates.{all_leaves};
 ghost use Rattle.fb_model.specs.CertificateText.{most_places, most_steps};
 ghost use Rattle.fb_cert.specs.Views.{certificate_of, rows_of};
-ghost use Rattle.fb_demands.specs.Columns.{demands};
-ghost use Rattle.fb_finding.specs.Finding.{IsMade};
+ghost use Rattle.fb_model_laws.specs.Columns.{demands};
+ghost use Rattle.fb_find_laws.specs.Finding.{IsMade};
 ghost use Rattle.fb_ranges.specs.Views.{spans_of};
-ghost use Rattle.fb_found.specs.Columns.{AreSmallest, IsPastFault};
+ghost use Rattle.fb_find.specs.Columns.{AreSmallest, IsPastFault};
 ghost use Rattle.fb_find.specs.Bounds.{IsNoBound};
 ghost use Rattle.fb_find.specs.Parts.{events_in, states_in, CanBeAdded, HasFoundRanges, HasTables, IsReady, with_columns};
 
+use crate::column;
 use crate::network::add_network;
 use fb_cert::Certificate;
+use fb_find_demands::{Numbering, plain_rights, priced_rights};
+use fb_find_rows::{NoBound, add_charges, add_depths, add_weights};
 use fb_flat::Flat;
-use fb_found::column;
-use fb_places::Numbering;
-use fb_queues::add_depths;
 use fb_ranges::Ranges;
-use fb_solved::{NoBound, add_charges, add_weights};
-use fb_sums::{plain_rights, priced_rights};
 use std::alloc::{AllocError, Global};
 
 /// The most steps of a row.

@@ -1,4 +1,6 @@
-//! The finder: the certificate of a system whose numbers are the least that fit, or the reason why there is none.
+//! Room: finder. The least certificate of a system, or why there is none: "why is it 43, 44 or 19".
+//! What `find` answers fits, and no certificate with these ranges that fits has a smaller number, a depth being at least 1 (`IsFound`). 43 comes only with a closed
+//! walk, so that none fits; 44, and 19 for a number, speak of these ranges: with others a certificate may fit.
 #![tactic(auto)]
 
 mod clear;
@@ -6,6 +8,9 @@ mod crowded;
 mod finding;
 mod least;
 mod network;
+mod ordering;
+mod solving;
 
-pub use fb_check;
 pub use finding::find;
+pub use ordering::order;
+pub use solving::column;

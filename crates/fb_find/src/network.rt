@@ -6,21 +6,20 @@ ghost use Rattle.fb_model.specs.Ranges.{Range};
 ghost use Rattle.fb_model.specs.Certificates.{all_leaves};
 ghost use Rattle.fb_model.specs.CertificateText.{most_steps};
 ghost use Rattle.fb_cert.specs.Views.{rows_of};
-ghost use Rattle.fb_demands.specs.Columns.{network_demands};
+ghost use Rattle.fb_model_laws.specs.Columns.{network_demands};
 ghost use Rattle.fb_ranges.specs.Views.{spans_of};
-ghost use Rattle.fb_found.specs.Columns.{AreSmallest, IsPastFault};
+ghost use Rattle.fb_find.specs.Columns.{AreSmallest, IsPastFault};
 ghost use Rattle.fb_find.specs.Bounds.{IsFarFault};
 ghost use Rattle.fb_find.specs.Parts.{HasTables, IsReady};
 ghost use Rattle.fb_find.specs.Networks.{with_repeat, with_places, with_network, CanBeFar, CanBePlaced, HasNoNetwork, HasNetwork};
 
+use crate::column;
 use crate::least::{MOST_STEPS, behind};
 use fb_cert::{Certificate, Row};
+use fb_find_demands::{Numbering, far_rights};
+use fb_find_rows::{NoBound, add_channels, add_far_states, add_fars};
 use fb_flat::Flat;
-use fb_found::column;
-use fb_places::Numbering;
 use fb_ranges::Ranges;
-use fb_solved::{NoBound, add_channels, add_far_states, add_fars};
-use fb_sums::far_rights;
 use std::alloc::{AllocError, Global};
 
 // The least numbers of the steps on all devices, by the numbers of nodes.

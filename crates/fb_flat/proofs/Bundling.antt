@@ -5,7 +5,7 @@ use Rattle.std.proofs.lemmas.List.{map-append}
 use Rattle.std.proofs.lemmas.Slice.Eq.{bytes_eq-Decides}
 use denote.Ref.{Bor}
 use Rattle.fb_model.specs.Names.{Name}
-use Rattle.fb_types.specs.fb_networks.declared.typed.Connection.{Connection}
+use Rattle.fb_types_networks.specs.declared.typed.Connection.{Connection}
 use Rattle.fb_model.specs.System as book
 use Rattle.fb_model.specs.Wires.{is_own, is_end}
 use Rattle.fb_flat.specs.Bundled.{key_of, seen, Bundles, under, ending, IsBundled}

@@ -4,15 +4,14 @@ use Rattle.std.proofs.lemmas.List.{map-append}
 use Rattle.fb_model.specs.Names.{Name, Path, Place}
 use Rattle.fb_model.specs.System as book
 use Rattle.fb_model.specs.System.{constant}
-use Rattle.fb_model.specs.Wires.{Source, Constant, followed, entered_in, fed, given_in, inputs_of, leaves_of, leaves_in}
-use Rattle.fb_types.proofs.of_fb_blocks.Refused.{drop_step, drop_all}
-use Rattle.fb_types.specs.fb_networks.declared.typed.Instance.{Instance}
-use Rattle.fb_types.specs.fb_networks.declared.typed.Network.{Network}
-use Rattle.fb_types.specs.fb_networks.Views.{parameter_of, body_of, placed_of, placed_in, instances_of}
-use Rattle.fb_types.proofs.of_fb_networks.Instances.{view_instance}
+use Rattle.fb_model.specs.Wires.{Source, Constant, followed, entered_in, fed, given_in, inputs_of, leaves_of, leaves_in, follow_count, enter_count_in, count_of, count_in}
+use Rattle.fb_types_blocks.proofs.Refused.{drop_step, drop_all}
+use Rattle.fb_types_networks.specs.declared.typed.Instance.{Instance}
+use Rattle.fb_types_networks.specs.declared.typed.Network.{Network}
+use Rattle.fb_types_networks.specs.Views.{parameter_of, body_of, placed_of, placed_in, instances_of}
+use Rattle.fb_types_networks.proofs.Instances.{view_instance}
 use Rattle.fb_flat.specs.declared.site.Trail.{Trail}
 use Rattle.fb_flat.specs.declared.site.Around.{Around}
-use Rattle.fb_model.specs.Wires.{follow_count, enter_count_in, count_of, count_in}
 use Rattle.fb_flat.specs.Sites.{path_of, inner_of, events_in, left_by, left_count}
 use Rattle.fb_flat.specs.declared.walk.Stop.{Stop}
 use Rattle.fb_flat.specs.declared.walk.Stop.TheVariants as stop

@@ -3,8 +3,8 @@ use Rattle.std.proofs.Common.{◌≡◌, ◌∙◌, ℕ, List, [], ◌∷◌, ma
 use Rattle.std.specs.List.{Any}
 use Rattle.fb_model.specs.Declarations.{ResourceTree, DeviceTree, SourceTree}
 use Rattle.fb_model.specs.EventBlocks.{Elaborates}
-use Rattle.fb_types.proofs.of_fb_blocks.Faultless.{any_nil, any_cons}
-use Rattle.fb_types.proofs.of_fb_blocks.Refused.{either_of}
+use Rattle.fb_types_blocks.proofs.Faultless.{any_nil, any_cons}
+use Rattle.fb_types_blocks.proofs.Refused.{either_of}
 use Rattle.fb_types.specs.declared.typed.Resource.{Resource}
 use Rattle.fb_types.specs.declared.typed.Device.{Device}
 use Rattle.fb_types.specs.declared.typed.Configuration.{Configuration}

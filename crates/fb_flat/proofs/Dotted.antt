@@ -5,9 +5,8 @@ use Rattle.std.specs.List.{onto_first}
 use Rattle.std.proofs.lemmas.Bool.{eqb-true}
 use Rattle.std.proofs.lemmas.List.{append-nil}
 use Rattle.fb_model.specs.Names.{Name, Path, at_place}
-use Rattle.fb_model.specs.Spelling.{is_part, is_start, IsParts, part, IsWord, word}
+use Rattle.fb_model.specs.Spelling.{is_part, is_start, IsParts, part, IsWord, word, AreWords}
 use Rattle.fb_model.specs.CertificateText.{names_in, place_of, all_but_last, last_name}
-use Rattle.fb_model.specs.Spelling.{AreWords}
 use Rattle.fb_flat.specs.Sites.{dotted, dotted_on, text_of}
 
 -- a part has no dot

@@ -11,7 +11,7 @@ use Rattle.fb_model.specs.Store.{variable_names, inputs}
 use Rattle.fb_model.specs.Wires.{Kind, Charted, Serviced, Leaf, Source, Constant, followed, entered_in, fed, given_in, inputs_of, leaves_of, leaves_in, resource_leaves, leaves_from, leaves}
 use Rattle.fb_model.specs.NetworkTyping.{most_types, IsService, an_input, an_output, a_publisher, a_subscriber, a_delay, a_cycle, a_restart, IsServed, a_service, IsMade, a_basic, a_composite, IsInstance, of_type, of_service, AreInstances, no_instance, an_instance, AreResources, no_resource, a_resource, AreDevices, no_device, a_device, ElaboratesWith}
 use Rattle.fb_model.proofs.Lists.{all_append, all_weaker}
-use Rattle.fb_types.specs.fb_services.Views.{values_of}
+use Rattle.fb_types_services.specs.Views.{values_of}
 use Rattle.fb_flat.specs.Sources.{written_inputs}
 
 -- ---- one service

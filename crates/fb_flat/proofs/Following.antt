@@ -2,8 +2,8 @@
 use Rattle.std.proofs.Common.{◌≡◌, ◌∙◌, ℕ, suc, ◌+◌, Bool, true, false, cond, List, [], ◌∷◌, ◌++◌, Option, None, Some, map, refl, sym, ap, subst, pos, rules, string_bytes, Global, Result, Ok, Err, IfOk}
 use Rattle.std.specs.declared.rc.Rc.{Rc}
 use Rattle.fb_model.specs.System as book
-use Rattle.fb_types.specs.fb_blocks.declared.typed.Face.{Face}
-use Rattle.fb_types.specs.fb_blocks.Views.{block_of, face_of}
+use Rattle.fb_types_blocks.specs.declared.typed.Face.{Face}
+use Rattle.fb_types_blocks.specs.Views.{block_of, face_of}
 use Rattle.std.specs.Str.{bytes_eq}
 use Rattle.std.specs.Option.{option_map_or}
 use Rattle.std.specs.declared.vec.Vec.{Vec}
@@ -11,16 +11,16 @@ use denote.Ref.{Bor}
 use Rattle.fb_model.specs.Names.{Name, Path, Place, at_place}
 use Rattle.fb_model.specs.Values.{One}
 use Rattle.fb_model.specs.Wires.{Source, Output_of, Constant, is_end, entered, entered_in, enter_count, enter_count_in, followed, follow_count, fed, given_by, given_in}
-use Rattle.fb_types.specs.fb_services.declared.service.Service.{Service}
-use Rattle.fb_types.specs.fb_services.Views.{service_of}
-use Rattle.fb_types.specs.fb_networks.declared.typed.Body as raw
-use Rattle.fb_types.specs.fb_networks.declared.typed.Body.{Body, out-Body, fold-Body, fold_out-Body, map-Body, the_lemmas}
-use Rattle.fb_types.specs.fb_networks.declared.typed.Body.TheOpen.{Body-F}
-use Rattle.fb_types.specs.fb_networks.declared.typed.Instance.{Instance}
-use Rattle.fb_types.specs.fb_networks.declared.typed.Connection.{Connection}
-use Rattle.fb_types.specs.fb_networks.declared.typed.Network.{Network, out-Network}
-use Rattle.fb_types.specs.fb_networks.Views.{Placed, Wired, placed_in, instances_of, connection_of, body_step, instance_step, network_step, body_of, placed_of, wired_of}
-use Rattle.fb_types.proofs.of_fb_networks.Instances.{view_instance, view_network}
+use Rattle.fb_types_services.specs.declared.service.Service.{Service}
+use Rattle.fb_types_services.specs.Views.{service_of}
+use Rattle.fb_types_networks.specs.declared.typed.Body as raw
+use Rattle.fb_types_networks.specs.declared.typed.Body.{Body, out-Body, fold-Body, fold_out-Body, map-Body, the_lemmas}
+use Rattle.fb_types_networks.specs.declared.typed.Body.TheOpen.{Body-F}
+use Rattle.fb_types_networks.specs.declared.typed.Instance.{Instance}
+use Rattle.fb_types_networks.specs.declared.typed.Connection.{Connection}
+use Rattle.fb_types_networks.specs.declared.typed.Network.{Network, out-Network}
+use Rattle.fb_types_networks.specs.Views.{Placed, Wired, placed_in, instances_of, connection_of, body_step, instance_step, network_step, body_of, placed_of, wired_of}
+use Rattle.fb_types_networks.proofs.Instances.{view_instance, view_network}
 use Rattle.fb_flat.specs.Sites.{inner_of, events_in}
 use Rattle.fb_flat.specs.Leaves.{values_in}
 use Rattle.fb_flat.specs.Placed.{first_named}

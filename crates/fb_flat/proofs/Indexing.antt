@@ -1,11 +1,11 @@
 -- What is inside instances, one after another.
 use Rattle.std.proofs.Common.{◌≡◌, ℕ, zero, suc, ◌<◌, ◌≤◌, List, [], ◌∷◌, ◌++◌, None, Some, length, map, get_or, refl, ap, subst, sym, ◌∙◌, arith}
 use Rattle.std.specs.Prelude.{slice_get}
-use Rattle.fb_types.specs.fb_networks.declared.typed.Instance.{Instance}
-use Rattle.fb_types.specs.fb_networks.declared.typed.Body.{out-Body}
+use Rattle.fb_types_networks.specs.declared.typed.Instance.{Instance}
+use Rattle.fb_types_networks.specs.declared.typed.Body.{out-Body}
 use Rattle.fb_flat.specs.declared.lookup.Inside.{Inside}
 use Rattle.std.proofs.lemmas.Option.{slice_get-get_or}
-use Rattle.fb_types.specs.fb_networks.declared.typed.Network.{Network, out-Network}
+use Rattle.fb_types_networks.specs.declared.typed.Network.{Network, out-Network}
 use Rattle.fb_flat.specs.Indexes.{IsInside, AreInside, sum, sized, size_of}
 use Rattle.fb_flat.specs.Sizes.{size_is}
 

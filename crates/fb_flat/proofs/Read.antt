@@ -5,17 +5,16 @@ use Rattle.std.specs.List.{AllByRecursion}
 use Rattle.std.specs.Str.{bytes_eq}
 use Rattle.std.proofs.lemmas.List.{map-append}
 use Rattle.fb_model.specs.Names.{Name, Path, Place, at_place, is_in}
-use Rattle.fb_model.specs.Spelling.{IsWord}
+use Rattle.fb_model.specs.Spelling.{IsWord, AreWords}
 use Rattle.fb_model.specs.Values.{One, Many}
 use Rattle.fb_model.specs.BlockTyping.{extent}
 use Rattle.fb_model.specs.System as book
 use Rattle.fb_model.specs.System.{Connection, Body, Basic, Served, Composite, Instances, nothing, instance, constant}
 use Rattle.fb_model.specs.Wires as wires
 use Rattle.fb_model.specs.Wires.{Output_of, Constant, is_end, followed, entered, entered_in, fed, given_in, inputs_of, leaves_of, leaves_in, resource_leaves, leaves_from}
-use Rattle.fb_model.specs.Spelling.{AreWords}
 use Rattle.fb_model.specs.CertificateText.{names_in}
 use Rattle.fb_model.proofs.Lists.{same_name, all_append, all_weaker}
-use Rattle.fb_spelled.specs.Words.{IsWordyLeaf, IsWordyDevice}
+use Rattle.fb_model_laws.specs.Words.{IsWordyLeaf, IsWordyDevice}
 use Rattle.fb_flat.specs.declared.flat.Target.{Target}
 use Rattle.fb_flat.specs.declared.flat.Output.{Output}
 use Rattle.fb_flat.specs.declared.flat.Source.{Source}

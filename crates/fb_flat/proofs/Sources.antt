@@ -15,8 +15,8 @@ use Rattle.fb_model.specs.Services.{sent, qi, dt, ports, service_inputs}
 use Rattle.fb_model.specs.Store.{variable_names}
 use Rattle.fb_model.specs.BlockTyping.{variable_of}
 use Rattle.fb_words.specs.declared.elem_type.ElemType.{ElemType}
-use Rattle.fb_types.specs.fb_blocks.declared.typed.Variable.{Variable}
-use Rattle.fb_types.specs.fb_blocks.Views.{declared_of}
+use Rattle.fb_types_blocks.specs.declared.typed.Variable.{Variable}
+use Rattle.fb_types_blocks.specs.Views.{declared_of}
 use Rattle.fb_model.proofs.Lists.{same_name}
 use Rattle.fb_model.proofs.Placed.{name_same}
 

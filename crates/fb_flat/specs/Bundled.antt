@@ -10,8 +10,8 @@ use Rattle.indexmap.specs.IndexMap.{IndexMap}
 use Rattle.fb_model.specs.Names.{Name}
 use Rattle.fb_model.specs.System as book
 use Rattle.fb_model.specs.Wires.{is_end}
-use Rattle.fb_types.specs.fb_networks.declared.typed.Connection.{Connection}
-use Rattle.fb_types.specs.fb_networks.Views.{connection_of}
+use Rattle.fb_types_networks.specs.declared.typed.Connection.{Connection}
+use Rattle.fb_types_networks.specs.Views.{connection_of}
 
 -- the text of an end: its instance, a dot and its port
 abbrev pub key_of : Option Name → Name → Name

@@ -3,11 +3,11 @@ use Rattle.std.specs.Prelude.{ℕ, suc, ◌≡◌, ◌+◌, List, [], ◌∷◌,
 use Rattle.std.specs.declared.string.String.{String}
 use Rattle.std.specs.declared.alloc.Global.{Global}
 use Rattle.indexmap.specs.IndexMap.{IndexMap}
-use Rattle.fb_types.specs.fb_networks.declared.typed.Network.{Network, fold-Network}
-use Rattle.fb_types.specs.fb_networks.declared.typed.Instance.{Instance, fold-Instance}
-use Rattle.fb_types.specs.fb_networks.declared.typed.Body.{Body, out-Body}
-use Rattle.fb_types.specs.fb_networks.declared.typed.Body.TheOpen.{Body-F, Network-F}
-use Rattle.fb_types.specs.fb_networks.Views.{connection_of}
+use Rattle.fb_types_networks.specs.declared.typed.Network.{Network, fold-Network}
+use Rattle.fb_types_networks.specs.declared.typed.Instance.{Instance, fold-Instance}
+use Rattle.fb_types_networks.specs.declared.typed.Body.{Body, out-Body}
+use Rattle.fb_types_networks.specs.declared.typed.Body.TheOpen.{Body-F, Network-F}
+use Rattle.fb_types_networks.specs.Views.{connection_of}
 use Rattle.fb_flat.specs.Bundled.{Bundles, IsBundled, source_of, target_of}
 use Rattle.fb_flat.specs.Placed.{AreNames}
 use Rattle.fb_flat.specs.declared.lookup.Inside.{Inside}

@@ -9,15 +9,15 @@ use Rattle.fb_model.specs.Services.{service_event_outputs}
 use Rattle.fb_model.specs.Typing.{names_of}
 use Rattle.fb_model.specs.NetworkTyping.{no_face}
 use Rattle.fb_model.specs.Wires as wires
-use Rattle.fb_model.specs.Wires.{Kind, Charted, Serviced, Source, Constant, fed, given_in, inputs_of, leaves_of, resource_leaves}
-use Rattle.fb_types.specs.fb_blocks.Views.{block_of}
-use Rattle.fb_types.specs.fb_services.Views.{service_of}
-use Rattle.fb_types.specs.fb_networks.declared.typed.Network.{Network}
-use Rattle.fb_types.specs.fb_networks.Views.{wired_of, parameter_of, body_of}
+use Rattle.fb_model.specs.Wires.{Kind, Charted, Serviced, Source, Constant, fed, given_in, inputs_of, leaves_of, resource_leaves, resource_count, most_followed}
+use Rattle.fb_types_blocks.specs.Views.{block_of}
+use Rattle.fb_types_services.specs.Views.{service_of}
+use Rattle.fb_types_networks.specs.declared.typed.Network.{Network}
+use Rattle.fb_types_networks.specs.Views.{wired_of, parameter_of, body_of}
 use Rattle.fb_types.specs.declared.typed.Resource.{Resource}
 use Rattle.fb_types.specs.Views.{resource_of}
-use Rattle.fb_types.specs.fb_blocks.declared.fault.TypeFault.{TypeFault}
-use Rattle.fb_types.specs.fb_blocks.declared.fault.TypeFault.TheVariants.{OutOfMemory, Limit}
+use Rattle.fb_types_blocks.specs.declared.fault.TypeFault.{TypeFault}
+use Rattle.fb_types_blocks.specs.declared.fault.TypeFault.TheVariants.{OutOfMemory, Limit}
 use Rattle.fb_flat.specs.declared.flat.Body.{Body}
 use Rattle.fb_flat.specs.declared.flat.Body.TheVariants as b
 use Rattle.fb_flat.specs.declared.flat.Output.{Output}
@@ -26,7 +26,6 @@ use Rattle.fb_flat.specs.declared.flat.FlatResource.{FlatResource}
 use Rattle.fb_flat.specs.declared.flat.FlatDevice.{FlatDevice}
 use Rattle.fb_flat.specs.declared.site.Trail.{Trail}
 use Rattle.fb_flat.specs.declared.site.Around.{Around, Nothing, Level'}
-use Rattle.fb_model.specs.Wires.{resource_count, most_followed}
 use Rattle.fb_flat.specs.Sites.{text_of, path_of, inner_of, events_in, left_by}
 use Rattle.fb_flat.specs.Walks.{Spot, spots_of, target_spot}
 use Rattle.fb_flat.specs.Sources.{Fed, fed_by, written_inputs, input_of}

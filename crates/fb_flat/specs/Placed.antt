@@ -7,7 +7,7 @@ use Rattle.std.specs.declared.string.String.{String}
 use Rattle.std.specs.declared.alloc.Global.{Global}
 use Rattle.indexmap.specs.IndexMap.{IndexMap}
 use Rattle.fb_model.specs.Names.{Name}
-use Rattle.fb_types.specs.fb_networks.declared.typed.Instance.{Instance}
+use Rattle.fb_types_networks.specs.declared.typed.Instance.{Instance}
 
 -- ---- names
 

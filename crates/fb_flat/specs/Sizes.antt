@@ -2,12 +2,12 @@
 use Rattle.std.specs.Prelude.{ℕ, suc, ◌≡◌, ◌≤◌, List, [], ◌∷◌, map, max}
 use Rattle.std.proofs.Common.{arith, rules, refl, ◌∙◌, ap, sym}
 use denote.Ref.{Bor}
-use Rattle.fb_types.specs.fb_blocks.declared.typed.Face.{Face}
+use Rattle.fb_types_blocks.specs.declared.typed.Face.{Face}
 use denote.Param.Weighed.{most}
-use Rattle.fb_types.specs.fb_networks.declared.typed.Network.{Network, out-Network, fold-Network}
-use Rattle.fb_types.specs.fb_networks.declared.typed.Instance.{Instance, fold-Instance}
-use Rattle.fb_types.specs.fb_networks.declared.typed.Body.{Body, out-Body, fold-Body, fold_out-Body, map-Body, the_lemmas}
-use Rattle.fb_types.specs.fb_networks.declared.typed.Body.TheOpen.{Body-F}
+use Rattle.fb_types_networks.specs.declared.typed.Network.{Network, out-Network, fold-Network}
+use Rattle.fb_types_networks.specs.declared.typed.Instance.{Instance, fold-Instance}
+use Rattle.fb_types_networks.specs.declared.typed.Body.{Body, out-Body, fold-Body, fold_out-Body, map-Body, the_lemmas}
+use Rattle.fb_types_networks.specs.declared.typed.Body.TheOpen.{Body-F}
 use Rattle.fb_flat.specs.declared.lookup.Inside.{Inside}
 use Rattle.fb_flat.specs.declared.lookup.Inside.TheVariants as i
 use Rattle.fb_flat.specs.declared.lookup.Indexed.TheDeep.{deep-Inside}

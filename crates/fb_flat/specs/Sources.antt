@@ -8,7 +8,7 @@ use Rattle.fb_model.specs.BlockTyping.{extent}
 use Rattle.fb_model.specs.Store.{variable_names}
 use Rattle.fb_model.specs.Wires as wires
 use Rattle.fb_model.specs.Wires.{Kind, Charted, Serviced, Output_of, Constant}
-use Rattle.fb_types.specs.fb_services.Views.{values_of}
+use Rattle.fb_types_services.specs.Views.{values_of}
 use Rattle.fb_flat.specs.declared.flat.Source.{Source}
 use Rattle.fb_flat.specs.declared.flat.Source.TheVariants as s
 use Rattle.fb_flat.specs.declared.flat.Input.{Input}

@@ -4,10 +4,10 @@ ghost use Rattle.std.specs.Prelude.{◌≡◌, ◌∷◌, ◌++◌, [], List, ma
 ghost use Rattle.std.specs.Option.{option_map, option_map_or};
 ghost use Rattle.std.specs.Str.{bytes_eq};
 ghost use Rattle.fb_model.specs.Names.{Name};
-ghost use Rattle.fb_types.specs.fb_networks.Views.{end_of, connection_of};
+ghost use Rattle.fb_types_networks.specs.Views.{end_of, connection_of};
 ghost use Rattle.fb_flat.specs.Bundled.{key_of, seen, under, IsBundled, source_of, target_of};
 
-use fb_networks::{Connection, End};
+use fb_types_networks::{Connection, End};
 use indexmap::IndexMap;
 use std::alloc::{AllocError, Global};
 

@@ -4,13 +4,13 @@ ghost use Rattle.std.specs.Prelude.{◌≡◌, [], map};
 ghost use Rattle.fb_model.specs.System.{start_of, start_in, constant};
 ghost use Rattle.fb_model.specs.BlockTyping.{variable_of};
 ghost use Rattle.fb_model.specs.Wires.{inputs_of};
-ghost use Rattle.fb_types.specs.fb_blocks.Views.{declared_of, variables_of};
-ghost use Rattle.fb_types.specs.fb_networks.Views.{parameter_of, body_of};
+ghost use Rattle.fb_types_blocks.specs.Views.{declared_of, variables_of};
+ghost use Rattle.fb_types_networks.specs.Views.{parameter_of, body_of};
 ghost use Rattle.fb_flat.specs.Sources.{Fixed, source_of};
 
 use crate::flat::Source;
-use fb_networks::fb_services::fb_blocks::{Variable, Variables};
-use fb_networks::{Body, Instance};
+use fb_types_blocks::{Variable, Variables};
+use fb_types_networks::{Body, Instance};
 
 // The start value of a variable.
 fn first(variable: Variable) -> Source

@@ -1,10 +1,9 @@
 //! Where event inputs lead.
 
 ghost use Rattle.std.specs.Prelude.{◌≡◌, ◌+◌, ◌<◌, ◌++◌, [], None, OnOk, IfErr, string_bytes};
-ghost use Rattle.fb_model.specs.Wires.{entered, entered_in, followed};
-ghost use Rattle.fb_types.specs.fb_networks.Views.{body_of};
-ghost use Rattle.fb_model.specs.Wires.{enter_count, enter_count_in, follow_count};
-ghost use Rattle.fb_types.specs.fb_networks.declared.typed.Body.{out-Body};
+ghost use Rattle.fb_model.specs.Wires.{entered, entered_in, followed, enter_count, enter_count_in, follow_count};
+ghost use Rattle.fb_types_networks.specs.Views.{body_of};
+ghost use Rattle.fb_types_networks.specs.declared.typed.Body.{out-Body};
 ghost use Rattle.fb_flat.specs.Indexes.{IsInside};
 ghost use Rattle.fb_flat.specs.Sites.{path_of, inner_of, events_in};
 ghost use Rattle.fb_flat.specs.Walks.{reached, spots_of, IsStop};
@@ -13,7 +12,7 @@ use crate::bundle::key;
 use crate::lookup::{Indexed, Inside};
 use crate::site::Trail;
 use crate::walk::{Stop, Walk, is_own, reach, step};
-use fb_networks::Instance;
+use fb_types_networks::Instance;
 use std::alloc::Global;
 
 /// Adds the event inputs of leaves that an event input of an instance leads to, on the trail of the instance.

@@ -1,7 +1,7 @@
 //! Leaves and their wires.
 
-use fb_networks::fb_services::Service;
-use fb_networks::fb_services::fb_blocks::Block;
+use fb_types_blocks::Block;
+use fb_types_services::Service;
 use std::rc::Rc;
 
 /// An event input of a leaf that an event output leads to: the leaf's path and the event.

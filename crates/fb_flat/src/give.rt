@@ -3,9 +3,9 @@
 ghost use Rattle.std.specs.Prelude.{◌≡◌, None, [], IfOk};
 ghost use Rattle.fb_model.specs.System.{constant};
 ghost use Rattle.fb_model.specs.Wires.{Output_of, Constant, fed, given_by, given_in};
-ghost use Rattle.fb_types.specs.fb_blocks.Views.{variables_of};
-ghost use Rattle.fb_types.specs.fb_networks.Views.{body_of};
-ghost use Rattle.fb_types.specs.fb_networks.declared.typed.Body.{out-Body};
+ghost use Rattle.fb_types_blocks.specs.Views.{variables_of};
+ghost use Rattle.fb_types_networks.specs.Views.{body_of};
+ghost use Rattle.fb_types_networks.specs.declared.typed.Body.{out-Body};
 ghost use Rattle.fb_flat.specs.Indexes.{IsInside};
 ghost use Rattle.fb_flat.specs.Sites.{path_of, inner_of};
 ghost use Rattle.fb_flat.specs.Sources.{written_source, source_of};
@@ -17,8 +17,8 @@ use crate::flat::Source;
 use crate::lookup::{Indexed, Inside};
 use crate::site::{Trail, text};
 use crate::walk::is_own;
-use fb_networks::Instance;
-use fb_networks::fb_services::fb_blocks::Face;
+use fb_types_blocks::Face;
+use fb_types_networks::Instance;
 use std::alloc::{AllocError, Global};
 
 // A data output of the leaf on a trail.

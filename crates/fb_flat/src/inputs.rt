@@ -4,16 +4,16 @@ ghost use Rattle.std.specs.Prelude.{◌≡◌, map, length, slice_get, string_by
 ghost use Rattle.std.specs.Option.{option_map};
 ghost use Rattle.fb_model.specs.Store as store;
 ghost use Rattle.fb_model.specs.Wires.{Serviced};
-ghost use Rattle.fb_types.specs.fb_blocks.Views.{variables_of};
-ghost use Rattle.fb_types.specs.fb_services.Views.{service_of, values_of};
+ghost use Rattle.fb_types_blocks.specs.Views.{variables_of};
+ghost use Rattle.fb_types_services.specs.Views.{service_of, values_of};
 ghost use Rattle.fb_flat.specs.Sources.{written_source, input_of, fed_by, written_inputs};
 ghost use Rattle.fb_flat.specs.Leaves.{held_by};
 
 use crate::flat::Input;
 use crate::hold::hold;
 use crate::site::Around;
-use fb_networks::fb_services::Service;
-use fb_networks::fb_services::fb_blocks::Variables;
+use fb_types_blocks::Variables;
+use fb_types_services::Service;
 use std::alloc::{AllocError, Global};
 
 // The name of the variable at an index.

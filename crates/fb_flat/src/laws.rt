@@ -3,8 +3,7 @@
 ghost use Rattle.std.specs.Prelude.{◌≡◌, ◌∷◌, ℕ, List, map};
 ghost use Rattle.std.specs.List.{AllByRecursion, Any};
 ghost use Rattle.fb_model.specs.Names.{Name};
-ghost use Rattle.fb_model.specs.Spelling.{IsWord};
-ghost use Rattle.fb_model.specs.Spelling.{AreWords};
+ghost use Rattle.fb_model.specs.Spelling.{IsWord, AreWords};
 ghost use Rattle.fb_model.specs.CertificateText.{names_in};
 ghost use Rattle.fb_model.specs.Declarations.{BlockTree, SourceTree};
 ghost use Rattle.fb_model.specs.System.{Device, System};
@@ -12,7 +11,7 @@ ghost use Rattle.fb_model.specs.NetworkTyping.{ElaboratesWith};
 ghost use Rattle.fb_model.specs.EventBlocks.{Elaborates};
 ghost use Rattle.fb_model.specs.Store.{variable_names, inputs};
 ghost use Rattle.fb_model.specs.Wires.{Leaf, leaves};
-ghost use Rattle.fb_spelled.specs.Words.{IsWordyDevice};
+ghost use Rattle.fb_model_laws.specs.Words.{IsWordyDevice};
 ghost use Rattle.fb_flat.specs.Sites.{text_of};
 ghost use Rattle.fb_flat.specs.declared.flat.FlatDevice.{FlatDevice};
 ghost use Rattle.fb_flat.specs.Sources.{written_inputs};

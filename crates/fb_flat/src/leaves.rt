@@ -1,17 +1,16 @@
 //! The leaves of a system.
 
-ghost use Rattle.std.specs.Prelude.{◌≡◌, ◌+◌, ◌<◌, ◌≤◌, ◌∷◌, ◌++◌, [], OnOk, IfOk, IfErr, map, string_bytes};
-ghost use Rattle.std.specs.Prelude.{slice_get};
+ghost use Rattle.std.specs.Prelude.{◌≡◌, ◌+◌, ◌<◌, ◌≤◌, ◌∷◌, ◌++◌, [], OnOk, IfOk, IfErr, map, string_bytes, slice_get};
 ghost use Rattle.std.specs.Option.{option_map};
 ghost use Rattle.std.specs.List.{AllByRecursion, Any};
 ghost use Rattle.fb_model.specs.System.{Basic, Served};
 ghost use Rattle.fb_model.specs.Typing.{names_of};
-ghost use Rattle.fb_types.specs.fb_blocks.Views.{block_of, events_of};
-ghost use Rattle.fb_types.specs.fb_services.Views.{service_of};
-ghost use Rattle.fb_types.specs.fb_networks.Views.{body_of};
+ghost use Rattle.fb_types_blocks.specs.Views.{block_of, events_of};
+ghost use Rattle.fb_types_services.specs.Views.{service_of};
+ghost use Rattle.fb_types_networks.specs.Views.{body_of};
 ghost use Rattle.fb_types.specs.Views.{resource_of, device_of, system_of};
-ghost use Rattle.fb_model.specs.Wires.{sum_by, count_of, resource_count};
-ghost use Rattle.fb_types.specs.fb_networks.declared.typed.Body.{out-Body};
+ghost use Rattle.fb_model.specs.Wires.{sum_by, count_of, resource_count, most_followed};
+ghost use Rattle.fb_types_networks.specs.declared.typed.Body.{out-Body};
 ghost use Rattle.fb_flat.specs.declared.site.Around.{Nothing};
 ghost use Rattle.fb_flat.specs.declared.lookup.Inside.TheVariants as within;
 ghost use Rattle.fb_flat.specs.Indexes.{IsInside};
@@ -19,7 +18,6 @@ ghost use Rattle.fb_flat.specs.Sites.{path_of, text_of, left_by, left_count};
 ghost use Rattle.fb_flat.specs.Walks.{spots_of, IsStop};
 ghost use Rattle.fb_flat.specs.Sources.{fed_by};
 ghost use Rattle.fb_flat.specs.Leaves.{Written, led, kind_of, output_of, leaf_of, leaves_at, held_by, composed, flat_resource, flat_device, written_resource, written_device, IsFull, IsLimitAt};
-ghost use Rattle.fb_model.specs.Wires.{most_followed};
 
 use crate::flat::{Body, Flat, FlatDevice, FlatResource, Leaf, Output};
 use crate::inputs::{inputs, service_names, variable_names};
@@ -27,10 +25,10 @@ use crate::leave::leave;
 use crate::lookup::{Indexed, Inside, index};
 use crate::site::{Around, Trail, text};
 use crate::walk::{Stop, Walk};
-use fb_networks::fb_services::Service;
-use fb_networks::fb_services::fb_blocks::{Block, Events, TypeFault};
-use fb_networks::{Instance, Network};
 use fb_types::{Configuration, Device, Resource, Typed};
+use fb_types_blocks::{Block, Events, TypeFault};
+use fb_types_networks::{Instance, Network};
+use fb_types_services::Service;
 use fb_words::ElemType;
 use std::alloc::{AllocError, Global};
 use std::rc::Rc;
@@ -221,9 +219,11 @@ fn add_leaf(
     ensures refused { IfErr result (IsStop (table.old.left < count_of (body_of instance.now.body) (left_count around.now))) }
 {
     match &instance.body {
-        fb_networks::Body::Basic(block) => add_block(table, block, trail, around, alloc),
-        fb_networks::Body::Served(service) => add_service(table, service, trail, around, alloc),
-        fb_networks::Body::Composite(_, _) => unreachable!(),
+        fb_types_networks::Body::Basic(block) => add_block(table, block, trail, around, alloc),
+        fb_types_networks::Body::Served(service) => add_service(
+            table, service, trail, around, alloc,
+        ),
+        fb_types_networks::Body::Composite(_, _) => unreachable!(),
     }
 }
 

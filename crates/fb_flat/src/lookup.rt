@@ -3,9 +3,9 @@
 ghost use Rattle.std.specs.Prelude.{◌≡◌, ◌<◌, [], Some, Option, length, map, slice_get, None, IfOk, IfSome, MatchOption};
 ghost use Rattle.std.specs.Option.{option_map_or};
 ghost use Rattle.fb_model.specs.Names.{Name};
-ghost use Rattle.fb_types.specs.fb_networks.declared.typed.Body.{out-Body};
-ghost use Rattle.fb_types.specs.fb_networks.declared.typed.Instance.{Instance};
-ghost use Rattle.fb_types.specs.fb_networks.declared.typed.Network.{out-Network};
+ghost use Rattle.fb_types_networks.specs.declared.typed.Body.{out-Body};
+ghost use Rattle.fb_types_networks.specs.declared.typed.Instance.{Instance};
+ghost use Rattle.fb_types_networks.specs.declared.typed.Network.{out-Network};
 ghost use Rattle.fb_flat.specs.Sites.{events_in};
 ghost use Rattle.fb_flat.specs.Leaves.{values_in};
 ghost use Rattle.fb_flat.specs.Placed.{first_named};
@@ -14,8 +14,8 @@ ghost use Rattle.fb_flat.specs.Indexes.{IsInside};
 
 use crate::bundle::{Bundles, at, by_source, by_target};
 use crate::position::{Positions, positions};
-use fb_networks::fb_services::fb_blocks::Face;
-use fb_networks::{Body, Connection, Instance, Network};
+use fb_types_blocks::Face;
+use fb_types_networks::{Body, Connection, Instance, Network};
 use std::alloc::{AllocError, Global};
 use std::marker::Model;
 
@@ -39,8 +39,8 @@ pub enum Inside<'a> {
 }
 
 impl<'a> Model for Indexed<'a> {
-    ghost use Rattle.fb_types.specs.fb_networks.declared.typed.Network.{Network, out-Network};
-    ghost use Rattle.fb_types.specs.fb_networks.contracts.typed.Network as e;
+    ghost use Rattle.fb_types_networks.specs.declared.typed.Network.{Network, out-Network};
+    ghost use Rattle.fb_types_networks.specs.contracts.typed.Network as e;
     ghost use Rattle.std.specs.Coded.{codes};
 
     ghost Value = { Network };

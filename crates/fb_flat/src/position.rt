@@ -7,7 +7,7 @@ ghost use Rattle.std.specs.Str.{bytes_eq};
 ghost use Rattle.fb_model.specs.Names.{Name};
 ghost use Rattle.fb_flat.specs.Placed.{AreNames};
 
-use fb_networks::Instance;
+use fb_types_networks::Instance;
 use indexmap::IndexMap;
 use std::alloc::{AllocError, Global};
 

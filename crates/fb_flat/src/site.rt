@@ -4,7 +4,7 @@ ghost use Rattle.std.specs.Prelude.{◌≡◌, string_bytes, IfOk};
 ghost use Rattle.fb_flat.specs.Sites.{path_of, text_of, dotted};
 
 use crate::lookup::Indexed;
-use fb_networks::Instance;
+use fb_types_networks::Instance;
 use std::alloc::{AllocError, Global};
 
 /// The names from outside in: a device, a resource, and the instances around.

@@ -2,13 +2,13 @@
 
 ghost use Rattle.std.specs.Prelude.{◌≡◌, ◌+◌, ◌<◌, ◌∷◌, ◌++◌, [], suc, None, Some, OnOk, IfErr, map};
 ghost use Rattle.fb_model.specs.Wires.{is_end};
-ghost use Rattle.fb_types.specs.fb_networks.Views.{end_of};
+ghost use Rattle.fb_types_networks.specs.Views.{end_of};
 ghost use Rattle.fb_flat.specs.Sites.{path_of, text_of};
 ghost use Rattle.fb_flat.specs.Walks.{reached, IsStop};
 
 use crate::flat::Target;
 use crate::site::{Trail, text};
-use fb_networks::End;
+use fb_types_networks::End;
 use std::alloc::{AllocError, AllocFailed, Global};
 
 /// Why connections are followed no further.

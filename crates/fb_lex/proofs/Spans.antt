@@ -1,8 +1,7 @@
 -- The parts of a TIME, one after the other.
 use Rattle.std.proofs.Common.{◌≡◌, ℕ, zero, suc, ◌+◌, ◌≤◌, false, cond, List, Some, None, sym, ap, ◌∙◌, arith}
 use Rattle.std.specs.Prelude.{nat_lt}
-use Rattle.std.proofs.lemmas.Bool.{ltb-true}
-use Rattle.std.proofs.lemmas.Bool.{false_from_ne_true}
+use Rattle.std.proofs.lemmas.Bool.{ltb-true, false_from_ne_true}
 use Rattle.fb_lex.specs.declared.span.Unit.{Unit as TimeUnit}
 use Rattle.fb_lex.specs.Scanning.{rank_of, amount_at, behind_joint, and_more, from_amount, span_at}
 

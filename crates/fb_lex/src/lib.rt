@@ -1,4 +1,5 @@
-//! Texts to tokens.
+//! Room: language. Texts to tokens.
+//! `lex` answers exactly the tokens that the text spells, or the one first fault; a text spells one list of tokens (`one_spelling`, `one_fault`).
 #![tactic(auto)]
 
 mod characters;

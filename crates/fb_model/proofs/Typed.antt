@@ -12,8 +12,7 @@ use Rattle.fb_model.specs.TextTyping.{Symbol, found, Loose, Operand, fixed, free
 use Rattle.fb_model.proofs.Placed.{name_same}
 use Rattle.fb_model.proofs.Lists.{same_name}
 use Rattle.fb_model.specs.Clear.{assigned_one, assigned, assigned_choices, assigned_cases}
-use Rattle.fb_model.specs.Shapes.{Shape, TermFits, CommandFits, AlgorithmFits, ChoicesFit, CasesFit}
-use Rattle.fb_model.specs.Shapes.{shape_of}
+use Rattle.fb_model.specs.Shapes.{Shape, TermFits, CommandFits, AlgorithmFits, ChoicesFit, CasesFit, shape_of}
 use Rattle.fb_model.proofs.Runs.{not_both}
 
 -- ---- expressions

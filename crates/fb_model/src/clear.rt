@@ -12,8 +12,7 @@ ghost use Rattle.fb_model.specs.Spans.{Span, corners, differences, maxima, minim
 ghost use Rattle.fb_model.specs.Clear.{Clear, Spans, examined, guard_range, most_iterations, narrowed, range_of};
 ghost use Rattle.fb_model.specs.Counts.{Ends, Taken, numbers, with_each};
 ghost use Rattle.fb_model.specs.Exact.{HoldsOne, HoldsQuotients, HoldsTwo, ReachesOne, ReachesQuotients, ReachesTwo, size_of};
-ghost use Rattle.fb_model.specs.Shapes.{AlgorithmFits, HasShape, IsIn, Keeps, Lies, Shape, TermFits, written};
-ghost use Rattle.fb_model.specs.Shapes.{shape_of};
+ghost use Rattle.fb_model.specs.Shapes.{AlgorithmFits, HasShape, IsIn, Keeps, Lies, Shape, TermFits, written, shape_of};
 
 /// An expression that has a range has a value, which lies in it.
 pub fn values_lie_in_ranges()

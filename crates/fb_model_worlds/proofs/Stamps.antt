@@ -3,7 +3,7 @@ use Rattle.std.proofs.Common.{◌≡◌, ℕ, Bool, true, false, cond, ℤ, List
 use Rattle.std.specs.List.{AllByRecursion}
 use Rattle.std.specs.Str.{bytes_eq}
 use Rattle.std.proofs.lemmas.Bool.{cond_both}
-use Rattle.fb_model.specs.Names.{Name, path_eq}
+use Rattle.fb_model.specs.Names.{Name, path_eq, Place}
 use Rattle.fb_model.specs.System.{Device, Service, Input, Output, Publish, Subscribe, Delay, Cycle, Restart}
 use Rattle.fb_model.specs.Services.{init, rsp, ind, qi, qo}
 use Rattle.fb_model.specs.Messages.{Stamp}
@@ -12,7 +12,6 @@ use Rattle.fb_model.specs.Store.{Store, with_leaf, sampled, LeafState, Stamps, U
 use Rattle.fb_model.specs.Serving.{Effect, bit, set_value, receive, set_own, emits, is_true, is_ready, stamps_of, opened, subscribed, reply, Serves}
 use Rattle.fb_model.specs.Certificates.{Certificate, IsWired, DeviceHolds}
 use Rattle.fb_model.specs.Devices.{Ended, Machine, is_subscriber, subscriber_of, is_timer, is_later, is_after, IsFresh, keeping, with_stamp, Tries, expired, Runs}
-use Rattle.fb_model.specs.Names.{Place}
 use Rattle.fb_model.proofs.Lists.{same_path}
 use Rattle.fb_model.proofs.Placed.{path_same}
 use Rattle.fb_model.proofs.Running.{at_leaf, at_first_leaf}

@@ -1,4 +1,6 @@
-//! Laws over all runs of a world of devices, whose network loses, repeats and reorders datagrams.
+//! Room: book. Laws over all runs of a world of devices, whose network loses, repeats and reorders datagrams.
+//! Where deliveries are paid for, each root takes at most the FAR of its opening in steps on all devices (`roots_are_bounded`); a datagram with a stamp is admitted
+//! at most once at a device (`deliveries_are_once`). Functions have empty bodies, and no code runs a world.
 #![tactic(auto)]
 
 ghost use Rattle.std.specs.Prelude.{ℕ, ◌≡◌, ◌≤◌, List, Some};

@@ -14,8 +14,8 @@ use Rattle.fb_model.specs.Spans.{Span}
 use Rattle.fb_model.specs.Clear.{Spans, changed, reset}
 use Rattle.fb_model.proofs.Names.{eq_turned}
 use Rattle.st_types.proofs.Gathering.{drop_step}
-use Rattle.fb_asking.specs.Asking.{asking, asking_all}
-use Rattle.fb_intervals.specs.declared.interval.Interval.{Interval}
+use Rattle.fb_model_laws.specs.Asking.{asking, asking_all}
+use Rattle.fb_ranges_intervals.specs.declared.interval.Interval.{Interval}
 use Rattle.fb_ranges.specs.Meeting.{Besides}
 use Rattle.fb_ranges.specs.Views.{row_of, spans_in, names_in}
 use Rattle.fb_ranges.proofs.Tables.{shown}

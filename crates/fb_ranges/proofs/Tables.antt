@@ -8,10 +8,10 @@ use Rattle.fb_words.specs.declared.elem_type.ElemType.TheVariants as t
 use Rattle.fb_model.specs.Names.{Name}
 use Rattle.fb_model.specs.Spans.{Span, whole}
 use Rattle.fb_model.specs.Clear.{changed}
-use Rattle.fb_intervals.specs.declared.interval.Interval.{Interval}
+use Rattle.fb_ranges_intervals.specs.declared.interval.Interval.{Interval}
 use Rattle.std.specs.declared.string.String.{String}
 use Rattle.std.specs.declared.alloc.Global.{Global}
-use Rattle.fb_intervals.specs.Views.{span_of}
+use Rattle.fb_ranges_intervals.specs.Views.{span_of}
 use Rattle.fb_ranges.specs.Views.{row_of, spans_in}
 
 -- the span of a row, or all numbers of LINT where there is none

@@ -6,7 +6,7 @@ use Rattle.std.proofs.lemmas.Int.{ints, by_lt_z}
 use Rattle.fb_model.specs.Names.{Name}
 use Rattle.fb_model.specs.Spans.{Span}
 use Rattle.fb_model.specs.Clear.{Spans, Found, Clear, Leaves, Traps, changed, onward, with_range, either, are_kept, reset, taken, left_with, looped, kept}
-use Rattle.fb_asking.proofs.Ending.{Ends}
+use Rattle.fb_model_laws.proofs.Ending.{Ends}
 use Rattle.fb_ranges.specs.declared.told.Told.{Told}
 use Rattle.fb_ranges.specs.declared.told.Told.TheVariants as t
 use Rattle.fb_ranges.specs.Steps.{counted}

@@ -16,7 +16,7 @@ use Rattle.fb_model.proofs.Names.{eq_turned}
 use Rattle.st_types.specs.CommandViews.{busy_of}
 use Rattle.fb_ranges.specs.declared.way.Reached.{Reached}
 use Rattle.fb_ranges.specs.Meeting.{Besides, Dated, Mark, joint, marked, met, ranges_after, row_after}
-use Rattle.fb_intervals.specs.Views.{span_of}
+use Rattle.fb_ranges_intervals.specs.Views.{span_of}
 use Rattle.fb_ranges.specs.Views.{mark_in, names_in}
 use Rattle.fb_ranges.proofs.Covers.{joined_same, joined_again, joined_twice}
 use Rattle.fb_ranges.proofs.Joins.{in_push}

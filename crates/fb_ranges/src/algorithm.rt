@@ -2,7 +2,7 @@
 
 ghost use Rattle.std.specs.Prelude.{◌≡◌, IfOk};
 ghost use Rattle.fb_model.specs.Clear as book;
-ghost use Rattle.fb_asking.specs.Asking.{grown};
+ghost use Rattle.fb_model_laws.specs.Asking.{grown};
 ghost use Rattle.st_types.specs.CommandViews.{commands_of};
 ghost use Rattle.fb_ranges.specs.Answers.{IsExamined, most_steps};
 ghost use Rattle.fb_ranges.specs.Finding.{tell};

@@ -6,7 +6,7 @@ ghost use Rattle.st_types.specs.Views.{term_of};
 ghost use Rattle.st_types.specs.CommandViews.{busy_of, cases_of, choices_of, command_of, commands_of};
 
 use crate::side::number;
-use fb_intervals::iterations;
+use fb_ranges_intervals::iterations;
 use st_types::{Counting, TypedArm, TypedBranch, TypedStmt};
 use std::alloc::{AllocError, Global};
 

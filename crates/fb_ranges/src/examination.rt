@@ -7,14 +7,14 @@ ghost use Rattle.fb_model.specs.Names.{Name};
 ghost use Rattle.fb_model.specs.Clear as book;
 ghost use Rattle.fb_model.specs.Clear.{Clear, Leaves, Traps, with_range};
 ghost use Rattle.fb_model.specs.Spans.{within, span};
-ghost use Rattle.fb_asking.specs.Asking as asking;
-ghost use Rattle.fb_asking.specs.Asking.{point, range_in};
+ghost use Rattle.fb_model_laws.specs.Asking as asking;
+ghost use Rattle.fb_model_laws.specs.Asking.{point, range_in};
 ghost use Rattle.st_types.specs.Views.{term_of};
 ghost use Rattle.st_types.specs.CommandViews.{busy_of, case_of, cases_of, choice_of, choices_of, command_of, commands_of, counted_command, counting_of};
 ghost use Rattle.fb_ranges.specs.Finding.{longer, tell};
 ghost use Rattle.fb_ranges.specs.Meeting.{Dated, joint, ranges_after};
 ghost use Rattle.fb_ranges.specs.Narrowing.{read_in};
-ghost use Rattle.fb_intervals.specs.Views.{span_of};
+ghost use Rattle.fb_ranges_intervals.specs.Views.{span_of};
 ghost use Rattle.fb_ranges.specs.Views.{clear_range, mark_of, spans_of};
 
 use crate::assigned::names_assigned;
@@ -26,7 +26,7 @@ use crate::rows::Ranges;
 use crate::told::{Told, in_sequence, iterated, keeping, trapping};
 use crate::touched::names_touched;
 use crate::way::{Way, Ways};
-use fb_intervals::{Interval, is_within, left_with, most_iterations, taken};
+use fb_ranges_intervals::{Interval, is_within, left_with, most_iterations, taken};
 use st_types::{Counting, TypedArm, TypedBranch, TypedExpr, TypedStmt};
 use std::alloc::{AllocError, Global};
 

@@ -3,12 +3,12 @@
 ghost use Rattle.std.specs.Prelude.{◌≡◌, IfOk, OnOk};
 ghost use Rattle.fb_model.specs.Clear as book;
 ghost use Rattle.st_types.specs.CommandViews.{busy_of};
-ghost use Rattle.fb_asking.specs.Asking.{asking, asking_all};
-ghost use Rattle.fb_intervals.specs.Views.{span_of};
+ghost use Rattle.fb_model_laws.specs.Asking.{asking, asking_all};
+ghost use Rattle.fb_ranges_intervals.specs.Views.{span_of};
 ghost use Rattle.fb_ranges.specs.Views.{spans_of};
 
 use crate::rows::Ranges;
-use fb_intervals::{Interval, is_within, joined};
+use fb_ranges_intervals::{Interval, is_within, joined};
 use std::alloc::AllocError;
 
 /// The same ranges.

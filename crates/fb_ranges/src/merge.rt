@@ -9,14 +9,14 @@ ghost use Rattle.st_types.specs.CommandViews.{busy_of};
 ghost use Rattle.fb_ranges.specs.declared.told.Told.TheVariants as told;
 ghost use Rattle.fb_ranges.specs.Finding.{longer};
 ghost use Rattle.fb_ranges.specs.Meeting.{Besides, Dated, joint, marked, met, ranges_after, row_after};
-ghost use Rattle.fb_intervals.specs.Views.{span_of};
+ghost use Rattle.fb_ranges_intervals.specs.Views.{span_of};
 ghost use Rattle.fb_ranges.specs.Views.{mark_of, spans_of};
 
 use crate::join::reset;
 use crate::rows::Ranges;
 use crate::told::{Told, longer};
 use crate::way::{Reached, Way, Ways};
-use fb_intervals::{Interval, joined};
+use fb_ranges_intervals::{Interval, joined};
 use indexmap::IndexMap;
 use std::alloc::{AllocError, Global};
 

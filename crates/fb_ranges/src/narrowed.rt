@@ -6,12 +6,12 @@ ghost use Rattle.fb_model.specs.Clear as book;
 ghost use Rattle.fb_model.specs.Clear.{changed};
 ghost use Rattle.st_types.specs.Views.{joined, term_of, tail_of};
 ghost use Rattle.fb_ranges.specs.Narrowing.{splits};
-ghost use Rattle.fb_intervals.specs.Views.{span_of};
+ghost use Rattle.fb_ranges_intervals.specs.Views.{span_of};
 ghost use Rattle.fb_ranges.specs.Views.{spans_of};
 
 use crate::rows::Ranges;
 use crate::side::{number, variable};
-use fb_intervals::{is_truth, meets, mirrored, opposite};
+use fb_ranges_intervals::{is_truth, meets, mirrored, opposite};
 use fb_words::{ElemType, Operation, Operator};
 use st_types::{TypedExpr, TypedLink};
 use std::alloc::AllocError;

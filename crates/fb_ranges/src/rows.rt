@@ -1,6 +1,6 @@
 //! Rows of variables.
 
-use fb_intervals::Interval;
+use fb_ranges_intervals::Interval;
 use indexmap::IndexMap;
 use std::alloc::Global;
 

@@ -4,11 +4,11 @@ ghost use Rattle.std.specs.Prelude.{◌≡◌, OnErr, OnOk};
 ghost use Rattle.fb_words.specs.declared.elem_type.ElemType.TheVariants as t;
 ghost use Rattle.fb_model.specs.Spans.{whole};
 ghost use Rattle.fb_model.specs.Clear.{changed};
-ghost use Rattle.fb_intervals.specs.Views.{span_of};
+ghost use Rattle.fb_ranges_intervals.specs.Views.{span_of};
 ghost use Rattle.fb_ranges.specs.Views.{spans_of};
 
 use crate::rows::Ranges;
-use fb_intervals::{Interval, whole};
+use fb_ranges_intervals::{Interval, whole};
 use fb_words::ElemType;
 use indexmap::IndexMap;
 use std::alloc::{AllocError, Global};

@@ -2,7 +2,7 @@
 
 use crate::rows::Ranges;
 use crate::told::Told;
-use fb_intervals::Interval;
+use fb_ranges_intervals::Interval;
 use indexmap::IndexMap;
 use std::alloc::Global;
 

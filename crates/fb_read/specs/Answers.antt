@@ -1,9 +1,7 @@
 -- What the code's answers are in the words of the readers.
-use Rattle.std.specs.Prelude.{◌≡◌, string_bytes, Option, None, Some, Result, Ok, Err}
+use Rattle.std.specs.Prelude.{◌≡◌, Result, Ok, Err}
 use Rattle.fb_read.specs.declared.stop.Stop.{Stop}
 use Rattle.fb_read.specs.declared.stop.Stop.TheVariants.{Memory, Syntax, TooDeep}
-use Rattle.fb_read.specs.declared.token.Name.{Name}
-use Rattle.fb_model.specs.Productions.{Word}
 use Rattle.fb_read.specs.Reading.{Wrong, syntax, too_deep}
 
 abbrev pub Fails : {Y : Type 0} → Stop → Result Y Wrong → Type 0
@@ -15,10 +13,3 @@ Fails (TooDeep left) read = read ≡ Err (too_deep left)
 abbrev pub Gives : {X Y : Type 0} → (X → Y) → Result X Stop → Result Y Wrong → Type 0
 Gives view (Ok x) read = read ≡ Ok (view x)
 Gives view (Err e) read = Fails e read
-
-abbrev pub word_of : Name → Word
-word_of x = record { text = string_bytes x.text; at = x.at }
-
-abbrev pub optional : {X Y : Type 0} → (X → Y) → Option X → Option Y
-optional view None = None
-optional view (Some x) = Some (view x)

@@ -1,12 +1,11 @@
-//! Readers over tokens that all grammars share: one token, a name, a type, lists, and optional sections.
+//! Room: language. Readers over tokens that all grammars share: one token, a name, a type, lists, and optional sections.
+//! Each gives what its function on lists gives, or stops with exactly as many tokens left. Laws: what is read is in the grammar, and what is in it is read.
 #![tactic(auto)]
 
-mod items;
 mod stop;
 mod token;
 
-pub use items::{Item, closed, many, section, separated};
 pub use stop::Stop;
 pub use token::{
-    Name, begins_name, begins_number, end_of, expect, next_is, next_offset, read_name, read_type,
+    begins_name, begins_number, end_of, expect, next_is, next_offset, read_name, read_type,
 };

@@ -4,20 +4,14 @@ ghost use Rattle.std.specs.Prelude.{◌≡◌, ◌<◌, length, OnOk};
 ghost use Rattle.fb_lex.specs.Views.{tokens_of};
 ghost use Rattle.fb_model.specs.StructuredTextGrammar.{begins_number};
 ghost use Rattle.fb_read.specs.Reading.{next_is, expect, name_at, type_at, begins_name, offset_at};
-ghost use Rattle.fb_read.specs.Answers.{Gives, word_of};
+ghost use Rattle.fb_read.specs.Answers.{Gives};
+ghost use Rattle.fb_tree.specs.Words.{word_of};
 ghost use Rattle.fb_read.specs.Faults.{end_of};
 
 use crate::stop::Stop;
 use fb_lex::{Kind, Token};
+use fb_tree::Name;
 use fb_words::{ElemType, Mark};
-
-/// A name and the place of its first byte.
-#[derive(Drop)]
-pub struct Name {
-    /// In upper case.
-    pub text: String,
-    pub at: usize,
-}
 
 /// Whether the next token is this mark.
 pub fn next_is(tokens: &[Token], mark: Mark) -> bool

@@ -6,3 +6,10 @@ pub mod Entries
 pub mod Steps
 pub mod Pending
 pub mod Delivering
+pub mod Ahead
+pub mod Seats
+pub mod Ordered
+pub mod Told
+pub mod Moments
+pub mod Few
+pub mod Leaves

@@ -9,9 +9,9 @@ use Rattle.std.specs.declared.str.Lines.{Lines}
 use Rattle.std.proofs.lemmas.List.Splits.{length-slice_split}
 use Rattle.std.proofs.lemmas.List.Sums.{count_by-le-length}
 use Rattle.fb_model.specs.Devices.{Machine}
-use Rattle.fb_device.specs.fb_check.Verdicts.{system_in, certificate_in}
-use Rattle.fb_device.specs.Sessions.{Session}
-use Rattle.fb_device.specs.Machines.{device_in, cert_in, machine_of, device_at}
+use Rattle.fb_device.specs.fb_verdict.Verdicts.{system_in, certificate_in}
+use Rattle.fb_device.specs.fb_device_state.Sessions.{Session}
+use Rattle.fb_device.specs.fb_device_state.Machines.{device_in, cert_in, machine_of, device_at}
 use Rattle.fb_script.specs.Playing.{IsBad}
 use Rattle.fb_script.specs.Runs.{Runs, done, memory, bad, blank, answered, Answers, IsRun}
 use Rattle.fb_script.specs.Steps.{IsStep}

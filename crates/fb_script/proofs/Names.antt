@@ -11,20 +11,20 @@ use Rattle.fb_model.specs.System.{Device, Resource}
 use Rattle.fb_model.specs.Certificates.{Certificate, events_of}
 use Rattle.fb_model.specs.Devices as model
 use Rattle.fb_model.specs.Devices.{Event, Machine, Happens}
-use Rattle.fb_device.specs.fb_check.Lookups.{is_same_path}
-use Rattle.fb_device.specs.fb_tables.Views.{place_at, place_in}
+use Rattle.fb_device.specs.fb_verdict.Lookups.{is_same_path}
+use Rattle.fb_device.specs.fb_device_tables.Views.{place_at, place_in}
 use Rattle.fb_device.specs.Answers.{IsNamed, IsNoPoint, IsNumberOf, IsNoNumber}
-use Rattle.fb_device.specs.fb_dispatch.Answers.{dispatched_of, end_of}
-use Rattle.fb_device.specs.fb_serve.Responses.{effect_of}
-use Rattle.fb_device.specs.fb_dispatch.declared.answer.Ended.{Ended}
-use Rattle.fb_device.specs.fb_serve.declared.standing.Effect.{Effect as Outside}
-use Rattle.fb_device.specs.fb_serve.declared.standing.Effect.TheVariants as outside
-use Rattle.fb_device.specs.fb_tables.Tables.{IsPoint}
-use Rattle.fb_device.specs.fb_dispatch.declared.answer.Ran.{Ran as RanRecord}
-use Rattle.fb_device.specs.fb_dispatch.declared.answer.Dispatched.TheVariants as dispatched
+use Rattle.fb_device.specs.fb_device_dispatch.Answers.{dispatched_of, end_of}
+use Rattle.fb_chart.specs.Responses.{effect_of}
+use Rattle.fb_device.specs.fb_device_dispatch.declared.answer.Ended.{Ended}
+use Rattle.fb_chart.specs.declared.standing.Effect.{Effect as Outside}
+use Rattle.fb_chart.specs.declared.standing.Effect.TheVariants as outside
+use Rattle.fb_device.specs.fb_device_tables.Tables.{IsPoint}
+use Rattle.fb_device.specs.fb_device_dispatch.declared.answer.Ran.{Ran as RanRecord}
+use Rattle.fb_device.specs.fb_device_dispatch.declared.answer.Dispatched.TheVariants as dispatched
 use Rattle.fb_script.specs.Lines.{Deliver, Dispatch}
 use Rattle.fb_script.specs.Sending.{datagram_numbered}
-use Rattle.fb_device.specs.Sessions.{Session}
+use Rattle.fb_device.specs.fb_device_state.Sessions.{Session}
 use Rattle.fb_device.specs.declared.answer.Answer.{Answer as Reply}
 use Rattle.fb_script.specs.Playing.{Asks, Plays}
 use Rattle.fb_script.specs.Views.{IsPlayed}

@@ -8,7 +8,7 @@ use Rattle.fb_model.specs.Wires.{Leaf}
 use Rattle.fb_device.specs.Answers.{answer_of}
 use Rattle.fb_device.specs.declared.answer.Answer.{Answer}
 use Rattle.fb_device.specs.declared.answer.Answer.TheVariants as r
-use Rattle.fb_device.specs.fb_dispatch.declared.answer.Dispatched.TheVariants as dispatched
+use Rattle.fb_device.specs.fb_device_dispatch.declared.answer.Dispatched.TheVariants as dispatched
 use Rattle.fb_script.specs.Sending.{datagram_numbered, message_in}
 use Rattle.fb_script.specs.Steps.{message_told}
 use Rattle.fb_script.specs.Views.{bytes_of}

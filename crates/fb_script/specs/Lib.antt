@@ -1,7 +1,4 @@
-pub use Rattle.fb_device.specs.fb_types as fb_types
-pub use Rattle.fb_device.specs.fb_check as fb_check
-pub use Rattle.fb_device.specs as fb_device
-pub use Rattle.fb_device.specs.fb_tables as fb_tables
+pub use Rattle.fb_device.specs.fb_device_state as fb_device_state
 pub mod Lines
 pub mod Views
 pub mod Sending

@@ -5,7 +5,7 @@ use Rattle.fb_model.specs.Certificates.{Certificate}
 use Rattle.fb_model.specs.Devices.{Machine, Event, Answer, Happens}
 use Rattle.fb_model.specs.Devices as book
 use Rattle.fb_model.specs.CertificateText.{words}
-use Rattle.fb_device.specs.fb_check.Lookups.{is_same_path}
+use Rattle.fb_device.specs.fb_verdict.Lookups.{is_same_path}
 use Rattle.fb_device.specs.Answers.{IsNumberOf}
 use Rattle.fb_script.specs.Lines.{Command, Offer, Deliver, Tick, Dispatch, command_in}
 use Rattle.fb_script.specs.Sending.{datagram_numbered}

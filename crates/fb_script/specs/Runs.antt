@@ -2,8 +2,8 @@
 use Rattle.std.specs.Prelude.{◌≡◌, ℕ, ◌+◌, List, [], ◌∷◌, ◌++◌, length, Option}
 use Rattle.std.specs.Io.KnownBytes.{Appends}
 use Rattle.std.specs.Str.Lines.{lines}
-use Rattle.fb_device.specs.Sessions.{Session}
-use Rattle.fb_device.specs.Machines.{device_in, cert_in, machine_of}
+use Rattle.fb_device.specs.fb_device_state.Sessions.{Session}
+use Rattle.fb_device.specs.fb_device_state.Machines.{device_in, cert_in, machine_of}
 use Rattle.fb_model.specs.System.{Device}
 use Rattle.fb_model.specs.Certificates.{Certificate}
 use Rattle.fb_model.specs.Devices.{Machine, Event, Answer, Happens}

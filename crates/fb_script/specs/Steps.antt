@@ -4,12 +4,12 @@ use Rattle.std.specs.Io.KnownBytes.{Appends}
 use Rattle.fb_model.specs.Messages.{Message}
 use Rattle.fb_model.specs.Devices.{Event, Answer}
 use Rattle.fb_model.specs.CertificateText.{words}
-use Rattle.fb_device.specs.Sessions.{Session}
-use Rattle.fb_device.specs.Machines.{device_in, cert_in, machine_of}
+use Rattle.fb_device.specs.fb_device_state.Sessions.{Session}
+use Rattle.fb_device.specs.fb_device_state.Machines.{device_in, cert_in, machine_of}
 use Rattle.fb_device.specs.declared.answer.Answer.{Answer as Reply}
 use Rattle.fb_device.specs.declared.answer.Answer.TheVariants as r
-use Rattle.fb_device.specs.fb_dispatch.declared.answer.Dispatched.TheVariants as dispatched
-use Rattle.fb_device.specs.fb_serve.Responses.{effect_of}
+use Rattle.fb_device.specs.fb_device_dispatch.declared.answer.Dispatched.TheVariants as dispatched
+use Rattle.fb_chart.specs.Responses.{effect_of}
 use Rattle.fb_script.specs.Lines.{Command}
 use Rattle.fb_script.specs.Playing.{Asks, Plays, IsBad}
 use Rattle.fb_script.specs.Sending.{message_of, message_in, Sends}

@@ -7,12 +7,12 @@ use Rattle.fb_model.specs.Names.{Place}
 use Rattle.fb_model.specs.Serving.{Effect, Write, Send}
 use Rattle.fb_model.specs.Devices.{Ended as End, Denial, UnknownInput, BadCount, BadValue, NoCredit, Spent, NotAMessage, NoSubscriber, Shape, NotReady, Stale, Answer, Admitted, Denied, Expired, Idle, Ran}
 use Rattle.fb_model.specs.Fields.{Fault, Short, Magic, Version, Kind, Count, TypeCode, Value, Trailing}
-use Rattle.fb_device.specs.fb_arrive.fb_wire.Faults.{line_of}
-use Rattle.fb_device.specs.fb_arrive.declared.denied.Denied.{Denied as RustDenied}
-use Rattle.fb_device.specs.fb_arrive.declared.denied.Denied.TheVariants as d
-use Rattle.fb_device.specs.fb_dispatch.declared.answer.Ended.{Ended}
-use Rattle.fb_device.specs.fb_serve.declared.standing.Effect.{Effect as Outside}
-use Rattle.fb_device.specs.fb_serve.declared.standing.Effect.TheVariants as outside
+use Rattle.fb_wire.specs.Faults.{line_of}
+use Rattle.fb_device.specs.fb_device_arrivals.declared.denied.Denied.{Denied as RustDenied}
+use Rattle.fb_device.specs.fb_device_arrivals.declared.denied.Denied.TheVariants as d
+use Rattle.fb_device.specs.fb_device_dispatch.declared.answer.Ended.{Ended}
+use Rattle.fb_chart.specs.declared.standing.Effect.{Effect as Outside}
+use Rattle.fb_chart.specs.declared.standing.Effect.TheVariants as outside
 use Rattle.fb_script.specs.declared.told.Told.{Told}
 use Rattle.fb_script.specs.declared.told.Told.TheVariants as told
 

@@ -6,8 +6,8 @@ use Rattle.arrayvec.specs.ArrayVec.{ArrayVec}
 use Rattle.fb_script.specs.Lines.{Command, command_in, values_in}
 use Rattle.fb_model.specs.Devices.{Event}
 use Rattle.fb_model.specs.Wires.{leaves}
-use Rattle.fb_device.specs.Sessions.{Session}
-use Rattle.fb_device.specs.Machines.{device_in, cert_in, machine_of}
+use Rattle.fb_device.specs.fb_device_state.Sessions.{Session}
+use Rattle.fb_device.specs.fb_device_state.Machines.{device_in, cert_in, machine_of}
 use Rattle.fb_device.specs.Answers.{answer_of}
 use Rattle.fb_device.specs.declared.answer.Answer.{Answer}
 use Rattle.fb_script.specs.Playing.{Asks, Plays}

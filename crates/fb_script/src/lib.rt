@@ -1,4 +1,5 @@
-//! Scripts: what is offered and delivered to a device and dispatched on it, one line an event, and the lines that answer.
+//! Room: program. Scripts of `fbr sim`: a line an event, and the lines that answer.
+//! A line is read exactly as it is spelled, its answer is that of the book's event, and a script runs to its first bad line, which is told.
 #![tactic(auto)]
 
 mod line;

@@ -3,11 +3,11 @@
 ghost use Rattle.std.specs.Prelude.{◌≡◌, IfSome, None, [], List, ℕ, ℤ};
 ghost use Rattle.fb_model.specs.Devices.{Event};
 ghost use Rattle.fb_model.specs.Wires.{leaves};
-ghost use Rattle.fb_device.specs.fb_check.Lookups.{is_same_path};
-ghost use Rattle.fb_device.specs.Machines.{device_in, cert_in, machine_of};
+ghost use Rattle.fb_device.specs.fb_verdict.Lookups.{is_same_path};
+ghost use Rattle.fb_device.specs.fb_device_state.Machines.{device_in, cert_in, machine_of};
 ghost use Rattle.fb_device.specs.Answers.{answer_of, HasPlace};
-ghost use Rattle.fb_device.specs.fb_dispatch.Answers.{dispatched_of, HasPoint};
-ghost use Rattle.fb_device.specs.fb_dispatch.declared.answer.Dispatched.TheVariants as dispatched;
+ghost use Rattle.fb_device.specs.fb_device_dispatch.Answers.{dispatched_of, HasPoint};
+ghost use Rattle.fb_device.specs.fb_device_dispatch.declared.answer.Dispatched.TheVariants as dispatched;
 ghost use Rattle.fb_script.specs.Lines as book;
 ghost use Rattle.fb_script.specs.Views.{command_of, bytes_of, IsPlayed};
 ghost use Rattle.fb_script.specs.Texts.{told_text, answer_text};

@@ -2,7 +2,7 @@
 
 ghost use Rattle.std.specs.Prelude.{◌≡◌, ◌≤◌, ◌<◌, length, vec_len, vec_capacity, IfOk};
 ghost use Rattle.fb_model.specs.Wires.{leaves};
-ghost use Rattle.fb_device.specs.Machines.{device_in};
+ghost use Rattle.fb_device.specs.fb_device_state.Machines.{device_in};
 ghost use Rattle.fb_device.specs.Answers.{answer_of, HasPlace};
 ghost use Rattle.fb_script.specs.Views.{command_of, bytes_of};
 ghost use Rattle.fb_script.specs.Steps.{IsWritten, IsObeyed, IsStep};

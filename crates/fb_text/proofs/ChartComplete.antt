@@ -12,7 +12,7 @@ use Rattle.fb_model.specs.DeclarationGrammar.{IsInternal, IsGuard, a_guard, IsCo
 use Rattle.fb_read.specs.Reading.{Read, stuck, is, next_is, items_at, list_at, closed_at, section_at}
 use Rattle.fb_read.proofs.Readers.{Gets, Complete, never, Shorter, gets_then}
 use Rattle.fb_read.proofs.Repetitions.{a_closed, many_complete, separated_complete, closed_complete, section_avoids, section_complete}
-use Rattle.st_expr.specs.Reading.{continues}
+use Rattle.st_parse.specs.ExpressionReading.{continues}
 use Rattle.st_parse.specs.Reading.{begins_entry}
 use Rattle.st_parse.proofs.Shorter.{NoLonger}
 use Rattle.fb_text.specs.Reading.{output_at, emitting_at, running_at, action_at, actions_at, state_at, states_at, internal_at, guard_at, where_at, on_event_at, guarded_at, condition_at, transition_at, transitions_at, text_at, procedure_at, chart_at}

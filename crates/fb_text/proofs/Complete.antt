@@ -10,7 +10,7 @@ use Rattle.fb_model.specs.DeclarationGrammar.{IsEvent, IsVariable, IsBody, basic
 use Rattle.fb_read.specs.Reading.{Read, is, next_is, items_at, closed_at, section_at}
 use Rattle.fb_read.proofs.Readers.{Gets, Complete, never, Shorter, gets_then}
 use Rattle.fb_read.proofs.Repetitions.{a_closed, many_complete, closed_complete, section_avoids, section_complete}
-use Rattle.st_expr.specs.Reading.{continues}
+use Rattle.st_parse.specs.ExpressionReading.{continues}
 use Rattle.st_parse.specs.Reading.{begins_entry}
 use Rattle.st_parse.proofs.Shorter.{NoLonger}
 use Rattle.fb_text.specs.Reading.{event_at, variable_at, network_at, chart_at, basic_at, composite_at, body_at, block_at, resource_at, device_at, system_at, file_at}

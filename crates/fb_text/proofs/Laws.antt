@@ -16,16 +16,17 @@ use Rattle.fb_read.proofs.Steady.{IsStuck, IsDeep}
 use Rattle.fb_read.proofs.Viable.{Any, Viable}
 use Rattle.fb_read.proofs.Whole.{Points, whole_sound, whole_complete, whole_points, whole_viable}
 use Rattle.fb_read.proofs.Whole as answers
-use Rattle.st_expr.specs.Reading.{continues, expression_at}
-use Rattle.st_expr.proofs.Laws.{expression_sound, expression_complete, expression_shorter, expression_steady}
-use Rattle.st_expr.proofs.Viable.{expression_wide, expression_viable}
+use Rattle.st_parse.specs.ExpressionReading.{continues, expression_at}
+use Rattle.st_parse.proofs.ExpressionLaws.{expression_sound, expression_complete, expression_shorter, expression_steady}
+use Rattle.st_parse.proofs.ExpressionViable.{expression_wide, expression_viable}
 use Rattle.st_parse.specs.Reading.{algorithm_at}
 use Rattle.st_parse.proofs.Complete.{deeper}
 use Rattle.st_parse.proofs.Laws.{algorithm_sound, algorithm_complete, algorithm_no_longer, algorithm_steady}
-use Rattle.fb_text.specs.declared.tree.FileTree.{FileTree}
-use Rattle.fb_text.specs.Views.{source_of}
+use Rattle.fb_tree.specs.declared.tree.FileTree.{FileTree}
+use Rattle.fb_tree.specs.Files.{source_of}
 use Rattle.fb_text.specs.Reading.{file_at, whole_at}
-use Rattle.fb_text.specs.Answers.{IsNested, IsTree, IsSomeTree, Reads, FindsTree, SyntaxAt, TooDeepAt, IsNestedSource}
+use Rattle.fb_tree.specs.Sources.{IsNested, IsTree, IsNestedSource}
+use Rattle.fb_text.specs.Answers.{IsSomeTree, Reads, FindsTree, SyntaxAt, TooDeepAt}
 use Rattle.fb_text.proofs.Sound.{IsFront, a_front, file_sound}
 use Rattle.fb_text.proofs.Complete.{file_complete}
 use Rattle.fb_text.proofs.Steady.{file_steady}

@@ -15,7 +15,7 @@ use Rattle.fb_read.proofs.Repetitions.{section_sound, section_shallow}
 use Rattle.fb_read.proofs.Steady.{Steady, steady_name}
 use Rattle.fb_read.proofs.SteadyLists.{shrinks_of, steady_items, steady_section}
 use Rattle.fb_read.proofs.Viable.{Span, Any, GoesOn, Viable, Marked, Behind, goes_as, goes_if, goes_shallow, goes_done, goes_next, viable_expect, viable_then, is_read, is_name, shallow_closing, many_viable}
-use Rattle.st_expr.proofs.Viable.{closing}
+use Rattle.st_parse.proofs.ExpressionViable.{closing}
 use Rattle.st_parse.proofs.Shorter.{NoLonger}
 use Rattle.fb_text.specs.Reading.{event_at, variable_at, internal_at, states_at, is_always, guard_at, where_at, on_event_at, guarded_at, condition_at, transition_at, transitions_at, word_at, text_at, procedure_at, chart_at, basic_at, composite_at, body_at, block_at, system_at, file_at}
 use Rattle.fb_text.proofs.VariableSound.{event_sound, variable_sound, internal_sound}

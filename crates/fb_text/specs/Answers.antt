@@ -5,23 +5,14 @@ use Rattle.fb_lex.specs.declared.fault.TextFault.TheVariants as faults
 use Rattle.fb_lex.specs.Lexing.{Refuses}
 use Rattle.fb_model.specs.Tokens.{Token}
 use Rattle.fb_model.specs.Spelling.{Spells}
-use Rattle.fb_model.specs.StructuredTextGrammar.{IsExpression, IsAlgorithm, most_nested, most_nested_statements}
 use Rattle.fb_model.specs.Declarations.{SourceTree}
-use Rattle.fb_model.specs.DeclarationGrammar.{IsFile}
+use Rattle.fb_tree.specs.Sources.{IsNested, IsTree, IsNestedSource}
 use Rattle.fb_read.specs.Whole.{Tells, Finds, PlacesSyntax, PlacesTooDeep}
-use Rattle.fb_text.specs.declared.tree.FileTree.{FileTree}
-use Rattle.fb_text.specs.Views.{source_of}
+use Rattle.fb_tree.specs.declared.tree.FileTree.{FileTree}
+use Rattle.fb_tree.specs.Files.{source_of}
 use Rattle.fb_text.specs.Reading.{whole_at}
 
 -- ---- the trees of tokens
-
--- all of the tokens are this tree, with expressions and statements nested at most so deep
-abbrev pub IsNested : ℕ → ℕ → List Token → SourceTree → Type 0
-IsNested n k ts x = IsFile (IsExpression n) (IsAlgorithm n k) ts x
-
--- all of the tokens are a tree that nests no deeper than is read
-abbrev pub IsTree : List Token → SourceTree → Type 0
-IsTree ts x = IsNested most_nested most_nested_statements ts x
 
 -- all of the tokens are a tree, however deep it nests
 abbrev pub IsSomeTree : List Token → SourceTree → Type 0
@@ -59,18 +50,6 @@ ReadsText text (Ok source) = ReadsSpelled text (Ok source)
 ReadsText text (Err (faults.Syntax offset)) = ReadsSpelled text (Err (faults.Syntax offset))
 ReadsText text (Err (faults.TooDeep offset)) = ReadsSpelled text (Err (faults.TooDeep offset))
 ReadsText text (Err other) = Refuses other text
-
--- the text is spelled by tokens that are this tree, with expressions and statements nested at most so deep
-abbrev pub IsNestedSource : ℕ → ℕ → List ℕ → SourceTree → Type 0
-IsNestedSource n k text x = (ts : List Token) × Spells 0 text ts × IsNested n k ts x
-
--- and the tree nests no deeper than is read
-abbrev pub IsSource : List ℕ → SourceTree → Type 0
-IsSource text x = IsNestedSource most_nested most_nested_statements text x
-
--- the tree stands in a text
-abbrev pub IsSpelled : SourceTree → Type 0
-IsSpelled x = (text : List ℕ) × IsSource text x
 
 -- the text is spelled by tokens, and by those of no tree, however deep
 abbrev pub IsNoSource : List ℕ → Type 0

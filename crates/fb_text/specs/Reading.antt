@@ -11,7 +11,7 @@ use Rattle.fb_model.specs.StructuredText.{Expression, Statements}
 use Rattle.fb_model.specs.StructuredTextGrammar.{most_nested, most_nested_statements}
 use Rattle.fb_model.specs.Declarations.{EventTree, BoundsTree, StartTree, VariableTree, GuardTree, TransitionTree, AlgorithmTree, ChartTree, InstanceTree, NetworkTree, BodyTree, Chart, Network, BlockTree, ResourceTree, DeviceTree, SystemTree, SourceTree}
 use Rattle.fb_read.specs.Reading.{Wrong, syntax, stuck, Read, ◌>>=◌, next_is, after, expect, offset_at, name_at, type_at, begins_name, items_at, list_at, closed_at, section_at, whole_of}
-use Rattle.st_expr.specs.Reading.{expression_at}
+use Rattle.st_parse.specs.ExpressionReading.{expression_at}
 use Rattle.st_parse.specs.Reading.{integer_at, algorithm_at}
 
 -- ---- constants

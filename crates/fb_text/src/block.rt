@@ -2,19 +2,21 @@
 
 ghost use Rattle.std.specs.Prelude.{◌≡◌, map};
 ghost use Rattle.fb_lex.specs.Views.{tokens_of};
-ghost use Rattle.fb_read.specs.Answers.{Gives, word_of};
+ghost use Rattle.fb_read.specs.Answers.{Gives};
+ghost use Rattle.fb_tree.specs.Words.{word_of};
 ghost use Rattle.fb_model.specs.Declarations as book;
 ghost use Rattle.fb_model.specs.StructuredTextGrammar.{most_nested, most_nested_statements};
-ghost use Rattle.st_expr.specs.Reading.{expression_at};
+ghost use Rattle.st_parse.specs.ExpressionReading.{expression_at};
 ghost use Rattle.st_parse.specs.Reading.{algorithm_at};
-ghost use Rattle.fb_text.specs.Views.{block_body_of, block_of};
+ghost use Rattle.fb_tree.specs.Files.{block_body_of, block_of};
 ghost use Rattle.fb_text.specs.Reading.{basic_at, composite_at, body_at, block_at};
 
 use crate::chart::chart;
 use crate::network::network;
-use crate::tree::{BlockTree, BodyTree};
+use crate::{Item, section};
 use fb_lex::Token;
-use fb_read::{Item, Stop, expect, next_is, read_name, section};
+use fb_read::{Stop, expect, next_is, read_name};
+use fb_tree::{BlockTree, BodyTree};
 use fb_words::Mark;
 use std::alloc::Global;
 

@@ -2,28 +2,26 @@
 
 ghost use Rattle.std.specs.Prelude.{◌≡◌, map, string_bytes};
 ghost use Rattle.fb_lex.specs.Views.{tokens_of};
-ghost use Rattle.fb_read.specs.Answers.{Gives, word_of, optional};
+ghost use Rattle.fb_read.specs.Answers.{Gives};
+ghost use Rattle.fb_tree.specs.Words.{word_of, optional};
 ghost use Rattle.fb_read.specs.Reading.{after};
 ghost use Rattle.fb_model.specs.Declarations as book;
 ghost use Rattle.fb_model.specs.StructuredTextGrammar.{most_nested, most_nested_statements};
-ghost use Rattle.st_tree.specs.Views.{body_of};
-ghost use Rattle.st_expr.specs.Reading.{expression_at};
+ghost use Rattle.fb_tree.specs.Algorithms.{body_of};
+ghost use Rattle.st_parse.specs.ExpressionReading.{expression_at};
 ghost use Rattle.st_parse.specs.Reading.{algorithm_at};
-ghost use Rattle.fb_text.specs.Views.{guard_of, transition_of, algorithm_of, chart_of};
+ghost use Rattle.fb_tree.specs.Files.{guard_of, transition_of, algorithm_of, chart_of};
 ghost use Rattle.fb_text.specs.Reading.{is_always, guard_at, where_at, on_event_at, guarded_at, condition_at, transition_at, transitions_at, text_at, procedure_at, chart_at};
 
 use crate::state::states;
-use crate::tree::{AlgorithmTree, ChartTree, GuardTree, TransitionTree};
 use crate::variable::internal_section;
 use crate::word::word;
+use crate::{Item, closed, many};
 use fb_lex::{Kind, Token};
-use fb_read::{
-    Item, Name, Stop, begins_name, closed, expect, many, next_is, next_offset, read_name,
-};
+use fb_read::{Stop, begins_name, expect, next_is, next_offset, read_name};
+use fb_tree::{AlgorithmTree, ChartTree, GuardTree, Name, Stmt, TransitionTree};
 use fb_words::Mark;
-use st_expr::expression;
-use st_parse::body;
-use st_tree::Stmt;
+use st_parse::{body, expression};
 use std::alloc::Global;
 
 // Whether the untyped number 1 stands next.

@@ -3,13 +3,13 @@
 ghost use Rattle.std.specs.Prelude.{◌≡◌};
 ghost use Rattle.fb_lex.specs.Views.{tokens_of};
 ghost use Rattle.fb_read.specs.Answers.{Gives};
-ghost use Rattle.st_tree.specs.Views.{constant_of};
+ghost use Rattle.fb_tree.specs.Algorithms.{constant_of};
 ghost use Rattle.fb_text.specs.Reading.{negative_at, marked_at, constant_at};
 
 use fb_lex::{Kind, Token};
 use fb_read::Stop;
+use fb_tree::{Constant, Literal};
 use fb_words::Mark;
-use st_tree::{Constant, Literal};
 
 /// A constant: a literal, or `-` and an untyped number.
 #[tactic(auto, unfolding(crate::specs::Reading::constant_at))]

@@ -2,15 +2,17 @@
 
 ghost use Rattle.std.specs.Prelude.{◌≡◌, map};
 ghost use Rattle.fb_lex.specs.Views.{tokens_of};
-ghost use Rattle.fb_read.specs.Answers.{Gives, word_of};
+ghost use Rattle.fb_read.specs.Answers.{Gives};
+ghost use Rattle.fb_tree.specs.Words.{word_of};
 ghost use Rattle.fb_model.specs.Declarations as book;
-ghost use Rattle.fb_text.specs.Views.{event_of};
+ghost use Rattle.fb_tree.specs.Files.{event_of};
 ghost use Rattle.fb_text.specs.Reading.{kind_at, with_at, event_at};
 
-use crate::tree::EventTree;
 use crate::word::word;
+use crate::{Item, separated};
 use fb_lex::Token;
-use fb_read::{Item, Name, Stop, expect, next_is, read_name, separated};
+use fb_read::{Stop, expect, next_is, read_name};
+use fb_tree::{EventTree, Name};
 use fb_words::Mark;
 use std::alloc::Global;
 

@@ -1,23 +1,21 @@
-//! Application texts to source trees, for the whole language.
+//! Room: language. Texts of the whole language to source trees.
+//! `parse` answers exactly the tree that the text spells; refused with Syntax it is spelled by none. No text is two trees (`one_source`).
+//! Not said: that every token before the offset of a Syntax can stand where it does.
 #![tactic(auto)]
 
 mod block;
 mod chart;
 mod constant;
 mod event;
+mod items;
 mod network;
 mod source;
 mod state;
 mod system;
 mod text;
-mod tree;
 mod variable;
 mod word;
 
+pub use items::{Item, closed, many, section, separated};
 pub use source::Source;
 pub use text::{one_source, one_tree, parse, parse_tokens};
-pub use tree::{
-    ActionTree, AlgorithmTree, BlockTree, BodyTree, BoundsTree, ChartTree, ConnectionTree,
-    DeviceTree, EventTree, FileTree, GuardTree, InstanceTree, NetworkTree, ParameterTree, PortTree,
-    ResourceTree, StartTree, StateTree, SystemTree, TransitionTree, VariableTree,
-};

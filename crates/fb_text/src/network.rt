@@ -2,16 +2,18 @@
 
 ghost use Rattle.std.specs.Prelude.{◌≡◌, map};
 ghost use Rattle.fb_lex.specs.Views.{tokens_of};
-ghost use Rattle.fb_read.specs.Answers.{Gives, word_of, optional};
+ghost use Rattle.fb_read.specs.Answers.{Gives};
+ghost use Rattle.fb_tree.specs.Words.{word_of, optional};
 ghost use Rattle.fb_model.specs.Trees as trees;
 ghost use Rattle.fb_model.specs.Declarations as book;
-ghost use Rattle.fb_text.specs.Views.{parameter_of, instance_of, port_of, connection_of, network_of};
+ghost use Rattle.fb_tree.specs.Files.{parameter_of, instance_of, port_of, connection_of, network_of};
 ghost use Rattle.fb_text.specs.Reading.{parameter_at, parameters_at, type_list_at, types_at, instance_at, second_at, port_at, connection_at, network_at};
 
 use crate::constant::constant;
-use crate::tree::{ConnectionTree, InstanceTree, NetworkTree, ParameterTree, PortTree};
+use crate::{Item, section, separated};
 use fb_lex::Token;
-use fb_read::{Item, Name, Stop, expect, next_is, next_offset, read_name, section, separated};
+use fb_read::{Stop, expect, next_is, next_offset, read_name};
+use fb_tree::{ConnectionTree, InstanceTree, Name, NetworkTree, ParameterTree, PortTree};
 use fb_words::{ElemType, Mark};
 use std::alloc::Global;
 

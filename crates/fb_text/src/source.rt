@@ -1,10 +1,10 @@
 //! Texts that were read.
 
 ghost use Rattle.std.specs.Prelude.{◌≡◌};
-ghost use Rattle.fb_text.specs.Views.{source_of};
-ghost use Rattle.fb_text.specs.Answers.{IsSpelled};
+ghost use Rattle.fb_tree.specs.Files.{source_of};
+ghost use Rattle.fb_tree.specs.Sources.{IsSpelled};
 
-use crate::tree::FileTree;
+use fb_tree::FileTree;
 use std::marker::Model;
 
 /// The source tree of a text. It stands in one: [`parse`](crate::parse) alone makes it.
@@ -14,11 +14,11 @@ pub struct Source {
 }
 
 impl Model for Source {
-    ghost use Rattle.fb_text.specs.declared.tree.FileTree.{FileTree};
-    ghost use Rattle.fb_text.specs.Views.{source_of};
-    ghost use Rattle.fb_text.specs.Answers.{IsSpelled};
-    ghost use Rattle.st_tree.specs.contracts.expression.Expr as expressions;
-    ghost use Rattle.st_tree.specs.contracts.statement.Stmt as statements;
+    ghost use Rattle.fb_tree.specs.declared.tree.FileTree.{FileTree};
+    ghost use Rattle.fb_tree.specs.Files.{source_of};
+    ghost use Rattle.fb_tree.specs.Sources.{IsSpelled};
+    ghost use Rattle.fb_tree.specs.contracts.expression.Expr as expressions;
+    ghost use Rattle.fb_tree.specs.contracts.statement.Stmt as statements;
     ghost use Rattle.std.specs.Coded.{codes};
 
     ghost Value = { FileTree };

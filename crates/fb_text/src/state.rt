@@ -2,14 +2,16 @@
 
 ghost use Rattle.std.specs.Prelude.{◌≡◌, map};
 ghost use Rattle.fb_lex.specs.Views.{tokens_of};
-ghost use Rattle.fb_read.specs.Answers.{Gives, word_of, optional};
+ghost use Rattle.fb_read.specs.Answers.{Gives};
+ghost use Rattle.fb_tree.specs.Words.{word_of, optional};
 ghost use Rattle.fb_model.specs.Trees as book;
-ghost use Rattle.fb_text.specs.Views.{action_of, state_of};
+ghost use Rattle.fb_tree.specs.Files.{action_of, state_of};
 ghost use Rattle.fb_text.specs.Reading.{output_at, emitting_at, running_at, action_at, actions_at, state_at, states_at};
 
-use crate::tree::{ActionTree, StateTree};
+use crate::{Item, closed, separated};
 use fb_lex::Token;
-use fb_read::{Item, Name, Stop, closed, expect, next_is, read_name, separated};
+use fb_read::{Stop, expect, next_is, read_name};
+use fb_tree::{ActionTree, Name, StateTree};
 use fb_words::Mark;
 use std::alloc::Global;
 

@@ -2,15 +2,17 @@
 
 ghost use Rattle.std.specs.Prelude.{◌≡◌, map};
 ghost use Rattle.fb_lex.specs.Views.{tokens_of};
-ghost use Rattle.fb_read.specs.Answers.{Gives, word_of};
+ghost use Rattle.fb_read.specs.Answers.{Gives};
+ghost use Rattle.fb_tree.specs.Words.{word_of};
 ghost use Rattle.fb_model.specs.Declarations as book;
-ghost use Rattle.fb_text.specs.Views.{resource_of, device_of, system_of};
+ghost use Rattle.fb_tree.specs.Files.{resource_of, device_of, system_of};
 ghost use Rattle.fb_text.specs.Reading.{resource_at, device_at, system_at};
 
 use crate::network::network;
-use crate::tree::{DeviceTree, ResourceTree, SystemTree};
+use crate::{Item, closed};
 use fb_lex::Token;
-use fb_read::{Item, Stop, closed, expect, read_name};
+use fb_read::{Stop, expect, read_name};
+use fb_tree::{DeviceTree, ResourceTree, SystemTree};
 use fb_words::Mark;
 use std::alloc::Global;
 

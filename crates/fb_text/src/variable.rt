@@ -2,17 +2,19 @@
 
 ghost use Rattle.std.specs.Prelude.{◌≡◌, map};
 ghost use Rattle.fb_lex.specs.Views.{tokens_of};
-ghost use Rattle.fb_read.specs.Answers.{Gives, word_of, optional};
+ghost use Rattle.fb_read.specs.Answers.{Gives};
+ghost use Rattle.fb_tree.specs.Words.{word_of, optional};
 ghost use Rattle.fb_read.specs.Reading.{items_at, section_at};
 ghost use Rattle.fb_words.specs.declared.mark.Mark.TheVariants as m;
 ghost use Rattle.fb_model.specs.Declarations as book;
-ghost use Rattle.fb_text.specs.Views.{bounds_of, start_of, variable_of};
+ghost use Rattle.fb_tree.specs.Files.{bounds_of, start_of, variable_of};
 ghost use Rattle.fb_text.specs.Reading.{start_at, plain_at, names_at, variable_at, bounds_at, array_at, internal_at};
 
 use crate::constant::constant;
-use crate::tree::{BoundsTree, StartTree, VariableTree};
+use crate::{Item, separated};
 use fb_lex::Token;
-use fb_read::{Item, Name, Stop, expect, next_is, next_offset, read_type, separated};
+use fb_read::{Stop, expect, next_is, next_offset, read_type};
+use fb_tree::{BoundsTree, Name, StartTree, VariableTree};
 use fb_words::Mark;
 use st_parse::integer;
 use std::alloc::Global;

@@ -2,9 +2,9 @@
 use Rattle.std.proofs.Common.{◌≡◌, ℕ, ◌+◌, ◌<◌, ◌≤◌, List, [], ◌∷◌, ◌++◌, drop, take, length, get_or, sym, ap, ◌∙◌, arith}
 use Rattle.std.proofs.lemmas.List.{take-append-drop, take_more}
 use Rattle.fb_model.specs.NetworkTyping.{instance_count}
-use Rattle.fb_networks.specs.declared.typed.Instance.{Instance}
-use Rattle.fb_networks.specs.Views.{instances_of}
-use Rattle.fb_networks.proofs.of_fb_blocks.Refused.{drop_step, drop_all}
+use Rattle.fb_types_networks.specs.declared.typed.Instance.{Instance}
+use Rattle.fb_types_networks.specs.Views.{instances_of}
+use Rattle.fb_types_blocks.proofs.Refused.{drop_step, drop_all}
 use Rattle.fb_types.specs.Counts.{one_count}
 
 abbrev pub total : List Instance → ℕ

@@ -6,11 +6,11 @@ use Rattle.fb_model.specs.System.{Service}
 use Rattle.fb_model.specs.System as book
 use Rattle.fb_model.specs.Typing.{AreNewNumbers}
 use Rattle.fb_model.specs.NetworkTyping.{services_in, inputs, outputs, subscribed, alone, senders, device_services, AreAlike}
-use Rattle.fb_networks.specs.Views.{placed_in, instances_of}
-use Rattle.fb_networks.specs.declared.typed.Network.{out-Network}
-use Rattle.fb_networks.proofs.Instances.{view_network}
-use Rattle.fb_networks.specs.fb_blocks.declared.fault.TypeFault.{TypeFault}
-use Rattle.fb_networks.specs.fb_blocks.declared.fault.TypeFault.TheVariants.{OutOfMemory}
+use Rattle.fb_types_networks.specs.Views.{placed_in, instances_of}
+use Rattle.fb_types_networks.specs.declared.typed.Network.{out-Network}
+use Rattle.fb_types_networks.proofs.Instances.{view_network}
+use Rattle.fb_types_blocks.specs.declared.fault.TypeFault.{TypeFault}
+use Rattle.fb_types_blocks.specs.declared.fault.TypeFault.TheVariants.{OutOfMemory}
 use Rattle.fb_types.specs.declared.numbers.Kind.TheVariants as k
 use Rattle.fb_types.specs.declared.uses.Use.{Use}
 use Rattle.fb_types.specs.declared.typed.Resource.{Resource}

@@ -1,7 +1,7 @@
 -- What is gathered from the items of a list, one after another.
 use Rattle.std.proofs.Common.{◌≡◌, ℕ, ◌+◌, ◌<◌, ◌≤◌, List, [], ◌∷◌, ◌++◌, drop, length, get_or, sym, ap, ◌∙◌, append_assoc}
 use Rattle.std.proofs.lemmas.List.{append-nil}
-use Rattle.fb_networks.proofs.of_fb_blocks.Refused.{drop_step, drop_all}
+use Rattle.fb_types_blocks.proofs.Refused.{drop_step, drop_all}
 
 module _ {X Y : Type 0} (all_of : List X → List Y) (one_of : X → List Y) (step : (x : X) (xs : List X) → all_of (x ∷ xs) ≡ one_of x ++ all_of xs) where
   pub gathered_more : (xs : List X) (i : ℕ) (x : X) → i < length xs → x ≡ get_or xs i x → (made next whole : List Y) → made ++ all_of (drop i xs) ≡ whole → next ≡ made ++ one_of x → next ++ all_of (drop (i + 1) xs) ≡ whole

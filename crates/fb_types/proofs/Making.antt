@@ -13,22 +13,21 @@ use Rattle.fb_model.specs.System as book
 use Rattle.fb_model.specs.BlockTyping.{Declared, face_names}
 use Rattle.fb_model.specs.Typing.{AreNew}
 use Rattle.fb_model.specs.NetworkTyping.{type_named, IsMade, a_basic, a_composite, IsInstance, of_type, of_service, AreInstances, no_instance, an_instance, IsServed, a_service, IsService, instance_texts}
-use Rattle.fb_networks.specs.fb_blocks.declared.fault.TypeFault.{TypeFault}
-use Rattle.fb_networks.specs.fb_blocks.declared.fault.TypeFault.TheVariants as faults
-use Rattle.fb_networks.proofs.of_fb_blocks.Lists.{new_append}
-use Rattle.fb_networks.proofs.of_fb_blocks.Refused.{either_of}
-use Rattle.fb_networks.specs.declared.typed.Body.{Body}
-use Rattle.fb_networks.specs.declared.typed.Body.TheVariants as v
-use Rattle.fb_networks.proofs.Instances.{view_instance}
-use Rattle.fb_networks.specs.fb_services.declared.service.Service.{Service}
-use Rattle.fb_networks.specs.fb_services.Views.{service_of}
-use Rattle.fb_networks.specs.declared.typed.Body.{the_lemmas}
-use Rattle.fb_networks.specs.declared.typed.Instance.{Instance, out-Instance}
-use Rattle.fb_networks.specs.declared.typed.Network.{Network as Wires, out-Network}
-use Rattle.fb_networks.specs.Views.{Placed, placed_in, placed_of, body_of, instances_of, wired_of}
-use Rattle.fb_networks.specs.Answers.{AreNamed, IsPlaced, IsServedAs, IsWired}
+use Rattle.fb_types_blocks.specs.declared.fault.TypeFault.{TypeFault}
+use Rattle.fb_types_blocks.specs.declared.fault.TypeFault.TheVariants as faults
+use Rattle.fb_types_blocks.proofs.Lists.{new_append}
+use Rattle.fb_types_blocks.proofs.Refused.{either_of}
+use Rattle.fb_types_networks.specs.declared.typed.Body.{Body, the_lemmas}
+use Rattle.fb_types_networks.specs.declared.typed.Body.TheVariants as v
+use Rattle.fb_types_networks.proofs.Instances.{view_instance}
+use Rattle.fb_types_services.specs.declared.service.Service.{Service}
+use Rattle.fb_types_services.specs.Views.{service_of}
+use Rattle.fb_types_networks.specs.declared.typed.Instance.{Instance, out-Instance}
+use Rattle.fb_types_networks.specs.declared.typed.Network.{Network as Wires, out-Network}
+use Rattle.fb_types_networks.specs.Views.{Placed, placed_in, placed_of, body_of, instances_of, wired_of}
+use Rattle.fb_types_networks.specs.Answers.{AreNamed, IsPlaced, IsServedAs, IsWired}
 use denote.Ref.{Bor}
-use Rattle.fb_networks.specs.fb_text.declared.tree.BlockTree.{BlockTree as Tree}
+use Rattle.fb_tree.specs.declared.tree.BlockTree.{BlockTree as Tree}
 use Rattle.fb_types.specs.declared.made.Made.{Made}
 use Rattle.fb_types.specs.declared.made.Unmade.{Unmade}
 use Rattle.fb_types.specs.declared.made.Unmade.TheVariants as u

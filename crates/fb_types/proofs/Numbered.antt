@@ -3,8 +3,8 @@ use Rattle.std.proofs.Common.{◌≡◌, ℕ, nat_eq, true, false, not, Bool, Li
 use Rattle.std.specs.List.{list_any}
 use Rattle.std.proofs.lemmas.List.{append-nil}
 use Rattle.fb_model.specs.Typing.{AreNewNumbers}
-use Rattle.fb_networks.specs.fb_blocks.declared.fault.TypeFault.{TypeFault}
-use Rattle.fb_networks.specs.fb_blocks.declared.fault.TypeFault.TheVariants.{OutOfMemory}
+use Rattle.fb_types_blocks.specs.declared.fault.TypeFault.{TypeFault}
+use Rattle.fb_types_blocks.specs.declared.fault.TypeFault.TheVariants.{OutOfMemory}
 use Rattle.fb_types.specs.declared.numbers.Kind.{Kind}
 use Rattle.fb_types.specs.Uses.{Used}
 use Rattle.fb_types.specs.Numbers.{given, number_of, numbers_in, IsTaken, no_memory_for_number, number_taken, IsRepeated, this_use, later_use}

@@ -7,9 +7,9 @@ use Rattle.std.proofs.lemmas.List.Elements.{Contains-append_left, Contains-push,
 use Rattle.fb_model.specs.Names.{Name}
 use Rattle.fb_model.specs.Declarations.{InstanceTree, Chart, Network, BodyTree, BlockTree}
 use Rattle.fb_model.specs.NetworkTyping.{type_named}
-use Rattle.fb_networks.specs.fb_blocks.declared.fault.TypeFault.{TypeFault}
-use Rattle.fb_networks.specs.fb_blocks.declared.fault.TypeFault.TheVariants as faults
-use Rattle.fb_networks.proofs.of_fb_blocks.Refused.{either_of}
+use Rattle.fb_types_blocks.specs.declared.fault.TypeFault.{TypeFault}
+use Rattle.fb_types_blocks.specs.declared.fault.TypeFault.TheVariants as faults
+use Rattle.fb_types_blocks.proofs.Refused.{either_of}
 use Rattle.fb_types.specs.Nesting.{IsOf, Uses, Leads, itself, further, LeadsToNoRing}
 use Rattle.fb_types.specs.Refusals.{IsTypeFault, faulty_part, ring, faulty_type}
 use Rattle.fb_types.specs.Made.{IsNamed, IsPath}

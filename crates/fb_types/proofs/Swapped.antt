@@ -8,7 +8,7 @@ use Rattle.fb_model.specs.System as book
 use Rattle.fb_model.specs.BlockTyping.{IsBasic}
 use Rattle.fb_model.specs.NetworkTyping.{type_named, IsMade, a_basic, a_composite, IsInstance, of_type, of_service, AreInstances, no_instance, an_instance, IsResource, AreResources, no_resource, a_resource, AreDevices, no_device, a_device, IsProper, ElaboratesWith}
 use Rattle.fb_model.specs.EventBlocks.{Declares, AllDeclare, no_more, one_more}
-use Rattle.fb_networks.proofs.of_fb_blocks.Single.{one_basic}
+use Rattle.fb_types_blocks.proofs.Single.{one_basic}
 use Rattle.std.specs.Option.{option_or}
 use Rattle.fb_types.proofs.Tabled.{named_append}
 

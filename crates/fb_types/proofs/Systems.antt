@@ -13,17 +13,17 @@ use Rattle.fb_model.specs.Declarations.{InstanceTree, NetworkTree, BlockTree, Re
 use Rattle.fb_model.specs.System as book
 use Rattle.fb_model.specs.Typing.{most_instances}
 use Rattle.fb_model.specs.NetworkTyping.{most_deep, IsInstance, AreInstances, no_instance, an_instance, instance_count, no_face, IsResource, AreResources, no_resource, a_resource, IsDevice, AreDevices, no_device, a_device, given_in, AreEventConnections, AreValueConnections, IsProper}
-use Rattle.fb_networks.specs.fb_text.declared.tree.BlockTree.{BlockTree as BlockRow}
-use Rattle.fb_networks.specs.fb_text.declared.tree.ResourceTree.{ResourceTree as ResourceRow}
-use Rattle.fb_networks.specs.fb_text.declared.tree.DeviceTree.{DeviceTree as DeviceRow}
-use Rattle.fb_networks.specs.fb_text.Views as trees_of
-use Rattle.fb_networks.specs.fb_blocks.declared.fault.TypeFault.{TypeFault}
-use Rattle.fb_networks.specs.fb_blocks.declared.fault.TypeFault.TheVariants as faults
-use Rattle.fb_networks.proofs.of_fb_blocks.Lists.{map_map, mapped_more}
-use Rattle.fb_networks.specs.declared.typed.Instance.{Instance, out-Instance}
-use Rattle.fb_networks.specs.declared.typed.Network.{out-Network}
-use Rattle.fb_networks.specs.Views.{placed_in, placed_of, instances_of, wired_of}
-use Rattle.fb_networks.specs.Answers.{IsWired, AreNamed}
+use Rattle.fb_tree.specs.declared.tree.BlockTree.{BlockTree as BlockRow}
+use Rattle.fb_tree.specs.declared.tree.ResourceTree.{ResourceTree as ResourceRow}
+use Rattle.fb_tree.specs.declared.tree.DeviceTree.{DeviceTree as DeviceRow}
+use Rattle.fb_tree.specs.Files as trees_of
+use Rattle.fb_types_blocks.specs.declared.fault.TypeFault.{TypeFault}
+use Rattle.fb_types_blocks.specs.declared.fault.TypeFault.TheVariants as faults
+use Rattle.fb_types_blocks.proofs.Lists.{map_map, mapped_more}
+use Rattle.fb_types_networks.specs.declared.typed.Instance.{Instance, out-Instance}
+use Rattle.fb_types_networks.specs.declared.typed.Network.{out-Network}
+use Rattle.fb_types_networks.specs.Views.{placed_in, placed_of, instances_of, wired_of}
+use Rattle.fb_types_networks.specs.Answers.{IsWired, AreNamed}
 use Rattle.fb_types.specs.declared.typed.Resource.{Resource}
 use Rattle.fb_types.specs.declared.typed.Device.{Device}
 use Rattle.fb_types.specs.Uses.{Used, uses_in}

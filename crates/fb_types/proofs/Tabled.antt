@@ -15,7 +15,7 @@ use Rattle.std.proofs.lemmas.Map.Text.{hash_map_updates_text}
 use Rattle.fb_model.specs.Names.{Name}
 use Rattle.fb_model.specs.Declarations.{BlockTree}
 use Rattle.fb_model.specs.NetworkTyping.{type_named}
-use Rattle.fb_networks.specs.fb_text.declared.tree.BlockTree.{BlockTree as Tree}
+use Rattle.fb_tree.specs.declared.tree.BlockTree.{BlockTree as Tree}
 use Rattle.fb_types.specs.Made.{tree_of}
 
 or_cond : {X : Type 0} (b : Bool) (x : X) (o p : Option X) → option_or (cond b (Some x) o) p ≡ cond b (Some x) (option_or o p)

@@ -4,7 +4,7 @@ use Rattle.fb_model.specs.Declarations.{BlockTree, ResourceTree, DeviceTree, Sou
 use Rattle.fb_model.specs.System.{Resource, Device, System}
 use Rattle.fb_model.specs.Wires.{resource_count, most_followed}
 use Rattle.fb_model.specs.EventBlocks.{AreEventBlocks, Elaborates}
-use Rattle.fb_networks.specs.fb_blocks.declared.fault.TypeFault.{TypeFault}
+use Rattle.fb_types_blocks.specs.declared.fault.TypeFault.{TypeFault}
 use Rattle.fb_types.specs.Refusals.{IsSourceFault}
 
 -- what is at fault with declarations of the event blocks

@@ -1,7 +1,7 @@
 -- What is at fault in the services of a device, and in the channels of a system: this project's profile of IEC 61499-1 edition 2, 6.1.
 use Rattle.std.specs.Prelude.{◌≡◌, List, []}
-use Rattle.fb_networks.specs.fb_blocks.declared.fault.TypeFault.{TypeFault}
-use Rattle.fb_networks.specs.fb_blocks.declared.fault.TypeFault.TheVariants.{OutOfMemory}
+use Rattle.fb_types_blocks.specs.declared.fault.TypeFault.{TypeFault}
+use Rattle.fb_types_blocks.specs.declared.fault.TypeFault.TheVariants.{OutOfMemory}
 use Rattle.fb_types.specs.declared.numbers.Kind.TheVariants as k
 use Rattle.fb_types.specs.Uses.{Used}
 use Rattle.fb_types.specs.Numbers.{IsRepeated}

@@ -4,8 +4,8 @@ use Rattle.std.specs.List.{list_any}
 use Rattle.fb_words.specs.declared.format.Format.TheVariants.{First, Second}
 use Rattle.fb_model.specs.System.{Service}
 use Rattle.fb_model.specs.System as book
-use Rattle.fb_networks.specs.fb_blocks.declared.fault.TypeFault.{TypeFault}
-use Rattle.fb_networks.specs.fb_blocks.declared.fault.TypeFault.TheVariants.{OutOfMemory, BadService, ChannelShape}
+use Rattle.fb_types_blocks.specs.declared.fault.TypeFault.{TypeFault}
+use Rattle.fb_types_blocks.specs.declared.fault.TypeFault.TheVariants.{OutOfMemory, BadService, ChannelShape}
 use Rattle.fb_types.specs.declared.numbers.Kind.{Kind}
 use Rattle.fb_types.specs.declared.numbers.Kind.TheVariants as k
 use Rattle.fb_types.specs.Uses.{Used}

@@ -7,11 +7,11 @@ use Rattle.fb_model.specs.System.{Face, Body, Instances, Parameter}
 use Rattle.fb_model.specs.Typing.{service_names, most_instances}
 use Rattle.fb_model.specs.BlockTyping.{Declared, IsFace}
 use Rattle.fb_model.specs.NetworkTyping.{type_named, most_deep, most_resources, most_devices, IsMade, IsInstance, AreInstances, instance_count, inner_count, no_face, IsProper}
-use Rattle.fb_networks.specs.fb_blocks.declared.fault.TypeFault.{TypeFault}
-use Rattle.fb_networks.specs.fb_blocks.declared.fault.TypeFault.TheVariants.{OutOfMemory, UnknownName, DuplicateName, RecursiveComposite, Limit}
-use Rattle.fb_networks.specs.fb_blocks.Refusals.{IsRepetition, IsExcess, IsFaceFault, IsBasicFault}
-use Rattle.fb_networks.specs.Views.{Placed, placed_in}
-use Rattle.fb_networks.specs.Refusals.{IsPlainFault, IsServedFault, IsNetworkFault}
+use Rattle.fb_types_blocks.specs.declared.fault.TypeFault.{TypeFault}
+use Rattle.fb_types_blocks.specs.declared.fault.TypeFault.TheVariants.{OutOfMemory, UnknownName, DuplicateName, RecursiveComposite, Limit}
+use Rattle.fb_types_blocks.specs.Refusals.{IsRepetition, IsExcess, IsFaceFault, IsBasicFault}
+use Rattle.fb_types_networks.specs.Views.{Placed, placed_in}
+use Rattle.fb_types_networks.specs.Refusals.{IsPlainFault, IsServedFault, IsNetworkFault}
 use Rattle.fb_types.specs.Uses.{Used}
 use Rattle.fb_types.specs.Nesting.{IsOf, Uses, Leads, LeadsToNoRing, Nests, ResourcesProvide, DevicesProvide}
 use Rattle.fb_types.specs.Ends.{IsNumberFault, IsChannelFault}

@@ -12,7 +12,7 @@ use Rattle.fb_model.specs.Names.{Name, is_in}
 use Rattle.fb_model.specs.Declarations.{InstanceTree, Chart, Network, BlockTree, BodyTree}
 use Rattle.fb_model.specs.Typing.{service_names}
 use Rattle.fb_model.specs.NetworkTyping.{type_named}
-use Rattle.fb_networks.specs.fb_text.declared.tree.BlockTree.{BlockTree as Tree}
+use Rattle.fb_tree.specs.declared.tree.BlockTree.{BlockTree as Tree}
 use Rattle.fb_types.specs.declared.rings.Step.{Step}
 use Rattle.fb_types.specs.declared.rings.Step.TheVariants as s
 use Rattle.fb_types.specs.Nesting.{Uses, Leads}

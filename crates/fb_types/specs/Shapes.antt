@@ -6,8 +6,8 @@ use Rattle.fb_words.specs.declared.elem_type.ElemType.{ElemType}
 use Rattle.fb_words.specs.declared.format.Format.{Format}
 use Rattle.fb_model.specs.System.{Service}
 use Rattle.fb_model.specs.System as book
-use Rattle.fb_networks.specs.fb_blocks.declared.fault.TypeFault.{TypeFault}
-use Rattle.fb_networks.specs.fb_blocks.declared.fault.TypeFault.TheVariants.{OutOfMemory, ChannelShape}
+use Rattle.fb_types_blocks.specs.declared.fault.TypeFault.{TypeFault}
+use Rattle.fb_types_blocks.specs.declared.fault.TypeFault.TheVariants.{OutOfMemory, ChannelShape}
 use Rattle.fb_types.specs.declared.shapes.Seen.{Seen}
 use Rattle.fb_types.specs.Uses.{Used}
 

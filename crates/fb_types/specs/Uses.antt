@@ -1,9 +1,9 @@
 -- The services of instances with the offsets of the instances' names, depth first in text order.
 use Rattle.std.specs.Prelude.{ℕ, List, [], ◌∷◌, ◌++◌, map}
 use Rattle.fb_model.specs.System.{Service}
-use Rattle.fb_networks.specs.declared.typed.Body.TheOpen.{Body-F, Instance-F, Network-F}
-use Rattle.fb_networks.specs.declared.typed.Instance.{Instance, fold-Instance}
-use Rattle.fb_networks.specs.fb_services.Views.{service_of}
+use Rattle.fb_types_networks.specs.declared.typed.Body.TheOpen.{Body-F, Instance-F, Network-F}
+use Rattle.fb_types_networks.specs.declared.typed.Instance.{Instance, fold-Instance}
+use Rattle.fb_types_services.specs.Views.{service_of}
 use Rattle.fb_types.specs.declared.uses.Use.{Use}
 
 -- a service, and the offset of its instance's name

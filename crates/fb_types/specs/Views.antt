@@ -2,8 +2,8 @@
 use Rattle.std.specs.Prelude.{ℕ, List, [], ◌∷◌, ◌++◌, map, string_bytes}
 use Rattle.fb_model.specs.System as book
 use Rattle.fb_model.specs.Declarations as decl
-use Rattle.fb_networks.specs.Views.{placed_in, wired_of}
-use Rattle.fb_networks.specs.declared.typed.Network.{out-Network}
+use Rattle.fb_types_networks.specs.Views.{placed_in, wired_of}
+use Rattle.fb_types_networks.specs.declared.typed.Network.{out-Network}
 use Rattle.fb_types.specs.declared.typed.Resource.{Resource}
 use Rattle.fb_types.specs.declared.typed.Device.{Device}
 use Rattle.fb_types.specs.declared.typed.Configuration.{Configuration}

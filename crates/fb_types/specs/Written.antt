@@ -3,7 +3,7 @@ use Rattle.std.specs.Prelude.{ℕ, List}
 use Rattle.fb_model.specs.Declarations.{SourceTree}
 use Rattle.fb_model.specs.System.{System}
 use Rattle.fb_model.specs.EventBlocks.{Elaborates}
-use Rattle.fb_networks.specs.fb_text.Answers.{IsSource}
+use Rattle.fb_tree.specs.Sources.{IsSource}
 
 -- a text stands for a system: it spells a source, which is well typed
 pub record IsSystemOf (text : List ℕ) (system : System) : Type 0 where

@@ -4,11 +4,11 @@ ghost use Rattle.std.specs.Prelude.{◌≡◌, ◌+◌, ◌<◌, ◌≤◌, suc,
 ghost use Rattle.std.specs.Option.{MatchOption};
 ghost use Rattle.fb_model.specs.Typing.{most_instances};
 ghost use Rattle.fb_model.specs.NetworkTyping.{inner_count, instance_count};
-ghost use Rattle.fb_networks.specs.Views.{body_of, placed_of, instances_of};
+ghost use Rattle.fb_types_networks.specs.Views.{body_of, placed_of, instances_of};
 ghost use Rattle.fb_types.specs.Counts.{one_count, IsCrowded};
 
-use fb_networks::fb_services::fb_blocks::TypeFault;
-use fb_networks::{Body, Instance};
+use fb_types_blocks::TypeFault;
+use fb_types_networks::{Body, Instance};
 
 /// The most instances of a resource, those inside composites counted.
 pub const INSTANCES: usize = 1024;

@@ -4,7 +4,7 @@ ghost use Rattle.std.specs.Prelude.{◌≡◌, [], List, map, OnOk, IfOk, IfErr}
 ghost use Rattle.std.specs.List.{Contains};
 ghost use Rattle.fb_model.specs.Declarations as decl;
 ghost use Rattle.fb_model.specs.NetworkTyping.{IsDevice, AreDevices};
-ghost use Rattle.fb_networks.specs.fb_text.Views as trees_of;
+ghost use Rattle.fb_tree.specs.Files as trees_of;
 ghost use Rattle.fb_types.specs.Views.{device_of, resource_offsets, system_offsets, offsets_in, all_offsets, device_uses, system_uses};
 ghost use Rattle.fb_types.specs.Nesting.{ResourcesProvide, DevicesProvide};
 ghost use Rattle.fb_types.specs.Refusals.{IsDeviceFault};
@@ -15,8 +15,8 @@ use crate::made::Memo;
 use crate::resource::resources;
 use crate::table::Types;
 use crate::typed::Device;
-use fb_networks::fb_services::fb_blocks::fb_text::DeviceTree;
-use fb_networks::fb_services::fb_blocks::{TypeFault, at_most, table};
+use fb_tree::DeviceTree;
+use fb_types_blocks::{TypeFault, at_most, table};
 use std::alloc::Global;
 
 /// The most resources of a device.

@@ -3,7 +3,7 @@
 ghost use Rattle.std.specs.Prelude.{◌≡◌, ◌++◌, [], map, OnOk, IfErr};
 ghost use Rattle.fb_model.specs.Typing.{AreNewNumbers};
 ghost use Rattle.fb_model.specs.NetworkTyping.{inputs, outputs, subscribed, senders, device_services, all_services, AreAlike};
-ghost use Rattle.fb_networks.specs.fb_blocks.declared.fault.TypeFault.TheVariants.{OutOfMemory};
+ghost use Rattle.fb_types_blocks.specs.declared.fault.TypeFault.TheVariants.{OutOfMemory};
 ghost use Rattle.fb_types.specs.Uses.{use_of, service_in, services_at};
 ghost use Rattle.fb_types.specs.declared.numbers.Kind.TheVariants.{Input, Output, Subscriber, Sender};
 ghost use Rattle.fb_types.specs.Numbers.{numbers_in};
@@ -14,7 +14,7 @@ use crate::numbers::{Kind, differ};
 use crate::shapes::alike;
 use crate::typed::{Device, Resource};
 use crate::uses::{Use, gather_all};
-use fb_networks::fb_services::fb_blocks::TypeFault;
+use fb_types_blocks::TypeFault;
 use std::alloc::Global;
 
 // Adds the services of resources at the end.

@@ -5,8 +5,8 @@ ghost use Rattle.fb_model.specs.Declarations.{BlockTree, SourceTree};
 ghost use Rattle.fb_model.specs.System as book;
 ghost use Rattle.fb_model.specs.NetworkTyping.{ElaboratesWith};
 ghost use Rattle.fb_model.specs.EventBlocks.{AreEventBlocks, Elaborates};
-ghost use Rattle.fb_networks.specs.fb_blocks.declared.fault.TypeFault.{TypeFault};
-ghost use Rattle.fb_networks.specs.fb_blocks.declared.fault.TypeFault.TheVariants.{OutOfMemory};
+ghost use Rattle.fb_types_blocks.specs.declared.fault.TypeFault.{TypeFault};
+ghost use Rattle.fb_types_blocks.specs.declared.fault.TypeFault.TheVariants.{OutOfMemory};
 ghost use Rattle.fb_types.specs.Refusals.{IsSourceFault};
 ghost use Rattle.fb_types.specs.Beforehand.{IsRefused};
 

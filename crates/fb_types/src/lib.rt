@@ -1,10 +1,11 @@
-//! Whole sources: from source trees to typed systems.
+//! Room: language. Source trees of whole sources to typed systems, with whichever event blocks are given.
+//! `resolve_with` accepts exactly the sources that are well typed, and answers their one system (`one_system`), whichever declarations the event blocks have.
+//! A type is called too deep only if no ring can be reached from it, and the first declared one is named.
 #![tactic(auto)]
 
 mod count;
 mod device;
 mod ends;
-mod event_blocks;
 mod laws;
 mod made;
 mod make;
@@ -19,14 +20,11 @@ mod uses;
 
 pub use count::few;
 pub use ends::{channels_alike, numbers_differ};
-pub use event_blocks::resolve;
-pub use fb_events;
-pub use fb_networks;
-pub use fb_networks::fb_services::fb_blocks::TypeFault;
-pub use fb_networks::fb_services::fb_blocks::st_types::{Algo, TypedExpr};
+pub use fb_types_blocks::TypeFault;
 pub use laws::{event_blocks_are_alike, one_system, refusals_are_true};
 pub use numbers::{Kind, differ};
 pub use shapes::alike;
 pub use source::resolve_with;
+pub use st_types::{Algo, TypedExpr};
 pub use typed::{Configuration, Device, Resource, Typed};
 pub use uses::{Use, gather_all};

@@ -2,13 +2,13 @@
 
 ghost use Rattle.std.specs.Prelude.{◌≡◌, ℕ, List, string_bytes, OnOk, IfOk, IfSome};
 ghost use Rattle.fb_model.specs.Declarations as decl;
-ghost use Rattle.fb_networks.specs.Views.{body_of};
+ghost use Rattle.fb_types_networks.specs.Views.{body_of};
 ghost use Rattle.fb_types.specs.Made.{shape_of, shape_uses, body_uses, IsMemo, IsDone};
 ghost use Rattle.fb_types.specs.declared.made.Unmade.TheVariants.{Fault};
 
-use fb_networks::fb_services::fb_blocks::fb_text::BlockTree;
-use fb_networks::fb_services::fb_blocks::{Block, Face, TypeFault};
-use fb_networks::{Body, Network};
+use fb_tree::BlockTree;
+use fb_types_blocks::{Block, Face, TypeFault};
+use fb_types_networks::{Body, Network};
 use indexmap::IndexMap;
 use std::alloc::{AllocError, AllocFailed, Global};
 use std::rc::Rc;
@@ -49,7 +49,7 @@ impl<'a> From<TypeFault> for Unmade<'a> {
 }
 
 impl<'a> From<AllocError> for Unmade<'a> {
-    ghost use Rattle.fb_networks.specs.fb_blocks.declared.fault.TypeFault.TheVariants.{OutOfMemory};
+    ghost use Rattle.fb_types_blocks.specs.declared.fault.TypeFault.TheVariants.{OutOfMemory};
 
     ghost from_gives = { λ _ u. u ≡ Fault OutOfMemory };
 
@@ -59,7 +59,7 @@ impl<'a> From<AllocError> for Unmade<'a> {
 }
 
 impl<'a, T: Drop> From<AllocFailed<T>> for Unmade<'a> {
-    ghost use Rattle.fb_networks.specs.fb_blocks.declared.fault.TypeFault.TheVariants.{OutOfMemory};
+    ghost use Rattle.fb_types_blocks.specs.declared.fault.TypeFault.TheVariants.{OutOfMemory};
 
     ghost from_gives = { λ _ u. u ≡ Fault OutOfMemory };
 

@@ -7,11 +7,11 @@ ghost use Rattle.fb_model.specs.System as book;
 ghost use Rattle.fb_model.specs.BlockTyping.{Declared, IsFace, face_names};
 ghost use Rattle.fb_model.specs.Typing.{AreDistinct};
 ghost use Rattle.fb_model.specs.NetworkTyping.{type_named};
-ghost use Rattle.fb_networks.specs.fb_text.Views as trees_of;
-ghost use Rattle.fb_networks.specs.fb_blocks.Views.{face_of};
-ghost use Rattle.fb_networks.specs.fb_blocks.Refusals.{IsBasicFault};
+ghost use Rattle.fb_tree.specs.Files as trees_of;
+ghost use Rattle.fb_types_blocks.specs.Views.{face_of};
+ghost use Rattle.fb_types_blocks.specs.Refusals.{IsBasicFault};
 ghost use denote.Ref.{Bor};
-ghost use Rattle.fb_networks.specs.fb_text.declared.tree.BlockTree.{BlockTree as Tree};
+ghost use Rattle.fb_tree.specs.declared.tree.BlockTree.{BlockTree as Tree};
 ghost use Rattle.fb_types.specs.declared.made.Unmade.TheVariants as u;
 ghost use Rattle.fb_types.specs.Nesting.{IsOf};
 ghost use Rattle.fb_types.specs.Refusals.{IsTypeFault};
@@ -19,11 +19,9 @@ ghost use Rattle.fb_types.specs.Made.{tree_of, IsTable, IsMemo, IsNamed, IsOpen,
 
 use crate::made::{Made, Memo, Shape, Unmade, body, recall, remember};
 use crate::table::{Types, type_of};
-use fb_networks::fb_services::fb_blocks::fb_text::{
-    BlockTree, BodyTree, ChartTree, InstanceTree, NetworkTree,
-};
-use fb_networks::fb_services::fb_blocks::{Face, TypeFault, basic, face};
-use fb_networks::{Body, Instance, plain, served, wire};
+use fb_tree::{BlockTree, BodyTree, ChartTree, InstanceTree, NetworkTree};
+use fb_types_blocks::{Face, TypeFault, basic, face};
+use fb_types_networks::{Body, Instance, plain, served, wire};
 use std::alloc::{AllocError, Global};
 use std::rc::Rc;
 

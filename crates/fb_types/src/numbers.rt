@@ -2,14 +2,14 @@
 
 ghost use Rattle.std.specs.Prelude.{◌≡◌, ◌++◌, [], map, OnOk, IfErr};
 ghost use Rattle.fb_model.specs.Typing.{AreNewNumbers};
-ghost use Rattle.fb_networks.specs.fb_blocks.declared.fault.TypeFault.TheVariants.{OutOfMemory};
-ghost use Rattle.fb_networks.specs.fb_services.Views.{channel_of, service_of};
+ghost use Rattle.fb_types_blocks.specs.declared.fault.TypeFault.TheVariants.{OutOfMemory};
+ghost use Rattle.fb_types_services.specs.Views.{channel_of, service_of};
 ghost use Rattle.fb_types.specs.Uses.{use_of};
 ghost use Rattle.fb_types.specs.Numbers.{given, second_number, number_of, numbers_in, taken_fault, IsTaken, IsRepeated};
 
 use crate::uses::Use;
-use fb_networks::fb_services::fb_blocks::TypeFault;
-use fb_networks::fb_services::{Channel, Service};
+use fb_types_blocks::TypeFault;
+use fb_types_services::{Channel, Service};
 use fb_words::Format;
 use indexmap::IndexSet;
 use std::alloc::Global;

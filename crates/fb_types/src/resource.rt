@@ -4,8 +4,8 @@ ghost use Rattle.std.specs.Prelude.{◌≡◌, ◌++◌, [], List, map, OnOk, If
 ghost use Rattle.std.specs.List.{Contains};
 ghost use Rattle.fb_model.specs.Declarations as decl;
 ghost use Rattle.fb_model.specs.NetworkTyping.{IsResource, AreResources, no_face};
-ghost use Rattle.fb_networks.specs.fb_text.Views as trees_of;
-ghost use Rattle.fb_networks.specs.fb_blocks.Views.{face_of};
+ghost use Rattle.fb_tree.specs.Files as trees_of;
+ghost use Rattle.fb_types_blocks.specs.Views.{face_of};
 ghost use Rattle.fb_types.specs.Views.{resource_of, resource_offsets, offsets_in, resource_uses, device_uses};
 ghost use Rattle.fb_types.specs.Nesting.{AllProvide, ResourcesProvide};
 ghost use Rattle.fb_types.specs.Refusals.{IsResourceFault};
@@ -17,9 +17,9 @@ use crate::make::parts;
 use crate::rings::ring;
 use crate::table::Types;
 use crate::typed::Resource;
-use fb_networks::fb_services::fb_blocks::fb_text::{BlockTree, InstanceTree, ResourceTree};
-use fb_networks::fb_services::fb_blocks::{Face, TypeFault};
-use fb_networks::{Instance, wire};
+use fb_tree::{BlockTree, InstanceTree, ResourceTree};
+use fb_types_blocks::{Face, TypeFault};
+use fb_types_networks::{Instance, wire};
 use indexmap::IndexMap;
 use std::alloc::Global;
 

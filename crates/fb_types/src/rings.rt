@@ -7,13 +7,13 @@ ghost use Rattle.std.specs.Str.{bytes_eq};
 ghost use Rattle.indexmap.specs.IndexMap.{index_map_len};
 ghost use Rattle.fb_model.specs.Names.{Name};
 ghost use Rattle.fb_model.specs.Declarations as decl;
-ghost use Rattle.fb_networks.specs.fb_text.Views as trees_of;
+ghost use Rattle.fb_tree.specs.Files as trees_of;
 ghost use Rattle.fb_types.specs.Made.{tree_of, IsTable, IsNamed};
 ghost use Rattle.fb_types.specs.Rings.{found_in, parts_of, IsStep, met_by, IsSearching, IsRingBelow, IsSearched};
 
 use crate::make::is_on;
 use crate::table::{Types, is_service};
-use fb_networks::fb_services::fb_blocks::fb_text::{BlockTree, BodyTree, InstanceTree};
+use fb_tree::{BlockTree, BodyTree, InstanceTree};
 use indexmap::IndexMap;
 use std::alloc::{AllocError, Global};
 

@@ -3,14 +3,14 @@
 ghost use Rattle.std.specs.Prelude.{◌≡◌, ◌++◌, ◌∷◌, [], true, false, None, map, OnOk, IfErr};
 ghost use Rattle.std.specs.Option.{option_map};
 ghost use Rattle.fb_model.specs.NetworkTyping.{AreAlike};
-ghost use Rattle.fb_networks.specs.fb_blocks.declared.fault.TypeFault.TheVariants.{OutOfMemory};
-ghost use Rattle.fb_networks.specs.fb_services.Views.{service_of};
+ghost use Rattle.fb_types_blocks.specs.declared.fault.TypeFault.TheVariants.{OutOfMemory};
+ghost use Rattle.fb_types_services.specs.Views.{service_of};
 ghost use Rattle.fb_types.specs.Uses.{use_of, services_at};
 ghost use Rattle.fb_types.specs.Shapes.{end_of, shape_in, shape_of, shapes_of, Noted, IsOtherwise, IsUnlike};
 
 use crate::uses::Use;
-use fb_networks::fb_services::Service;
-use fb_networks::fb_services::fb_blocks::TypeFault;
+use fb_types_blocks::TypeFault;
+use fb_types_services::Service;
 use fb_words::{ElemType, Format};
 use indexmap::IndexMap;
 use std::alloc::Global;

@@ -6,10 +6,10 @@ ghost use Rattle.fb_model.specs.Declarations as decl;
 ghost use Rattle.fb_model.specs.Names.{is_in};
 ghost use Rattle.fb_model.specs.Typing.{service_names};
 ghost use Rattle.fb_model.specs.NetworkTyping.{type_named};
-ghost use Rattle.fb_networks.specs.fb_text.Views as trees_of;
+ghost use Rattle.fb_tree.specs.Files as trees_of;
 ghost use Rattle.fb_types.specs.Made.{tree_of, IsTable};
 
-use fb_networks::fb_services::fb_blocks::fb_text::BlockTree;
+use fb_tree::BlockTree;
 use indexmap::IndexMap;
 use std::alloc::{AllocError, Global};
 

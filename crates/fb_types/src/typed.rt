@@ -4,7 +4,7 @@ ghost use Rattle.std.specs.Prelude.{◌≡◌};
 ghost use Rattle.fb_types.specs.Views.{system_of};
 ghost use Rattle.fb_types.specs.Written.{IsWritten};
 
-use fb_networks::Network;
+use fb_types_networks::Network;
 use std::marker::Model;
 
 /// A resource: its instances and their connections. `at` is the offset of its name.
@@ -28,7 +28,7 @@ pub struct Configuration {
     pub devices: Vec<Device>,
 }
 
-/// A well typed system. It stands in a text: [`resolve`](crate::resolve) alone makes it, of a source that was read.
+/// A well typed system. It stands in a text.
 #[derive(Drop)]
 pub struct Typed {
     pub(crate) configuration: Configuration,
@@ -38,7 +38,7 @@ impl Model for Typed {
     ghost use Rattle.fb_types.specs.declared.typed.Configuration.{Configuration};
     ghost use Rattle.fb_types.specs.Views.{system_of};
     ghost use Rattle.fb_types.specs.Written.{IsWritten};
-    ghost use Rattle.fb_networks.specs.contracts.typed.Network as networks;
+    ghost use Rattle.fb_types_networks.specs.contracts.typed.Network as networks;
     ghost use Rattle.std.specs.Coded.{codes};
 
     ghost Value = { Configuration };
@@ -51,6 +51,14 @@ impl Model for Typed {
 }
 
 impl Typed {
+    /// A system that stands in a text, as that of a source that was read does.
+    pub fn new(configuration: Configuration) -> Typed
+        requires { IsWritten (system_of configuration) }
+        ensures { result ≡ configuration }
+    {
+        Typed { configuration }
+    }
+
     /// Its devices.
     pub fn configuration(&self) -> &Configuration
         ensures { result.now ≡ self.now }

@@ -6,10 +6,8 @@ use Rattle.fb_words.specs.Numbers.{in_type}
 use Rattle.fb_model.specs.Messages as book
 use Rattle.fb_model.specs.Messages.{Message, Spells, IsStamped}
 use Rattle.fb_wire.specs.declared.message.Typed.{Typed}
-use Rattle.fb_model.specs.Fields.{Fault}
-use Rattle.fb_model.specs.Fields.{Trailing}
+use Rattle.fb_model.specs.Fields.{Fault, Trailing, first_fault, values_in, fault_in}
 use Rattle.fb_wire.specs.Views.{typed_of, value_bytes, all_bytes, head_bytes, IsBegun}
-use Rattle.fb_model.specs.Fields.{first_fault, values_in, fault_in}
 use Rattle.fb_wire.proofs.Reading.{head_right, value_right}
 use Rattle.fb_wire.proofs.Spelled.{in_64, spelled}
 

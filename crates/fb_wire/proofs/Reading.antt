@@ -12,9 +12,8 @@ use Rattle.fb_words.specs.declared.elem_type.ElemType.{ElemType}
 use Rattle.fb_words.specs.declared.elem_type.ElemType.TheVariants as t
 use Rattle.fb_words.specs.Numbers.{in_type}
 use Rattle.fb_wire.specs.declared.message.Typed.{Typed}
-use Rattle.fb_model.specs.Fields.{Value}
+use Rattle.fb_model.specs.Fields.{Value, Field, first_fault, fault_in, type_of, is_in, is_type, number_in, mark, version, kind, number, stamping, count, code, value, values_in}
 use Rattle.fb_wire.specs.Views.{code_of, value_bytes, head_bytes}
-use Rattle.fb_model.specs.Fields.{Field, first_fault, fault_in, type_of, is_in, is_type, number_in, mark, version, kind, number, stamping, count, code, value, values_in}
 use Rattle.fb_model.specs.Messages.{Message, Purpose, To_channel, To_input, Stamp, IsStamped, purpose_code, big_endian}
 
 taken : (p rest : List ℕ) (n : ℕ) → length p ≡ n → take n (p ++ rest) ≡ p

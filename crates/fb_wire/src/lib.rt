@@ -1,4 +1,5 @@
-//! Datagrams: messages between devices, and how they are spelled in bytes.
+//! Room: network. Datagrams: messages between devices, and how they are spelled in bytes, in two versions.
+//! `encode` writes the bytes that spell a message; `decode` answers a message just where bytes spell one, and else the first field at fault.
 #![tactic(auto)]
 
 mod decoding;

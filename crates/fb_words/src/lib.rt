@@ -1,4 +1,5 @@
-//! The closed lists that texts and definitions share: signs, reserved words, element types, wire formats and operators.
+//! Room: book. The closed lists that texts and definitions share: signs, reserved words, element types, wire formats and operators.
+//! Contracts: how each sign and word is written, which word names which type, and what the numbers of a type are (`lowest`, `highest`, `fits`, `wrap`).
 #![tactic(auto)]
 
 mod elem_type;

@@ -4,9 +4,9 @@ use Rattle.std.specs.Prelude.{MatchResult, string_bytes}
 use Rattle.std.specs.Io.KnownBytes.{Appends}
 use Rattle.std.specs.declared.string.String.{String}
 use Rattle.std.specs.declared.alloc.Global.{Global}
-use Rattle.fb_script.specs.fb_check.Verdicts.{IsTypedOf}
-use Rattle.fb_script.specs.fb_types.declared.typed.Configuration.{Configuration}
-use Rattle.fb_script.specs.fb_types.Views.{system_of}
+use Rattle.fbr_explain.specs.fb_verdict.Verdicts.{IsTypedOf}
+use Rattle.fb_types.specs.declared.typed.Configuration.{Configuration}
+use Rattle.fb_types.specs.Views.{system_of}
 use Rattle.fbr.specs.declared.fault.Fault.{Fault}
 use Rattle.fbr.specs.declared.fault.Fault.TheVariants.{Memory, Input, File, Line, Usage, Refused, Unbound}
 use Rattle.fbr.specs.Outcomes.{Tells, refusal, IsContents, IsReadFault}

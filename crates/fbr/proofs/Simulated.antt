@@ -1,13 +1,13 @@
 -- What is told of a simulation.
 use Rattle.std.proofs.Common.{◌≡◌, ◌∙◌, ℕ, List, sym, ap, inl, inr, subst, Option, Result, Ok, Err, IfOk}
-use Rattle.fb_script.specs.fb_check.Verdicts.{system_in}
-use Rattle.fb_script.specs.fb_check.declared.verified.Verified.{Verified}
+use Rattle.fbr_explain.specs.fb_verdict.Verdicts.{system_in}
+use Rattle.fbr_explain.specs.fb_verdict.declared.verified.Verified.{Verified}
 use Rattle.fbr.specs.declared.fault.Fault.{Fault}
 use Rattle.fbr.specs.declared.fault.Fault.TheVariants.{Memory, Usage}
 use Rattle.fbr.specs.Outcomes.{Tells, refusal, IsFilesOutcome}
 use Rattle.fbr.specs.Simulation.{IsVerified, IsScript, IsScriptFault, TellsEnd, IsSilent, IsFresh, HasOneDevice, TellsRun, a_run, no_device, TellsRunFrom, TellsScript, TellsSim}
-use Rattle.fb_script.specs.fb_device.Sessions.{Session}
-use Rattle.fb_script.specs.fb_device.Machines.{device_at, device_in, machine_of}
+use Rattle.fb_script.specs.fb_device_state.Sessions.{Session}
+use Rattle.fb_script.specs.fb_device_state.Machines.{device_at, device_in, machine_of}
 use Rattle.fb_model.specs.Devices.{at_first, first_stamp}
 use Rattle.fb_script.specs.Runs.{IsRun}
 use Rattle.fb_model.specs.System.{Device}

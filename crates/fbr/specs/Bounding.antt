@@ -3,10 +3,10 @@ use Rattle.std.specs.Prelude.{◌≡◌, ℕ, List, Option}
 use Rattle.std.specs.Io.KnownBytes.{Appends}
 use Rattle.fb_model.specs.System.{System}
 use Rattle.fb_find.specs.Bounds.{IsNoBound}
-use Rattle.fb_script.specs.fb_check.Verdicts.{IsTypedOf, IsTextFault}
-use Rattle.fb_script.specs.fb_types.declared.typed.Configuration.{Configuration}
-use Rattle.fb_script.specs.fb_types.Views.{system_of}
-use Rattle.fb_finding.specs.Finding.{IsFound}
+use Rattle.fbr_explain.specs.fb_verdict.Verdicts.{IsTypedOf, IsTextFault}
+use Rattle.fb_types.specs.declared.typed.Configuration.{Configuration}
+use Rattle.fb_types.specs.Views.{system_of}
+use Rattle.fb_find_laws.specs.Finding.{IsFound}
 use Rattle.fb_cert.specs.Views.{Rows, book_of}
 use Rattle.fb_cert.specs.Printed.{printed}
 use Rattle.fbr.specs.declared.fault.Fault.{Fault}

@@ -3,10 +3,10 @@ use Rattle.std.specs.Prelude.{◌≡◌, ◌≤◌, ℕ, true, ◌⊎◌, List, 
 use Rattle.std.specs.Io.KnownBytes.{Appends}
 use Rattle.std.specs.Fmt.{decimal}
 use Rattle.std.specs.Str.{is_utf8}
-use Rattle.fb_script.specs.fb_check.Refusals as refusals
-use Rattle.fb_solved.specs.Codes as finding
-use Rattle.fb_script.specs.fb_check.Verdicts as verdicts
-use Rattle.fb_script.specs.fb_check.declared.verified.Verified.{Verified}
+use Rattle.fbr_explain.specs.fb_verdict.Refusals as refusals
+use Rattle.fb_find_rows.specs.Codes as finding
+use Rattle.fbr_explain.specs.fb_verdict.Verdicts as verdicts
+use Rattle.fbr_explain.specs.fb_verdict.declared.verified.Verified.{Verified}
 use Rattle.fbr.specs.Halves.{divide}
 use Rattle.fbr.specs.declared.fault.Fault.{Fault}
 use Rattle.fbr.specs.declared.fault.Fault.TheVariants.{Memory, Input, File, Line, Usage, Refused, Unbound}

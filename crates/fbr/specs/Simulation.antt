@@ -1,10 +1,10 @@
 -- What a simulation tells: this project's profile.
 use Rattle.std.specs.Prelude.{◌≡◌, ◌≤◌, ℕ, ◌⊎◌, List, [], length, Option, Result, Ok, Err}
 use Rattle.std.specs.Io.KnownBytes.{Appends}
-use Rattle.fb_script.specs.fb_check.Verdicts as verdicts
-use Rattle.fb_script.specs.fb_check.declared.verified.Verified.{Verified}
-use Rattle.fb_script.specs.fb_device.Sessions.{Session}
-use Rattle.fb_script.specs.fb_device.Machines.{device_in, machine_of}
+use Rattle.fbr_explain.specs.fb_verdict.Verdicts as verdicts
+use Rattle.fbr_explain.specs.fb_verdict.declared.verified.Verified.{Verified}
+use Rattle.fb_script.specs.fb_device_state.Sessions.{Session}
+use Rattle.fb_script.specs.fb_device_state.Machines.{device_in, machine_of}
 use Rattle.fb_model.specs.Devices.{silent, at_first, first_stamp}
 use Rattle.fb_script.specs.Runs.{IsRun}
 use Rattle.fb_script.specs.declared.run.End.{End}

@@ -2,9 +2,9 @@
 
 ghost use Rattle.std.specs.Prelude.{◌≡◌, ◌≤◌, ℕ, Option, IfOk, IfSome, MatchResult, string_bytes};
 ghost use Rattle.std.specs.Io.KnownBytes.{Appends};
-ghost use Rattle.fb_script.specs.fb_check.Verdicts.{IsTypedOf};
-ghost use Rattle.fb_script.specs.fb_types.Views.{system_of};
-ghost use Rattle.fb_finding.specs.Finding.{IsFound};
+ghost use Rattle.fbr_explain.specs.fb_verdict.Verdicts.{IsTypedOf};
+ghost use Rattle.fb_types.specs.Views.{system_of};
+ghost use Rattle.fb_find_laws.specs.Finding.{IsFound};
 ghost use Rattle.fb_cert.specs.Views.{rows_of, certificate_of};
 ghost use Rattle.fb_cert.specs.Printed.{printed};
 ghost use Rattle.fbr.specs.Bounding.{IsTextFor, IsUnbound, IsBoundText, IsBoundFault, TellsBound};
@@ -14,10 +14,10 @@ use crate::check::{print_outcome, read_text};
 use crate::fault::Fault;
 use crate::sources::Sources;
 use fb_cert::{Certificate, print_cert};
-use fb_find::fb_check::fb_columns::fb_flat::fb_types::Typed;
-use fb_find::fb_check::{Refusal, read_system};
 use fb_find::find;
-use fb_solved::NoBound;
+use fb_find_rows::NoBound;
+use fb_types::Typed;
+use fbr_explain::fb_check::{Refusal, read_system};
 use std::alloc::Global;
 use std::io;
 use std::io::Write;

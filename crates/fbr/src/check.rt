@@ -7,7 +7,7 @@ ghost use Rattle.fbr.specs.Outcomes.{Tells, TellsInput, TellsFiles, outcome_said
 
 use crate::fault::Fault;
 use crate::sources::{ReadFault, Sources};
-use fb_script::fb_device::fb_tables::fb_check::{Refusal, check_text};
+use fbr_explain::fb_check::{Refusal, check_text};
 use std::alloc::Global;
 use std::io;
 use std::io::{ErrorKind, Read, Write};

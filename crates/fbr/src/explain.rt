@@ -8,13 +8,13 @@ use crate::fault::Fault;
 use crate::sim::verified_texts;
 use crate::sources::Sources;
 use fb_cert::{Certificate, parse_cert};
-use fb_explain::{
+use fb_find_rows::NoBound;
+use fb_script::read_number;
+use fb_types::Typed;
+use fbr_explain::fb_check::{Refusal, Verified, check};
+use fbr_explain::{
     Named, Refused, meaning_of, tell_bounds, tell_meaning, tell_no_bound, tell_refusal,
 };
-use fb_find::fb_check::fb_columns::fb_flat::fb_types::Typed;
-use fb_find::fb_check::{Refusal, Verified, check};
-use fb_script::read_number;
-use fb_solved::NoBound;
 use std::alloc::Global;
 use std::io;
 use std::io::Write;

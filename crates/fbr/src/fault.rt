@@ -3,8 +3,8 @@
 ghost use Rattle.std.specs.Prelude.{◌≡◌, ◌≤◌};
 ghost use Rattle.fbr.specs.Statuses.{status_of_code, status_of_no_bound};
 
-use fb_script::fb_device::fb_tables::fb_check::Refusal;
-use fb_solved::NoBound;
+use fb_find_rows::NoBound;
+use fbr_explain::fb_check::Refusal;
 use std::alloc::AllocError;
 use std::fmt;
 

@@ -1,4 +1,5 @@
-//! The commands of `fbr`, over the runtime, the words, a source of files, a reader and a writer.
+//! Room: program. The commands of `fbr` as a library: `command` over the runtime, the words, a source of files, a reader and two writers.
+//! One outcome is written, and it is true of what was read. Not said: that the program does not give up (9, 61, or status 3), and what help, `explain` and `draw` write.
 #![tactic(auto)]
 
 mod bound;

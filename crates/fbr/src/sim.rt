@@ -2,14 +2,14 @@
 
 ghost use Rattle.std.specs.Prelude.{◌≡◌, ◌≤◌, ◌<◌, length, IfOk, MatchResult, string_bytes, true, false};
 ghost use Rattle.fbr.specs.Simulation.{IsVerified, IsScript, IsScriptFault, IsVerifiedTexts, TellsEnd, IsSilent, HasOneDevice, TellsRun, TellsRunFrom, TellsScript, TellsSim};
-ghost use Rattle.fb_script.specs.fb_check.declared.verified.Verified as of_check;
+ghost use Rattle.fbr_explain.specs.fb_verdict.declared.verified.Verified as of_check;
 
 use crate::check::{LIMIT, print_outcome, read_text, read_whole};
 use crate::fault::Fault;
 use crate::sources::{ReadFault, Sources};
-use fb_script::fb_device::fb_tables::fb_check::{Refusal, Verified, check_text};
 use fb_script::fb_device::{Device, Ready, load_checked};
 use fb_script::{End, simulate};
+use fbr_explain::fb_check::{Refusal, Verified, check_text};
 use std::alloc::Global;
 use std::io;
 use std::io::{Read, Write};

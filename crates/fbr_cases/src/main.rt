@@ -1,4 +1,4 @@
-//! Runs cases: each file of the folders that the words name holds inputs and the answers that the product is to give.
+//! Room: cases. Runs cases: each file of the folders that the words name holds inputs and the answers that the product is to give.
 #![tactic(auto)]
 
 mod files;

@@ -1,6 +1,8 @@
 //! What devices answer.
 
-use fb_device::{Answer, Device, Dispatched, Effect, Opening, Ready, Refusal, Step, load_boot};
+use fb_script::fb_device::{
+    Answer, Device, Dispatched, Effect, Opening, Ready, Refusal, Step, load_boot,
+};
 use fb_script::tell;
 use fb_wire::encode;
 use fbr_cases_language::{Case, ended, refused, text_of};

@@ -1,4 +1,5 @@
-//! What the product's calls answer for cases of devices and datagrams, as short text: what no command shows.
+//! Room: cases. What a device's calls answer for a case, as short text.
+//! No contracts: the answers are compared with stored ones.
 #![tactic(auto)]
 
 mod datagram;

@@ -1,10 +1,9 @@
 //! Declarations as short text, a line each.
 
 use crate::trees::{constant, expression, name, spot, statements};
-use fb_read::Name;
-use fb_text::{
+use fb_tree::{
     ActionTree, BlockTree, BodyTree, ChartTree, ConnectionTree, EventTree, FileTree, InstanceTree,
-    NetworkTree, PortTree, TransitionTree, VariableTree,
+    Name, NetworkTree, PortTree, TransitionTree, VariableTree,
 };
 use std::alloc::AllocError;
 

@@ -1,4 +1,5 @@
-//! What the product's calls answer for cases of the language, from tokens to ranges and walks, as short text: what no command shows.
+//! Room: cases. What the calls up to the verdict answer for a case, as short text.
+//! No contracts: the answers are compared with stored ones.
 #![tactic(auto)]
 
 mod case;

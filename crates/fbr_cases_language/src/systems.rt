@@ -3,9 +3,10 @@
 use crate::case::Case;
 use crate::text::{ended, refused, text_of};
 use fb_flat::{Body, Flat, Input, Leaf, Source, flatten};
-use fb_services::{Channel, Service};
 use fb_text::parse;
-use fb_types::{Typed, resolve};
+use fb_types::Typed;
+use fb_types_events::resolve;
+use fb_types_services::{Channel, Service};
 use fb_words::{ElemType, Format};
 use std::alloc::{AllocError, Global};
 use std::convert::AsStr;

@@ -1,9 +1,8 @@
 //! Trees as short text: `A@7` is the name A whose first byte is the seventh behind the text's beginning, and so is `5@7` a number.
 
 use fb_lex::{Kind, Token};
-use fb_read::Name;
+use fb_tree::{Arm, Branch, Constant, Expr, Label, Link, Literal, Name, Stmt};
 use fb_words::Operator;
-use st_tree::{Arm, Branch, Constant, Expr, Label, Link, Literal, Stmt};
 use std::alloc::AllocError;
 use std::fmt::Write;
 

@@ -1,4 +1,5 @@
-//! The program `fbr`.
+//! Room: program. The program `fbr`: `main` hands the process's words, files and streams to `command`.
+//! A status becomes the process's own; that `main` calls the command at all is shown by the stored run alone.
 #![tactic(auto)]
 
 ghost use Rattle.std.specs.Prelude.{◌≡◌, ◌≤◌, IfOk, MatchResult};

@@ -1,6 +1,16 @@
+pub mod Laying
+pub mod Coding
+pub mod Alike
 pub mod Reading
 pub mod Writing
 pub mod Chaining
-pub mod Iterations
+pub mod Looping
 pub mod Serving
 pub mod Runs
+pub mod Slots
+pub mod Keeping
+pub mod Running
+pub mod Placing
+pub mod Setting
+pub mod Branching
+pub mod Zeros

@@ -10,7 +10,7 @@ use Rattle.fb_model.specs.StructuredTextGrammar.{IsStep, no_step, a_step, IsBoun
 use Rattle.fb_read.specs.Reading.{Read, ◌>>=◌, next_is, after, expect, all_at, list_at}
 use Rattle.fb_read.proofs.Readers.{Gets, Complete, never, Shorter, Avoids, gets_then, gets_wider}
 use Rattle.fb_read.proofs.Repetitions.{stops_at, while_complete}
-use Rattle.st_expr.specs.Reading.{continues}
+use Rattle.st_parse.specs.ExpressionReading.{continues}
 use Rattle.st_parse.specs.Reading.{headed, begins_integer, begins_block, begins_entry, label_at, step_at, assign_at, element_at, assignment_at, branch_at, else_at, elsifs_at, if_at, arm_at, arms_at, case_at, bound_at, head_at, for_at, block_at, statement_at, entry_at, statements_in, entries_at, nested_at, body_at}
 use Rattle.st_parse.proofs.Headed.{headed_complete}
 use Rattle.st_parse.proofs.Labels.{labels_complete, step_complete, integer_apart}

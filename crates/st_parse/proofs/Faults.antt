@@ -14,7 +14,7 @@ use Rattle.fb_read.proofs.Steady.{IsStuck, IsDeep}
 use Rattle.fb_read.proofs.Viable.{Any, Viable}
 use Rattle.fb_read.proofs.Whole.{whole_viable}
 use Rattle.fb_read.proofs.Whole as answers
-use Rattle.st_tree.specs.declared.statement.Stmt.{Stmt}
+use Rattle.fb_tree.specs.declared.statement.Stmt.{Stmt}
 use Rattle.st_parse.specs.Reading.{algorithm_at, whole_at}
 use Rattle.st_parse.specs.Answers.{listed, Reads, FindsAlgorithm, IsSomeAlgorithm, IsWithinLimits, SyntaxAt, TooDeepAt}
 use Rattle.st_parse.proofs.Laws.{whole_read, whole_any, algorithm_points}

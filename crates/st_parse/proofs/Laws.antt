@@ -7,9 +7,9 @@ use Rattle.fb_read.specs.Reading.{too_deep, Answer}
 use Rattle.fb_read.proofs.Readers.{Sound, Gets, Complete}
 use Rattle.fb_read.proofs.Steady.{Steady}
 use Rattle.fb_read.proofs.Whole.{Points, whole_sound, whole_complete, whole_points}
-use Rattle.st_expr.specs.Reading.{continues, expression_at}
+use Rattle.st_parse.specs.ExpressionReading.{continues, expression_at}
 use Rattle.st_parse.specs.Reading.{begins_entry, algorithm_at, whole_at}
-use Rattle.st_expr.proofs.Laws.{expression_sound, expression_complete, expression_shorter, expression_steady}
+use Rattle.st_parse.proofs.ExpressionLaws.{expression_sound, expression_complete, expression_shorter, expression_steady}
 use Rattle.st_parse.proofs.Sound.{body_sound}
 use Rattle.st_parse.proofs.Shorter.{NoLonger, body_no_longer}
 use Rattle.st_parse.proofs.Complete.{deeper, body_complete}

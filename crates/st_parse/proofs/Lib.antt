@@ -1,3 +1,8 @@
+pub mod ExpressionSound
+pub mod ExpressionComplete
+pub mod ExpressionSteady
+pub mod ExpressionViable
+pub mod ExpressionLaws
 pub mod Entries
 pub mod Headed
 pub mod Labels

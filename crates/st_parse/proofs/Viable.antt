@@ -11,9 +11,9 @@ use Rattle.fb_read.proofs.Readers.{Sound, Shorter, shallow_then, shallow_name}
 use Rattle.fb_read.proofs.Repetitions.{separated_shallow}
 use Rattle.fb_read.proofs.Steady.{Steady, next_sees, steady_deep, steady_name}
 use Rattle.fb_read.proofs.Viable.{Span, Any, GoesOn, Viable, Marked, Behind, goes_as, goes_if, goes_shallow, goes_done, begun_at, viable_expect, viable_may, viable_then, is_read, is_name, shallow_closing, while_viable}
-use Rattle.st_expr.specs.Reading.{expression_at}
-use Rattle.st_expr.proofs.Laws.{expression_shorter, expression_steady}
-use Rattle.st_expr.proofs.Viable.{nought, zero_tree, closing, expression_wide, expression_alone, expression_viable}
+use Rattle.st_parse.specs.ExpressionReading.{expression_at}
+use Rattle.st_parse.proofs.ExpressionLaws.{expression_shorter, expression_steady}
+use Rattle.st_parse.proofs.ExpressionViable.{nought, zero_tree, closing, expression_wide, expression_alone, expression_viable}
 use Rattle.st_parse.specs.Reading.{headed, begins_integer, begins_block, begins_entry, label_at, step_at, assign_at, element_at, assignment_at, branch_at, else_at, elsifs_at, if_at, arm_at, arms_at, case_at, bound_at, head_at, for_at, block_at, statement_at, entry_at, statements_in, entries_at, nested_at, body_at, algorithm_at}
 use Rattle.st_parse.proofs.Headed.{IsHeaded, a_head, headed_sound, steady_headed}
 use Rattle.st_parse.proofs.Labels.{labels_sound, labels_steady, integer_sees}

@@ -7,8 +7,8 @@ use Rattle.fb_model.specs.StructuredText.{Statements}
 use Rattle.fb_model.specs.StructuredTextGrammar.{IsAlgorithm, most_nested, most_nested_statements}
 use Rattle.fb_read.specs.Faults.{end_of}
 use Rattle.fb_read.specs.Whole.{Tells, Finds, PlacesSyntax, PlacesTooDeep}
-use Rattle.st_tree.specs.declared.statement.Stmt.{Stmt}
-use Rattle.st_tree.specs.Views.{body_of}
+use Rattle.fb_tree.specs.declared.statement.Stmt.{Stmt}
+use Rattle.fb_tree.specs.Algorithms.{body_of}
 use Rattle.st_parse.specs.Reading.{whole_at}
 
 -- what is answered for the tokens of an algorithm

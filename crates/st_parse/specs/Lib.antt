@@ -1,2 +1,4 @@
+pub mod ExpressionReading
+pub mod ExpressionAnswers
 pub mod Reading
 pub mod Answers

@@ -8,7 +8,7 @@ use Rattle.fb_model.specs.Trees.{Whole, Constant}
 use Rattle.fb_model.specs.StructuredText.{Expression, Label, Bound, Statement, assign, assign_element, branch, select, repeat, Statements, no_statement, statements, Branch, branches, Arm, arms}
 use Rattle.fb_model.specs.StructuredTextGrammar.{begins_number, is_number, most_nested, most_nested_statements}
 use Rattle.fb_read.specs.Reading.{Wrong, too_deep, stuck, Answer, Read, ◌>>=◌, next_is, after, expect, offset_at, name_at, begins_name, all_at, list_at, whole_of}
-use Rattle.st_expr.specs.Reading.{expression_at}
+use Rattle.st_parse.specs.ExpressionReading.{expression_at}
 
 -- ---- items of which one begins
 

@@ -7,14 +7,14 @@ ghost use Rattle.fb_read.specs.Whole.{IfSyntax};
 ghost use Rattle.fb_model.specs.Tokens as book;
 ghost use Rattle.fb_model.specs.StructuredText.{Statements};
 ghost use Rattle.fb_model.specs.StructuredTextGrammar.{IsAlgorithm, most_nested, most_nested_statements};
-ghost use Rattle.st_tree.specs.Views.{body_of};
+ghost use Rattle.fb_tree.specs.Algorithms.{body_of};
 ghost use Rattle.st_parse.specs.Reading.{algorithm_at, whole_at};
 ghost use Rattle.st_parse.specs.Answers.{Reads, FindsAlgorithm, SyntaxAt, TooDeepAt};
 
 use crate::statement::list;
 use fb_lex::{TextFault, Token};
 use fb_read::{Stop, end_of};
-use st_tree::Stmt;
+use fb_tree::Stmt;
 use std::alloc::Global;
 
 /// How deep IF, CASE and FOR may nest.

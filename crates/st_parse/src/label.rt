@@ -2,16 +2,17 @@
 
 ghost use Rattle.std.specs.Prelude.{◌≡◌, map};
 ghost use Rattle.fb_lex.specs.Views.{tokens_of};
-ghost use Rattle.fb_read.specs.Answers.{Gives, optional};
+ghost use Rattle.fb_read.specs.Answers.{Gives};
+ghost use Rattle.fb_tree.specs.Words.{optional};
 ghost use Rattle.fb_read.specs.Reading.{list_at};
 ghost use Rattle.fb_words.specs.declared.mark.Mark.TheVariants as m;
-ghost use Rattle.st_tree.specs.Views.{constant_of, label_of};
+ghost use Rattle.fb_tree.specs.Algorithms.{constant_of, label_of};
 ghost use Rattle.st_parse.specs.Reading.{number_at, integer_at, optional_at, label_at, begins_integer};
 
 use fb_lex::{Kind, Token};
 use fb_read::{Stop, begins_number, next_is};
+use fb_tree::{Constant, Label, Literal};
 use fb_words::Mark;
-use st_tree::{Constant, Label, Literal};
 use std::alloc::Global;
 
 // The number without a type that has to stand next, with its sign.

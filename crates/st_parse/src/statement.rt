@@ -2,19 +2,20 @@
 
 ghost use Rattle.std.specs.Prelude.{◌≡◌, map, string_bytes};
 ghost use Rattle.fb_lex.specs.Views.{tokens_of};
-ghost use Rattle.fb_read.specs.Answers.{Gives, word_of, optional};
+ghost use Rattle.fb_read.specs.Answers.{Gives};
+ghost use Rattle.fb_tree.specs.Words.{word_of, optional};
 ghost use Rattle.fb_words.specs.declared.mark.Mark.TheVariants as m;
 ghost use Rattle.fb_model.specs.StructuredTextGrammar.{is_number, most_nested};
-ghost use Rattle.st_tree.specs.Views.{expr_of, bound_of, constant_of, stmt_of, branch_of, arm_of, body_of};
-ghost use Rattle.st_expr.specs.Reading.{expression_at};
+ghost use Rattle.fb_tree.specs.Algorithms.{expr_of, bound_of, constant_of, stmt_of, branch_of, arm_of, body_of};
+ghost use Rattle.st_parse.specs.ExpressionReading.{expression_at};
 ghost use Rattle.st_parse.specs.Reading.{headed, begins_block, begins_entry, step_at, assign_at, element_at, assignment_at, branch_at, else_at, elsifs_at, if_at, arm_at, arms_at, case_at, bound_at, head_at, for_at, block_at, statement_at, entry_at, entries_at, nested_at, body_at};
 
+use crate::expression;
 use crate::label::{begins_integer, labels, optional};
 use fb_lex::Token;
-use fb_read::{Name, Stop, begins_name, begins_number, expect, next_is, next_offset, read_name};
+use fb_read::{Stop, begins_name, begins_number, expect, next_is, next_offset, read_name};
+use fb_tree::{Arm, Bound, Branch, Constant, Name, Stmt};
 use fb_words::Mark;
-use st_expr::expression;
-use st_tree::{Arm, Bound, Branch, Constant, Stmt};
 use std::alloc::Global;
 
 // Whether IF, CASE or FOR stands next.

@@ -4,8 +4,8 @@ use Rattle.fb_words.specs.declared.operator.Operation.{Operation}
 use Rattle.fb_model.specs.StructuredText.{no_expression, expression, expressions}
 use Rattle.fb_model.specs.TextTyping.{Symbol, Operand}
 use Rattle.fb_model.specs.TextFaults.{Fault, type_mismatch}
-use Rattle.st_tree.specs.declared.expression.Expr.{Expr}
-use Rattle.st_tree.specs.Views.{expr_of}
+use Rattle.fb_tree.specs.declared.expression.Expr.{Expr}
+use Rattle.fb_tree.specs.Algorithms.{expr_of}
 use Rattle.st_types.specs.Elaborating.{typed_call}
 
 pub one_argument : (es : List Expr) (a : Expr) → 1 ≤ length es → length es < 2 → a ≡ get_or es 0 a → expressions (map expr_of es) ≡ expression (expr_of a) no_expression

@@ -4,10 +4,10 @@ use Rattle.std.proofs.lemmas.List.{map_push}
 use Rattle.std.specs.declared.alloc.Global.{Global}
 use Rattle.std.specs.declared.boxed.Box.{Box}
 use Rattle.fb_model.specs.StructuredText.{grouped}
-use Rattle.st_tree.specs.declared.expression.Expr.{Expr}
-use Rattle.st_tree.specs.declared.expression.Expr as source
-use Rattle.st_tree.specs.declared.expression.Link.{Link}
-use Rattle.st_tree.specs.Views.{expr_of, link_of}
+use Rattle.fb_tree.specs.declared.expression.Expr.{Expr}
+use Rattle.fb_tree.specs.declared.expression.Expr as source
+use Rattle.fb_tree.specs.declared.expression.Link.{Link}
+use Rattle.fb_tree.specs.Algorithms.{expr_of, link_of}
 use Rattle.fb_words.specs.declared.elem_type.ElemType.{ElemType}
 use Rattle.fb_words.specs.declared.operator.Operation.{Operation}
 use Rattle.fb_model.specs.TypedText.{Term, double}

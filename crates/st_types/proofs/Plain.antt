@@ -20,15 +20,15 @@ use Rattle.st_types.specs.CommandViews.{Chosen, commands_of, choice_of, case_of}
 use Rattle.st_types.proofs.Steps.{fails_then}
 use denote.Param.Weighed.{most}
 use Rattle.std.specs.Prelude.{◌+◌, ◌≤◌, Option}
-use Rattle.fb_read.specs.declared.token.Name.{Name as Name_}
-use Rattle.st_tree.specs.declared.statement.Bound.{Bound}
-use Rattle.st_tree.specs.declared.literal.Constant.{Constant}
-use Rattle.st_tree.specs.declared.statement.Stmt as source_stmt
-use Rattle.st_tree.proofs.statement.Stmt.TheLaws.{the_size as stmt_size}
-use Rattle.st_tree.specs.declared.statement.Stmt.{Stmt, the_lemmas}
-use Rattle.st_tree.specs.declared.statement.Branch.{Branch}
-use Rattle.st_tree.specs.declared.statement.Arm.{Arm}
-use Rattle.st_tree.specs.Views.{expr_of, branch_of, arm_of, label_of, body_of}
+use Rattle.fb_tree.specs.declared.name.Name.{Name as Name_}
+use Rattle.fb_tree.specs.declared.statement.Bound.{Bound}
+use Rattle.fb_tree.specs.declared.literal.Constant.{Constant}
+use Rattle.fb_tree.specs.declared.statement.Stmt as source_stmt
+use Rattle.fb_tree.proofs.statement.Stmt.TheLaws.{the_size as stmt_size}
+use Rattle.fb_tree.specs.declared.statement.Stmt.{Stmt, the_lemmas}
+use Rattle.fb_tree.specs.declared.statement.Branch.{Branch}
+use Rattle.fb_tree.specs.declared.statement.Arm.{Arm}
+use Rattle.fb_tree.specs.Algorithms.{expr_of, branch_of, arm_of, label_of, body_of}
 
 pub view_branch : (b : Branch) → branch_of b ≡ (b.at, expr_of b.condition, body_of b.body.items)
 view_branch b = search (rules, the_lemmas)

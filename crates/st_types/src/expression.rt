@@ -4,8 +4,8 @@ ghost use Rattle.std.specs.Prelude.{◌≡◌, map, Ok};
 ghost use Rattle.fb_model.specs.StructuredText as text;
 ghost use Rattle.fb_model.specs.StructuredText.{expressions, expression, no_expression};
 ghost use Rattle.fb_model.specs.Values.{signed};
-ghost use Rattle.st_tree.specs.Views.{literal_of, expr_of, link_of};
-ghost use Rattle.fb_read.specs.Answers.{word_of};
+ghost use Rattle.fb_tree.specs.Algorithms.{literal_of, expr_of, link_of};
+ghost use Rattle.fb_tree.specs.Words.{word_of};
 ghost use Rattle.st_types.specs.Answers.{Gives};
 ghost use Rattle.st_types.specs.Elaborating as book;
 ghost use Rattle.st_types.specs.Views.{term_of, operand_of, entries, symbol_of};
@@ -17,9 +17,8 @@ use crate::operand::{
 use crate::operation::{arity, called, gives, stays_free};
 use crate::scope::{Scope, Variable, find};
 use crate::term::{Loose, TypedExpr};
-use fb_read::Name;
+use fb_tree::{Constant, Expr, Link, Literal, Name};
 use fb_words::{ElemType, Operation};
-use st_tree::{Constant, Expr, Link, Literal};
 use std::alloc::Global;
 
 // The function of a call, and its place.

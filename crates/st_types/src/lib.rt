@@ -1,4 +1,6 @@
-//! Types of Structured Text: source trees of expressions and statements to typed ones.
+//! Room: language. Types of Structured Text: expressions and statements over the variables of a block to typed ones.
+//! `resolve_expr`, `resolve_condition` and `resolve_algorithm` accept exactly what is well typed, and answer its one typed form (`one_term`, `one_algorithm`).
+//! A refusal is true at its place; which of several faults it tells is not said.
 #![tactic(auto)]
 
 mod command;

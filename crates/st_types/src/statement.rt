@@ -1,10 +1,10 @@
 //! Statements.
 
 ghost use Rattle.std.specs.Prelude.{◌≡◌, ◌&&◌, ◌++◌, [], ◌∷◌, map, string_bytes, IfOk};
-ghost use Rattle.fb_read.specs.Answers.{word_of, optional};
+ghost use Rattle.fb_tree.specs.Words.{word_of, optional};
 ghost use Rattle.fb_model.specs.Names.{is_in};
 ghost use Rattle.fb_model.specs.StructuredText as text;
-ghost use Rattle.st_tree.specs.Views as tree;
+ghost use Rattle.fb_tree.specs.Algorithms as tree;
 ghost use Rattle.st_types.specs.Answers.{Gives};
 ghost use Rattle.st_types.specs.Commanding as book;
 ghost use Rattle.st_types.specs.Elaborating as elaborating;
@@ -17,9 +17,8 @@ use crate::fault::TypingFault;
 use crate::operand::integer;
 use crate::scope::{Scope, Variable};
 use crate::types::is_integer;
-use fb_read::Name;
+use fb_tree::{Arm, Bound, Branch, Constant, Expr, Label, Literal, Name, Stmt};
 use fb_words::ElemType;
-use st_tree::{Arm, Bound, Branch, Constant, Expr, Label, Literal, Stmt};
 use std::alloc::{AllocError, Global};
 
 // An element of an array that gets a value: the array's name, the place of the bracket, and the index.

@@ -6,7 +6,7 @@ ghost use Rattle.fb_model.specs.StructuredText.{Expression, Statements};
 ghost use Rattle.fb_model.specs.TypedText.{Term, Commands};
 ghost use Rattle.fb_model.specs.TextTyping.{Symbol, IsAsked, IsCondition, AreCommands};
 ghost use Rattle.fb_model.specs.TextFaults.{Fault, IsNotAsked, IsNoCondition, SomeMisdone};
-ghost use Rattle.st_tree.specs.Views.{expr_of, body_of};
+ghost use Rattle.fb_tree.specs.Algorithms.{expr_of, body_of};
 ghost use Rattle.st_types.specs.Answers.{Finds, Refuses};
 ghost use Rattle.st_types.specs.Views.{term_of, entries};
 ghost use Rattle.st_types.specs.CommandViews.{commands_of};
@@ -17,8 +17,8 @@ use crate::fault::TypingFault;
 use crate::scope::Scope;
 use crate::statement::commands;
 use crate::term::TypedExpr;
+use fb_tree::{Expr, Stmt};
 use fb_words::ElemType;
-use st_tree::{Expr, Stmt};
 use std::alloc::Global;
 
 /// A typed algorithm: its statements, in order.

@@ -1,7 +1,7 @@
 use Rattle.std.proofs.Common.{ap, ◌∙◌}
 use Rattle.std.specs.Option.{option_map}
 use Rattle.fb_model.specs.Charts.{tested}
-use Rattle.st_code.specs.CodeViews.{code_term}
+use Rattle.st_exec.specs.CodeViews.{code_term}
 use Rattle.st_exec.specs.Cells.{values_of}
 use Rattle.fb_chart.proofs.Choosing.{guard_some}
 use Rattle.fb_chart.proofs.chart.is_true.Goals as goal

@@ -2,7 +2,7 @@ use Rattle.std.proofs.Common.{◌≡◌, ◌<◌, ◌^◌, length, Option, Some,
 use Rattle.std.specs.Prelude.{IfSome}
 use Rattle.fb_model.specs.Language.{Algorithm}
 use Rattle.fb_model.specs.Charts.{work as runs}
-use Rattle.st_code.specs.CodeViews.{code_commands}
+use Rattle.st_exec.specs.CodeViews.{code_commands}
 use Rattle.st_exec.specs.Cells.{values_of, forms_of}
 use Rattle.st_exec.specs.Runs.{IsWithin}
 use Rattle.fb_chart.specs.Charting.{CanWork, numbered}

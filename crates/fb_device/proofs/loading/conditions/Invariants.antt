@@ -1,6 +1,6 @@
 use Rattle.std.proofs.Common.{◌≡◌, map, take}
-use Rattle.fb_arrive.specs.fb_state.fb_chart.declared.table.Block.{Block}
-use Rattle.fb_arrive.specs.fb_state.fb_chart.Views.{kind_of}
+use Rattle.fb_chart.specs.declared.table.Block.{Block}
+use Rattle.fb_chart.specs.Views.{kind_of}
 use Rattle.fb_device.specs.Starting.{first_of}
 use Rattle.fb_device.proofs.loading.conditions.Given as goal
 

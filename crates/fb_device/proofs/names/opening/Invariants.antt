@@ -1,5 +1,5 @@
 use Rattle.std.proofs.Common.{ℕ, ◌≡◌, ◌<◌, Some, slice_get}
-use Rattle.fb_arrive.specs.fb_state.fb_sched.Agenda.{Agenda, IsNew}
+use Rattle.fb_sched.specs.Agenda.{Agenda, IsNew}
 use Rattle.fb_device.proofs.names.opening.Given as goal
 
 -- the queues so far do not have the cause

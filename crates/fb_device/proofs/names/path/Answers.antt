@@ -1,7 +1,7 @@
 use Rattle.std.proofs.Common.{◌≡◌, ◌≤◌, ◌<◌, length, ap, sym, ◌∙◌, arith, vec_len, slice_index_or, string_bytes}
-use Rattle.fb_arrive.specs.fb_state.fb_chart.declared.table.Block.{Block}
-use Rattle.fb_arrive.proofs.of_fb_state.of_fb_chart.Lists.{stands_at}
-use Rattle.fb_arrive.proofs.of_fb_state.Lists.{same_at}
+use Rattle.fb_chart.specs.declared.table.Block.{Block}
+use Rattle.fb_chart.proofs.Lists.{stands_at}
+use Rattle.fb_device_dispatch.proofs.of_fb_device_state.Lists.{same_at}
 use Rattle.fb_device.proofs.Finding.{no_block, no_event, named_so}
 use Rattle.fb_device.proofs.names.path.Goals as goal
 

@@ -1,8 +1,8 @@
 use Rattle.std.proofs.Common.{◌≤◌, string_bytes}
 use Rattle.std.proofs.lemmas.Result.{err_from_is_err_and}
 use Rattle.fb_model.specs.Wires.{most_followed, resource_count}
-use Rattle.fb_check.specs.fb_types.Views.{resource_of}
-use Rattle.fb_depths.proofs.Loops.{all_in}
+use Rattle.fb_types.specs.Views.{resource_of}
+use Rattle.fb_check_rows.proofs.Loops.{all_in}
 use Rattle.fb_find.proofs.Crowding.{past_one}
 use Rattle.fb_find.proofs.crowded.device_follows_few.Goals as goal
 

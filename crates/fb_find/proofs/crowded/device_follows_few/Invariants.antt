@@ -1,7 +1,7 @@
 use Rattle.std.proofs.Common.{◌≤◌, drop}
 use Rattle.std.specs.List.{AllByRecursion}
 use Rattle.fb_model.specs.Wires.{most_followed, resource_count}
-use Rattle.fb_check.specs.fb_types.Views.{resource_of}
+use Rattle.fb_types.specs.Views.{resource_of}
 use Rattle.fb_find.proofs.crowded.device_follows_few.Given as goal
 
 abbrev pub invariant-loop-resource : goal.invariant-loop-resource

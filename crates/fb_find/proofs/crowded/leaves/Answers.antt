@@ -1,8 +1,8 @@
 use Rattle.std.proofs.Common.{subst, string_bytes}
 use Rattle.std.specs.List.{Any}
-use Rattle.fb_check.specs.fb_types.declared.typed.Configuration.{Configuration}
-use Rattle.fb_check.specs.fb_types.declared.typed.Device.{Device}
-use Rattle.fb_queues.specs.Needs.{IsPastFault}
+use Rattle.fb_types.specs.declared.typed.Configuration.{Configuration}
+use Rattle.fb_types.specs.declared.typed.Device.{Device}
+use Rattle.fb_find_rows.specs.Needs.{IsPastFault}
 use Rattle.fb_find.specs.Crowds.{IsCrowded}
 use Rattle.fb_find.proofs.Crowding.{above}
 use Rattle.fb_find.proofs.crowded.leaves.Goals as goal

@@ -2,9 +2,9 @@ use Rattle.std.proofs.Common.{◌≤◌, string_bytes}
 use Rattle.std.specs.List.{AllByRecursion, Any}
 use Rattle.std.proofs.lemmas.Result.{err_from_is_err_and}
 use Rattle.fb_model.specs.Wires.{most_followed, resource_count}
-use Rattle.fb_check.specs.fb_types.Views.{resource_of}
-use Rattle.fb_check.specs.fb_types.declared.typed.Device.{Device}
-use Rattle.fb_depths.proofs.Loops.{all_in}
+use Rattle.fb_types.specs.Views.{resource_of}
+use Rattle.fb_types.specs.declared.typed.Device.{Device}
+use Rattle.fb_check_rows.proofs.Loops.{all_in}
 use Rattle.fb_find.specs.Crowds.{IsCrowded}
 use Rattle.fb_find.proofs.Crowding.{past_any}
 use Rattle.fb_find.proofs.crowded.system_follows_few.Goals as goal

@@ -1,8 +1,8 @@
 use Rattle.std.proofs.Common.{◌≤◌, drop}
 use Rattle.std.specs.List.{AllByRecursion}
 use Rattle.fb_model.specs.Wires.{most_followed, resource_count}
-use Rattle.fb_check.specs.fb_types.Views.{resource_of}
-use Rattle.fb_check.specs.fb_types.declared.typed.Device.{Device}
+use Rattle.fb_types.specs.Views.{resource_of}
+use Rattle.fb_types.specs.declared.typed.Device.{Device}
 use Rattle.fb_find.proofs.crowded.system_follows_few.Given as goal
 
 abbrev pub invariant-loop-device : goal.invariant-loop-device

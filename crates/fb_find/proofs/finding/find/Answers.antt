@@ -1,5 +1,5 @@
 use Rattle.std.proofs.lemmas.Result.{err_from_is_err_and}
-use Rattle.fb_check.specs.fb_types.Views.{system_of}
+use Rattle.fb_types.specs.Views.{system_of}
 use Rattle.fb_find.proofs.Given.{given, walk_denies}
 use Rattle.fb_find.proofs.finding.find.Goals as goal
 

@@ -2,10 +2,10 @@ use Rattle.std.proofs.lemmas.Result.{err_from_is_err_and}
 use Rattle.fb_model.specs.Certificates.{all_leaves}
 use Rattle.std.proofs.Common.{map}
 use Rattle.fb_cert.specs.Views.{certificate_of, rows_of}
-use Rattle.fb_depths.proofs.Loops.{ok_weaker}
-use Rattle.fb_finding.specs.Finding.{IsFound, IsMade}
-use Rattle.fb_finding.proofs.Laws.{made_is}
-use Rattle.fb_growing.specs.Found.{spelled}
+use Rattle.fb_check_rows.proofs.Loops.{ok_weaker}
+use Rattle.fb_find_laws.specs.Finding.{IsFound, IsMade}
+use Rattle.fb_find_laws.proofs.Laws.{made_is}
+use Rattle.fb_find_ranges.specs.Found.{spelled}
 use Rattle.fb_ranges.specs.Views.{spans_of}
 use Rattle.fb_find.specs.Parts.{events_in, states_in}
 use Rattle.fb_find.proofs.Given.{cycle_told, found_read, ready_is, tables_read}

@@ -1,6 +1,6 @@
 use Rattle.fb_model.specs.Certificates.{all_leaves}
-use Rattle.fb_demands.specs.Columns.{network_demands}
-use Rattle.fb_places.specs.Rights.{rights_of}
+use Rattle.fb_model_laws.specs.Columns.{network_demands}
+use Rattle.fb_find_demands.specs.Rights.{rights_of}
 use Rattle.std.proofs.Common.{Some}
 use Rattle.fb_find.proofs.Columns.{channels_are, closed, network_of}
 use Rattle.fb_find.proofs.network.far.Goals as goal

@@ -1,6 +1,6 @@
 use Rattle.std.proofs.Common.{map, take, refl, sym, subst}
 use Rattle.fb_flat.proofs.Systems.{mapped_more}
-use Rattle.fb_types.specs.fb_networks.Views.{connection_of}
+use Rattle.fb_types_networks.specs.Views.{connection_of}
 use Rattle.fb_flat.specs.Bundled.{IsBundled, source_of}
 use Rattle.fb_flat.proofs.Bundling.{bundled_more}
 use Rattle.fb_flat.proofs.bundle.by_source.Goals as goal

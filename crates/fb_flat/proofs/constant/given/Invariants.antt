@@ -1,7 +1,7 @@
 use Rattle.std.proofs.Common.{◌≡◌, drop, map}
 use Rattle.fb_model.specs.System.{constant}
 use Rattle.fb_model.specs.Wires.{inputs_of}
-use Rattle.fb_types.specs.fb_networks.Views.{parameter_of, body_of}
+use Rattle.fb_types_networks.specs.Views.{parameter_of, body_of}
 use Rattle.fb_flat.proofs.constant.given.Given as goal
 
 -- the parameters left give what all give

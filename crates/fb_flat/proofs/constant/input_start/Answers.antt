@@ -1,8 +1,8 @@
 use Rattle.std.proofs.Common.{sym, ap, ◌∙◌}
 use Rattle.fb_model.specs.System.{start_in}
 use Rattle.fb_model.specs.Wires.{inputs_of}
-use Rattle.fb_types.specs.fb_services.Views.{service_of}
-use Rattle.fb_types.specs.fb_networks.Views.{body_of}
+use Rattle.fb_types_services.specs.Views.{service_of}
+use Rattle.fb_types_networks.specs.Views.{body_of}
 use Rattle.fb_flat.specs.Sources.{Fixed}
 use Rattle.fb_flat.proofs.Following.{view_served}
 use Rattle.fb_flat.proofs.Sources.{service_start}

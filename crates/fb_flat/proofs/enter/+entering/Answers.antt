@@ -1,8 +1,8 @@
 use Rattle.std.proofs.Common.{◌≡◌, ◌+◌, ◌<◌, ◌++◌, ◌∷◌, [], suc, None, Some, OnOk, IfErr, map, ap, sym, subst, ◌∙◌, arith}
 use Rattle.std.proofs.lemmas.List.{append-nil}
-use Rattle.fb_types.specs.fb_networks.declared.typed.Body.{out-Body}
-use Rattle.fb_types.specs.fb_networks.declared.typed.Network.{out-Network}
-use Rattle.fb_types.specs.fb_networks.Views.{body_of}
+use Rattle.fb_types_networks.specs.declared.typed.Body.{out-Body}
+use Rattle.fb_types_networks.specs.declared.typed.Network.{out-Network}
+use Rattle.fb_types_networks.specs.Views.{body_of}
 use Rattle.fb_model.specs.Wires.{entered, entered_in, enter_count, enter_count_in, follow_count}
 use Rattle.fb_flat.specs.declared.lookup.Inside.TheVariants as within
 use Rattle.fb_flat.specs.Sites.{path_of, inner_of, events_in}

@@ -1,8 +1,8 @@
 use Rattle.std.proofs.Common.{◌≡◌, ◌++◌, ◌∷◌, [], suc, None, Some, map, ap, sym, subst, ◌∙◌, arith}
-use Rattle.fb_types.specs.fb_blocks.Views.{variables_of}
-use Rattle.fb_types.specs.fb_networks.declared.typed.Body.{out-Body}
-use Rattle.fb_types.specs.fb_networks.declared.typed.Network.{out-Network}
-use Rattle.fb_types.specs.fb_networks.Views.{body_of}
+use Rattle.fb_types_blocks.specs.Views.{variables_of}
+use Rattle.fb_types_networks.specs.declared.typed.Body.{out-Body}
+use Rattle.fb_types_networks.specs.declared.typed.Network.{out-Network}
+use Rattle.fb_types_networks.specs.Views.{body_of}
 use Rattle.fb_model.specs.Names.{Name}
 use Rattle.fb_model.specs.System.{constant}
 use Rattle.fb_model.specs.Wires.{Source, Constant, given_by, given_in}

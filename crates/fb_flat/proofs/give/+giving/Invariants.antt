@@ -2,7 +2,7 @@ use Rattle.std.proofs.Common.{◌≡◌, ◌+◌, ◌*◌, [], None, drop, map}
 use Rattle.fb_model.specs.System.{constant}
 use Rattle.fb_model.specs.Names.{Name}
 use Rattle.fb_model.specs.Wires.{Source, Constant, fed, given_in}
-use Rattle.fb_types.specs.fb_blocks.Views.{variables_of}
+use Rattle.fb_types_blocks.specs.Views.{variables_of}
 use Rattle.fb_flat.specs.Sites.{path_of, inner_of}
 use Rattle.fb_flat.specs.Leaves.{values_in}
 use Rattle.fb_flat.specs.Bundled.{seen}

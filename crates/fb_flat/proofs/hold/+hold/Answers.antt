@@ -1,5 +1,5 @@
 use Rattle.std.proofs.Common.{[], Some, map, ap, sym, ◌∙◌, string_bytes}
-use Rattle.fb_types.specs.fb_networks.Views.{parameter_of, body_of}
+use Rattle.fb_types_networks.specs.Views.{parameter_of, body_of}
 use Rattle.fb_model.specs.System.{constant}
 use Rattle.fb_model.specs.Wires.{Source, Constant, given_in, inputs_of}
 use Rattle.fb_flat.specs.Sites.{path_of, inner_of}

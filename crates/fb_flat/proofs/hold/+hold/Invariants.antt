@@ -1,7 +1,7 @@
 use Rattle.std.proofs.Common.{◌≡◌, Some, drop, map, string_bytes}
 use Rattle.fb_model.specs.System.{constant}
 use Rattle.fb_model.specs.Wires.{Constant, fed, given_in, inputs_of}
-use Rattle.fb_types.specs.fb_networks.Views.{parameter_of, body_of}
+use Rattle.fb_types_networks.specs.Views.{parameter_of, body_of}
 use Rattle.fb_flat.specs.Sites.{path_of, inner_of}
 use Rattle.fb_flat.specs.Leaves.{values_in, held_by}
 use Rattle.fb_flat.specs.Bundled.{seen}

@@ -1,7 +1,7 @@
 use Rattle.std.proofs.Common.{◌++◌, ◌∷◌, [], sym, ap, ◌∙◌, map, take, string_bytes, arith}
 use Rattle.std.proofs.lemmas.List.{map_push}
 use Rattle.fb_model.specs.Store.{variable_names}
-use Rattle.fb_types.specs.fb_blocks.Views.{variables_of}
+use Rattle.fb_types_blocks.specs.Views.{variables_of}
 use Rattle.fb_flat.proofs.Systems.{take_got}
 use Rattle.fb_flat.proofs.Sources.{all_named}
 use Rattle.fb_flat.proofs.inputs.variable_names.Goals as goal

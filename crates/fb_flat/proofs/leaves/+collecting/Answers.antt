@@ -1,12 +1,11 @@
 use Rattle.std.proofs.Common.{◌≡◌, ◌+◌, ◌<◌, ◌≤◌, ◌++◌, suc, IfErr, length, get_or, map, refl, ap, sym, subst, ◌∙◌, string_bytes, arith}
 use Rattle.std.proofs.lemmas.Result.{err_from_is_err_and}
-use Rattle.fb_types.specs.fb_networks.declared.typed.Body.{out-Body}
-use Rattle.fb_types.specs.fb_networks.declared.typed.Network.{out-Network}
+use Rattle.fb_types_networks.specs.declared.typed.Body.{out-Body}
+use Rattle.fb_types_networks.specs.declared.typed.Network.{out-Network}
 use Rattle.fb_model.specs.System as book
-use Rattle.fb_model.specs.Wires.{leaves_in}
-use Rattle.fb_types.specs.fb_networks.Views.{body_of}
+use Rattle.fb_model.specs.Wires.{leaves_in, count_of}
+use Rattle.fb_types_networks.specs.Views.{body_of}
 use Rattle.fb_types.proofs.Gathered.{gathered_more, gathered_all}
-use Rattle.fb_model.specs.Wires.{count_of}
 use Rattle.fb_flat.specs.declared.lookup.Inside.TheVariants as within
 use Rattle.fb_flat.specs.Sites.{path_of, inner_of, left_count}
 use Rattle.fb_flat.specs.Walks.{IsStop}

@@ -1,5 +1,5 @@
 use Rattle.std.proofs.Common.{◌≡◌, ◌+◌, ◌*◌, ◌++◌, map, drop}
-use Rattle.fb_types.specs.fb_networks.declared.typed.Network.{out-Network}
+use Rattle.fb_types_networks.specs.declared.typed.Network.{out-Network}
 use Rattle.fb_flat.specs.Sites.{path_of}
 use Rattle.fb_flat.specs.Leaves.{leaf_of}
 use Rattle.fb_flat.specs.Indexes.{sized, size_of}

@@ -2,9 +2,8 @@ use Rattle.std.proofs.Common.{◌≡◌, ◌≤◌, map, take, string_bytes}
 use Rattle.std.specs.List.{AllByRecursion}
 use Rattle.fb_model.specs.System.{Resource}
 use Rattle.fb_types.specs.Views.{resource_of}
-use Rattle.fb_model.specs.Wires.{resource_count}
+use Rattle.fb_model.specs.Wires.{resource_count, most_followed}
 use Rattle.fb_flat.specs.Leaves.{flat_resource, written_resource}
-use Rattle.fb_model.specs.Wires.{most_followed}
 use Rattle.fb_flat.proofs.leaves.device.Given as goal
 
 -- the tables so far are the resources so far

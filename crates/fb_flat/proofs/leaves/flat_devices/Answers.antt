@@ -7,9 +7,8 @@ use Rattle.fb_model.proofs.Lists.{all_append}
 use Rattle.fb_types.specs.declared.typed.Resource.{Resource}
 use Rattle.fb_types.specs.declared.typed.Device.{Device}
 use Rattle.fb_types.specs.Views.{device_of}
-use Rattle.fb_model.specs.Wires.{resource_count}
+use Rattle.fb_model.specs.Wires.{resource_count, most_followed}
 use Rattle.fb_flat.specs.Leaves.{IsFull, flat_device, written_device}
-use Rattle.fb_model.specs.Wires.{most_followed}
 use Rattle.fb_flat.proofs.Systems.{any_here, limit_weaker, mapped_more}
 use Rattle.fb_flat.proofs.leaves.flat_devices.Goals as goal
 

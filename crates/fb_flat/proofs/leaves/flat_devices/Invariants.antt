@@ -2,9 +2,8 @@ use Rattle.std.proofs.Common.{◌≡◌, ◌≤◌, map, take}
 use Rattle.std.specs.List.{AllByRecursion}
 use Rattle.fb_model.specs.System.{Resource, Device}
 use Rattle.fb_types.specs.Views.{device_of}
-use Rattle.fb_model.specs.Wires.{resource_count}
+use Rattle.fb_model.specs.Wires.{resource_count, most_followed}
 use Rattle.fb_flat.specs.Leaves.{flat_device, written_device}
-use Rattle.fb_model.specs.Wires.{most_followed}
 use Rattle.fb_flat.proofs.leaves.flat_devices.Given as goal
 
 -- the tables so far are the devices so far

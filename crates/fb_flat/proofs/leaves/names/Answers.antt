@@ -2,7 +2,7 @@ use Rattle.std.proofs.Common.{◌++◌, ◌∷◌, [], sym, ap, ◌∙◌, map, 
 use Rattle.std.proofs.lemmas.List.{map_push}
 use Rattle.fb_model.specs.Names.{Name}
 use Rattle.fb_model.specs.Typing.{names_of}
-use Rattle.fb_types.specs.fb_blocks.Views.{events_of}
+use Rattle.fb_types_blocks.specs.Views.{events_of}
 use Rattle.fb_flat.proofs.Systems.{take_got}
 use Rattle.fb_flat.proofs.leaves.names.Goals as goal
 

@@ -1,6 +1,6 @@
 use Rattle.std.proofs.Common.{◌≡◌, ◌+◌, ◌++◌, ◌∷◌, [], take, map, sym, ap, subst, ◌∙◌}
 use Rattle.std.proofs.lemmas.List.{take_more, take_all}
-use Rattle.fb_types.specs.fb_networks.Views.{connection_of}
+use Rattle.fb_types_networks.specs.Views.{connection_of}
 use Rattle.fb_flat.specs.Placed.{AreNames}
 use Rattle.fb_flat.specs.Bundled.{IsBundled, source_of, target_of}
 use Rattle.fb_flat.specs.Indexes.{AreInside}

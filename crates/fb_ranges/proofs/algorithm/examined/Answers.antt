@@ -1,7 +1,7 @@
 use Rattle.std.proofs.Common.{List, sym, ap, ap₂, subst, ◌∙◌}
 use Rattle.fb_model.specs.Clear.{Spans, are_kept, assigned, examine}
-use Rattle.fb_asking.specs.Asking.{Asked, point, ask}
-use Rattle.fb_asking.proofs.Ending.{Ends, ends}
+use Rattle.fb_model_laws.specs.Asking.{Asked, point, ask}
+use Rattle.fb_model_laws.proofs.Ending.{Ends, ends}
 use Rattle.st_types.specs.declared.command.TypedStmt.{TypedStmt}
 use Rattle.st_types.specs.CommandViews.{busy_of, commands_of}
 use Rattle.fb_ranges.specs.Finding.{tell}

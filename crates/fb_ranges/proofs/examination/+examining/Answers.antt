@@ -7,8 +7,8 @@ use Rattle.fb_model.specs.Names.{Name}
 use Rattle.fb_model.specs.TypedText.{Commands, set_part}
 use Rattle.fb_model.specs.Spans.{Span, span, within}
 use Rattle.fb_model.specs.Clear.{Spans, Clear, Leaves, Traps, changed, narrowed, reset, range_of, with_range, are_kept, kept, taken, left_with, most_iterations, looped, assigned, examine, examine_one, examine_choices, examine_cases}
-use Rattle.fb_asking.specs.Asking.{Asked, point, range_in, asking_all, asked_loop, ask, ask_one, ask_choices, ask_cases}
-use Rattle.fb_asking.proofs.Ending.{Ends, ends}
+use Rattle.fb_model_laws.specs.Asking.{Asked, point, range_in, asking_all, asked_loop, ask, ask_one, ask_choices, ask_cases}
+use Rattle.fb_model_laws.proofs.Ending.{Ends, ends}
 use Rattle.st_types.specs.declared.command.TypedStmt.{TypedStmt}
 use Rattle.st_types.specs.Views.{term_of}
 use Rattle.st_types.specs.CommandViews.{Cased, Chosen, busy_of, cases_of, case_of, command_of, commands_of, choice_of, choices_of}
@@ -17,7 +17,7 @@ use Rattle.fb_ranges.specs.declared.told.Told.TheVariants as told
 use Rattle.fb_ranges.specs.Finding.{in_sequence, longer, tell, iterated}
 use Rattle.fb_ranges.specs.Meeting.{Besides, joint, met_by, ranges_after}
 use Rattle.fb_ranges.specs.Narrowing.{read_in}
-use Rattle.fb_intervals.specs.Views.{span_of}
+use Rattle.fb_ranges_intervals.specs.Views.{span_of}
 use Rattle.fb_ranges.specs.Views.{mark_of, spans_of}
 use Rattle.fb_ranges.proofs.Blocks.{command_set, command_element, next_asked, next_told, choice_is, on_ok, iterations_asked}
 use Rattle.fb_ranges.proofs.Branches.{branch_asked, branch_besides, branch_told, arm_asked, arm_told, case_is, way_ends}

@@ -4,7 +4,7 @@ use Rattle.std.proofs.lemmas.Int.{ints}
 use Rattle.fb_model.specs.Spans.{span, within}
 use Rattle.fb_model.specs.Clear.{Clear, Leaves, Traps, range_of, with_range}
 use Rattle.st_types.specs.Views.{term_of}
-use Rattle.fb_intervals.specs.Views.{span_of}
+use Rattle.fb_ranges_intervals.specs.Views.{span_of}
 use Rattle.fb_ranges.specs.declared.told.Told.TheVariants as t
 use Rattle.fb_ranges.specs.Finding.{keeping, trapping}
 use Rattle.fb_ranges.specs.Views.{clear_range, spans_of}

@@ -1,10 +1,10 @@
 use Rattle.std.proofs.Common.{List, map, sym, ap, ap₂, ◌∙◌}
 use Rattle.fb_model.specs.Language.{given}
 use Rattle.fb_model.specs.Clear.{range_of}
-use Rattle.fb_asking.specs.Asking.{range_in}
+use Rattle.fb_model_laws.specs.Asking.{range_in}
 use Rattle.st_types.specs.declared.term.TypedLink.{TypedLink}
 use Rattle.st_types.specs.Views.{term_of, tail_of}
-use Rattle.fb_intervals.specs.Views.{span_of}
+use Rattle.fb_ranges_intervals.specs.Views.{span_of}
 use Rattle.fb_ranges.specs.Views.{clear_range, linked, linked_in, spans_of}
 use Rattle.fb_ranges.proofs.Chains.{in_chain, next_in, next_linked, range_chain}
 use Rattle.fb_ranges.proofs.expression.+ranging.Goals as goal

@@ -2,7 +2,7 @@ use Rattle.std.proofs.Common.{◌≡◌, ◌+◌, ◌*◌, drop, map}
 use denote.Param.Weighed.{most}
 use Rattle.fb_model.specs.Language.{given}
 use Rattle.st_types.specs.Views.{tail_of}
-use Rattle.fb_intervals.specs.Views.{span_of}
+use Rattle.fb_ranges_intervals.specs.Views.{span_of}
 use Rattle.fb_ranges.specs.Views.{clear_range, linked, linked_in, spans_of}
 use Rattle.st_types.proofs.term.TypedExpr.TheLaws.{the_size as expr_size}
 use Rattle.st_types.proofs.term.TypedLink.TheLaws.{the_size as link_size}

@@ -2,7 +2,7 @@ use Rattle.std.proofs.Common.{◌≡◌, ap, subst, ◌∙◌}
 use Rattle.std.specs.Prelude.{OnOk}
 use Rattle.fb_model.specs.Spans.{joined}
 use Rattle.fb_model.specs.Clear.{Spans}
-use Rattle.fb_intervals.specs.Views.{span_of}
+use Rattle.fb_ranges_intervals.specs.Views.{span_of}
 use Rattle.fb_ranges.specs.Views.{spans_of}
 use Rattle.fb_ranges.proofs.Sides.{changed_known}
 use Rattle.fb_ranges.proofs.join.ask.Goals as goal

@@ -1,6 +1,6 @@
-use Rattle.fb_asking.specs.Asking.{asking_all}
+use Rattle.fb_model_laws.specs.Asking.{asking_all}
 use Rattle.st_types.specs.CommandViews.{busy_of}
-use Rattle.fb_intervals.specs.Views.{span_of}
+use Rattle.fb_ranges_intervals.specs.Views.{span_of}
 use Rattle.fb_ranges.specs.Views.{spans_of}
 use Rattle.fb_ranges.proofs.Joins.{next_ask}
 use Rattle.fb_ranges.proofs.join.ask_all.Goals as goal

@@ -1,5 +1,5 @@
 use Rattle.std.proofs.Common.{◌≡◌, drop}
-use Rattle.fb_asking.specs.Asking.{asking_all}
+use Rattle.fb_model_laws.specs.Asking.{asking_all}
 use Rattle.st_types.specs.CommandViews.{busy_of}
 use Rattle.fb_ranges.specs.Views.{spans_of}
 use Rattle.fb_ranges.proofs.join.ask_all.Given as goal

@@ -2,7 +2,7 @@ use Rattle.std.proofs.Common.{◌≡◌, ◌≤◌, length, take, ap, ◌∙◌,
 use Rattle.std.proofs.lemmas.List.{take_all}
 use Rattle.fb_model.specs.Clear.{reset}
 use Rattle.fb_ranges.specs.Meeting.{met, ranges_after}
-use Rattle.fb_intervals.specs.Views.{span_of}
+use Rattle.fb_ranges_intervals.specs.Views.{span_of}
 use Rattle.fb_ranges.specs.Views.{mark_of, names_in, spans_of}
 use Rattle.fb_ranges.proofs.Joins.{next_row}
 use Rattle.fb_ranges.proofs.Ways.{all_marks, row_at}

@@ -6,7 +6,7 @@ use Rattle.std.proofs.lemmas.Map.Text.{hash_map_updates_text}
 use Rattle.fb_model.specs.Names.{Name}
 use Rattle.fb_ranges.specs.declared.way.Reached.{Reached}
 use Rattle.fb_ranges.specs.Meeting.{row_after}
-use Rattle.fb_intervals.specs.Views.{span_of}
+use Rattle.fb_ranges_intervals.specs.Views.{span_of}
 use Rattle.fb_ranges.specs.Views.{mark_of}
 use Rattle.fb_ranges.proofs.Ways.{put_mark}
 use Rattle.fb_ranges.proofs.merge.merge_row.Goals as goal

@@ -1,7 +1,7 @@
 use Rattle.std.proofs.Common.{ap, ◌∙◌}
 use Rattle.std.specs.Prelude.{if◌then◌else◌}
 use Rattle.std.specs.Str.{bytes_eq}
-use Rattle.fb_intervals.specs.Views.{span_of}
+use Rattle.fb_ranges_intervals.specs.Views.{span_of}
 use Rattle.fb_ranges.specs.Views.{mark_of, spans_of}
 use Rattle.fb_ranges.proofs.Ways.{next_mark, same_mark}
 use Rattle.fb_ranges.proofs.merge.merge_rows.Goals as goal

@@ -2,7 +2,7 @@ use Rattle.std.proofs.Common.{◌≡◌, to_z, of_z, w64, arith, ap₂, subst, �
 use Rattle.std.specs.Prelude.{OnOk}
 use Rattle.std.proofs.lemmas.Int.{ints}
 use Rattle.fb_model.specs.Clear.{Spans, meets}
-use Rattle.fb_intervals.specs.Views.{span_of}
+use Rattle.fb_ranges_intervals.specs.Views.{span_of}
 use Rattle.fb_ranges.specs.Views.{spans_of}
 use Rattle.fb_ranges.proofs.Sides.{changed_known}
 use Rattle.fb_ranges.proofs.narrowed.narrow_variable.Goals as goal

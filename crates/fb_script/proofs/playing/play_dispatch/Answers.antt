@@ -1,5 +1,5 @@
 use Rattle.std.proofs.Common.{[], refl, rules}
-use Rattle.fb_device.specs.Machines.{device_in, cert_in, machine_of}
+use Rattle.fb_device.specs.fb_device_state.Machines.{device_in, cert_in, machine_of}
 use Rattle.fb_script.proofs.Names.{no_resource, dispatches}
 use Rattle.fb_script.proofs.playing.play_dispatch.Goals as goal
 

@@ -1,5 +1,5 @@
 use Rattle.fb_lex.specs.Views.{tokens_of}
-use Rattle.fb_text.specs.Views.{source_of}
+use Rattle.fb_tree.specs.Files.{source_of}
 use Rattle.fb_text.proofs.Laws.{tree_spelled, tree_same, reads_of, reads_only, reads_syntax, reads_place, reads_deep}
 use Rattle.fb_text.proofs.text.parse_tokens.Goals as goal
 

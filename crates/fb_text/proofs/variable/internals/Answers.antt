@@ -6,7 +6,7 @@ use Rattle.fb_lex.specs.Views.{token_of, tokens_of}
 use Rattle.fb_read.specs.Reading.{syntax, items_at}
 use Rattle.fb_read.proofs.Lists.{many_goes_on, many_fails, many_stops, many_done}
 use Rattle.fb_text.specs.Reading.{internal_at}
-use Rattle.fb_text.specs.Views.{variable_of}
+use Rattle.fb_tree.specs.Files.{variable_of}
 use Rattle.fb_text.proofs.variable.internals.Goals as goal
 
 pub returns-then-next_is : goal.returns-then-next_is

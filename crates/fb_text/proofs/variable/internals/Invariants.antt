@@ -4,7 +4,7 @@ use Rattle.fb_read.specs.Reading.{many_at}
 use Rattle.fb_read.proofs.Lists.{with_front}
 use Rattle.fb_words.specs.declared.mark.Mark.TheVariants as m
 use Rattle.fb_text.specs.Reading.{internal_at}
-use Rattle.fb_text.specs.Views.{variable_of}
+use Rattle.fb_tree.specs.Files.{variable_of}
 use Rattle.fb_text.proofs.variable.internals.Given as goal
 
 -- the variables so far and those that are still read are all of them

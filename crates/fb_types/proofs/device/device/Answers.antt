@@ -4,8 +4,8 @@ use Rattle.std.proofs.lemmas.List.{length-map}
 use Rattle.std.proofs.lemmas.Result.{err_from_is_err_and}
 use Rattle.fb_model.specs.Typing.{AreDistinct, AreNewNumbers}
 use Rattle.fb_model.specs.NetworkTyping.{most_resources, AreResources, inputs, outputs, subscribed, device_services}
-use Rattle.fb_networks.specs.fb_text.Views as trees_of
-use Rattle.fb_networks.specs.fb_blocks.Refusals.{IsRepetition, IsExcess}
+use Rattle.fb_tree.specs.Files as trees_of
+use Rattle.fb_types_blocks.specs.Refusals.{IsRepetition, IsExcess}
 use Rattle.fb_types.specs.Ends.{IsNumberFault}
 use Rattle.fb_types.specs.Nesting.{ResourcesProvide}
 use Rattle.fb_types.specs.Refusals.{repeated_resource, excess_resource, faulty_resource, faulty_numbers}

@@ -1,7 +1,7 @@
 use Rattle.std.proofs.Common.{◌≡◌, List, map, take}
 use Rattle.fb_model.specs.Declarations as decl
 use Rattle.fb_model.specs.NetworkTyping.{AreDevices}
-use Rattle.fb_networks.specs.fb_text.Views as trees_of
+use Rattle.fb_tree.specs.Files as trees_of
 use Rattle.fb_types.specs.Made.{IsTable, IsMemo}
 use Rattle.fb_types.specs.Nesting.{DevicesProvide}
 use Rattle.fb_types.specs.Views.{device_of, system_offsets, all_offsets, system_uses}

@@ -1,7 +1,7 @@
 use Rattle.std.proofs.Common.{◌≡◌, [], map, IfErr, sym, subst}
 use Rattle.fb_model.specs.Typing.{AreNewNumbers}
 use Rattle.fb_model.specs.NetworkTyping.{all_services, AreAlike}
-use Rattle.fb_networks.proofs.of_fb_blocks.Lists.{on_ok}
+use Rattle.fb_types_blocks.proofs.Lists.{on_ok}
 use Rattle.fb_types.specs.Uses.{use_of, service_in}
 use Rattle.fb_types.specs.Views.{device_of, system_uses}
 use Rattle.fb_types.specs.Ends.{IsChannelFault}

@@ -1,7 +1,7 @@
 use Rattle.std.proofs.Common.{map, refl}
 use Rattle.fb_model.specs.NetworkTyping.{services_in, device_services}
-use Rattle.fb_networks.specs.Views.{instances_of}
-use Rattle.fb_networks.specs.declared.typed.Network.{out-Network}
+use Rattle.fb_types_networks.specs.Views.{instances_of}
+use Rattle.fb_types_networks.specs.declared.typed.Network.{out-Network}
 use Rattle.fb_types.specs.Views.{resource_of, resource_uses, device_uses}
 use Rattle.fb_types.proofs.Ended.{resource_services}
 use Rattle.fb_types.proofs.Gathered.{gathered_more, gathered_all}

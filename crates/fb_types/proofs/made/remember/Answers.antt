@@ -1,8 +1,7 @@
-use Rattle.std.proofs.Common.{◌≡◌, sym, subst, ◌∙◌, string_bytes}
+use Rattle.std.proofs.Common.{◌≡◌, sym, subst, ◌∙◌, string_bytes, Some}
 use Rattle.std.specs.Map.{lookup}
 use Rattle.std.specs.Str.{bytes_eq}
-use Rattle.std.proofs.Common.{Some}
-use Rattle.fb_networks.proofs.of_fb_blocks.Refused.{either_of}
+use Rattle.fb_types_blocks.proofs.Refused.{either_of}
 use Rattle.fb_types.specs.Made.{IsDone}
 use Rattle.fb_types.proofs.Tabled.{remembered}
 use Rattle.fb_types.proofs.made.remember.Goals as goal

@@ -6,9 +6,9 @@ use Rattle.fb_model.specs.NetworkTyping.{type_named}
 use Rattle.std.proofs.lemmas.Result.{err_from_is_err_and}
 use Rattle.std.proofs.lemmas.List.{take_all}
 use Rattle.fb_model.specs.Declarations as decl
-use Rattle.fb_networks.specs.fb_text.Views as trees_of
-use Rattle.fb_networks.specs.fb_blocks.Views.{declared_in}
-use Rattle.fb_networks.proofs.of_fb_blocks.Lists.{mapped_more}
+use Rattle.fb_tree.specs.Files as trees_of
+use Rattle.fb_types_blocks.specs.Views.{declared_in}
+use Rattle.fb_types_blocks.proofs.Lists.{mapped_more}
 use Rattle.fb_types.specs.Nesting.{IsOf, innermost}
 use Rattle.fb_types.specs.Refusals.{no_memory_for_type, faulty_basic, faulty_interface, no_memory_for_instance, unknown_type, faulty_plain, faulty_service}
 use Rattle.fb_types.specs.Made.{tree_of, IsTyped, AreParts, HaltsAt, LeadsTo}

@@ -1,6 +1,6 @@
 use Rattle.std.proofs.Common.{◌++◌, ◌∷◌, [], map, sym, ap, ◌∙◌}
 use Rattle.std.proofs.lemmas.List.{map_push, take_all}
-use Rattle.fb_networks.proofs.of_fb_blocks.Lists.{mapped_more}
+use Rattle.fb_types_blocks.proofs.Lists.{mapped_more}
 use Rattle.fb_types.specs.Made.{tree_of}
 use Rattle.fb_types.proofs.make.extended.Goals as goal
 

@@ -3,8 +3,8 @@ use Rattle.std.specs.List.{Any}
 use Rattle.fb_model.specs.Declarations.{BlockTree}
 use Rattle.std.proofs.lemmas.List.{take_all}
 use Rattle.std.proofs.lemmas.Slice.Eq.{bytes_eq-Decides}
-use Rattle.fb_networks.proofs.of_fb_blocks.Lists.{mapped_more}
-use Rattle.fb_networks.proofs.of_fb_blocks.Refused.{any_at, either_of}
+use Rattle.fb_types_blocks.proofs.Lists.{mapped_more}
+use Rattle.fb_types_blocks.proofs.Refused.{any_at, either_of}
 use Rattle.fb_types.specs.Made.{tree_of}
 use Rattle.fb_types.proofs.Making.{any_none, any_last}
 use Rattle.fb_types.proofs.make.is_on.Goals as goal

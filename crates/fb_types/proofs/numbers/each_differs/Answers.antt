@@ -1,6 +1,6 @@
 use Rattle.std.proofs.Common.{◌+◌, map, drop, subst}
 use Rattle.std.proofs.lemmas.Result.{err_from_is_err_and}
-use Rattle.fb_networks.proofs.Loops.{next_left, none_left}
+use Rattle.fb_types_networks.proofs.Loops.{next_left, none_left}
 use Rattle.fb_types.specs.Uses.{use_of}
 use Rattle.fb_types.proofs.Numbered.{NumbersSo, numbers_begun, numbers_more, numbers_wrong, numbers_done}
 use Rattle.fb_types.proofs.numbers.each_differs.Goals as goal

@@ -3,11 +3,11 @@ use Rattle.std.specs.List.{Contains}
 use Rattle.std.proofs.lemmas.Result.{err_from_is_err_and}
 use Rattle.fb_model.specs.Typing.{most_instances}
 use Rattle.fb_model.specs.NetworkTyping.{most_deep, instance_count}
-use Rattle.fb_networks.specs.fb_text.Views as trees_of
-use Rattle.fb_networks.specs.fb_blocks.Views.{face_of}
-use Rattle.fb_networks.specs.Views.{placed_of, instances_of}
-use Rattle.fb_networks.specs.Refusals.{IsNetworkFault}
-use Rattle.fb_networks.proofs.of_fb_blocks.Refused.{either_of}
+use Rattle.fb_tree.specs.Files as trees_of
+use Rattle.fb_types_blocks.specs.Views.{face_of}
+use Rattle.fb_types_networks.specs.Views.{placed_of, instances_of}
+use Rattle.fb_types_networks.specs.Refusals.{IsNetworkFault}
+use Rattle.fb_types_blocks.proofs.Refused.{either_of}
 use Rattle.fb_types.specs.Counts.{IsCrowded}
 use Rattle.fb_types.specs.Refusals.{faulty_instance, too_deep_inside, too_many, faulty_wires}
 use Rattle.fb_types.specs.Made.{AreMade}

@@ -2,8 +2,8 @@ use Rattle.std.proofs.Common.{◌≡◌, ◌++◌, ◌∷◌, [], map, take, ref
 use Rattle.std.proofs.lemmas.Result.{err_from_is_err_and}
 use Rattle.std.proofs.lemmas.List.{take_all, map_push}
 use Rattle.fb_model.specs.NetworkTyping.{AreResources, no_resource}
-use Rattle.fb_networks.specs.fb_text.Views as trees_of
-use Rattle.fb_networks.proofs.of_fb_blocks.Lists.{mapped_more}
+use Rattle.fb_tree.specs.Files as trees_of
+use Rattle.fb_types_blocks.proofs.Lists.{mapped_more}
 use Rattle.fb_types.specs.Views.{resource_of, resource_offsets, offsets_in, resource_uses, device_uses}
 use Rattle.fb_types.specs.Nesting.{ResourcesProvide, by_no_resource}
 use Rattle.fb_types.specs.Refusals.{no_memory_for_resource}

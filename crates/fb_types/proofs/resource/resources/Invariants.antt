@@ -1,7 +1,7 @@
 use Rattle.std.proofs.Common.{◌≡◌, List, map, take}
 use Rattle.fb_model.specs.Declarations as decl
 use Rattle.fb_model.specs.NetworkTyping.{AreResources}
-use Rattle.fb_networks.specs.fb_text.Views as trees_of
+use Rattle.fb_tree.specs.Files as trees_of
 use Rattle.fb_types.specs.Made.{IsTable, IsMemo}
 use Rattle.fb_types.specs.Nesting.{ResourcesProvide}
 use Rattle.fb_types.specs.Views.{resource_of, resource_offsets, offsets_in, device_uses}

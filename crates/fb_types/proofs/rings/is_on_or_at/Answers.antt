@@ -2,8 +2,8 @@ use Rattle.std.proofs.Common.{◌≡◌, true, false, map, sym, ◌∙◌}
 use Rattle.std.proofs.lemmas.List.Quantifiers.{Any-push}
 use Rattle.std.proofs.lemmas.Slice.Eq.{bytes_eq-Decides}
 use Rattle.fb_model.specs.Declarations.{BlockTree}
-use Rattle.fb_networks.specs.fb_text.Views as trees_of
-use Rattle.fb_networks.proofs.of_fb_blocks.Refused.{either_of}
+use Rattle.fb_tree.specs.Files as trees_of
+use Rattle.fb_types_blocks.proofs.Refused.{either_of}
 use Rattle.fb_types.specs.Made.{tree_of}
 use Rattle.fb_types.proofs.Making.{any_front, any_last}
 use Rattle.fb_types.proofs.rings.is_on_or_at.Goals as goal

@@ -2,8 +2,8 @@ use Rattle.std.proofs.Common.{◌≡◌, ◌+◌, ◌++◌, ◌∷◌, [], map, 
 use Rattle.std.proofs.lemmas.List.{take_all}
 use Rattle.std.specs.List.{AllByRecursion}
 use Rattle.indexmap.specs.IndexMap.{index_map_len}
-use Rattle.fb_networks.specs.fb_text.Views as trees_of
-use Rattle.fb_networks.proofs.of_fb_blocks.Lists.{mapped_more}
+use Rattle.fb_tree.specs.Files as trees_of
+use Rattle.fb_types_blocks.proofs.Lists.{mapped_more}
 use Rattle.fb_types.specs.Made.{tree_of}
 use Rattle.fb_types.specs.Rings.{found_in, met_by, IsPassed, IsStep}
 use Rattle.fb_types.proofs.Nested.{among_at}

@@ -4,7 +4,7 @@ use Rattle.std.specs.Str.{bytes_eq}
 use Rattle.fb_model.specs.Names.{is_in}
 use Rattle.fb_model.specs.Typing.{service_names}
 use Rattle.fb_model.specs.Declarations.{BlockTree}
-use Rattle.fb_networks.specs.fb_text.Views as trees_of
+use Rattle.fb_tree.specs.Files as trees_of
 use Rattle.fb_types.specs.Made.{tree_of}
 use Rattle.fb_types.specs.Rings.{found_in}
 use Rattle.fb_types.proofs.Nested.{among_first}

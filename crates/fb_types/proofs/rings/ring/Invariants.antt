@@ -1,7 +1,7 @@
 use Rattle.std.proofs.Common.{◌+◌, ◌*◌, List, map, vec_len}
 use Rattle.indexmap.specs.IndexMap.{index_map_len}
 use Rattle.fb_model.specs.Declarations as decl
-use Rattle.fb_networks.specs.fb_text.Views as trees_of
+use Rattle.fb_tree.specs.Files as trees_of
 use Rattle.fb_types.specs.Made.{tree_of, IsTable, IsNamed}
 use Rattle.fb_types.specs.Rings.{found_in, IsSearching}
 use Rattle.fb_types.proofs.rings.ring.Given as goal

@@ -1,8 +1,8 @@
 use Rattle.std.proofs.Common.{suc, map, take, drop, sym, subst}
 use Rattle.std.proofs.lemmas.List.{take_all}
 use Rattle.std.proofs.lemmas.Result.{err_from_is_err_and}
-use Rattle.fb_networks.proofs.of_fb_blocks.Lists.{mapped_more}
-use Rattle.fb_networks.proofs.of_fb_blocks.Refused.{parts_at}
+use Rattle.fb_types_blocks.proofs.Lists.{mapped_more}
+use Rattle.fb_types_blocks.proofs.Refused.{parts_at}
 use Rattle.fb_types.specs.Uses.{use_of}
 use Rattle.fb_types.specs.Shapes.{shapes_of}
 use Rattle.fb_types.proofs.Shaped.{ShapesSo, shapes_begun, shapes_more, shapes_done, shapes_wrong}

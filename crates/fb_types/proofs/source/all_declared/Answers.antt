@@ -3,8 +3,8 @@ use Rattle.std.specs.List.{AllByRecursion}
 use Rattle.std.proofs.lemmas.Result.{err_from_is_err_and}
 use Rattle.std.proofs.lemmas.List.{take_all}
 use Rattle.fb_model.specs.NetworkTyping.{IsProper}
-use Rattle.fb_networks.specs.fb_text.Views as trees_of
-use Rattle.fb_networks.proofs.of_fb_blocks.Lists.{mapped_more}
+use Rattle.fb_tree.specs.Files as trees_of
+use Rattle.fb_types_blocks.proofs.Lists.{mapped_more}
 use Rattle.fb_types.specs.Made.{IsNamed}
 use Rattle.fb_types.proofs.Nested.{among_at}
 use Rattle.fb_types.proofs.Making.{all_member, all_later}

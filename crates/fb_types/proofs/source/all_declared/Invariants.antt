@@ -2,7 +2,7 @@ use Rattle.std.proofs.Common.{List, map, take}
 use Rattle.std.specs.List.{AllByRecursion}
 use Rattle.fb_model.specs.Declarations as decl
 use Rattle.fb_model.specs.NetworkTyping.{IsProper}
-use Rattle.fb_networks.specs.fb_text.Views as trees_of
+use Rattle.fb_tree.specs.Files as trees_of
 use Rattle.fb_types.specs.Made.{IsTable, IsMemo, IsNamed}
 use Rattle.fb_types.proofs.source.all_declared.Given as goal
 

@@ -1,5 +1,5 @@
 use Rattle.std.proofs.Common.{map}
-use Rattle.fb_networks.specs.fb_text.Views as trees_of
+use Rattle.fb_tree.specs.Files as trees_of
 use Rattle.fb_types.proofs.Whole.{only_whole}
 use Rattle.fb_types.proofs.source.resolve_with.Goals as goal
 

@@ -4,8 +4,8 @@ use Rattle.std.proofs.lemmas.List.{length-map}
 use Rattle.std.proofs.lemmas.Result.{err_from_is_err_and}
 use Rattle.fb_model.specs.Typing.{AreDistinct, AreNewNumbers}
 use Rattle.fb_model.specs.NetworkTyping.{most_devices, IsProper, AreDevices, AreAlike, senders, all_services}
-use Rattle.fb_networks.specs.fb_text.Views as trees_of
-use Rattle.fb_networks.specs.fb_blocks.Refusals.{IsRepetition, IsExcess}
+use Rattle.fb_tree.specs.Files as trees_of
+use Rattle.fb_types_blocks.specs.Refusals.{IsRepetition, IsExcess}
 use Rattle.fb_types.specs.Ends.{IsChannelFault}
 use Rattle.fb_types.specs.Nesting.{DevicesProvide}
 use Rattle.fb_types.specs.Refusals.{IsFirstFault, repeated_type, faulty_declaration, repeated_device, excess_device, faulty_device, faulty_channels}

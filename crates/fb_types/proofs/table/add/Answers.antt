@@ -2,7 +2,7 @@ use Rattle.std.proofs.Common.{◌≡◌, is_some, true, false, ◌++◌, ◌∷�
 use Rattle.std.specs.Map.{lookup}
 use Rattle.std.specs.Str.{bytes_eq}
 use Rattle.fb_model.specs.NetworkTyping.{type_named}
-use Rattle.fb_networks.specs.fb_text.Views as trees_of
+use Rattle.fb_tree.specs.Files as trees_of
 use Rattle.fb_types.proofs.Tabled.{found, table_more, table_same, new_last}
 use Rattle.fb_types.proofs.table.add.Goals as goal
 

@@ -1,6 +1,6 @@
 use Rattle.std.proofs.Common.{◌++◌, ◌∷◌, [], map, take, sym, ap, subst, ◌∙◌, append_assoc}
-use Rattle.fb_networks.specs.fb_text.Views as trees_of
-use Rattle.fb_networks.proofs.of_fb_blocks.Lists.{mapped_more}
+use Rattle.fb_tree.specs.Files as trees_of
+use Rattle.fb_types_blocks.proofs.Lists.{mapped_more}
 use Rattle.fb_types.specs.Made.{IsTable}
 use Rattle.fb_types.proofs.table.add_all.Goals as goal
 

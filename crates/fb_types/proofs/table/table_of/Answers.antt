@@ -1,5 +1,5 @@
 use Rattle.std.proofs.Common.{[], map, refl}
-use Rattle.fb_networks.specs.fb_text.Views as trees_of
+use Rattle.fb_tree.specs.Files as trees_of
 use Rattle.fb_types.proofs.table.table_of.Goals as goal
 
 pub returns : goal.returns

@@ -1,6 +1,6 @@
 use Rattle.std.proofs.Common.{refl}
 use Rattle.fb_model.specs.NetworkTyping.{services_of, services_in}
-use Rattle.fb_networks.specs.Views.{placed_of, instances_of}
+use Rattle.fb_types_networks.specs.Views.{placed_of, instances_of}
 use Rattle.fb_types.specs.Uses.{uses_of, uses_in}
 use Rattle.fb_types.proofs.Gathered.{gathered_more, gathered_all}
 use Rattle.fb_types.proofs.uses.+gathering.Goals as goal

@@ -1,6 +1,6 @@
 use Rattle.std.proofs.Common.{◌≡◌, ◌++◌, map, drop}
 use Rattle.fb_model.specs.NetworkTyping.{services_in}
-use Rattle.fb_networks.specs.Views.{instances_of}
+use Rattle.fb_types_networks.specs.Views.{instances_of}
 use Rattle.fb_types.specs.Uses.{use_of, service_in, uses_in}
 use Rattle.fb_types.proofs.uses.+gathering.Given as goal
 

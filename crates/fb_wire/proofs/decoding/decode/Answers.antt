@@ -3,8 +3,7 @@ use Rattle.std.specs.Prelude.{IfErr, ◌==◌}
 use Rattle.std.proofs.lemmas.Result.{err_from_is_err_and}
 use Rattle.std.proofs.lemmas.Bool.{eqb-true, lt-ltb}
 use Rattle.fb_words.specs.Numbers.{in_type}
-use Rattle.fb_wire.specs.Views.{typed_of}
-use Rattle.fb_wire.specs.Views.{fault_of}
+use Rattle.fb_wire.specs.Views.{typed_of, fault_of}
 use Rattle.fb_model.specs.Fields.{fault_in}
 use Rattle.fb_wire.proofs.Coming.{begins, at_fault, room, next, ends, follows}
 use Rattle.fb_wire.proofs.decoding.decode.Goals as goal

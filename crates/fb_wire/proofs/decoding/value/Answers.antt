@@ -5,8 +5,7 @@ use Rattle.std.specs.Prelude.{Some}
 use Rattle.std.proofs.lemmas.Int.{to_z-of_z}
 use Rattle.std.proofs.lemmas.List.{take-append-drop}
 use Rattle.fb_wire.specs.Views.{value_bytes}
-use Rattle.fb_model.specs.Fields.{first_fault, values_in}
-use Rattle.fb_model.specs.Fields.{Value}
+use Rattle.fb_model.specs.Fields.{first_fault, values_in, Value}
 use Rattle.fb_wire.proofs.Reading.{spelled, value_wrong}
 use Rattle.fb_wire.proofs.decoding.value.Goals as goal
 

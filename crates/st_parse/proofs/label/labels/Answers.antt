@@ -6,7 +6,7 @@ use Rattle.fb_words.specs.declared.mark.Mark.TheVariants as m
 use Rattle.fb_read.specs.Reading.{syntax, list_at}
 use Rattle.fb_read.proofs.Lists.{separated_goes_on, separated_stops, separated_fails, separated_done}
 use Rattle.fb_read.proofs.Fronts.{skipped}
-use Rattle.st_tree.specs.Views.{label_of}
+use Rattle.fb_tree.specs.Algorithms.{label_of}
 use Rattle.st_parse.specs.Reading.{label_at}
 use Rattle.st_parse.proofs.label.labels.Goals as goal
 

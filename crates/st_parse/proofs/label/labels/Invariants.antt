@@ -3,7 +3,7 @@ use Rattle.fb_lex.specs.Views.{tokens_of}
 use Rattle.fb_words.specs.declared.mark.Mark.TheVariants as m
 use Rattle.fb_read.specs.Reading.{separated_at}
 use Rattle.fb_read.proofs.Lists.{with_front}
-use Rattle.st_tree.specs.Views.{label_of}
+use Rattle.fb_tree.specs.Algorithms.{label_of}
 use Rattle.st_parse.specs.Reading.{label_at}
 use Rattle.st_parse.proofs.label.labels.Given as goal
 

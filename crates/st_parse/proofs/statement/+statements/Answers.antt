@@ -4,10 +4,10 @@ use Rattle.std.proofs.lemmas.List.{map_push, length-map}
 use Rattle.fb_lex.specs.Views.{token_of, tokens_of}
 use Rattle.fb_words.specs.declared.mark.Mark.TheVariants as m
 use Rattle.fb_model.specs.StructuredTextGrammar.{most_nested}
-use Rattle.fb_read.specs.Answers.{optional}
+use Rattle.fb_tree.specs.Words.{optional}
 use Rattle.fb_read.specs.Reading.{next_is, while_at}
-use Rattle.st_tree.specs.Views.{stmt_of, branch_of, arm_of}
-use Rattle.st_expr.specs.Reading.{expression_at}
+use Rattle.fb_tree.specs.Algorithms.{stmt_of, branch_of, arm_of}
+use Rattle.st_parse.specs.ExpressionReading.{expression_at}
 use Rattle.st_parse.specs.Reading.{headed, begins_entry, begins_integer, entry_at, statement_at, nested_at, body_at, branch_at, elsifs_at, arm_at, arms_at, statements_in}
 use Rattle.fb_read.proofs.Lists.{while_goes_on, while_fails, while_stops, while_done}
 use Rattle.st_parse.proofs.Entries.{statements_some, statements_none, list_ends, list_fails}

@@ -5,8 +5,8 @@ use Rattle.fb_model.specs.StructuredText.{Statement}
 use Rattle.fb_model.specs.StructuredTextGrammar.{most_nested}
 use Rattle.fb_read.specs.Reading.{next_is, while_at}
 use Rattle.fb_read.proofs.Lists.{with_front}
-use Rattle.st_tree.specs.Views.{stmt_of, branch_of, arm_of}
-use Rattle.st_expr.specs.Reading.{expression_at}
+use Rattle.fb_tree.specs.Algorithms.{stmt_of, branch_of, arm_of}
+use Rattle.st_parse.specs.ExpressionReading.{expression_at}
 use Rattle.st_parse.specs.Reading.{headed, begins_entry, begins_integer, entry_at, statement_at, nested_at, body_at, branch_at, elsifs_at, arm_at, arms_at, statements_in}
 use Rattle.st_parse.proofs.statement.+statements.Given as goal
 

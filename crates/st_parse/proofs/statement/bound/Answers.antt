@@ -1,6 +1,6 @@
 use Rattle.fb_model.specs.StructuredTextGrammar.{most_nested}
-use Rattle.st_tree.specs.Views.{expr_of}
-use Rattle.st_expr.specs.Reading.{expression_at}
+use Rattle.fb_tree.specs.Algorithms.{expr_of}
+use Rattle.st_parse.specs.ExpressionReading.{expression_at}
 use Rattle.st_parse.proofs.Bounds.{bound_read}
 use Rattle.st_parse.proofs.statement.bound.Goals as goal
 

@@ -1,6 +1,6 @@
 use Rattle.std.proofs.Common.{◌≡◌, map, sym, ap, subst, ◌∙◌}
 use Rattle.std.proofs.lemmas.Result.{err_from_is_err_and}
-use Rattle.st_tree.specs.Views.{expr_of, link_of}
+use Rattle.fb_tree.specs.Algorithms.{expr_of, link_of}
 use Rattle.st_types.specs.Answers.{Gives, Fails}
 use Rattle.st_types.specs.Elaborating.{typed, typed_links}
 use Rattle.st_types.specs.Views.{entries, operand_of}

@@ -1,10 +1,10 @@
 use Rattle.std.proofs.Common.{◌≡◌, ◌+◌, ◌*◌, drop, map, max}
 use denote.Param.Weighed.{most}
-use Rattle.st_tree.specs.Views.{link_of}
+use Rattle.fb_tree.specs.Algorithms.{link_of}
 use Rattle.st_types.specs.Views.{operand_of, entries}
 use Rattle.st_types.specs.Elaborating.{typed_links}
-use Rattle.st_tree.proofs.expression.Expr.TheLaws.{the_size as expr_size}
-use Rattle.st_tree.proofs.expression.Link.TheLaws.{the_size as link_size}
+use Rattle.fb_tree.proofs.expression.Expr.TheLaws.{the_size as expr_size}
+use Rattle.fb_tree.proofs.expression.Link.TheLaws.{the_size as link_size}
 use Rattle.st_types.proofs.expression.+typing.Given as goal
 
 abbrev pub decreases-typed : goal.decreases-typed

@@ -2,7 +2,7 @@ use Rattle.std.proofs.Common.{◌≡◌, Ok, arith, map, refl, sym, ap, subst, �
 use Rattle.std.proofs.lemmas.Result.{err_from_is_err_and}
 use Rattle.std.proofs.lemmas.List.{map_push}
 use Rattle.fb_model.specs.TypedText.{done, then_do, no_choice, no_case}
-use Rattle.st_tree.specs.Views.{expr_of, stmt_of, branch_of, arm_of, body_of}
+use Rattle.fb_tree.specs.Algorithms.{expr_of, stmt_of, branch_of, arm_of, body_of}
 use Rattle.st_types.specs.Answers.{Fails}
 use Rattle.st_types.specs.Commanding.{commanded, all_commanded, one_chosen, one_cased}
 use Rattle.st_types.specs.Views.{term_of, entries}
@@ -10,7 +10,7 @@ use Rattle.st_types.specs.CommandViews.{then_all, all_choices, all_cases, busy_o
 use Rattle.st_types.proofs.Gathering.{drop_all, fails_at, goes_on_at, ends_at}
 use Rattle.st_types.proofs.Loops.{put_choice, put_case, commands_gathered, choices_gathered, cases_gathered}
 use denote.Param.Weighed.{most}
-use Rattle.st_tree.proofs.statement.Stmt.TheLaws.{the_size as stmt_size}
+use Rattle.fb_tree.proofs.statement.Stmt.TheLaws.{the_size as stmt_size}
 use Rattle.st_types.proofs.Plain.{for_size, view_branch, view_choice, condition_fails, body_fails, choice_is}
 use Rattle.st_types.proofs.statement.+commanding.Goals as goal
 

@@ -1,12 +1,12 @@
 use Rattle.std.proofs.Common.{◌+◌, ◌*◌, drop, map}
 use denote.Param.Weighed.{most}
-use Rattle.st_tree.specs.Views.{stmt_of, branch_of, arm_of}
+use Rattle.fb_tree.specs.Algorithms.{stmt_of, branch_of, arm_of}
 use Rattle.st_types.specs.Views.{entries}
 use Rattle.st_types.specs.CommandViews.{busy_of, command_of, choice_of, case_of}
 use Rattle.st_types.proofs.Loops.{CommandsLeft, ChoicesLeft, CasesLeft}
-use Rattle.st_tree.proofs.statement.Stmt.TheLaws.{the_size as stmt_size}
-use Rattle.st_tree.proofs.statement.Branch.TheLaws.{the_size as branch_size}
-use Rattle.st_tree.proofs.statement.Arm.TheLaws.{the_size as arm_size}
+use Rattle.fb_tree.proofs.statement.Stmt.TheLaws.{the_size as stmt_size}
+use Rattle.fb_tree.proofs.statement.Branch.TheLaws.{the_size as branch_size}
+use Rattle.fb_tree.proofs.statement.Arm.TheLaws.{the_size as arm_size}
 use Rattle.st_types.proofs.statement.+commanding.Given as goal
 
 abbrev pub decreases-command : goal.decreases-command

@@ -1,5 +1,5 @@
 use Rattle.std.proofs.Common.{drop, map}
-use Rattle.st_tree.specs.Views.{label_of}
+use Rattle.fb_tree.specs.Algorithms.{label_of}
 use Rattle.st_types.proofs.Loops.{LabelsLeft}
 use Rattle.st_types.proofs.statement.labels.Given as goal
 

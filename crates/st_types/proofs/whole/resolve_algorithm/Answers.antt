@@ -1,7 +1,7 @@
 use Rattle.std.proofs.Common.{[], Err, sym, ◌∙◌}
 use Rattle.std.proofs.lemmas.Result.{err_from_is_err_and}
 use Rattle.fb_model.specs.TextFaults.{SomeMisdone}
-use Rattle.st_tree.specs.Views.{body_of}
+use Rattle.fb_tree.specs.Algorithms.{body_of}
 use Rattle.st_types.specs.declared.whole.Algo.{Algo}
 use Rattle.st_types.specs.Commanding.{all_commanded}
 use Rattle.st_types.specs.Views.{entries}

@@ -1,4 +1,4 @@
-use Rattle.st_tree.specs.Views.{expr_of}
+use Rattle.fb_tree.specs.Algorithms.{expr_of}
 use Rattle.fb_model.specs.TextTyping.{IsAsked}
 use Rattle.fb_model.specs.TextFaults.{IsNotAsked}
 use Rattle.st_types.specs.Elaborating.{asked}

@@ -1,6 +1,6 @@
 use Rattle.std.proofs.Common.{map, ap, sym, ◌∙◌}
-use Rattle.fb_types.specs.fb_networks.declared.typed.Network.{out-Network}
-use Rattle.fb_types.specs.fb_networks.Views.{connection_of}
+use Rattle.fb_types_networks.specs.declared.typed.Network.{out-Network}
+use Rattle.fb_types_networks.specs.Views.{connection_of}
 use Rattle.fb_flat.specs.Bundled.{seen, under, ending, source_of}
 use Rattle.fb_flat.proofs.Following.{events_are}
 use Rattle.fb_flat.proofs.lookup.Indexed.events.Goals as goal

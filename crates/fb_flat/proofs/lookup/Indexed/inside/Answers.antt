@@ -1,7 +1,7 @@
 use Rattle.std.proofs.Common.{◌≡◌, Some, length, ap, sym, ◌∙◌, arith}
 use Rattle.std.specs.Prelude.{slice_get}
 use Rattle.std.proofs.lemmas.Option.{slice_get-get_or}
-use Rattle.fb_types.specs.fb_networks.declared.typed.Network.{out-Network}
+use Rattle.fb_types_networks.specs.declared.typed.Network.{out-Network}
 use Rattle.fb_flat.proofs.Indexing.{inside_length, inside_at}
 use Rattle.fb_flat.proofs.lookup.Indexed.inside.Goals as goal
 

@@ -1,5 +1,5 @@
 use Rattle.std.proofs.Common.{ap, ◌∙◌}
-use Rattle.fb_types.specs.fb_networks.declared.typed.Network.{out-Network}
+use Rattle.fb_types_networks.specs.declared.typed.Network.{out-Network}
 use Rattle.fb_flat.specs.Placed.{position_named}
 use Rattle.fb_flat.proofs.Placing.{found_first, found_within}
 use Rattle.fb_flat.proofs.lookup.Indexed.position.Goals as goal

@@ -1,6 +1,6 @@
 use Rattle.std.proofs.Common.{map, ap, sym, ◌∙◌}
-use Rattle.fb_types.specs.fb_networks.declared.typed.Network.{out-Network}
-use Rattle.fb_types.specs.fb_networks.Views.{connection_of}
+use Rattle.fb_types_networks.specs.declared.typed.Network.{out-Network}
+use Rattle.fb_types_networks.specs.Views.{connection_of}
 use Rattle.fb_flat.specs.Bundled.{seen, under, ending, target_of}
 use Rattle.fb_flat.proofs.Following.{values_are}
 use Rattle.fb_flat.proofs.lookup.Indexed.values.Goals as goal

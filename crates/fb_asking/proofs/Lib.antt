@@ -1,4 +1,0 @@
-pub mod Ranging
-pub mod Ending
-pub mod Growing
-pub mod Staying

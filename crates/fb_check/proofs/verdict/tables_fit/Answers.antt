@@ -1,5 +1,0 @@
-use Rattle.fb_columns.specs.fb_types.Views.{system_of}
-use Rattle.fb_check.proofs.verdict.tables_fit.Goals as goal
-
-pub returns-clause-refused : goal.returns-clause-refused
-returns-clause-refused c = λ typed w e few. c.far_fits.ensures.refused typed w e (c.in_ok-alone_fits.ensures.fits (system_of typed) w e few).clear

@@ -1,0 +1,16 @@
+pub mod Lists
+pub mod Values
+pub mod Loops
+pub mod Each
+pub mod Owing
+pub mod Amounts
+pub mod Known
+pub mod Crossings
+pub mod Weighing
+pub mod Serving
+pub mod Leaves
+pub mod Composed
+pub mod Denied
+pub mod Small
+pub mod Costing
+pub mod Hearing

@@ -1,0 +1,24 @@
+use Rattle.std.proofs.Common.{◌*◌, ℕ, Global}
+use Rattle.std.specs.declared.string.String.{String}
+use Rattle.fb_model.specs.System as system
+use Rattle.fb_model.specs.Clear.{cost}
+use Rattle.fb_model.specs.Ranges.{IsClearAlgorithm}
+use Rattle.st_types.specs.declared.whole.Algo.{Algo}
+use Rattle.fb_ranges.specs.Views.{spans_of}
+use Rattle.fb_check_columns.specs.Columns.{unit_of}
+use Rattle.fb_model.proofs.Lists.{got}
+use Rattle.fb_check_columns.proofs.Lists.{all_at}
+use Rattle.fb_check_columns.proofs.Values.{more_sums}
+use Rattle.fb_check_columns.proofs.Costing.{procedure_of, twice_more}
+use Rattle.fb_check_columns.proofs.cost.costs.Goals as goal
+
+pub loop-index-preserved : goal.loop-index-preserved
+loop-index-preserved c =
+    λ clear.
+    let spans = spans_of c.args.rows.now in
+    let es = c.args.procedures.now.entries in
+    let e : String Global × Algo = (c.in-Some.field-0-0.now, c.in-Some.algorithm.now) in
+    let g = got es c.loop-index.index e c.in-Some.ensures.entry in
+    let f : system.Procedure → ℕ = λ p. unit_of c.args.column * cost spans p.algorithm in
+    let one = c.in_ok-cost.ensures.value (all_at (λ (p : system.Procedure). IsClearAlgorithm spans p.algorithm) procedure_of es c.loop-index.index e clear g.0 g.1) in
+    rw (twice_more f es c.loop-index.index e g.0 g.1, c.in_ok-push.ensures.items) (more_sums _ _ _ _ (c.loop-index.invariant clear) one)

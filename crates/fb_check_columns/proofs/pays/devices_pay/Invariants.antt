@@ -1,0 +1,7 @@
+use Rattle.std.proofs.Common.{drop}
+use Rattle.std.specs.List.{AllByRecursion}
+use Rattle.fb_check_columns.specs.Tables.{DevicePays}
+use Rattle.fb_check_columns.proofs.pays.devices_pay.Given as goal
+
+abbrev pub invariant-loop-device : goal.invariant-loop-device
+invariant-loop-device l = AllByRecursion (DevicePays l.column l.certificate) (drop l.device-index l.devices) → AllByRecursion (DevicePays l.column l.certificate) l.devices

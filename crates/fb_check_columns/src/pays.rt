@@ -1,0 +1,81 @@
+//! When the rows of a system pay in a column.
+
+ghost use Rattle.std.specs.Prelude.{IfErr, OnOk};
+ghost use Rattle.std.specs.List.{AllByRecursion, Any};
+ghost use Rattle.fb_model.specs.System.{System};
+ghost use Rattle.fb_cert.specs.Views.{certificate_of};
+ghost use Rattle.fb_flat.specs.Tables.{AreDevices};
+ghost use Rattle.fb_check_columns.specs.Columns.{column_of};
+ghost use Rattle.fb_check_columns.specs.Tables.{LeafPays, LeafFails, ResourcePays, ResourceFails, DevicePays, DeviceFails};
+ghost use Rattle.fb_check_columns.specs.Fitting.{IsUnpaid, AllPay, AreKnown};
+
+use crate::column::Column;
+use crate::fault::Shortfall;
+use crate::leaf::leaf_pays;
+use fb_cert::Certificate;
+use fb_flat::{Flat, FlatDevice, FlatResource, Leaf};
+use std::alloc::Global;
+
+// The rows of all leaves of a resource pay.
+fn leaves_pay(
+    alloc: Global,
+    leaves: &[Leaf],
+    certificate: &Certificate,
+    column: Column,
+) -> Result<(), Shortfall>
+    ensures pays { OnOk result (AllByRecursion (LeafPays column certificate.now) leaves.now) }
+    ensures refused { IfErr result (λ f. Any (LeafFails column certificate.now f) leaves.now) }
+{
+    for leaf in leaves {
+        leaf_pays(alloc, certificate, column, leaf)?;
+    }
+    Ok(())
+}
+
+// The same of all resources of a device.
+fn resources_pay(
+    alloc: Global,
+    resources: &[FlatResource],
+    certificate: &Certificate,
+    column: Column,
+) -> Result<(), Shortfall>
+    ensures pays { OnOk result (AllByRecursion (ResourcePays column certificate.now) resources.now) }
+    ensures refused { IfErr result (λ f. Any (ResourceFails column certificate.now f) resources.now) }
+{
+    for resource in resources {
+        leaves_pay(alloc, resource.leaves.as_slice(), certificate, column)?;
+    }
+    Ok(())
+}
+
+// The same of all devices.
+fn devices_pay(
+    alloc: Global,
+    devices: &[FlatDevice],
+    certificate: &Certificate,
+    column: Column,
+) -> Result<(), Shortfall>
+    ensures pays { OnOk result (AllByRecursion (DevicePays column certificate.now) devices.now) }
+    ensures refused { IfErr result (λ f. Any (DeviceFails column certificate.now f) devices.now) }
+{
+    for device in devices {
+        resources_pay(alloc, device.resources.as_slice(), certificate, column)?;
+    }
+    Ok(())
+}
+
+/// The rows of all leaves pay in a column: each charge for its state's actions and free transitions, each weight for its dispatch and all that it can cause.
+///
+/// Refused with `Charge` or `Weight`, only where it is so.
+pub fn column_pays(
+    alloc: Global,
+    flat: &Flat,
+    certificate: &Certificate,
+    column: Column,
+) -> Result<(), Shortfall>
+    ensures pays { (s : System) → AreDevices flat.now.devices.items s.devices → AreKnown (certificate_of certificate.now).ranges s → OnOk result (AllPay (column_of column (certificate_of certificate.now)) (certificate_of certificate.now).ranges s) }
+    ensures refused { (s : System) → AreDevices flat.now.devices.items s.devices → AreKnown (certificate_of certificate.now).ranges s → IfErr result (IsUnpaid (column_of column (certificate_of certificate.now)) (certificate_of certificate.now).ranges s) }
+{
+    certificate.stands_in_text();
+    devices_pay(alloc, flat.devices.as_slice(), certificate, column)
+}

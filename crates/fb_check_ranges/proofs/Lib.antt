@@ -1,0 +1,10 @@
+pub mod Lists
+pub mod Blaming
+pub mod Rowing
+pub mod Starting
+pub mod Placing
+pub mod Putting
+pub mod Matching
+pub mod Bridging
+pub mod Composed
+pub mod Denied

@@ -1,0 +1,32 @@
+use Rattle.std.proofs.Common.{inl, inr}
+use Rattle.std.proofs.lemmas.Result.{err_from_is_err_and}
+use Rattle.fb_flat.specs.Tables.{source_at}
+use Rattle.fb_check_ranges.specs.Reasons.{OneFails}
+use Rattle.fb_check_ranges.specs.Beginning.{entry_name}
+use Rattle.fb_check_ranges.specs.Clearing.{VariableFails, LinkFails, BlockFails}
+use Rattle.fb_check_ranges.proofs.Blaming.{blames_weaker, chart_all}
+use Rattle.fb_check_ranges.proofs.leaf.chart_clear.Goals as goal
+
+pub returns-in_err-variables_begin : goal.returns-in_err-variables_begin
+returns-in_err-variables_begin c =
+    λ ls h.
+    let p = err_from_is_err_and c.from_residual.result c.from_residual.ensures.1 in
+    let cert = c.args.certificate.now in
+    let path = c.args.path.now in
+    let k = c.args.block.now in
+    let source = source_at c.args.inputs.now in
+    rw (p.1, p.2) (blames_weaker path (VariableFails cert path source k) (BlockFails cert path ls source k) c.in_err-variables_begin.field-0.0 (λ reason y q. inl q) c.in_err-variables_begin.ensures)
+
+pub returns-in_err-links_lie : goal.returns-in_err-links_lie
+returns-in_err-links_lie c =
+    λ ls h.
+    let p = err_from_is_err_and c.from_residual-in_err-links_lie.result c.from_residual-in_err-links_lie.ensures.1 in
+    let cert = c.args.certificate.now in
+    let path = c.args.path.now in
+    let k = c.args.block.now in
+    let source = source_at c.args.inputs.now in
+    rw (p.1, p.2) (blames_weaker path (OneFails entry_name (LinkFails cert path ls source) k.face.inputs.entries) (BlockFails cert path ls source k) c.in_err-links_lie.field-0.0 (λ reason y q. inr (inl q)) (c.in_err-links_lie.ensures ls h))
+
+pub returns : goal.returns
+returns c =
+    λ ls h. chart_all c.args.certificate.now c.args.path.now ls (source_at c.args.inputs.now) c.args.block.now c.runs_clear.result c.in_ok-variables_begin.ensures (c.in_ok-links_lie.ensures ls h) c.runs_clear.ensures

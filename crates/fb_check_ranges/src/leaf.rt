@@ -1,0 +1,95 @@
+//! When the rows of a leaf are clear.
+
+ghost use Rattle.std.specs.Prelude.{List, OnOk, IfErr, MatchResult};
+ghost use Rattle.fb_model.specs.Wires as wires;
+ghost use Rattle.fb_model.specs.Ranges.{LeafClears};
+ghost use Rattle.fb_cert.specs.Views.{certificate_of};
+ghost use Rattle.fb_flat.specs.declared.flat.Leaf as tables;
+ghost use Rattle.fb_flat.specs.Tables.{source_at, IsLeaf, AreLeaves};
+ghost use Rattle.fb_check_ranges.specs.Reasons.{Refuses, Blames};
+ghost use Rattle.fb_check_ranges.specs.Places.{ArePlaces};
+ghost use Rattle.fb_check_ranges.specs.Clearing.{VariablesBegin, VariableFails, RunsClear, RunFails, ChartLies, BlockFails};
+ghost use Rattle.fb_check_ranges.specs.Fitting.{IsKnownLeaf, LeafFails};
+ghost use Rattle.fb_check_ranges.specs.Tables.{AreKnownLeaves};
+
+use crate::begin::{inputs_begin, others_begin};
+use crate::fault::Unclear;
+use crate::link::links_lie;
+use crate::place::Places;
+use crate::row::block_rows;
+use crate::run::{algorithms_clear, guards_clear};
+use fb_cert::Certificate;
+use fb_flat::{Body, Input, Leaf};
+use fb_types_blocks::Block;
+use std::alloc::Global;
+
+// The rows of a block's variables lie in their types, and hold what the variables have at first.
+fn variables_begin(
+    alloc: Global,
+    certificate: &Certificate,
+    path: &str,
+    inputs: &[Input],
+    block: &Block,
+) -> Result<(), Unclear>
+    ensures { MatchResult result (λ u. VariablesBegin certificate.now path.now (source_at inputs.now) block.now) (Blames path.now (VariableFails certificate.now path.now (source_at inputs.now) block.now)) }
+{
+    inputs_begin(alloc, certificate, path, inputs, &block.face.inputs)?;
+    others_begin(alloc, certificate, path, &block.face.outputs)?;
+    others_begin(alloc, certificate, path, &block.internals)
+}
+
+// The algorithms and guards of a block are clear.
+fn runs_clear(
+    alloc: Global,
+    certificate: &Certificate,
+    path: &str,
+    block: &Block,
+) -> Result<(), Unclear>
+    ensures { MatchResult result (λ u. RunsClear certificate.now path.now block.now) (Blames path.now (RunFails certificate.now path.now block.now)) }
+{
+    let rows = block_rows(alloc, certificate, path, block)?;
+    algorithms_clear(alloc, path, &rows, &block.procedures)?;
+    guards_clear(alloc, path, &rows, block.transitions.as_slice())
+}
+
+// The rows of a basic block are clear.
+fn chart_clear(
+    alloc: Global,
+    certificate: &Certificate,
+    places: &Places,
+    path: &str,
+    inputs: &[Input],
+    block: &Block,
+) -> Result<(), Unclear>
+    ensures { (ls : List tables.Leaf) → ArePlaces ls places.now → MatchResult result (λ u. ChartLies certificate.now path.now ls (source_at inputs.now) block.now) (Blames path.now (BlockFails certificate.now path.now ls (source_at inputs.now) block.now)) }
+{
+    variables_begin(alloc, certificate, path, inputs, block)?;
+    links_lie(alloc, certificate, places, path, inputs, &block.face.inputs)?;
+    runs_clear(alloc, certificate, path, block)
+}
+
+/// The rows of a leaf are clear, among the leaves of its device.
+pub(crate) fn leaf_clear(
+    alloc: Global,
+    certificate: &Certificate,
+    places: &Places,
+    leaf: &Leaf,
+) -> Result<(), Unclear>
+    ensures clears { (ls : List tables.Leaf) (bs : List wires.Leaf) (b : wires.Leaf) → ArePlaces ls places.now → AreLeaves ls bs → AreKnownLeaves bs → IsLeaf leaf.now b → IsKnownLeaf b → OnOk result (LeafClears (certificate_of certificate.now).ranges bs b) }
+    ensures refused { (ls : List tables.Leaf) (bs : List wires.Leaf) (b : wires.Leaf) → ArePlaces ls places.now → AreLeaves ls bs → AreKnownLeaves bs → IsLeaf leaf.now b → IsKnownLeaf b → IfErr result (Refuses (LeafFails (certificate_of certificate.now).ranges bs b)) }
+{
+    match &leaf.body {
+        Body::Basic(block) => {
+            let path = leaf.path.as_str();
+            chart_clear(
+                alloc,
+                certificate,
+                places,
+                path,
+                leaf.inputs.as_slice(),
+                block,
+            )
+        }
+        Body::Served(_) => Ok(()),
+    }
+}

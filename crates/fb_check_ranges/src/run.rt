@@ -1,0 +1,88 @@
+//! Algorithms and guards under the rows of their variables.
+
+ghost use Rattle.std.specs.Prelude.{string_bytes};
+ghost use Rattle.fb_model.specs.Ranges.{IsClearAlgorithm, IsClearGuard};
+ghost use Rattle.st_types.specs.CommandViews.{commands_of};
+ghost use Rattle.fb_ranges.specs.Views.{spans_of};
+ghost use Rattle.fb_check_ranges.specs.Reasons.{Names, NamesOne};
+ghost use Rattle.fb_check_ranges.specs.Clearing.{AlgorithmFails, GuardFails, procedure_name, procedure_text, guard_in};
+
+use crate::fault::Unclear;
+use fb_flat::joined;
+use fb_ranges::{RangeFault, Ranges, check_algorithm, check_guard};
+use fb_types_blocks::Transition;
+use indexmap::IndexMap;
+use st_types::Algo;
+use std::alloc::Global;
+
+// An algorithm is clear.
+fn algorithm_clear(
+    alloc: Global,
+    path: &str,
+    rows: &Ranges,
+    name: &str,
+    algo: &Algo,
+) -> Result<(), Unclear>
+    ensures { Names path.now name.now (IsClearAlgorithm (spans_of rows.now) (commands_of algo.now.statements.items)) (AlgorithmFails (spans_of rows.now) (commands_of algo.now.statements.items)) result }
+{
+    match check_algorithm(alloc, algo, rows) {
+        Ok(()) => Ok(()),
+        Err(RangeFault::Leaves) => Err(Unclear::Kept(joined(alloc, path, name)?)),
+        Err(RangeFault::Traps) => Err(Unclear::IndexOrDivisor(joined(alloc, path, name)?)),
+        Err(RangeFault::OutOfMemory) => Err(Unclear::OutOfMemory),
+    }
+}
+
+/// All algorithms are clear.
+pub(crate) fn algorithms_clear(
+    alloc: Global,
+    path: &str,
+    rows: &Ranges,
+    procedures: &IndexMap<String, Algo>,
+) -> Result<(), Unclear>
+    ensures { NamesOne path.now procedure_name (λ p. IsClearAlgorithm (spans_of rows.now) (procedure_text p)) (λ p. AlgorithmFails (spans_of rows.now) (procedure_text p)) procedures.now.entries result }
+{
+    for index in 0..procedures.len() {
+        let Some((name, algo)) = procedures.get_index(index) else {
+            return Ok(());
+        };
+        algorithm_clear(alloc, path, rows, name.as_str(), algo)?;
+    }
+    Ok(())
+}
+
+// A guard is clear, if there is one.
+fn guard_clear(
+    alloc: Global,
+    path: &str,
+    rows: &Ranges,
+    transition: &Transition,
+) -> Result<(), Unclear>
+    ensures { Names path.now (string_bytes transition.now.source) (IsClearGuard (spans_of rows.now) (guard_in transition.now)) (GuardFails (spans_of rows.now) (guard_in transition.now)) result }
+{
+    match &transition.guard {
+        None => Ok(()),
+        Some(guard) => match check_guard(alloc, guard, rows) {
+            Ok(()) => Ok(()),
+            Err(_) => {
+                let source = transition.source.as_str();
+                Err(Unclear::IndexOrDivisor(joined(alloc, path, source)?))
+            }
+        },
+    }
+}
+
+/// All guards are clear.
+pub(crate) fn guards_clear(
+    alloc: Global,
+    path: &str,
+    rows: &Ranges,
+    transitions: &[Transition],
+) -> Result<(), Unclear>
+    ensures { NamesOne path.now (λ t. string_bytes t.source) (λ t. IsClearGuard (spans_of rows.now) (guard_in t)) (λ t. GuardFails (spans_of rows.now) (guard_in t)) transitions.now result }
+{
+    for transition in transitions {
+        guard_clear(alloc, path, rows, transition)?;
+    }
+    Ok(())
+}

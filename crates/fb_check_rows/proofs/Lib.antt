@@ -1,0 +1,12 @@
+pub mod Loops
+pub mod Arriving
+pub mod Beginning
+pub mod DepthSystems
+pub mod Names
+pub mod Members
+pub mod Places
+pub mod Tables
+pub mod Systems
+pub mod Channels
+pub mod Matches
+pub mod Spelled

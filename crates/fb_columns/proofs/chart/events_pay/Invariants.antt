@@ -1,7 +1,0 @@
-use Rattle.std.proofs.Common.{take}
-use Rattle.std.specs.List.{AllByRecursion}
-use Rattle.fb_columns.specs.Paying.{EventPays}
-use Rattle.fb_columns.proofs.chart.events_pay.Given as goal
-
-abbrev pub invariant-loop-transition : goal.invariant-loop-transition
-invariant-loop-transition l = AllByRecursion (EventPays l.column l.certificate l.path) (take l.transition-index l.transitions)

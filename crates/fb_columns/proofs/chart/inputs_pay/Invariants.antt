@@ -1,8 +1,0 @@
-use Rattle.std.proofs.Common.{take}
-use Rattle.std.specs.List.{AllByRecursion}
-use Rattle.fb_columns.specs.Reckoning.{table_names}
-use Rattle.fb_columns.specs.Paying.{InputPays}
-use Rattle.fb_columns.proofs.chart.inputs_pay.Given as goal
-
-abbrev pub invariant-loop-index : goal.invariant-loop-index
-invariant-loop-index l = AllByRecursion (InputPays l.column l.certificate l.path l.next) (take l.index (table_names l.inputs))

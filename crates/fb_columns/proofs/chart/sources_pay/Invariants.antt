@@ -1,9 +1,0 @@
-use Rattle.std.proofs.Common.{ℕ, List, take}
-use Rattle.std.specs.List.{AllByRecursion}
-use Rattle.fb_columns.specs.Reckoning.{AreSums, value_at, table_names}
-use Rattle.fb_columns.specs.Paying.{SourcePays}
-use Rattle.fb_columns.proofs.chart.sources_pay.Given as goal
-
-abbrev pub invariant-loop-transition : goal.invariant-loop-transition
-invariant-loop-transition l =
-    (ns : List ℕ) → AreSums l.costs ns → AllByRecursion (SourcePays l.column l.certificate l.path (value_at (table_names l.states) ns 0)) (take l.transition-index l.transitions)

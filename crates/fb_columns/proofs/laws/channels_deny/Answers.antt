@@ -1,5 +1,0 @@
-use Rattle.fb_columns.proofs.Denied.{channel_denied}
-use Rattle.fb_columns.proofs.laws.channels_deny.Goals as goal
-
-pub returns : goal.returns
-returns c = channel_denied

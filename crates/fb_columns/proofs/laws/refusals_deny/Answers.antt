@@ -1,5 +1,0 @@
-use Rattle.fb_columns.proofs.Denied.{denied}
-use Rattle.fb_columns.proofs.laws.refusals_deny.Goals as goal
-
-pub returns : goal.returns
-returns c = denied

@@ -1,7 +1,0 @@
-use Rattle.std.proofs.Common.{drop}
-use Rattle.std.specs.List.{AllByRecursion}
-use Rattle.fb_columns.specs.Tables.{ResourcePays}
-use Rattle.fb_columns.proofs.pays.resources_pay.Given as goal
-
-abbrev pub invariant-loop-resource : goal.invariant-loop-resource
-invariant-loop-resource l = AllByRecursion (ResourcePays l.column l.certificate) (drop l.resource-index l.resources) → AllByRecursion (ResourcePays l.column l.certificate) l.resources

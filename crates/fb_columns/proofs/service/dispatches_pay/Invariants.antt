@@ -1,8 +1,0 @@
-use Rattle.std.proofs.Common.{map, take}
-use Rattle.std.specs.List.{AllByRecursion}
-use Rattle.fb_rows.specs.fb_services.Views.{service_of}
-use Rattle.fb_columns.specs.Paying.{DispatchPays}
-use Rattle.fb_columns.proofs.service.dispatches_pay.Given as goal
-
-abbrev pub invariant-loop-event : goal.invariant-loop-event
-invariant-loop-event l = AllByRecursion (DispatchPays l.column l.certificate l.path (service_of l.service) l.outputs) (take l.event-index (map (λ e. e.now) l.events))

@@ -1,3 +1,0 @@
-pub mod Demands
-pub mod Columns
-pub mod Likeness

@@ -1,4 +1,0 @@
-pub mod Loops
-pub mod Arriving
-pub mod Beginning
-pub mod Systems

@@ -1,7 +1,0 @@
-use Rattle.std.proofs.Common.{drop}
-use Rattle.std.specs.List.{AllByRecursion}
-use Rattle.fb_depths.specs.Depths.{ResourceFits, DeviceFits}
-use Rattle.fb_depths.proofs.depth.device_fits.Given as goal
-
-abbrev pub invariant-loop-resource : goal.invariant-loop-resource
-invariant-loop-resource l = AllByRecursion (ResourceFits l.certificate) (drop l.resource-index l.device.resources.items) → DeviceFits l.certificate l.device

@@ -1,0 +1,5 @@
+pub mod Answers
+pub mod Offering
+pub mod Ticking
+pub mod Delivering
+pub mod Stamping

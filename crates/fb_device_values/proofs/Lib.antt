@@ -1,0 +1,8 @@
+pub use Rattle.fb_verdict.proofs as of_fb_verdict
+pub mod Drafting
+pub mod Adding
+pub mod Starts
+pub mod Inputs
+pub mod Filled
+pub mod Leaving
+pub mod Knowing

@@ -1,0 +1,17 @@
+pub mod Numbers
+pub mod Loops
+pub mod Ranks
+pub mod Entries
+pub mod Values
+pub mod Charts
+pub mod Outputs
+pub mod Grouped
+pub mod Alike
+pub mod Systems
+pub mod Rows
+pub mod Ends
+pub mod Costs
+pub mod Answering
+pub mod Written
+pub mod Walks
+pub mod Handed

@@ -1,0 +1,4 @@
+use Rattle.fb_find_demands.proofs.numbered.Numbering.count.Goals as goal
+
+pub returns : goal.returns
+returns c = rw c.as_slice.ensures.value at c.count_of.ensures

@@ -1,0 +1,7 @@
+pub mod Rights
+pub mod Grounds
+pub mod Channels
+pub mod Leaves
+pub mod Ends
+pub mod Prices
+pub mod Shown

@@ -1,0 +1,205 @@
+//! The demands of a chart.
+
+ghost use Rattle.std.specs.Prelude.{◌≡◌, ◌++◌, ◌∷◌, [], map, IfOk, OnOk, Some};
+ghost use Rattle.std.specs.List.{flat_map};
+ghost use Rattle.fb_model.specs.Certificates.{event_names};
+ghost use Rattle.fb_model.specs.Charts as charts;
+ghost use Rattle.fb_model_laws.specs.Demands.{crossing_demand, free_demand, of_chart, of_crossing, of_free, of_input, of_least, of_state};
+ghost use Rattle.fb_types_blocks.specs.Views.{action_of, block_of, events_of, states_of, transition_of};
+ghost use Rattle.fb_find_laws.specs.Nodes.{by_number};
+ghost use Rattle.fb_find_demands.specs.Grounds.{actions_in, ground_in};
+ghost use Rattle.fb_find_demands.specs.Rights.{numbered, numbers_of, right_of, rights_of};
+
+use crate::right::Right;
+use crate::scene::{Scene, added, emitted, work};
+use fb_types_blocks::{Action, Block, Events, Transition};
+use indexmap::IndexMap;
+use std::alloc::AllocError;
+
+// The charge of a state pays for its actions.
+fn state_right(scene: &Scene, name: &str, actions: &[Action]) -> Result<Right, AllocError>
+    ensures { IfOk result (λ r. right_of r ≡ by_number (numbers_of scene.now.numbering.now) (of_state (ground_in scene.now) (record { name = name.now; actions = map action_of actions.now }))) }
+{
+    Ok(Right {
+        node: scene.numbering.state(scene.alloc, scene.path, name)?,
+        constant: work(scene, actions),
+        terms: emitted(scene, actions)?,
+    })
+}
+
+// The same of each state.
+fn add_states(
+    scene: &Scene,
+    states: &IndexMap<String, Vec<Action>>,
+    rights: &mut Vec<Right>,
+) -> Result<(), AllocError>
+    ensures { OnOk result (rights_of rights.new.items ≡ rights_of rights.old.items ++ numbered scene.now.numbering.now (map (of_state (ground_in scene.now)) (states_of states.now))) }
+{
+    for index in 0..states.len() {
+        let Some((name, actions)) = states.get_index(index) else {
+            return Ok(());
+        };
+        rights.push(state_right(scene, name.as_str(), actions.as_slice())?)?;
+    }
+    Ok(())
+}
+
+// The actions of the state of a name.
+fn actions_in<'a>(states: &'a IndexMap<String, Vec<Action>>, name: &str) -> &'a [Action]
+    ensures { map action_of result.now ≡ actions_in states.now.entries name.now }
+{
+    match states.get(name) {
+        Some(actions) => actions.as_slice(),
+        None => &[],
+    }
+}
+
+// And for a transition without an event that leaves it, with the charge of the state that this leads to.
+fn free_right(
+    scene: &Scene,
+    states: &IndexMap<String, Vec<Action>>,
+    source: &str,
+    target: &str,
+) -> Result<Right, AllocError>
+    ensures { IfOk result (λ r. right_of r ≡ by_number (numbers_of scene.now.numbering.now) (free_demand (ground_in scene.now) (actions_in states.now.entries source.now) source.now target.now)) }
+{
+    let actions = actions_in(states, source);
+    let mut terms = emitted(scene, actions)?;
+    terms.push(scene.numbering.state(scene.alloc, scene.path, target)?)?;
+    Ok(Right {
+        node: scene.numbering.state(scene.alloc, scene.path, source)?,
+        constant: added(work(scene, actions), scene.unit),
+        terms,
+    })
+}
+
+// The same of a transition, where it names no event.
+fn add_free(
+    scene: &Scene,
+    block: &Block,
+    transition: &Transition,
+    rights: &mut Vec<Right>,
+) -> Result<(), AllocError>
+    ensures { OnOk result (rights_of rights.new.items ≡ rights_of rights.old.items ++ numbered scene.now.numbering.now (of_free (ground_in scene.now) (block_of block.now) (transition_of transition.now))) }
+{
+    match &transition.event {
+        None => {
+            let source = transition.source.as_str();
+            let target = transition.target.as_str();
+            rights.push(free_right(scene, &block.states, source, target)?)?;
+            Ok(())
+        }
+        Some(_) => Ok(()),
+    }
+}
+
+// The same of each transition.
+fn add_frees(
+    scene: &Scene,
+    block: &Block,
+    transitions: &[Transition],
+    rights: &mut Vec<Right>,
+) -> Result<(), AllocError>
+    ensures { OnOk result (rights_of rights.new.items ≡ rights_of rights.old.items ++ numbered scene.now.numbering.now (flat_map (of_free (ground_in scene.now) (block_of block.now)) (map transition_of transitions.now))) }
+{
+    for transition in transitions {
+        add_free(scene, block, transition, rights)?;
+    }
+    Ok(())
+}
+
+/// A weight is at least 1.
+pub(crate) fn least_right(scene: &Scene, event: &str) -> Result<Right, AllocError>
+    ensures { IfOk result (λ r. right_of r ≡ by_number (numbers_of scene.now.numbering.now) (of_least (ground_in scene.now) event.now)) }
+{
+    Ok(Right {
+        node: scene.numbering.event(scene.alloc, scene.path, event)?,
+        constant: 1,
+        terms: Vec::new(scene.alloc),
+    })
+}
+
+// The weight of an event input pays for its dispatch and a crossing, with the charge of the state that this leads to.
+fn crossing_right(scene: &Scene, event: &str, target: &str) -> Result<Right, AllocError>
+    ensures { IfOk result (λ r. right_of r ≡ by_number (numbers_of scene.now.numbering.now) (crossing_demand (ground_in scene.now) event.now target.now)) }
+{
+    let mut terms = Vec::new(scene.alloc);
+    terms.push(scene.numbering.state(scene.alloc, scene.path, target)?)?;
+    Ok(Right {
+        node: scene.numbering.event(scene.alloc, scene.path, event)?,
+        constant: added(scene.unit, scene.unit),
+        terms,
+    })
+}
+
+// Whether a transition may be crossed while this event waits: it names it, or none.
+fn is_open(transition: &Transition, event: &str) -> bool
+    ensures { result ≡ charts.is_open (transition_of transition.now).event (Some event.now) }
+{
+    match &transition.event {
+        Some(named) => named.as_str() == event,
+        None => true,
+    }
+}
+
+// The same of a transition, where it may be crossed then.
+fn add_crossing(
+    scene: &Scene,
+    event: &str,
+    transition: &Transition,
+    rights: &mut Vec<Right>,
+) -> Result<(), AllocError>
+    ensures { OnOk result (rights_of rights.new.items ≡ rights_of rights.old.items ++ numbered scene.now.numbering.now (of_crossing (ground_in scene.now) event.now (transition_of transition.now))) }
+{
+    if is_open(transition, event) {
+        rights.push(crossing_right(scene, event, transition.target.as_str())?)?;
+    }
+    Ok(())
+}
+
+// The demands of an event input.
+fn add_input(
+    scene: &Scene,
+    event: &str,
+    transitions: &[Transition],
+    rights: &mut Vec<Right>,
+) -> Result<(), AllocError>
+    ensures { OnOk result (rights_of rights.new.items ≡ rights_of rights.old.items ++ numbered scene.now.numbering.now (of_least (ground_in scene.now) event.now ∷ flat_map (of_crossing (ground_in scene.now) event.now) (map transition_of transitions.now))) }
+{
+    rights.push(least_right(scene, event)?)?;
+    for transition in transitions {
+        add_crossing(scene, event, transition, rights)?;
+    }
+    Ok(())
+}
+
+// The same of each event input.
+fn add_inputs(
+    scene: &Scene,
+    inputs: &Events,
+    block: &Block,
+    rights: &mut Vec<Right>,
+) -> Result<(), AllocError>
+    ensures { OnOk result (rights_of rights.new.items ≡ rights_of rights.old.items ++ numbered scene.now.numbering.now (flat_map (of_input (ground_in scene.now) (block_of block.now)) (event_names (events_of inputs.now)))) }
+{
+    for index in 0..inputs.len() {
+        let Some((event, _)) = inputs.get_index(index) else {
+            return Ok(());
+        };
+        add_input(scene, event.as_str(), block.transitions.as_slice(), rights)?;
+    }
+    Ok(())
+}
+
+/// Adds the demands of a basic block.
+pub(crate) fn add_chart(
+    scene: &Scene,
+    block: &Block,
+    rights: &mut Vec<Right>,
+) -> Result<(), AllocError>
+    ensures { OnOk result (rights_of rights.new.items ≡ rights_of rights.old.items ++ numbered scene.now.numbering.now (of_chart (ground_in scene.now) (block_of block.now))) }
+{
+    add_states(scene, &block.states, rights)?;
+    add_frees(scene, block, block.transitions.as_slice(), rights)?;
+    add_inputs(scene, &block.face.event_inputs, block, rights)
+}

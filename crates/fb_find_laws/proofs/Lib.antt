@@ -1,0 +1,12 @@
+pub mod Numbering
+pub mod Paying
+pub mod Lists
+pub mod Nodes
+pub mod Members
+pub mod Same
+pub mod Bare
+pub mod Orders
+pub mod Rows
+pub mod Fitting
+pub mod Laws
+pub mod Firsts

@@ -1,0 +1,14 @@
+pub mod Falling
+pub mod Typed
+pub mod Tabling
+pub mod Asking
+pub mod Keeping
+pub mod Ending
+pub mod Ranging
+pub mod Starting
+pub mod Entries
+pub mod Putting
+pub mod Capitals
+pub mod Distinct
+pub mod Added
+pub mod Tabled

@@ -1,0 +1,6 @@
+pub mod Lines
+pub mod Sameness
+pub mod Views
+pub mod Found
+pub mod FoundTables
+pub mod AddedRows

@@ -1,0 +1,109 @@
+//! The rows of variables at first.
+
+ghost use Rattle.std.specs.Prelude.{◌≡◌, ◌++◌, map, IfOk, OnOk};
+ghost use Rattle.fb_model.specs.Wires.{Charted};
+ghost use Rattle.fb_model.specs.BlockTyping.{variable_of};
+ghost use Rattle.fb_types_blocks.specs.Views.{declared_of, variables_of, block_of};
+ghost use Rattle.fb_flat.specs.Tables.{source_at};
+ghost use Rattle.fb_ranges_intervals.specs.Views.{span_of};
+ghost use Rattle.fb_find_ranges.specs.Lines.{first_from, first_lined, line_by, lines_by};
+ghost use Rattle.fb_find_ranges.specs.Views.{line_of, lined_of, shown};
+
+use crate::rows::{LeafRows, Row};
+use fb_check_ranges::{first_range, source_named, start_range};
+use fb_flat::{Body, Input, Leaf};
+use fb_ranges_intervals::{Interval, whole};
+use fb_types_blocks::{Block, Variable, Variables};
+use fb_words::ElemType;
+use std::alloc::{AllocError, Global};
+
+// The range of what a variable has at first, by the inputs of its block and their sources.
+fn range_first(sources: &[Input], inputs: &Variables, name: &str, variable: &Variable) -> Interval
+    ensures { span_of result ≡ first_from (variables_of inputs.now) (source_at sources.now) (variable_of (declared_of name.now variable.now)) }
+{
+    if inputs.contains_key(name) {
+        first_range(source_named(sources, name), variable)
+    } else {
+        start_range(variable)
+    }
+}
+
+// Its row; a BOOL has all values of its type.
+fn row_first<'a>(
+    sources: &[Input],
+    inputs: &Variables,
+    name: &'a str,
+    variable: &Variable,
+) -> Row<'a>
+    ensures { line_of result ≡ line_by (first_from (variables_of inputs.now) (source_at sources.now)) (variable_of (declared_of name.now variable.now)) }
+{
+    let of_type = variable.of_type;
+    let range = match of_type {
+        ElemType::Bool => whole(of_type),
+        _ => range_first(sources, inputs, name, variable),
+    };
+    Row {
+        name,
+        of_type,
+        range,
+    }
+}
+
+// Adds the rows of variables of a block at the end.
+fn add_rows<'a>(
+    sources: &[Input],
+    inputs: &Variables,
+    variables: &'a Variables,
+    rows: &mut Vec<Row<'a>>,
+) -> Result<(), AllocError>
+    ensures { OnOk result (map line_of rows.new.items ≡ map line_of rows.old.items ++ map (line_by (first_from (variables_of inputs.now) (source_at sources.now))) (variables_of variables.now)) }
+{
+    for index in 0..variables.len() {
+        let Some((name, variable)) = variables.get_index(index) else {
+            return Ok(());
+        };
+        rows.push(row_first(sources, inputs, name.as_str(), variable))?;
+    }
+    Ok(())
+}
+
+// The rows of a block.
+fn block_rows<'a>(
+    alloc: Global,
+    sources: &[Input],
+    block: &'a Block,
+) -> Result<Vec<Row<'a>>, AllocError>
+    ensures { IfOk result (λ v. map line_of v.items ≡ lines_by (first_from (variables_of block.now.face.inputs) (source_at sources.now)) (Charted (block_of block.now))) }
+{
+    let inputs = &block.face.inputs;
+    let mut rows = Vec::new(alloc);
+    add_rows(sources, inputs, inputs, &mut rows)?;
+    add_rows(sources, inputs, &block.face.outputs, &mut rows)?;
+    add_rows(sources, inputs, &block.internals, &mut rows)?;
+    Ok(rows)
+}
+
+// The rows of a leaf.
+fn leaf_rows<'a>(alloc: Global, leaf: &'a Leaf) -> Result<LeafRows<'a>, AllocError>
+    ensures { IfOk result (λ s. lined_of s ≡ first_lined (shown leaf.now)) }
+{
+    let rows = match &leaf.body {
+        Body::Basic(block) => block_rows(alloc, leaf.inputs.as_slice(), block)?,
+        Body::Served(_) => Vec::new(alloc),
+    };
+    Ok(LeafRows { leaf, rows })
+}
+
+/// The rows of leaves at first.
+pub(crate) fn first_rows<'a>(
+    alloc: Global,
+    leaves: &[&'a Leaf],
+) -> Result<Vec<LeafRows<'a>>, AllocError>
+    ensures { IfOk result (λ v. map lined_of v.items ≡ map (λ l. first_lined (shown l.now)) leaves.now) }
+{
+    let mut all = Vec::new(alloc);
+    for leaf in leaves {
+        all.push(leaf_rows(alloc, *leaf)?)?;
+    }
+    Ok(all)
+}

@@ -1,0 +1,5 @@
+pub mod Places
+pub mod Faults
+pub mod Numbers
+pub mod Codes
+pub mod Needs

@@ -1,7 +1,0 @@
-use Rattle.std.proofs.Common.{◌≡◌, map, take}
-use Rattle.fb_growing.specs.Lines.{first_lined}
-use Rattle.fb_growing.specs.Views.{lined_of, shown}
-use Rattle.fb_growing.proofs.first.first_rows.Given as goal
-
-abbrev pub invariant-loop-leaf : goal.invariant-loop-leaf
-invariant-loop-leaf l = map lined_of l.all.items ≡ map (λ y. first_lined (shown y.now)) (take l.leaf-index l.leaves)

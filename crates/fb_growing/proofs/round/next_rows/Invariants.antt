@@ -1,7 +1,0 @@
-use Rattle.std.proofs.Common.{◌≡◌, List, map, take}
-use Rattle.fb_growing.specs.Lines.{Tabled, next_line}
-use Rattle.fb_growing.specs.Views.{AreNear, line_of, tabled_of}
-use Rattle.fb_growing.proofs.round.next_rows.Given as goal
-
-abbrev pub invariant-loop-row : goal.invariant-loop-row
-invariant-loop-row l = (ts : List Tabled) → AreNear ts l.near → map line_of l.rows.items ≡ map (next_line l.round ts (tabled_of l.table)) (map line_of (take l.row-index l.row-items))

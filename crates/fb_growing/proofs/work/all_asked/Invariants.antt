@@ -1,8 +1,0 @@
-use Rattle.std.proofs.Common.{◌≡◌, map, take}
-use Rattle.fb_growing.specs.fb_ranges.Views.{spans_of}
-use Rattle.fb_growing.specs.Lines.{all_grown}
-use Rattle.fb_growing.proofs.Entries.{procedures_in}
-use Rattle.fb_growing.proofs.work.all_asked.Given as goal
-
-abbrev pub invariant-loop-index : goal.invariant-loop-index
-invariant-loop-index l = map spans_of l.all.items ≡ all_grown (spans_of l.ranges) (procedures_in (take l.index l.procedures.entries))

@@ -1,5 +1,0 @@
-use Rattle.fb_least.specs.Walks.{AreSeen}
-use Rattle.fb_least.proofs.walk.all_differ.Given as goal
-
-abbrev pub invariant-loop-place : goal.invariant-loop-place
-invariant-loop-place l = AreSeen l.count l.places l.place-index l.seen.items

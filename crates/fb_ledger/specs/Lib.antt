@@ -1,5 +1,0 @@
-pub mod Faults
-pub mod Members
-pub mod Texts
-pub mod Channels
-pub mod Codes

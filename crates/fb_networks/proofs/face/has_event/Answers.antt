@@ -1,6 +1,0 @@
-use Rattle.std.proofs.Common.{◌∙◌}
-use Rattle.fb_networks.proofs.Tables.{event_found}
-use Rattle.fb_networks.proofs.face.has_event.Goals as goal
-
-pub returns : goal.returns
-returns c = c.contains_key.ensures ∙ event_found c.args.name.now c.args.events.now.entries

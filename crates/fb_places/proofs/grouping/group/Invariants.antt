@@ -1,9 +1,0 @@
-use Rattle.std.proofs.Common.{◌≡◌, ◌++◌, length}
-use Rattle.fb_finding.specs.Nodes.{AreGrouped}
-use Rattle.fb_least.specs.Views.{system_of}
-use Rattle.fb_places.specs.Rights.{rights_of}
-use Rattle.fb_places.proofs.grouping.group.Given as goal
-
--- those so far are at their places
-abbrev pub invariant-loop-right : goal.invariant-loop-right
-invariant-loop-right l = AreGrouped l.count (rights_of l.yielded) (system_of l.places.items) × (length l.places.items ≡ l.count) × (l.yielded ++ l.right-iterator.rest.items ≡ l.fn.rights.items)

@@ -1,4 +1,0 @@
-use Rattle.fb_places.proofs.numbering.Numbering.channel.Goals as goal
-
-pub returns : goal.returns
-returns c = rw c.as_slice.ensures.value at c.channel_number.ensures

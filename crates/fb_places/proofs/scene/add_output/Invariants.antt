@@ -1,6 +1,0 @@
-use Rattle.std.proofs.Common.{◌≡◌, drop}
-use Rattle.fb_rows.specs.fb_flat.Tables.{targets_of}
-use Rattle.fb_places.proofs.scene.add_output.Given as goal
-
-abbrev pub invariant-loop-output : goal.invariant-loop-output
-invariant-loop-output l = (targets_of (drop l.output-index l.outputs) l.name ≡ targets_of l.outputs l.name) × (l.terms.items ≡ l.fn.terms.items)

@@ -1,4 +1,0 @@
-mod Needing
-mod Rows
-mod Found
-pub mod Deep

@@ -1,5 +1,0 @@
-use Rattle.fb_queues.proofs.Needing.{AreReckoned}
-use Rattle.fb_queues.proofs.need.needed.Given as goal
-
-abbrev pub invariant-loop-leaf : goal.invariant-loop-leaf
-invariant-loop-leaf l = AreReckoned l.certificate l.resource.leaves.items l.leaf-index l.most l.begins

@@ -1,4 +1,0 @@
-pub mod Capitals
-pub mod Distinct
-pub mod Added
-pub mod Tabled

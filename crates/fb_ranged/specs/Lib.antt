@@ -1,2 +1,0 @@
-pub mod FoundTables
-pub mod AddedRows

@@ -1,5 +1,0 @@
-use Rattle.fb_rounds.proofs.Feeding.{all_last_rows_hold}
-use Rattle.fb_rounds.proofs.last_rows_hold.Goals as goal
-
-pub returns : goal.returns
-returns c = all_last_rows_hold

@@ -1,3 +1,0 @@
-pub mod FinderRanges
-pub mod Devices
-pub mod Holding

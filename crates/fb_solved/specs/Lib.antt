@@ -1,4 +1,0 @@
-pub mod Places
-pub mod Faults
-pub mod Numbers
-pub mod Codes

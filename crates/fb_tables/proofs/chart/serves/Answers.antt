@@ -1,8 +1,0 @@
-use Rattle.std.proofs.Common.{refl, sym, ap, ◌∙◌}
-use Rattle.fb_first.specs.fb_check.fb_blocks.Views.{block_of}
-use Rattle.fb_tables.proofs.Charts.{shares}
-use Rattle.fb_tables.proofs.chart.serves.Goals as goal
-
-pub returns : goal.returns
-returns c t =
-    shares c.args.shared.now c.args.own.now c.args.block.now.value (c.if-not-is_like.ensures refl) (ap block_of (sym c.deref.ensures) ∙ c.is_alike.ensures t ∙ ap block_of c.deref-2.ensures)

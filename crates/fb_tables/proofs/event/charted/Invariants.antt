@@ -1,8 +1,0 @@
-use Rattle.std.proofs.Common.{take}
-use Rattle.fb_first.specs.fb_check.fb_blocks.Views.{names_of, events_of}
-use Rattle.fb_chart.specs.Tables.{Each}
-use Rattle.fb_tables.specs.Filling.{IsEventMade, seat_of, seats_of}
-use Rattle.fb_tables.proofs.event.charted.Given as goal
-
-abbrev pub invariant-loop-index : goal.invariant-loop-index
-invariant-loop-index l = Each (IsEventMade l.certificate (names_of l.paths) (seats_of l.seats) (seat_of l.seat)) (take l.index (events_of l.sources)) l.events.items

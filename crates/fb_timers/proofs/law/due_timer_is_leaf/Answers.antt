@@ -1,5 +1,0 @@
-use Rattle.fb_timers.proofs.Leaves.{due_leaf}
-use Rattle.fb_timers.proofs.law.due_timer_is_leaf.Goals as goal
-
-pub returns : goal.returns
-returns c = due_leaf

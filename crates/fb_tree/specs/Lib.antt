@@ -1,0 +1,4 @@
+pub mod Words
+pub mod Algorithms
+pub mod Files
+pub mod Sources

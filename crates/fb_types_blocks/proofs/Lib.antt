@@ -1,0 +1,14 @@
+pub mod Lists
+pub mod Refused
+pub mod Tables
+pub mod Repeated
+pub mod Numbers
+pub mod Variables
+pub mod Bounds
+pub mod Charts
+pub mod Faultless
+pub mod Single
+pub mod FaultlessBlocks
+pub mod Interfaces
+pub mod Scopes
+pub mod Blocks

@@ -1,0 +1,4 @@
+pub mod Faults
+pub mod Views
+pub mod Answers
+pub mod Refusals

@@ -1,0 +1,12 @@
+pub mod Tables
+pub mod Places
+pub mod Ends
+pub mod Instances
+pub mod Connections
+pub mod Taken
+pub mod Loops
+pub mod Faultless
+pub mod Parameters
+pub mod Naming
+pub mod Giving
+pub mod Networks

@@ -1,0 +1,13 @@
+use Rattle.std.proofs.Common.{map, drop}
+use Rattle.fb_types_blocks.specs.Views.{face_of}
+use Rattle.fb_tree.specs.Files as trees_of
+use Rattle.fb_types_networks.specs.Views.{names_of, connection_of}
+use Rattle.fb_types_networks.specs.Ends.{inner_of, IsTabled, ends_of}
+use Rattle.fb_types_networks.proofs.Loops.{ValuesSo}
+use Rattle.fb_types_networks.proofs.value.each_value.Given as goal
+
+-- what holds of the connections that are left holds of all
+abbrev pub invariant-loop-tree : goal.invariant-loop-tree
+invariant-loop-tree l =
+    IsTabled (names_of l.initial.site.names.now) l.initial.site.instances.now
+    → ValuesSo (face_of l.initial.site.face.now) (inner_of l.initial.site.instances.now) (ends_of l.initial.taken) (map trees_of.connection_of l.initial.trees) (map connection_of l.connections.items) (ends_of l.taken) (map trees_of.connection_of (drop l.tree-index l.initial.trees))

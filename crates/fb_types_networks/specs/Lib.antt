@@ -1,0 +1,4 @@
+pub mod Views
+pub mod Answers
+pub mod Ends
+pub mod Refusals

@@ -1,0 +1,4 @@
+pub mod Numbers
+pub mod Ports
+pub mod Services
+pub mod Named

@@ -1,0 +1,4 @@
+pub mod Lookups
+pub mod Reading
+pub mod Composed
+pub mod Denied

@@ -1,2 +1,0 @@
-pub use Rattle.fb_places.specs as fb_places
-pub mod Shown

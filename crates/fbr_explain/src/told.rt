@@ -1,0 +1,216 @@
+//! Refusals, told to people.
+
+use crate::inner::tell_inner;
+use crate::meaning::{Meaning, meaning_of};
+use crate::owed::{tell_channel, tell_charge, tell_far, tell_weight};
+use crate::place::{byte_in, channel_line, line_in, path_in, row_line};
+use crate::put::put;
+use crate::queue::tell_depth;
+use crate::range::{tell_link, tell_start};
+use crate::row::{tell_missing, tell_missing_channel};
+use crate::seen::{block_in, place_at};
+use crate::spotted::{Named, tell_spot};
+use fb_cert::{Certificate, parse_cert};
+use fb_check::{Refusal, read_system};
+use fb_check_ranges::block_rows;
+use fb_flat::{Flat, flatten};
+use fb_tree::FileTree;
+use fbr_places::{Declared, Spot, declared_at, tree_of};
+use std::alloc::Global;
+use std::io;
+use std::io::Write;
+
+/// A refusal of the checker, the texts that it is of, and a certificate of the same system that fits, where one is known.
+#[derive(Clone, Copy)]
+pub struct Refused<'a> {
+    pub alloc: Global,
+    pub refusal: &'a Refusal,
+    pub app: Named<'a>,
+    pub cert: Named<'a>,
+    pub found: Option<&'a Certificate>,
+}
+
+/// Writes what a refusal says and what to do, a line each.
+pub fn tell_meaning<W: Write>(meaning: Option<Meaning>, output: &mut W) -> io::Result<()> {
+    match meaning {
+        Some(meaning) => {
+            put("What it says: ", output)?;
+            put(meaning.says, output)?;
+            if !meaning.remedy.is_empty() {
+                put("\nWhat to do: ", output)?;
+                put(meaning.remedy, output)?;
+            }
+            put("\n", output)
+        }
+        None => Ok(()),
+    }
+}
+
+// What is declared in the text of an application at the path that a refusal names.
+fn declared_of<'t>(refusal: &Refusal, tree: &'t FileTree) -> Option<Declared<'t>> {
+    declared_at(tree, path_in(refusal)?)
+}
+
+// Writes where the statement at fault stands of an algorithm, or else where the algorithm does, or the state whose guards are at fault.
+fn tell_statement<W: Write>(
+    refused: &Refused<'_>,
+    declared: Declared<'_>,
+    flat: &Flat,
+    certificate: &Certificate,
+    path: &str,
+    output: &mut W,
+) -> io::Result<()> {
+    let alloc = refused.alloc;
+    let app = refused.app;
+    if let Some((leaf, _)) = place_at(flat, path) {
+        if let Some(block) = block_in(leaf) {
+            let rows = block_rows(alloc, certificate, leaf.path.as_str(), block)?;
+            if tell_inner(alloc, declared, block, &rows, app, output)? {
+                return Ok(());
+            }
+        }
+    }
+    tell_spot(app.name, Spot::of_byte(app.text, declared.at()), output)
+}
+
+// Writes where in the certificate's text a line stands.
+fn tell_line<W: Write>(
+    refused: &Refused<'_>,
+    line: Option<usize>,
+    output: &mut W,
+) -> io::Result<()> {
+    match line {
+        Some(line) => {
+            let cert = refused.cert;
+            tell_spot(cert.name, Spot::of_line(cert.text, line), output)
+        }
+        None => Ok(()),
+    }
+}
+
+// Writes where a place is declared.
+fn tell_declared<W: Write>(
+    refused: &Refused<'_>,
+    declared: Option<Declared<'_>>,
+    output: &mut W,
+) -> io::Result<()> {
+    match declared {
+        Some(declared) => {
+            let app = refused.app;
+            tell_spot(app.name, Spot::of_byte(app.text, declared.at()), output)
+        }
+        None => Ok(()),
+    }
+}
+
+// Writes the numbers that refuse a row, or the row that is missing.
+fn tell_numbers<W: Write>(
+    refused: &Refused<'_>,
+    declared: Option<Declared<'_>>,
+    flat: &Flat,
+    cert: &Certificate,
+    output: &mut W,
+) -> io::Result<()> {
+    let alloc = refused.alloc;
+    match refused.refusal {
+        Refusal::MissingRow(path) => {
+            tell_missing(declared, cert, refused.found, path.as_str(), output)
+        }
+        Refusal::MissingChannel(number) => tell_missing_channel(refused.found, *number, output),
+        Refusal::RangeStart(path) => tell_start(alloc, flat, cert, path.as_str(), output),
+        Refusal::RangeLink(path) => tell_link(alloc, flat, cert, path.as_str(), output),
+        Refusal::Charge(path) => tell_charge(alloc, flat, cert, path.as_str(), output),
+        Refusal::Weight(path) => tell_weight(alloc, flat, cert, path.as_str(), output),
+        Refusal::Depth(path) => tell_depth(alloc, flat, cert, path.as_str(), output),
+        Refusal::Far(path) => tell_far(alloc, flat, cert, path.as_str(), output),
+        Refusal::Channel(number) => tell_channel(alloc, flat, cert, *number, output),
+        _ => Ok(()),
+    }
+}
+
+// Writes where a refusal stands whose texts have all been read, and its numbers.
+fn tell_all<W: Write>(
+    refused: &Refused<'_>,
+    tree: &FileTree,
+    flat: &Flat,
+    certificate: &Certificate,
+    output: &mut W,
+) -> io::Result<()> {
+    let declared = declared_of(refused.refusal, tree);
+    match (refused.refusal, declared) {
+        (Refusal::RangeKept(path) | Refusal::IndexOrDivisor(path), Some(found)) => {
+            tell_statement(refused, found, flat, certificate, path.as_str(), output)
+        }
+        (Refusal::UnknownRow(path), _) => {
+            let repeats = certificate.repeats().is_some();
+            let line = row_line(refused.cert.text, declared, repeats, path.as_str());
+            tell_line(refused, line, output)
+        }
+        (Refusal::UnknownChannel(number), _) => {
+            tell_line(refused, channel_line(refused.cert.text, *number), output)
+        }
+        _ => {
+            tell_declared(refused, declared, output)?;
+            tell_numbers(refused, declared, flat, certificate, output)
+        }
+    }
+}
+
+// The same over the certificate's text.
+fn tell_certified<W: Write>(
+    refused: &Refused<'_>,
+    tree: &FileTree,
+    flat: &Flat,
+    output: &mut W,
+) -> io::Result<()> {
+    match parse_cert(refused.alloc, refused.cert.text) {
+        Ok(certificate) => {
+            let told = tell_all(refused, tree, flat, &certificate, output);
+            certificate.let_go();
+            told
+        }
+        Err(_) => Ok(()),
+    }
+}
+
+// The same over the application's text.
+fn tell_typed<W: Write>(refused: &Refused<'_>, tree: &FileTree, output: &mut W) -> io::Result<()> {
+    let Ok(typed) = read_system(refused.alloc, refused.app.text) else {
+        return Ok(());
+    };
+    let told = match flatten(refused.alloc, &typed) {
+        Ok(flat) => {
+            let told = tell_certified(refused, tree, &flat, output);
+            flat.let_go();
+            told
+        }
+        Err(_) => Ok(()),
+    };
+    typed.let_go();
+    told
+}
+
+// The same over the source tree of the application's text, where it has one.
+fn tell_tree<W: Write>(refused: &Refused<'_>, output: &mut W) -> io::Result<()> {
+    match tree_of(refused.alloc, refused.app.text) {
+        Some(tree) => {
+            let told = tell_typed(refused, &tree, output);
+            tree.let_go();
+            told
+        }
+        None => Ok(()),
+    }
+}
+
+/// Writes where a refusal of the checker stands in one of two texts, its numbers, what it says and what to do.
+pub fn tell_refusal<W: Write>(refused: &Refused<'_>, output: &mut W) -> io::Result<()> {
+    let app = refused.app;
+    if let Some(byte) = byte_in(refused.refusal) {
+        tell_spot(app.name, Spot::of_byte(app.text, byte), output)?;
+    } else if line_in(refused.refusal).is_some() {
+        tell_line(refused, line_in(refused.refusal), output)?;
+    } else {
+        tell_tree(refused, output)?;
+    }
+    tell_meaning(meaning_of(refused.refusal.code()), output)
+}

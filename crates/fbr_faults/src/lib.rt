@@ -1,0 +1,18 @@
+//! Room: program. The statement or operation at fault in an algorithm or guard that is not clear, with the ranges there.
+//! No contracts: what it finds is tested.
+#![tactic(auto)]
+
+mod algorithm;
+mod brought;
+mod expression;
+mod found;
+mod kept;
+mod line;
+mod list;
+mod origin;
+mod shape;
+mod told;
+
+pub use algorithm::{algorithm_fault, guard_fault};
+pub use found::{Fault, Wrong};
+pub use told::{tell_fault, tell_numbers};
