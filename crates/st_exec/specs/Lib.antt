@@ -6,4 +6,3 @@ pub mod Cells
 pub mod Slots
 pub mod Runs
 pub mod Kept
-pub mod Samples

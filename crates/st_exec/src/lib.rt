@@ -15,8 +15,6 @@ mod location;
 mod row;
 mod statement;
 mod store;
-#[cfg(test)]
-mod tests;
 
 pub use code::{Code, CodeLink};
 pub use command::{CodeArm, CodeBranch, CodeCounting, CodeStmt, Procedure};
