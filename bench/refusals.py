@@ -1,5 +1,5 @@
 #!/usr/bin/env python3
-"""Whether `fbr explain` says of each number what docs/REFUSALS.md says: crates/fb_explain/src/meaning.rt is made of the tables there.
+"""Whether `fbr explain` says of each number what docs/REFUSALS.md says: crates/fbr_explain/src/meaning.rt is made of the tables there.
 
     bench/refusals.py            compares
     bench/refusals.py --write    writes it anew (`rt fmt` then lays it out)
@@ -10,7 +10,7 @@ from pathlib import Path
 
 TOP = Path(__file__).resolve().parent.parent
 PAGE = TOP / 'docs/REFUSALS.md'
-CODE = TOP / 'crates/fb_explain/src/meaning.rt'
+CODE = TOP / 'crates/fbr_explain/src/meaning.rt'
 
 HEAD = '''//! What each number says, and what to do: made of the tables of `docs/REFUSALS.md` by `bench/refusals.py`.
 
@@ -81,7 +81,7 @@ def main():
     if '--write' in sys.argv:
         CODE.write_text(wanted)
     elif bare(CODE.read_text()) != bare(wanted):
-        print('crates/fb_explain/src/meaning.rt is not what docs/REFUSALS.md says: bench/refusals.py --write')
+        print('crates/fbr_explain/src/meaning.rt is not what docs/REFUSALS.md says: bench/refusals.py --write')
         return 1
     return 0
 
