@@ -8,6 +8,7 @@ cp -a . "$copy"
 cd "$copy"
 rm -f crates/*/must-fail/*.edit
 for folder in bench/edits/*; do
+  mkdir -p "crates/${folder##*/}/must-fail"
   mv "$folder"/*.edit "crates/${folder##*/}/must-fail/"
 done
 rt must-fail "$@"
