@@ -1,2 +1,4 @@
+pub mod Fake
 pub mod Link
 pub mod Memory
+pub mod Socket

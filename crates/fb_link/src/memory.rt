@@ -16,7 +16,6 @@ pub struct MemoryLink {
     held: Vec<Vec<u8>>,
     handed: usize,
     taken: Vec<ArrayVec<u8, 160>>,
-    room: usize,
     failing_receives: Vec<u64>,
     failing_sends: Vec<u64>,
     receives: u64,
@@ -33,7 +32,7 @@ impl Model for MemoryLink {
     ghost view = { λ m. record {
       waiting = map (λ d. d.items) (drop m.handed m.held.items);
       taken = map (λ d. d.items) m.taken.items;
-      room = m.room;
+      room = vec_capacity m.taken;
       failing_receives = m.failing_receives.items;
       failing_sends = m.failing_sends.items;
       receives = m.receives;
@@ -41,7 +40,7 @@ impl Model for MemoryLink {
       failures = m.failures;
     } };
 
-    ghost invariant = { λ m. (m.handed ≤ vec_len m.held) × (vec_len m.taken ≤ m.room) × (m.room ≤ vec_capacity m.taken) };
+    ghost invariant = { λ m. m.handed ≤ vec_len m.held };
 }
 
 /// The receives and the sends that are to fail, each by its number among its kind, from 1.
@@ -98,7 +97,6 @@ impl MemoryLink {
             held,
             handed: 0,
             taken: Vec::with_capacity(alloc, room)?,
-            room,
             failing_receives: plan.receives,
             failing_sends: plan.sends,
             receives: 0,
@@ -134,7 +132,7 @@ impl Link for MemoryLink {
         self.sends = next(self.sends);
         let mut copy = ArrayVec::new();
         if is_planned(&self.failing_sends, self.sends)
-            || self.taken.len() >= self.room
+            || self.taken.len() >= self.taken.capacity()
             || copy.try_extend_from_slice(bytes).is_err()
         {
             self.failures += 1;

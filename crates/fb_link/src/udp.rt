@@ -1,12 +1,14 @@
 //! Links over UDP on this machine.
 
-ghost use Rattle.std.specs.Prelude.{◌≡◌, ◌≤◌, length, IfOk, IfErr};
+ghost use Rattle.std.specs.Prelude.{◌≡◌, ◌≤◌, [], length, IfOk, IfErr};
+ghost use Rattle.fb_link.specs.Socket.{SendsToEach, UdpStep, is_idle};
 
 use crate::link::{Link, Received};
+use crate::socket::{Socket, bound};
 use arrayvec::ArrayVec;
+use std::fmt;
 use std::io::ErrorKind;
-use std::net::{Ipv4Addr, Net, SocketAddr, UdpSocket};
-use std::{fmt, io};
+use std::net::{Net, UdpSocket};
 
 /// No socket could be bound to this port. Code 62.
 #[derive(Clone, Copy)]
@@ -33,30 +35,32 @@ impl fmt::Display for SocketFault {
     }
 }
 
-/// A socket on 127.0.0.1 that waits for nothing, and the ports there to which it sends. A link tells its count of failures alone: what becomes of datagrams
-/// stands in no contract.
+/// A socket on 127.0.0.1, and the ports there to which it sends. It tells what it asks of the socket; what becomes of datagrams only a socket that tells can say.
 #[derive(Drop)]
-pub struct UdpLink {
-    socket: UdpSocket,
+pub struct UdpLink<S = UdpSocket> {
+    socket: S,
     peers: ArrayVec<u16, 64>,
     failures: u64,
 }
 
-// A port of this machine.
-fn at(port: u16) -> SocketAddr {
-    SocketAddr::from((Ipv4Addr::LOCALHOST, port))
-}
-
-// A socket that is bound to a port and waits for nothing.
-fn bound<R: Net>(rt: &R, port: u16) -> io::Result<UdpSocket> {
-    let socket = UdpSocket::bind(rt, at(port))?;
-    socket.set_nonblocking(true)?;
-    Ok(socket)
-}
-
 // Whether a receive found nothing, and did not fail.
-fn is_idle(error: &io::Error) -> bool {
-    matches!(error.kind(), ErrorKind::WouldBlock | ErrorKind::Interrupted)
+fn is_idle(kind: ErrorKind) -> bool
+    ensures { result ≡ is_idle kind }
+{
+    matches!(kind, ErrorKind::WouldBlock | ErrorKind::Interrupted)
+}
+
+// Sends the bytes to each of the ports, also where a send before it failed, and answers whether all sends were done.
+fn send_to_each<S: Socket>(socket: &mut S, bytes: &[u8], ports: &[u16]) -> bool
+    ensures { SendsToEach S.does bytes.now ports.now socket.old result socket.new }
+{
+    let mut done = true;
+    for port in ports {
+        if socket.send_to(bytes, *port).is_err() {
+            done = false;
+        }
+    }
+    done
 }
 
 impl UdpLink {
@@ -66,36 +70,44 @@ impl UdpLink {
         ensures fresh { IfOk result (λ link. (link.failures ≡ 0) × (link.peers.items ≡ peers.now)) }
         ensures refused { IfErr result (λ fault. fault.0 ≡ bind) }
     {
-        let mut all = ArrayVec::new();
-        match all.try_extend_from_slice(peers) {
-            Ok(()) => {}
-            Err(_) => unreachable!(),
-        }
         match bound(rt, bind) {
-            Ok(socket) => Ok(UdpLink {
-                socket,
-                peers: all,
-                failures: 0,
-            }),
+            Ok(socket) => Ok(UdpLink::over(socket, peers)),
             Err(_) => Err(SocketFault(bind)),
         }
     }
 }
 
-/// A send goes to every peer, and fails where one of these fails. A receive that would have to wait, or is interrupted, finds nothing.
-impl Link for UdpLink {
+impl<S: Socket> UdpLink<S> {
+    /// A link over this socket, to send to each of at most 64 ports.
+    pub fn over(socket: S, peers: &[u16]) -> UdpLink<S>
+        requires { length peers.now ≤ 64 }
+        ensures { (result.socket ≡ socket) × (result.peers.items ≡ peers.now) × (result.failures ≡ 0) }
+    {
+        let mut all = ArrayVec::new();
+        match all.try_extend_from_slice(peers) {
+            Ok(()) => {}
+            Err(_) => unreachable!(),
+        }
+        UdpLink {
+            socket,
+            peers: all,
+            failures: 0,
+        }
+    }
+}
+
+/// A send goes to every peer once, in order, and is one failure where any of these fails. A receive that would have to wait, or is interrupted, finds nothing. Once 2^64 - 1
+/// calls have failed the socket is left alone.
+impl<S: Socket> Link for UdpLink<S> {
     ghost count = { λ l. l.failures };
+
+    ghost steps = { λ l call m. UdpStep S.does l.peers.items l.failures l.socket call m.socket × (m.peers ≡ l.peers) };
 
     fn send(&mut self, bytes: &[u8]) -> bool {
         if self.failures == u64::MAX {
             return true;
         }
-        let mut done = true;
-        for peer in self.peers.as_slice() {
-            if self.socket.send_to(bytes, at(*peer)).is_err() {
-                done = false;
-            }
-        }
+        let done = send_to_each(&mut self.socket, bytes, &self.peers);
         if !done {
             self.failures += 1;
         }
@@ -106,9 +118,9 @@ impl Link for UdpLink {
         if self.failures == u64::MAX {
             return Received::Nothing;
         }
-        match self.socket.recv_from(buffer) {
-            Ok((count, _)) => Received::Got(count),
-            Err(error) if is_idle(&error) => Received::Nothing,
+        match self.socket.receive(buffer) {
+            Ok(count) => Received::Got(count),
+            Err(kind) if is_idle(kind) => Received::Nothing,
             Err(_) => {
                 self.failures += 1;
                 Received::Failed
@@ -120,3 +132,6 @@ impl Link for UdpLink {
         self.failures
     }
 }
+
+#[cfg(test)]
+mod tests;
