@@ -79,7 +79,7 @@ fn run<E: Emit>(
 /// `values` are those of an arrival.
 ///
 /// It does not trap. What its event outputs reach is emitted, for which there is room; the
-/// room falls by as many. It takes no memory.
+/// room falls by as many. It is written to take no memory, which no clause says.
 pub fn dispatch_block<E: Emit>(
     blocks: &[Block],
     ports: &[Ports],

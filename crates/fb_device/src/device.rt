@@ -19,7 +19,7 @@ use fb_device_dispatch::fb_device_state::{Program, Running};
 use fb_device_dispatch::{Dispatched, dispatch};
 use std::marker::Model;
 
-/// A device that runs a checked application. Its calls take no memory.
+/// A device that runs a checked application. Its calls are written to take no memory, which no clause says.
 ///
 /// Contracts see it as a session: what was checked, and the book's machine in lists.
 #[derive(Drop)]

@@ -114,7 +114,7 @@ fn same_procedures(one: &IndexMap<String, Algo>, other: &IndexMap<String, Algo>)
 
 /// Whether two basic block types are the same: interfaces, variables, states, transitions and algorithms, in order. IEC 61499-1 edition 2, 5.2.
 ///
-/// It looks at each of their parts once, and takes no memory.
+/// It looks at each of their parts once, and is written to take no memory, which no clause says.
 pub fn is_alike(one: &Block, other: &Block) -> bool
     ensures { result ≡ true → block_of one.now ≡ block_of other.now }
 {

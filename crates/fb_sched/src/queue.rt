@@ -16,7 +16,7 @@ use std::marker::Model;
 ///
 /// Events propagate in the order of their entries: IEC 61499-1 edition 2, 4.5.3 and 5.2.2. Causes, credit and the bound on entries are this project's profile.
 ///
-/// An arrival is admitted by `open`, where `free` leaves the places of its WEIGHT row. A dispatch is `take`, then `put` for each event input that the outputs of the block reach, then `settle` with the steps of the run. Each takes constant time, and no memory.
+/// An arrival is admitted by `open`, where `free` leaves the places of its WEIGHT row. A dispatch is `take`, then `put` for each event input that the outputs of the block reach, then `settle` with the steps of the run. Each is written to take constant time and no memory, which no clause says.
 ///
 /// A slot is a number from 0, free again once its cause has ended. Places count entries, and steps are those of the certificate.
 #[derive(Drop)]

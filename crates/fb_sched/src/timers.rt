@@ -10,7 +10,7 @@ use std::marker::Model;
 
 /// The timers of a device that are armed, in the order in which they expire: by due moment, and of those due at one moment in the order of their blocks.
 /// Each block has one at most, and the moment at which it is due stands under the number of its block as well. Where one comes or goes, those on its shorter
-/// side move. Only `new` takes memory.
+/// side move. Only `new` is written to take memory, which no clause says.
 #[derive(Drop)]
 pub struct Timers {
     armed: VecDeque<Armed>,
