@@ -42,6 +42,9 @@ pub trait Link {
     /// How many calls have failed.
     fn failures(&self) -> u64
         ensures { result ≡ count self.now };
+
+    /// Waits until a datagram may be there, a few milliseconds at most. A link that cannot wait returns at once.
+    fn wait(&self) {}
 }
 
 /// What takes the values that the OUTPUTs of a device write.

@@ -131,6 +131,12 @@ impl<S: Socket> Link for UdpLink<S> {
     fn failures(&self) -> u64 {
         self.failures
     }
+
+    fn wait(&self) {
+        if self.failures < u64::MAX {
+            self.socket.wait();
+        }
+    }
 }
 
 #[cfg(test)]

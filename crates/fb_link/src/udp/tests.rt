@@ -109,6 +109,23 @@ fn from_socket_to_socket(rt: HostRuntime) -> Result<(), Fail> {
 }
 
 #[test]
+fn an_idle_wait_ends(rt: HostRuntime) -> Result<(), Fail> {
+    let mut one = UdpLink::open(&rt, 24606, &[24607]).map_err(|_| "24606 is taken")?;
+    let mut other = UdpLink::open(&rt, 24607, &[]).map_err(|_| "24607 is taken")?;
+    let mut buffer = [0u8; 160];
+    other.wait();
+    assert!(rt; one.send(&FIRST), "it is sent");
+    other.wait();
+    assert!(rt; arrives(&mut other, &FIRST), "a wait takes nothing");
+    other.wait();
+    assert!(rt;
+        matches!(other.receive(&mut buffer), Received::Nothing),
+        "nothing is left, and the socket does not wait"
+    );
+    Ok(())
+}
+
+#[test]
 fn one_peer_of_two(rt: HostRuntime) -> Result<(), Fail> {
     // Nothing can be sent to port 0.
     let mut one = UdpLink::open(&rt, 24604, &[0, 24605]).map_err(|_| "24604 is taken")?;
