@@ -211,11 +211,18 @@ first_stand (l ∷ ls) (o ∷ os) (x ∷ xs) a (suc k) leaf h =
 
 -- ---- the whole
 
-module _ (v : Verified) (k begins : ℕ) (stamp : Stamp) (t : Tables) (first : FirstValues) (r : Running) (checked : IsChecked v) (within : k < length (system_in v).devices)
-    (tables : (d : Device) → slice_get (system_in v).devices k ≡ Some d → AreTables (certificate_in v) d (map forms_of r.memory.own.items) (map forms_of r.memory.issued.items) t)
-    (firsts : (d : Device) → slice_get (system_in v).devices k ≡ Some d → HaveFirstCells (leaves d) first.own.items first.issued.items) (rest : IsAtRest t first begins stamp r) where
-  abbrev program : Program
-  program = record { verified = v; number = k; tables = t }
+module _ (program : Program) (begins : ℕ) (stamp : Stamp) (first : FirstValues) (r : Running) (checked : IsChecked program.verified.value)
+    (within : program.number < length (system_in program.verified.value).devices)
+    (tables : (d : Device) → slice_get (system_in program.verified.value).devices program.number ≡ Some d → AreTables (certificate_in program.verified.value) d (map forms_of r.memory.own.items) (map forms_of r.memory.issued.items) program.tables)
+    (firsts : (d : Device) → slice_get (system_in program.verified.value).devices program.number ≡ Some d → HaveFirstCells (leaves d) first.own.items first.issued.items) (rest : IsAtRest program.tables first begins stamp r) where
+  abbrev v : Verified
+  v = program.verified.value
+
+  abbrev k : ℕ
+  k = program.number
+
+  abbrev t : Tables
+  t = program.tables
 
   abbrev device : Device
   device = device_at (system_in v).devices k

@@ -34,4 +34,4 @@ module _ (p : Program) (r : Running) (h : IsSilent (session_of p r)) where
 
   -- there are numbers for all that begin
   pub numbers_left : IsGood p r → next_of r.next + length (leaves (device_in (session_of p r))) ≤ 2 ^ 64
-  numbers_left g = omega (arith, next_is, h.early, few_leaves p.verified p.number g.program.checked (omega (arith, g.program.device, length-map p.verified.typed.devices.items device_of)))
+  numbers_left g = omega (arith, next_is, h.early, few_leaves p.verified.value p.number g.program.checked (omega (arith, g.program.device, length-map p.verified.value.typed.devices.items device_of)))

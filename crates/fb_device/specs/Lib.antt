@@ -11,3 +11,4 @@ pub mod Loads
 pub mod Openings
 pub mod Finding
 pub mod Starting
+pub mod Turns

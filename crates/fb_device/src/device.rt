@@ -14,6 +14,7 @@ ghost use Rattle.fb_device.specs.Silence.{IsSilent};
 
 use crate::answer::{Answer, Opening, Step};
 use crate::names::{name, opening, path, resource};
+use crate::sharing::release;
 use fb_device_arrivals::{Denied, begin, deliver, offer, tick};
 use fb_device_dispatch::fb_device_state::{Program, Running};
 use fb_device_dispatch::{Dispatched, dispatch};
@@ -52,7 +53,7 @@ impl Device {
             number: _,
             tables,
         } = program;
-        verified.let_go();
+        release(verified);
         tables.let_go();
         drop(running);
     }
@@ -159,6 +160,20 @@ impl Device {
         ensures { MatchOption result (IsNoPoint (leaves (device_in self.now)) block event) (λ r. IsNamed (leaves (device_in self.now)) block event r.0.now r.1.now) }
     {
         path(&self.program.tables.blocks, block, event)
+    }
+
+    /// How many blocks the device has. They are numbered from 0.
+    pub fn blocks(&self) -> usize
+        ensures { result ≡ length (leaves (device_in self.now)) }
+    {
+        self.program.tables.blocks.len()
+    }
+
+    /// How many resources the device has. They are numbered from 0.
+    pub fn resources(&self) -> u16
+        ensures { result ≡ length (device_in self.now).resources }
+    {
+        self.program.tables.resources.len() as u16
     }
 
     /// The number of the resource of a name. Letter case has no meaning in it. `None` where there is none.

@@ -15,7 +15,7 @@ ghost use Rattle.fb_wire.specs.Views.{stamped_of};
 ghost use Rattle.st_exec.specs.Cells.{Form, forms_of};
 ghost use Rattle.fb_chart.specs.Views.{body_kind, kind_of};
 ghost use Rattle.fb_device_dispatch.specs.fb_device_values.First.{HaveFirstCells};
-ghost use Rattle.fb_device_dispatch.specs.fb_verdict.Verdicts.{system_in, certificate_in, IsSystemOf};
+ghost use Rattle.fb_device_dispatch.specs.fb_verdict.Verdicts.{system_in, certificate_in, IsChecked, IsSystemOf};
 ghost use Rattle.fb_tree.specs.Sources.{IsSource};
 ghost use Rattle.fb_device_dispatch.specs.fb_device_tables.Tables.{AreTables};
 ghost use Rattle.fb_device_dispatch.specs.fb_device_state.Machines.{device_in, cert_in, machine_of};
@@ -30,6 +30,7 @@ ghost use Rattle.fb_device.specs.Loads.{IsLoaded, IsLoadFault, IsBeginFault, IsT
 use crate::device::Device;
 use crate::names::is_same;
 use crate::refusal::Refusal;
+use crate::sharing::{release, share};
 use fb_chart::{Block, Body, Condition, Memory, Stamps, Standing};
 use fb_device_dispatch::fb_device_state::{Program, Running};
 use fb_device_dispatch::fb_device_tables::{Resource, Tables, tables};
@@ -41,6 +42,7 @@ use fb_wire::Stamp;
 use fb_words::Format;
 use std::alloc::{AllocError, Global};
 use std::marker::Model;
+use std::rc::Rc;
 
 // No device begins with a later cause, so that there are numbers for all that begin.
 const LAST_FIRST: u64 = 18446744073709535000;
@@ -212,7 +214,9 @@ fn made(
     requires within { number < length (system_in verified.now).devices }
     ensures tables { (d : book) → slice_get (system_in verified.now).devices number ≡ Some d → IfOk result (λ p. AreTables (certificate_in verified.now) d (map forms_of p.1.memory.own.items) (map forms_of p.1.memory.issued.items) p.0) }
     ensures first { IfOk result (λ p. (values : _) × IsSetUp verified.now number first stamp values p.0 p.1) }
+    ensures checked { IsChecked verified.now }
 {
+    verified.fits();
     let values = first_values(alloc, verified, number)?;
     let tables = tables(alloc, verified, number, &values)?;
     match at_rest(alloc, &tables, values, first, stamp) {
@@ -227,17 +231,16 @@ fn made(
 // The device of a number of what was checked, which begins with this cause and this stamp.
 fn numbered_ready(
     alloc: Global,
-    verified: Verified,
+    verified: Rc<Verified>,
     number: usize,
     first: u64,
     stamp: Stamp,
 ) -> Result<Ready, Refusal>
-    requires within { number < length (system_in verified).devices }
+    requires within { number < length (system_in verified.value).devices }
     requires early { first ≤ last_first }
-    ensures ready { IfOk result (λ r. (r.verified ≡ verified) × (r.number ≡ number) × (machine_of r ≡ silent (device_in r) first (stamped_of stamp))) }
+    ensures ready { IfOk result (λ r. (r.verified ≡ verified.value) × (r.number ≡ number) × (machine_of r ≡ silent (device_in r) first (stamped_of stamp))) }
     ensures refused { IfErr result (λ f. f ≡ no_memory) }
 {
-    verified.fits();
     match made(alloc, &verified, number, first, stamp) {
         Ok((tables, running)) => {
             let program = Program {
@@ -250,19 +253,38 @@ fn numbered_ready(
             })
         }
         Err(_) => {
-            verified.let_go();
+            release(verified);
             Err(Refusal::Checked(fb_device_dispatch::fb_verdict::Refusal::OutOfMemory))
         }
     }
 }
 
-/// Loads the device of this number, counted from 0, of what was checked. Its first cause is 1, and its first messages are stamped with the boot 0 and the
+// The same, where no other device shares what was checked.
+fn alone_ready(
+    alloc: Global,
+    verified: Verified,
+    number: usize,
+    first: u64,
+    stamp: Stamp,
+) -> Result<Ready, Refusal>
+    requires within { number < length (system_in verified).devices }
+    requires early { first ≤ last_first }
+    ensures ready { IfOk result (λ r. (r.verified ≡ verified) × (r.number ≡ number) × (machine_of r ≡ silent (device_in r) first (stamped_of stamp))) }
+    ensures refused { IfErr result (λ f. f ≡ no_memory) }
+{
+    match share(alloc, verified) {
+        Ok(shared) => numbered_ready(alloc, shared, number, first, stamp),
+        Err(refusal) => Err(refusal),
+    }
+}
+
+/// Loads the device of this number, counted from 0, of what was checked, which devices share. Its first cause is 1, and its first messages are stamped with the boot 0 and the
 /// sequence number 1.
 ///
 /// Refused only where memory runs out.
-pub fn load_checked(alloc: Global, verified: Verified, number: usize) -> Result<Ready, Refusal>
-    requires within { number < length (system_in verified).devices }
-    ensures ready { IfOk result (λ r. (r.verified ≡ verified) × (r.number ≡ number) × (machine_of r ≡ silent (device_in r) 1 first_stamp)) }
+pub fn load_checked(alloc: Global, verified: Rc<Verified>, number: usize) -> Result<Ready, Refusal>
+    requires within { number < length (system_in verified.value).devices }
+    ensures ready { IfOk result (λ r. (r.verified ≡ verified.value) × (r.number ≡ number) × (machine_of r ≡ silent (device_in r) 1 first_stamp)) }
     ensures refused { IfErr result (λ f. f ≡ no_memory) }
 {
     numbered_ready(alloc, verified, number, 1, FIRST_STAMP)
@@ -294,7 +316,7 @@ fn made_ready(
     ensures refused { IfErr result (IsMissing verified device.now) }
 {
     match device_named(&verified, device) {
-        Some(number) => numbered_ready(alloc, verified, number, first, stamp),
+        Some(number) => alone_ready(alloc, verified, number, first, stamp),
         None => {
             verified.let_go();
             Err(no_device(alloc, device))

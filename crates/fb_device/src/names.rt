@@ -25,8 +25,8 @@ use fb_sched::Queue;
 
 /// The name of the device.
 pub fn name(program: &Program) -> &str
-    requires { program.now.number < length program.now.verified.typed.devices.items }
-    ensures { result.now ≡ (device_at (system_in program.now.verified).devices program.now.number).name }
+    requires { program.now.number < length program.now.verified.value.typed.devices.items }
+    ensures { result.now ≡ (device_at (system_in program.now.verified.value).devices program.now.number).name }
 {
     program.verified.typed().devices[program.number]
         .name

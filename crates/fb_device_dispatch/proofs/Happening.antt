@@ -136,17 +136,17 @@ module _ (p : Program) (r : Running) (g : IsGood p r) (q : ℕ) (first : Ticket)
   closed : IsClosed leaf.kind
   closed = (let v = g.program.checked.written.1 in
       all_got (λ (l : Leaf). IsClosed l.kind) all first.point.block leaf
-      (all_got (λ (d : Device). AllByRecursion (λ (l : Leaf). IsClosed l.kind) (leaves d)) (system_in p.verified).devices p.number device (all_charts_closed v.typed.library v.source (system_in p.verified) v.typed.typed) (device_here p r g.program)) point.leaf_stands)
+      (all_got (λ (d : Device). AllByRecursion (λ (l : Leaf). IsClosed l.kind) (leaves d)) (system_in p.verified.value).devices p.number device (all_charts_closed v.typed.library v.source (system_in p.verified.value) v.typed.typed) (device_here p r g.program)) point.leaf_stands)
 
   shaped : OnChart IsShapely leaf.kind
   shaped = (let v = g.program.checked.written.1 in
       all_got (λ (l : Leaf). OnChart IsShapely l.kind) all first.point.block leaf
-      (all_got (λ (d : Device). AllByRecursion (λ (l : Leaf). OnChart IsShapely l.kind) (leaves d)) (system_in p.verified).devices p.number device (all_charts_shapely v.typed.library v.source (system_in p.verified) v.typed.typed) (device_here p r g.program)) point.leaf_stands)
+      (all_got (λ (d : Device). AllByRecursion (λ (l : Leaf). OnChart IsShapely l.kind) (leaves d)) (system_in p.verified.value).devices p.number device (all_charts_shapely v.typed.library v.source (system_in p.verified.value) v.typed.typed) (device_here p r g.program)) point.leaf_stands)
 
   takes_inputs : TakesInputs leaf.kind
   takes_inputs = (let v = g.program.checked.written.1 in
       all_got (λ (l : Leaf). TakesInputs l.kind) all first.point.block leaf
-      (all_got (λ (d : Device). AllByRecursion (λ (l : Leaf). TakesInputs l.kind) (leaves d)) (system_in p.verified).devices p.number device (all_take_inputs v.typed.library v.source (system_in p.verified) v.typed.typed) (device_here p r g.program)) point.leaf_stands)
+      (all_got (λ (d : Device). AllByRecursion (λ (l : Leaf). TakesInputs l.kind) (leaves d)) (system_in p.verified.value).devices p.number device (all_take_inputs v.typed.library v.source (system_in p.verified.value) v.typed.typed) (device_here p r g.program)) point.leaf_stands)
 
   pub message : IsMessage leaf.kind first.values.items
   message = (known_entries cert device g.program.holds m g.sound q entry (entries_in all t.left) was_is leaf found_leaf).0.values leaf found_leaf

@@ -15,5 +15,5 @@ device_stands [] k h = absurd (omega (arith, h))
 device_stands (d ∷ ds) zero h = refl
 device_stands (d ∷ ds) (suc k) h = device_stands ds k (omega (arith, h))
 
-pub device_here : (p : Program) (r : Running) → IsProgram p r → slice_get (system_in p.verified).devices p.number ≡ Some (device_in (session_of p r))
-device_here p r g = device_stands (system_in p.verified).devices p.number (omega (arith, g.device, length-map p.verified.typed.devices.items device_of))
+pub device_here : (p : Program) (r : Running) → IsProgram p r → slice_get (system_in p.verified.value).devices p.number ≡ Some (device_in (session_of p r))
+device_here p r g = device_stands (system_in p.verified.value).devices p.number (omega (arith, g.device, length-map p.verified.value.typed.devices.items device_of))

@@ -53,10 +53,10 @@ pub record IsQueue (cert : Certificate) (device : Device) (n : ℕ) (a : Agenda)
 
 -- what was checked, and the tables
 pub record IsProgram (p : Program) (r : Running) : Type 0 where
-  pub checked : IsChecked p.verified
+  pub checked : IsChecked p.verified.value
   pub holds : DeviceHolds (cert_in (session_of p r)) (device_in (session_of p r))
   pub tables : AreTables (cert_in (session_of p r)) (device_in (session_of p r)) (map forms_of r.memory.own.items) (map forms_of r.memory.issued.items) p.tables
-  pub device : p.number < length p.verified.typed.devices.items
+  pub device : p.number < length p.verified.value.typed.devices.items
   pub few : length p.tables.resources.items ≤ 65535
 
 pub record IsGood (p : Program) (r : Running) : Type 0 where

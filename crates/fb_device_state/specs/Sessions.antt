@@ -28,7 +28,7 @@ next_of (Some n) = n
 abbrev pub session_of : Program → Running → Session
 session_of p r =
     record {
-      verified = p.verified;
+      verified = p.verified.value;
       number = p.number;
       queues = r.queues.items;
       own = r.memory.own.items;

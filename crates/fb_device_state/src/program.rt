@@ -4,11 +4,12 @@ use fb_chart::Memory;
 use fb_device_tables::Tables;
 use fb_device_tables::fb_verdict::Verified;
 use fb_sched::{Outbox, Queue, Timers};
+use std::rc::Rc;
 
-/// What was checked, the number of the device in it, and its tables.
+/// What was checked, which devices share, the number of the device in it, and its tables.
 #[derive(Drop)]
 pub struct Program {
-    pub verified: Verified,
+    pub verified: Rc<Verified>,
     pub number: usize,
     pub tables: Tables,
 }
