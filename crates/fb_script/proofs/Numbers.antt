@@ -7,7 +7,7 @@ use Rattle.std.specs.Str.{all_ascii_digits}
 use Rattle.std.specs.Str.Parse.{ParsesUnsigned, ParsesSigned}
 use Rattle.std.proofs.lemmas.Str.Parse.{IsNumeralModel, numerals_by_fold, tells_all_ascii_digits, parse_plain, parse_signed_plain, parse_signed_minus}
 use Rattle.fb_model.specs.CertificateText.{decimal_from}
-use Rattle.fb_script.specs.Lines.{number_below, number_in, wide_number_in, value_in}
+use Rattle.fb_script.specs.Lines.{number_below, number_in, long_number_in, wide_number_in, value_in}
 use mir.Syntax.{w64}
 
 own : IsNumeralModel (λ ds. all_ascii_digits ds ≡ true) (decimal_from 0)
@@ -46,6 +46,9 @@ no_plus bs h = grind (arith, h)
 
 pub number : {E : Type 0} (bs : List ℕ) (r : Result ℕ E) → (slice_index bs 0 == 43) ≡ false → ParsesUnsigned 16 10 bs r → result_ok r ≡ number_in bs
 number bs r n h = below bs (2 ^ 16) r (λ k. k) (parse_plain own 16 bs r h (no_plus bs n)) ∙ same (number_in bs)
+
+pub long_number : {E : Type 0} (bs : List ℕ) (r : Result ℕ E) → (slice_index bs 0 == 43) ≡ false → ParsesUnsigned 32 10 bs r → result_ok r ≡ long_number_in bs
+long_number bs r n h = below bs (2 ^ 32) r (λ k. k) (parse_plain own 32 bs r h (no_plus bs n)) ∙ same (long_number_in bs)
 
 pub wide_number : {E : Type 0} (bs : List ℕ) (r : Result ℕ E) → (slice_index bs 0 == 43) ≡ false → ParsesUnsigned 64 10 bs r → result_ok r ≡ wide_number_in bs
 wide_number bs r n h = below bs (2 ^ 64) r (λ k. k) (parse_plain own 64 bs r h (no_plus bs n)) ∙ same (wide_number_in bs)

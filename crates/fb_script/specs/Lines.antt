@@ -22,6 +22,10 @@ number_below limit cs =
 abbrev pub number_in : List ℕ → Option ℕ
 number_in cs = number_below (2 ^ 16) cs
 
+-- a number of 32 bits
+abbrev pub long_number_in : List ℕ → Option ℕ
+long_number_in cs = number_below (2 ^ 32) cs
+
 -- a number of 64 bits
 abbrev pub wide_number_in : List ℕ → Option ℕ
 wide_number_in cs = number_below (2 ^ 64) cs

@@ -50,10 +50,14 @@ place_text place = join_with_byte 46 place.path ++ codes "." ++ place.event
 abbrev pub values_text : List ℤ → List ℕ
 values_text values = flat_map (λ v. codes " " ++ signed_decimal v) values
 
+-- what an OUTPUT has written, by its number
+abbrev pub write_text : ℕ → List ℤ → List ℕ
+write_text number values = codes "write " ++ decimal number ++ values_text values
+
 -- what a service has done; what is sent has a number
 abbrev pub effect_text : ℕ → Option Effect → List ℕ
 effect_text send None = []
-effect_text send (Some (Write number values)) = codes " write " ++ decimal number ++ values_text values
+effect_text send (Some (Write number values)) = codes " " ++ write_text number values
 effect_text send (Some (Send message)) = codes " send " ++ decimal send
 
 -- a cause that has ended: its total, and the bound on it
@@ -89,7 +93,7 @@ ended_text (Some e) = codes " ended " ++ decimal e.cause ++ codes " " ++ decimal
 
 abbrev pub outside_text : ℕ → Outside → List ℕ
 outside_text send (outside.Send message) = codes " send " ++ decimal send
-outside_text send (outside.Write number values) = codes " write " ++ decimal number ++ values_text values.items
+outside_text send (outside.Write number values) = codes " " ++ write_text number values.items
 
 abbrev pub done_text : Option (Bor Outside) → ℕ → List ℕ
 done_text None send = []

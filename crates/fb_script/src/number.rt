@@ -1,7 +1,7 @@
 //! Numbers in scripts.
 
 ghost use Rattle.std.specs.Prelude.{◌≡◌, ◌==◌, slice_index};
-ghost use Rattle.fb_script.specs.Lines.{number_in, wide_number_in, value_in};
+ghost use Rattle.fb_script.specs.Lines.{number_in, long_number_in, wide_number_in, value_in};
 
 // Whether a plus stands first, which no number of a script has.
 fn has_plus(word: &str) -> bool
@@ -21,6 +21,16 @@ pub fn read_number(word: &str) -> Option<u16>
         return None;
     }
     word.parse::<u16>().ok()
+}
+
+/// The number of 32 bits that digits write.
+pub fn read_long_number(word: &str) -> Option<u32>
+    ensures { result ≡ long_number_in word.now }
+{
+    if has_plus(word) {
+        return None;
+    }
+    word.parse::<u32>().ok()
 }
 
 /// The number of 64 bits that digits write.

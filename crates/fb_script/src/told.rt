@@ -44,6 +44,22 @@ impl fmt::Display for Row<'_> {
     }
 }
 
+/// What an OUTPUT has written, by its number, as `write 1 9`.
+#[derive(Clone, Copy)]
+pub struct Written<'a>(pub u16, pub &'a [i64]);
+
+impl fmt::Display for Written<'_> {
+    ghost use Rattle.std.specs.Prelude.{Some};
+    ghost use Rattle.fb_script.specs.Texts.{write_text};
+
+    ghost output = { λ w. Some (write_text w.0 w.1.now) };
+
+    fn fmt<W: fmt::Write>(&self, f: &mut fmt::Formatter<W>) -> fmt::Result {
+        let row = Row(self.1);
+        write!(f, "write {}{row}", self.0)
+    }
+}
+
 // What a dispatch has done outside of the device: of an OUTPUT, ` write 1 9`, and of a PUBLISH, ` send 1` with the number of the send.
 #[derive(Clone, Copy)]
 struct Done<'a>(Option<&'a Effect>, u64);
@@ -58,8 +74,8 @@ impl fmt::Display for Done<'_> {
         match self.0 {
             None => Ok(()),
             Some(Effect::Write(number, values)) => {
-                let row = Row(values.as_slice());
-                write!(f, " write {number}{row}")
+                let written = Written(*number, values.as_slice());
+                write!(f, " {written}")
             }
             Some(Effect::Send(_)) => {
                 let send = self.1;

@@ -8,7 +8,7 @@ use Rattle.fbr_explain.specs.fb_verdict.Verdicts.{IsTypedOf}
 use Rattle.fb_types.specs.declared.typed.Configuration.{Configuration}
 use Rattle.fb_types.specs.Views.{system_of}
 use Rattle.fbr.specs.declared.fault.Fault.{Fault}
-use Rattle.fbr.specs.declared.fault.Fault.TheVariants.{Memory, Input, File, Line, Usage, Refused, Unbound}
+use Rattle.fbr.specs.declared.fault.Fault.TheVariants.{Memory, Input, File, Line, Usage, Refused, Unbound, Device, LinkDown, Socket}
 use Rattle.fbr.specs.Outcomes.{Tells, refusal, IsContents, IsReadFault}
 use Rattle.fbr.specs.Bounding.{IsTextFor, IsUnbound, IsBoundText, IsBoundFault, TellsBound, a_text, no_text, unread}
 
@@ -23,6 +23,9 @@ of_text repeats app typed (Err (Line n)) is h = absurd h
 of_text repeats app typed (Err Usage) is h = absurd h
 of_text repeats app typed (Err (Refused f)) is h = absurd h
 of_text repeats app typed (Err (Unbound f)) is h = (typed, is, h)
+of_text repeats app typed (Err (Device name)) is h = absurd h
+of_text repeats app typed (Err LinkDown) is h = absurd h
+of_text repeats app typed (Err (Socket port)) is h = absurd h
 
 pub text_told : {E : Type 0} (repeats : Option ℕ) (name app text : List ℕ) (held old new : Option (List ℕ)) (r : Result ℕ E) → IsContents held app → IsBoundText repeats app text
     → IfOk r (λ status. (status ≡ 0) × Appends old new text) → IfOk r (λ status. TellsBound repeats name held old new status)

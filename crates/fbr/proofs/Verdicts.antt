@@ -2,7 +2,7 @@
 use Rattle.std.proofs.Common.{◌≡◌, ℕ, zero, suc, ◌≤◌, ◌<◌, inl, inr, refl, sym, ◌∙◌, ap, subst, arith, true, false, List, [], ◌∷◌, length, take, Option, Some, None, Result, Ok, Err, IfSome}
 use Rattle.std.specs.Str.{is_utf8}
 use Rattle.fbr.specs.declared.fault.Fault.{Fault}
-use Rattle.fbr.specs.declared.fault.Fault.TheVariants.{Memory, Input, File, Line, Usage, Refused, Unbound}
+use Rattle.fbr.specs.declared.fault.Fault.TheVariants.{Memory, Input, File, Line, Usage, Refused, Unbound, Device, LinkDown, Socket}
 use Rattle.fbr.specs.Halves.{divide}
 use Rattle.fbr.specs.Outcomes.{IsVerdict, HoldsTexts, IsInputVerdict, IsContents, IsReadFault, IsInputOutcome, IsFilesOutcome}
 
@@ -40,6 +40,9 @@ input_held A xs bytes (Err (Line n)) e v = subst (λ ys. IsInputVerdict {A = A} 
 input_held A xs bytes (Err Usage) e v = subst (λ ys. IsInputVerdict {A = A} ys (Err Usage)) (taken 33554432 xs bytes e v.0.0) v
 input_held A xs bytes (Err (Refused f)) e v = subst (λ ys. IsInputVerdict {A = A} ys (Err (Refused f))) (taken 33554432 xs bytes e v.0.0) v
 input_held A xs bytes (Err (Unbound f)) e v = subst (λ ys. IsInputVerdict {A = A} ys (Err (Unbound f))) (taken 33554432 xs bytes e v.0.0) v
+input_held A xs bytes (Err (Device name)) e v = subst (λ ys. IsInputVerdict {A = A} ys (Err (Device name))) (taken 33554432 xs bytes e v.0.0) v
+input_held A xs bytes (Err LinkDown) e v = subst (λ ys. IsInputVerdict {A = A} ys (Err LinkDown)) (taken 33554432 xs bytes e v.0.0) v
+input_held A xs bytes (Err (Socket port)) e v = subst (λ ys. IsInputVerdict {A = A} ys (Err (Socket port))) (taken 33554432 xs bytes e v.0.0) v
 
 pub input_read : (A : Type 0) (held : Option (List ℕ)) (bytes : List ℕ) (r : Result A Fault) → IfSome held (λ xs. bytes ≡ take 33554433 xs) → IsInputVerdict bytes r → IsInputOutcome held r
 input_read A None bytes r e v = inr (bytes, tt, v)
@@ -67,6 +70,9 @@ over_texts bytes (Err (Line n)) t v = absurd v
 over_texts bytes (Err Usage) t v = absurd v
 over_texts bytes (Err (Refused f)) t v = (t, v)
 over_texts bytes (Err (Unbound f)) t v = absurd v
+over_texts bytes (Err (Device name)) t v = absurd v
+over_texts bytes (Err LinkDown) t v = absurd v
+over_texts bytes (Err (Socket port)) t v = absurd v
 
 -- ---- files
 
@@ -86,6 +92,9 @@ files_read one two app cert held_one held_two (Err (Line n)) x y v = absurd v
 files_read one two app cert held_one held_two (Err Usage) x y v = absurd v
 files_read one two app cert held_one held_two (Err (Refused f)) x y v = (app, cert, x, y, v)
 files_read one two app cert held_one held_two (Err (Unbound f)) x y v = absurd v
+files_read one two app cert held_one held_two (Err (Device name)) x y v = absurd v
+files_read one two app cert held_one held_two (Err LinkDown) x y v = absurd v
+files_read one two app cert held_one held_two (Err (Socket port)) x y v = absurd v
 
 pub first_unread : (A : Type 0) (one two : List ℕ) (held_one held_two : Option (List ℕ)) (f : Fault) → IsReadFault one f → IsFilesOutcome {A = A} one two held_one held_two (Err f)
 first_unread A one two held_one held_two Memory h = files_memory A one two held_one held_two
@@ -95,6 +104,9 @@ first_unread A one two held_one held_two (Line n) h = absurd h
 first_unread A one two held_one held_two Usage h = absurd h
 first_unread A one two held_one held_two (Refused f) h = absurd h
 first_unread A one two held_one held_two (Unbound f) h = absurd h
+first_unread A one two held_one held_two (Device name) h = absurd h
+first_unread A one two held_one held_two LinkDown h = absurd h
+first_unread A one two held_one held_two (Socket port) h = absurd h
 
 pub second_unread : (A : Type 0) (one two : List ℕ) (held_one held_two : Option (List ℕ)) (f : Fault) → IsReadFault two f → IsFilesOutcome {A = A} one two held_one held_two (Err f)
 second_unread A one two held_one held_two Memory h = files_memory A one two held_one held_two
@@ -104,3 +116,6 @@ second_unread A one two held_one held_two (Line n) h = absurd h
 second_unread A one two held_one held_two Usage h = absurd h
 second_unread A one two held_one held_two (Refused f) h = absurd h
 second_unread A one two held_one held_two (Unbound f) h = absurd h
+second_unread A one two held_one held_two (Device name) h = absurd h
+second_unread A one two held_one held_two LinkDown h = absurd h
+second_unread A one two held_one held_two (Socket port) h = absurd h

@@ -5,3 +5,4 @@ pub mod Program
 pub mod Simulation
 pub mod Bounding
 pub mod Codes
+pub mod Serving

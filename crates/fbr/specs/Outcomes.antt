@@ -1,5 +1,5 @@
 -- The line and the status of an outcome: this project's profile.
-use Rattle.std.specs.Prelude.{◌≡◌, ◌≤◌, ℕ, true, ◌⊎◌, List, [], ◌∷◌, ◌++◌, length, Option, Some, None, Result, Ok, Err, codes}
+use Rattle.std.specs.Prelude.{◌≡◌, ◌≤◌, ℕ, true, ◌⊎◌, List, [], ◌∷◌, ◌++◌, length, Option, Some, None, Result, Ok, Err, codes, string_bytes}
 use Rattle.std.specs.Io.KnownBytes.{Appends}
 use Rattle.std.specs.Fmt.{decimal}
 use Rattle.std.specs.Str.{is_utf8}
@@ -9,7 +9,7 @@ use Rattle.fbr_explain.specs.fb_verdict.Verdicts as verdicts
 use Rattle.fbr_explain.specs.fb_verdict.declared.verified.Verified.{Verified}
 use Rattle.fbr.specs.Halves.{divide}
 use Rattle.fbr.specs.declared.fault.Fault.{Fault}
-use Rattle.fbr.specs.declared.fault.Fault.TheVariants.{Memory, Input, File, Line, Usage, Refused, Unbound}
+use Rattle.fbr.specs.declared.fault.Fault.TheVariants.{Memory, Input, File, Line, Usage, Refused, Unbound, Device, LinkDown, Socket}
 use Rattle.fbr.specs.Statuses.{status_of_code, status_of_no_bound}
 
 pub record Outcome : Type 0 where
@@ -28,6 +28,9 @@ line_of (Line number) = codes "refused 60 " ++ decimal number
 line_of Usage = codes "refused 63"
 line_of (Refused refusal) = codes "refused " ++ refusals.line_of refusal
 line_of (Unbound fault) = codes "refused " ++ finding.line_of fault
+line_of (Device name) = codes "refused 21 " ++ string_bytes name
+line_of LinkDown = codes "refused 59"
+line_of (Socket port) = codes "refused 62 " ++ decimal port
 
 abbrev pub code_of : Fault → ℕ
 code_of Memory = 9
@@ -37,6 +40,9 @@ code_of (Line number) = 60
 code_of Usage = 63
 code_of (Refused refusal) = refusals.code_of refusal
 code_of (Unbound fault) = finding.code_of fault
+code_of (Device name) = 21
+code_of LinkDown = 59
+code_of (Socket port) = 62
 
 abbrev pub status_of : Fault → ℕ
 status_of Memory = 4
@@ -46,6 +52,9 @@ status_of (Line number) = 2
 status_of Usage = 2
 status_of (Refused refusal) = status_of_code (refusals.code_of refusal)
 status_of (Unbound fault) = status_of_no_bound (finding.code_of fault)
+status_of (Device name) = 2
+status_of LinkDown = 3
+status_of (Socket port) = 3
 
 -- a refusal's line and status
 abbrev pub refusal : Fault → Outcome

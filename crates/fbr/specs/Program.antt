@@ -1,10 +1,11 @@
 -- The words of the program, in the terms of the crate that reads them.
-use Rattle.std.specs.Prelude.{◌≡◌, ◌≢◌, ℕ, nat_le, ◌&&◌, List, [], Option, Some, None, true, codes, option_and_then, if◌then◌else◌}
+use Rattle.std.specs.Prelude.{◌≡◌, ◌≢◌, ℕ, ◌==◌, nat_le, ◌&&◌, List, [], ◌∷◌, length, Option, Some, None, true, codes, option_and_then, if◌then◌else◌}
 use Rattle.std.specs.Str.{bytes_eq}
-use Rattle.clap.specs.Words.{App, Row, Rule, Text, first_of, new_app, new_rule, with_rule, with_subcommand, subcommand_of, fault_of, IsAmong}
-use Rattle.clap.specs.declared.builder.action.ArgAction.TheVariants.{Set, SetTrue}
+use Rattle.clap.specs.Words.{App, Row, Rule, Text, first_of, all_of, new_app, new_rule, with_rule, with_subcommand, subcommand_of, fault_of, IsAmong}
+use Rattle.clap.specs.declared.builder.action.ArgAction.TheVariants.{Set, SetTrue, Append}
 use Rattle.clap.specs.declared.error.kind.ErrorKind.TheVariants.{DisplayHelp, DisplayVersion}
-use Rattle.fb_script.specs.Lines.{number_in}
+use Rattle.clap.specs.Lexer.{usize_max}
+use Rattle.fb_script.specs.Lines.{number_in, long_number_in}
 
 -- a file that has to be named
 abbrev pub file : Text → Rule
@@ -50,12 +51,30 @@ flat = record (new_rule (codes "flat")) { long = Some (codes "flat"); action = S
 abbrev pub draw : App
 draw = with_rule (with_rule (with_rule (over_file (codes "draw")) (maybe_file (codes "CERT"))) repeats) flat
 
+-- an option that takes a number
+abbrev pub number : Text → Rule
+number id = record (new_rule id) { long = Some id; action = Some Set; value_names = 1 }
+
+-- an option that has to be given one
+abbrev pub needed_number : Text → Rule
+needed_number id = record (number id) { required = true }
+
+-- the ports of peers, as many as are named
+abbrev pub peers : Rule
+peers = record (new_rule (codes "PEER")) { action = Some Append; range = Some (record { start_inclusive = 1; end_inclusive = usize_max }) }
+
+-- `serve`, its two files, its device, its port, how many turns it takes, its boot, and its peers
+abbrev pub serve : App
+serve =
+    with_rule (with_rule (with_rule (with_rule (with_rule (over_files (codes "serve")) (file (codes "DEVICE")))
+    (needed_number (codes "bind"))) (needed_number (codes "turns"))) (number (codes "boot"))) peers
+
 -- the command without its subcommands: it tells its version, and wants a subcommand
 abbrev pub top : App
 top = record { top = record (new_app (codes "fbr")).top { has_version = true; subcommand_required = true }; subs = [] }
 
 abbrev pub program : App
-program = with_subcommand (with_subcommand (with_subcommand (with_subcommand (with_subcommand top bound.top) check.top) sim.top) explain.top) draw.top
+program = with_subcommand (with_subcommand (with_subcommand (with_subcommand (with_subcommand (with_subcommand top bound.top) check.top) sim.top) explain.top) draw.top) serve.top
 
 -- two arguments, where both were given
 abbrev pub both : Option Text → Option Text → Option (Text × Text)
@@ -97,6 +116,66 @@ files_in name entered =
 abbrev pub files_of : Text → List Text → Option (Text × Text)
 files_of name words = option_and_then (files_in name) (subcommand_of program words)
 
+-- ---- what `serve` is asked for
+
+-- a device of two files, with its port, its turns, its boot, and the ports that it sends to
+pub record Asked : Type 0 where
+  pub app : Text
+  pub cert : Text
+  pub device : Text
+  pub port : ℕ
+  pub turns : ℕ
+  pub boot : ℕ
+  pub peers : List ℕ
+
+abbrev pub nonzero : ℕ → Option ℕ
+nonzero n = if n == 0 then None else Some n
+
+-- a port: a number of 1 to 65535
+abbrev pub port_in : Text → Option ℕ
+port_in word = option_and_then nonzero (number_in word)
+
+abbrev pub before : Option ℕ → Option (List ℕ) → Option (List ℕ)
+before (Some port) (Some ports) = Some (port ∷ ports)
+before one two = None
+
+-- each of the words is a port
+abbrev pub ports_in : List Text → Option (List ℕ)
+ports_in [] = Some []
+ports_in (word ∷ words) = before (port_in word) (ports_in words)
+
+-- the ports of peers, at most 64; none where no word is given
+abbrev pub peers_in : Option (List Text) → Option (List ℕ)
+peers_in None = Some []
+peers_in (Some words) = if nat_le (length words) 64 then ports_in words else None
+
+-- the boot, 0 where none is given
+abbrev pub boot_in : Option Text → Option ℕ
+boot_in None = Some 0
+boot_in (Some word) = long_number_in word
+
+-- all of it, where nothing is missing
+abbrev pub asked_with : Option Text → Option Text → Option Text → Option ℕ → Option ℕ → Option ℕ → Option (List ℕ) → Option Asked
+asked_with (Some app) (Some cert) (Some device) (Some port) (Some turns) (Some boot) (Some ports) =
+    Some (record { app = app; cert = cert; device = device; port = port; turns = turns; boot = boot; peers = ports })
+asked_with app cert device port turns boot ports = None
+
+-- what the words of `serve` ask for; nothing where a number or a port is none, or there are more than 64 peers
+abbrev pub asked_in : List Row → Option Asked
+asked_in rows =
+    asked_with (first_of (codes "APP") rows) (first_of (codes "CERT") rows) (first_of (codes "DEVICE") rows) (option_and_then port_in (first_of (codes "bind") rows))
+    (option_and_then long_number_in (first_of (codes "turns") rows)) (boot_in (first_of (codes "boot") rows)) (peers_in (all_of (codes "PEER") rows))
+
+-- the same of a subcommand, where it is `serve`
+abbrev pub serve_in : Text × List Row → Option (Option Asked)
+serve_in entered = if bytes_eq entered.0 (codes "serve") then Some (asked_in entered.1) else None
+
+-- what the words ask `serve` for
+abbrev pub serve_of : List Text → Option (Option Asked)
+serve_of words = option_and_then serve_in (subcommand_of program words)
+
+-- ---- what the words are
+
 -- the words ask for a certificate of this file, perhaps with steps over the network
 pub record IsBound (words : List Text) (repeats : Option ℕ) (app : Text) : Type 0 where
   pub taken : fault_of program words ≡ []
@@ -118,6 +197,16 @@ pub record IsCheck (words : List Text) (app cert : Text) : Type 0 where
 pub record IsSim (words : List Text) (app cert : Text) : Type 0 where
   pub taken : fault_of program words ≡ []
   pub files : files_of (codes "sim") words ≡ Some (app, cert)
+
+-- the words ask for turns of a device
+pub record IsServe (words : List Text) (q : Asked) : Type 0 where
+  pub taken : fault_of program words ≡ []
+  pub asked : serve_of words ≡ Some (Some q)
+
+-- they ask for such with a number that is none, a port that is none, or more than 64 peers
+pub record IsMisnumbered (words : List Text) : Type 0 where
+  pub taken : fault_of program words ≡ []
+  pub none : serve_of words ≡ Some None
 
 -- the words are none of the program's, and ask for neither help nor the version
 pub record IsMisuse (words : List Text) : Type 0 where

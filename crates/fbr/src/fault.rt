@@ -25,6 +25,12 @@ pub enum Fault<'a> {
     Refused(Refusal),
     /// The finder has no certificate of the system. Status 1, or 4 where memory ran out.
     Unbound(NoBound),
+    /// The system has no device of this name, in upper case. Code 21, status 2.
+    Device(String),
+    /// A receive failed. Code 59, status 3.
+    LinkDown,
+    /// No socket could be bound to this port. Code 62, status 3.
+    Socket(u16),
 }
 
 impl Fault<'_> {
@@ -41,6 +47,9 @@ impl Fault<'_> {
             Fault::Usage => 63,
             Fault::Refused(refusal) => refusal.code(),
             Fault::Unbound(fault) => fault.code(),
+            Fault::Device(_) => 21,
+            Fault::LinkDown => 59,
+            Fault::Socket(_) => 62,
         }
     }
 
@@ -56,6 +65,8 @@ impl Fault<'_> {
             Fault::Usage => 2,
             Fault::Refused(refusal) => status_of_code(refusal.code()),
             Fault::Unbound(fault) => status_of_no_bound(fault.code()),
+            Fault::Device(_) => 2,
+            Fault::LinkDown | Fault::Socket(_) => 3,
         }
     }
 }
@@ -101,6 +112,9 @@ impl fmt::Display for Fault<'_> {
             Fault::Usage => write!(f, "refused 63"),
             Fault::Refused(refusal) => write!(f, "refused {refusal}"),
             Fault::Unbound(fault) => write!(f, "refused {fault}"),
+            Fault::Device(name) => write!(f, "refused 21 {name}"),
+            Fault::LinkDown => write!(f, "refused 59"),
+            Fault::Socket(port) => write!(f, "refused 62 {port}"),
         }
     }
 }

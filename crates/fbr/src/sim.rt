@@ -1,13 +1,13 @@
 //! Checks two files, and runs a script on the one device of the system.
 
-ghost use Rattle.std.specs.Prelude.{◌≡◌, ◌≤◌, ◌<◌, length, IfOk, MatchResult, string_bytes, true, false};
+ghost use Rattle.std.specs.Prelude.{◌≡◌, ◌≤◌, ◌<◌, length, IfOk, IfErr, MatchResult, string_bytes, true, false};
 ghost use Rattle.fbr.specs.Simulation.{IsVerified, IsScript, IsScriptFault, IsVerifiedTexts, TellsEnd, IsSilent, HasOneDevice, TellsRun, TellsRunFrom, TellsScript, TellsSim};
 ghost use Rattle.fbr_explain.specs.fb_verdict.declared.verified.Verified as of_check;
 
 use crate::check::{LIMIT, print_outcome, read_text, read_whole};
 use crate::fault::Fault;
 use crate::sources::{ReadFault, Sources};
-use fb_script::fb_device::{Device, Ready, load_checked};
+use fb_script::fb_device::{Device, Ready, load_checked, share};
 use fb_script::{End, simulate};
 use fbr_explain::fb_check::{Refusal, Verified, check_text};
 use std::alloc::Global;
@@ -110,6 +110,21 @@ fn has_one_device(verified: &Verified) -> bool
     verified.typed().devices.len() == 1
 }
 
+// The one device of what was verified, before it starts.
+fn only_ready<'a>(alloc: Global, verified: Verified) -> Result<Ready, Fault<'a>>
+    requires one { HasOneDevice verified }
+    ensures ready { IfOk result (IsSilent verified) }
+    ensures refused { IfErr result (λ fault. fault ≡ Fault.Memory) }
+{
+    match share(alloc, verified) {
+        Ok(shared) => match load_checked(alloc, shared, 0) {
+            Ok(ready) => Ok(ready),
+            Err(_) => Err(Fault::Memory),
+        },
+        Err(_) => Err(Fault::Memory),
+    }
+}
+
 // Runs a script on the device of what was verified, where it has exactly one.
 fn run_script<W: Write>(
     alloc: Global,
@@ -125,7 +140,7 @@ fn run_script<W: Write>(
         verified.let_go();
         return print_outcome(Err(Fault::Usage), output);
     }
-    match load_checked(alloc, verified, 0) {
+    match only_ready(alloc, verified) {
         Ok(ready) => run_ready(alloc, ready, script, output),
         Err(_) => print_outcome(Err(Fault::Memory), output),
     }

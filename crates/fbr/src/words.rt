@@ -6,7 +6,8 @@ ghost use Rattle.clap.specs.Values.{kind_of};
 ghost use Rattle.fbr.specs.Outcomes.{Tells, TellsInput, TellsFiles, TellsUsage, refusal};
 ghost use Rattle.fbr.specs.Simulation.{TellsSim};
 ghost use Rattle.fbr.specs.Bounding.{TellsBound};
-ghost use Rattle.fbr.specs.Program.{IsBound, IsCheck, IsSim, IsMisuse, IsUncounted};
+ghost use Rattle.fbr.specs.Program.{IsBound, IsCheck, IsSim, IsMisuse, IsUncounted, IsServe, IsMisnumbered};
+ghost use Rattle.fbr.specs.Serving.{asked_of, TellsServe};
 ghost use Rattle.fbr.specs.Program as program;
 
 use crate::bound::bound_file;
@@ -14,6 +15,8 @@ use crate::check::{check_files, check_input, print_outcome};
 use crate::draw::{Drawing, draw_file};
 use crate::explain::explain;
 use crate::fault::Fault;
+use crate::request::{Request, request_in};
+use crate::serve::serve_files;
 use crate::sim::sim_files;
 use crate::sources::Sources;
 use clap::error::ErrorKind;
@@ -22,12 +25,18 @@ use fb_script::read_number;
 use std::alloc::{AllocError, Global};
 use std::io;
 use std::io::{Read, Write};
+use std::net::Net;
+use std::rt::Clock;
 
 /// The version that `fbr --version` tells.
 pub const VERSION: &str = "0.1.0";
 
 // What people are told where the number behind `--repeats` is none.
 const UNCOUNTED: &str = "fbr: `--repeats` takes a number of 1 to 255";
+
+// What people are told where a number of `serve` is none.
+const UNNUMBERED: &str =
+    "fbr: a port is a number of 1 to 65535, with at most 64 peers, and `--turns` and `--boot` take numbers of 32 bits";
 
 // A file that has to be named.
 fn file<'a>(alloc: Global, id: &'a str, help: &'a str) -> Arg<'a>
@@ -120,6 +129,56 @@ fn drawn<'a>(alloc: Global) -> Result<Command<'a>, AllocError>
         .arg(flat(alloc))
 }
 
+// An option that takes a number, which help calls so.
+fn number<'a>(alloc: Global, id: &'a str, value: &'a str, help: &'a str) -> Arg<'a>
+    ensures rule { rule_of result ≡ program.number id.now }
+    ensures local { result.global ≡ false }
+{
+    Arg::new(alloc, id)
+        .long(id)
+        .action(ArgAction::Set)
+        .value_name(value)
+        .help(help)
+}
+
+// The same, which has to be given.
+fn needed_number<'a>(alloc: Global, id: &'a str, value: &'a str, help: &'a str) -> Arg<'a>
+    ensures rule { rule_of result ≡ program.needed_number id.now }
+    ensures local { result.global ≡ false }
+{
+    number(alloc, id, value, help).required(true)
+}
+
+// The ports of peers.
+fn peers<'a>(alloc: Global) -> Arg<'a>
+    ensures rule { rule_of result ≡ program.peers }
+    ensures local { result.global ≡ false }
+{
+    Arg::new(alloc, "PEER")
+        .action(ArgAction::Append)
+        .num_args(1..)
+        .help("The ports on 127.0.0.1 that it sends to, at most 64")
+}
+
+// The subcommand that runs a device over UDP.
+fn served<'a>(alloc: Global) -> Result<Command<'a>, AllocError>
+    ensures { IfOk result (λ c. app_of c ≡ program.serve) }
+{
+    let about = "Runs a device over UDP on 127.0.0.1, and prints what its OUTPUTs write";
+    let help_device = "The name of the device";
+    let help_bind = "The port that it receives at";
+    let help_turns =
+        "How many turns it takes: 16 datagrams are received at most, and each resource is dispatched once";
+    let help_boot =
+        "The boot that its messages of format 2 are stamped with, 0 where none is given; let it grow with each start";
+    over_files(alloc, "serve", about)?
+        .arg(file(alloc, "DEVICE", help_device))?
+        .arg(needed_number(alloc, "bind", "PORT", help_bind))?
+        .arg(needed_number(alloc, "turns", "N", help_turns))?
+        .arg(number(alloc, "boot", "B", help_boot))?
+        .arg(peers(alloc))
+}
+
 // The words that the program knows.
 fn commands<'a>(alloc: Global) -> Result<Command<'a>, AllocError>
     ensures { IfOk result (λ c. app_of c ≡ program.program) }
@@ -131,6 +190,7 @@ fn commands<'a>(alloc: Global) -> Result<Command<'a>, AllocError>
     let sim = over_files(alloc, "sim", about_sim)?;
     let explain = explained(alloc)?;
     let draw = drawn(alloc)?;
+    let serve = served(alloc)?;
     Command::new(alloc, "fbr")
         .about("Proves bounds of function block applications before they run")
         .version(VERSION)
@@ -139,7 +199,8 @@ fn commands<'a>(alloc: Global) -> Result<Command<'a>, AllocError>
         .subcommand(check)?
         .subcommand(sim)?
         .subcommand(explain)?
-        .subcommand(draw)
+        .subcommand(draw)?
+        .subcommand(serve)
 }
 
 // The subcommand that the words name, with what they give to it.
@@ -149,8 +210,8 @@ fn entered<'a, 'b>(matches: &'b ArgMatches<'a>) -> Option<(&'a str, &'b ArgMatch
     matches.subcommand()
 }
 
-// The text that is given under a name.
-fn given<'a>(words: &ArgMatches<'a>, id: &str) -> Option<&'a str>
+/// The text that is given under a name.
+pub(crate) fn given<'a>(words: &ArgMatches<'a>, id: &str) -> Option<&'a str>
     ensures { option_map (λ text. text.now) result ≡ first_of id.now (rows_of (found_of words.now)) }
 {
     words.get_str(id)
@@ -304,7 +365,7 @@ fn run_telling<'a, S: Sources, W: Write>(
 }
 
 // The same of all words, where it is said well how often datagrams are delivered.
-fn run_rest<'a, S: Sources, W: Write, E: Write>(
+fn run_told<'a, S: Sources, W: Write, E: Write>(
     alloc: Global,
     files: &S,
     matches: &ArgMatches<'a>,
@@ -318,6 +379,63 @@ fn run_rest<'a, S: Sources, W: Write, E: Write>(
             run_telling(alloc, files, name, words, repeats, output)
         }
         _ => misused(UNCOUNTED, output, errors),
+    }
+}
+
+// Runs a device, where its numbers are said well.
+fn run_serve<'a, R: Clock + Net, S: Sources, W: Write, E: Write>(
+    rt: &R,
+    alloc: Global,
+    files: &S,
+    request: Option<Request<'a>>,
+    output: &mut W,
+    errors: &mut E,
+) -> io::Result<u8>
+    ensures serves { (q : program.Asked) → option_map asked_of request.entry ≡ Some q
+        → IfOk result (λ status. TellsServe q (S.contents files.now q.app) (S.contents files.now q.cert) (W.contents output.old) (W.contents output.new) status) }
+    ensures misnumbered { option_map asked_of request.entry ≡ None → IfOk result (λ status. TellsUsage (W.contents output.old) (W.contents output.new) status) }
+    ensures status { IfOk result (λ status. status ≤ 4) }
+{
+    match request {
+        Some(request) => serve_files(rt, alloc, files, &request, output),
+        None => misused(UNNUMBERED, output, errors),
+    }
+}
+
+// What `serve` is asked for, where it is the subcommand; nothing where a number of it is none.
+fn serve_asked<'a>(matches: &ArgMatches<'a>) -> Option<Option<Request<'a>>>
+    ensures { option_map (λ request. option_map asked_of request) result ≡ option_and_then program.serve_in (subcommand_rows_of matches.now) }
+{
+    match entered(matches) {
+        Some((name, words)) => {
+            if name == "serve" {
+                Some(request_in(words))
+            } else {
+                None
+            }
+        }
+        None => None,
+    }
+}
+
+// Runs a device, or explains, or draws.
+fn run_rest<'a, R: Clock + Net, S: Sources, W: Write, E: Write>(
+    rt: &R,
+    alloc: Global,
+    files: &S,
+    matches: &ArgMatches<'a>,
+    output: &mut W,
+    errors: &mut E,
+) -> io::Result<u8>
+    ensures serves { (q : program.Asked) → option_and_then program.serve_in (subcommand_rows_of matches.now) ≡ Some (Some q)
+        → IfOk result (λ status. TellsServe q (S.contents files.now q.app) (S.contents files.now q.cert) (W.contents output.old) (W.contents output.new) status) }
+    ensures misnumbered { option_and_then program.serve_in (subcommand_rows_of matches.now) ≡ Some None
+        → IfOk result (λ status. TellsUsage (W.contents output.old) (W.contents output.new) status) }
+    ensures status { IfOk result (λ status. status ≤ 4) }
+{
+    match serve_asked(matches) {
+        Some(request) => run_serve(rt, alloc, files, request, output, errors),
+        None => run_told(alloc, files, matches, output, errors),
     }
 }
 
@@ -341,7 +459,8 @@ fn refused<W: Write, E: Write>(error: &Error, output: &mut W, errors: &mut E) ->
 }
 
 // Runs the command that the words name.
-fn run_words<S: Sources, I: Read, W: Write, E: Write>(
+fn run_words<R: Clock + Net, S: Sources, I: Read, W: Write, E: Write>(
+    rt: &R,
     alloc: Global,
     words: &[&str],
     files: &S,
@@ -358,6 +477,10 @@ fn run_words<S: Sources, I: Read, W: Write, E: Write>(
     ensures usage { IsMisuse (map (λ word. word.now) words.now)
         → IfOk result (λ status. TellsUsage (W.contents output.old) (W.contents output.new) status) }
     ensures uncounted { (app : Text) → IsUncounted (map (λ word. word.now) words.now) app
+        → IfOk result (λ status. TellsUsage (W.contents output.old) (W.contents output.new) status) }
+    ensures serves { (q : program.Asked) → IsServe (map (λ word. word.now) words.now) q
+        → IfOk result (λ status. TellsServe q (S.contents files.now q.app) (S.contents files.now q.cert) (W.contents output.old) (W.contents output.new) status) }
+    ensures misnumbered { IsMisnumbered (map (λ word. word.now) words.now)
         → IfOk result (λ status. TellsUsage (W.contents output.old) (W.contents output.new) status) }
     ensures status { IfOk result (λ status. status ≤ 4) }
 {
@@ -376,7 +499,7 @@ fn run_words<S: Sources, I: Read, W: Write, E: Write>(
         Some((app, cert)) => check_files(alloc, files, app, cert, output),
         None => match files_named(&matches, "sim") {
             Some((app, cert)) => sim_files(alloc, files, app, cert, input, output),
-            None => run_rest(alloc, files, &matches, output, errors),
+            None => run_rest(rt, alloc, files, &matches, output, errors),
         },
     }
 }
@@ -385,10 +508,11 @@ fn run_words<S: Sources, I: Read, W: Write, E: Write>(
 /// 0 done, 1 the certificate does not fit or there is none, 2 a text or the words are at fault, 3 a file or the output failed, 4 memory ran out.
 ///
 /// Without words, `input` holds an application up to the first line that is exactly `====`, and then its certificate.
-/// With `bound` the certificate that is found is written. With `sim` `input` holds a script, whose answers are written one line each.
+/// With `bound` the certificate that is found is written. With `sim` `input` holds a script, whose answers are written one line each. With `serve` a device takes turns over
+/// UDP, and what its OUTPUTs write is written, one line each.
 /// Each fault is told by one line on `output`: `refused`, its code, and its place where there is one. With `explain` more is written behind that line,
 /// for people, and with `draw` a graph; what they write is not said here, nor what people are told on `errors`: why the words are at fault.
-pub fn command<R: AllocGlobal, S: Sources, I: Read, W: Write, E: Write>(
+pub fn command<R: AllocGlobal + Clock + Net, S: Sources, I: Read, W: Write, E: Write>(
     rt: &R,
     words: &[&str],
     files: &S,
@@ -411,13 +535,19 @@ pub fn command<R: AllocGlobal, S: Sources, I: Read, W: Write, E: Write>(
     // and that they are at fault where they are no words of the program, and ask for neither help nor the version,
     ensures usage { 2 ≤ length words.now → IsMisuse (map (λ word. word.now) words.now)
         → TellsUsage (W.contents output.old) (W.contents output.new) result ⊎ (result ≡ 3) }
-    // or where the number behind `--repeats` is none of 1 to 255.
+    // or where the number behind `--repeats` is none of 1 to 255;
     ensures uncounted { (app : Text) → 2 ≤ length words.now → IsUncounted (map (λ word. word.now) words.now) app
+        → TellsUsage (W.contents output.old) (W.contents output.new) result ⊎ (result ≡ 3) }
+    // with those that ask for turns of a device why there are none, or what these turns write, and their sums,
+    ensures serves { (q : program.Asked) → 2 ≤ length words.now → IsServe (map (λ word. word.now) words.now) q
+        → TellsServe q (S.contents files.now q.app) (S.contents files.now q.cert) (W.contents output.old) (W.contents output.new) result ⊎ (result ≡ 3) }
+    // or that the words are at fault where a number or a port there is none, or there are more than 64 peers.
+    ensures misnumbered { 2 ≤ length words.now → IsMisnumbered (map (λ word. word.now) words.now)
         → TellsUsage (W.contents output.old) (W.contents output.new) result ⊎ (result ≡ 3) }
 {
     let alloc = rt.alloc();
     if words.len() < 2 {
         return check_input(alloc, input, output).unwrap_or(3);
     }
-    run_words(alloc, words, files, input, output, errors).unwrap_or(3)
+    run_words(rt, alloc, words, files, input, output, errors).unwrap_or(3)
 }

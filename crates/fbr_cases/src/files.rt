@@ -2,7 +2,7 @@
 
 use crate::programs::commands;
 use crate::tally::Tally;
-use fbr_cases_device::{datagrams, devices};
+use fbr_cases_device::{datagrams, devices, links, turns};
 use fbr_cases_language::{Case, answer};
 use std::alloc::AllocError;
 use std::{fs, io};
@@ -44,6 +44,8 @@ fn run_case(
         "commands" => commands(rt, case)?,
         "datagrams" => datagrams(rt.alloc(), case)?,
         "devices" => devices(rt.alloc(), case)?,
+        "links" => links(rt, rt.alloc(), case)?,
+        "turns" => turns(rt.alloc(), case)?,
         _ => answer(rt.alloc(), kind, case)?,
     };
     let same = answered.as_str() == stored;

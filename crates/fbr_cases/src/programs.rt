@@ -4,6 +4,8 @@ use fbr::{ReadFault, Sources, command};
 use fbr_cases_language::{Case, ended};
 use std::alloc::{AllocError, Global};
 use std::io;
+use std::net::Net;
+use std::rt::Clock;
 
 // The bytes of a text. The character that a section `byte 255` holds stands for that byte.
 fn bytes(alloc: Global, case: &Case<'_>, text: &str) -> Result<Vec<u8>, AllocError> {
@@ -65,7 +67,10 @@ impl io::Write for Output {
 
 /// The status of a command and what it prints, on standard error behind what it prints on standard output: its words stand in the section `words`, its standard input in `input`, its files in
 /// a section `file NAME` each, and in `room`, where it is given, how many bytes its output takes before it fails.
-pub fn commands<R: AllocGlobal>(rt: &R, case: &Case<'_>) -> Result<String, AllocError> {
+pub fn commands<R: AllocGlobal + Clock + Net>(
+    rt: &R,
+    case: &Case<'_>,
+) -> Result<String, AllocError> {
     let alloc = rt.alloc();
     let mut words = Vec::new(alloc);
     words.push("fbr")?;

@@ -21,7 +21,7 @@ fn numbers(alloc: Global, text: &str) -> Result<Vec<i64>, AllocError> {
 }
 
 // The bytes of hexadecimal digits; none where these are none.
-fn bytes(alloc: Global, digits: &str) -> Result<Vec<u8>, AllocError> {
+pub(crate) fn bytes(alloc: Global, digits: &str) -> Result<Vec<u8>, AllocError> {
     match hex::decode(alloc, digits.replace(alloc, " ", "")?.as_str()) {
         Ok(bytes) => Ok(bytes),
         Err(_) => Ok(Vec::new(alloc)),
@@ -34,7 +34,7 @@ fn small(word: &str) -> u16 {
 }
 
 // The first word of a line, and what stands behind it.
-fn halves(line: &str) -> (&str, &str) {
+pub(crate) fn halves(line: &str) -> (&str, &str) {
     line.split_once(' ').unwrap_or((line, ""))
 }
 
@@ -134,7 +134,7 @@ fn taken(
 }
 
 // What a device answers to lines.
-fn played(
+pub(crate) fn played(
     alloc: Global,
     out: &mut String,
     device: &mut Device,
@@ -166,15 +166,20 @@ fn rounds(
     Ok(ended(out))
 }
 
-// A device that begins with the first cause, the boot and the sequence number of the section `boot`.
-fn loaded(alloc: Global, case: &Case<'_>, text: &str) -> Result<Ready, Refusal> {
+// The device of a name, which begins with the first cause, the boot and the sequence number of the section `boot`.
+pub(crate) fn loaded(
+    alloc: Global,
+    case: &Case<'_>,
+    text: &str,
+    name: &str,
+) -> Result<Ready, Refusal> {
     let (first, rest) = halves(case.given("boot").unwrap_or("1 0 1"));
     let (boot, next) = halves(rest);
     load_boot(
         alloc,
         text,
         case.text("certificate"),
-        case.text("device"),
+        name,
         first.parse::<u64>().unwrap_or(1),
         boot.parse::<u32>().unwrap_or(0),
         next.parse::<u32>().unwrap_or(1),
@@ -186,7 +191,7 @@ pub fn devices(alloc: Global, case: &Case<'_>) -> Result<String, AllocError> {
     let text = text_of(alloc, case)?;
     let (times, lines) = case.text("rounds").split_once('\n').unwrap_or(("0", ""));
     let times = times.parse::<u32>().unwrap_or(0);
-    match loaded(alloc, case, text.as_str()) {
+    match loaded(alloc, case, text.as_str(), case.text("device")) {
         Ok(ready) => {
             let mut device = ready.start();
             let answer = rounds(alloc, &mut device, times, lines, case.text("calls"));

@@ -4,6 +4,10 @@
 
 mod datagram;
 mod device;
+mod link;
+mod turn;
 
 pub use datagram::datagrams;
 pub use device::devices;
+pub use link::links;
+pub use turn::turns;

@@ -25,8 +25,12 @@ fn tell_waiting(rt: &HostRuntime, words: &[&str]) -> io::Result<()> {
             Some(_) => {}
         }
     }
-    if word == Some("bound") && rt.stderr().is_terminal() {
-        eprintln!(rt; "fbr: looking for the least certificate")?;
+    if rt.stderr().is_terminal() {
+        match word {
+            Some("bound") => eprintln!(rt; "fbr: looking for the least certificate")?,
+            Some("serve") => eprintln!(rt; "fbr: the device runs to its last turn")?,
+            _ => {}
+        }
     }
     Ok(())
 }
@@ -47,7 +51,7 @@ fn outcome(status: u8, flushed: io::Result<()>) -> u8
 fn tell_failure(rt: &HostRuntime, status: u8) -> io::Result<()> {
     if status == 3 {
         let why =
-            "fbr: a file could not be read, or the output failed; `fbr --help` lists the commands";
+            "fbr: a file could not be read, a port could not be used, or the output failed; `fbr --help` lists the commands";
         eprintln!(rt; "{why}")?;
     }
     Ok(())

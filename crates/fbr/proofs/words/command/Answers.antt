@@ -1,6 +1,7 @@
 use Rattle.fbr.specs.Outcomes.{TellsFiles}
 use Rattle.fbr.specs.Simulation.{TellsSim}
 use Rattle.fbr.specs.Bounding.{TellsBound}
+use Rattle.fbr.specs.Serving.{TellsServe}
 use Rattle.fbr.proofs.Taken.{or_three}
 use Rattle.fbr.proofs.words.command.Goals as goal
 
@@ -21,3 +22,9 @@ returns-clause-bounds g c = λ repeats app two is.
     or_three c.run_words.result c.unwrap_or-2.result
     (λ status. TellsBound repeats app (g.S.Sources.contents c.args.files.now app) (g.W.Write.contents c.args.output.now) (g.W.Write.contents c.run_words.new.output) status)
     c.unwrap_or-2.ensures (c.run_words.ensures.bounds repeats app is)
+
+pub returns-clause-serves : goal.returns-clause-serves
+returns-clause-serves g c = λ q two is.
+    or_three c.run_words.result c.unwrap_or-2.result
+    (λ status. TellsServe q (g.S.Sources.contents c.args.files.now q.app) (g.S.Sources.contents c.args.files.now q.cert) (g.W.Write.contents c.args.output.now) (g.W.Write.contents c.run_words.new.output) status)
+    c.unwrap_or-2.ensures (c.run_words.ensures.serves q is)

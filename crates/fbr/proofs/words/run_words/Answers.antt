@@ -1,15 +1,17 @@
 use Rattle.std.proofs.Common.{codes, ◌≡◌, ◌∙◌, refl, sym, ap, subst, map, List, None, Some, IfOk}
 use Rattle.std.specs.Prelude.{option_map, option_and_then}
 use Rattle.clap.specs.Words.{Text, HasKind, app_of, fault_of, first_of, subcommand_of}
-use Rattle.fbr.specs.Program.{program, file_of, file_in, files_of, files_in, both, repeats_of}
+use Rattle.fbr.specs.Program.{program, file_of, file_in, files_of, files_in, both, repeats_of, Asked, asked_in, serve_in}
 use Rattle.fbr.specs.Outcomes.{TellsFiles}
 use Rattle.fbr.specs.Simulation.{TellsSim}
 use Rattle.fbr.specs.Bounding.{TellsBound}
+use Rattle.fbr.specs.Serving.{TellsServe}
 use Rattle.fbr.proofs.Entered.{rows_taken, apart, memory_usage, unwrap_or_nil, unwrap_or_nils, no_some}
 use Rattle.fbr.proofs.Taken.{free_app, taken_memory, no_help, no_version, no_misuse, memory_told}
 use Rattle.fbr.specs.declared.fault.Fault.TheVariants.{Memory}
 use Rattle.fbr.proofs.Simulated as simulated
 use Rattle.fbr.proofs.Bounded.{unread_told}
+use Rattle.fbr.proofs.Loaded.{memory_served}
 use Rattle.fbr.proofs.words.run_words.Goals as goal
 
 pub returns-in-Err-clause-checks : goal.returns-in-Err-clause-checks
@@ -222,3 +224,89 @@ returns-clause-uncounted g c = λ app is.
     let rows = rows_taken _ program_is words c.in-Ok-try_get_matches_from.matches c.in-Ok-try_get_matches_from.ensures.matches in
     let none : None ≡ file_of (codes "bound") words = ap (option_map (λ file. file.now)) (sym c.in_default.is) ∙ c.file_named.ensures ∙ ap (option_and_then (file_in (codes "bound"))) rows in
     absurd (no_some _ (none ∙ is.file_is))
+
+pub returns-in-Err-clause-serves : goal.returns-in-Err-clause-serves
+returns-in-Err-clause-serves g c = λ q is.
+    memory_served q (g.S.Sources.contents c.args.files.now q.app) (g.S.Sources.contents c.args.files.now q.cert) (g.W.Write.contents c.args.output.now) (g.W.Write.contents c.print_outcome.new.output) c.print_outcome.result c.print_outcome.ensures.told
+
+pub returns-in-Err-clause-misnumbered : goal.returns-in-Err-clause-misnumbered
+returns-in-Err-clause-misnumbered g c = λ is. memory_usage _ _ _ c.print_outcome.ensures.told
+
+pub returns-in-Err-try_get_matches_from-clause-serves : goal.returns-in-Err-try_get_matches_from-clause-serves
+returns-in-Err-try_get_matches_from-clause-serves g c = λ q is.
+    let words : List Text = map (λ word. word.now) c.args.words.now in
+    let error = c.in-Err-try_get_matches_from.error in
+    let program_is : app_of c.in-Ok.command ≡ program = c.in-Ok.ensures in
+    let kinds : HasKind (fault_of program words) error = subst (λ a. HasKind (fault_of a words) error) program_is (c.in-Err-try_get_matches_from.ensures.kinds (free_app _ program_is)) in
+    memory_served q (g.S.Sources.contents c.args.files.now q.app) (g.S.Sources.contents c.args.files.now q.cert) (g.W.Write.contents c.args.output.now) (g.W.Write.contents c.refused.new.output) c.refused.result
+    (c.refused.ensures.memory (taken_memory words is.taken error kinds))
+
+pub returns-in-Err-try_get_matches_from-clause-misnumbered : goal.returns-in-Err-try_get_matches_from-clause-misnumbered
+returns-in-Err-try_get_matches_from-clause-misnumbered g c = λ is.
+    let words : List Text = map (λ word. word.now) c.args.words.now in
+    let error = c.in-Err-try_get_matches_from.error in
+    let program_is : app_of c.in-Ok.command ≡ program = c.in-Ok.ensures in
+    let kinds : HasKind (fault_of program words) error = subst (λ a. HasKind (fault_of a words) error) program_is (c.in-Err-try_get_matches_from.ensures.kinds (free_app _ program_is)) in
+    memory_usage _ _ _ (c.refused.ensures.memory (taken_memory words is.taken error kinds))
+
+pub returns-in-Some-clause-serves : goal.returns-in-Some-clause-serves
+returns-in-Some-clause-serves g c = λ q is.
+    let words : List Text = map (λ word. word.now) c.args.words.now in
+    let program_is : app_of c.in-Ok.command ≡ program = c.in-Ok.ensures in
+    let rows = rows_taken _ program_is words c.in-Ok-try_get_matches_from.matches c.in-Ok-try_get_matches_from.ensures.matches in
+    let here : Some c.in-Some.app.now ≡ file_of (codes "bound") words = c.in-Some.ensures ∙ ap (option_and_then (file_in (codes "bound"))) rows in
+    absurd (apart (codes "bound") (codes "serve") refl refl (first_of (codes "APP")) (λ r. Some (asked_in r)) (subcommand_of program words) _ _ (sym here) is.asked)
+
+pub returns-in-Some-clause-misnumbered : goal.returns-in-Some-clause-misnumbered
+returns-in-Some-clause-misnumbered g c = λ is.
+    let words : List Text = map (λ word. word.now) c.args.words.now in
+    let program_is : app_of c.in-Ok.command ≡ program = c.in-Ok.ensures in
+    let rows = rows_taken _ program_is words c.in-Ok-try_get_matches_from.matches c.in-Ok-try_get_matches_from.ensures.matches in
+    let here : Some c.in-Some.app.now ≡ file_of (codes "bound") words = c.in-Some.ensures ∙ ap (option_and_then (file_in (codes "bound"))) rows in
+    absurd (apart (codes "bound") (codes "serve") refl refl (first_of (codes "APP")) (λ r. Some (asked_in r)) (subcommand_of program words) _ _ (sym here) is.none)
+
+pub returns-in-Some-files_named-clause-serves : goal.returns-in-Some-files_named-clause-serves
+returns-in-Some-files_named-clause-serves g c = λ q is.
+    let words : List Text = map (λ word. word.now) c.args.words.now in
+    let program_is : app_of c.in-Ok.command ≡ program = c.in-Ok.ensures in
+    let rows = rows_taken _ program_is words c.in-Ok-try_get_matches_from.matches c.in-Ok-try_get_matches_from.ensures.matches in
+    let here : Some (c.in-Some-files_named.app.now, c.in-Some-files_named.cert.now) ≡ files_of (codes "check") words = c.in-Some-files_named.ensures ∙ ap (option_and_then (files_in (codes "check"))) rows in
+    absurd (apart (codes "check") (codes "serve") refl refl (λ r. both (first_of (codes "APP") r) (first_of (codes "CERT") r)) (λ r. Some (asked_in r)) (subcommand_of program words) _ _ (sym here) is.asked)
+
+pub returns-in-Some-files_named-clause-misnumbered : goal.returns-in-Some-files_named-clause-misnumbered
+returns-in-Some-files_named-clause-misnumbered g c = λ is.
+    let words : List Text = map (λ word. word.now) c.args.words.now in
+    let program_is : app_of c.in-Ok.command ≡ program = c.in-Ok.ensures in
+    let rows = rows_taken _ program_is words c.in-Ok-try_get_matches_from.matches c.in-Ok-try_get_matches_from.ensures.matches in
+    let here : Some (c.in-Some-files_named.app.now, c.in-Some-files_named.cert.now) ≡ files_of (codes "check") words = c.in-Some-files_named.ensures ∙ ap (option_and_then (files_in (codes "check"))) rows in
+    absurd (apart (codes "check") (codes "serve") refl refl (λ r. both (first_of (codes "APP") r) (first_of (codes "CERT") r)) (λ r. Some (asked_in r)) (subcommand_of program words) _ _ (sym here) is.none)
+
+pub returns-in-Some-files_named-2-clause-serves : goal.returns-in-Some-files_named-2-clause-serves
+returns-in-Some-files_named-2-clause-serves g c = λ q is.
+    let words : List Text = map (λ word. word.now) c.args.words.now in
+    let program_is : app_of c.in-Ok.command ≡ program = c.in-Ok.ensures in
+    let rows = rows_taken _ program_is words c.in-Ok-try_get_matches_from.matches c.in-Ok-try_get_matches_from.ensures.matches in
+    let here : Some (c.in-Some-files_named-2.app.now, c.in-Some-files_named-2.cert.now) ≡ files_of (codes "sim") words = c.in-Some-files_named-2.ensures ∙ ap (option_and_then (files_in (codes "sim"))) rows in
+    absurd (apart (codes "sim") (codes "serve") refl refl (λ r. both (first_of (codes "APP") r) (first_of (codes "CERT") r)) (λ r. Some (asked_in r)) (subcommand_of program words) _ _ (sym here) is.asked)
+
+pub returns-in-Some-files_named-2-clause-misnumbered : goal.returns-in-Some-files_named-2-clause-misnumbered
+returns-in-Some-files_named-2-clause-misnumbered g c = λ is.
+    let words : List Text = map (λ word. word.now) c.args.words.now in
+    let program_is : app_of c.in-Ok.command ≡ program = c.in-Ok.ensures in
+    let rows = rows_taken _ program_is words c.in-Ok-try_get_matches_from.matches c.in-Ok-try_get_matches_from.ensures.matches in
+    let here : Some (c.in-Some-files_named-2.app.now, c.in-Some-files_named-2.cert.now) ≡ files_of (codes "sim") words = c.in-Some-files_named-2.ensures ∙ ap (option_and_then (files_in (codes "sim"))) rows in
+    absurd (apart (codes "sim") (codes "serve") refl refl (λ r. both (first_of (codes "APP") r) (first_of (codes "CERT") r)) (λ r. Some (asked_in r)) (subcommand_of program words) _ _ (sym here) is.none)
+
+pub returns-clause-serves : goal.returns-clause-serves
+returns-clause-serves g c = λ q is.
+    let words : List Text = map (λ word. word.now) c.args.words.now in
+    let program_is : app_of c.in-Ok.command ≡ program = c.in-Ok.ensures in
+    let rows = rows_taken _ program_is words c.in-Ok-try_get_matches_from.matches c.in-Ok-try_get_matches_from.ensures.matches in
+    c.run_rest.ensures.serves q (ap (option_and_then serve_in) rows ∙ is.asked)
+
+pub returns-clause-misnumbered : goal.returns-clause-misnumbered
+returns-clause-misnumbered g c = λ is.
+    let words : List Text = map (λ word. word.now) c.args.words.now in
+    let program_is : app_of c.in-Ok.command ≡ program = c.in-Ok.ensures in
+    let rows = rows_taken _ program_is words c.in-Ok-try_get_matches_from.matches c.in-Ok-try_get_matches_from.ensures.matches in
+    c.run_rest.ensures.misnumbered (ap (option_and_then serve_in) rows ∙ is.none)
