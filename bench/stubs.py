@@ -200,9 +200,10 @@ def write_crate(one, other, is_real, lemmas):
         shutil.copytree(one, other, dirs_exist_ok=True, ignore=lambda at, names: ["out"] if at == one else [])
         return
     roots = ("src/lib.rt", "src/main.rt")
-    for file in files_below(f"{one}/src"):
-        text = read(f"{one}/src/{file}")
-        if "#[test]" not in text or f"src/{file}" in roots:
+    texts = {file: read(f"{one}/src/{file}") for file in files_below(f"{one}/src")}
+    for_tests = {it[1] for text in texts.values() for it in re.finditer(r"#\[cfg\(test\)\]\s*(?:pub )?mod (\w+);", text)}
+    for file, text in texts.items():
+        if os.path.basename(file).removesuffix(".rt") not in for_tests and "#[test]" not in text or f"src/{file}" in roots:
             text = assumed(MARKS.sub("", text))
             write(f"{other}/src/{file}", with_module(text) if f"src/{file}" in roots else text)
     write(f"{other}/src/{ASSUMED}.rt", MODULE)
