@@ -129,7 +129,7 @@ fn taken(
         Step::Tick(now) => Answer::Fired(device.tick(now)),
         Step::Dispatch(number) => Answer::Served(device.dispatch(number)),
     };
-    writeln!(out, "{}", tell(device, &answer, 1))?;
+    writeln!(out, "{}", tell(device, &answer, Some(1)))?;
     sent(alloc, out, &answer)
 }
 
