@@ -1,4 +1,4 @@
-// A loop over a UDP socket as one would write it by hand for examples/button_and_cell.fb's kind of device: a button that is offered by datagrams, and a lamp that writes.
+// A loop over a UDP socket as one would write it by hand for the one device that bench/serving.py measures: a button that is offered by datagrams, and a lamp that writes.
 // It makes the same calls of its socket as `fbr serve`: up to 16 receives a turn, and a wait of 5 ms at most after a turn in which nothing happened.
 //
 //   serving PORT TURNS              takes turns, and prints what came
