@@ -44,4 +44,5 @@ def main():
     print(f"plain loop: {loop:.4f} s, {million / loop:.1f} million dispatches a second, {steps.decode().strip()} steps")
 
 
-main()
+if __name__ == "__main__":
+    main()

@@ -5,9 +5,10 @@ Each folder of examples/ is one file of cases below crates/fbr_cases/data/comman
 written anew. Texts shown in docs/LANGUAGE.md have to stand in an example or a case, line for line, but for how far lines are indented. With PROGRAM (such as out/fbr) the commands that the pages of the plants show
 are run in their folders, as `$ fbr ..`, and have to print what the pages say.
 
-What a case answers comes from the files beside a plant, and these from the rules of the language: NAME.cert is what `fbr bound NAME.fb` prints, NAME.out what `fbr sim` prints for NAME.script (for no
-lines where there is no script). Of a wrong plant NAME.out is its refusal by `fbr bound`, or NAME.cert its certificate where each device by itself has one, with NAME.repeats.out its
-refusal by `fbr bound --repeats 2` and mended.repeats.cert what that prints of the mended one; mended.out is what `fbr check NAME.fb mended.cert` prints."""
+What a case answers comes from the files beside a plant, and these from the rules of the language: NAME.cert is what `fbr bound NAME.fb` prints, NAME.out what `fbr sim` prints for NAME.script.
+Of a wrong plant NAME.out is its refusal by `fbr bound`, or NAME.cert its certificate where each device by itself has one, with NAME.repeats.out its
+refusal by `fbr bound --repeats 2` and mended.repeats.cert what that prints of the mended one; mended.out is what `fbr check NAME.fb mended.cert` prints; where it runs, NAME.script.out is what `fbr sim` prints for NAME.script
+under NAME.cert, and mended.script.out what it prints of the mended one for mended.script under mended.repeats.cert."""
 import pathlib
 import re
 import subprocess
@@ -50,13 +51,10 @@ def plant(folder):
     """The cases of a plant: its certificate is found and accepted, and it runs."""
     name = folder.name
     app, cert, script, out = (folder / f"{name}.{it}" for it in ("fb", "cert", "script", "out"))
-    cases = Cases(f"The plant examples/{name}: its certificate is found, is accepted, and the device runs its script.")
+    cases = Cases(f"The plant examples/{name}: its certificate is found, is accepted, and its script runs.")
     cases.add("its certificate is found", f"bound {app.name}", cert.read_text(), [app])
     cases.add("it is accepted", f"check {app.name} {cert.name}", "accepted\n", [app, cert])
-    if script.exists():
-        cases.add("it runs", f"sim {app.name} {cert.name}", out.read_text(), [app, cert], script.read_text())
-    else:
-        cases.add("it does not run so far", f"sim {app.name} {cert.name}", out.read_text(), [app, cert], "")
+    cases.add("it runs", f"sim {app.name} {cert.name}", out.read_text(), [app, cert], script.read_text())
     return cases.text
 
 
@@ -79,6 +77,10 @@ def wrong(folder):
         cases.add("the certificate of the mended one does not fit", f"check {app.name} {cert.name}", (folder / "mended.out").read_text(), [app, cert])
     cases.add("it is mended", f"bound {mended.name}", cert.read_text(), [mended])
     cases.add("the mended one is accepted", f"check {mended.name} {cert.name}", "accepted\n", [mended, cert])
+    for label, text, rows in [("it runs", app, found), ("the mended one runs", mended, folder / "mended.repeats.cert")]:
+        script = text.with_suffix(".script")
+        if script.exists():
+            cases.add(label, f"sim {text.name} {rows.name}", text.with_suffix(".script.out").read_text(), [text, rows], script.read_text())
     return cases.text
 
 

@@ -1,4 +1,4 @@
 pub mod Numbers
 pub mod Names
-pub mod Sending
+pub mod Commands
 pub mod Lines

@@ -10,6 +10,8 @@ pub data Command : Type 0 where
   Deliver : (number : ℕ) (device : List ℕ) → Command
   Tick : (device : List ℕ) (now : ℕ) → Command
   Dispatch : (device resource : List ℕ) → Command
+  -- the steps of a root so far
+  Root : (number : ℕ) → Command
 
 -- ---- numbers
 
@@ -60,6 +62,10 @@ abbrev pub ticked : List ℕ → Option ℕ → Option Command
 ticked device (Some now) = Some (Tick device now)
 ticked device None = None
 
+abbrev pub rooted : Option ℕ → Option Command
+rooted (Some number) = Some (Root number)
+rooted None = None
+
 -- `offer DEVICE NUMBER VALUES`, `deliver NUMBER DEVICE`, `tick DEVICE NOW`, and `dispatch DEVICE RESOURCE`
 abbrev pub command_by : List ℕ → List ℕ → List ℕ → List (List ℕ) → Option Command
 command_by word second third rest =
@@ -68,7 +74,8 @@ command_by word second third rest =
     else (if bytes_eq word (codes "tick") && length rest == 0 then ticked second (wide_number_in third)
     else (if bytes_eq word (codes "dispatch") && length rest == 0 then Some (Dispatch second third) else None)))
 
--- the command that the words of a line are
+-- the command that the words of a line are; two words are `root NUMBER`
 abbrev pub command_in : List (List ℕ) → Option Command
+command_in (word ∷ second ∷ []) = if bytes_eq word (codes "root") then rooted (wide_number_in second) else None
 command_in (word ∷ second ∷ third ∷ rest) = command_by word second third rest
 command_in ws = None

@@ -6,11 +6,12 @@ use Rattle.std.specs.List.{join_with_byte}
 use Rattle.fb_model.specs.Names.{Place}
 use Rattle.fb_model.specs.Serving.{Effect, Write, Send}
 use Rattle.fb_model.specs.Devices.{Ended as End, Denial, UnknownInput, BadCount, BadValue, NoCredit, Spent, NotAMessage, NoSubscriber, Shape, NotReady, Stale, Answer, Admitted, Denied, Expired, Idle, Ran}
+use Rattle.fb_model.specs.World.{RootSteps}
 use Rattle.fb_model.specs.Fields.{Fault, Short, Magic, Version, Kind, Count, TypeCode, Value, Trailing}
 use Rattle.fb_wire.specs.Faults.{line_of}
-use Rattle.fb_device.specs.fb_device_arrivals.declared.denied.Denied.{Denied as RustDenied}
-use Rattle.fb_device.specs.fb_device_arrivals.declared.denied.Denied.TheVariants as d
-use Rattle.fb_device.specs.fb_device_dispatch.declared.answer.Ended.{Ended}
+use Rattle.fb_world.specs.fb_device.fb_device_arrivals.declared.denied.Denied.{Denied as RustDenied}
+use Rattle.fb_world.specs.fb_device.fb_device_arrivals.declared.denied.Denied.TheVariants as d
+use Rattle.fb_world.specs.fb_device.fb_device_dispatch.declared.answer.Ended.{Ended}
 use Rattle.fb_chart.specs.declared.standing.Effect.{Effect as Outside}
 use Rattle.fb_chart.specs.declared.standing.Effect.TheVariants as outside
 use Rattle.fb_script.specs.declared.told.Told.{Told}
@@ -54,24 +55,38 @@ values_text values = flat_map (λ v. codes " " ++ signed_decimal v) values
 abbrev pub write_text : ℕ → List ℤ → List ℕ
 write_text number values = codes "write " ++ decimal number ++ values_text values
 
--- what a service has done; what is sent has a number
-abbrev pub effect_text : ℕ → Option Effect → List ℕ
-effect_text send None = []
-effect_text send (Some (Write number values)) = codes " " ++ write_text number values
-effect_text send (Some (Send message)) = codes " send " ++ decimal send
+-- the number of a datagram that was sent
+abbrev pub sent_text : Option ℕ → List ℕ
+sent_text None = []
+sent_text (Some number) = codes " send " ++ decimal number
+
+-- what a service has done; what it sent has a number
+abbrev pub effect_text : Option ℕ → Option Effect → List ℕ
+effect_text sent None = []
+effect_text sent (Some (Write number values)) = codes " " ++ write_text number values
+effect_text sent (Some (Send message)) = sent_text sent
 
 -- a cause that has ended: its total, and the bound on it
 abbrev pub end_text : Option End → List ℕ
 end_text None = []
 end_text (Some e) = codes " ended " ++ decimal e.cause ++ codes " " ++ decimal e.total ++ codes " of " ++ decimal e.bound
 
--- an answer, where the next send has this number
-abbrev pub answer_text : ℕ → Answer → List ℕ
-answer_text send (Admitted cause) = codes "cause " ++ decimal cause
-answer_text send (Denied why) = codes "denied " ++ denial_text why
-answer_text send (Expired count) = codes "fired " ++ decimal count
-answer_text send Idle = codes "idle"
-answer_text send (Ran cause place steps effect ended) = codes "ran " ++ place_text place ++ codes " steps " ++ decimal steps ++ effect_text send effect ++ end_text ended
+-- an answer, where the datagram that was sent has this number
+abbrev pub answer_text : Option ℕ → Answer → List ℕ
+answer_text sent (Admitted cause) = codes "cause " ++ decimal cause
+answer_text sent (Denied why) = codes "denied " ++ denial_text why
+answer_text sent (Expired count) = codes "fired " ++ decimal count
+answer_text sent Idle = codes "idle"
+answer_text sent (Ran cause place steps effect ended) = codes "ran " ++ place_text place ++ codes " steps " ++ decimal steps ++ effect_text sent effect ++ end_text ended
+
+-- the FAR of a root, where there is one
+abbrev pub far_text : Option ℕ → List ℕ
+far_text None = []
+far_text (Some far) = codes " of " ++ decimal far
+
+-- the steps of a root of this number
+abbrev pub root_text : ℕ → RootSteps → List ℕ
+root_text number told = codes "root " ++ decimal number ++ codes " steps " ++ decimal told.steps ++ far_text told.far
 
 -- ---- answers of the program
 
@@ -91,17 +106,18 @@ abbrev pub ended_text : Option Ended → List ℕ
 ended_text None = []
 ended_text (Some e) = codes " ended " ++ decimal e.cause ++ codes " " ++ decimal e.total ++ codes " of " ++ decimal e.bound
 
-abbrev pub outside_text : ℕ → Outside → List ℕ
-outside_text send (outside.Send message) = codes " send " ++ decimal send
-outside_text send (outside.Write number values) = codes " " ++ write_text number values.items
+abbrev pub outside_text : Option ℕ → Outside → List ℕ
+outside_text sent (outside.Send message) = sent_text sent
+outside_text sent (outside.Write number values) = codes " " ++ write_text number values.items
 
-abbrev pub done_text : Option (Bor Outside) → ℕ → List ℕ
-done_text None send = []
-done_text (Some e) send = outside_text send e.now
+abbrev pub done_text : Option (Bor Outside) → Option ℕ → List ℕ
+done_text None sent = []
+done_text (Some e) sent = outside_text sent e.now
 
 abbrev pub told_text : Told → List ℕ
 told_text (told.Admitted cause) = codes "cause " ++ decimal cause
 told_text (told.Denied why) = codes "denied " ++ why_text why
 told_text (told.Fired count) = codes "fired " ++ decimal count
 told_text told.Idle = codes "idle"
-told_text (told.Ran cause path event steps effect send ended) = codes "ran " ++ (path.now ++ codes "." ++ event.now) ++ codes " steps " ++ decimal steps ++ done_text effect send ++ ended_text ended
+told_text (told.Ran cause path event steps effect sent ended) = codes "ran " ++ (path.now ++ codes "." ++ event.now) ++ codes " steps " ++ decimal steps ++ done_text effect sent ++ ended_text ended
+told_text (told.Root number steps far) = root_text number (record { steps = steps; far = far })

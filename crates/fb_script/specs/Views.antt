@@ -2,18 +2,10 @@
 use Rattle.std.specs.Prelude.{◌≡◌, ◌≢◌, ℕ, List, [], map, Option, Some, None, Result, Ok, Err, ℤ, Vec}
 use Rattle.std.specs.declared.alloc.Global.{Global}
 use denote.Ref.{Bor}
-use Rattle.arrayvec.specs.ArrayVec.{ArrayVec}
 use Rattle.fb_script.specs.Lines.{Command, command_in, values_in}
-use Rattle.fb_model.specs.Devices.{Event}
-use Rattle.fb_model.specs.Wires.{leaves}
-use Rattle.fb_device.specs.fb_device_state.Sessions.{Session}
-use Rattle.fb_device.specs.fb_device_state.Machines.{device_in, cert_in, machine_of}
-use Rattle.fb_device.specs.Answers.{answer_of}
-use Rattle.fb_device.specs.declared.answer.Answer.{Answer}
-use Rattle.fb_script.specs.Playing.{Asks, Plays}
 use Rattle.fb_script.specs.Lines as book
 use Rattle.fb_script.specs.declared.line.Line.{Line}
-use Rattle.fb_script.specs.declared.line.Line.TheVariants.{Offer, Deliver, Tick, Dispatch}
+use Rattle.fb_script.specs.declared.line.Line.TheVariants.{Offer, Deliver, Tick, Dispatch, Root}
 use Rattle.fb_script.specs.declared.line.LineFault.{LineFault}
 use Rattle.fb_script.specs.declared.line.LineFault.TheVariants.{OutOfMemory, Form}
 
@@ -25,10 +17,7 @@ command_of (Offer device number values) = book.Offer device.now number values.it
 command_of (Deliver number device) = book.Deliver number device.now
 command_of (Tick device now) = book.Tick device.now now
 command_of (Dispatch device resource) = book.Dispatch device.now resource.now
-
--- the bytes of datagrams
-abbrev pub bytes_of : List (ArrayVec ℕ) → List (List ℕ)
-bytes_of ds = map (λ d. d.items) ds
+command_of (Root number) = book.Root number
 
 -- each of the words is a value, or one is none
 abbrev pub AreValues : List (List ℕ) → Result (Vec ℤ Global) LineFault → Type 0
@@ -48,8 +37,3 @@ IsLine ws (Ok None) = ws ≡ []
 IsLine ws (Ok (Some line)) = command_in ws ≡ Some (command_of line)
 IsLine ws (Err Form) = (ws ≢ []) × (command_in ws ≡ None)
 IsLine ws (Err OutOfMemory) = Unit {0}
-
--- a command asks a device for nothing, or what it asks for happens
-abbrev pub IsPlayed : Session → List (List ℕ) → Command → Option Answer → Session → Type 0
-IsPlayed old sent command None new = ((event : Event) → Asks (device_in old) sent command event → ⊥) × (machine_of new ≡ machine_of old)
-IsPlayed old sent command (Some answer) new = Plays (cert_in old) (device_in old) sent command (machine_of old) (answer_of (leaves (device_in old)) answer) (machine_of new)

@@ -1,18 +1,17 @@
 //! Room: program. Scripts of `fbr sim`: a line an event, and the lines that answer.
-//! A line is read exactly as it is spelled, its answer is that of the book's event, and a script runs to its first bad line, which is told.
+//! A line is read exactly as it is spelled, its answer is that of the event in the book's world, and a script runs to its first bad line, which is told.
 #![tactic(auto)]
 
 mod line;
 mod number;
 mod playing;
 mod run;
-mod sent;
 mod told;
 
-pub use fb_device;
-pub use fb_wire::Datagram;
+pub use fb_world;
+pub use fb_world::fb_device;
 pub use line::{Line, LineFault, read_line};
 pub use number::{read_long_number, read_number};
-pub use playing::{play, tell};
+pub use playing::tell;
 pub use run::{End, simulate};
 pub use told::{Told, Written};

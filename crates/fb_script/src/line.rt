@@ -17,7 +17,7 @@ pub enum Line<'a> {
         number: u16,
         values: Vec<i64>,
     },
-    /// `deliver NUMBER DEVICE`: the datagram of a number, of those that were sent, comes to the device.
+    /// `deliver NUMBER DEVICE`: the datagram of a number, of those that all devices have sent, comes to the device.
     Deliver {
         number: u64,
         device: &'a str,
@@ -31,6 +31,10 @@ pub enum Line<'a> {
     Dispatch {
         device: &'a str,
         resource: &'a str,
+    },
+    /// `root NUMBER`: how many steps a root has taken so far.
+    Root {
+        number: u64,
     },
 }
 
@@ -134,6 +138,19 @@ fn read_tick<'a>(device: &'a str, now: &str) -> Result<Line<'a>, LineFault>
     }
 }
 
+// The command of two words.
+fn read_two<'a>(word: &str, second: &str) -> Result<Line<'a>, LineFault>
+    ensures { IsRead (word.now ∷ second.now ∷ []) result }
+{
+    if word != "root" {
+        return Err(LineFault::Form);
+    }
+    match read_wide_number(second) {
+        Some(number) => Ok(Line::Root { number }),
+        None => Err(LineFault::Form),
+    }
+}
+
 // The command of three words and more.
 fn read_by<'a>(
     alloc: Global,
@@ -167,6 +184,7 @@ fn read_words<'a>(alloc: Global, words: &[&'a str]) -> Result<Line<'a>, LineFaul
     ensures { IsRead (texts words.now) result }
 {
     match words {
+        [word, second] => read_two(word, second),
         [word, second, third, rest @ ..] => read_by(alloc, word, second, third, rest),
         _ => Err(LineFault::Form),
     }

@@ -1,108 +1,139 @@
-//! One line, and its answer.
+//! One line, and what comes of it.
 
-ghost use Rattle.std.specs.Prelude.{◌≡◌, IfSome, None, [], List, ℕ, ℤ};
-ghost use Rattle.fb_model.specs.Devices.{Event};
+ghost use Rattle.std.specs.Prelude.{◌≡◌, Some, MatchOption, slice_get};
+ghost use Rattle.fb_model.specs.System.{Device as book_device};
 ghost use Rattle.fb_model.specs.Wires.{leaves};
-ghost use Rattle.fb_device.specs.fb_verdict.Lookups.{is_same_path};
-ghost use Rattle.fb_device.specs.fb_device_state.Machines.{device_in, cert_in, machine_of};
-ghost use Rattle.fb_device.specs.Answers.{answer_of, HasPlace};
-ghost use Rattle.fb_device.specs.fb_device_dispatch.Answers.{dispatched_of, HasPoint};
-ghost use Rattle.fb_device.specs.fb_device_dispatch.declared.answer.Dispatched.TheVariants as dispatched;
+ghost use Rattle.fb_world.specs.fb_device.fb_device_state.Machines.{device_in};
+ghost use Rattle.fb_world.specs.fb_device.Answers.{answer_of, HasPlace, IsNumberOf, IsNoNumber};
+ghost use Rattle.fb_world.specs.fb_device.fb_device_dispatch.Answers.{dispatched_of, HasPoint};
+ghost use Rattle.fb_world.specs.fb_device.fb_device_dispatch.declared.answer.Dispatched.TheVariants as dispatched;
+ghost use Rattle.fb_world.specs.Answers.{event_of, device_of};
+ghost use Rattle.fb_world.specs.Scenes.{system_of};
 ghost use Rattle.fb_script.specs.Lines as book;
-ghost use Rattle.fb_script.specs.Views.{command_of, bytes_of, IsPlayed};
+ghost use Rattle.fb_script.specs.Views.{command_of};
+ghost use Rattle.fb_script.specs.Steps.{HasHappened, IsPlayed};
 ghost use Rattle.fb_script.specs.Texts.{told_text, answer_text};
 
 use crate::line::Line;
-use crate::sent::datagram_numbered;
 use crate::told::Told;
-use fb_device::{Answer, Device, Dispatched, Ran};
-use fb_wire::Datagram;
+use fb_world::fb_device::{Answer, Device, Dispatched, Ran};
+use fb_world::{RootSteps, World, WorldAnswer, WorldEvent};
 
-// Whether this is the device's name. Letter case has no meaning in it.
-fn is_named(device: &Device, name: &str) -> bool
-    ensures { result ≡ is_same_path (device_in device.now).name name.now }
-{
-    device.name().eq_ignore_ascii_case(name)
+/// What a line comes to in a world.
+#[derive(Drop)]
+pub enum Played {
+    /// An event has happened at the device of a number. This is its answer, with the number of the datagram that it sent.
+    Happened(u16, Answer, Option<u64>),
+    /// The steps of the root of a number.
+    Told(u64, RootSteps),
+    /// Its device, its resource, its datagram or its root is unknown. The world is as it was.
+    Unknown,
+    /// Memory ran out. The world is as it was.
+    OutOfMemory,
 }
 
-fn play_offer(device: &mut Device, name: &str, number: u16, values: &[i64]) -> Option<Answer>
-    ensures plays { IsPlayed device.old [] (book.Offer name.now number values.now) result device.new }
-    ensures place { IfSome result (HasPlace (leaves (device_in device.new))) }
-    ensures same { (device.new.verified ≡ device.old.verified) × (device.new.number ≡ device.old.number) }
+// An event happens.
+fn happen(world: &mut World, device: u16, event: WorldEvent) -> Played
+    requires { device_of event ≡ device }
+    ensures happens { HasHappened world.old device (event_of event) result world.new }
+    ensures same { world.new.verified ≡ world.old.verified }
 {
-    if !is_named(device, name) {
-        return None;
+    match world.step(&event) {
+        Ok(WorldAnswer::Answered(answer, sent)) => Played::Happened(device, answer, sent),
+        Ok(WorldAnswer::Unknown) => Played::Unknown,
+        Err(_) => Played::OutOfMemory,
     }
-    Some(Answer::Admitted(device.offer(number, values)))
 }
 
-fn play_deliver(device: &mut Device, sent: &[Datagram], number: u64, name: &str) -> Option<Answer>
-    ensures plays { IsPlayed device.old (bytes_of sent.now) (book.Deliver number name.now) result device.new }
-    ensures place { IfSome result (HasPlace (leaves (device_in device.new))) }
-    ensures same { (device.new.verified ≡ device.old.verified) × (device.new.number ≡ device.old.number) }
+fn play_offer(world: &mut World, name: &str, number: u16, values: Vec<i64>) -> Played
+    ensures plays { IsPlayed world.old (book.Offer name.now number values.items) result world.new }
+    ensures same { world.new.verified ≡ world.old.verified }
 {
-    if !is_named(device, name) {
-        return None;
+    match world.device(name) {
+        Some(device) => happen(world, device, WorldEvent::Offer(device, number, values)),
+        None => Played::Unknown,
     }
-    match datagram_numbered(sent, number) {
-        Some(bytes) => Some(Answer::Admitted(device.deliver(bytes))),
+}
+
+fn play_deliver(world: &mut World, number: u64, name: &str) -> Played
+    ensures plays { IsPlayed world.old (book.Deliver number name.now) result world.new }
+    ensures same { world.new.verified ≡ world.old.verified }
+{
+    match world.device(name) {
+        Some(device) => happen(world, device, WorldEvent::Deliver(number, device)),
+        None => Played::Unknown,
+    }
+}
+
+fn play_tick(world: &mut World, name: &str, now: u64) -> Played
+    ensures plays { IsPlayed world.old (book.Tick name.now now) result world.new }
+    ensures same { world.new.verified ≡ world.old.verified }
+{
+    match world.device(name) {
+        Some(device) => happen(world, device, WorldEvent::Tick(device, now)),
+        None => Played::Unknown,
+    }
+}
+
+// The number of a resource of the device of a number.
+fn resource_of(world: &World, device: u16, name: &str) -> Option<u16>
+    ensures { (d : book_device) → slice_get (system_of world.now).devices device ≡ Some d → MatchOption result (IsNoNumber d.resources name.now) (λ n. IsNumberOf d.resources name.now n) }
+{
+    match world.get(device) {
+        Some(device) => device.resource(name),
         None => None,
     }
 }
 
-fn play_tick(device: &mut Device, name: &str, now: u64) -> Option<Answer>
-    ensures plays { IsPlayed device.old [] (book.Tick name.now now) result device.new }
-    ensures place { IfSome result (HasPlace (leaves (device_in device.new))) }
-    ensures same { (device.new.verified ≡ device.old.verified) × (device.new.number ≡ device.old.number) }
+fn play_dispatch(world: &mut World, name: &str, resource: &str) -> Played
+    ensures plays { IsPlayed world.old (book.Dispatch name.now resource.now) result world.new }
+    ensures same { world.new.verified ≡ world.old.verified }
 {
-    if !is_named(device, name) {
-        return None;
-    }
-    Some(Answer::Fired(device.tick(now)))
-}
-
-fn play_dispatch(device: &mut Device, name: &str, resource: &str) -> Option<Answer>
-    ensures plays { IsPlayed device.old [] (book.Dispatch name.now resource.now) result device.new }
-    ensures place { IfSome result (HasPlace (leaves (device_in device.new))) }
-    ensures same { (device.new.verified ≡ device.old.verified) × (device.new.number ≡ device.old.number) }
-{
-    if !is_named(device, name) {
-        return None;
-    }
-    match device.resource(resource) {
-        Some(resource) => Some(Answer::Served(device.dispatch(resource))),
-        None => None,
+    let Some(device) = world.device(name) else {
+        return Played::Unknown;
+    };
+    match resource_of(world, device, resource) {
+        Some(resource) => happen(world, device, WorldEvent::Dispatch(device, resource)),
+        None => Played::Unknown,
     }
 }
 
-/// Runs a line on a device, where these datagrams were sent, and gives what the device answers. `None` where the line is for another device, for a
-/// resource that the device has not, or of a datagram that was not sent: the device is as it was then.
-pub fn play(device: &mut Device, sent: &[Datagram], line: &Line<'_>) -> Option<Answer>
-    ensures plays { IsPlayed device.old (bytes_of sent.now) (command_of line.now) result device.new }
-    ensures place { IfSome result (HasPlace (leaves (device_in device.new))) }
-    ensures same { (device.new.verified ≡ device.old.verified) × (device.new.number ≡ device.old.number) }
+fn play_root(world: &World, number: u64) -> Played
+    ensures { IsPlayed world.now (book.Root number) result world.now }
+{
+    match world.root(number) {
+        Some(told) => Played::Told(number, told),
+        None => Played::Unknown,
+    }
+}
+
+/// What a line comes to in a world.
+pub fn play(world: &mut World, line: Line<'_>) -> Played
+    ensures plays { IsPlayed world.old (command_of line.entry) result world.new }
+    ensures same { world.new.verified ≡ world.old.verified }
 {
     match line {
         Line::Offer {
             device: name,
             number,
             values,
-        } => play_offer(device, name, *number, values.as_slice()),
+        } => play_offer(world, name, number, values),
         Line::Deliver {
             number,
             device: name,
-        } => play_deliver(device, sent, *number, name),
-        Line::Tick { device: name, now } => play_tick(device, name, *now),
+        } => play_deliver(world, number, name),
+        Line::Tick { device: name, now } => play_tick(world, name, now),
         Line::Dispatch {
             device: name,
             resource,
-        } => play_dispatch(device, name, resource),
+        } => play_dispatch(world, name, resource),
+        Line::Root { number } => play_root(world, number),
     }
 }
 
 // A block that ran, by its names.
-fn tell_run<'a>(device: &'a Device, ran: &'a Ran, send: u64) -> Told<'a>
-    ensures { HasPoint (leaves (device_in device.now)) (dispatched.Ran ran.now) → told_text result ≡ answer_text send (dispatched_of (leaves (device_in device.now)) (dispatched.Ran ran.now)) }
+fn tell_run<'a>(device: &'a Device, ran: &'a Ran, sent: Option<u64>) -> Told<'a>
+    ensures { HasPoint (leaves (device_in device.now)) (dispatched.Ran ran.now) → told_text result ≡ answer_text sent (dispatched_of (leaves (device_in device.now)) (dispatched.Ran ran.now)) }
 {
     match device.path(ran.block, ran.event) {
         Some((path, event)) => Told::Ran {
@@ -111,7 +142,7 @@ fn tell_run<'a>(device: &'a Device, ran: &'a Ran, send: u64) -> Told<'a>
             event,
             steps: ran.steps,
             effect: ran.effect.as_ref(),
-            send,
+            sent,
             ended: ran.ended,
         },
         None => Told::Ran {
@@ -120,21 +151,21 @@ fn tell_run<'a>(device: &'a Device, ran: &'a Ran, send: u64) -> Told<'a>
             event: "",
             steps: ran.steps,
             effect: ran.effect.as_ref(),
-            send,
+            sent,
             ended: ran.ended,
         },
     }
 }
 
-/// An answer of a device, with the names of its block and event, and with the number that a send has.
-pub fn tell<'a>(device: &'a Device, answer: &'a Answer, send: u64) -> Told<'a>
-    ensures { HasPlace (leaves (device_in device.now)) answer.now → told_text result ≡ answer_text send (answer_of (leaves (device_in device.now)) answer.now) }
+/// An answer of a device, with the names of its block and event, and with the number of the datagram that was sent.
+pub fn tell<'a>(device: &'a Device, answer: &'a Answer, sent: Option<u64>) -> Told<'a>
+    ensures { HasPlace (leaves (device_in device.now)) answer.now → told_text result ≡ answer_text sent (answer_of (leaves (device_in device.now)) answer.now) }
 {
     match answer {
         Answer::Admitted(Ok(cause)) => Told::Admitted(*cause),
         Answer::Admitted(Err(why)) => Told::Denied(*why),
         Answer::Served(Dispatched::Idle) => Told::Idle,
         Answer::Fired(count) => Told::Fired(*count),
-        Answer::Served(Dispatched::Ran(ran)) => tell_run(device, ran, send),
+        Answer::Served(Dispatched::Ran(ran)) => tell_run(device, ran, sent),
     }
 }

@@ -1,6 +1,6 @@
 //! How answers are printed.
 
-use fb_device::{Denied, Effect, Ended};
+use fb_world::fb_device::{Denied, Effect, Ended};
 use std::fmt;
 
 /// The answer to a line, with names in the place of numbers.
@@ -14,15 +14,21 @@ pub enum Told<'a> {
     Fired(u32),
     /// Nothing was pending.
     Idle,
-    /// A block ran at an event, for a cause, so many steps. `send` is the number of what it has sent, where it has.
+    /// A block ran at an event, for a cause, so many steps. `sent` is the number of the datagram that it has sent.
     Ran {
         cause: u64,
         path: &'a str,
         event: &'a str,
         steps: u64,
         effect: Option<&'a Effect>,
-        send: u64,
+        sent: Option<u64>,
         ended: Option<Ended>,
+    },
+    /// A root has taken so many steps. `far` bounds them where the certificate says so.
+    Root {
+        number: u64,
+        steps: u64,
+        far: Option<u64>,
     },
 }
 
@@ -60,9 +66,9 @@ impl fmt::Display for Written<'_> {
     }
 }
 
-// What a dispatch has done outside of the device: of an OUTPUT, ` write 1 9`, and of a PUBLISH, ` send 1` with the number of the send.
+// What a dispatch has done outside of the device: of an OUTPUT, ` write 1 9`, and of a PUBLISH, ` send 1` with the number of the datagram.
 #[derive(Clone, Copy)]
-struct Done<'a>(Option<&'a Effect>, u64);
+struct Done<'a>(Option<&'a Effect>, Option<u64>);
 
 impl fmt::Display for Done<'_> {
     ghost use Rattle.std.specs.Prelude.{Some};
@@ -77,10 +83,10 @@ impl fmt::Display for Done<'_> {
                 let written = Written(*number, values.as_slice());
                 write!(f, " {written}")
             }
-            Some(Effect::Send(_)) => {
-                let send = self.1;
-                write!(f, " send {send}")
-            }
+            Some(Effect::Send(_)) => match self.1 {
+                None => Ok(()),
+                Some(number) => write!(f, " send {number}"),
+            },
         }
     }
 }
@@ -109,8 +115,26 @@ impl fmt::Display for Closed {
     }
 }
 
+// The FAR of a root, as ` of 6`.
+#[derive(Clone, Copy)]
+struct Within(Option<u64>);
+
+impl fmt::Display for Within {
+    ghost use Rattle.std.specs.Prelude.{Some};
+    ghost use Rattle.fb_script.specs.Texts.{far_text};
+
+    ghost output = { λ w. Some (far_text w.0) };
+
+    fn fmt<W: fmt::Write>(&self, f: &mut fmt::Formatter<W>) -> fmt::Result {
+        match self.0 {
+            None => Ok(()),
+            Some(far) => write!(f, " of {far}"),
+        }
+    }
+}
+
 /// `cause 1`, `denied 53 needs 2 free 1`, `fired 2`, `idle`, `ran D.R.C.EI steps 3`, with ` write 1 9` where an OUTPUT has written, ` send 1` where a PUBLISH has sent,
-/// and ` ended 1 4 of 4` where the cause has ended.
+/// and ` ended 1 4 of 4` where the cause has ended; `root 1 steps 4`, with ` of 6` where the certificate has REPEATS.
 impl fmt::Display for Told<'_> {
     ghost use Rattle.std.specs.Prelude.{Some};
     ghost use Rattle.fb_script.specs.Texts.{told_text};
@@ -142,14 +166,18 @@ impl fmt::Display for Told<'_> {
                 event,
                 steps,
                 effect,
-                send,
+                sent,
                 ended,
             } => {
                 let path: &str = path;
                 let event: &str = event;
-                let done = Done(*effect, *send);
+                let done = Done(*effect, *sent);
                 let closed = Closed(*ended);
                 write!(f, "ran {path}.{event} steps {steps}{done}{closed}")
+            }
+            Told::Root { number, steps, far } => {
+                let within = Within(*far);
+                write!(f, "root {number} steps {steps}{within}")
             }
         }
     }

@@ -1,16 +1,12 @@
 -- What is told of a simulation.
-use Rattle.std.proofs.Common.{◌≡◌, ◌∙◌, ℕ, List, sym, ap, inl, inr, subst, Option, Result, Ok, Err, IfOk}
-use Rattle.fbr_explain.specs.fb_verdict.Verdicts.{system_in}
+use Rattle.std.proofs.Common.{ℕ, List, inl, inr, subst, Option, Result, Ok, Err, IfOk}
 use Rattle.fbr_explain.specs.fb_verdict.declared.verified.Verified.{Verified}
 use Rattle.fbr.specs.declared.fault.Fault.{Fault}
-use Rattle.fbr.specs.declared.fault.Fault.TheVariants.{Memory, Usage}
+use Rattle.fbr.specs.declared.fault.Fault.TheVariants.{Memory}
 use Rattle.fbr.specs.Outcomes.{Tells, refusal, IsFilesOutcome}
-use Rattle.fbr.specs.Simulation.{IsVerified, IsScript, IsScriptFault, TellsEnd, IsSilent, IsFresh, HasOneDevice, TellsRun, a_run, no_device, TellsRunFrom, TellsScript, TellsSim}
-use Rattle.fb_script.specs.fb_device_state.Sessions.{Session}
-use Rattle.fb_script.specs.fb_device_state.Machines.{device_at, device_in, machine_of}
-use Rattle.fb_model.specs.Devices.{at_first, first_stamp}
+use Rattle.fbr.specs.Simulation.{IsVerified, IsScript, IsScriptFault, TellsEnd, IsFresh, TellsRun, a_run, TellsRunFrom, TellsScript, TellsSim}
+use Rattle.fb_script.specs.fb_world.Scenes.{Scene}
 use Rattle.fb_script.specs.Runs.{IsRun}
-use Rattle.fb_model.specs.System.{Device}
 use Rattle.fb_script.specs.declared.run.End.{End}
 use Rattle.fbr.proofs.Verdicts.{files_memory}
 
@@ -40,26 +36,11 @@ pub script_read : {E : Type 0} (v : Verified) (held : Option (List ℕ)) (script
 script_read v held script old new (Ok status) is h = inr (script, is.contents, h)
 script_read v held script old new (Err e) is h = tt
 
--- no device, or several
-pub not_one : {E : Type 0} (v : Verified) (script : List ℕ) (old new : Option (List ℕ)) (r : Result ℕ E) → (HasOneDevice v → ⊥) → IfOk r (λ status. Tells (refusal Usage) old new status) → IfOk r (λ status. TellsRun v script old new status)
-not_one v script old new (Ok status) other h = no_device other h
-not_one v script old new (Err e) other h = tt
+-- a run from the first world is one of what was verified
+pub run_told : {E : Type 0} (v : Verified) (first : Scene) (script : List ℕ) (old new : Option (List ℕ)) (r : Result ℕ E) → IsFresh v first → IfOk r (λ status. TellsRunFrom first script old new status) → IfOk r (λ status. TellsRun v script old new status)
+run_told v first script old new (Ok status) f h = a_run h.0 h.1 (first, h.2, f, h.3) h.4
+run_told v first script old new (Err e) f h = tt
 
--- a device starts
-pub started : (v : Verified) (s t : Session) → IsSilent v s → machine_of t ≡ at_first (device_in s) 1 first_stamp → t.verified ≡ s.verified → t.number ≡ s.number → IsFresh v t
-started v s t h b same number =
-    let device : device_in t ≡ device_in s = ap (λ (w : Verified). device_at (system_in w).devices t.number) same ∙ ap (λ (n : ℕ). device_at (system_in s.verified).devices n) number in
-    record {
-      verified = same ∙ h.verified;
-      number = number ∙ h.number;
-      first = b ∙ ap (λ (d : Device). at_first d 1 first_stamp) (sym device);
-    }
-
--- a run from a fresh device is one of what was verified
-pub run_told : {E : Type 0} (v : Verified) (first : Session) (script : List ℕ) (old new : Option (List ℕ)) (r : Result ℕ E) → HasOneDevice v → IsFresh v first → IfOk r (λ status. TellsRunFrom first script old new status) → IfOk r (λ status. TellsRun v script old new status)
-run_told v first script old new (Ok status) one f h = a_run h.0 h.1 one (first, h.2, f, h.3) h.4
-run_told v first script old new (Err e) one f h = tt
-
-pub ends_told : {E : Type 0} (first last : Session) (script : List ℕ) (old mid new : Option (List ℕ)) (end : End) (r : Result ℕ E) → IsRun first script old mid end last → IfOk r (λ status. TellsEnd end mid new status) → IfOk r (λ status. TellsRunFrom first script old new status)
+pub ends_told : {E : Type 0} (first last : Scene) (script : List ℕ) (old mid new : Option (List ℕ)) (end : End) (r : Result ℕ E) → IsRun first script old mid end last → IfOk r (λ status. TellsEnd end mid new status) → IfOk r (λ status. TellsRunFrom first script old new status)
 ends_told first last script old mid new end (Ok status) h t = (end, mid, last, h, t)
 ends_told first last script old mid new end (Err e) h t = tt

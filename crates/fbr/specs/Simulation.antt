@@ -3,14 +3,13 @@ use Rattle.std.specs.Prelude.{◌≡◌, ◌≤◌, ℕ, ◌⊎◌, List, [], le
 use Rattle.std.specs.Io.KnownBytes.{Appends}
 use Rattle.fbr_explain.specs.fb_verdict.Verdicts as verdicts
 use Rattle.fbr_explain.specs.fb_verdict.declared.verified.Verified.{Verified}
-use Rattle.fb_script.specs.fb_device_state.Sessions.{Session}
-use Rattle.fb_script.specs.fb_device_state.Machines.{device_in, machine_of}
-use Rattle.fb_model.specs.Devices.{silent, at_first, first_stamp}
+use Rattle.fb_model.specs.World.{IsFirst}
+use Rattle.fb_script.specs.fb_world.Scenes.{Scene, system_of, world_of}
 use Rattle.fb_script.specs.Runs.{IsRun}
 use Rattle.fb_script.specs.declared.run.End.{End}
 use Rattle.fb_script.specs.declared.run.End.TheVariants as ends
 use Rattle.fbr.specs.declared.fault.Fault.{Fault}
-use Rattle.fbr.specs.declared.fault.Fault.TheVariants.{Memory, Input, Line, Usage}
+use Rattle.fbr.specs.declared.fault.Fault.TheVariants.{Memory, Input, Line}
 use Rattle.fbr.specs.Outcomes.{Tells, refusal, IsContents, IsVerdict, IsFilesOutcome}
 
 -- ---- the files
@@ -41,38 +40,25 @@ TellsEnd ends.Done old new status = (status ≡ 0) × Appends old new []
 TellsEnd (ends.Line n) old new status = Tells (refusal (Line n)) old new status
 TellsEnd ends.OutOfMemory old new status = Tells (refusal Memory) old new status
 
--- the first device of what was verified, to which nothing has happened
-pub record IsSilent (v : Verified) (s : Session) : Type 0 where
+-- the first world of what was verified
+pub record IsFresh (v : Verified) (s : Scene) : Type 0 where
   pub verified : s.verified ≡ v
-  pub number : s.number ≡ 0
-  pub silent : machine_of s ≡ silent (device_in s) 1 first_stamp
+  pub first : IsFirst (system_of s) (world_of s)
 
--- the same, as it is once it has started
-pub record IsFresh (v : Verified) (s : Session) : Type 0 where
-  pub verified : s.verified ≡ v
-  pub number : s.number ≡ 0
-  pub first : machine_of s ≡ at_first (device_in s) 1 first_stamp
-
--- there is exactly one device
-abbrev pub HasOneDevice : Verified → Type 0
-HasOneDevice v = length (verdicts.system_in v).devices ≡ 1
-
--- the one device of what was verified runs a script to this end
+-- it runs a script to this end
 abbrev pub RunsTo : Verified → List ℕ → Option (List ℕ) → Option (List ℕ) → End → Type 0
-RunsTo v script old new end = (first : Session) × (last : Session) × IsFresh v first × IsRun first script old new end last
+RunsTo v script old new end = (first : Scene) × (last : Scene) × IsFresh v first × IsRun first script old new end last
 
 -- what is told over a script
 pub data TellsRun (v : Verified) (script : List ℕ) (old new : Option (List ℕ)) (status : ℕ) : Type 0 where
-  -- the one device runs it, and its end is told behind its answers
-  a_run : (end : End) (mid : Option (List ℕ)) → HasOneDevice v → RunsTo v script old mid end → TellsEnd end mid new status → TellsRun v script old new status
-  -- there is no memory for the one device
-  no_load : HasOneDevice v → Tells (refusal Memory) old new status → TellsRun v script old new status
-  -- there is no device, or there are several
-  no_device : (HasOneDevice v → ⊥) → Tells (refusal Usage) old new status → TellsRun v script old new status
+  -- the first world runs it, and its end is told behind its answers
+  a_run : (end : End) (mid : Option (List ℕ)) → RunsTo v script old mid end → TellsEnd end mid new status → TellsRun v script old new status
+  -- there is no memory for a world
+  no_world : Tells (refusal Memory) old new status → TellsRun v script old new status
 
--- the same from a session on
-abbrev pub TellsRunFrom : Session → List ℕ → Option (List ℕ) → Option (List ℕ) → ℕ → Type 0
-TellsRunFrom first script old new status = (end : End) × (mid : Option (List ℕ)) × (last : Session) × IsRun first script old mid end last × TellsEnd end mid new status
+-- the same from a scene on
+abbrev pub TellsRunFrom : Scene → List ℕ → Option (List ℕ) → Option (List ℕ) → ℕ → Type 0
+TellsRunFrom first script old new status = (end : End) × (mid : Option (List ℕ)) × (last : Scene) × IsRun first script old mid end last × TellsEnd end mid new status
 
 -- standard input was not read, or is a script that is run
 abbrev pub TellsScript : Verified → Option (List ℕ) → Option (List ℕ) → Option (List ℕ) → ℕ → Type 0

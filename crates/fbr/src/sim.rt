@@ -1,13 +1,13 @@
-//! Checks two files, and runs a script on the one device of the system.
+//! Checks two files, and runs a script on the world of the system's devices.
 
-ghost use Rattle.std.specs.Prelude.{◌≡◌, ◌≤◌, ◌<◌, length, IfOk, IfErr, MatchResult, string_bytes, true, false};
-ghost use Rattle.fbr.specs.Simulation.{IsVerified, IsScript, IsScriptFault, IsVerifiedTexts, TellsEnd, IsSilent, HasOneDevice, TellsRun, TellsRunFrom, TellsScript, TellsSim};
-ghost use Rattle.fbr_explain.specs.fb_verdict.declared.verified.Verified as of_check;
+ghost use Rattle.std.specs.Prelude.{◌≡◌, ◌≤◌, ◌<◌, length, IfOk, IfErr, MatchResult, string_bytes};
+ghost use Rattle.fbr.specs.Simulation.{IsVerified, IsScript, IsScriptFault, IsVerifiedTexts, TellsEnd, IsFresh, TellsRun, TellsRunFrom, TellsScript, TellsSim};
 
 use crate::check::{LIMIT, print_outcome, read_text, read_whole};
 use crate::fault::Fault;
 use crate::sources::{ReadFault, Sources};
-use fb_script::fb_device::{Device, Ready, load_checked, share};
+use fb_script::fb_device::share;
+use fb_script::fb_world::World;
 use fb_script::{End, simulate};
 use fbr_explain::fb_check::{Refusal, Verified, check_text};
 use std::alloc::Global;
@@ -73,59 +73,38 @@ fn print_end<W: Write>(end: End, output: &mut W) -> io::Result<u8>
     }
 }
 
-// Runs a script on a device that has started.
-fn run_device<W: Write>(
+// Runs a script on a world.
+fn run_world<W: Write>(
     alloc: Global,
-    device: &mut Device,
+    world: &mut World,
     script: &str,
     output: &mut W,
 ) -> io::Result<u8>
     requires short { length script.now ≤ 33554432 }
-    ensures told { IfOk result (λ status. TellsRunFrom device.old script.now (W.contents output.old) (W.contents output.new) status) }
+    ensures told { IfOk result (λ status. TellsRunFrom world.old script.now (W.contents output.old) (W.contents output.new) status) }
     ensures status { IfOk result (λ status. status ≤ 4) }
 {
-    match simulate(alloc, device, script, output) {
+    match simulate(alloc, world, script, output) {
         Ok(end) => print_end(end, output),
         Err(error) => Err(error),
     }
 }
 
-// Starts a device, and runs a script on it.
-fn run_ready<W: Write>(alloc: Global, ready: Ready, script: &str, output: &mut W) -> io::Result<u8>
-    requires short { length script.now ≤ 33554432 }
-    ensures told { (v : of_check.Verified) → HasOneDevice v → IsSilent v ready → IfOk result (λ status. TellsRun v script.now (W.contents output.old) (W.contents output.new) status) }
-    ensures status { IfOk result (λ status. status ≤ 4) }
-{
-    let mut device = ready.start();
-    let ran = run_device(alloc, &mut device, script, output);
-    device.let_go();
-    ran
-}
-
-// Whether a system has exactly one device.
-fn has_one_device(verified: &Verified) -> bool
-    ensures one { result ≡ true → HasOneDevice verified.now }
-    ensures other { result ≡ false → HasOneDevice verified.now → ⊥ }
-{
-    verified.typed().devices.len() == 1
-}
-
-// The one device of what was verified, before it starts.
-fn only_ready<'a>(alloc: Global, verified: Verified) -> Result<Ready, Fault<'a>>
-    requires one { HasOneDevice verified }
-    ensures ready { IfOk result (IsSilent verified) }
+// The first world of what was verified.
+fn first_world<'a>(alloc: Global, verified: Verified) -> Result<World, Fault<'a>>
+    ensures world { IfOk result (IsFresh verified) }
     ensures refused { IfErr result (λ fault. fault ≡ Fault.Memory) }
 {
     match share(alloc, verified) {
-        Ok(shared) => match load_checked(alloc, shared, 0) {
-            Ok(ready) => Ok(ready),
+        Ok(shared) => match World::over(alloc, shared) {
+            Ok(world) => Ok(world),
             Err(_) => Err(Fault::Memory),
         },
         Err(_) => Err(Fault::Memory),
     }
 }
 
-// Runs a script on the device of what was verified, where it has exactly one.
+// Runs a script on the first world of what was verified.
 fn run_script<W: Write>(
     alloc: Global,
     verified: Verified,
@@ -136,12 +115,12 @@ fn run_script<W: Write>(
     ensures told { IfOk result (λ status. TellsRun verified script.now (W.contents output.old) (W.contents output.new) status) }
     ensures status { IfOk result (λ status. status ≤ 4) }
 {
-    if !has_one_device(&verified) {
-        verified.let_go();
-        return print_outcome(Err(Fault::Usage), output);
-    }
-    match only_ready(alloc, verified) {
-        Ok(ready) => run_ready(alloc, ready, script, output),
+    match first_world(alloc, verified) {
+        Ok(mut world) => {
+            let ran = run_world(alloc, &mut world, script, output);
+            world.let_go();
+            ran
+        }
         Err(_) => print_outcome(Err(Fault::Memory), output),
     }
 }
@@ -165,8 +144,8 @@ fn run_input<I: Read, W: Write>(
     }
 }
 
-/// Checks two files, and runs the script on standard input on the one device of their system. Each answer is a line; where the files are
-/// refused their outcome is written and nothing else. A system without a device, or with several, is `refused 63` until there is a world.
+/// Checks two files, and runs the script on standard input on the world of their system's devices. Each answer is a line; where the files are
+/// refused their outcome is written and nothing else.
 pub fn sim_files<'a, S: Sources, I: Read, W: Write>(
     alloc: Global,
     files: &S,

@@ -2,7 +2,7 @@
 
 use crate::programs::commands;
 use crate::tally::Tally;
-use fbr_cases_device::{datagrams, devices, links, turns};
+use fbr_cases_device::{datagrams, devices, links, turns, worlds};
 use fbr_cases_language::{Case, answer};
 use std::alloc::AllocError;
 use std::{fs, io};
@@ -46,6 +46,7 @@ fn run_case(
         "devices" => devices(rt.alloc(), case)?,
         "links" => links(rt, rt.alloc(), case)?,
         "turns" => turns(rt.alloc(), case)?,
+        "worlds" => worlds(rt.alloc(), case)?,
         _ => answer(rt.alloc(), kind, case)?,
     };
     let same = answered.as_str() == stored;

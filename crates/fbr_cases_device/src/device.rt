@@ -10,7 +10,7 @@ use std::alloc::{AllocError, Global};
 use std::fmt::Write;
 
 // The words of a text that are numbers.
-fn numbers(alloc: Global, text: &str) -> Result<Vec<i64>, AllocError> {
+pub(crate) fn numbers(alloc: Global, text: &str) -> Result<Vec<i64>, AllocError> {
     let mut found = Vec::new(alloc);
     for word in text.split_whitespace() {
         if let Ok(number) = word.parse::<i64>() {
@@ -29,7 +29,7 @@ pub(crate) fn bytes(alloc: Global, digits: &str) -> Result<Vec<u8>, AllocError> 
 }
 
 // A number of an input, a block, an event or a resource; the largest one where it is none.
-fn small(word: &str) -> u16 {
+pub(crate) fn small(word: &str) -> u16 {
     word.parse::<u16>().unwrap_or(u16::MAX)
 }
 
@@ -129,7 +129,7 @@ fn taken(
         Step::Tick(now) => Answer::Fired(device.tick(now)),
         Step::Dispatch(number) => Answer::Served(device.dispatch(number)),
     };
-    writeln!(out, "{}", tell(device, &answer, 1))?;
+    writeln!(out, "{}", tell(device, &answer, Some(1)))?;
     sent(alloc, out, &answer)
 }
 

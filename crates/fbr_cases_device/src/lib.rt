@@ -1,4 +1,4 @@
-//! Room: cases. What a device's calls answer for a case, as short text.
+//! Room: cases. What the calls of a device and of a world answer for a case, as short text.
 //! No contracts: the answers are compared with stored ones.
 #![tactic(auto)]
 
@@ -6,8 +6,10 @@ mod datagram;
 mod device;
 mod link;
 mod turn;
+mod world;
 
 pub use datagram::datagrams;
 pub use device::devices;
 pub use link::links;
 pub use turn::turns;
+pub use world::worlds;

@@ -75,7 +75,7 @@ pub fn meaning_of(code: u8) -> Option<Meaning> {
             "give both the same; for two senders take format 1, or two channels",
         ),
         21 => said(
-            "the system has no device of this name (`fbr serve`, and calls of the library; `fbr sim` takes the one device)",
+            "the system has no device of this name (`fbr serve`, and calls of the library; in a script it is 60)",
             "give the name of one of its devices",
         ),
         30 => said(
@@ -158,7 +158,7 @@ pub fn meaning_of(code: u8) -> Option<Meaning> {
             "start the device anew",
         ),
         60 => said(
-            "this line of the script is no call, or names a device, a resource or a datagram that is not there, or a number does not fit",
+            "this line of the script is no call, or names a device, a resource, a datagram or a root that is not there, or a number does not fit",
             "mend the line; what stands before it has run",
         ),
         61 => said("not readable, no UTF-8, or more than 33,554,432 bytes", ""),
@@ -167,8 +167,8 @@ pub fn meaning_of(code: u8) -> Option<Meaning> {
             "take another port, or end the other program",
         ),
         63 => said(
-            "the words are no command; `--repeats` is given no number of 1 to 255; a port of `fbr serve` is none of 1 to 65535, or it is given more than 64 peers, or `--turns` or `--boot` no number below 4294967296; or `fbr sim` is asked to run a system that has no device, or several, which it cannot until there is a world of devices",
-            "`fbr --help`; simulate a system of one device",
+            "the words are no command; `--repeats` is given no number of 1 to 255; a port of `fbr serve` is none of 1 to 65535, or it is given more than 64 peers, or `--turns` or `--boot` no number below 4294967296",
+            "`fbr --help`",
         ),
         64 => said(
             "the message is not later than the one that was admitted last, which had this boot and sequence number: it came twice, or too late",

@@ -1,0 +1,9 @@
+pub use Rattle.fb_device.specs as fb_device
+pub mod Scenes
+pub mod Answers
+pub mod Roots
+pub mod Booking
+pub mod Keeping
+pub mod Beginning
+pub mod Room
+pub mod Loads

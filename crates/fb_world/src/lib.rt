@@ -1,0 +1,24 @@
+//! Room: device. A world of devices with their datagrams, which may be lost, repeated and reordered, and with the root of all that happens.
+//! Each event is one of the book's world. From its first state on a world is sound (`IsWorldSound`), and where a root's datagrams without a stamp were each
+//! admitted at most REPEATS times at each device, its steps on all devices are at most the FAR of its opening.
+#![tactic(auto)]
+
+mod answer;
+mod beginning;
+mod course;
+mod room;
+mod sent;
+mod station;
+mod world;
+
+pub use answer::{OutOfMemory, RootSteps, WorldAnswer, WorldEvent};
+pub use fb_device;
+pub use world::World;
+
+// A crate can name a world in a contract only if the types of its fields are exported.
+#[doc(hidden)]
+pub use course::Course;
+#[doc(hidden)]
+pub use sent::Sent;
+#[doc(hidden)]
+pub use station::{Root, Station};

@@ -1,0 +1,155 @@
+//! A world of devices.
+
+ghost use Rattle.std.specs.Prelude.{ℕ, ◌≡◌, ◌≤◌, ◌<◌, true, false, length, map, Some, None, IfSome, IfOk, IfErr, OnErr, MatchOption, slice_get};
+ghost use Rattle.std.specs.List.{AllByRecursion};
+ghost use Rattle.std.specs.Option.{option_map};
+ghost use Rattle.fb_model.specs.Spelling.{text_limit};
+ghost use Rattle.fb_model.specs.System.{System, Device as book};
+ghost use Rattle.fb_model.specs.Declarations.{SourceTree};
+ghost use Rattle.fb_model.specs.Certificates as certs;
+ghost use Rattle.fb_model.specs.CertificateText.{Spells, most_characters};
+ghost use Rattle.fb_model.specs.EventBlocks.{Elaborates};
+ghost use Rattle.fb_model.specs.World.{IsFirst, WorldHappens, WorldRun, AreWithin, root_steps};
+ghost use Rattle.fb_model_worlds.specs.Worlds.{IsWorldSound};
+ghost use Rattle.fb_tree.specs.Sources.{IsSource};
+ghost use Rattle.fb_verdict.specs.Lookups.{is_same_path};
+ghost use Rattle.fb_device.specs.Refusals.{no_memory};
+ghost use Rattle.fb_world.specs.Scenes.{system_of, cert_of, world_of};
+ghost use Rattle.fb_world.specs.Answers.{event_of, device_of, leaves_at, answer_of, answers_of, steps_of, HasWorldPlace, HaveWorldPlaces};
+ghost use Rattle.fb_world.specs.Keeping.{IsReached};
+ghost use Rattle.fb_world.specs.Loads.{IsWorldOf, IsWorldFault, IsDeviceAt};
+
+use crate::answer::{OutOfMemory, RootSteps, WorldAnswer, WorldEvent};
+use crate::beginning::first_course;
+use crate::course::Course;
+use crate::station::numbered;
+use fb_device::{Device, Refusal, share};
+use fb_verdict::{Verified, check_text};
+use std::alloc::Global;
+use std::marker::Model;
+use std::rc::Rc;
+use std::slice::from_ref;
+
+/// A world of devices that run a checked application, with their datagrams and roots.
+///
+/// Contracts see it as a scene: what was checked, and in lists the devices, the datagrams and the roots.
+#[derive(Drop)]
+pub struct World {
+    verified: Rc<Verified>,
+    course: Course,
+}
+
+impl Model for World {
+    ghost use Rattle.std.specs.Coded.{codes};
+    ghost use Rattle.fb_verdict.specs.contracts.verified.Verified as checked;
+    ghost use Rattle.fb_world.specs.Scenes.{Scene, scene_of};
+    ghost use Rattle.fb_world.specs.Keeping.{IsKept};
+
+    ghost Value = { Scene };
+
+    ghost coded = { Prim.hlevel (codes, checked.the_row.coded) };
+
+    ghost view = { λ w. scene_of w.verified.value w.course };
+
+    ghost invariant = { λ w. IsKept w.verified.value w.course };
+}
+
+impl World {
+    /// The first world of a system and its certificate: every device has started, in text order. Each BEGIN has opened a root.
+    ///
+    /// Refused as [`check_text`] refuses, or where memory runs out.
+    pub fn new(alloc: Global, text: &str, certificate: &str) -> Result<World, Refusal>
+        ensures first { IfOk result (IsWorldOf text.now certificate.now) }
+        ensures within { IfOk result (λ w. (length text.now ≤ text_limit) × (length certificate.now ≤ most_characters)) }
+        ensures refused { IfErr result (IsWorldFault text.now certificate.now) }
+        ensures accepts { (source : SourceTree) (system : System) (rows : certs.Certificate) → length text.now ≤ text_limit → length certificate.now ≤ most_characters
+            → IsSource text.now source → Elaborates source system → Spells certificate.now rows → certs.Fits system rows → IfErr result (λ f. f ≡ no_memory) }
+    {
+        match check_text(alloc, text, certificate) {
+            Ok(verified) => match share(alloc, verified) {
+                Ok(shared) => World::over(alloc, shared),
+                Err(refusal) => Err(refusal),
+            },
+            Err(refusal) => Err(Refusal::Checked(refusal)),
+        }
+    }
+
+    /// The first world of what was checked. Refused only where memory runs out.
+    pub fn over(alloc: Global, verified: Rc<Verified>) -> Result<World, Refusal>
+        ensures first { IfOk result (λ w. (w.verified ≡ verified.value) × IsFirst (system_of w) (world_of w)) }
+        ensures refused { IfErr result (λ f. f ≡ no_memory) }
+    {
+        let course = first_course(alloc, &verified)?;
+        Ok(World { verified, course })
+    }
+
+    /// Lets the world go. (A crate that lets it go by itself proves the end of each of its parts anew; this call is proved once.)
+    pub fn let_go(self) {}
+
+    /// That a run leads from the first world to this one, so that it is sound, for proofs: nothing is done.
+    pub fn holds(&self)
+        ensures reached { IsReached (system_of self.now) (cert_of self.now) (world_of self.now) }
+        ensures sound { IsWorldSound (system_of self.now) (cert_of self.now) (world_of self.now) }
+    {
+        let _ = &self.course;
+    }
+
+    /// An event of the book's world. What it may need is reserved first: where memory runs out, nothing has changed.
+    pub fn step(&mut self, event: &WorldEvent) -> Result<WorldAnswer, OutOfMemory>
+        ensures happens { IfOk result (λ a. WorldHappens (system_of self.old) (cert_of self.old) (world_of self.old) (event_of event.now) (answer_of (leaves_at (system_of self.old) (device_of event.now)) a) (world_of self.new)) }
+        ensures point { IfOk result (HasWorldPlace (leaves_at (system_of self.old) (device_of event.now))) }
+        ensures unchanged { OnErr result (self.new ≡ self.old) }
+        ensures same { self.new.verified ≡ self.old.verified }
+    {
+        self.course.reserve(from_ref(event))?;
+        Ok(self.course.happen(event))
+    }
+
+    /// A list of events, one after another. What all of them may need is reserved first: where memory runs out, nothing has changed.
+    pub fn run(&mut self, events: &[WorldEvent]) -> Result<Vec<WorldAnswer>, OutOfMemory>
+        ensures run { IfOk result (λ as'. WorldRun (system_of self.old) (cert_of self.old) (world_of self.old) (map event_of events.now) (answers_of (system_of self.old) events.now as'.items) (world_of self.new)) }
+        ensures points { IfOk result (λ as'. HaveWorldPlaces (system_of self.old) events.now as'.items) }
+        ensures unchanged { OnErr result (self.new ≡ self.old) }
+        ensures same { self.new.verified ≡ self.old.verified }
+    {
+        let mut answers = Vec::with_capacity(*self.course.roots.allocator(), events.len())?;
+        self.course.reserve(events)?;
+        self.course.happen_all(events, &mut answers);
+        Ok(answers)
+    }
+
+    /// The steps of a root on all devices so far, and the FAR of its opening; `None` where it was not opened. Where the datagrams of the root that have no stamp
+    /// were each admitted at most REPEATS times at each device, the steps are at most the FAR.
+    pub fn root(&self, number: u64) -> Option<RootSteps>
+        ensures steps { option_map steps_of result ≡ root_steps (cert_of self.now) (world_of self.now) number }
+        ensures bounded { (repeats : ℕ) → (cert_of self.now).repeats ≡ Some repeats → AreWithin repeats number (world_of self.now).datagrams → IfSome result (λ r. IfSome r.far (λ far. r.steps ≤ far)) }
+    {
+        if number == 0 || number > self.course.roots.len() as u64 {
+            return None;
+        }
+        let root = &self.course.roots[(number - 1) as usize];
+        Some(RootSteps {
+            steps: root.steps.min(u128::from(u64::MAX)) as u64,
+            far: root.opening.far,
+        })
+    }
+
+    /// The number of the device of a name. Letter case has no meaning in it. `None` where there is none.
+    pub fn device(&self, name: &str) -> Option<u16>
+        ensures { MatchOption result (AllByRecursion (λ (d : book). is_same_path d.name name.now ≡ false) (system_of self.now).devices) (λ n. (d : book) × (slice_get (system_of self.now).devices n ≡ Some d) × (is_same_path d.name name.now ≡ true)) }
+    {
+        numbered(&self.course.stations, name)
+    }
+
+    /// The device of a number; `None` where there is none.
+    pub fn get(&self, number: u16) -> Option<&Device>
+        ensures { MatchOption result (slice_get (system_of self.now).devices number ≡ None) (λ d. IsDeviceAt self.now number d.now) }
+    {
+        let at = number as usize;
+        if at < self.course.stations.len() {
+            Some(&self.course.stations[at].device)
+        } else {
+            None
+        }
+    }
+}
