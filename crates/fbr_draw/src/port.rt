@@ -7,7 +7,7 @@ use fb_flat::{Input, Output, Source, joined};
 use std::io;
 use std::io::Write;
 
-// Writes the weight of an event input or arrival, small and grey, where there is a certificate.
+// Writes the weight of an event input or arrival, small and grey, where there is a certificate, and its FAR where that has one.
 fn write_weight<W: Write>(
     sheet: &Sheet<'_>,
     leaf: &str,
@@ -26,6 +26,10 @@ fn write_weight<W: Write>(
     if weight.places > 0 {
         put(" / ", output)?;
         put_number(weight.places, output)?;
+    }
+    if let Some(far) = certificate.far(path.as_str()) {
+        put(", far ", output)?;
+        put_number(far, output)?;
     }
     put("</FONT>", output)
 }

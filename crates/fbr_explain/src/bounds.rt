@@ -1,6 +1,7 @@
 //! The bounds of what fits, told to people.
 
-use crate::put::put;
+use crate::channels::{Ways, channels_behind, numbered, tell_channels};
+use crate::put::{put, put_number};
 use fb_cert::Certificate;
 use fb_check::Verified;
 use fb_flat::{Body, FlatResource, Leaf, joined};
@@ -9,25 +10,47 @@ use std::alloc::Global;
 use std::io;
 use std::io::Write;
 
-// Ends a line with the steps on all devices, where they are known.
-fn tell_far<W: Write>(far: Option<u64>, output: &mut W) -> io::Result<()> {
-    match far {
-        Some(far) => writeln!(output, ", steps on all devices at most {far}"),
-        None => put("\n", output),
-    }
+// A resource whose bounds are told.
+#[derive(Clone, Copy)]
+struct View<'a> {
+    alloc: Global,
+    verified: &'a Verified,
+    ways: Ways<'a>,
 }
 
-// Writes what one event at an arrival causes at most.
-fn tell_arrival<W: Write>(verified: &Verified, path: &str, output: &mut W) -> io::Result<()> {
-    let Some(steps) = verified.steps_of(path) else {
+// Writes the channels on which an arrival of a leaf can be sent on.
+fn tell_ways<W: Write>(view: View<'_>, leaf: &Leaf, event: &str, output: &mut W) -> io::Result<()> {
+    let channels = channels_behind(view.alloc, view.ways, leaf, event)?;
+    for (number, channel) in channels.iter().enumerate() {
+        put(if number == 0 { ", by channel " } else { ", " }, output)?;
+        put_number(u64::from(*channel), output)?;
+    }
+    Ok(())
+}
+
+// Writes what one event at an arrival of a leaf causes at most: on its device, and where it is known on all, and through which channels.
+fn tell_arrival<W: Write>(
+    view: View<'_>,
+    leaf: &Leaf,
+    event: &str,
+    output: &mut W,
+) -> io::Result<()> {
+    let path = joined(view.alloc, leaf.path.as_str(), event)?;
+    let path = path.as_str();
+    let Some(steps) = view.verified.steps_of(path) else {
         return Ok(());
     };
-    let places = verified.places_of(path).unwrap_or(0);
+    let places = view.verified.places_of(path).unwrap_or(0);
     write!(
         output,
         "    {path}: steps at most {steps}, places at most {places}"
     )?;
-    tell_far(verified.far_of(path), output)
+    if let Some(far) = view.verified.far_of(path) {
+        put(", steps on all devices at most ", output)?;
+        put_number(far, output)?;
+        tell_ways(view, leaf, event, output)?;
+    }
+    put("\n", output)
 }
 
 // Writes the range of each variable of a leaf that is not its whole type.
@@ -66,47 +89,50 @@ fn tell_block<W: Write>(
 }
 
 // Writes the bounds of a leaf.
-fn tell_leaf<W: Write>(
-    alloc: Global,
-    verified: &Verified,
-    leaf: &Leaf,
-    output: &mut W,
-) -> io::Result<()> {
-    let path = leaf.path.as_str();
+fn tell_leaf<W: Write>(view: View<'_>, leaf: &Leaf, output: &mut W) -> io::Result<()> {
     match &leaf.body {
-        Body::Basic(block) => tell_block(alloc, verified.certificate(), path, block, output),
+        Body::Basic(block) => {
+            let certificate = view.verified.certificate();
+            tell_block(view.alloc, certificate, leaf.path.as_str(), block, output)
+        }
         Body::Served(service) => match service.arrival() {
-            Some(event) => {
-                let path = joined(alloc, path, event)?;
-                tell_arrival(verified, path.as_str(), output)
-            }
+            Some(event) => tell_arrival(view, leaf, event, output),
             None => Ok(()),
         },
     }
 }
 
 // Writes the bounds of a resource.
-fn tell_resource<W: Write>(
+fn tell_resource<'a, W: Write>(
     alloc: Global,
-    verified: &Verified,
-    resource: &FlatResource,
+    verified: &'a Verified,
+    resource: &'a FlatResource,
     output: &mut W,
 ) -> io::Result<()> {
     let path = resource.path.as_str();
     let depth = verified.depth(path).unwrap_or(0);
     writeln!(output, "{path}: depth of the queue {depth}")?;
+    let numbers = numbered(alloc, resource)?;
+    let view = View {
+        alloc,
+        verified,
+        ways: Ways {
+            numbers: &numbers,
+            leaves: resource.leaves.as_slice(),
+        },
+    };
     for leaf in &resource.leaves {
-        tell_leaf(alloc, verified, leaf, output)?;
+        tell_leaf(view, leaf, output)?;
     }
     Ok(())
 }
 
-/// Writes the bounds of what fits: how deep each queue is, what each arrival causes at most, and the range of each variable that is not its whole type.
+/// Writes the bounds of what fits: how deep each queue is, what each arrival causes at most, the range of each variable that is not its whole type, and the channels.
 pub fn tell_bounds<W: Write>(alloc: Global, verified: &Verified, output: &mut W) -> io::Result<()> {
     for device in &verified.flat().devices {
         for resource in &device.resources {
             tell_resource(alloc, verified, resource, output)?;
         }
     }
-    Ok(())
+    tell_channels(alloc, verified, output)
 }

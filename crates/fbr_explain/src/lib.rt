@@ -3,6 +3,7 @@
 #![tactic(auto)]
 
 mod bounds;
+mod channels;
 mod chart;
 mod inner;
 mod meaning;
@@ -22,7 +23,7 @@ mod walk;
 
 pub use bounds::tell_bounds;
 pub use fb_check;
-pub use meaning::{Meaning, meaning_of};
+pub use meaning::{Meaning, found_limit, meaning_of};
 pub use spotted::Named;
 pub use told::{Refused, tell_meaning, tell_refusal};
 pub use unbound::tell_no_bound;

@@ -46,8 +46,8 @@ pub fn service_demand(
     Ok(terms)
 }
 
-// How often a datagram of a channel may be admitted at a SUBSCRIBE.
-fn admitted(repeats: u8, channel: &Channel) -> u8 {
+/// How often a datagram of a channel may be admitted at a SUBSCRIBE.
+pub fn admitted(repeats: u8, channel: &Channel) -> u8 {
     match channel.format {
         Format::First => repeats,
         Format::Second => 1,

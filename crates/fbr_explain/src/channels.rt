@@ -1,0 +1,265 @@
+//! Channels of what fits, told to people: who sends on them, where their datagrams come to, and what a datagram causes at most.
+
+use crate::put::{put, put_number};
+use crate::service::admitted;
+use fb_check::Verified;
+use fb_flat::{Body, Flat, FlatResource, Leaf, joined};
+use fb_types_services::{Channel, Service};
+use indexmap::{IndexMap, IndexSet};
+use std::alloc::{AllocError, Global};
+use std::io;
+use std::io::Write;
+
+/// The numbers of the leaves of a resource, by their paths.
+pub type Numbers = IndexMap<String, usize>;
+
+/// The leaves of a resource, and their numbers.
+#[derive(Clone, Copy)]
+pub struct Ways<'a> {
+    pub numbers: &'a Numbers,
+    pub leaves: &'a [Leaf],
+}
+
+impl<'a> Ways<'a> {
+    // The leaf of a path.
+    fn leaf_at(self, path: &str) -> Option<&'a Leaf> {
+        let number = self.numbers.get(path)?;
+        self.leaves.get(*number)
+    }
+}
+
+/// Numbers for the leaves of a resource, from 0 on.
+pub fn numbered(alloc: Global, resource: &FlatResource) -> Result<Numbers, AllocError> {
+    let mut numbers = IndexMap::new(alloc);
+    for (number, leaf) in resource.leaves.iter().enumerate() {
+        numbers.insert(leaf.path.clone()?, number)?;
+    }
+    Ok(numbers)
+}
+
+// Events that can come about at leaves, each once.
+#[derive(Drop)]
+struct Events<'a> {
+    paths: IndexSet<String>,
+    all: Vec<(&'a Leaf, &'a str)>,
+}
+
+impl<'a> Events<'a> {
+    // Adds an event at a leaf, if it is not there.
+    fn add(&mut self, alloc: Global, leaf: &'a Leaf, event: &'a str) -> Result<(), AllocError> {
+        let path = joined(alloc, leaf.path.as_str(), event)?;
+        if !self.paths.contains(path.as_str()) {
+            self.paths.insert(path)?;
+            self.all.push((leaf, event))?;
+        }
+        Ok(())
+    }
+}
+
+// Whether an event at a leaf can emit this output: of a basic block each can emit all.
+fn is_emitted(leaf: &Leaf, event: &str, output: &str) -> bool {
+    match &leaf.body {
+        Body::Basic(_) => true,
+        Body::Served(service) => {
+            for name in service.emitted(event) {
+                if *name == output {
+                    return true;
+                }
+            }
+            false
+        }
+    }
+}
+
+// Adds the events to which those connections lead that an event at a leaf can take.
+fn add_targets<'a>(
+    alloc: Global,
+    ways: Ways<'a>,
+    leaf: &'a Leaf,
+    event: &str,
+    found: &mut Events<'a>,
+) -> Result<(), AllocError> {
+    for output in &leaf.outputs {
+        if is_emitted(leaf, event, output.name.as_str()) {
+            for target in &output.targets {
+                if let Some(next) = ways.leaf_at(target.path.as_str()) {
+                    found.add(alloc, next, target.event.as_str())?;
+                }
+            }
+        }
+    }
+    Ok(())
+}
+
+// The channel on which an event at a leaf sends a datagram.
+fn sent_on(leaf: &Leaf, event: &str) -> Option<u16> {
+    match &leaf.body {
+        Body::Served(Service::Publish(channel, _)) if event != "INIT" => Some(channel.number),
+        _ => None,
+    }
+}
+
+// A resource has at most so many leaves times event inputs.
+const MOST_EVENTS: usize = 65_536;
+
+/// The channels on which an event at a leaf of a resource can be sent on, by the connections of events.
+pub fn channels_behind<'a>(
+    alloc: Global,
+    ways: Ways<'a>,
+    leaf: &'a Leaf,
+    event: &'a str,
+) -> Result<IndexSet<u16>, AllocError> {
+    let mut channels = IndexSet::new(alloc);
+    let mut found = Events {
+        paths: IndexSet::new(alloc),
+        all: Vec::new(alloc),
+    };
+    found.add(alloc, leaf, event)?;
+    for index in 0..MOST_EVENTS {
+        let Some((leaf, event)) = found.all.get(index).copied() else {
+            break;
+        };
+        if let Some(channel) = sent_on(leaf, event) {
+            channels.insert(channel)?;
+        }
+        add_targets(alloc, ways, leaf, event, &mut found)?;
+    }
+    Ok(channels)
+}
+
+// The channel of a leaf that sends or receives.
+fn channel_of(leaf: &Leaf) -> Option<&Channel> {
+    match &leaf.body {
+        Body::Served(Service::Publish(channel, _) | Service::Subscribe(channel, _)) => {
+            Some(channel)
+        }
+        _ => None,
+    }
+}
+
+// The leaves of a channel each, in text order.
+fn leaves_by_channel<'a>(
+    alloc: Global,
+    flat: &'a Flat,
+) -> Result<IndexMap<u16, Vec<&'a Leaf>>, AllocError> {
+    let mut found: IndexMap<u16, Vec<&'a Leaf>> = IndexMap::new(alloc);
+    for device in &flat.devices {
+        for resource in &device.resources {
+            for leaf in &resource.leaves {
+                if let Some(channel) = channel_of(leaf) {
+                    match found.get_mut(&channel.number) {
+                        Some(leaves) => leaves.push(leaf)?,
+                        None => {
+                            let mut leaves = Vec::new(alloc);
+                            leaves.push(leaf)?;
+                            found.insert(channel.number, leaves)?;
+                        }
+                    }
+                }
+            }
+        }
+    }
+    Ok(found)
+}
+
+// Writes what each datagram of a channel may cause where it arrives: there, and on all devices if they are known.
+fn tell_steps<W: Write>(verified: &Verified, path: &str, output: &mut W) -> io::Result<()> {
+    put("at most ", output)?;
+    put_number(verified.steps_of(path).unwrap_or(0), output)?;
+    put(" steps there", output)?;
+    if let Some(far) = verified.far_of(path) {
+        put(", ", output)?;
+        put_number(far, output)?;
+        put(" on all devices", output)?;
+    }
+    put("\n", output)
+}
+
+// Writes how often a datagram may be admitted, if a certificate says it.
+fn tell_times<W: Write>(repeats: Option<u8>, channel: &Channel, output: &mut W) -> io::Result<()> {
+    match repeats {
+        Some(repeats) => match admitted(repeats, channel) {
+            1 => put("once, ", output),
+            times => {
+                put("at most ", output)?;
+                put_number(u64::from(times), output)?;
+                put(" times, each ", output)
+            }
+        },
+        None => Ok(()),
+    }
+}
+
+// Writes a leaf that sends or receives.
+fn tell_end<W: Write>(
+    alloc: Global,
+    verified: &Verified,
+    leaf: &Leaf,
+    output: &mut W,
+) -> io::Result<()> {
+    match &leaf.body {
+        Body::Served(Service::Subscribe(channel, _)) => {
+            let path = joined(alloc, leaf.path.as_str(), "ARRIVE")?;
+            put("        to ", output)?;
+            put(path.as_str(), output)?;
+            put(": ", output)?;
+            tell_times(verified.certificate().repeats(), channel, output)?;
+            tell_steps(verified, path.as_str(), output)
+        }
+        _ => {
+            put("        from ", output)?;
+            put(leaf.path.as_str(), output)?;
+            put("\n", output)
+        }
+    }
+}
+
+// Writes the number of a channel, and what a datagram of it causes on all devices if that is known.
+fn tell_channel<W: Write>(verified: &Verified, number: u16, output: &mut W) -> io::Result<()> {
+    put("    channel ", output)?;
+    put_number(u64::from(number), output)?;
+    if let Some(steps) = verified.certificate().channel(number) {
+        put(": a datagram causes at most ", output)?;
+        put_number(steps, output)?;
+        put(" steps on all devices", output)?;
+    }
+    put("\n", output)
+}
+
+// Writes what is supposed of the network.
+fn tell_title<W: Write>(repeats: Option<u8>, output: &mut W) -> io::Result<()> {
+    match repeats {
+        Some(repeats) => {
+            put(
+                "channels, where the network brings no datagram more than ",
+                output,
+            )?;
+            put_number(u64::from(repeats), output)?;
+            put(" times to a device:\n", output)
+        }
+        None => put(
+            "channels, whose datagrams are followed with 'fbr bound --repeats N':\n",
+            output,
+        ),
+    }
+}
+
+/// Writes the channels of what fits, if there are some: from where to where, and with a row REPEATS how often and what a datagram causes.
+pub fn tell_channels<W: Write>(
+    alloc: Global,
+    verified: &Verified,
+    output: &mut W,
+) -> io::Result<()> {
+    let found = leaves_by_channel(alloc, verified.flat())?;
+    if found.is_empty() {
+        return Ok(());
+    }
+    tell_title(verified.certificate().repeats(), output)?;
+    for (number, leaves) in &found {
+        tell_channel(verified, *number, output)?;
+        for leaf in leaves {
+            tell_end(alloc, verified, *leaf, output)?;
+        }
+    }
+    Ok(())
+}
