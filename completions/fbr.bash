@@ -1,0 +1,21 @@
+# Completions of `fbr` for bash: put this file where bash-completion looks (~/.local/share/bash-completion/completions/fbr), or source it.
+_fbr() {
+    local word=${COMP_WORDS[COMP_CWORD]} command=${COMP_WORDS[1]} options
+    if [ "$COMP_CWORD" -eq 1 ]; then
+        mapfile -t COMPREPLY < <(compgen -W "bound check sim explain draw serve help --help --version" -- "$word")
+        return
+    fi
+    case $command in
+        bound | explain) options="--repeats --help" ;;
+        draw) options="--repeats --flat --help" ;;
+        serve) options="--bind --turns --boot --help" ;;
+        check | sim) options="--help" ;;
+        help) mapfile -t COMPREPLY < <(compgen -W "bound check sim explain draw serve help" -- "$word") && return ;;
+    esac
+    if [ "${word:0:1}" = - ]; then
+        mapfile -t COMPREPLY < <(compgen -W "$options" -- "$word")
+    else
+        mapfile -t COMPREPLY < <(compgen -f -- "$word")
+    fi
+}
+complete -o filenames -F _fbr fbr
