@@ -8,7 +8,8 @@ are run in their folders, as `$ fbr ..`, and have to print what the pages say.
 What a case answers comes from the files beside a plant, and these from the rules of the language: NAME.cert is what `fbr bound NAME.fb` prints, NAME.out what `fbr sim` prints for NAME.script.
 Of a wrong plant NAME.out is its refusal by `fbr bound`, or NAME.cert its certificate where each device by itself has one, with NAME.repeats.out its
 refusal by `fbr bound --repeats 2` and mended.repeats.cert what that prints of the mended one; mended.out is what `fbr check NAME.fb mended.cert` prints; where it runs, NAME.script.out is what `fbr sim` prints for NAME.script
-under NAME.cert, and mended.script.out what it prints of the mended one for mended.script under mended.repeats.cert."""
+under NAME.cert, and mended.script.out what it prints of the mended one for mended.script under mended.repeats.cert. Beside the .out of a refusal the .err is what
+people are told on standard error."""
 import pathlib
 import re
 import subprocess
@@ -34,6 +35,11 @@ class Cases:
     def __init__(self, what):
         self.text = f"{what}\n"
         self.given = {}
+
+    def refused(self, label, words, out, files):
+        """A case that is refused: its outcome, and beside it what people are told."""
+        self.add(label, words, out.read_text(), files)
+        self.text += f"on standard error:\n{out.with_suffix('.err').read_text()}"
 
     def add(self, label, words, printed, files=(), script=None):
         self.text += f"==== case {label}\n"
@@ -69,12 +75,12 @@ def wrong(folder):
         cases.add("each device by itself has a certificate", f"bound {app.name}", found.read_text(), [app])
         cases.add("it is accepted", f"check {app.name} {found.name}", "accepted\n", [app, found])
     else:
-        cases.add("it has no certificate", f"bound {app.name}", (folder / f"{name}.out").read_text(), [app])
+        cases.refused("it has no certificate", f"bound {app.name}", folder / f"{name}.out", [app])
     if network.exists():
-        cases.add("over the network it has none", f"bound {app.name} --repeats 2", network.read_text(), [app])
+        cases.refused("over the network it has none", f"bound {app.name} --repeats 2", network, [app])
         cases.add("the mended one has one over the network", f"bound {mended.name} --repeats 2", (folder / "mended.repeats.cert").read_text(), [mended])
     if (folder / "mended.out").exists():
-        cases.add("the certificate of the mended one does not fit", f"check {app.name} {cert.name}", (folder / "mended.out").read_text(), [app, cert])
+        cases.refused("the certificate of the mended one does not fit", f"check {app.name} {cert.name}", folder / "mended.out", [app, cert])
     cases.add("it is mended", f"bound {mended.name}", cert.read_text(), [mended])
     cases.add("the mended one is accepted", f"check {mended.name} {cert.name}", "accepted\n", [mended, cert])
     for label, text, rows in [("it runs", app, found), ("the mended one runs", mended, folder / "mended.repeats.cert")]:

@@ -12,6 +12,7 @@ ghost use Rattle.fbr.specs.declared.fault.Fault.TheVariants.{Memory};
 
 use crate::check::{print_outcome, read_text};
 use crate::fault::Fault;
+use crate::hint::{Given, hint};
 use crate::sources::Sources;
 use fb_cert::{Certificate, print_cert};
 use fb_find::find;
@@ -98,23 +99,35 @@ fn print_text<W: Write>(text: &str, output: &mut W) -> io::Result<u8>
     Ok(0)
 }
 
-/// Finds a certificate of the application in a file, and writes its text, or why there is none, and nothing else.
-pub fn bound_file<'a, S: Sources, W: Write>(
+/// Finds a certificate of the application in a file, and writes its text, or why there is none, and nothing else; on `errors` people are told of a fault.
+pub fn bound_file<'a, S: Sources, W: Write, E: Write>(
     alloc: Global,
     files: &S,
     app: &'a str,
     repeats: Option<u8>,
     output: &mut W,
+    errors: &mut E,
 ) -> io::Result<u8>
     requires { IfSome repeats (λ r. 1 ≤ r) }
     ensures told { IfOk result (λ status. TellsBound repeats app.now (S.contents files.now app.now) (W.contents output.old) (W.contents output.new) status) }
     ensures status { IfOk result (λ status. status ≤ 4) }
 {
+    let given = Given {
+        app,
+        cert: None,
+        repeats,
+    };
     match read_text(alloc, files, app) {
         Ok(text) => match bound_text(alloc, text.as_str(), repeats) {
             Ok(found) => print_text(found.as_str(), output),
-            Err(fault) => print_outcome(Err(fault), output),
+            Err(fault) => {
+                hint(alloc, files, &fault, given, errors);
+                print_outcome(Err(fault), output)
+            }
         },
-        Err(fault) => print_outcome(Err(fault), output),
+        Err(fault) => {
+            hint(alloc, files, &fault, given, errors);
+            print_outcome(Err(fault), output)
+        }
     }
 }

@@ -6,6 +6,7 @@ ghost use Rattle.fbr.specs.Halves.{fence, fence_here, divide};
 ghost use Rattle.fbr.specs.Outcomes.{Tells, TellsInput, TellsFiles, outcome_said, IsVerdict, IsReadFault, IsInputVerdict, IsInputOutcome, IsFilesOutcome, IsContents};
 
 use crate::fault::Fault;
+use crate::hint::{Given, hint};
 use crate::sources::{ReadFault, Sources};
 use fbr_explain::fb_check::{Refusal, check_text};
 use std::alloc::Global;
@@ -186,17 +187,26 @@ fn files_outcome<'a, S: Sources>(
     }
 }
 
-/// Checks two files, and writes the outcome and nothing else.
-pub fn check_files<'a, S: Sources, W: Write>(
+/// Checks two files, and writes the outcome and nothing else; on `errors` people are told of a fault.
+pub fn check_files<'a, S: Sources, W: Write, E: Write>(
     alloc: Global,
     files: &S,
     app: &'a str,
     cert: &'a str,
     output: &mut W,
+    errors: &mut E,
 ) -> io::Result<u8>
     ensures told { IfOk result (λ status. TellsFiles app.now cert.now (S.contents files.now app.now) (S.contents files.now cert.now) (W.contents output.old) (W.contents output.new) status) }
     ensures status { IfOk result (λ status. status ≤ 4) }
 {
     let outcome = files_outcome(alloc, files, app, cert);
+    if let Err(fault) = &outcome {
+        let given = Given {
+            app,
+            cert: Some(cert),
+            repeats: None,
+        };
+        hint(alloc, files, fault, given, errors);
+    }
     print_outcome(outcome, output)
 }

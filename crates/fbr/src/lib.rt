@@ -8,6 +8,7 @@ mod check;
 mod draw;
 mod explain;
 mod fault;
+mod hint;
 mod request;
 mod serve;
 mod sim;

@@ -25,8 +25,8 @@ pub fn verified_texts<'a>(alloc: Global, app: &str, cert: &str) -> Result<Verifi
     }
 }
 
-// What was verified of two files.
-fn verified_files<'a, S: Sources>(
+/// What was verified of two files.
+pub fn verified_files<'a, S: Sources>(
     alloc: Global,
     files: &S,
     app: &'a str,

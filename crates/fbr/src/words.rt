@@ -15,6 +15,7 @@ use crate::check::{check_files, check_input, print_outcome};
 use crate::draw::{Drawing, draw_file};
 use crate::explain::explain;
 use crate::fault::Fault;
+use crate::hint::{Given, hint_drawing, hint_serve, hint_sim};
 use crate::request::{Request, request_in};
 use crate::serve::serve_files;
 use crate::sim::sim_files;
@@ -315,6 +316,15 @@ fn misused<W: Write, E: Write>(why: &str, output: &mut W, errors: &mut E) -> io:
     print_outcome(Err(Fault::Usage), output)
 }
 
+// Two files.
+fn given_two<'a>(app: &'a str, cert: &'a str) -> Given<'a> {
+    Given {
+        app,
+        cert: Some(cert),
+        repeats: None,
+    }
+}
+
 // Finds a certificate, where it is said well how often datagrams are delivered.
 fn run_bound<S: Sources, W: Write, E: Write>(
     alloc: Global,
@@ -330,7 +340,7 @@ fn run_bound<S: Sources, W: Write, E: Write>(
     ensures status { IfOk result (λ status. status ≤ 4) }
 {
     match repeats {
-        Some(repeats) => bound_file(alloc, files, app, repeats, output),
+        Some(repeats) => bound_file(alloc, files, app, repeats, output, errors),
         None => misused(UNCOUNTED, output, errors),
     }
 }
@@ -376,7 +386,11 @@ fn run_told<'a, S: Sources, W: Write, E: Write>(
 {
     match (entered(matches), repeats_given(matches)) {
         (Some((name, words)), Some(repeats)) => {
-            run_telling(alloc, files, name, words, repeats, output)
+            let told = run_telling(alloc, files, name, words, repeats, output);
+            if name == "draw" {
+                hint_drawing(alloc, files, given(words, "APP"), &told, errors);
+            }
+            told
         }
         _ => misused(UNCOUNTED, output, errors),
     }
@@ -397,7 +411,12 @@ fn run_serve<'a, R: Clock + Net, S: Sources, W: Write, E: Write>(
     ensures status { IfOk result (λ status. status ≤ 4) }
 {
     match request {
-        Some(request) => serve_files(rt, alloc, files, &request, output),
+        Some(request) => {
+            let told = serve_files(rt, alloc, files, &request, output);
+            let given = given_two(request.app, request.cert);
+            hint_serve(alloc, files, given, &told, errors);
+            told
+        }
         None => misused(UNNUMBERED, output, errors),
     }
 }
@@ -496,9 +515,13 @@ fn run_words<R: Clock + Net, S: Sources, I: Read, W: Write, E: Write>(
         return run_bound(alloc, files, app, repeats_given(&matches), output, errors);
     }
     match files_named(&matches, "check") {
-        Some((app, cert)) => check_files(alloc, files, app, cert, output),
+        Some((app, cert)) => check_files(alloc, files, app, cert, output, errors),
         None => match files_named(&matches, "sim") {
-            Some((app, cert)) => sim_files(alloc, files, app, cert, input, output),
+            Some((app, cert)) => {
+                let told = sim_files(alloc, files, app, cert, input, output);
+                hint_sim(alloc, files, given_two(app, cert), &told, errors);
+                told
+            }
             None => run_rest(rt, alloc, files, &matches, output, errors),
         },
     }
@@ -511,7 +534,7 @@ fn run_words<R: Clock + Net, S: Sources, I: Read, W: Write, E: Write>(
 /// With `bound` the certificate that is found is written. With `sim` `input` holds a script, whose answers are written one line each. With `serve` a device takes turns over
 /// UDP, and what its OUTPUTs write is written, one line each.
 /// Each fault is told by one line on `output`: `refused`, its code, and its place where there is one. With `explain` more is written behind that line,
-/// for people, and with `draw` a graph; what they write is not said here, nor what people are told on `errors`: why the words are at fault.
+/// for people, and with `draw` a graph; what they write is not said here, nor what people are told on `errors`: why the words or a text are at fault.
 pub fn command<R: AllocGlobal + Clock + Net, S: Sources, I: Read, W: Write, E: Write>(
     rt: &R,
     words: &[&str],
