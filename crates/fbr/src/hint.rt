@@ -26,11 +26,11 @@ fn put<E: Write>(text: &str, errors: &mut E) -> io::Result<()> {
 }
 
 // What there is to say of a refusal of two texts, where they can be read.
-fn explained<S: Sources>(
+fn explained<'a, S: Sources>(
     alloc: Global,
     files: &S,
-    refusal: &Refusal,
-    given: Given<'_>,
+    refusal: &'a Refusal,
+    given: Given<'a>,
 ) -> Option<String> {
     let cert_name = given.cert.unwrap_or(given.app);
     let app = read_text(alloc, files, given.app).ok()?;
@@ -154,11 +154,11 @@ fn write_taught<E: Write>(
 }
 
 // Writes the line of a fault, if it is more than want of memory.
-fn tell<S: Sources, E: Write>(
+fn tell<'a, S: Sources, E: Write>(
     alloc: Global,
     files: &S,
-    fault: &Fault<'_>,
-    given: Given<'_>,
+    fault: &'a Fault<'_>,
+    given: Given<'a>,
     errors: &mut E,
 ) -> io::Result<()> {
     match fault {
@@ -172,11 +172,11 @@ fn tell<S: Sources, E: Write>(
 }
 
 /// Tells people of a fault of two files.
-pub fn hint<S: Sources, E: Write>(
+pub fn hint<'a, S: Sources, E: Write>(
     alloc: Global,
     files: &S,
-    fault: &Fault<'_>,
-    given: Given<'_>,
+    fault: &'a Fault<'_>,
+    given: Given<'a>,
     errors: &mut E,
 ) {
     let _ = tell(alloc, files, fault, given, errors);
