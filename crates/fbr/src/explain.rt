@@ -72,8 +72,8 @@ fn repeats_of(alloc: Global, cert: &str) -> Option<u8>
     }
 }
 
-// Writes what there is to say of a refusal.
-fn tell<W: Write>(
+/// Writes what there is to say of a refusal, with the rows that are found where they are known.
+pub fn tell_rows<W: Write>(
     alloc: Global,
     refusal: &Refusal,
     app: Named<'_>,
@@ -107,11 +107,11 @@ fn tell_with_rows<W: Write>(
     };
     match found {
         Some(certificate) => {
-            let told = tell(alloc, refusal, app, cert, Some(&certificate), output);
+            let told = tell_rows(alloc, refusal, app, cert, Some(&certificate), output);
             certificate.let_go();
             told
         }
-        None => tell(alloc, refusal, app, cert, None, output),
+        None => tell_rows(alloc, refusal, app, cert, None, output),
     }
 }
 
@@ -145,12 +145,17 @@ fn explain_unbound<W: Write>(
     Ok(Fault::Unbound(reason).status())
 }
 
-// Writes the line of an acceptance, and the bounds of what fits.
-fn explain_bounds<W: Write>(alloc: Global, verified: Verified, output: &mut W) -> io::Result<u8>
+// Writes the line of an acceptance, the bounds of what fits, and notes on the application's text.
+fn explain_bounds<W: Write>(
+    alloc: Global,
+    verified: Verified,
+    app: Named<'_>,
+    output: &mut W,
+) -> io::Result<u8>
     ensures status { IfOk result (λ status. status ≤ 4) }
 {
     writeln!(output, "accepted")?;
-    let told = tell_bounds(alloc, &verified, output);
+    let told = tell_bounds(alloc, &verified, app, output);
     verified.let_go();
     told?;
     Ok(0)
@@ -167,7 +172,7 @@ fn explain_verdict<W: Write>(
     ensures status { IfOk result (λ status. status ≤ 4) }
 {
     match verdict {
-        Ok(verified) => explain_bounds(alloc, verified, output),
+        Ok(verified) => explain_bounds(alloc, verified, app, output),
         Err(Fault::Refused(refusal)) => explain_refusal(alloc, refusal, app, cert, output),
         Err(fault) => explain_fault(fault, output),
     }

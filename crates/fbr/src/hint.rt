@@ -2,12 +2,13 @@
 
 use crate::bound::typed_in;
 use crate::check::read_text;
+use crate::explain::tell_rows;
 use crate::fault::Fault;
 use crate::sim::verified_files;
 use crate::sources::Sources;
 use fb_find_rows::NoBound;
 use fbr_explain::fb_check::Refusal;
-use fbr_explain::{Named, Refused, found_limit, meaning_of, tell_refusal};
+use fbr_explain::{Named, found_limit, meaning_of};
 use std::alloc::Global;
 use std::io;
 use std::io::Write;
@@ -26,30 +27,25 @@ fn put<E: Write>(text: &str, errors: &mut E) -> io::Result<()> {
 }
 
 // What there is to say of a refusal of two texts, where they can be read.
-fn explained<'a, S: Sources>(
+fn explained<S: Sources>(
     alloc: Global,
     files: &S,
-    refusal: &'a Refusal,
-    given: Given<'a>,
+    refusal: &Refusal,
+    given: Given<'_>,
 ) -> Option<String> {
-    let cert_name = given.cert.unwrap_or(given.app);
-    let app = read_text(alloc, files, given.app).ok()?;
-    let cert = read_text(alloc, files, cert_name).ok()?;
-    let mut told = Vec::new(alloc);
-    let refused = Refused {
-        alloc,
-        refusal,
-        app: Named {
-            name: given.app,
-            text: app.as_str(),
-        },
-        cert: Named {
-            name: cert_name,
-            text: cert.as_str(),
-        },
-        found: None,
+    let name = given.cert.unwrap_or(given.app);
+    let app_text = read_text(alloc, files, given.app).ok()?;
+    let cert_text = read_text(alloc, files, name).ok()?;
+    let app = Named {
+        name: given.app,
+        text: app_text.as_str(),
     };
-    tell_refusal(&refused, &mut told).ok()?;
+    let cert = Named {
+        name,
+        text: cert_text.as_str(),
+    };
+    let mut told = Vec::new(alloc);
+    tell_rows(alloc, refusal, app, cert, None, &mut told).ok()?;
     String::from_utf8(told).ok()
 }
 
@@ -154,11 +150,11 @@ fn write_taught<E: Write>(
 }
 
 // Writes the line of a fault, if it is more than want of memory.
-fn tell<'a, S: Sources, E: Write>(
+fn tell<S: Sources, E: Write>(
     alloc: Global,
     files: &S,
-    fault: &'a Fault<'_>,
-    given: Given<'a>,
+    fault: &Fault<'_>,
+    given: Given<'_>,
     errors: &mut E,
 ) -> io::Result<()> {
     match fault {
@@ -172,11 +168,11 @@ fn tell<'a, S: Sources, E: Write>(
 }
 
 /// Tells people of a fault of two files.
-pub fn hint<'a, S: Sources, E: Write>(
+pub fn hint<S: Sources, E: Write>(
     alloc: Global,
     files: &S,
-    fault: &'a Fault<'_>,
-    given: Given<'a>,
+    fault: &Fault<'_>,
+    given: Given<'_>,
     errors: &mut E,
 ) {
     let _ = tell(alloc, files, fault, given, errors);

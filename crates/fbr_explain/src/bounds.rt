@@ -1,7 +1,10 @@
 //! The bounds of what fits, told to people.
 
+use crate::beside::{Queue, arrivals_of, tell_beside, tell_depth};
 use crate::channels::{Ways, channels_behind, numbered, tell_channels};
+use crate::notes::tell_notes;
 use crate::put::{put, put_number};
+use crate::spotted::Named;
 use fb_cert::Certificate;
 use fb_check::Verified;
 use fb_flat::{Body, FlatResource, Leaf, joined};
@@ -16,6 +19,7 @@ struct View<'a> {
     alloc: Global,
     verified: &'a Verified,
     ways: Ways<'a>,
+    queue: Queue<'a>,
 }
 
 // Writes the channels on which an arrival of a leaf can be sent on.
@@ -28,7 +32,8 @@ fn tell_ways<W: Write>(view: View<'_>, leaf: &Leaf, event: &str, output: &mut W)
     Ok(())
 }
 
-// Writes what one event at an arrival of a leaf causes at most: on its device, and where it is known on all, and through which channels.
+// Writes what one event at an arrival of a leaf causes at most: on its device, and where it is known on all, and through which channels; and beside which other
+// arrivals there is no room for it.
 fn tell_arrival<W: Write>(
     view: View<'_>,
     leaf: &Leaf,
@@ -50,6 +55,7 @@ fn tell_arrival<W: Write>(
         put_number(far, output)?;
         tell_ways(view, leaf, event, output)?;
     }
+    tell_beside(view.queue, path, output)?;
     put("\n", output)
 }
 
@@ -110,8 +116,13 @@ fn tell_resource<'a, W: Write>(
     output: &mut W,
 ) -> io::Result<()> {
     let path = resource.path.as_str();
-    let depth = verified.depth(path).unwrap_or(0);
-    writeln!(output, "{path}: depth of the queue {depth}")?;
+    let arrivals = arrivals_of(alloc, verified, resource)?;
+    let queue = Queue {
+        path,
+        depth: verified.depth(path).unwrap_or(0),
+        arrivals: &arrivals,
+    };
+    tell_depth(queue, output)?;
     let numbers = numbered(alloc, resource)?;
     let view = View {
         alloc,
@@ -120,6 +131,7 @@ fn tell_resource<'a, W: Write>(
             numbers: &numbers,
             leaves: resource.leaves.as_slice(),
         },
+        queue,
     };
     for leaf in &resource.leaves {
         tell_leaf(view, leaf, output)?;
@@ -127,12 +139,19 @@ fn tell_resource<'a, W: Write>(
     Ok(())
 }
 
-/// Writes the bounds of what fits: how deep each queue is, what each arrival causes at most, the range of each variable that is not its whole type, and the channels.
-pub fn tell_bounds<W: Write>(alloc: Global, verified: &Verified, output: &mut W) -> io::Result<()> {
+/// Writes the bounds of what fits: how deep each queue is, what each arrival causes at most and beside which others it has no room, the range of each
+/// variable that is not its whole type, and the channels; and notes on the text.
+pub fn tell_bounds<W: Write>(
+    alloc: Global,
+    verified: &Verified,
+    app: Named<'_>,
+    output: &mut W,
+) -> io::Result<()> {
     for device in &verified.flat().devices {
         for resource in &device.resources {
             tell_resource(alloc, verified, resource, output)?;
         }
     }
-    tell_channels(alloc, verified, output)
+    tell_channels(alloc, verified, output)?;
+    tell_notes(alloc, app, output)
 }

@@ -23,3 +23,16 @@ pub fn tell_spot<W: Write>(name: &str, spot: Option<Spot<'_>>, output: &mut W) -
         None => Ok(()),
     }
 }
+
+/// Writes the file, the line and the column of a byte of a text.
+pub fn tell_where<W: Write>(file: Named<'_>, byte: usize, output: &mut W) -> io::Result<()> {
+    match Spot::of_byte(file.text, byte) {
+        Some(spot) => {
+            let name = file.name;
+            let line = spot.line;
+            let column = spot.column;
+            write!(output, "{name}:{line}:{column}")
+        }
+        None => Ok(()),
+    }
+}

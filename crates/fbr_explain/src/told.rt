@@ -7,9 +7,11 @@ use crate::place::{byte_in, channel_line, line_in, path_in, row_line};
 use crate::put::put;
 use crate::queue::tell_depth;
 use crate::range::{tell_link, tell_start};
+use crate::renamed::tell_counts;
 use crate::row::{tell_missing, tell_missing_channel};
 use crate::seen::{block_in, place_at};
 use crate::spotted::{Named, tell_spot};
+use crate::taught::{tell_swapped, tell_text};
 use fb_cert::{Certificate, parse_cert};
 use fb_check::{Refusal, read_system};
 use fb_check_ranges::block_rows;
@@ -114,7 +116,8 @@ fn tell_numbers<W: Write>(
     let alloc = refused.alloc;
     match refused.refusal {
         Refusal::MissingRow(path) => {
-            tell_missing(declared, cert, refused.found, path.as_str(), output)
+            tell_missing(declared, cert, refused.found, path.as_str(), output)?;
+            tell_counts(alloc, flat, cert, output)
         }
         Refusal::MissingChannel(number) => tell_missing_channel(refused.found, *number, output),
         Refusal::RangeStart(path) => tell_start(alloc, flat, cert, path.as_str(), output),
@@ -144,7 +147,8 @@ fn tell_all<W: Write>(
         (Refusal::UnknownRow(path), _) => {
             let repeats = certificate.repeats().is_some();
             let line = row_line(refused.cert.text, declared, repeats, path.as_str());
-            tell_line(refused, line, output)
+            tell_line(refused, line, output)?;
+            tell_counts(refused.alloc, flat, certificate, output)
         }
         (Refusal::UnknownChannel(number), _) => {
             tell_line(refused, channel_line(refused.cert.text, *number), output)
@@ -206,9 +210,10 @@ fn tell_tree<W: Write>(refused: &Refused<'_>, output: &mut W) -> io::Result<()> 
 pub fn tell_refusal<W: Write>(refused: &Refused<'_>, output: &mut W) -> io::Result<()> {
     let app = refused.app;
     if let Some(byte) = byte_in(refused.refusal) {
-        tell_spot(app.name, Spot::of_byte(app.text, byte), output)?;
+        tell_text(refused.alloc, refused.refusal, app, byte, output)?;
     } else if line_in(refused.refusal).is_some() {
         tell_line(refused, line_in(refused.refusal), output)?;
+        tell_swapped(refused.cert.text, output)?;
     } else {
         tell_tree(refused, output)?;
     }

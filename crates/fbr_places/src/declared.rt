@@ -46,8 +46,8 @@ fn resource_named<'a>(file: &'a FileTree, device: &str, name: &str) -> Option<&'
     None
 }
 
-// An instance of a network.
-fn instance_named<'a>(network: &'a NetworkTree, name: &str) -> Option<&'a InstanceTree> {
+/// An instance of a network.
+pub fn instance_named<'a>(network: &'a NetworkTree, name: &str) -> Option<&'a InstanceTree> {
     for instance in &network.instances {
         if instance.name.text.as_str() == name {
             return Some(instance);
@@ -56,8 +56,8 @@ fn instance_named<'a>(network: &'a NetworkTree, name: &str) -> Option<&'a Instan
     None
 }
 
-// The declaration of a block type.
-fn block_named<'a>(file: &'a FileTree, name: &str) -> Option<&'a BlockTree> {
+/// The declaration of a block type.
+pub fn block_named<'a>(file: &'a FileTree, name: &str) -> Option<&'a BlockTree> {
     for block in &file.blocks {
         if block.name.text.as_str() == name {
             return Some(block);
@@ -66,8 +66,8 @@ fn block_named<'a>(file: &'a FileTree, name: &str) -> Option<&'a BlockTree> {
     None
 }
 
-// A variable of one of these declarations.
-fn variable_named<'a>(declared: &'a [VariableTree], wanted: &str) -> Option<Declared<'a>> {
+/// A variable of one of these declarations.
+pub fn variable_named<'a>(declared: &'a [VariableTree], wanted: &str) -> Option<Declared<'a>> {
     for variables in declared {
         for name in &variables.names {
             if name.text.as_str() == wanted {
@@ -78,8 +78,8 @@ fn variable_named<'a>(declared: &'a [VariableTree], wanted: &str) -> Option<Decl
     None
 }
 
-// An event of these.
-fn event_named<'a>(events: &'a [EventTree], wanted: &str) -> Option<Declared<'a>> {
+/// An event of these.
+pub fn event_named<'a>(events: &'a [EventTree], wanted: &str) -> Option<Declared<'a>> {
     for event in events {
         if event.name.text.as_str() == wanted {
             return Some(Declared::Event(event));

@@ -2,10 +2,18 @@
 //! No contracts: what it finds is tested.
 #![tactic(auto)]
 
+mod around;
 mod declared;
+mod library;
+mod ports;
 mod spot;
 mod tree;
 
-pub use declared::{Declared, declared_at, instance_at};
+pub use around::{
+    block_around, connection_at, device_around, instance_around, network_around, resource_around,
+};
+pub use declared::{Declared, declared_at, instance_at, instance_named};
+pub use library::FACES;
+pub use ports::{Port, Types, port_in, type_named};
 pub use spot::Spot;
 pub use tree::tree_of;

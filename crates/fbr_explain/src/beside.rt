@@ -1,0 +1,104 @@
+//! How much fits into a queue at once.
+
+use crate::put::{put, put_number};
+use fb_check::Verified;
+use fb_flat::{Body, FlatResource, joined};
+use std::alloc::{AllocError, Global};
+use std::io;
+use std::io::Write;
+
+// So many others are named.
+const NAMED: usize = 3;
+
+/// An arrival, and the places that one event there takes at most.
+#[derive(Drop)]
+pub struct Arrival {
+    pub path: String,
+    pub places: u64,
+}
+
+/// The queue of a resource: its path, its depth, and the arrivals that it takes.
+#[derive(Clone, Copy)]
+pub struct Queue<'a> {
+    pub path: &'a str,
+    pub depth: u64,
+    pub arrivals: &'a [Arrival],
+}
+
+/// The arrivals of a resource.
+pub fn arrivals_of(
+    alloc: Global,
+    verified: &Verified,
+    resource: &FlatResource,
+) -> Result<Vec<Arrival>, AllocError> {
+    let mut arrivals = Vec::new(alloc);
+    for leaf in &resource.leaves {
+        if let Body::Served(service) = &leaf.body {
+            if let Some(event) = service.arrival() {
+                let path = joined(alloc, leaf.path.as_str(), event)?;
+                let places = verified.places_of(path.as_str()).unwrap_or(0);
+                arrivals.push(Arrival { path, places })?;
+            }
+        }
+    }
+    Ok(arrivals)
+}
+
+/// Writes how deep a resource's queue is, and which depth takes each arrival once where it does not.
+pub fn tell_depth<W: Write>(queue: Queue<'_>, output: &mut W) -> io::Result<()> {
+    put(queue.path, output)?;
+    put(": depth of the queue ", output)?;
+    put_number(queue.depth, output)?;
+    let mut places: u64 = 0;
+    for arrival in queue.arrivals {
+        places = places.saturating_add(arrival.places);
+    }
+    if places > queue.depth {
+        put(", and ", output)?;
+        put_number(places, output)?;
+        put(" takes each arrival once", output)?;
+    }
+    put("\n", output)
+}
+
+// The path of an arrival within its resource.
+fn within<'a>(resource: &str, path: &'a str) -> &'a str {
+    match path.strip_prefix(resource) {
+        Some(rest) => rest.strip_prefix('.').unwrap_or(rest),
+        None => path,
+    }
+}
+
+/// Goes on with the other arrivals of a queue beside which it has no room for one.
+pub fn tell_beside<W: Write>(queue: Queue<'_>, path: &str, output: &mut W) -> io::Result<()> {
+    let mut room = queue.depth;
+    for arrival in queue.arrivals {
+        if arrival.path.as_str() == path {
+            room = queue.depth.saturating_sub(arrival.places);
+        }
+    }
+    let mut others: usize = 0;
+    for arrival in queue.arrivals {
+        if arrival.path.as_str() != path && arrival.places > room {
+            others = others.saturating_add(1);
+        }
+    }
+    if others > 0 && others.saturating_add(1) == queue.arrivals.len() {
+        return put("; nothing else fits beside it", output);
+    }
+    let mut told: usize = 0;
+    for arrival in queue.arrivals {
+        let is_other = arrival.path.as_str() != path;
+        if told < NAMED && is_other && arrival.places > room {
+            put(if told == 0 { "; not beside " } else { ", " }, output)?;
+            put(within(queue.path, arrival.path.as_str()), output)?;
+            told = told.saturating_add(1);
+        }
+    }
+    if others > told {
+        put(" and ", output)?;
+        put_number(others.saturating_sub(told) as u64, output)?;
+        put(" more", output)?;
+    }
+    Ok(())
+}

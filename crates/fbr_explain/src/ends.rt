@@ -1,0 +1,150 @@
+//! Ends of connections: what each is, and where another source stands.
+
+use crate::put::put;
+use crate::spotted::{Named, tell_where};
+use fb_tree::{BlockTree, NetworkTree, ParameterTree, PortTree};
+use fbr_places::{
+    Port, Types, block_around, connection_at, instance_around, instance_named, network_around,
+    port_in,
+};
+use std::io;
+use std::io::Write;
+
+/// What an end of a connection is, in a network that may be that of a composite.
+pub fn port_of(
+    types: Types<'_>,
+    network: &NetworkTree,
+    block: Option<&BlockTree>,
+    end: &PortTree,
+) -> Option<Port> {
+    match &end.second {
+        Some(name) => {
+            let instance = instance_named(network, end.first.text.as_str())?;
+            types.port(instance, name.text.as_str())
+        }
+        None => port_in(block?, end.first.text.as_str()),
+    }
+}
+
+/// Writes an end.
+pub fn put_end<W: Write>(end: &PortTree, output: &mut W) -> io::Result<()> {
+    put(end.first.text.as_str(), output)?;
+    match &end.second {
+        Some(name) => {
+            put(".", output)?;
+            put(name.text.as_str(), output)
+        }
+        None => Ok(()),
+    }
+}
+
+// What a port is called.
+fn said(port: Option<Port>) -> &'static str {
+    match port {
+        Some(Port::EventInput) => " is an event input",
+        Some(Port::EventOutput) => " is an event output",
+        Some(Port::Input(_)) => " is a data input",
+        Some(Port::Output(_)) => " is a data output",
+        None => " is no port",
+    }
+}
+
+/// Writes what the ends are of the connection whose TO is a byte.
+pub fn tell_ends<W: Write>(types: Types<'_>, at: usize, output: &mut W) -> io::Result<()> {
+    let block = block_around(types.file, at);
+    let Some(network) = network_around(types.file, at) else {
+        return Ok(());
+    };
+    let Some((connection, is_event)) = connection_at(network, at) else {
+        return Ok(());
+    };
+    let (source, target) = (&connection.source, &connection.target);
+    let is_own = source.second.is_none() || target.second.is_none();
+    if source.second.is_none() && target.second.is_none() {
+        return put(
+            "both ends are ports of the composite itself: lead them through an instance\n",
+            output,
+        );
+    }
+    put_end(source, output)?;
+    put(said(port_of(types, network, block, source)), output)?;
+    put(", and ", output)?;
+    put_end(target, output)?;
+    put(said(port_of(types, network, block, target)), output)?;
+    let rule = if is_event {
+        ": EVENT_CONNECTIONS lead from an event output to an event input"
+    } else {
+        ": DATA_CONNECTIONS lead from a data output to a data input"
+    };
+    put(rule, output)?;
+    if is_own {
+        put(
+            ", and within a composite from its own inputs and to its own outputs",
+            output,
+        )?;
+    }
+    put("\n", output)
+}
+
+// Where the parameter stands that gives an end of a connection its value, or else the first connection that does.
+fn source_of(network: &NetworkTree, target: &PortTree) -> Option<usize> {
+    let first = target.first.text.as_str();
+    if let (Some(port), Some(instance)) = (&target.second, instance_named(network, first)) {
+        for parameter in &instance.parameters {
+            if parameter.name.text.as_str() == port.text.as_str() {
+                return Some(parameter.at);
+            }
+        }
+    }
+    for connection in &network.values {
+        let other = &connection.target;
+        let is_port = match (&other.second, &target.second) {
+            (Some(name), Some(wanted)) => name.text.as_str() == wanted.text.as_str(),
+            (None, None) => true,
+            _ => false,
+        };
+        if is_port && other.first.text.as_str() == first {
+            return Some(connection.at);
+        }
+    }
+    None
+}
+
+// The parameter before the one whose `:=` is a byte that has the same name.
+fn parameter_of(network: &NetworkTree, at: usize) -> Option<&ParameterTree> {
+    let instance = instance_around(network, at)?;
+    for parameter in &instance.parameters {
+        for again in &instance.parameters {
+            if again.at == at && again.name.text.as_str() == parameter.name.text.as_str() {
+                return Some(parameter);
+            }
+        }
+    }
+    None
+}
+
+/// Writes where the value stands that is given again at a byte.
+pub fn tell_second<W: Write>(
+    types: Types<'_>,
+    app: Named<'_>,
+    at: usize,
+    output: &mut W,
+) -> io::Result<()> {
+    let Some(network) = network_around(types.file, at) else {
+        return Ok(());
+    };
+    let other = match (connection_at(network, at), parameter_of(network, at)) {
+        (Some((connection, _)), _) => {
+            put_end(&connection.target, output)?;
+            source_of(network, &connection.target)
+        }
+        (None, Some(parameter)) => {
+            put(parameter.name.text.as_str(), output)?;
+            Some(parameter.at)
+        }
+        _ => return Ok(()),
+    };
+    put(" has its value by ", output)?;
+    tell_where(app, other.unwrap_or(at), output)?;
+    put(" already\n", output)
+}

@@ -1,0 +1,60 @@
+//! Notes on what is accepted.
+
+use crate::charted::note_chart;
+use crate::noted::Page;
+use crate::spotted::Named;
+use crate::used::note_variables;
+use crate::wired::note_network;
+use fb_lex::lex;
+use fb_tree::BodyTree;
+use fbr_places::{FACES, Types, tree_of};
+use std::alloc::Global;
+use std::io;
+use std::io::Write;
+
+// Writes the notes on a text in its order: its block types, and then its resources.
+fn note_all<W: Write>(page: Page<'_>, output: &mut W) -> io::Result<()> {
+    for block in &page.types.file.blocks {
+        match &block.body {
+            BodyTree::Chart(chart) => {
+                note_variables(page, block, chart, output)?;
+                note_chart(page, block, chart, output)?;
+            }
+            BodyTree::Network(network) => note_network(page, network, output)?,
+        }
+    }
+    for device in &page.types.file.system.devices {
+        for resource in &device.resources {
+            note_network(page, &resource.network, output)?;
+        }
+    }
+    Ok(())
+}
+
+/// Writes notes on the text of an application that is accepted: what it has and does not use, what leads nowhere, and numbers without a unit.
+pub fn tell_notes<W: Write>(alloc: Global, app: Named<'_>, output: &mut W) -> io::Result<()> {
+    let Ok(tokens) = lex(alloc, app.text) else {
+        return Ok(());
+    };
+    let Some(file) = tree_of(alloc, app.text) else {
+        return Ok(());
+    };
+    let Some(library) = tree_of(alloc, FACES) else {
+        file.let_go();
+        return Ok(());
+    };
+    let types = Types {
+        file: &file,
+        library: &library,
+    };
+    let page = Page {
+        alloc,
+        app,
+        tokens: &tokens,
+        types,
+    };
+    let told = note_all(page, output);
+    library.let_go();
+    file.let_go();
+    told
+}

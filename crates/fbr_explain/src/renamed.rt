@@ -1,0 +1,65 @@
+//! How many rows a certificate has too many, and how many it lacks.
+
+use crate::put::{put, put_number};
+use fb_cert::Certificate;
+use fb_check_rows::{RowKind, required};
+use fb_flat::Flat;
+use std::alloc::Global;
+use std::io;
+use std::io::Write;
+
+// Whether a certificate has a row of a kind and a path.
+fn has(certificate: &Certificate, kind: RowKind, path: &str) -> bool {
+    match kind {
+        RowKind::Charge => certificate.charge(path).is_some(),
+        RowKind::Weight => certificate.weight(path).is_some(),
+        RowKind::Range => certificate.range(path).is_some(),
+        RowKind::Depth => certificate.depth(path).is_some(),
+    }
+}
+
+// How many rows of a kind a certificate has.
+fn count(certificate: &Certificate, kind: RowKind) -> usize {
+    match kind {
+        RowKind::Charge => certificate.charge_count(),
+        RowKind::Weight => certificate.weight_count(),
+        RowKind::Range => certificate.range_count(),
+        RowKind::Depth => certificate.depth_count(),
+    }
+}
+
+/// Writes how many rows are missing and how many are too many, where these are more than one.
+pub fn tell_counts<W: Write>(
+    alloc: Global,
+    flat: &Flat,
+    certificate: &Certificate,
+    output: &mut W,
+) -> io::Result<()> {
+    let mut missing: usize = 0;
+    let mut many: usize = 0;
+    for kind in [
+        RowKind::Charge,
+        RowKind::Weight,
+        RowKind::Range,
+        RowKind::Depth,
+    ] {
+        if let Ok(rows) = required(alloc, kind, flat) {
+            let mut met: usize = 0;
+            for path in &rows {
+                if has(certificate, kind, path.as_str()) {
+                    met = met.saturating_add(1);
+                }
+            }
+            missing = missing.saturating_add(rows.len().saturating_sub(met));
+            many = many.saturating_add(count(certificate, kind).saturating_sub(met));
+        }
+    }
+    if missing.saturating_add(many) < 2 {
+        return Ok(());
+    }
+    put("rows that are missing: ", output)?;
+    put_number(missing as u64, output)?;
+    put(", rows that are too many: ", output)?;
+    put_number(many as u64, output)?;
+    put("; find them anew by `fbr bound APP > CERT`\n", output)
+}

@@ -1,0 +1,103 @@
+//! Tokens around a place of a text.
+
+use crate::put::put;
+use fb_lex::{Kind, Token};
+use fb_words::Mark;
+use std::io;
+use std::io::Write;
+
+/// The sign or the reserved word that a token is.
+pub fn mark_of(token: Option<&Token>) -> Option<Mark> {
+    match &token?.kind {
+        Kind::Mark(mark) => Some(*mark),
+        _ => None,
+    }
+}
+
+/// The name that a token is.
+pub fn name_of(token: Option<&Token>) -> Option<&str> {
+    match &token?.kind {
+        Kind::Name(name) => Some(name.as_str()),
+        _ => None,
+    }
+}
+
+/// The index of the token that begins at a byte or behind it; how many there are where none does.
+pub fn index_at(tokens: &[Token], at: usize) -> usize {
+    let mut index: usize = 0;
+    for token in tokens {
+        if token.start < at {
+            index = index.saturating_add(1);
+        }
+    }
+    index
+}
+
+/// What closes what a sign or a word opens; nothing where it opens nothing.
+pub fn closer_of(mark: Mark) -> Option<Mark> {
+    match mark {
+        Mark::LParen => Some(Mark::RParen),
+        Mark::LBracket => Some(Mark::RBracket),
+        Mark::FunctionBlock => Some(Mark::EndFunctionBlock),
+        Mark::EventInput | Mark::EventOutput => Some(Mark::EndEvent),
+        Mark::VarInput | Mark::VarOutput | Mark::Var => Some(Mark::EndVar),
+        Mark::EcStates => Some(Mark::EndStates),
+        Mark::EcTransitions => Some(Mark::EndTransitions),
+        Mark::Algorithm => Some(Mark::EndAlgorithm),
+        Mark::Fbs => Some(Mark::EndFbs),
+        Mark::EventConnections | Mark::DataConnections => Some(Mark::EndConnections),
+        Mark::System => Some(Mark::EndSystem),
+        Mark::Device => Some(Mark::EndDevice),
+        Mark::Resource => Some(Mark::EndResource),
+        Mark::If => Some(Mark::EndIf),
+        Mark::Case => Some(Mark::EndCase),
+        Mark::For => Some(Mark::EndFor),
+        _ => None,
+    }
+}
+
+/// The index of the innermost token that opens what is still open before the token of an index.
+pub fn open_before(tokens: &[Token], index: usize) -> Option<usize> {
+    let mut closed: usize = 0;
+    for step in 0..index {
+        let at = index.saturating_sub(step).saturating_sub(1);
+        if let Some(mark) = mark_of(tokens.get(at)) {
+            if matches!(mark, Mark::RParen | Mark::RBracket) || mark.word().starts_with("END_") {
+                closed = closed.saturating_add(1);
+            } else if closer_of(mark).is_some() {
+                if closed == 0 {
+                    return Some(at);
+                }
+                closed = closed.saturating_sub(1);
+            }
+        }
+    }
+    None
+}
+
+/// Writes how a sign or a word is written.
+pub fn put_mark<W: Write>(mark: Mark, output: &mut W) -> io::Result<()> {
+    let sign = mark.sign();
+    if sign.is_empty() {
+        return put(mark.word(), output);
+    }
+    put_spelled(sign, output)
+}
+
+/// Writes a piece of a text.
+pub fn put_spelled<W: Write>(spelled: &str, output: &mut W) -> io::Result<()> {
+    put("`", output)?;
+    put(spelled, output)?;
+    put("`", output)
+}
+
+/// Writes a token of a text, or that the text ends.
+pub fn put_token<W: Write>(text: &str, token: Option<&Token>, output: &mut W) -> io::Result<()> {
+    let Some(found) = token else {
+        return put("the end of the text", output);
+    };
+    match mark_of(token) {
+        Some(mark) => put_mark(mark, output),
+        None => put_spelled(text.get(found.start..found.end).unwrap_or(""), output),
+    }
+}

@@ -1,0 +1,126 @@
+//! Notes on networks: instances that no event reaches, event outputs that lead nowhere, and values that no event is WITH.
+
+use crate::noted::{Page, note};
+use crate::used::note_time;
+use fb_tree::{BlockTree, BodyTree, EventTree, InstanceTree, NetworkTree, PortTree};
+use fbr_places::{Port, instance_named};
+use std::io;
+use std::io::Write;
+
+// Whether an event connection leads to an instance.
+fn is_reached(network: &NetworkTree, instance: &str) -> bool {
+    for connection in &network.events {
+        let target = &connection.target;
+        if target.second.is_some() && target.first.text.as_str() == instance {
+            return true;
+        }
+    }
+    false
+}
+
+// Whether an event connection leads from an event output of an instance.
+fn is_led(network: &NetworkTree, instance: &str, event: &str) -> bool {
+    for connection in &network.events {
+        if let Some(name) = &connection.source.second {
+            if connection.source.first.text.as_str() == instance && name.text.as_str() == event {
+                return true;
+            }
+        }
+    }
+    false
+}
+
+// Whether one of some events is WITH a variable.
+fn is_carried(events: &[EventTree], name: &str) -> bool {
+    for event in events {
+        for carried in &event.carries {
+            if carried.text.as_str() == name {
+                return true;
+            }
+        }
+    }
+    false
+}
+
+// Writes the notes on the events of an instance.
+fn note_events<W: Write>(
+    page: Page<'_>,
+    network: &NetworkTree,
+    instance: &InstanceTree,
+    block: &BlockTree,
+    output: &mut W,
+) -> io::Result<()> {
+    let name = instance.name.text.as_str();
+    if !block.event_inputs.is_empty() && !is_reached(network, name) {
+        return note(page, instance.name.at, &["no event reaches ", name], output);
+    }
+    for event in &block.event_outputs {
+        let own = event.name.text.as_str();
+        if own != "INITO" && !is_led(network, name, own) {
+            let texts = [name, ".", own, " leads nowhere"];
+            note(page, instance.name.at, &texts, output)?;
+        }
+    }
+    Ok(())
+}
+
+// Writes that no event is WITH an end of a data connection, where it is a port of a basic block type of the text and that is so.
+fn note_end<W: Write>(
+    page: Page<'_>,
+    network: &NetworkTree,
+    end: &PortTree,
+    is_target: bool,
+    output: &mut W,
+) -> io::Result<()> {
+    let (Some(instance), Some(port)) = (
+        instance_named(network, end.first.text.as_str()),
+        &end.second,
+    ) else {
+        return Ok(());
+    };
+    for block in &page.types.file.blocks {
+        let is_type = block.name.text.as_str() == instance.of_type.text.as_str();
+        let is_basic = matches!(&block.body, BodyTree::Chart(_));
+        let (events, says) = if is_target {
+            (&block.event_inputs, ": this value is never taken")
+        } else {
+            (&block.event_outputs, ": this value is never given")
+        };
+        if is_type && is_basic && !is_carried(events, port.text.as_str()) {
+            let of_type = block.name.text.as_str();
+            let texts = [
+                "no event of ",
+                of_type,
+                " is WITH ",
+                port.text.as_str(),
+                says,
+            ];
+            note(page, port.at, &texts, output)?;
+        }
+    }
+    Ok(())
+}
+
+/// Writes the notes on a network.
+pub fn note_network<W: Write>(
+    page: Page<'_>,
+    network: &NetworkTree,
+    output: &mut W,
+) -> io::Result<()> {
+    for instance in &network.instances {
+        for parameter in &instance.parameters {
+            let port = page.types.port(instance, parameter.name.text.as_str());
+            if let Some(Port::Input(of_type)) = port {
+                note_time(page, of_type, &parameter.value, output)?;
+            }
+        }
+        if let Some(block) = page.types.block(instance.of_type.text.as_str()) {
+            note_events(page, network, instance, block, output)?;
+        }
+    }
+    for connection in &network.values {
+        note_end(page, network, &connection.source, false, output)?;
+        note_end(page, network, &connection.target, true, output)?;
+    }
+    Ok(())
+}
