@@ -69,35 +69,61 @@ fn within<'a>(resource: &str, path: &'a str) -> &'a str {
     }
 }
 
-/// Goes on with the other arrivals of a queue beside which it has no room for one.
-pub fn tell_beside<W: Write>(queue: Queue<'_>, path: &str, output: &mut W) -> io::Result<()> {
-    let mut room = queue.depth;
+// Whether an arrival is another one, for which there is no room.
+fn is_crowded(arrival: &Arrival, path: &str, room: u64) -> bool {
+    arrival.path.as_str() != path && arrival.places > room
+}
+
+// The places that are left beside an arrival.
+fn room_beside(queue: Queue<'_>, path: &str) -> u64 {
     for arrival in queue.arrivals {
         if arrival.path.as_str() == path {
-            room = queue.depth.saturating_sub(arrival.places);
+            return queue.depth.saturating_sub(arrival.places);
         }
     }
+    queue.depth
+}
+
+// How many other arrivals have no room.
+fn count_crowded(queue: Queue<'_>, path: &str, room: u64) -> usize {
     let mut others: usize = 0;
     for arrival in queue.arrivals {
-        if arrival.path.as_str() != path && arrival.places > room {
+        if is_crowded(arrival, path, room) {
             others = others.saturating_add(1);
         }
     }
-    if others > 0 && others.saturating_add(1) == queue.arrivals.len() {
-        return put("; nothing else fits beside it", output);
-    }
+    others
+}
+
+// Writes the first of the other arrivals that have no room.
+fn tell_crowded<W: Write>(
+    queue: Queue<'_>,
+    path: &str,
+    room: u64,
+    output: &mut W,
+) -> io::Result<()> {
     let mut told: usize = 0;
     for arrival in queue.arrivals {
-        let is_other = arrival.path.as_str() != path;
-        if told < NAMED && is_other && arrival.places > room {
+        if told < NAMED && is_crowded(arrival, path, room) {
             put(if told == 0 { "; not beside " } else { ", " }, output)?;
             put(within(queue.path, arrival.path.as_str()), output)?;
             told = told.saturating_add(1);
         }
     }
-    if others > told {
+    Ok(())
+}
+
+/// Goes on with the other arrivals of a queue beside which it has no room for one.
+pub fn tell_beside<W: Write>(queue: Queue<'_>, path: &str, output: &mut W) -> io::Result<()> {
+    let room = room_beside(queue, path);
+    let others = count_crowded(queue, path, room);
+    if others > 0 && others.saturating_add(1) == queue.arrivals.len() {
+        return put("; nothing else fits beside it", output);
+    }
+    tell_crowded(queue, path, room, output)?;
+    if others > NAMED {
         put(" and ", output)?;
-        put_number(others.saturating_sub(told) as u64, output)?;
+        put_number(others.saturating_sub(NAMED) as u64, output)?;
         put(" more", output)?;
     }
     Ok(())

@@ -1,6 +1,6 @@
 //! Notes on charts: states that no transition leads to, algorithms that no state runs, and event outputs that none emits.
 
-use crate::noted::{Page, note};
+use crate::noted::{Page, begin_note, put_note};
 use fb_tree::{BlockTree, ChartTree};
 use std::io;
 use std::io::Write;
@@ -45,12 +45,8 @@ pub fn note_chart<W: Write>(
     for event in &block.event_outputs {
         let name = event.name.text.as_str();
         if !is_done(chart, name, true) {
-            note(
-                page,
-                event.name.at,
-                &["no state of ", owner, " emits ", name],
-                output,
-            )?;
+            begin_note(page, event.name.at, output)?;
+            put_note("no state of ", owner, " emits ", name, output)?;
         }
     }
     let mut is_first = true;
@@ -59,19 +55,15 @@ pub fn note_chart<W: Write>(
         let is_begin = is_first;
         is_first = false;
         if !is_begin && !is_entered(chart, name) {
-            let texts = ["no transition of ", owner, " leads to ", name];
-            note(page, state.name.at, &texts, output)?;
+            begin_note(page, state.name.at, output)?;
+            put_note("no transition of ", owner, " leads to ", name, output)?;
         }
     }
     for algorithm in &chart.algorithms {
         let name = algorithm.name.text.as_str();
         if !is_done(chart, name, false) {
-            note(
-                page,
-                algorithm.name.at,
-                &["no state of ", owner, " runs ", name],
-                output,
-            )?;
+            begin_note(page, algorithm.name.at, output)?;
+            put_note("no state of ", owner, " runs ", name, output)?;
         }
     }
     Ok(())

@@ -17,12 +17,23 @@ pub struct Page<'a> {
     pub types: Types<'a>,
 }
 
-/// Writes a note of these texts on a byte.
-pub fn note<W: Write>(page: Page<'_>, at: usize, texts: &[&str], output: &mut W) -> io::Result<()> {
+/// Begins a note on a byte.
+pub fn begin_note<W: Write>(page: Page<'_>, at: usize, output: &mut W) -> io::Result<()> {
     tell_where(page.app, at, output)?;
-    put(": note: ", output)?;
-    for text in texts {
-        put(text, output)?;
-    }
+    put(": note: ", output)
+}
+
+/// Goes on with four texts, and ends the line.
+pub fn put_note<W: Write>(
+    one: &str,
+    two: &str,
+    three: &str,
+    four: &str,
+    output: &mut W,
+) -> io::Result<()> {
+    put(one, output)?;
+    put(two, output)?;
+    put(three, output)?;
+    put(four, output)?;
     put("\n", output)
 }

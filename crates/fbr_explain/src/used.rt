@@ -1,6 +1,7 @@
 //! Notes on variables: those that are never written, or never read, and numbers without a unit for a TIME.
 
-use crate::noted::{Page, note};
+use crate::noted::{Page, begin_note, put_note};
+use crate::put::put;
 use crate::tokens::{index_at, mark_of, name_of};
 use fb_lex::Token;
 use fb_tree::{BlockTree, ChartTree, Constant, Literal, Name, VariableTree};
@@ -94,8 +95,8 @@ fn note_variable<W: Write>(
         (false, true) => " is never written",
         (false, false) => return Ok(()),
     };
-    let texts = [name.text.as_str(), " of ", asked.block, says];
-    note(page, name.at, &texts, output)
+    begin_note(page, name.at, output)?;
+    put_note(name.text.as_str(), " of ", asked.block, says, output)
 }
 
 /// Writes that a number without a unit stands for a TIME, where that is so and it is not 0.
@@ -107,8 +108,11 @@ pub fn note_time<W: Write>(
 ) -> io::Result<()> {
     match (of_type, value.value) {
         (ElemType::Time, Literal::Whole(_, number)) if number > 0 => {
-            let texts = ["a TIME of so many milliseconds: write its unit, as T#30s or T#30ms"];
-            note(page, value.at, &texts, output)
+            begin_note(page, value.at, output)?;
+            put(
+                "a TIME of so many milliseconds: write its unit, as T#30s or T#30ms\n",
+                output,
+            )
         }
         _ => Ok(()),
     }

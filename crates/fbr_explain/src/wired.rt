@@ -1,6 +1,7 @@
 //! Notes on networks: instances that no event reaches, event outputs that lead nowhere, and values that no event is WITH.
 
-use crate::noted::{Page, note};
+use crate::noted::{Page, begin_note, put_note};
+use crate::put::put;
 use crate::used::note_time;
 use fb_tree::{BlockTree, BodyTree, EventTree, InstanceTree, NetworkTree, PortTree};
 use fbr_places::{Port, instance_named};
@@ -52,13 +53,14 @@ fn note_events<W: Write>(
 ) -> io::Result<()> {
     let name = instance.name.text.as_str();
     if !block.event_inputs.is_empty() && !is_reached(network, name) {
-        return note(page, instance.name.at, &["no event reaches ", name], output);
+        begin_note(page, instance.name.at, output)?;
+        return put_note("no event reaches ", name, "", "", output);
     }
     for event in &block.event_outputs {
         let own = event.name.text.as_str();
         if own != "INITO" && !is_led(network, name, own) {
-            let texts = [name, ".", own, " leads nowhere"];
-            note(page, instance.name.at, &texts, output)?;
+            begin_note(page, instance.name.at, output)?;
+            put_note(name, ".", own, " leads nowhere", output)?;
         }
     }
     Ok(())
@@ -87,15 +89,10 @@ fn note_end<W: Write>(
             (&block.event_outputs, ": this value is never given")
         };
         if is_type && is_basic && !is_carried(events, port.text.as_str()) {
-            let of_type = block.name.text.as_str();
-            let texts = [
-                "no event of ",
-                of_type,
-                " is WITH ",
-                port.text.as_str(),
-                says,
-            ];
-            note(page, port.at, &texts, output)?;
+            begin_note(page, port.at, output)?;
+            put("no event of ", output)?;
+            put(block.name.text.as_str(), output)?;
+            put_note(" is WITH ", port.text.as_str(), says, "", output)?;
         }
     }
     Ok(())
