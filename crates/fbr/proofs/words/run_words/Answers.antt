@@ -183,7 +183,7 @@ returns-in-Some-files_named-2-clause-sims g c = λ app cert is.
     let rows = rows_taken _ program_is words c.in-Ok-try_get_matches_from.matches c.in-Ok-try_get_matches_from.ensures.matches in
     let here : Some (c.in-Some-files_named-2.app.now, c.in-Some-files_named-2.cert.now) ≡ files_of (codes "sim") words = c.in-Some-files_named-2.ensures ∙ ap (option_and_then (files_in (codes "sim"))) rows in
     let same : (c.in-Some-files_named-2.app.now, c.in-Some-files_named-2.cert.now) ≡ (app, cert) = ap unwrap_or_nils (here ∙ is.files) in
-    subst (λ (p : Text × Text). IfOk c.sim_files.result (λ status. TellsSim p.0 p.1 (g.S.Sources.contents c.args.files.now p.0) (g.S.Sources.contents c.args.files.now p.1) (g.I.Read.remaining c.args.input.now) (g.W.Write.contents c.args.output.now) (g.W.Write.contents c.sim_files.new.output) status)) same c.sim_files.ensures.told
+    subst (λ (p : Text × Text). IfOk c.sim_files-told.result (λ status. TellsSim p.0 p.1 (g.S.Sources.contents c.args.files.now p.0) (g.S.Sources.contents c.args.files.now p.1) (g.I.Read.remaining c.args.input.now) (g.W.Write.contents c.args.output.now) (g.W.Write.contents c.sim_files-told.new.output) status)) same c.sim_files-told.ensures.told
 
 pub returns-in-Some-files_named-2-clause-uncounted : goal.returns-in-Some-files_named-2-clause-uncounted
 returns-in-Some-files_named-2-clause-uncounted g c = λ app is.
