@@ -145,7 +145,10 @@ fn write_taught<E: Write>(
     put("fbr: ", errors)?;
     put(spot, errors)?;
     put(": ", errors)?;
-    let said = taught_in(told).unwrap_or(said(fault));
+    let said = match (fault, taught_in(told)) {
+        (Fault::Refused(Refusal::Depth(_)), _) | (_, None) => said(fault),
+        (_, Some(taught)) => taught,
+    };
     write_rest(fault, said, given, errors)
 }
 
