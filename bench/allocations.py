@@ -268,7 +268,7 @@ CASES = {
     "leaves": ("flatten", ["constants", "in_a_composite"]),
     "services": ("resolve", ["ports", "formats"]),
     "datagrams": ("decode, encode", ["spelled", "at_fault"]),
-    "devices": ("load_boot, and a device's calls", ["cell", "stamps", "datagrams"]),
+    "devices": ("load, load_from, load_boot, and a device's calls", ["cell", "stamps", "datagrams"]),
     "turns": ("MemoryLink::new, turn", ["sends"]),
     # A call of a world that was refused for want of memory is made once more, and the world has to answer all as before.
     "worlds": ("World::new, step, run", ["button"]),
@@ -315,7 +315,7 @@ def try_file(kind, name, count, program, library, folder):
 def try_cases(program, library, folder, short):
     jobs = [(kind, name) for kind, (_, names) in CASES.items() for name in (names[:1] if short else names)]
     with concurrent.futures.ThreadPoolExecutor(2) as pool:
-        done = list(pool.map(lambda job: try_file(*job, 2 if short else 5, program, library, folder), jobs))
+        done = list(pool.map(lambda job: try_file(*job, 3 if short else 5, program, library, folder), jobs))
     for kind, (calls, _) in CASES.items():
         ends = sum((it for it, job in zip(done, jobs) if job[0] == kind), collections.Counter())
         told = ", ".join(f"{count} {how}" for how, count in sorted(ends.items()))

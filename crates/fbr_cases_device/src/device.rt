@@ -1,7 +1,7 @@
 //! What devices answer.
 
 use fb_script::fb_device::{
-    Answer, Device, Dispatched, Effect, Opening, Ready, Refusal, Step, load_boot,
+    Answer, Device, Dispatched, Effect, Opening, Ready, Refusal, Step, load, load_boot, load_from,
 };
 use fb_script::tell;
 use fb_wire::encode;
@@ -166,24 +166,27 @@ fn rounds(
     Ok(ended(out))
 }
 
-// The device of a name, which begins with the first cause, the boot and the sequence number of the section `boot`.
+// The device of a name, as `load` gives it. Where the section `boot` has the number of its first cause, as `load_from` does, and where it has a boot and a sequence
+// number too, as `load_boot` does.
 pub(crate) fn loaded(
     alloc: Global,
     case: &Case<'_>,
     text: &str,
     name: &str,
 ) -> Result<Ready, Refusal> {
-    let (first, rest) = halves(case.given("boot").unwrap_or("1 0 1"));
+    let certificate = case.text("certificate");
+    let Some(given) = case.given("boot") else {
+        return load(alloc, text, certificate, name);
+    };
+    let (first, rest) = halves(given);
+    let first = first.parse::<u64>().unwrap_or(1);
+    if rest.is_empty() {
+        return load_from(alloc, text, certificate, name, first);
+    }
     let (boot, next) = halves(rest);
-    load_boot(
-        alloc,
-        text,
-        case.text("certificate"),
-        name,
-        first.parse::<u64>().unwrap_or(1),
-        boot.parse::<u32>().unwrap_or(0),
-        next.parse::<u32>().unwrap_or(1),
-    )
+    let boot = boot.parse::<u32>().unwrap_or(0);
+    let next = next.parse::<u32>().unwrap_or(1);
+    load_boot(alloc, text, certificate, name, first, boot, next)
 }
 
 /// What a device answers to the lines of the section `rounds` at the last time, whose first line says how often, and to those of `calls`.
