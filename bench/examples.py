@@ -5,7 +5,8 @@ Each folder of examples/ is one file of cases below crates/fbr_cases/data/comman
 written anew. Texts shown in docs/LANGUAGE.md have to stand in an example or a case, line for line, but for how far lines are indented. With PROGRAM (such as out/fbr) the commands that the pages of the plants show
 are run in their folders, as `$ fbr ..`, and have to print what the pages say.
 
-What a case answers comes from the files beside a plant, and these from the rules of the language: NAME.cert is what `fbr bound NAME.fb` prints, NAME.out what `fbr sim` prints for NAME.script.
+What a case answers comes from the files beside a plant, and these from the rules of the language: NAME.cert is what `fbr bound NAME.fb` prints, NAME.out what `fbr sim` prints for NAME.script. NAME.room.cert
+is NAME.cert with the depth that takes each arrival once, and NAME.room.out what `fbr sim` prints with it for NAME.room.script.
 Of a wrong plant NAME.out is its refusal by `fbr bound`, or NAME.cert its certificate where each device by itself has one, with NAME.repeats.out its
 refusal by `fbr bound --repeats 2` and mended.repeats.cert what that prints of the mended one; mended.out is what `fbr check NAME.fb mended.cert` prints; where it runs, NAME.script.out is what `fbr sim` prints for NAME.script
 under NAME.cert, and mended.script.out what it prints of the mended one for mended.script under mended.repeats.cert. Beside the .out of a refusal the .err is what
@@ -61,6 +62,10 @@ def plant(folder):
     cases.add("its certificate is found", f"bound {app.name}", cert.read_text(), [app])
     cases.add("it is accepted", f"check {app.name} {cert.name}", "accepted\n", [app, cert])
     cases.add("it runs", f"sim {app.name} {cert.name}", out.read_text(), [app, cert], script.read_text())
+    rows, offers, causes = (folder / f"{name}.room.{it}" for it in ("cert", "script", "out"))
+    if rows.exists():
+        cases.add("with room for each arrival once it is accepted", f"check {app.name} {rows.name}", "accepted\n", [app, rows])
+        cases.add("and none denies another", f"sim {app.name} {rows.name}", causes.read_text(), [app, rows], offers.read_text())
     return cases.text
 
 
