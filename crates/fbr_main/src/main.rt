@@ -8,7 +8,7 @@ ghost use Rattle.std.specs.Process.{exit_status};
 use fbr::{Disk, command};
 use std::alloc::AllocError;
 use std::io;
-use std::io::{BufWriter, IsTerminal, Write};
+use std::io::{BufWriter, ErrorKind, IsTerminal, Write};
 use std::process::ExitCode;
 
 // Tells people at a terminal what the command waits for or does.
@@ -57,12 +57,28 @@ fn tell_failure(rt: &HostRuntime, status: u8) -> io::Result<()> {
     Ok(())
 }
 
+// Tells that a word is no text, so that the words are no command.
+fn misread(rt: &HostRuntime) -> io::Result<u8>
+    ensures { IfOk result (λ status. status ≤ 4) }
+{
+    eprintln!(rt; "fbr: a word is no UTF-8; `fbr --help` lists the commands")?;
+    match println!(rt; "refused 63") {
+        Ok(()) => Ok(2),
+        Err(_) => Ok(3),
+    }
+}
+
 // Runs the command of the process's words, over its files, its standard input, its standard output, and its standard error for people.
 fn status(rt: &HostRuntime) -> io::Result<u8>
     ensures { IfOk result (λ status. status ≤ 4) }
 {
     let alloc = rt.alloc();
-    let words: Vec<String> = std::env::args(rt)?.collect(alloc)?;
+    let read = match std::env::args(rt) {
+        Ok(read) => read,
+        Err(error) if error.kind() == ErrorKind::InvalidData => return misread(rt),
+        Err(error) => return Err(error),
+    };
+    let words: Vec<String> = read.collect(alloc)?;
     let mut texts: Vec<&str> = Vec::new(alloc);
     for word in &words {
         texts.push(word.as_str()).map_err(AllocError::from)?;
