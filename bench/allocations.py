@@ -1,7 +1,7 @@
 #!/usr/bin/env python3
 """Refuses each growth of memory in turn, and counts those of a device that runs: bench/allocations.py PROGRAM [--short] [--cases FBR_CASES]
 
-bench/failing.rs is built with `rustc` and preloaded. First every command runs on the counter, on a timer and on two devices (without --short also on examples/handover): before each growth the
+bench/failing.c is built with the C compiler and preloaded. First every command runs on the counter, on a timer and on two devices (without --short also on examples/handover): before each growth the
 process forks, and the child is refused this growth. What the child prints has to be what is printed with ample memory, or a beginning of its lines and then a refusal for want of memory
 (nothing at all, where there is none for the words), with status 4; no signal, and no panic. What `explain` and `draw` tell people is asked less of: where memory runs out behind the outcome, lines of an explanation may be left out, and where it runs out
 while lines are written the status is 3, as if the output had failed.
@@ -91,10 +91,8 @@ class Plant:
 
 def built(folder):
     library = f"{folder}/failing.so"
-    if not shutil.which("rustc"):
-        fail("there is no rustc, which builds bench/failing.rs")
-    build = ["rustc", "--edition", "2024", "-O", "-C", "panic=abort", "--crate-type", "cdylib"]
-    subprocess.run([*build, "-o", library, f"{TOP}/bench/failing.rs"], check=True)
+    compiler = shutil.which("cc") or shutil.which("gcc") or fail("there is no C compiler, which builds bench/failing.c")
+    subprocess.run([compiler, "-O2", "-Wall", "-shared", "-fPIC", "-fno-builtin", "-o", library, f"{TOP}/bench/failing.c"], check=True)
     return library
 
 
