@@ -57,14 +57,23 @@ fn tell_failure(rt: &HostRuntime, status: u8) -> io::Result<()> {
     Ok(())
 }
 
-// Tells that a word is no text, so that the words are no command.
-fn misread(rt: &HostRuntime) -> io::Result<u8>
-    ensures { IfOk result (λ status. status ≤ 4) }
-{
-    eprintln!(rt; "fbr: a word is no UTF-8; `fbr --help` lists the commands")?;
-    match println!(rt; "refused 63") {
-        Ok(()) => Ok(2),
-        Err(_) => Ok(3),
+// The process's words. Where one is no UTF-8, a word that is none of the program's stands for all, so that `command` tells that the words are at fault.
+fn words_of(rt: &HostRuntime) -> io::Result<Vec<String>> {
+    let alloc = rt.alloc();
+    match std::env::args(rt) {
+        Ok(read) => {
+            let words: Vec<String> = read.collect(alloc)?;
+            Ok(words)
+        }
+        Err(error) if error.kind() == ErrorKind::InvalidData => {
+            let mut words = Vec::new(alloc);
+            for word in ["fbr", "\u{FFFD}"] {
+                let word = String::from_str(alloc, word)?;
+                words.push(word).map_err(AllocError::from)?;
+            }
+            Ok(words)
+        }
+        Err(error) => Err(error),
     }
 }
 
@@ -73,12 +82,7 @@ fn status(rt: &HostRuntime) -> io::Result<u8>
     ensures { IfOk result (λ status. status ≤ 4) }
 {
     let alloc = rt.alloc();
-    let read = match std::env::args(rt) {
-        Ok(read) => read,
-        Err(error) if error.kind() == ErrorKind::InvalidData => return misread(rt),
-        Err(error) => return Err(error),
-    };
-    let words: Vec<String> = read.collect(alloc)?;
+    let words = words_of(rt)?;
     let mut texts: Vec<&str> = Vec::new(alloc);
     for word in &words {
         texts.push(word.as_str()).map_err(AllocError::from)?;
