@@ -1,6 +1,6 @@
 //! Names of a device's blocks, events and resources.
 
-ghost use Rattle.std.specs.Prelude.{ℕ, ◌≡◌, ◌<◌, ◌≤◌, length, map, string_bytes, List, Some, MatchOption};
+ghost use Rattle.std.specs.Prelude.{ℕ, ◌≡◌, ◌<◌, ◌≤◌, length, map, string_bytes, List, Some, IfSome, MatchOption};
 ghost use Rattle.std.specs.List.{AllByRecursion};
 ghost use Rattle.fb_model.specs.Wires.{Leaf};
 ghost use Rattle.fb_model.specs.Certificates.{Certificate};
@@ -83,11 +83,27 @@ fn arrival(blocks: &[Block], point: Point) -> Opening
     }
 }
 
-/// The arrival that opened a cause which has not ended.
+// The arrival that opened a cause, where the last entry of a queue is of it.
+fn newest(blocks: &[Block], queues: &[Queue], cause: u64) -> Option<Opening>
+    requires { AllByRecursion (λ (a : Agenda). (slot : ℕ) (r : Reaction) → slot_at a.slots slot ≡ Some r → IsKnown blocks.now r.opening) queues.now }
+    ensures { IfSome result (λ o. IsOpeningIn blocks.now queues.now cause (Some o)) }
+{
+    for queue in queues {
+        if let Some(reaction) = queue.find_newest(cause) {
+            return Some(arrival(blocks, reaction.opening));
+        }
+    }
+    None
+}
+
+/// The arrival that opened a cause which has not ended. Where it has just been opened, it is found without a search.
 pub fn opening(blocks: &[Block], queues: &[Queue], cause: u64) -> Option<Opening>
     requires { AllByRecursion (λ (a : Agenda). (slot : ℕ) (r : Reaction) → slot_at a.slots slot ≡ Some r → IsKnown blocks.now r.opening) queues.now }
     ensures { IsOpeningIn blocks.now queues.now cause result }
 {
+    if let Some(opening) = newest(blocks, queues, cause) {
+        return Some(opening);
+    }
     for queue in queues {
         if let Some(reaction) = queue.find(cause) {
             return Some(arrival(blocks, reaction.opening));

@@ -1,6 +1,6 @@
 -- What a contract sees of a queue: its tickets, and the slots of the causes that have not ended.
 -- IEC 61499-1 edition 2, 4.5.3 and 5.2.2 (event propagation); causes, credit and depth are this project's profile.
-use Rattle.std.specs.Prelude.{ℕ, ◌≡◌, ◌≢◌, ◌≤◌, ◌==◌, Bool, List, length, sum_by, count_by, Option, Some, None, is_some, IsSome, slice_index_or}
+use Rattle.std.specs.Prelude.{ℕ, ◌≡◌, ◌≢◌, ◌≤◌, ◌-◌, ◌==◌, Bool, List, length, sum_by, count_by, Option, Some, None, is_some, IsSome, slice_get, slice_index_or}
 use Rattle.std.specs.List.{AllByRecursion}
 use Rattle.fb_sched.specs.declared.ticket.Ticket.{Ticket}
 use Rattle.fb_sched.specs.declared.reaction.Reaction.{Reaction}
@@ -28,6 +28,10 @@ IsNew cause slots = (slot : ℕ) (r : Reaction) → slot_at slots slot ≡ Some 
 -- a slot holds this reaction, and it is of the cause
 abbrev pub IsReactionOf : ℕ → List (Option Reaction) → Reaction → Type 0
 IsReactionOf cause slots r = (slot : ℕ) × (slot_at slots slot ≡ Some r) × (r.cause ≡ cause)
+
+-- the last ticket is of no reaction of the cause
+abbrev pub IsNotLast : ℕ → Agenda → Type 0
+IsNotLast cause a = (t : Ticket) (r : Reaction) → slice_get a.tickets (length a.tickets - 1) ≡ Some t → slot_at a.slots t.slot ≡ Some r → r.cause ≢ cause
 
 -- how many slots hold a reaction
 abbrev pub reactions_in : List (Option Reaction) → ℕ

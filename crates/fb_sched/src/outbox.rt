@@ -10,7 +10,7 @@ use fb_chart::{Emit, Point};
 use std::alloc::{AllocError, Global};
 use std::marker::Model;
 
-/// The event inputs that a block reaches in one dispatch, in order, until they are entered into the queue of its resource. Only `new` is written to take memory, which no clause says.
+/// The event inputs that a block reaches in one dispatch, in order, until they are entered into the queue of its resource. No call but `new` changes the room that there is.
 #[derive(Drop)]
 pub struct Outbox {
     points: HeapCircularBuffer<Point>,

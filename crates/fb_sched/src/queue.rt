@@ -1,7 +1,7 @@
 //! The queue of a resource.
 
 ghost use Rattle.std.specs.Prelude.{◌≡◌, ◌-◌, ◌+◌, ◌<◌, ◌≤◌, [], length, Some, IfOk, IfSome, IfNone};
-ghost use Rattle.fb_sched.specs.Agenda.{Agenda, IsAgenda, slot_at, all_places, reactions_in, IsOpen, IsNew, IsReactionOf};
+ghost use Rattle.fb_sched.specs.Agenda.{Agenda, IsAgenda, slot_at, all_places, reactions_in, IsOpen, IsNew, IsNotLast, IsReactionOf};
 ghost use Rattle.fb_sched.specs.Changes.{Opens, Takes, Puts, Settles, CanSettle};
 
 use crate::reaction::{Reaction, find_in, reaction_in, rewrite};
@@ -16,7 +16,7 @@ use std::marker::Model;
 ///
 /// Events propagate in the order of their entries: IEC 61499-1 edition 2, 4.5.3 and 5.2.2. Causes, credit and the bound on entries are this project's profile.
 ///
-/// An arrival is admitted by `open`, where `free` leaves the places of its WEIGHT row. A dispatch is `take`, then `put` for each event input that the outputs of the block reach, then `settle` with the steps of the run. Each is written to take constant time and no memory, which no clause says.
+/// An arrival is admitted by `open`, where `free` leaves the places of its WEIGHT row. A dispatch is `take`, then `put` for each event input that the outputs of the block reach, then `settle` with the steps of the run. No call but `new` changes the memory of entries and causes; that each takes constant time no clause says.
 ///
 /// A slot is a number from 0, free again once its cause has ended. Places count entries, and steps are those of the certificate.
 #[derive(Drop)]
@@ -45,9 +45,15 @@ impl Queue {
         ensures empty { IfOk result (λ queue. queue ≡ record { tickets = []; slots = []; room = depth }) }
         ensures sound { IfOk result IsAgenda }
     {
+        let ring = HeapCircularBuffer::with_capacity(alloc, depth)?;
+        let reactions = Slab::with_capacity(alloc, depth)?;
+        // A slab promises no less room than is asked for. No call changes the room that is there, and so none takes memory.
+        if reactions.capacity() != depth {
+            return Err(AllocError);
+        }
         Ok(Queue {
-            ring: HeapCircularBuffer::with_capacity(alloc, depth)?,
-            reactions: Slab::with_capacity(alloc, depth)?,
+            ring,
+            reactions,
             used: 0,
         })
     }
@@ -101,11 +107,13 @@ impl Queue {
         ensures first { IfSome result (λ first. Takes self.old first self.new) }
         ensures sound { IsAgenda self.new }
     {
-        let first = take_first(&mut self.ring)?;
-        let mut reaction = reaction_in(&self.reactions, first.slot);
-        reaction.pending -= 1;
-        rewrite(&mut self.reactions, first.slot, reaction);
-        Some(first)
+        let first = take_first(&mut self.ring);
+        if let Some(ticket) = &first {
+            let mut reaction = reaction_in(&self.reactions, ticket.slot);
+            reaction.pending -= 1;
+            rewrite(&mut self.reactions, ticket.slot, reaction);
+        }
+        first
     }
 
     /// Appends an entry of an open cause, without values.
@@ -150,6 +158,20 @@ impl Queue {
         ensures { result ≡ slot_at self.now.slots slot }
     {
         self.reactions.get(slot).copied()
+    }
+
+    /// The reaction of a cause, where the last entry is of it: a cause that has just been opened is found without a search.
+    pub fn find_newest(&self, cause: u64) -> Option<Reaction>
+        ensures found { IfSome result (IsReactionOf cause self.now.slots) }
+        ensures none { IfNone result (IsNotLast cause self.now) }
+    {
+        let last = self.ring.back()?;
+        let reaction = reaction_in(&self.reactions, last.slot);
+        if reaction.cause == cause {
+            Some(reaction)
+        } else {
+            None
+        }
     }
 
     /// The reaction of a cause. It is looked for in each slot.

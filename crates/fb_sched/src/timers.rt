@@ -1,6 +1,8 @@
 //! All timers of a device that are armed.
 
 ghost use Rattle.std.specs.Prelude.{ℕ, ◌≡◌, ◌≤◌, ◌<◌, [], length, slice_get, slice_set, slice_index_or, Option, None, Some, IfOk};
+ghost use Rattle.std.specs.List.{insert};
+ghost use Rattle.std.specs.VecDeque.{deque_capacity};
 ghost use Rattle.fb_sched.specs.Order.{position, placed, without, due_of, due_at, if_due, IsOrdered, AreApart};
 
 use crate::armed::Armed;
@@ -10,7 +12,7 @@ use std::marker::Model;
 
 /// The timers of a device that are armed, in the order in which they expire: by due moment, and of those due at one moment in the order of their blocks.
 /// Each block has one at most, and the moment at which it is due stands under the number of its block as well. Where one comes or goes, those on its shorter
-/// side move. Only `new` is written to take memory, which no clause says.
+/// side move. No call but `new` changes the memory that there is.
 #[derive(Drop)]
 pub struct Timers {
     armed: VecDeque<Armed>,
@@ -19,14 +21,15 @@ pub struct Timers {
 
 impl Model for Timers {
     ghost use Rattle.fb_sched.specs.Order.{Timing, IsOrdered, AreApart, AreTold};
-    ghost use Rattle.std.specs.Prelude.{◌≤◌, length};
+    ghost use Rattle.std.specs.Prelude.{◌≡◌, length};
+    ghost use Rattle.std.specs.Vec.{vec_capacity};
     ghost use Rattle.std.specs.VecDeque.{deque_capacity};
 
     ghost Value = { Timing };
 
     ghost view = { λ t. record { armed = t.armed.items; room = length t.moments.items } };
 
-    ghost invariant = { λ t. IsOrdered t.armed.items × AreApart t.armed.items × AreTold t.moments.items t.armed.items × (length t.moments.items ≤ deque_capacity t.armed) };
+    ghost invariant = { λ t. IsOrdered t.armed.items × AreApart t.armed.items × AreTold t.moments.items t.armed.items × (deque_capacity t.armed ≡ length t.moments.items) × (vec_capacity t.moments ≡ length t.moments.items) };
 }
 
 // How many timers stand before one.
@@ -36,6 +39,18 @@ fn position_of(armed: &VecDeque<Armed>, one: &Armed) -> usize
     ensures within { result ≤ length armed.now.items }
 {
     armed.partition_point(|other| other.is_ahead(one))
+}
+
+// Puts a timer in its place among others. What stands before it is turned behind the others and back, which moves the shorter side alone.
+fn place(armed: &mut VecDeque<Armed>, at: usize, one: Armed)
+    requires within { at ≤ length armed.old.items }
+    requires room { length armed.old.items < deque_capacity armed.old }
+    ensures items { armed.new.items ≡ insert armed.old.items at one }
+    ensures capacity { deque_capacity armed.new ≡ deque_capacity armed.old }
+{
+    armed.rotate_left(at);
+    armed.push_back_reserved(one);
+    armed.rotate_right(at + 1);
 }
 
 // What is told of a block; none where nothing is.
@@ -73,8 +88,12 @@ impl Timers {
         ensures room { IfOk result (λ timers. timers.room ≡ count) }
     {
         let armed = VecDeque::with_capacity(alloc, count)?;
-        let mut moments = Vec::new(alloc);
+        let mut moments = Vec::with_capacity(alloc, count)?;
         moments.resize(count, None)?;
+        // Filling promises no less room than there was. No call changes the room that is there, and so none takes memory.
+        if moments.capacity() != count {
+            return Err(AllocError);
+        }
         Ok(Timers { armed, moments })
     }
 
@@ -95,10 +114,7 @@ impl Timers {
     {
         let one = Armed { due, block };
         let at = position_of(&self.armed, &one);
-        match self.armed.insert(at, one) {
-            Ok(()) => {}
-            Err(_) => unreachable!(),
-        }
+        place(&mut self.armed, at, one);
         tell(&mut self.moments, block, Some(due));
     }
 

@@ -34,6 +34,7 @@ invariant_of-self c =
       subst AreApart (sym is) (apart_without old c.args.block c.self.invariant.1),
       subst (λ (ms : List (Option ℕ)). AreTold ms c.remove.new.self.items) (sym (back ∙ new)) (subst (AreTold (set moments c.args.block None)) (sym is) told),
       omega (arith, ap length back, long, c.self.invariant.3, c.remove.ensures.capacity),
+      omega (arith, ap length back, long, c.self.invariant.4),
     )
 
 pub returns-in-Some-clause-armed : goal.returns-in-Some-clause-armed
