@@ -16,7 +16,7 @@ mod table;
 mod timer;
 mod transfer;
 
-pub use block::{Outcome, dispatch_block};
+pub use block::dispatch_block;
 pub use chart::{Invocation, invoke};
 pub use dispatch::{ServiceTable, serve};
 pub use emit::{Emit, send};

@@ -10,7 +10,7 @@ ghost use Rattle.fb_device_dispatch.specs.Answers.{dispatched_of, HasPoint, end_
 use crate::answer::{Dispatched, Ended, Ran};
 use crate::queue::{enter, steps_at, take};
 use crate::timing::retime;
-use fb_chart::{Condition, Memory, dispatch_block};
+use fb_chart::{Condition, Memory, Occurrence, dispatch_block};
 use fb_device_state::{Program, Running};
 use fb_sched::Reaction;
 
@@ -47,14 +47,19 @@ pub fn dispatch(program: &Program, running: &mut Running, resource: usize) -> Di
         return Dispatched::Idle;
     };
     let point = first.point;
-    let outcome = dispatch_block(
+    let occurrence = Occurrence {
+        point,
+        values: &first.values,
+        clock: running.clock,
+    };
+    let mut effect = None;
+    let steps_taken = dispatch_block(
         &program.tables.blocks,
         &program.tables.ports,
         &mut running.memory,
-        point,
-        &first.values,
-        running.clock,
+        &occurrence,
         &mut running.outbox,
+        &mut effect,
     );
     let now = remembered(&running.memory, point.block);
     retime(
@@ -68,15 +73,15 @@ pub fn dispatch(program: &Program, running: &mut Running, resource: usize) -> Di
         resource,
         &mut running.outbox,
         first.slot,
-        outcome.steps,
+        steps_taken,
     );
     let bound = steps_at(&program.tables.blocks, reaction.opening);
     Dispatched::Ran(Ran {
         cause: reaction.cause,
         block: point.block,
         event: point.event,
-        steps: outcome.steps,
-        effect: outcome.effect,
+        steps: steps_taken,
+        effect,
         ended: end_of(ended, bound),
     })
 }
