@@ -160,14 +160,27 @@ impl fmt::Display for Told<'_> {
             }
             Told::Fired(count) => write!(f, "fired {count}"),
             Told::Idle => write!(f, "idle"),
+            // Most runs do nothing outside of the device and end no cause.
             Told::Ran {
-                cause,
+                path,
+                event,
+                steps,
+                effect: None,
+                ended: None,
+                ..
+            } => {
+                let path: &str = path;
+                let event: &str = event;
+                write!(f, "ran {path}.{event} steps {steps}")
+            }
+            Told::Ran {
                 path,
                 event,
                 steps,
                 effect,
                 sent,
                 ended,
+                ..
             } => {
                 let path: &str = path;
                 let event: &str = event;

@@ -1,5 +1,5 @@
 -- What events and answers of a world are in the book.
-use Rattle.std.specs.Prelude.{ℕ, List, [], ◌∷◌}
+use Rattle.std.specs.Prelude.{ℕ, ◌≡◌, List, [], ◌∷◌, None, slice_get}
 use Rattle.fb_model.specs.System.{System}
 use Rattle.fb_model.specs.Wires.{Leaf, leaves}
 use Rattle.fb_model.specs.World as book
@@ -11,6 +11,8 @@ use Rattle.fb_world.specs.declared.answer.WorldEvent.TheVariants.{Offer, Tick, D
 use Rattle.fb_world.specs.declared.answer.WorldAnswer.{WorldAnswer}
 use Rattle.fb_world.specs.declared.answer.WorldAnswer.TheVariants.{Answered, Unknown}
 use Rattle.fb_world.specs.declared.answer.RootSteps.{RootSteps}
+use Rattle.fb_world.specs.declared.answer.Missed.{Missed}
+use Rattle.fb_world.specs.declared.answer.Missed.TheVariants as missed
 
 abbrev pub event_of : WorldEvent → book.WorldEvent
 event_of (Offer device input values) = At_device device (An_offer input values.items)
@@ -54,3 +56,8 @@ answers_of system (e ∷ es) (a ∷ as') = answer_of (leaves_at system (device_o
 
 abbrev pub steps_of : RootSteps → book.RootSteps
 steps_of r = record { steps = r.steps; far = r.far }
+
+-- a device is unknown where there is none of its number
+abbrev pub HasMissed : System → ℕ → Missed → Type 0
+HasMissed system d missed.Unknown = slice_get system.devices d ≡ None
+HasMissed system d missed.OutOfMemory = Unit {0}

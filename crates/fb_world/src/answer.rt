@@ -25,6 +25,15 @@ pub enum WorldAnswer {
     Unknown,
 }
 
+/// Why there was no dispatch. Nothing has changed.
+#[derive(Clone, Copy)]
+pub enum Missed {
+    /// There is no such device.
+    Unknown,
+    /// Memory ran out, or the world has seen 2^64 - 1 dispatches.
+    OutOfMemory,
+}
+
 /// The steps of a root on all devices so far, or 2^64 - 1 where they are more, and where the certificate has a row REPEATS the FAR of its opening.
 #[derive(Clone, Copy)]
 pub struct RootSteps {

@@ -2,7 +2,8 @@
 
 ghost use Rattle.std.specs.Prelude.{ℕ, suc, ◌≡◌, ◌+◌, ◌<◌, ◌≤◌, ◌^◌, [], ◌∷◌, ◌++◌, List, map, length, Some, slice_get};
 ghost use Rattle.std.specs.Vec.{vec_len, vec_capacity};
-ghost use Rattle.fb_model.specs.World.{WorldRun, An_offer, A_tick, A_dispatch, At_device, Deliver_datagram};
+ghost use Rattle.fb_model.specs.World.{WorldRun, An_offer, A_tick, A_dispatch, At_device, Deliver_datagram, Answered};
+ghost use Rattle.fb_device.specs.fb_device_dispatch.Answers.{dispatched_of, HasPoint};
 ghost use Rattle.fb_verdict.specs.declared.verified.Verified.{Verified};
 ghost use Rattle.fb_verdict.specs.Verdicts.{system_in, certificate_in};
 ghost use Rattle.fb_world.specs.declared.answer.WorldAnswer.{WorldAnswer};
@@ -89,8 +90,24 @@ impl Course {
         post(&mut self.datagrams, root, &ran.effect)
     }
 
-    // A dispatch at a device.
-    fn dispatch(&mut self, device: u16, resource: u16) -> WorldAnswer
+    /// A dispatch at a device. Its answer is written to its place, and this is the number of the datagram that it sent.
+    pub fn dispatch(&mut self, device: u16, resource: u16, answer: &mut Dispatched) -> Option<u64>
+        requires kept { (v : Verified) × IsKept v self.old }
+        requires there { device < length self.old.stations.items }
+        requires room { HasPlaces self.old device 0 1 }
+        ensures goes { (v : Verified) → IsKept v self.old → Goes v self.old (At_device device (A_dispatch resource)) (Answered (dispatched_of (leaves_at (system_in v) device) answer.new) result) self.new }
+        ensures point { (v : Verified) → IsKept v self.old → HasPoint (leaves_at (system_in v) device) answer.new }
+        ensures uses { Uses self.old self.new device 0 1 }
+    {
+        *answer = self.stations[device as usize].device.dispatch(resource);
+        match answer {
+            Dispatched::Idle => None,
+            Dispatched::Ran(ran) => self.book(device, ran),
+        }
+    }
+
+    // The same, and its answer with that number.
+    fn serve(&mut self, device: u16, resource: u16) -> WorldAnswer
         requires kept { (v : Verified) × IsKept v self.old }
         requires there { device < length self.old.stations.items }
         requires room { HasPlaces self.old device 0 1 }
@@ -98,12 +115,9 @@ impl Course {
         ensures point { (v : Verified) → IsKept v self.old → HasWorldPlace (leaves_at (system_in v) device) result }
         ensures uses { Uses self.old self.new device 0 1 }
     {
-        let dispatched = self.stations[device as usize].device.dispatch(resource);
-        let sent = match &dispatched {
-            Dispatched::Idle => None,
-            Dispatched::Ran(ran) => self.book(device, ran),
-        };
-        WorldAnswer::Answered(Answer::Served(dispatched), sent)
+        let mut answer = Dispatched::Idle;
+        let sent = self.dispatch(device, resource, &mut answer);
+        WorldAnswer::Answered(Answer::Served(answer), sent)
     }
 
     // The datagram at an index comes to a device.
@@ -140,7 +154,7 @@ impl Course {
             }
             WorldEvent::Tick(device, now) if (*device as usize) < count => self.tick(*device, *now),
             WorldEvent::Dispatch(device, resource) if (*device as usize) < count => {
-                self.dispatch(*device, *resource)
+                self.serve(*device, *resource)
             }
             WorldEvent::Deliver(number, device)
                 if (*device as usize) < count

@@ -11,7 +11,7 @@ mod sent;
 mod station;
 mod world;
 
-pub use answer::{OutOfMemory, RootSteps, WorldAnswer, WorldEvent};
+pub use answer::{Missed, OutOfMemory, RootSteps, WorldAnswer, WorldEvent};
 pub use fb_device;
 pub use world::World;
 

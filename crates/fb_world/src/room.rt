@@ -4,7 +4,7 @@ ghost use Rattle.std.specs.Prelude.{ℕ, ◌≡◌, ◌+◌, ◌≤◌, Some, ma
 ghost use Rattle.indexmap.specs.IndexMap.{spare};
 ghost use Rattle.std.specs.List.{sum_by};
 ghost use Rattle.fb_world.specs.Answers as answers;
-ghost use Rattle.fb_world.specs.Room.{face_of, blocks_of, opens_at_most, opens_there, dispatches_in, HasRoom, IsSame};
+ghost use Rattle.fb_world.specs.Room.{face_of, blocks_of, opens_at_most, opens_there, dispatches_in, HasRoom, HasPlaces, IsSame};
 
 use crate::answer::{OutOfMemory, WorldEvent};
 use crate::course::Course;
@@ -122,5 +122,17 @@ impl Course {
         self.roots.reserve(opened)?;
         self.datagrams.reserve(sent)?;
         reserve_tables(&mut self.stations, events)
+    }
+
+    /// Makes room for a dispatch. Where there is none, nothing has changed.
+    pub fn reserve_dispatch(&mut self) -> Result<(), OutOfMemory>
+        ensures same { IsSame self.old self.new }
+        ensures room { OnOk result ((device : ℕ) → HasPlaces self.new device 0 1) }
+    {
+        if self.dispatches == u64::MAX {
+            return Err(OutOfMemory);
+        }
+        self.datagrams.reserve(1)?;
+        Ok(())
     }
 }

@@ -9,21 +9,22 @@ ghost use Rattle.fb_model.specs.Declarations.{SourceTree};
 ghost use Rattle.fb_model.specs.Certificates as certs;
 ghost use Rattle.fb_model.specs.CertificateText.{Spells, most_characters};
 ghost use Rattle.fb_model.specs.EventBlocks.{Elaborates};
-ghost use Rattle.fb_model.specs.World.{IsFirst, WorldHappens, WorldRun, AreWithin, root_steps};
+ghost use Rattle.fb_model.specs.World.{IsFirst, WorldHappens, WorldRun, AreWithin, root_steps, At_device, A_dispatch, Answered};
+ghost use Rattle.fb_device.specs.fb_device_dispatch.Answers.{dispatched_of, HasPoint};
 ghost use Rattle.fb_model_worlds.specs.Worlds.{IsWorldSound};
 ghost use Rattle.fb_tree.specs.Sources.{IsSource};
 ghost use Rattle.fb_verdict.specs.Lookups.{is_same_path};
 ghost use Rattle.fb_device.specs.Refusals.{no_memory};
 ghost use Rattle.fb_world.specs.Scenes.{system_of, cert_of, world_of};
-ghost use Rattle.fb_world.specs.Answers.{event_of, device_of, leaves_at, answer_of, answers_of, steps_of, HasWorldPlace, HaveWorldPlaces};
+ghost use Rattle.fb_world.specs.Answers.{event_of, device_of, leaves_at, answer_of, answers_of, steps_of, HasWorldPlace, HaveWorldPlaces, HasMissed};
 ghost use Rattle.fb_world.specs.Keeping.{IsReached};
 ghost use Rattle.fb_world.specs.Loads.{IsWorldOf, IsWorldFault, IsDeviceAt};
 
-use crate::answer::{OutOfMemory, RootSteps, WorldAnswer, WorldEvent};
+use crate::answer::{Missed, OutOfMemory, RootSteps, WorldAnswer, WorldEvent};
 use crate::beginning::first_course;
 use crate::course::Course;
 use crate::station::numbered;
-use fb_device::{Device, Refusal, share};
+use fb_device::{Device, Dispatched, Refusal, share};
 use fb_verdict::{Verified, check_text};
 use std::alloc::Global;
 use std::marker::Model;
@@ -103,6 +104,28 @@ impl World {
     {
         self.course.reserve(from_ref(event))?;
         Ok(self.course.happen(event))
+    }
+
+    /// A dispatch at a device, of the resource of a number, without an answer that is moved about: it is written to its place. Gives the number of the datagram
+    /// that was sent. What it may need is reserved first: where memory runs out, nothing has changed.
+    pub fn dispatch(
+        &mut self,
+        device: u16,
+        resource: u16,
+        answer: &mut Dispatched,
+    ) -> Result<Option<u64>, Missed>
+        ensures happens { IfOk result (λ sent. WorldHappens (system_of self.old) (cert_of self.old) (world_of self.old) (At_device device (A_dispatch resource)) (Answered (dispatched_of (leaves_at (system_of self.old) device) answer.new) sent) (world_of self.new)) }
+        ensures point { IfOk result (λ _. HasPoint (leaves_at (system_of self.old) device) answer.new) }
+        ensures missed { IfErr result (λ why. HasMissed (system_of self.old) device why × (self.new ≡ self.old)) }
+        ensures same { self.new.verified ≡ self.old.verified }
+    {
+        if device as usize >= self.course.stations.len() {
+            return Err(Missed::Unknown);
+        }
+        match self.course.reserve_dispatch() {
+            Ok(()) => Ok(self.course.dispatch(device, resource, answer)),
+            Err(_) => Err(Missed::OutOfMemory),
+        }
     }
 
     /// A list of events, one after another. What all of them may need is reserved first: where memory runs out, nothing has changed.

@@ -19,7 +19,6 @@ use Rattle.fb_world.specs.Keeping.{Goes}
 use Rattle.fb_world.specs.Room.{Uses}
 use Rattle.fb_world.proofs.Dispatches.{idle_goes, bookable, ran_goes, booked_uses}
 use Rattle.fb_world.proofs.Rooms.{device_kept, uses_set}
-use Rattle.fb_world.proofs.course.Course.dispatch.Goals.{in-Idle, in-Ran}
 use Rattle.fb_world.proofs.course.Course.dispatch.Goals as goal
 
 -- what was told is what happened
@@ -29,45 +28,46 @@ told v old n q all result a sent o self new e f g h =
     (subst (λ (x : Option ℕ). Goes v old (At_device n (A_dispatch q)) (Answered (dispatched_of all result) x) new) (sym f)
     (subst (λ (x : Dispatched). Goes v old (At_device n (A_dispatch q)) (Answered (dispatched_of all x) o) new) (sym e) h))
 
-pub book-sent-requires-clause-root : goal.book-sent-requires-clause-root
-book-sent-requires-clause-root c =
+pub book-requires-clause-root : goal.book-requires-clause-root
+book-requires-clause-root c =
     let stands = slice_get_read c.args.self.now.stations.items (length c.args.self.now.stations.items) c.args.device c.index_mut.result.now refl c.requires.there c.index_mut.ensures.value in
     let s : Station = c.index_mut.result.now in
-    let mid : Course = record { stations = with_item c.args.self.now.stations c.args.device (with_device s c.dispatch-dispatched.new.self); datagrams = c.args.self.now.datagrams; roots = c.args.self.now.roots; dispatches = c.args.self.now.dispatches } in
-    bookable c.requires.kept.0 c.args.self.now mid c.requires.kept.1 c.args.device c.args.resource c.index_mut.result.now c.dispatch-dispatched.new.self stands refl c.dispatch-dispatched.ensures.same refl refl refl c.in-Ran.ran
-    (subst (λ (a : Dispatched). Happens (cert_in c.index_mut.result.now.device) (device_in c.index_mut.result.now.device) (machine_of c.index_mut.result.now.device) (book.Dispatch c.args.resource) (dispatched_of (leaves (device_in c.index_mut.result.now.device)) a) (machine_of c.dispatch-dispatched.new.self)) c.in-Ran.is c.dispatch-dispatched.ensures.step)
+    let mid : Course = record { stations = with_item c.args.self.now.stations c.args.device (with_device s c.dispatch.new.self); datagrams = c.args.self.now.datagrams; roots = c.args.self.now.roots; dispatches = c.args.self.now.dispatches } in
+    bookable c.requires.kept.0 c.args.self.now mid c.requires.kept.1 c.args.device c.args.resource c.index_mut.result.now c.dispatch.new.self stands refl c.dispatch.ensures.same refl refl refl c.in-Ran.ran
+    (subst (λ (a : Dispatched). Happens (cert_in c.index_mut.result.now.device) (device_in c.index_mut.result.now.device) (machine_of c.index_mut.result.now.device) (book.Dispatch c.args.resource) (dispatched_of (leaves (device_in c.index_mut.result.now.device)) a) (machine_of c.dispatch.new.self)) c.in-Ran.is c.dispatch.ensures.step)
     c.requires.room.numbers
 
-pub returns-clause-goes : goal.returns-clause-goes
-returns-clause-goes c = λ v k.
+pub returns-in-Idle-clause-goes : goal.returns-in-Idle-clause-goes
+returns-in-Idle-clause-goes c = λ v k.
     let stands = slice_get_read c.args.self.now.stations.items (length c.args.self.now.stations.items) c.args.device c.index_mut.result.now refl c.requires.there c.index_mut.ensures.value in
     let s : Station = c.index_mut.result.now in
-    let mid : Course = record { stations = with_item c.args.self.now.stations c.args.device (with_device s c.dispatch-dispatched.new.self); datagrams = c.args.self.now.datagrams; roots = c.args.self.now.roots; dispatches = c.args.self.now.dispatches } in
-    elim c.match-dispatched.branch [
-      | in-Idle w ↦ (
-          told v c.args.self.now c.args.device c.args.resource (leaves_at (system_in v) c.args.device) c.dispatch-dispatched.result Idle c.match-dispatched.sent None c.match-dispatched.self mid w.in-Idle.is w.sent-is w.self-is
-          (idle_goes v c.args.self.now mid k c.args.device c.args.resource c.index_mut.result.now c.dispatch-dispatched.new.self stands refl c.dispatch-dispatched.ensures.same refl refl refl
-          (subst (λ (a : Dispatched). Happens (cert_in c.index_mut.result.now.device) (device_in c.index_mut.result.now.device) (machine_of c.index_mut.result.now.device) (book.Dispatch c.args.resource) (dispatched_of (leaves (device_in c.index_mut.result.now.device)) a) (machine_of c.dispatch-dispatched.new.self)) w.in-Idle.is c.dispatch-dispatched.ensures.step))
-          )
-      | in-Ran w ↦ (
-          told v c.args.self.now c.args.device c.args.resource (leaves_at (system_in v) c.args.device) c.dispatch-dispatched.result (Ran w.in-Ran.ran) c.match-dispatched.sent w.book-sent.result c.match-dispatched.self w.book-sent.new.self w.in-Ran.is w.sent-is w.self-is
-          (ran_goes v c.args.self.now mid k c.args.device c.args.resource c.index_mut.result.now c.dispatch-dispatched.new.self stands refl c.dispatch-dispatched.ensures.same refl refl refl w.in-Ran.ran
-          (subst (λ (a : Dispatched). Happens (cert_in c.index_mut.result.now.device) (device_in c.index_mut.result.now.device) (machine_of c.index_mut.result.now.device) (book.Dispatch c.args.resource) (dispatched_of (leaves (device_in c.index_mut.result.now.device)) a) (machine_of c.dispatch-dispatched.new.self)) w.in-Ran.is c.dispatch-dispatched.ensures.step)
-          w.book-sent.result w.book-sent.new.self w.book-sent.ensures.booked)
-          )
-    ]
+    let mid : Course = record { stations = with_item c.args.self.now.stations c.args.device (with_device s c.dispatch.new.self); datagrams = c.args.self.now.datagrams; roots = c.args.self.now.roots; dispatches = c.args.self.now.dispatches } in
+    told v c.args.self.now c.args.device c.args.resource (leaves_at (system_in v) c.args.device) c.dispatch.result Idle None None mid mid c.in-Idle.is refl refl
+    (idle_goes v c.args.self.now mid k c.args.device c.args.resource c.index_mut.result.now c.dispatch.new.self stands refl c.dispatch.ensures.same refl refl refl
+    (subst (λ (a : Dispatched). Happens (cert_in c.index_mut.result.now.device) (device_in c.index_mut.result.now.device) (machine_of c.index_mut.result.now.device) (book.Dispatch c.args.resource) (dispatched_of (leaves (device_in c.index_mut.result.now.device)) a) (machine_of c.dispatch.new.self)) c.in-Idle.is c.dispatch.ensures.step))
 
-pub returns-clause-uses : goal.returns-clause-uses
-returns-clause-uses c =
+pub returns-in-Ran-clause-goes : goal.returns-in-Ran-clause-goes
+returns-in-Ran-clause-goes c = λ v k.
     let stands = slice_get_read c.args.self.now.stations.items (length c.args.self.now.stations.items) c.args.device c.index_mut.result.now refl c.requires.there c.index_mut.ensures.value in
     let s : Station = c.index_mut.result.now in
-    let mid : Course = record { stations = with_item c.args.self.now.stations c.args.device (with_device s c.dispatch-dispatched.new.self); datagrams = c.args.self.now.datagrams; roots = c.args.self.now.roots; dispatches = c.args.self.now.dispatches } in
-    elim c.match-dispatched.branch [
-      | in-Idle w ↦ subst (λ (x : Course). Uses c.args.self.now x c.args.device 0 1) (sym w.self-is)
-          (uses_set c.args.self.now mid c.args.device 0 1 c.index_mut.result.now (with_device s c.dispatch-dispatched.new.self) stands refl
-          (record { same = device_kept c.index_mut.result.now.device c.dispatch-dispatched.new.self c.dispatch-dispatched.ensures.same.0 c.dispatch-dispatched.ensures.same.1; spare_is = omega arith })
-          (omega arith) refl (omega arith) refl (omega arith))
-      | in-Ran w ↦ subst (λ (x : Course). Uses c.args.self.now x c.args.device 0 1) (sym w.self-is)
-          (booked_uses c.args.self.now mid w.book-sent.new.self c.args.device c.index_mut.result.now c.dispatch-dispatched.new.self w.in-Ran.ran w.book-sent.result stands refl c.dispatch-dispatched.ensures.same refl refl refl
-          w.book-sent.ensures.booked w.book-sent.ensures.room.0 w.book-sent.ensures.room.1)
-    ]
+    let mid : Course = record { stations = with_item c.args.self.now.stations c.args.device (with_device s c.dispatch.new.self); datagrams = c.args.self.now.datagrams; roots = c.args.self.now.roots; dispatches = c.args.self.now.dispatches } in
+    ran_goes v c.args.self.now mid k c.args.device c.args.resource c.index_mut.result.now c.dispatch.new.self stands refl c.dispatch.ensures.same refl refl refl c.in-Ran.ran
+    (subst (λ (a : Dispatched). Happens (cert_in c.index_mut.result.now.device) (device_in c.index_mut.result.now.device) (machine_of c.index_mut.result.now.device) (book.Dispatch c.args.resource) (dispatched_of (leaves (device_in c.index_mut.result.now.device)) a) (machine_of c.dispatch.new.self)) c.in-Ran.is c.dispatch.ensures.step)
+    c.book.result c.book.new.self c.book.ensures.booked
+
+pub returns-in-Idle-clause-uses : goal.returns-in-Idle-clause-uses
+returns-in-Idle-clause-uses c =
+    let stands = slice_get_read c.args.self.now.stations.items (length c.args.self.now.stations.items) c.args.device c.index_mut.result.now refl c.requires.there c.index_mut.ensures.value in
+    let s : Station = c.index_mut.result.now in
+    let mid : Course = record { stations = with_item c.args.self.now.stations c.args.device (with_device s c.dispatch.new.self); datagrams = c.args.self.now.datagrams; roots = c.args.self.now.roots; dispatches = c.args.self.now.dispatches } in
+    uses_set c.args.self.now mid c.args.device 0 1 c.index_mut.result.now (with_device s c.dispatch.new.self) stands refl
+    (record { same = device_kept c.index_mut.result.now.device c.dispatch.new.self c.dispatch.ensures.same.0 c.dispatch.ensures.same.1; spare_is = omega arith })
+    (omega arith) refl (omega arith) refl (omega arith)
+
+pub returns-in-Ran-clause-uses : goal.returns-in-Ran-clause-uses
+returns-in-Ran-clause-uses c =
+    let stands = slice_get_read c.args.self.now.stations.items (length c.args.self.now.stations.items) c.args.device c.index_mut.result.now refl c.requires.there c.index_mut.ensures.value in
+    let s : Station = c.index_mut.result.now in
+    let mid : Course = record { stations = with_item c.args.self.now.stations c.args.device (with_device s c.dispatch.new.self); datagrams = c.args.self.now.datagrams; roots = c.args.self.now.roots; dispatches = c.args.self.now.dispatches } in
+    booked_uses c.args.self.now mid c.book.new.self c.args.device c.index_mut.result.now c.dispatch.new.self c.in-Ran.ran c.book.result stands refl c.dispatch.ensures.same refl refl refl
+    c.book.ensures.booked c.book.ensures.room.0 c.book.ensures.room.1

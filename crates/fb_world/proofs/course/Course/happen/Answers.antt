@@ -16,7 +16,7 @@ pub returns-in-Tick-clause-uses : goal.returns-in-Tick-clause-uses
 returns-in-Tick-clause-uses c = subst (λ (e : WorldEvent). Uses c.args.self.now c.tick.new.self (device_of e) (opens_at_most c.args.self.now.stations.items e) (dispatches_in e)) (sym c.in-Tick.is) c.tick.ensures.uses
 
 pub returns-in-Dispatch-clause-uses : goal.returns-in-Dispatch-clause-uses
-returns-in-Dispatch-clause-uses c = subst (λ (e : WorldEvent). Uses c.args.self.now c.dispatch.new.self (device_of e) (opens_at_most c.args.self.now.stations.items e) (dispatches_in e)) (sym c.in-Dispatch.is) c.dispatch.ensures.uses
+returns-in-Dispatch-clause-uses c = subst (λ (e : WorldEvent). Uses c.args.self.now c.serve.new.self (device_of e) (opens_at_most c.args.self.now.stations.items e) (dispatches_in e)) (sym c.in-Dispatch.is) c.serve.ensures.uses
 
 pub returns-in-Deliver-clause-uses : goal.returns-in-Deliver-clause-uses
 returns-in-Deliver-clause-uses c = subst (λ (e : WorldEvent). Uses c.args.self.now c.deliver.new.self (device_of e) (opens_at_most c.args.self.now.stations.items e) (dispatches_in e)) (sym c.in-Deliver.is) c.deliver.ensures.uses
