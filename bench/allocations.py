@@ -1,10 +1,10 @@
 #!/usr/bin/env python3
 """Refuses each growth of memory in turn, and counts those of a device that runs: bench/allocations.py PROGRAM [--short] [--cases FBR_CASES]
 
-bench/failing.c is built with the C compiler and preloaded. First every command runs on the counter, on a timer and on two devices (without --short also on examples/handover): before each growth the
-process forks, and the child is refused this growth. What the child prints has to be what is printed with ample memory, or a beginning of its lines and then a refusal for want of memory
-(nothing at all, where there is none for the words), with status 4; no signal, and no panic. What `explain` and `draw` tell people is asked less of: where memory runs out behind the outcome, lines of an explanation may be left out, and where it runs out
-while lines are written the status is 3, as if the output had failed.
+bench/failing.c is built with the C compiler and preloaded. First every command runs on the counter, on a timer and on two devices (without --short also on examples/handover), and `explain` and `draw`
+on the cases of tests/commands (with --short on the first of each file): before each growth the process forks, and the child is refused this growth. What the child prints has to be what is printed
+with ample memory, or a refusal for want of memory and nothing else, with status 4; of `sim` it is a beginning of the lines and then this refusal, of `explain` what it tells of 9 stands behind it, and
+nothing at all is printed where there is no memory for the words. There is no signal, and no panic. What people are told on standard error may be less then.
 
 Then what scripts of `sim` and turns of `serve` take behind their first answer is counted: how many growths a line of each kind takes, and how many growths a device takes
 behind its first write while datagrams come in.
@@ -14,6 +14,7 @@ no memory itself."""
 import argparse
 import collections
 import concurrent.futures
+import glob
 import os
 import re
 import shutil
@@ -26,6 +27,7 @@ import time
 
 TOP = os.path.dirname(os.path.dirname(os.path.abspath(__file__)))
 SECONDS = 600
+REFUSED = "refused 9\n"
 # What `explain` tells of 9.
 MEANING = "What it says: memory ran out\nWhat to do: give the process more memory\n"
 TIMER = """SYSTEM S DEVICE D RESOURCE R
@@ -83,7 +85,7 @@ class Plant:
             yield [], f"{text.read()}====\n{cert.read()}"
         for words in (["bound", app], ["bound", app, "--repeats", "2"]):
             yield words, ""
-        for words in (["explain", app], ["explain", app, self.bad], ["draw", app], ["draw", app, self.far]):
+        for words in (["explain", app], ["explain", app, self.bad], ["draw", app], ["draw", app, self.far], ["draw", app, self.far, "--chart", "counter"]):
             yield words, ""
         for cert in (self.cert, self.far):
             yield ["sim", app, cert], self.script
@@ -117,41 +119,33 @@ def records(file):
         yield number, os.waitstatus_to_exitcode(status), file.read(printed).decode(), file.read(told).decode()
 
 
-def is_beginning(ample, told):
-    """Is this a beginning of the ample output and then the refusal? It is nothing where there is no memory for the words."""
-    lines, refused, rest = told.partition("refused 9\n")
-    return not told or refused and ample.startswith(lines) and MEANING.startswith(rest)
+def is_refusal(word, ample, told):
+    """Is this the refusal for want of memory, of `sim` behind a beginning of the ample output? It is nothing where there is no memory for the words."""
+    if word == "sim":
+        lines, refused, rest = told.partition(REFUSED)
+        return not told or refused and not rest and ample.startswith(lines)
+    return told in ("", REFUSED) or word == "explain" and told == REFUSED + MEANING
 
 
-def is_shorter(ample, told):
-    """Is this the ample output with lines left out behind the first?"""
-    rest = iter(ample.splitlines())
-    return ample.splitlines()[:1] == told.splitlines()[:1] and all(line in rest for line in told.splitlines())
-
-
-def is_honest(word, status, ample, ended, printed):
-    """May a command end so, of which a growth was refused?"""
-    if ended == 4:
-        return is_beginning(ample, printed)
-    if word == "explain" and is_shorter(ample, printed):
-        return ended in (status, 3)
-    return word in ("explain", "draw") and ended == 3 and ample.startswith(printed)
-
-
-def try_command(words, text, program, library, folder):
-    """Refuses each growth of a command. Returns its words, how many growths there were, how many made a difference, and for how many that was not told."""
-    status, ample, tried = each([program, *words], text, library, folder)
+def try_command(words, text, program, library, folder, where=None, expected=(0, 1, 2)):
+    """Refuses each growth of a command, which ends with one of these statuses where there is ample memory. Returns how many growths there were, and how many made a difference."""
+    status, ample, tried = each([program, *words], text, library, folder, where)
     shown = f"fbr {' '.join(words)}".replace(f"{folder}/", "")
-    if status not in (0, 1, 2) or not tried:
+    if status not in expected or not tried:
         fail(f"{shown}: with ample memory status {status}, {len(tried)} growths")
-    refused = less = 0
+    refused = 0
     for number, ended, printed, told in tried:
         same = ended == status and printed == ample
-        if not same and not is_honest(words[:1] and words[0], status, ample, ended, printed) or "panic" in told:
-            fail(f"{shown}: growth {number} of {len(tried)}: status {ended}, {printed[-300:]!r}, {told[-300:]!r}")
+        honest = same or ended == 4 and is_refusal(words[0] if words else "", ample, printed)
+        if not honest or "panic" in told:
+            fail(f"{shown}: growth {number} of {len(tried)}: status {ended}, {printed[-300:]!r}, {told[-300:]!r}, of {ample!r}")
         refused += not same
-        less += not same and ended != 4
-    return shown, len(tried), refused, less
+    return len(tried), refused
+
+
+def show_commands(name, done):
+    growths, refused = (sum(it[at] for it in done) for at in (0, 1))
+    print(f"  {name}: {len(done)} commands, {growths} growths refused in turn: {refused} are told, {growths - refused} change nothing")
 
 
 def try_commands(plants, program, library, folder):
@@ -159,10 +153,40 @@ def try_commands(plants, program, library, folder):
     with concurrent.futures.ThreadPoolExecutor(2) as pool:
         done = list(pool.map(lambda job: (job[0], try_command(*job[1:], program, library, folder)), jobs))
     for plant in plants:
-        own = [it for (at, it) in done if at is plant]
-        growths, refused, less = (sum(it[at] for it in own) for at in (1, 2, 3))
-        told = f"{refused - less} are told, {less} cut an explanation or a drawing short, {growths - refused} change nothing"
-        print(f"  {plant.name}: {len(own)} commands, {growths} growths refused in turn: {told}")
+        show_commands(plant.name, [it for (at, it) in done if at is plant])
+
+
+def told_cases(word, most):
+    """The first cases of each file of tests/commands in which this word tells of files: the words, the files by their names, and the status that the case has."""
+    for path in sorted(glob.glob(f"{TOP}/tests/commands/*.case")):
+        with open(path, encoding="utf-8", newline="") as it:
+            cases = it.read().split("==== case ")[1:]
+        given, count = {}, 0
+        for case in cases:
+            # A section that a case does not give is that of the case before it.
+            given |= {head: text.removesuffix("\n") for head, text in re.findall(r"^==== ([^\n]*)\n(.*?)(?=^==== |\Z)", case, re.MULTILINE | re.DOTALL)}
+            words = given.get("words", "").split()
+            if words[:1] == [word] and count < most and not given.keys() & {"room", "byte 255"}:
+                count += 1
+                files = {head.removeprefix("file "): text for head, text in given.items() if head.startswith("file ")}
+                yield words, files, int(re.match(r"status (\d)", given["answer"])[1])
+
+
+def try_told(case, program, library, folder):
+    """Refuses each growth of a command over the files of a case, in a folder of their own."""
+    words, files, status = case
+    with tempfile.TemporaryDirectory(dir=folder) as own:
+        for name, text in files.items():
+            with open(f"{own}/{name}", "w", encoding="utf-8", newline="") as it:
+                it.write(text)
+        return try_command(words, "", program, library, folder, own, (status,))
+
+
+def try_telling(program, library, folder, most):
+    for word in ("explain", "draw"):
+        with concurrent.futures.ThreadPoolExecutor(2) as pool:
+            done = list(pool.map(lambda case: try_told(case, program, library, folder), told_cases(word, most)))
+        show_commands(f"cases of {word}", done)
 
 
 def grown(command, text, library, mark):
@@ -337,6 +361,7 @@ def main():
         more = [] if given.short else [Plant("handover", read("handover/handover.fb"), read("handover/handover.script"), program, folder)]
         print("each growth refused in turn:")
         try_commands([*plants, *more], program, library, folder)
+        try_telling(program, library, folder, 1 if given.short else 1000)
         print("growths of a script's lines:")
         count_lines(program, plants, library)
         print("growths of a device that serves:")

@@ -2,6 +2,7 @@
 //! No contracts: what it prints is tested. What a number means is made of `docs/REFUSALS.md` by `bench/refusals.py`.
 #![tactic(auto)]
 
+mod again;
 mod beside;
 mod bounds;
 mod candidates;
@@ -42,6 +43,7 @@ mod walk;
 mod wanted;
 mod wired;
 
+pub use again::certificate_again;
 pub use bounds::tell_bounds;
 pub use fb_check;
 pub use meaning::{Meaning, found_limit, meaning_of};

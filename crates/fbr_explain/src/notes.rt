@@ -5,9 +5,9 @@ use crate::noted::Page;
 use crate::spotted::Named;
 use crate::used::note_variables;
 use crate::wired::note_network;
-use fb_lex::lex;
-use fb_tree::BodyTree;
-use fbr_places::{FACES, Types, tree_of};
+use fb_lex::Token;
+use fb_tree::{BodyTree, FileTree};
+use fbr_places::{FACES, Types, tokens_of, tree_of};
 use std::alloc::Global;
 use std::io;
 use std::io::Write;
@@ -31,30 +31,45 @@ fn note_all<W: Write>(page: Page<'_>, output: &mut W) -> io::Result<()> {
     Ok(())
 }
 
+// The same of its tokens and its source tree, beside the types that are there beforehand.
+fn note_file<W: Write>(
+    alloc: Global,
+    app: Named<'_>,
+    tokens: &[Token],
+    file: &FileTree,
+    output: &mut W,
+) -> io::Result<()> {
+    match tree_of(alloc, FACES)? {
+        Some(library) => {
+            let types = Types {
+                file,
+                library: &library,
+            };
+            let page = Page {
+                alloc,
+                app,
+                tokens,
+                types,
+            };
+            let told = note_all(page, output);
+            library.let_go();
+            told
+        }
+        None => Ok(()),
+    }
+}
+
 /// Writes notes on the text of an application that is accepted: what it has and does not use, what leads nowhere, and numbers without a unit.
 pub fn tell_notes<W: Write>(alloc: Global, app: Named<'_>, output: &mut W) -> io::Result<()> {
-    let Ok(tokens) = lex(alloc, app.text) else {
+    let Some(tokens) = tokens_of(alloc, app.text)? else {
         return Ok(());
     };
-    let Some(file) = tree_of(alloc, app.text) else {
-        return Ok(());
-    };
-    let Some(library) = tree_of(alloc, FACES) else {
-        file.let_go();
-        return Ok(());
-    };
-    let types = Types {
-        file: &file,
-        library: &library,
-    };
-    let page = Page {
-        alloc,
-        app,
-        tokens: &tokens,
-        types,
-    };
-    let told = note_all(page, output);
-    library.let_go();
-    file.let_go();
-    told
+    match tree_of(alloc, app.text)? {
+        Some(file) => {
+            let told = note_file(alloc, app, &tokens, &file, output);
+            file.let_go();
+            told
+        }
+        None => Ok(()),
+    }
 }

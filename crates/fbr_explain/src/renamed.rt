@@ -4,7 +4,7 @@ use crate::put::{put, put_number};
 use fb_cert::Certificate;
 use fb_check_rows::{RowKind, required};
 use fb_flat::Flat;
-use std::alloc::Global;
+use std::alloc::{AllocError, Global};
 use std::io;
 use std::io::Write;
 
@@ -43,16 +43,16 @@ pub fn tell_counts<W: Write>(
         RowKind::Range,
         RowKind::Depth,
     ] {
-        if let Ok(rows) = required(alloc, kind, flat) {
-            let mut met: usize = 0;
-            for path in &rows {
-                if has(certificate, kind, path.as_str()) {
-                    met = met.saturating_add(1);
-                }
+        // Rows are wanting for want of memory alone.
+        let rows = required(alloc, kind, flat).map_err(|_| AllocError)?;
+        let mut met: usize = 0;
+        for path in &rows {
+            if has(certificate, kind, path.as_str()) {
+                met = met.saturating_add(1);
             }
-            missing = missing.saturating_add(rows.len().saturating_sub(met));
-            many = many.saturating_add(count(certificate, kind).saturating_sub(met));
         }
+        missing = missing.saturating_add(rows.len().saturating_sub(met));
+        many = many.saturating_add(count(certificate, kind).saturating_sub(met));
     }
     if missing.saturating_add(many) < 2 {
         return Ok(());

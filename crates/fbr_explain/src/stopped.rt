@@ -1,9 +1,10 @@
 //! The tokens before a place, and whether the grammar goes on with others there.
 
 use crate::tokens::{closer_of, mark_of, open_before};
-use fb_lex::{Kind, TextFault, Token, lex};
+use fb_lex::{Kind, TextFault, Token};
 use fb_text::parse_tokens;
 use fb_words::Mark;
+use fbr_places::tokens_of;
 use std::alloc::{AllocError, Global};
 
 /// Tokens before a place on which it depends what can stand there, and the token that stands there.
@@ -25,7 +26,7 @@ pub struct Stopped {
 
 /// The tokens before a byte, and the one that begins there.
 pub fn stopped_at(alloc: Global, text: &str, at: usize) -> Result<Option<Stopped>, AllocError> {
-    let Ok(tokens) = lex(alloc, text) else {
+    let Some(tokens) = tokens_of(alloc, text)? else {
         return Ok(None);
     };
     let mut stopped = Stopped {
@@ -88,14 +89,15 @@ impl Stopped {
     }
 
     // Whether the grammar goes on behind the tokens.
-    fn goes_on(&self) -> bool {
+    fn goes_on(&self) -> Result<bool, AllocError> {
         match parse_tokens(self.alloc, &self.before, self.length) {
             Ok(tree) => {
                 tree.let_go();
-                true
+                Ok(true)
             }
-            Err(TextFault::Syntax(at)) => at == self.length,
-            Err(_) => false,
+            Err(TextFault::Syntax(at)) => Ok(at == self.length),
+            Err(TextFault::OutOfMemory) => Err(AllocError),
+            Err(_) => Ok(false),
         }
     }
 
@@ -114,7 +116,7 @@ impl Stopped {
         self.add(kind)?;
         let taken = self.goes_on();
         let _ = self.before.pop();
-        Ok(taken)
+        taken
     }
 
     // Whether the token that was found could stand behind another one, or behind two.
@@ -131,7 +133,7 @@ impl Stopped {
         let fits = self.goes_on();
         self.found = self.before.pop();
         self.before.truncate(count);
-        Ok(fits)
+        fits
     }
 
     /// What is open there.

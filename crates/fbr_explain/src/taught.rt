@@ -11,9 +11,10 @@ use crate::typing::tell_types;
 use crate::unknown::tell_unknown;
 use crate::wanted::Place;
 use fb_check::Refusal;
-use fb_lex::{TextFault, lex};
+use fb_lex::TextFault;
+use fb_tree::FileTree;
 use fb_types::TypeFault;
-use fbr_places::{FACES, Spot, Types, tree_of};
+use fbr_places::{FACES, Spot, Types, tokens_of, tree_of};
 use std::alloc::Global;
 use std::io;
 use std::io::Write;
@@ -27,7 +28,7 @@ fn tell_typing<W: Write>(
     at: usize,
     output: &mut W,
 ) -> io::Result<()> {
-    let Ok(tokens) = lex(alloc, app.text) else {
+    let Some(tokens) = tokens_of(alloc, app.text)? else {
         return Ok(());
     };
     let place = Place {
@@ -46,6 +47,29 @@ fn tell_typing<W: Write>(
     }
 }
 
+// The same of its source tree, beside the types that are there beforehand.
+fn tell_file<W: Write>(
+    alloc: Global,
+    fault: &TypeFault,
+    app: Named<'_>,
+    file: &FileTree,
+    at: usize,
+    output: &mut W,
+) -> io::Result<()> {
+    match tree_of(alloc, FACES)? {
+        Some(library) => {
+            let types = Types {
+                file,
+                library: &library,
+            };
+            let told = tell_typing(alloc, fault, app, types, at, output);
+            library.let_go();
+            told
+        }
+        None => Ok(()),
+    }
+}
+
 // The same where its source tree is read again.
 fn tell_typed<W: Write>(
     alloc: Global,
@@ -54,21 +78,14 @@ fn tell_typed<W: Write>(
     at: usize,
     output: &mut W,
 ) -> io::Result<()> {
-    let Some(file) = tree_of(alloc, app.text) else {
-        return Ok(());
-    };
-    let Some(library) = tree_of(alloc, FACES) else {
-        file.let_go();
-        return Ok(());
-    };
-    let types = Types {
-        file: &file,
-        library: &library,
-    };
-    let told = tell_typing(alloc, fault, app, types, at, output);
-    library.let_go();
-    file.let_go();
-    told
+    match tree_of(alloc, app.text)? {
+        Some(file) => {
+            let told = tell_file(alloc, fault, app, &file, at, output);
+            file.let_go();
+            told
+        }
+        None => Ok(()),
+    }
 }
 
 /// Writes where the text of an application is refused, what was found there, and what could stand there.

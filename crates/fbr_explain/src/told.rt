@@ -1,5 +1,6 @@
 //! Refusals, told to people.
 
+use crate::again::{certificate_again, flat_again, system_again};
 use crate::inner::tell_inner;
 use crate::meaning::{Meaning, meaning_of};
 use crate::owed::{tell_channel, tell_charge, tell_far, tell_weight};
@@ -12,11 +13,12 @@ use crate::row::{tell_missing, tell_missing_channel};
 use crate::seen::{block_in, place_at};
 use crate::spotted::{Named, tell_spot};
 use crate::taught::{tell_swapped, tell_text};
-use fb_cert::{Certificate, parse_cert};
-use fb_check::{Refusal, read_system};
+use fb_cert::Certificate;
+use fb_check::Refusal;
 use fb_check_ranges::block_rows;
-use fb_flat::{Flat, flatten};
+use fb_flat::Flat;
 use fb_tree::FileTree;
+use fb_types::Typed;
 use fbr_places::{Declared, Spot, declared_at, tree_of};
 use std::alloc::Global;
 use std::io;
@@ -167,36 +169,48 @@ fn tell_certified<W: Write>(
     flat: &Flat,
     output: &mut W,
 ) -> io::Result<()> {
-    match parse_cert(refused.alloc, refused.cert.text) {
-        Ok(certificate) => {
+    match certificate_again(refused.alloc, refused.cert.text)? {
+        Some(certificate) => {
             let told = tell_all(refused, tree, flat, &certificate, output);
             certificate.let_go();
             told
         }
-        Err(_) => Ok(()),
+        None => Ok(()),
+    }
+}
+
+// The same over the leaves of the application.
+fn tell_flat<W: Write>(
+    refused: &Refused<'_>,
+    tree: &FileTree,
+    typed: &Typed,
+    output: &mut W,
+) -> io::Result<()> {
+    match flat_again(refused.alloc, typed)? {
+        Some(flat) => {
+            let told = tell_certified(refused, tree, &flat, output);
+            flat.let_go();
+            told
+        }
+        None => Ok(()),
     }
 }
 
 // The same over the application's text.
 fn tell_typed<W: Write>(refused: &Refused<'_>, tree: &FileTree, output: &mut W) -> io::Result<()> {
-    let Ok(typed) = read_system(refused.alloc, refused.app.text) else {
-        return Ok(());
-    };
-    let told = match flatten(refused.alloc, &typed) {
-        Ok(flat) => {
-            let told = tell_certified(refused, tree, &flat, output);
-            flat.let_go();
+    match system_again(refused.alloc, refused.app.text)? {
+        Some(typed) => {
+            let told = tell_flat(refused, tree, &typed, output);
+            typed.let_go();
             told
         }
-        Err(_) => Ok(()),
-    };
-    typed.let_go();
-    told
+        None => Ok(()),
+    }
 }
 
 // The same over the source tree of the application's text, where it has one.
 fn tell_tree<W: Write>(refused: &Refused<'_>, output: &mut W) -> io::Result<()> {
-    match tree_of(refused.alloc, refused.app.text) {
+    match tree_of(refused.alloc, refused.app.text)? {
         Some(tree) => {
             let told = tell_typed(refused, &tree, output);
             tree.let_go();

@@ -1,5 +1,6 @@
 //! Why there is no certificate, told to people.
 
+use crate::again::flat_again;
 use crate::inner::tell_inner;
 use crate::meaning::{found_limit, meaning_of};
 use crate::seen::block_in;
@@ -8,7 +9,7 @@ use crate::told::tell_meaning;
 use crate::walk::tell_walk;
 use fb_find_ranges::tables;
 use fb_find_rows::NoBound;
-use fb_flat::{Flat, Leaf, flatten};
+use fb_flat::{Flat, Leaf};
 use fb_ranges::Ranges;
 use fb_tree::FileTree;
 use fb_types::Typed;
@@ -121,13 +122,13 @@ fn tell_in_flat<W: Write>(
     app: Named<'_>,
     output: &mut W,
 ) -> io::Result<()> {
-    match flatten(alloc, typed) {
-        Ok(flat) => {
+    match flat_again(alloc, typed)? {
+        Some(flat) => {
             let told = tell_in_tree(alloc, fault, &flat, tree, app, output);
             flat.let_go();
             told
         }
-        Err(_) => match fault {
+        None => match fault {
             NoBound::Limit(path) => tell_resource(tree, path.as_str(), app, output),
             _ => Ok(()),
         },
@@ -142,7 +143,7 @@ pub fn tell_no_bound<W: Write>(
     app: Named<'_>,
     output: &mut W,
 ) -> io::Result<()> {
-    if let Some(tree) = tree_of(alloc, app.text) {
+    if let Some(tree) = tree_of(alloc, app.text)? {
         let told = tell_in_flat(alloc, fault, typed, &tree, app, output);
         tree.let_go();
         told?;

@@ -16,4 +16,4 @@ pub use declared::{Declared, declared_at, instance_at, instance_named};
 pub use library::FACES;
 pub use ports::{Port, Types, port_in, type_named};
 pub use spot::Spot;
-pub use tree::tree_of;
+pub use tree::{tokens_of, tree_of};
