@@ -46,7 +46,7 @@ ANSWERS = {
 }
 SUMS = re.compile(r"fired (\d+) received (\d+) denied (\d+) ran (\d+) sent (\d+) lost (\d+)")
 NONE = b"CERT 1\n"
-WORDS = "check bound sim serve explain draw help --help --version -h -V --repeats --bind --turns --boot --flat -- - 0 1 2 255 256 43 -1 4294967296 D x APP CERT".split()
+WORDS = "check bound sim serve explain draw help --help --version -h -V --repeats --bind --turns --boot --flat --chart -- - 0 1 2 255 256 43 -1 4294967296 D x APP CERT".split()
 
 
 class Wrong(Exception):
@@ -278,9 +278,19 @@ class Trial:
         repeats = rng.choice([None, None, 1, 2, 255])
         self.bound(app, files[0], repeats)
         self.outcome(["draw", *files, *rng.choice([[], ["--flat"]])], app, cert)
+        self.chart(app, cert, files)
         if verdict == "accepted\n":
             self.accepted += 1
             self.play(app, files[0], cert.decode(), files[1])
+
+    def chart(self, app, cert, files):
+        """A chart is drawn of a basic block type, and other names are refused as words at fault."""
+        names = re.findall(rb"(?i)\bFUNCTION_BLOCK\s+([A-Z_]\w*)", app) or [b"none"]
+        words = ["draw", *files, "--chart", self.rng.choice(names).decode()]
+        if self.run(words) == (2, "refused 63\n"):
+            return
+        drawn = self.outcome(words, app, cert)
+        ask(drawn.startswith("refused ") or drawn.startswith("digraph ") and drawn.endswith("}\n"), "neither a chart nor a refusal")
 
     def bound(self, app, path, repeats):
         option = ["--repeats", str(repeats)] if repeats else []

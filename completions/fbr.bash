@@ -7,7 +7,7 @@ _fbr() {
     fi
     case $command in
         bound | explain) options="--repeats --help" ;;
-        draw) options="--repeats --flat --help" ;;
+        draw) options="--repeats --flat --chart --help" ;;
         serve) options="--bind --turns --boot --help" ;;
         check | sim) options="--help" ;;
         help) mapfile -t COMPREPLY < <(compgen -W "bound check sim explain draw serve help" -- "$word") && return ;;

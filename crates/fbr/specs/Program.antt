@@ -47,9 +47,13 @@ explain = with_rule (with_rule (over_file (codes "explain")) (maybe_file (codes 
 abbrev pub flat : Rule
 flat = record (new_rule (codes "flat")) { long = Some (codes "flat"); action = Some SetTrue }
 
--- `draw`, its file, perhaps another one, how often datagrams are delivered, and `--flat`
+-- `--chart` and the name of a block type
+abbrev pub chart : Rule
+chart = record (new_rule (codes "chart")) { long = Some (codes "chart"); action = Some Set; value_names = 1 }
+
+-- `draw`, its file, perhaps another one, how often datagrams are delivered, `--flat`, and the block type whose chart is drawn
 abbrev pub draw : App
-draw = with_rule (with_rule (with_rule (over_file (codes "draw")) (maybe_file (codes "CERT"))) repeats) flat
+draw = with_rule (with_rule (with_rule (with_rule (over_file (codes "draw")) (maybe_file (codes "CERT"))) repeats) flat) chart
 
 -- an option that takes a number
 abbrev pub number : Text → Rule

@@ -1,4 +1,5 @@
-//! Draws systems. What is written is tested, and no contract says it.
+//! Draws systems. What is written is tested, and no contract says it. A graph is written into memory first: it is whole, or memory ran out and 9 is told
+//! instead.
 
 ghost use Rattle.std.specs.Prelude.{◌≤◌, IfOk, IfSome};
 
@@ -10,29 +11,46 @@ use fb_cert::{Certificate, parse_cert};
 use fb_find_rows::NoBound;
 use fb_flat::{Flat, flatten};
 use fb_types::Typed;
-use fbr_draw::{Picture, draw};
+use fbr_draw::{Picture, draw, draw_chart};
 use fbr_explain::fb_check::{Place, Refusal};
 use fbr_places::tree_of;
 use std::alloc::Global;
 use std::io;
 use std::io::Write;
 
-/// What is drawn of a system: the weights of a certificate in this file, or else of the one that is found, or the walk for which there is none; and
-/// whether composites are boxes.
+/// What is drawn of a system, which a file of this name has: the weights of a certificate in this file, or else of the one that is found, or the walk for which
+/// there is none; whether composites are boxes; and the block type whose chart is drawn, where it is one.
 #[derive(Clone, Copy)]
 pub struct Drawing<'a> {
+    pub name: &'a str,
     pub cert: Option<&'a str>,
     pub repeats: Option<u8>,
     pub boxes: bool,
+    pub chart: Option<&'a str>,
 }
 
-// A system that is drawn, with its text, and whether composites are boxes.
+// A system that is drawn, with its text.
 #[derive(Clone, Copy)]
 struct Drawn<'a> {
     alloc: Global,
     app: &'a str,
     flat: &'a Flat,
-    boxes: bool,
+    drawing: Drawing<'a>,
+}
+
+// Writes the picture of a system or of a chart in it, and says whether there is what is to be drawn.
+fn write_picture<W: Write>(
+    system: Drawn<'_>,
+    picture: &Picture<'_>,
+    output: &mut W,
+) -> io::Result<bool> {
+    match system.drawing.chart {
+        Some(name) => draw_chart(system.alloc, picture, name, output),
+        None => {
+            draw(system.alloc, system.flat, picture, output)?;
+            Ok(true)
+        }
+    }
 }
 
 // Writes the graph of a system with a certificate, or with a walk.
@@ -45,19 +63,24 @@ fn draw_flat<W: Write>(
     ensures status { IfOk result (λ status. status ≤ 4) }
 {
     match tree_of(system.alloc, system.app) {
-        Some(tree) => {
+        Ok(Some(tree)) => {
             let picture = Picture {
+                name: system.drawing.name,
+                text: system.app,
                 file: &tree,
                 certificate,
                 walk,
-                boxes: system.boxes,
+                boxes: system.drawing.boxes,
             };
-            let drawn = draw(system.alloc, system.flat, &picture, output);
+            let drawn = write_picture(system, &picture, output);
             tree.let_go();
-            drawn?;
-            Ok(0)
+            if drawn? {
+                return Ok(0);
+            }
+            print_outcome(Err(Fault::Usage), output)
         }
-        None => print_outcome(Err(Fault::Memory), output),
+        // A text of which there is a system has a tree, if memory does not run out.
+        Ok(None) | Err(_) => print_outcome(Err(Fault::Memory), output),
     }
 }
 
@@ -118,7 +141,7 @@ fn draw_typed<'a, S: Sources, W: Write>(
                 alloc,
                 app,
                 flat: &flat,
-                boxes: drawing.boxes,
+                drawing,
             };
             let drawn = draw_bounds(system, bounds, output);
             flat.let_go();
@@ -128,8 +151,9 @@ fn draw_typed<'a, S: Sources, W: Write>(
     }
 }
 
-/// Writes the system of the application in a file as a graph in DOT, with its bounds, or the fault of a text.
-pub fn draw_file<'a, S: Sources, W: Write>(
+// Writes the system of the application in a file as a graph in DOT, with its bounds, or the chart of a block type; or the fault of a text, or of the words where
+// there is no such type.
+fn draw_named<'a, S: Sources, W: Write>(
     alloc: Global,
     files: &S,
     app: &'a str,
@@ -149,5 +173,28 @@ pub fn draw_file<'a, S: Sources, W: Write>(
             Err(fault) => print_outcome(Err(fault), output),
         },
         Err(fault) => print_outcome(Err(fault), output),
+    }
+}
+
+/// Writes the system of the application in a file as a graph in DOT, with its bounds, or the chart of a block type; or the fault of a text, or of the words where
+/// there is no such type. Where memory runs out, that and nothing else.
+pub fn draw_file<'a, S: Sources, W: Write>(
+    alloc: Global,
+    files: &S,
+    app: &'a str,
+    drawing: Drawing<'a>,
+    output: &mut W,
+) -> io::Result<u8>
+    requires { IfSome drawing.repeats (λ r. 1 ≤ r) }
+    ensures status { IfOk result (λ status. status ≤ 4) }
+{
+    let mut page = Vec::new(alloc);
+    match draw_named(alloc, files, app, drawing, &mut page) {
+        Ok(status) => {
+            output.write_all(&page)?;
+            Ok(status)
+        }
+        // A write into memory fails for want of it.
+        Err(_) => print_outcome(Err(Fault::Memory), output),
     }
 }

@@ -1,4 +1,5 @@
-//! Explains verdicts, and numbers of refusals. What is written is tested, and no contract says it.
+//! Explains verdicts, and numbers of refusals. What is written is tested, and no contract says it. An explanation is written into memory first: it is
+//! whole, or memory ran out and 9 is told instead.
 
 ghost use Rattle.std.specs.Prelude.{◌≤◌, IfOk, IfSome};
 
@@ -7,15 +8,16 @@ use crate::check::{print_outcome, read_text};
 use crate::fault::Fault;
 use crate::sim::verified_texts;
 use crate::sources::Sources;
-use fb_cert::{Certificate, parse_cert};
+use fb_cert::Certificate;
 use fb_find_rows::NoBound;
 use fb_script::read_number;
 use fb_types::Typed;
 use fbr_explain::fb_check::{Refusal, Verified, check};
 use fbr_explain::{
-    Named, Refused, meaning_of, tell_bounds, tell_meaning, tell_no_bound, tell_refusal,
+    Named, Refused, certificate_again, meaning_of, tell_bounds, tell_meaning, tell_no_bound,
+    tell_refusal,
 };
-use std::alloc::Global;
+use std::alloc::{AllocError, Global};
 use std::io;
 use std::io::Write;
 
@@ -41,34 +43,47 @@ fn explain_fault<W: Write>(fault: Fault<'_>, output: &mut W) -> io::Result<u8>
     Ok(fault.status())
 }
 
+// What is there unless there is a fault. Want of memory is not such a fault.
+fn unless_memory<T>(found: Result<T, Fault<'_>>) -> Result<Option<T>, AllocError> {
+    match found {
+        Ok(found) => Ok(Some(found)),
+        Err(Fault::Memory) => Err(AllocError),
+        Err(_) => Ok(None),
+    }
+}
+
 // The certificate that is found of an application's text.
-fn found_alone(alloc: Global, app: &str, repeats: Option<u8>) -> Option<Certificate>
+fn found_alone(
+    alloc: Global,
+    app: &str,
+    repeats: Option<u8>,
+) -> Result<Option<Certificate>, AllocError>
     requires { IfSome repeats (λ r. 1 ≤ r) }
 {
-    match typed_in(alloc, app) {
-        Ok(typed) => {
+    match unless_memory(typed_in(alloc, app))? {
+        Some(typed) => {
             let found = found_for(alloc, &typed, repeats);
             typed.let_go();
-            found.ok()
+            unless_memory(found)
         }
-        Err(_) => None,
+        None => Ok(None),
     }
 }
 
 // How often datagrams are delivered by a certificate's text.
-fn repeats_of(alloc: Global, cert: &str) -> Option<u8>
-    ensures { IfSome result (λ r. 1 ≤ r) }
+fn repeats_of(alloc: Global, cert: &str) -> Result<Option<u8>, AllocError>
+    ensures { IfOk result (λ repeats. IfSome repeats (λ r. 1 ≤ r)) }
 {
-    match parse_cert(alloc, cert) {
-        Ok(certificate) => {
+    match certificate_again(alloc, cert)? {
+        Some(certificate) => {
             let repeats = certificate.repeats();
             certificate.let_go();
             match repeats {
-                Some(0) => None,
-                other => other,
+                Some(0) => Ok(None),
+                other => Ok(other),
             }
         }
-        Err(_) => None,
+        None => Ok(None),
     }
 }
 
@@ -101,7 +116,7 @@ fn tell_with_rows<W: Write>(
 ) -> io::Result<()> {
     let found = match refusal {
         Refusal::MissingRow(_) | Refusal::MissingChannel(_) => {
-            found_alone(alloc, app.text, repeats_of(alloc, cert.text))
+            found_alone(alloc, app.text, repeats_of(alloc, cert.text)?)?
         }
         _ => None,
     };
@@ -285,6 +300,29 @@ fn explain_files<'a, S: Sources, W: Write>(
     }
 }
 
+// The same, or the outcome of want of memory and nothing else.
+fn explain_whole<'a, S: Sources, W: Write>(
+    alloc: Global,
+    files: &S,
+    name: &'a str,
+    cert: Option<&'a str>,
+    repeats: Option<u8>,
+    output: &mut W,
+) -> io::Result<u8>
+    requires { IfSome repeats (λ r. 1 ≤ r) }
+    ensures status { IfOk result (λ status. status ≤ 4) }
+{
+    let mut page = Vec::new(alloc);
+    match explain_files(alloc, files, name, cert, repeats, &mut page) {
+        Ok(status) => {
+            output.write_all(&page)?;
+            Ok(status)
+        }
+        // A write into memory fails for want of it.
+        Err(_) => explain_fault(Fault::Memory, output),
+    }
+}
+
 /// Explains the number of a refusal or a denial, or else the verdict over the application in the file of this name: with the certificate of a second
 /// file, or with the one that is found, for `repeats`, 1 or more, over all devices too. The first line is that of `check`, or of `bound` where there is
 /// no certificate, and so is the status.
@@ -301,6 +339,6 @@ pub fn explain<'a, S: Sources, W: Write>(
 {
     match read_number(what) {
         Some(number) => explain_number(number, output),
-        None => explain_files(alloc, files, what, cert, repeats, output),
+        None => explain_whole(alloc, files, what, cert, repeats, output),
     }
 }

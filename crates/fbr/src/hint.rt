@@ -1,4 +1,5 @@
-//! What people are told on standard error where something is refused: one line. It is tested, and no contract says it.
+//! What people are told on standard error where something is refused: one line. It is tested, and no contract says it. Where memory runs out it says
+//! less, or is left out: standard output and the status are what counts.
 
 use crate::bound::typed_in;
 use crate::check::read_text;

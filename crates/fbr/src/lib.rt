@@ -4,6 +4,7 @@
 #![tactic(auto)]
 
 mod bound;
+mod chart;
 mod check;
 mod draw;
 mod explain;

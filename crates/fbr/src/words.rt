@@ -11,6 +11,7 @@ ghost use Rattle.fbr.specs.Serving.{asked_of, TellsServe};
 ghost use Rattle.fbr.specs.Program as program;
 
 use crate::bound::bound_file;
+use crate::chart::hint_chart;
 use crate::check::{check_files, check_input, print_outcome};
 use crate::draw::{Drawing, draw_file};
 use crate::explain::explain;
@@ -118,16 +119,29 @@ fn flat<'a>(alloc: Global) -> Arg<'a>
         .help("Draws what composites are made of without boxes around it")
 }
 
+// The option `--chart`.
+fn chart<'a>(alloc: Global) -> Arg<'a>
+    ensures rule { rule_of result ≡ program.chart }
+    ensures local { result.global ≡ false }
+{
+    Arg::new(alloc, "chart")
+        .long("chart")
+        .action(ArgAction::Set)
+        .value_name("TYPE")
+        .help("Draws the execution control chart of this basic block type instead")
+}
+
 // The subcommand that draws.
 fn drawn<'a>(alloc: Global) -> Result<Command<'a>, AllocError>
     ensures { IfOk result (λ c. app_of c ≡ program.draw) }
 {
-    let about = "Draws the system and its bounds as a graph in DOT, for graphviz";
+    let about = "Draws the system and its bounds, or a chart, as a graph in DOT for graphviz";
     let help_cert = "The certificate's text; without it the one that is found";
     over_file(alloc, "draw", about)?
         .arg(maybe_file(alloc, "CERT", help_cert))?
         .arg(repeats(alloc))?
-        .arg(flat(alloc))
+        .arg(flat(alloc))?
+        .arg(chart(alloc))
 }
 
 // An option that takes a number, which help calls so.
@@ -364,9 +378,11 @@ fn run_telling<'a, S: Sources, W: Write>(
                 return explain(alloc, files, app, cert, repeats, output);
             }
             let drawing = Drawing {
+                name: app,
                 cert,
                 repeats,
                 boxes: !words.get_flag("flat"),
+                chart: given(words, "chart"),
             };
             draw_file(alloc, files, app, drawing, output)
         }
@@ -389,6 +405,14 @@ fn run_told<'a, S: Sources, W: Write, E: Write>(
             let told = run_telling(alloc, files, name, words, repeats, output);
             if name == "draw" {
                 hint_drawing(alloc, files, given(words, "APP"), &told, errors);
+                hint_chart(
+                    alloc,
+                    files,
+                    given(words, "APP"),
+                    given(words, "chart"),
+                    &told,
+                    errors,
+                );
             }
             told
         }

@@ -106,7 +106,7 @@ fn draw_received<W: Write>(
     output: &mut W,
 ) -> io::Result<()> {
     let from = channel.number;
-    write!(output, "    channel_{from} -> n{number}:head:w")?;
+    write!(output, "    channel_{from} -> n{number}:head")?;
     let is_walked = leaves_channel(sheet.picture.walk, from, leaf.path.as_str());
     end_received(times_of(sheet, channel), is_walked, output)
 }

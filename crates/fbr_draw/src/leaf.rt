@@ -112,8 +112,8 @@ fn draw_data<W: Write>(
     for index in 0..rows {
         indent(depth, output)?;
         put("<TR>", output)?;
-        draw_input(leaf.inputs.get(index), output)?;
-        draw_output(names.get(index), output)?;
+        draw_input(&leaf.body, leaf.inputs.get(index), output)?;
+        draw_output(sheet, leaf, names.get(index), output)?;
         put("</TR>\n", output)?;
     }
     Ok(())

@@ -3,6 +3,8 @@
 use crate::channel::draw_channels;
 use crate::device::draw_device;
 use crate::edge::{draw_events, draw_values};
+use crate::joined::joined_ports;
+use crate::legend::write_legend;
 use crate::margin::put;
 use crate::number::{leaves_of, numbered};
 use crate::picture::{Picture, Sheet};
@@ -34,15 +36,18 @@ pub fn draw<W: Write>(
 ) -> io::Result<()> {
     let leaves = leaves_of(alloc, flat)?;
     let numbers = numbered(alloc, leaves.as_slice())?;
+    let joined = joined_ports(alloc, leaves.as_slice())?;
     let sheet = Sheet {
         alloc,
         picture,
         numbers: &numbers,
+        joined: &joined,
     };
     put("digraph \"", output)?;
     put(picture.file.system.name.text.as_str(), output)?;
     put("\" {\n", output)?;
     write_defaults(output)?;
+    write_legend(alloc, picture, output)?;
     for device in &flat.devices {
         draw_device(&sheet, device, output)?;
     }

@@ -1,0 +1,118 @@
+//! Execution control charts.
+
+use crate::charge::{Charges, charges_of};
+use crate::guard::spelled;
+use crate::legend::{close_title, open_title, write_note, write_walk};
+use crate::margin::put;
+use crate::picture::Picture;
+use crate::state::draw_state;
+use crate::transition::draw_transitions;
+use fb_cert::Certificate;
+use fb_tree::{BlockTree, BodyTree, ChartTree, FileTree};
+use std::alloc::Global;
+use std::io;
+use std::io::Write;
+
+/// What each part of a chart is drawn with.
+#[derive(Clone, Copy)]
+pub struct Chart<'a> {
+    pub alloc: Global,
+    pub picture: &'a Picture<'a>,
+    pub block: &'a BlockTree,
+    pub body: &'a ChartTree,
+    pub charges: &'a Charges,
+}
+
+/// The basic block type of this name, in upper case, with its chart.
+pub fn chart_named<'a>(file: &'a FileTree, name: &str) -> Option<(&'a BlockTree, &'a ChartTree)> {
+    for block in &file.blocks {
+        if let BodyTree::Chart(chart) = &block.body {
+            if block.name.text.as_str() == name {
+                return Some((block, chart));
+            }
+        }
+    }
+    None
+}
+
+// Writes how everything is drawn of which nothing else is said.
+fn write_defaults<W: Write>(output: &mut W) -> io::Result<()> {
+    put("  ranksep=0.6;\n  nodesep=0.5;\n", output)?;
+    put(
+        "  graph [fontname=\"Helvetica\", fontsize=12, labeljust=l];\n",
+        output,
+    )?;
+    put(
+        "  node [shape=plain, fontname=\"Helvetica\", fontsize=10];\n",
+        output,
+    )?;
+    put(
+        "  edge [arrowsize=0.7, fontname=\"Helvetica\", fontsize=9];\n",
+        output,
+    )
+}
+
+// Writes what the numbers of a certificate mean.
+fn write_charges<W: Write>(certificate: &Certificate, output: &mut W) -> io::Result<()> {
+    let note = match certificate.repeats() {
+        Some(_) => {
+            "below a state: steps / places in the queue, the most that entering it costs in an instance; far: steps on all devices"
+        }
+        None =>
+            "below a state: steps / places in the queue, the most that entering it costs in an instance",
+    };
+    write_note("gray40", note, output)
+}
+
+// Writes the title of a chart, and what its signs mean.
+fn write_legend<W: Write>(chart: &Chart<'_>, output: &mut W) -> io::Result<()> {
+    let name = spelled(chart.picture.text, &chart.block.name);
+    open_title(chart.alloc, name, chart.picture.name, output)?;
+    write_note(
+        "gray40",
+        "double border: the initial state; beside a state: its algorithms and event outputs; 1. 2.: the order in which its transitions are tried",
+        output,
+    )?;
+    match chart.picture.certificate {
+        Some(certificate) => write_charges(certificate, output)?,
+        None => write_walk(chart.picture, output)?,
+    }
+    close_title(output)
+}
+
+// Writes a chart as a graph.
+fn write_chart<W: Write>(chart: &Chart<'_>, output: &mut W) -> io::Result<()> {
+    put("digraph \"", output)?;
+    put(chart.block.name.text.as_str(), output)?;
+    put("\" {\n", output)?;
+    write_defaults(output)?;
+    write_legend(chart, output)?;
+    for (number, state) in chart.body.states.iter().enumerate() {
+        draw_state(chart, number, state, output)?;
+    }
+    draw_transitions(chart, output)?;
+    put("}\n", output)
+}
+
+/// Writes the execution control chart of a basic block type as a graph in DOT, and says whether there is such a type: letter case has no meaning.
+pub fn draw_chart<W: Write>(
+    alloc: Global,
+    picture: &Picture<'_>,
+    name: &str,
+    output: &mut W,
+) -> io::Result<bool> {
+    let name = name.to_ascii_uppercase(alloc)?;
+    let Some((block, body)) = chart_named(picture.file, name.as_str()) else {
+        return Ok(false);
+    };
+    let charges = charges_of(alloc, picture, name.as_str())?;
+    let chart = Chart {
+        alloc,
+        picture,
+        block,
+        body,
+        charges: &charges,
+    };
+    write_chart(&chart, output)?;
+    Ok(true)
+}
