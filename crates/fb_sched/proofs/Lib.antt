@@ -12,4 +12,5 @@ pub mod Ordered
 pub mod Told
 pub mod Moments
 pub mod Few
+pub mod Halving
 pub mod Leaves

@@ -29,9 +29,18 @@ IsNew cause slots = (slot : ℕ) (r : Reaction) → slot_at slots slot ≡ Some 
 abbrev pub IsReactionOf : ℕ → List (Option Reaction) → Reaction → Type 0
 IsReactionOf cause slots r = (slot : ℕ) × (slot_at slots slot ≡ Some r) × (r.cause ≡ cause)
 
--- the last ticket is of no reaction of the cause
-abbrev pub IsNotLast : ℕ → Agenda → Type 0
-IsNotLast cause a = (t : Ticket) (r : Reaction) → slice_get a.tickets (length a.tickets - 1) ≡ Some t → slot_at a.slots t.slot ≡ Some r → r.cause ≢ cause
+-- the cause of a ticket, by what the slots hold
+abbrev pub cause_in : List (Option Reaction) → Ticket → ℕ
+cause_in slots t = elim (slot_at slots t.slot) [ None ↦ 0 | Some r ↦ r.cause ]
+
+-- from the first ticket on whose cause is not smaller than this one, causes do not fall: so it is where a cause is newer than all that was pending before it
+abbrev pub Rises : ℕ → List (Option Reaction) → List Ticket → Type 0
+Rises cause slots tickets =
+    (j k : ℕ) (t u : Ticket) → j ≤ k → slice_get tickets j ≡ Some t → slice_get tickets k ≡ Some u → cause ≤ cause_in slots t → cause_in slots t ≤ cause_in slots u
+
+-- no ticket is of the cause
+abbrev pub HasNone : ℕ → List (Option Reaction) → List Ticket → Type 0
+HasNone cause slots tickets = (j : ℕ) (t : Ticket) → slice_get tickets j ≡ Some t → cause_in slots t ≢ cause
 
 -- how many slots hold a reaction
 abbrev pub reactions_in : List (Option Reaction) → ℕ

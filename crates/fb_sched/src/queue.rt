@@ -1,11 +1,11 @@
 //! The queue of a resource.
 
 ghost use Rattle.std.specs.Prelude.{◌≡◌, ◌-◌, ◌+◌, ◌<◌, ◌≤◌, [], length, Some, IfOk, IfSome, IfNone};
-ghost use Rattle.fb_sched.specs.Agenda.{Agenda, IsAgenda, slot_at, all_places, reactions_in, IsOpen, IsNew, IsNotLast, IsReactionOf};
+ghost use Rattle.fb_sched.specs.Agenda.{Agenda, IsAgenda, slot_at, all_places, reactions_in, IsOpen, IsNew, IsReactionOf, Rises, HasNone};
 ghost use Rattle.fb_sched.specs.Changes.{Opens, Takes, Puts, Settles, CanSettle};
 
 use crate::reaction::{Reaction, find_in, reaction_in, rewrite};
-use crate::ticket::{Ticket, append, take_first};
+use crate::ticket::{Ticket, append, entries_before, take_first};
 use circular_buffer::HeapCircularBuffer;
 use fb_chart::{Point, Values};
 use slab::Slab;
@@ -160,13 +160,17 @@ impl Queue {
         self.reactions.get(slot).copied()
     }
 
-    /// The reaction of a cause, where the last entry is of it: a cause that has just been opened is found without a search.
+    /// The reaction of a cause, where an entry is of it, and no entry behind one of this or a newer cause is of an older cause: so it is where the cause has
+    /// just been opened, alone or with others. It is looked for by halving.
     pub fn find_newest(&self, cause: u64) -> Option<Reaction>
         ensures found { IfSome result (IsReactionOf cause self.now.slots) }
-        ensures none { IfNone result (IsNotLast cause self.now) }
+        ensures none { IfNone result (Rises cause self.now.slots self.now.tickets → HasNone cause self.now.slots self.now.tickets) }
     {
-        let last = self.ring.back()?;
-        let reaction = reaction_in(&self.reactions, last.slot);
+        let place = entries_before(&self.ring, &self.reactions, cause);
+        let Some(ticket) = self.ring.get(place) else {
+            return None;
+        };
+        let reaction = reaction_in(&self.reactions, ticket.slot);
         if reaction.cause == cause {
             Some(reaction)
         } else {
