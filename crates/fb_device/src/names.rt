@@ -83,7 +83,7 @@ fn arrival(blocks: &[Block], point: Point) -> Opening
     }
 }
 
-// The arrival that opened a cause, where the last entry of a queue is of it.
+// The arrival that opened a cause, where it is newer than all that was pending in its queue before it.
 fn newest(blocks: &[Block], queues: &[Queue], cause: u64) -> Option<Opening>
     requires { AllByRecursion (λ (a : Agenda). (slot : ℕ) (r : Reaction) → slot_at a.slots slot ≡ Some r → IsKnown blocks.now r.opening) queues.now }
     ensures { IfSome result (λ o. IsOpeningIn blocks.now queues.now cause (Some o)) }
@@ -96,7 +96,7 @@ fn newest(blocks: &[Block], queues: &[Queue], cause: u64) -> Option<Opening>
     None
 }
 
-/// The arrival that opened a cause which has not ended. Where it has just been opened, it is found without a search.
+/// The arrival that opened a cause which has not ended. Where it has just been opened, alone or with others, it is found by halving.
 pub fn opening(blocks: &[Block], queues: &[Queue], cause: u64) -> Option<Opening>
     requires { AllByRecursion (λ (a : Agenda). (slot : ℕ) (r : Reaction) → slot_at a.slots slot ≡ Some r → IsKnown blocks.now r.opening) queues.now }
     ensures { IsOpeningIn blocks.now queues.now cause result }

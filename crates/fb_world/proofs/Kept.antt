@@ -161,6 +161,10 @@ face_there a b k s e at = by (slice_get b k) refl
     by None is = absurd (some_none (face_of s) (both ∙ ap (option_map face_of) is))
     by (Some t) is = (t, is, some_same (face_of s) (face_of t) (both ∙ ap (option_map face_of) is))
 
+-- as many devices as before
+pub count_same : (old new : Course) → IsSame old new → length new.stations.items ≡ length old.stations.items
+count_same old new h = sym (length-map new.stations.items face_of) ∙ ap length h.stations ∙ length-map old.stations.items face_of
+
 pub kept_same : (v : Verified) (old new : Course) → IsSame old new → IsKept v old → IsKept v new
 kept_same v old new h k =
     record {
@@ -180,7 +184,7 @@ kept_same v old new h k =
     }
   where
     count : length new.stations.items ≡ length old.stations.items
-    count = sym (length-map new.stations.items face_of) ∙ ap length h.stations ∙ length-map old.stations.items face_of
+    count = count_same old new h
 
 -- ---- refusals
 

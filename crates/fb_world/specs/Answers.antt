@@ -1,5 +1,5 @@
 -- What events and answers of a world are in the book.
-use Rattle.std.specs.Prelude.{ℕ, ◌≡◌, List, [], ◌∷◌, None, slice_get}
+use Rattle.std.specs.Prelude.{ℕ, ◌≡◌, ◌<◌, List, [], ◌∷◌, length, None, slice_get}
 use Rattle.fb_model.specs.System.{System}
 use Rattle.fb_model.specs.Wires.{Leaf, leaves}
 use Rattle.fb_model.specs.World as book
@@ -57,7 +57,7 @@ answers_of system (e ∷ es) (a ∷ as') = answer_of (leaves_at system (device_o
 abbrev pub steps_of : RootSteps → book.RootSteps
 steps_of r = record { steps = r.steps; far = r.far }
 
--- a device is unknown where there is none of its number
+-- a device is unknown where there is none of its number, and memory runs out where there is one
 abbrev pub HasMissed : System → ℕ → Missed → Type 0
 HasMissed system d missed.Unknown = slice_get system.devices d ≡ None
-HasMissed system d missed.OutOfMemory = Unit {0}
+HasMissed system d missed.OutOfMemory = d < length system.devices

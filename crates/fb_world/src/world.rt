@@ -107,7 +107,7 @@ impl World {
     }
 
     /// A dispatch at a device, of the resource of a number, without an answer that is moved about: it is written to its place. Gives the number of the datagram
-    /// that was sent. What it may need is reserved first: where memory runs out, nothing has changed.
+    /// that was sent. What it may need is reserved first: where memory runs out, or there is no such device, neither the world nor that place has changed.
     pub fn dispatch(
         &mut self,
         device: u16,
@@ -116,7 +116,7 @@ impl World {
     ) -> Result<Option<u64>, Missed>
         ensures happens { IfOk result (λ sent. WorldHappens (system_of self.old) (cert_of self.old) (world_of self.old) (At_device device (A_dispatch resource)) (Answered (dispatched_of (leaves_at (system_of self.old) device) answer.new) sent) (world_of self.new)) }
         ensures point { IfOk result (λ _. HasPoint (leaves_at (system_of self.old) device) answer.new) }
-        ensures missed { IfErr result (λ why. HasMissed (system_of self.old) device why × (self.new ≡ self.old)) }
+        ensures missed { IfErr result (λ why. HasMissed (system_of self.old) device why × (self.new ≡ self.old) × (answer.new ≡ answer.old)) }
         ensures same { self.new.verified ≡ self.old.verified }
     {
         if device as usize >= self.course.stations.len() {

@@ -1,5 +1,4 @@
-use Rattle.std.proofs.Common.{◌≡◌, length, sym, ap, ◌∙◌, subst, arith}
-use Rattle.std.proofs.lemmas.List.{length-map}
+use Rattle.std.proofs.Common.{◌≡◌, ◌<◌, length, refl, ◌∙◌, subst, arith}
 use Rattle.fb_model.specs.System.{System}
 use Rattle.fb_model.specs.World.{WorldEvent, WorldAnswer, WorldHappens, At_device, A_dispatch, Answered}
 use Rattle.fb_verdict.specs.declared.verified.Verified.{Verified}
@@ -8,17 +7,12 @@ use Rattle.fb_device.specs.fb_device_dispatch.Answers.{dispatched_of}
 use Rattle.fb_world.specs.declared.course.Course.{Course}
 use Rattle.fb_world.specs.Scenes.{Scene, scene_of, system_of, cert_of, world_of, world_in}
 use Rattle.fb_world.specs.Answers.{leaves_at}
-use Rattle.fb_world.specs.Room.{face_of, IsSame}
-use Rattle.fb_world.proofs.Kept.{scene_same, kept_same, kept_more}
+use Rattle.fb_world.proofs.Kept.{count_same, scene_same, kept_same, kept_more}
 use Rattle.fb_world.proofs.world.World.dispatch.Goals as goal
 
 -- what happens from a course is what happens in its scene
-told : (v : Verified) (s : Scene) (old new : Course) (e : WorldEvent) (a : System → WorldAnswer) → scene_of v old ≡ s → WorldHappens (system_in v) (certificate_in v) (world_in v old) e (a (system_in v)) (world_in v new) → WorldHappens (system_of s) (cert_of s) (world_of s) e (a (system_of s)) (world_in v new)
-told v s old new e a is h = subst (λ (t : Scene). WorldHappens (system_of t) (cert_of t) (world_of t) e (a (system_of t)) (world_in v new)) is h
-
--- as many devices as before
-count_same : (old new : Course) → IsSame old new → length new.stations.items ≡ length old.stations.items
-count_same old new h = sym (length-map new.stations.items face_of) ∙ ap length h.stations ∙ length-map old.stations.items face_of
+in_scene : (v : Verified) (s : Scene) (old new : Course) (e : WorldEvent) (a : System → WorldAnswer) → scene_of v old ≡ s → WorldHappens (system_in v) (certificate_in v) (world_in v old) e (a (system_in v)) (world_in v new) → WorldHappens (system_of s) (cert_of s) (world_of s) e (a (system_of s)) (world_in v new)
+in_scene v s old new e a is h = subst (λ (t : Scene). WorldHappens (system_of t) (cert_of t) (world_of t) e (a (system_of t)) (world_in v new)) is h
 
 pub invariant_of-self-in-Err : goal.invariant_of-self-in-Err
 invariant_of-self-in-Err c = kept_same c.self.inside.verified.value c.self.inside.course c.reserve_dispatch.new.self c.reserve_dispatch.ensures.same c.self.invariant
@@ -38,12 +32,16 @@ invariant_of-self c =
     kept_more c.self.inside.verified.value c.reserve_dispatch.new.self c.dispatch.new.self (At_device c.args.device (A_dispatch c.args.resource)) (Answered (dispatched_of (leaves_at (system_in c.self.inside.verified.value) c.args.device) c.dispatch.new.answer) c.dispatch.result) k (c.dispatch.ensures.goes c.self.inside.verified.value k)
 
 pub returns-in-Err-clause-missed : goal.returns-in-Err-clause-missed
-returns-in-Err-clause-missed c = (tt, scene_same c.self.inside.verified.value c.self.inside.course c.reserve_dispatch.new.self c.reserve_dispatch.ensures.same ∙ c.self.view_is)
+returns-in-Err-clause-missed c = (
+  subst (λ (t : Scene). c.args.device < length (system_of t).devices) c.self.view_is (omega (arith, c.if-device-len.false, c.len.ensures, c.self.invariant.steady.count)),
+  scene_same c.self.inside.verified.value c.self.inside.course c.reserve_dispatch.new.self c.reserve_dispatch.ensures.same ∙ c.self.view_is,
+  refl,
+)
 
 pub returns-in-Ok-clause-happens : goal.returns-in-Ok-clause-happens
 returns-in-Ok-clause-happens c =
     let k = kept_same c.self.inside.verified.value c.self.inside.course c.reserve_dispatch.new.self c.reserve_dispatch.ensures.same c.self.invariant in
-    told c.self.inside.verified.value c.args.self.now c.reserve_dispatch.new.self c.dispatch.new.self (At_device c.args.device (A_dispatch c.args.resource)) (λ system. Answered (dispatched_of (leaves_at system c.args.device) c.dispatch.new.answer) c.dispatch.result)
+    in_scene c.self.inside.verified.value c.args.self.now c.reserve_dispatch.new.self c.dispatch.new.self (At_device c.args.device (A_dispatch c.args.resource)) (λ system. Answered (dispatched_of (leaves_at system c.args.device) c.dispatch.new.answer) c.dispatch.result)
     (scene_same c.self.inside.verified.value c.self.inside.course c.reserve_dispatch.new.self c.reserve_dispatch.ensures.same ∙ c.self.view_is) (c.dispatch.ensures.goes c.self.inside.verified.value k).happens
 
 pub returns-in-Ok-clause-point : goal.returns-in-Ok-clause-point
