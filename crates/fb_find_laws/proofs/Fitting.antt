@@ -18,7 +18,7 @@ use Rattle.fb_model_laws.proofs.Lists.{all_append}
 use Rattle.fb_model_laws.proofs.Meeting.{column_meets}
 use Rattle.fb_model_laws.proofs.Networks.{far_meets}
 use Rattle.fb_find_laws.specs.Nodes.{nodes_of, AreRowsOf}
-use Rattle.fb_find_laws.specs.Finding.{HaveSameRanges, IsFound, IsNeeded, is_one, for_arrival, for_begins, HasNeededDepths, IsMade}
+use Rattle.fb_find_laws.specs.Finding.{HaveSameRanges, IsFoundWith, IsNeeded, is_one, for_arrival, for_begins, HasNeededDepths, IsMadeWith}
 use Rattle.fb_find_laws.proofs.Members.{state_node, event_node, channel_node}
 
 -- ---- devices one after another
@@ -180,18 +180,18 @@ at_most : (x y : Node → ℕ) (nodes : List Node) → ((v : Node) → Contains 
 at_most x y nodes l z v = elim (z v) [ inl c ↦ l v c | inr e ↦ omega (arith, e) ]
 
 -- the numbers of the network are least
-far_least : (repeats : Option ℕ) (system : System) (states events : List Name) (channels : List ℕ) (cert other : Certificate) → ((p q : Place) → place_eq q p ≡ place_eq p q) → AreRowsOf repeats (all_leaves system.devices) states events channels
-    → IsMade repeats system states events channels cert → Fits system other → HaveSameRanges other.ranges cert.ranges (all_leaves system.devices) → other.repeats ≡ repeats → (o : Option ℕ) → repeats ≡ o → (x : Node) → number_of (far_of cert) x ≤ number_of (far_of other) x
-far_least repeats system states events channels cert other turned are made f same e None is x = omega (arith, no_far repeats system states events channels cert are made.rows made.repeats_are turned is x)
-far_least repeats system states events channels cert other turned are made f same e (Some r) is x =
+far_least : (Are : List Range → Type 0) (repeats : Option ℕ) (system : System) (states events : List Name) (channels : List ℕ) (cert other : Certificate) → ((p q : Place) → place_eq q p ≡ place_eq p q) → AreRowsOf repeats (all_leaves system.devices) states events channels
+    → IsMadeWith Are repeats system states events channels cert → Fits system other → HaveSameRanges other.ranges cert.ranges (all_leaves system.devices) → other.repeats ≡ repeats → (o : Option ℕ) → repeats ≡ o → (x : Node) → number_of (far_of cert) x ≤ number_of (far_of other) x
+far_least Are repeats system states events channels cert other turned are made f same e None is x = omega (arith, no_far repeats system states events channels cert are made.rows made.repeats_are turned is x)
+far_least Are repeats system states events channels cert other turned are made f same e (Some r) is x =
     let all = all_leaves system.devices in
     let y = number_of (far_of other) in
     let meets = subst (λ (es : List Demand). MeetAll y es) (same_network r other.ranges cert.ranges all same) ((far_meets other r system).0 (f.far r (e ∙ is))) in
     at_most (number_of (far_of cert)) y (nodes_of states events channels) ((made.far r is).least y meets) (far_node repeats system states events channels cert are made.rows made.repeats_are turned r is) x
 
-pub made_found : (repeats : Option ℕ) (system : System) (states events : List Name) (channels : List ℕ) (cert : Certificate) → ((p q : Place) → place_eq q p ≡ place_eq p q) → AreRowsOf repeats (all_leaves system.devices) states events channels
-    → IsMade repeats system states events channels cert → IsFound repeats system cert
-made_found repeats system states events channels cert turned are made = record {
+pub made_found : (Are : List Range → Type 0) (repeats : Option ℕ) (system : System) (states events : List Name) (channels : List ℕ) (cert : Certificate) → ((p q : Place) → place_eq q p ≡ place_eq p q) → AreRowsOf repeats (all_leaves system.devices) states events channels
+    → IsMadeWith Are repeats system states events channels cert → IsFoundWith Are repeats system cert
+made_found Are repeats system states events channels cert turned are made = record {
   repeats_are = made.repeats_are;
   ordered = made.ordered;
   ranges = made.ranges;
@@ -210,5 +210,5 @@ made_found repeats system states events channels cert turned are made = record {
       let steps = at_most (number_of (steps_of cert)) (number_of (steps_of other)) nodes (made.steps.least (number_of (steps_of other)) s) (steps_node repeats system states events channels cert are made.rows made.repeats_are turned) in
       let places = at_most (number_of (places_of cert)) (number_of (places_of other)) nodes (made.places.least (number_of (places_of other)) p) (places_node repeats system states events channels cert are made.rows made.repeats_are turned) in
       record { steps = steps; places = places; depths = least_depths cert other system.devices f.devices (λ q. places (event q)) made.depths };
-  least_far = λ other f same e x. far_least repeats system states events channels cert other turned are made f same e repeats refl x;
+  least_far = λ other f same e x. far_least Are repeats system states events channels cert other turned are made f same e repeats refl x;
 }

@@ -9,7 +9,8 @@ use Rattle.fb_model.specs.System as book
 use Rattle.fb_model.specs.Names.{Name, Place, path_eq, place_eq}
 use Rattle.fb_model.proofs.Names.{eq_turned}
 use Rattle.fb_model_laws.proofs.Looking.{path_turned}
-use Rattle.fb_find_laws.specs.Finding.{IsFound, IsMade}
+use Rattle.fb_find_laws.specs.Finding.{IsFound, IsFoundWith, IsMade, IsMadeWith}
+use Rattle.fb_model_laws.specs.FinderRanges.{AreFound}
 use Rattle.fb_find_laws.proofs.Fitting.{made_found}
 use Rattle.fb_model.specs.Ranges.{Range}
 use Rattle.fb_model.specs.Certificates.{all_leaves, Certificate}
@@ -59,5 +60,9 @@ great_needed nodes ds number system y v limit n o g l c a x m = above_all nodes 
 pub place_turned : (p q : Place) → place_eq q p ≡ place_eq p q
 place_turned p q = ap (λ b. b && bytes_eq q.event p.event) (path_turned q.path p.path) ∙ ap (λ b. path_eq p.path q.path && b) (eq_turned q.event p.event)
 
+pub made_with : (Are : List Range → Type 0) (repeats : Option ℕ) (system : book.System) (states events : List Name) (channels : List ℕ) (cert : Certificate) → AreRowsOf repeats (all_leaves system.devices) states events channels → IsMadeWith Are repeats system states events channels cert
+    → IsFoundWith Are repeats system cert
+made_with Are repeats system states events channels cert are made = made_found Are repeats system states events channels cert place_turned are made
+
 pub made_is : (repeats : Option ℕ) (system : book.System) (states events : List Name) (channels : List ℕ) (cert : Certificate) → AreRowsOf repeats (all_leaves system.devices) states events channels → IsMade repeats system states events channels cert → IsFound repeats system cert
-made_is repeats system states events channels cert are made = made_found repeats system states events channels cert place_turned are made
+made_is repeats system states events channels cert are made = made_with (AreFound system.devices) repeats system states events channels cert are made

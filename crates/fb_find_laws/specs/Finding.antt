@@ -12,7 +12,7 @@ use Rattle.fb_model_laws.specs.Demands.{Node, state, event, channel}
 use Rattle.fb_model_laws.specs.Columns.{number_of, demands, network_demands}
 use Rattle.fb_find_laws.specs.Numbered.{AreLeast}
 use Rattle.fb_find_laws.specs.Nodes.{nodes_of}
-use Rattle.fb_model_laws.specs.FinderRanges.{AreFound}
+use Rattle.fb_model_laws.specs.FinderRanges.{leaf_rows, AreFound}
 
 -- the variables of leaves have the same ranges in both
 abbrev pub HaveSameRanges : List Range → List Range → List Leaf → Type 0
@@ -31,14 +31,27 @@ pub record IsInOrder (system : System) (cert : Certificate) : Type 0 where
   pub depths_are : depth_rows cert.depths ≡ depth_paths system.devices
   pub channels_are : channel_rows cert.channels ≡ with_repeats cert.repeats (channels_of (all_leaves system.devices))
 
--- without REPEATS it has no row of the network; with REPEATS the numbers of these rows are the least of all certificates with these ranges and the same REPEATS
-pub record IsFound (repeats : Option ℕ) (system : System) (cert : Certificate) : Type 0 where
+-- its ranges are some of which this is so, and all else is as the finder owes it: without REPEATS it has no row of the network; with REPEATS the numbers of these rows
+-- are the least of all certificates with these ranges and the same REPEATS
+pub record IsFoundWith (Are : List Range → Type 0) (repeats : Option ℕ) (system : System) (cert : Certificate) : Type 0 where
   pub repeats_are : cert.repeats ≡ repeats
   pub ordered : IsInOrder system cert
-  pub ranges : AreFound system.devices cert.ranges
+  pub ranges : Are cert.ranges
   pub fits : Fits system cert
   pub least : (other : Certificate) → Fits system other → HaveSameRanges other.ranges cert.ranges (all_leaves system.devices) → IsAtMost system.devices cert other
   pub least_far : (other : Certificate) → Fits system other → HaveSameRanges other.ranges cert.ranges (all_leaves system.devices) → other.repeats ≡ repeats → (x : Node) → number_of (far_of cert) x ≤ number_of (far_of other) x
+
+-- its ranges are those of the last rounds
+abbrev pub IsFound : Option ℕ → System → Certificate → Type 0
+IsFound repeats system cert = IsFoundWith (AreFound system.devices) repeats system cert
+
+-- these rows are those of all variables that are not BOOL, in order, each with the range that it has in others, and all numbers of its type where it has none there
+abbrev pub AreTaken : List Range → List Device → List Range → Type 0
+AreTaken others ds ranges = ranges ≡ leaf_rows (λ leaf v. rows others leaf.path leaf.kind v.name) (all_leaves ds)
+
+-- its ranges are taken from these
+abbrev pub IsFoundWithin : List Range → Option ℕ → System → Certificate → Type 0
+IsFoundWithin others repeats system cert = IsFoundWith (AreTaken others system.devices) repeats system cert
 
 -- ---- how it is found
 
@@ -54,19 +67,23 @@ pub record HasNeededDepths (cert : Certificate) (d : Device) : Type 0 where
   pub begins : (q : ℕ) → begin_places cert (leaves d) q ≤ depth_of cert d q
   pub needed : (q : ℕ) → IsNeeded cert (leaves d) q (depth_of cert d q)
 
--- the rows are those of the system, in order; the ranges are found, and all is clear under them; the numbers of nodes are least, with a row REPEATS
+-- the rows are those of the system, in order; the ranges are some of which this is so, and all is clear under them; the numbers of nodes are least, with a row REPEATS
 -- those of the network too, and so are the depths
-pub record IsMade (repeats : Option ℕ) (system : System) (states events : List Name) (channels : List ℕ) (cert : Certificate) : Type 0 where
+pub record IsMadeWith (Are : List Range → Type 0) (repeats : Option ℕ) (system : System) (states events : List Name) (channels : List ℕ) (cert : Certificate) : Type 0 where
   pub repeats_are : cert.repeats ≡ repeats
   pub ordered : IsInOrder system cert
   pub followed : AllByRecursion FollowsFew system.devices
   pub rows : AllRows system cert
-  pub ranges : AreFound system.devices cert.ranges
+  pub ranges : Are cert.ranges
   pub clear : AllByRecursion (λ (d : Device). AllByRecursion (LeafClears cert.ranges (leaves d)) (leaves d)) system.devices
   pub steps : AreLeast (nodes_of states events []) (demands 1 cert.ranges (all_leaves system.devices)) (number_of (steps_of cert))
   pub places : AreLeast (nodes_of states events []) (demands 0 cert.ranges (all_leaves system.devices)) (number_of (places_of cert))
   pub far : (r : ℕ) → repeats ≡ Some r → AreLeast (nodes_of states events channels) (network_demands r cert.ranges (all_leaves system.devices)) (number_of (far_of cert))
   pub depths : AllByRecursion (HasNeededDepths cert) system.devices
+
+-- the ranges are found
+abbrev pub IsMade : Option ℕ → System → List Name → List Name → List ℕ → Certificate → Type 0
+IsMade repeats system states events channels cert = IsMadeWith (AreFound system.devices) repeats system states events channels cert
 
 -- the number that rows give a node, by one of their numbers
 abbrev pub row_number : (Row → ℕ) → Certificate → Node → ℕ
