@@ -19,7 +19,7 @@ use Rattle.fb_find_ranges.proofs.Capitals.{rows_have_capitals}
 use Rattle.fb_find_rows.specs.Numbers.{amounts, CanBeSaid, with_charges, with_weights}
 use Rattle.fb_find_demands.specs.declared.numbered.Numbering.{Numbering}
 use Rattle.fb_find.specs.Columns.{AreSmallest}
-use Rattle.fb_find.specs.Parts.{CanBeAdded, events_in, HasFoundRanges, IsReady, states_in, with_columns}
+use Rattle.fb_find.specs.Parts.{CanBeAdded, events_in, HasRanges, IsReady, states_in, with_columns}
 
 -- ---- one kind after the other
 
@@ -54,7 +54,7 @@ pub upper_names : (kind : RowKind) (devices : List FlatDevice) (names : List Nam
 upper_names kind devices names a same = subst (λ (ts : List Name). All (λ t. is_upper_path t ≡ true) ts) (sym same) a
 
 module _ (repeats : Option ℕ) (devices : List FlatDevice) (n : Numbering) (order : List ℕ) (s : System) (ready : IsReady repeats devices n order s) (ranges : List Range) where
-  pub can_add : (steps places : List ℕ) (rows : Rows) → AreSmallest n (demands 1 ranges (all_leaves s.devices)) most_steps steps → AreSmallest n (demands 0 ranges (all_leaves s.devices)) most_places places → HasFoundRanges s ranges rows → CanBeAdded n steps places rows
+  pub can_add : (steps places : List ℕ) (rows : Rows) → AreSmallest n (demands 1 ranges (all_leaves s.devices)) most_steps steps → AreSmallest n (demands 0 ranges (all_leaves s.devices)) most_places places → HasRanges s ranges rows → CanBeAdded n steps places rows
   can_add steps places rows a b has =
       let given = ready.numbering.numbered.given in
       record {

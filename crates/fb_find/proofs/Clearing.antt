@@ -1,5 +1,5 @@
 -- Under the ranges that are found, rows hold what variables have at first and what they take: only algorithms and guards may be unclear.
-use Rattle.std.proofs.Common.{ℕ, ◌≡◌, Option, true, inl, inr, refl, ap, subst, ◌∙◌, List, [], ◌∷◌, ◌++◌, length, string_bytes}
+use Rattle.std.proofs.Common.{ℕ, ◌≡◌, Option, true, inl, inr, refl, sym, ap, subst, ◌∙◌, List, [], ◌∷◌, ◌++◌, string_bytes}
 use Rattle.std.specs.Str.{bytes_eq}
 use Rattle.std.specs.List.{All, AllByRecursion, Any, IsDistinct}
 use Rattle.fb_model.specs.Clear.{Spans}
@@ -7,7 +7,7 @@ use Rattle.fb_model.specs.Names.{Name, Path}
 use Rattle.fb_model.specs.System.{Block, Device, Variable, System, start_of}
 use Rattle.fb_model.specs.Store.{first_input}
 use Rattle.fb_model.specs.Wires.{Kind, Charted, Serviced, Leaf, leaves, Source}
-use Rattle.fb_model.specs.Ranges.{HoldsIn, Range, row_at, SourceFits, variables}
+use Rattle.fb_model.specs.Ranges.{HoldsIn, Range, row_at, SourceFits}
 use Rattle.fb_model.specs.Spans.{within, whole}
 use Rattle.fb_model.specs.Certificates.{all_leaves}
 use Rattle.fb_model.proofs.Lists.{all_both}
@@ -33,9 +33,13 @@ use Rattle.fb_find_ranges.specs.FoundTables.{AreFoundTables}
 use Rattle.fb_find_ranges.proofs.Capitals.{rows_have_capitals}
 use Rattle.fb_find_ranges.proofs.Distinct.{ranges_are_apart}
 use Rattle.fb_find.specs.Given.{IsGiven}
-use Rattle.fb_find.specs.Bounds.{IsNoBound}
-use Rattle.fb_find.specs.Parts.{HasFoundRanges, told_of}
-use Rattle.fb_find.proofs.Lists.{none_lacks, zip_length}
+use Rattle.fb_find_rows.specs.declared.fault.NoBound.{NoBound}
+use Rattle.fb_find_rows.specs.declared.fault.NoBound.TheVariants.{OutOfMemory, Cycle, NoRange, Limit}
+use Rattle.fb_model_laws.specs.FinderRanges.{AreFound}
+use Rattle.fb_find.specs.Bounds.{IsNoBound, IsNoBoundAt}
+use Rattle.fb_find.specs.Parts.{HasRanges, HaveTables, told_of}
+use Rattle.fb_find.proofs.Lists.{none_lacks}
+use Rattle.fb_find.proofs.Taking.{above_weaker, spelled_places}
 
 -- ---- a chart
 
@@ -94,26 +98,24 @@ module _ (devices : List FlatDevice) (s : System) (given : IsGiven devices s) wh
   pub apart_texts : IsDistinct bytes_eq (texts_of rows_of_kind.Range devices)
   apart_texts = ranges_are_apart given.library given.source devices s given.typed given.tables given.words
 
+  pub has_ranges : (tables : List Spans) → HaveTables devices tables s → (old now : Rows) → old ≡ no_rows → AddsRanges (spelled tables (all_leaves s.devices)) old now → AllClear (range_rows now.ranges) s → HasRanges s (spelled tables (all_leaves s.devices)) now
+  has_ranges tables have old now e adds clear = record {
+    places = spelled_places tables (all_leaves s.devices) have.many;
+    are = adds.ranges_are;
+    clear = subst (λ (rs : List Range). AllClear rs s) adds.ranges_are clear;
+    no_charge = adds.charges_same ∙ ap (λ (rows : Rows). rows.charges) e;
+    no_weight = adds.weights_same ∙ ap (λ (rows : Rows). rows.weights) e;
+    no_depth = adds.depths_same ∙ ap (λ (rows : Rows). rows.depths) e;
+    no_repeats = adds.repeats_same ∙ ap (λ (rows : Rows). rows.repeats) e;
+    no_far = adds.fars_same ∙ ap (λ (rows : Rows). rows.fars) e;
+    no_far_state = adds.far_states_same ∙ ap (λ (rows : Rows). rows.far_states) e;
+    no_channel = adds.channels_same ∙ ap (λ (rows : Rows). rows.channels) e;
+  }
+
+  -- under the ranges that are found a refusal names an algorithm or a guard
   module _ (tables : List Spans) (found : AreFoundTables s.devices tables) where
-    abbrev pub ranges : List Range
+    abbrev ranges : List Range
     ranges = spelled tables (all_leaves s.devices)
-
-    pub as_many : length tables ≡ length (all_leaves s.devices)
-    as_many = zip_length _ tables (all_leaves s.devices) found.each
-
-    pub has_found : (old now : Rows) → old ≡ no_rows → AddsRanges ranges old now → AllClear (range_rows now.ranges) s → HasFoundRanges s ranges now
-    has_found old now e adds clear = record {
-      found = found.found;
-      are = adds.ranges_are;
-      clear = subst (λ (rs : List Range). AllClear rs s) adds.ranges_are clear;
-      no_charge = adds.charges_same ∙ ap (λ (rows : Rows). rows.charges) e;
-      no_weight = adds.weights_same ∙ ap (λ (rows : Rows). rows.weights) e;
-      no_depth = adds.depths_same ∙ ap (λ (rows : Rows). rows.depths) e;
-      no_repeats = adds.repeats_same ∙ ap (λ (rows : Rows). rows.repeats) e;
-      no_far = adds.fars_same ∙ ap (λ (rows : Rows). rows.fars) e;
-      no_far_state = adds.far_states_same ∙ ap (λ (rows : Rows). rows.far_states) e;
-      no_channel = adds.channels_same ∙ ap (λ (rows : Rows). rows.channels) e;
-    }
 
     all_begin : AllByRecursion (λ (d : Device). AllByRecursion (LeafBegins ranges (leaves d)) (leaves d)) s.devices
     all_begin =
@@ -128,12 +130,22 @@ module _ (devices : List FlatDevice) (s : System) (given : IsGiven devices s) wh
         (λ d a. none_lacks (LeafBegins ranges (leaves d)) (λ (leaf : Leaf). LeafFails ranges (leaves d) leaf reason path) (leaves d) (λ leaf b f. deny (leaves d) leaf leaf.kind f.0 refl b f.2) a)
         all_begin h
 
-    -- so a refusal names an algorithm or a guard
-    pub told : (repeats : Option ℕ) (now : Rows) (fault : Unclear) → range_rows now.ranges ≡ ranges → IsUnclear (range_rows now.ranges) s fault → IsNoBound repeats s (told_of fault)
-    told repeats now fault e h = by fault (subst (λ (rs : List Range). IsUnclear rs s fault) e h) where
-      by : (f : Unclear) → IsUnclear ranges s f → IsNoBound repeats s (told_of f)
-      by unclear.OutOfMemory u = tt
-      by (unclear.Start path) u = absurd (no_reason Starts (string_bytes path) (kind_starts ranges) u)
-      by (unclear.Link path) u = absurd (no_reason Links (string_bytes path) (kind_links ranges) u)
-      by (unclear.Kept path) u = (ranges, found.found, inl u)
-      by (unclear.IndexOrDivisor path) u = (ranges, found.found, inr u)
+    pub found_told : (repeats : Option ℕ) (fault : NoBound) → IsNoBoundAt ranges repeats s fault → IsNoBound repeats s fault
+    found_told repeats OutOfMemory h = tt
+    found_told repeats (Cycle places) h = h
+    found_told repeats (Limit resource) h = above_weaker (λ rs. rs ≡ ranges) (AreFound s.devices) repeats s (string_bytes resource) (λ rs e. subst (AreFound s.devices) (sym e) found.found) h
+    found_told repeats (NoRange path) h = elim h [
+      | inl (inl u) ↦ absurd (no_reason Starts (string_bytes path) (kind_starts ranges) u)
+      | inl (inr u) ↦ absurd (no_reason Links (string_bytes path) (kind_links ranges) u)
+      | inr u ↦ (ranges, found.found, u)
+    ]
+
+-- what a refusal tells
+pub told : (s : System) (ranges : List Range) (repeats : Option ℕ) (now : Rows) (fault : Unclear) → range_rows now.ranges ≡ ranges → IsUnclear (range_rows now.ranges) s fault → IsNoBoundAt ranges repeats s (told_of fault)
+told s ranges repeats now fault e h = by fault (subst (λ (rs : List Range). IsUnclear rs s fault) e h) where
+  by : (f : Unclear) → IsUnclear ranges s f → IsNoBoundAt ranges repeats s (told_of f)
+  by unclear.OutOfMemory u = tt
+  by (unclear.Start path) u = inl (inl u)
+  by (unclear.Link path) u = inl (inr u)
+  by (unclear.Kept path) u = inr (inl u)
+  by (unclear.IndexOrDivisor path) u = inr (inr u)

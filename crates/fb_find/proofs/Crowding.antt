@@ -17,7 +17,7 @@ use Rattle.fb_check_rows.proofs.Loops.{any_in}
 use Rattle.fb_find_rows.specs.declared.fault.NoBound.{NoBound}
 use Rattle.fb_find_rows.specs.declared.fault.NoBound.TheVariants.{OutOfMemory, Cycle, NoRange, Limit}
 use Rattle.fb_find_rows.specs.Needs.{IsPastFault}
-use Rattle.fb_find.specs.Bounds.{follows_many, IsNoBound}
+use Rattle.fb_find.specs.Bounds.{follows_many, IsNeverBound}
 use Rattle.fb_find.specs.Crowds.{IsCrowded}
 use Rattle.fb_find.proofs.Lists.{all_at, in_image}
 
@@ -32,7 +32,7 @@ pub past_one : (name other : Name) (xs ys : List Resource) (i : ℕ) (x : Resour
 past_one name other xs ys i x same l e is fault h = past_any (IsCrowded name) xs ys i x same l e fault (subst (λ o. IsPastFault (λ t. IsCrowded o t x) fault) is h)
 
 -- the resource that is told of is one of the system
-pub above : (repeats : Option ℕ) (t : Configuration) (fault : NoBound) → IsWritten (system_of t) → IsPastFault (λ text. Any (λ (d : Device). Any (IsCrowded (string_bytes d.name) text) d.resources.items) t.devices.items) fault → IsNoBound repeats (system_of t) fault
+pub above : (repeats : Option ℕ) (t : Configuration) (fault : NoBound) → IsWritten (system_of t) → IsPastFault (λ text. Any (λ (d : Device). Any (IsCrowded (string_bytes d.name) text) d.resources.items) t.devices.items) fault → IsNeverBound repeats (system_of t) fault
 above repeats t OutOfMemory w h = tt
 above repeats t (Cycle places) w h = absurd h
 above repeats t (NoRange path) w h = absurd h

@@ -1,7 +1,6 @@
 -- What is given of a system that stands in texts, and what is ready for the columns.
 use Rattle.std.proofs.Common.{ℕ, ◌≡◌, ◌∙◌, List, [], map, ap, subst, sym, Option, None, Some, string_bytes}
 use Rattle.std.specs.List.{AllByRecursion}
-use Rattle.fb_model.specs.Clear.{Spans}
 use Rattle.fb_model.specs.System.{Device, System}
 use Rattle.fb_model.specs.Wires.{Kind, Charted, Serviced, Leaf, leaves}
 use Rattle.fb_model.specs.Ranges.{KindClears, LeafClears, Range, rows}
@@ -22,10 +21,15 @@ use Rattle.fb_verdict.specs.Verdicts.{IsWritten}
 use Rattle.fb_flat.specs.declared.flat.FlatDevice.{FlatDevice}
 use Rattle.fb_flat.specs.Leaves.{flat_device, written_device}
 use Rattle.fb_verdict.proofs.Reading.{with_event_trees, words}
-use Rattle.fb_verdict.proofs.Composed.{tables_are}
-use Rattle.fb_cert.specs.Views.{Rows}
+use Rattle.fb_verdict.proofs.Composed.{tables_are as written_tables}
+use Rattle.std.specs.declared.string.String.{String}
+use Rattle.std.specs.declared.alloc.Global.{Global}
+use Rattle.fb_cert.specs.declared.certificate.Certificate.{Certificate}
+use Rattle.fb_model_laws.specs.FinderRanges.{AreFound}
+use Rattle.fb_find_laws.specs.Finding.{AreTaken}
+use Rattle.fb_cert.specs.Views.{certificate_of, range_rows, Rows, rows_of}
+use Rattle.fb_find_ranges.specs.AddedRows.{flat_leaves}
 use Rattle.fb_check_ranges.specs.Fitting.{AllClear}
-use Rattle.fb_find_ranges.specs.FoundTables.{AreFoundTables}
 use Rattle.fb_find_ranges.proofs.Distinct.{on_all_leaves, charges_are_apart, weights_are_apart}
 use Rattle.fb_model.specs.CertificateText.{names_in, place_of}
 use Rattle.fb_find_demands.specs.Ends.{end_of}
@@ -36,14 +40,16 @@ use Rattle.fb_check_rows.specs.Texts.{texts_of}
 use Rattle.fb_check_rows.specs.declared.kind.RowKind.TheVariants.{Charge, Weight}
 use Rattle.fb_check_rows.proofs.Members.{each_gathered}
 use Rattle.fb_check_rows.proofs.Systems.{devices_placed}
-use Rattle.fb_find_ranges.specs.Found.{spelled}
 use Rattle.fb_find_rows.specs.declared.fault.NoBound.{NoBound}
 use Rattle.fb_find_rows.specs.declared.fault.NoBound.TheVariants.{OutOfMemory, Cycle, NoRange, Limit}
-use Rattle.fb_find_demands.specs.Prices.{AreClear, HasClear}
+use Rattle.fb_find_demands.specs.Prices.{AreClear, AreTables, HasClear}
 use Rattle.fb_find.specs.Given.{IsGiven}
 use Rattle.fb_find.specs.Columns.{asked, IsCycle, FulfilsAll}
-use Rattle.fb_find.specs.Bounds.{IsDenied, IsNoBound, IsWalk}
-use Rattle.fb_find.specs.Parts.{HasFoundRanges, HasNumbering, HasTables, IsReady}
+use Rattle.fb_find.specs.Bounds.{IsDenied, IsNeverBound, IsNoBound, IsNoBoundAt, IsNoBoundWith, IsNoBoundWithin, IsPathWithin, IsUnclearRun, IsWalk}
+use Rattle.fb_find.specs.Parts.{HasNumbering, HasRanges, HasTables, HaveTables, IsReady, table_in}
+use Rattle.fb_find.proofs.Lists.{zip_length}
+use Rattle.fb_find.proofs.Tabled.{tables_are}
+use Rattle.fb_find_ranges.specs.FoundTables.{AreFoundTables}
 use Rattle.fb_find_demands.specs.declared.numbered.Numbering.{Numbering}
 use Rattle.fb_ranges.specs.Views.{spans_of}
 use Rattle.fb_ranges.specs.declared.rows.Ranges.{Ranges}
@@ -60,7 +66,7 @@ given s devices w e few = record {
   library = event_trees;
   source = w.1.source;
   typed = with_event_trees w.1.source s w.1.typed;
-  tables = tables_are s devices w e;
+  tables = written_tables s devices w e;
   words = words s w;
   capitals = capitals s w;
   followed = few;
@@ -99,33 +105,51 @@ clear_of ranges s h =
     (all_weaker (λ (d : Device). AllByRecursion (LeafClears ranges (leaves d)) (leaves d)) (λ (d : Device). AllByRecursion (λ (leaf : Leaf). HasClear (rows ranges leaf.path leaf.kind) leaf.kind) (leaves d)) s.devices
     (λ d k. all_weaker (LeafClears ranges (leaves d)) (λ (leaf : Leaf). HasClear (rows ranges leaf.path leaf.kind) leaf.kind) (leaves d) (λ leaf c. kind_clear ranges (leaves d) leaf leaf.kind c) k) h)
 
-pub has_tables : (s : System) (tables : List Spans) (start : Rows) → AreFoundTables s.devices tables → HasFoundRanges s (spelled tables (all_leaves s.devices)) start → HasTables s (spelled tables (all_leaves s.devices)) tables
-has_tables s tables start found has = record { tables_are = found.each; clear = clear_of (spelled tables (all_leaves s.devices)) s has.clear }
+-- the tables by the rows of a certificate
+pub own_tables : (s : System) (devices : List FlatDevice) (cert : Certificate) (tables slice : List Ranges) → IsGiven devices s → map spans_of tables ≡ map (table_in cert) (flat_leaves devices) → slice ≡ tables → AreTables (certificate_of cert).ranges (map spans_of slice) (all_leaves s.devices)
+own_tables s devices cert tables slice given are e = subst (λ ts. AreTables (certificate_of cert).ranges ts (all_leaves s.devices)) (sym (ap (map spans_of) e ∙ are)) (tables_are cert devices s given)
 
-pub cycle_told : (repeats : Option ℕ) (s : System) (fault : NoBound) → IsCycle repeats s fault → IsNoBound repeats s fault
-cycle_told repeats s OutOfMemory h = tt
-cycle_told repeats s (Cycle places) h = h
-cycle_told repeats s (NoRange path) h = absurd h
-cycle_told repeats s (Limit resource) h = absurd h
+-- whose ranges are clear
+pub has_tables : (s : System) (devices : List FlatDevice) (ranges : List Range) (cert : Certificate) (tables slice : List Ranges) → IsGiven devices s → HasRanges s ranges (rows_of cert) → map spans_of tables ≡ map (table_in cert) (flat_leaves devices) → slice ≡ tables → HasTables s ranges (map spans_of slice)
+has_tables s devices ranges cert tables slice given has are e = record { tables_are = subst (λ rs. AreTables rs (map spans_of slice) (all_leaves s.devices)) has.are (own_tables s devices cert tables slice given are e); clear = clear_of ranges s has.clear }
+
+-- such tables are those of all leaves
+pub have_own : (s : System) (devices : List FlatDevice) (cert : Certificate) (tables slice : List Ranges) → IsGiven devices s → map spans_of tables ≡ map (table_in cert) (flat_leaves devices) → slice ≡ tables → HaveTables devices (map spans_of slice) s
+have_own s devices cert tables slice given are e = record { given = given; many = zip_length _ (map spans_of slice) (all_leaves s.devices) (own_tables s devices cert tables slice given are e) }
+
+-- and so are those that are found
+pub found_read : (s : System) (tables slice : List Ranges) → slice ≡ tables → AreFoundTables s.devices (map spans_of tables) → AreFoundTables s.devices (map spans_of slice)
+found_read s tables slice e found = subst (λ ts. AreFoundTables s.devices (map spans_of ts)) (sym e) found
+
+pub have_found : (s : System) (devices : List FlatDevice) (slice : List Ranges) → IsGiven devices s → AreFoundTables s.devices (map spans_of slice) → HaveTables devices (map spans_of slice) s
+have_found s devices slice given found = record { given = given; many = zip_length _ (map spans_of slice) (all_leaves s.devices) found.each }
+
+pub cycle_told : (ranges : List Range) (repeats : Option ℕ) (s : System) (fault : NoBound) → IsCycle repeats s fault → IsNoBoundAt ranges repeats s fault
+cycle_told ranges repeats s OutOfMemory h = tt
+cycle_told ranges repeats s (Cycle places) h = h
+cycle_told ranges repeats s (NoRange path) h = absurd h
+cycle_told ranges repeats s (Limit resource) h = absurd h
 
 asked_denies : (repeats : Option ℕ) (s : System) (walk : List Node) → IsClosedWalk (asked repeats s) walk → (cert : certs.Certificate) → IsDenied repeats cert → Fits s cert → ⊥
 asked_denies None s walk h cert d fits = walks_exclude s cert walk h fits
 asked_denies (Some r) s walk h cert d fits = networks_exclude s cert d.0 walk h d.1 d.2 fits
 
-pub walk_denies : (repeats : Option ℕ) (s : System) (fault : NoBound) → IsNoBound repeats s fault → IsWalk fault → (cert : certs.Certificate) → IsDenied repeats cert → Fits s cert → ⊥
-walk_denies repeats s OutOfMemory h w cert d fits = absurd w
-walk_denies repeats s (Cycle places) h w cert d fits = asked_denies repeats s (map node_of places.items) h.closed cert d fits
-walk_denies repeats s (NoRange path) h w cert d fits = absurd w
-walk_denies repeats s (Limit resource) h w cert d fits = absurd w
+walk_denies : (Are : List Range → Type 0) (Fails : String Global → Type 0) (repeats : Option ℕ) (s : System) (fault : NoBound) → IsNoBoundWith Are Fails repeats s fault → IsWalk fault → (cert : certs.Certificate) → IsDenied repeats cert → Fits s cert → ⊥
+walk_denies Are Fails repeats s OutOfMemory h w cert d fits = absurd w
+walk_denies Are Fails repeats s (Cycle places) h w cert d fits = asked_denies repeats s (map node_of places.items) h.closed cert d fits
+walk_denies Are Fails repeats s (NoRange path) h w cert d fits = absurd w
+walk_denies Are Fails repeats s (Limit resource) h w cert d fits = absurd w
+
+pub found_denies : (repeats : Option ℕ) (s : System) (fault : NoBound) → IsNoBound repeats s fault → IsWalk fault → (cert : certs.Certificate) → IsDenied repeats cert → Fits s cert → ⊥
+found_denies repeats s fault h = walk_denies (AreFound s.devices) (λ path. (ranges : List Range) × AreFound s.devices ranges × IsUnclearRun ranges s path) repeats s fault h
+
+pub within_denies : (given : Rows) (repeats : Option ℕ) (s : System) (fault : NoBound) → IsNoBoundWithin given repeats s fault → IsWalk fault → (cert : certs.Certificate) → IsDenied repeats cert → Fits s cert → ⊥
+within_denies given repeats s fault h = walk_denies (AreTaken (range_rows given.ranges) s.devices) (IsPathWithin given repeats s) repeats s fault h
+
+pub never_denies : (repeats : Option ℕ) (s : System) (fault : NoBound) → IsNeverBound repeats s fault → IsWalk fault → (cert : certs.Certificate) → IsDenied repeats cert → Fits s cert → ⊥
+never_denies repeats s fault h = walk_denies (λ rs. ⊥) (λ path. ⊥) repeats s fault h
 
 -- ---- read by other names
 
 pub ready_is : (repeats : Option ℕ) (devices : List FlatDevice) (n : Numbering) (s : System) (order slice : List ℕ) → HasNumbering repeats devices n s → slice ≡ order → FulfilsAll repeats n s order → IsReady repeats devices n slice s
 ready_is repeats devices n s order slice h e serves = record { numbering = h; serves = subst (λ o. FulfilsAll repeats n s o) (sym e) serves }
-
-pub found_read : (s : System) (tables slice : List Ranges) → slice ≡ tables → AreFoundTables s.devices (map spans_of tables) → AreFoundTables s.devices (map spans_of slice)
-found_read s tables slice e found = subst (λ ts. AreFoundTables s.devices (map spans_of ts)) (sym e) found
-
-pub tables_read : (s : System) (tables slice other : List Ranges) (start : Rows) → slice ≡ tables → other ≡ tables → AreFoundTables s.devices (map spans_of slice) → HasFoundRanges s (spelled (map spans_of slice) (all_leaves s.devices)) start
-    → HasTables s (spelled (map spans_of slice) (all_leaves s.devices)) (map spans_of other)
-tables_read s tables slice other start e f found has = subst (λ ts. HasTables s (spelled (map spans_of slice) (all_leaves s.devices)) (map spans_of ts)) (e ∙ sym f) (has_tables s (map spans_of slice) start found has)

@@ -8,3 +8,5 @@ mod Adding
 mod Networking
 mod Making
 mod Given
+mod Tabled
+pub mod Taking

@@ -5,7 +5,6 @@ use Rattle.std.specs.Str.{bytes_eq}
 use Rattle.std.specs.List.{AllByRecursion, flat_map, IsDistinct, list_any}
 use Rattle.std.proofs.lemmas.List.{length-append, length-map}
 use Rattle.std.proofs.Math.Nat.{le-max_left, le-max_right, max-le}
-use Rattle.fb_model_laws.specs.FinderRanges.{AreFound}
 use Rattle.fb_model.specs.Services.{begin}
 use Rattle.fb_model.specs.Names.{Name, Path, Place, at_place, is_in, path_eq, place_eq}
 use Rattle.fb_model.specs.System.{Device, Resource, System}
@@ -17,10 +16,9 @@ use Rattle.fb_model.specs.CertificateText.{IsTold, most_places, most_steps, name
 use Rattle.fb_model.proofs.Lists.{all_both}
 use Rattle.fb_model_laws.specs.Demands.{Demand, Node, state, event, channel}
 use Rattle.fb_model_laws.specs.Columns.{demands, network_demands, MeetAll, number_of}
-use Rattle.fb_model_laws.proofs.Places.{found_rows_are_all}
 use Rattle.fb_find_laws.specs.Numbered.{AreLeast, AreOf}
 use Rattle.fb_find_laws.specs.Nodes.{nodes_of, number}
-use Rattle.fb_find_laws.specs.Finding.{HasFarNumbers, HasNumbers, IsInOrder, IsMade, row_number}
+use Rattle.fb_find_laws.specs.Finding.{HasFarNumbers, HasNumbers, IsInOrder, IsMadeWith, row_number}
 use Rattle.fb_find_laws.proofs.Fitting.{no_amount}
 use Rattle.fb_find_laws.proofs.Members.{in_rows}
 use Rattle.fb_find_laws.proofs.Rows.{far_numbers_are, least_of_fewer, least_same, numbers_are}
@@ -52,9 +50,9 @@ use Rattle.fb_find_demands.specs.Rights.{numbers_of}
 use Rattle.fb_find.specs.Given.{nodes_in}
 use Rattle.fb_find.specs.Columns as columns
 use Rattle.fb_find.specs.Columns.{AreSmallest}
-use Rattle.fb_find.specs.Bounds.{needs_depth, needs_far, needs_places, needs_steps, IsFarFault, IsNoBound}
+use Rattle.fb_find.specs.Bounds.{needs_depth, needs_far, needs_places, needs_steps, IsFarFault, IsNoBoundAt}
 use Rattle.fb_find.specs.Networks.{behind_events, behind_states, HasNetwork, HasNoNetwork}
-use Rattle.fb_find.specs.Parts.{events_in, HasFoundRanges, IsReady, states_in, with_columns}
+use Rattle.fb_find.specs.Parts.{events_in, HasRanges, IsReady, states_in, with_columns}
 use Rattle.fb_find.proofs.Adding.{all_listed}
 use Rattle.fb_find.proofs.Columns.{of_network, of_own, own_have}
 use Rattle.fb_find.proofs.Resources.{great, same_number}
@@ -196,7 +194,7 @@ HasFar n s ranges (Some r) fars far_states channels =
     × (channels ≡ counts n.channels.items (behind_events n numbers))
 
 module _ (repeats : Option ℕ) (devices : List FlatDevice) (n : Numbering) (order : List ℕ) (s : System) (ready : IsReady repeats devices n order s) (ranges : List Range) (steps places : List ℕ) (start : Rows) (a : AreSmallest n (demands 1 ranges (all_leaves s.devices)) most_steps steps)
-    (b : AreSmallest n (demands 0 ranges (all_leaves s.devices)) most_places places) (has : HasFoundRanges s ranges start) where
+    (b : AreSmallest n (demands 0 ranges (all_leaves s.devices)) most_places places) (has : HasRanges s ranges start) where
   abbrev mid : Rows
   mid = with_columns n steps places start
 
@@ -272,7 +270,7 @@ module _ (repeats : Option ℕ) (devices : List FlatDevice) (n : Numbering) (ord
         }
       where
         each_placed : (kind : PlaceRows) → given kind (book_of final) ≡ required kind repeats (all_leaves s.devices)
-        each_placed Range_rows = ap range_places has.are ∙ found_rows_are_all s.devices ranges has.found
+        each_placed Range_rows = ap range_places has.are ∙ has.places
         each_placed Charge_rows = steps_in.charges_are ∙ ready.numbering.numbered.ordered.states_are
         each_placed Weight_rows = steps_in.weights_are ∙ ready.numbering.numbered.ordered.events_are
         each_placed Far_rows = (fars_are repeats refl net).0
@@ -297,7 +295,7 @@ module _ (repeats : Option ℕ) (devices : List FlatDevice) (n : Numbering) (ord
           (least_same (λ x. slice_index h.0 (numbers_of n x)) (number_of (far_of (book_of final))) (nodes_in n) (network_demands q ranges (all_leaves s.devices))
           (λ v c. sym (far_numbers_are (states_in n) (events_in n) n.channels.items (book_of final) h.0 told v c)) (of_network q devices n order s ready ranges) h.1.least)
 
-    made_here : IsTold (book_of final) → IsMade repeats s (states_in n) (events_in n) n.channels.items (book_of final)
+    made_here : IsTold (book_of final) → IsMadeWith (λ rs. rs ≡ ranges) repeats s (states_in n) (events_in n) n.channels.items (book_of final)
     made_here told =
         let given = ready.numbering.numbered.given in
         let once = spelled told.0 (book_of final) told.1 in
@@ -306,7 +304,7 @@ module _ (repeats : Option ℕ) (devices : List FlatDevice) (n : Numbering) (ord
           ordered = in_order;
           followed = given.followed;
           rows = all_there once;
-          ranges = subst (λ rs. AreFound s.devices rs) (sym has.are) has.found;
+          ranges = has.are;
           clear = subst (λ rs. AllClear rs s) (sym has.are) has.clear;
           steps =
               subst (λ rs. AreLeast (nodes_of (states_in n) (events_in n) []) (demands 1 rs (all_leaves s.devices)) (number_of (steps_of (book_of final)))) (sym has.are)
@@ -331,19 +329,19 @@ module _ (repeats : Option ℕ) (devices : List FlatDevice) (n : Numbering) (ord
         omega (arith, same, l)
     by false e = let z = no_amount (λ r. r.places) (book_of mid).weights p (place_turned p) (ap (list_any (place_eq p)) places_mid.weights_are ∙ e) in omega (arith, z)
 
-  past_here : (fault : NoBound) → queues.IsPastFault (λ t. IsPastAmong (book_of mid) t s.devices) fault → IsNoBound repeats s fault
+  past_here : (fault : NoBound) → queues.IsPastFault (λ t. IsPastAmong (book_of mid) t s.devices) fault → IsNoBoundAt ranges repeats s fault
   past_here OutOfMemory h = tt
   past_here (Cycle places) h = absurd h
   past_here (NoRange path) h = absurd h
-  past_here (Limit resource) h = needs_depth ranges has.found (λ other meets. past_more (book_of mid) other (string_bytes resource) s.devices (no_more other meets) h)
+  past_here (Limit resource) h = needs_depth ranges refl (λ other meets. past_more (book_of mid) other (string_bytes resource) s.devices (no_more other meets) h)
 
   -- ---- the same of what the code has
 
-  by_network : (rep : Option ℕ) → rep ≡ repeats → (last : Rows) → HasNetwork rep n s ranges deep last → IsTold (book_of last) → IsMade repeats s (states_in n) (events_in n) n.channels.items (book_of last)
+  by_network : (rep : Option ℕ) → rep ≡ repeats → (last : Rows) → HasNetwork rep n s ranges deep last → IsTold (book_of last) → IsMadeWith (λ rs. rs ≡ ranges) repeats s (states_in n) (events_in n) n.channels.items (book_of last)
   by_network None e last h told =
       let same : last ≡ record deep { repeats = repeats; fars = []; far_states = []; channels = [] } =
       h ∙ (ap (λ o. record deep { repeats = o }) (has.no_repeats ∙ e) ∙ (ap (λ t. record deep { repeats = repeats; fars = t }) has.no_far ∙ (ap (λ t. record deep { repeats = repeats; fars = []; far_states = t }) has.no_far_state ∙ ap (λ t. record deep { repeats = repeats; fars = []; far_states = []; channels = t }) has.no_channel))) in
-      subst (λ rows. IsMade repeats s (states_in n) (events_in n) n.channels.items (book_of rows)) (sym same)
+      subst (λ rows. IsMadeWith (λ rs. rs ≡ ranges) repeats s (states_in n) (events_in n) n.channels.items (book_of rows)) (sym same)
       (made_here [] [] [] (subst (λ o. HasFar n s ranges o [] [] []) e (refl, refl, refl)) (subst (λ rows. IsTold (book_of rows)) same told))
   by_network (Some r) e last h told =
       let numbers = h.0 in
@@ -351,10 +349,10 @@ module _ (repeats : Option ℕ) (devices : List FlatDevice) (n : Numbering) (ord
       let ss = counts (states_in n) numbers in
       let cs = counts n.channels.items (behind_events n numbers) in
       let same : last ≡ record deep { repeats = repeats; fars = fs; far_states = ss; channels = cs } = h.2 ∙ ap (λ o. record deep { repeats = o; fars = fs; far_states = ss; channels = cs }) e in
-      subst (λ rows. IsMade repeats s (states_in n) (events_in n) n.channels.items (book_of rows)) (sym same)
+      subst (λ rows. IsMadeWith (λ rs. rs ≡ ranges) repeats s (states_in n) (events_in n) n.channels.items (book_of rows)) (sym same)
       (made_here fs ss cs (subst (λ o. HasFar n s ranges o fs ss cs) e (numbers, h.1, refl, refl, refl)) (subst (λ rows. IsTold (book_of rows)) same told))
 
-  pub made : (now then last : Rows) → now ≡ mid → then ≡ with_more (all_rows (book_of now) devices s.devices) now → HasNetwork repeats n s ranges then last → IsTold (book_of last) → IsMade repeats s (states_in n) (events_in n) n.channels.items (book_of last)
+  pub made : (now then last : Rows) → now ≡ mid → then ≡ with_more (all_rows (book_of now) devices s.devices) now → HasNetwork repeats n s ranges then last → IsTold (book_of last) → IsMadeWith (λ rs. rs ≡ ranges) repeats s (states_in n) (events_in n) n.channels.items (book_of last)
   made now then last e f h told =
       let g : then ≡ deep = f ∙ ap (λ rows. with_more (all_rows (book_of rows) devices s.devices) rows) e in
       by_network repeats refl last (subst (λ rows. HasNetwork repeats n s ranges rows last) g h) told
@@ -373,29 +371,29 @@ module _ (repeats : Option ℕ) (devices : List FlatDevice) (n : Numbering) (ord
         no_channel = ap (λ (rows : Rows). rows.channels) g ∙ has.no_channel;
       }
 
-  pub past : (now : Rows) (fault : NoBound) → now ≡ mid → queues.IsPastFault (λ t. IsPastAmong (book_of now) t s.devices) fault → IsNoBound repeats s fault
+  pub past : (now : Rows) (fault : NoBound) → now ≡ mid → queues.IsPastFault (λ t. IsPastAmong (book_of now) t s.devices) fault → IsNoBoundAt ranges repeats s fault
   past now fault e h = past_here fault (subst (λ rows. queues.IsPastFault (λ t. IsPastAmong (book_of rows) t s.devices) fault) e h)
 
 -- ---- numbers above their limit
 
-module _ (repeats : Option ℕ) (devices : List FlatDevice) (n : Numbering) (order : List ℕ) (s : System) (ready : IsReady repeats devices n order s) (ranges : List Range) (start : Rows) (has : HasFoundRanges s ranges start) where
-  pub steps_past : (fault : NoBound) → columns.IsPastFault n (demands 1 ranges (all_leaves s.devices)) most_steps fault → IsNoBound repeats s fault
+module _ (repeats : Option ℕ) (devices : List FlatDevice) (n : Numbering) (order : List ℕ) (s : System) (ready : IsReady repeats devices n order s) (ranges : List Range) (start : Rows) (has : HasRanges s ranges start) where
+  pub steps_past : (fault : NoBound) → columns.IsPastFault n (demands 1 ranges (all_leaves s.devices)) most_steps fault → IsNoBoundAt ranges repeats s fault
   steps_past OutOfMemory h = tt
   steps_past (Cycle places) h = absurd h
   steps_past (NoRange path) h = absurd h
-  steps_past (Limit resource) h = needs_steps ranges has.found (great repeats devices n order s ready (demands 1 ranges (all_leaves s.devices)) most_steps (string_bytes resource) h)
+  steps_past (Limit resource) h = needs_steps ranges refl (great repeats devices n order s ready (demands 1 ranges (all_leaves s.devices)) most_steps (string_bytes resource) h)
 
-  pub places_past : (fault : NoBound) → columns.IsPastFault n (demands 0 ranges (all_leaves s.devices)) most_places fault → IsNoBound repeats s fault
+  pub places_past : (fault : NoBound) → columns.IsPastFault n (demands 0 ranges (all_leaves s.devices)) most_places fault → IsNoBoundAt ranges repeats s fault
   places_past OutOfMemory h = tt
   places_past (Cycle places) h = absurd h
   places_past (NoRange path) h = absurd h
-  places_past (Limit resource) h = needs_places ranges has.found (great repeats devices n order s ready (demands 0 ranges (all_leaves s.devices)) most_places (string_bytes resource) h)
+  places_past (Limit resource) h = needs_places ranges refl (great repeats devices n order s ready (demands 0 ranges (all_leaves s.devices)) most_places (string_bytes resource) h)
 
-  pub far_past : (fault : NoBound) → IsFarFault repeats n s ranges fault → IsNoBound repeats s fault
+  pub far_past : (fault : NoBound) → IsFarFault repeats n s ranges fault → IsNoBoundAt ranges repeats s fault
   far_past fault h = by repeats refl fault h where
-    by : (rep : Option ℕ) → repeats ≡ rep → (fault : NoBound) → IsFarFault rep n s ranges fault → IsNoBound repeats s fault
-    by None e fault h = subst (IsNoBound repeats s) (sym h) tt
+    by : (rep : Option ℕ) → repeats ≡ rep → (fault : NoBound) → IsFarFault rep n s ranges fault → IsNoBoundAt ranges repeats s fault
+    by None e fault h = subst (IsNoBoundAt ranges repeats s) (sym h) tt
     by (Some r) e OutOfMemory h = tt
     by (Some r) e (Cycle places) h = absurd h
     by (Some r) e (NoRange path) h = absurd h
-    by (Some r) e (Limit resource) h = needs_far r ranges e has.found (great repeats devices n order s ready (network_demands r ranges (all_leaves s.devices)) most_steps (string_bytes resource) h)
+    by (Some r) e (Limit resource) h = needs_far r ranges e refl (great repeats devices n order s ready (network_demands r ranges (all_leaves s.devices)) most_steps (string_bytes resource) h)

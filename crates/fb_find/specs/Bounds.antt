@@ -1,16 +1,21 @@
--- Why there is no certificate of a system with the finder's ranges, in the book's terms.
+-- Why there is no certificate of a system with the finder's ranges, or with others, in the book's terms.
 use Rattle.std.specs.Prelude.{ℕ, ◌≡◌, ◌<◌, ◌≤◌, ◌⊎◌, List, [], ◌∷◌, ◌++◌, Option, None, Some, map, take, string_bytes}
-use Rattle.std.specs.List.{Contains}
+use Rattle.std.specs.List.{AllByRecursion, Any, Contains}
+use Rattle.std.specs.declared.string.String.{String}
+use Rattle.std.specs.declared.alloc.Global.{Global}
 use Rattle.fb_model.specs.Names.{Name}
 use Rattle.fb_model.specs.System.{Device, Resource, System}
 use Rattle.fb_model.specs.Wires.{Leaf, most_followed, resource_count}
 use Rattle.fb_model.specs.Ranges.{Range}
+use Rattle.fb_model.specs.Spans.{Span}
+use Rattle.fb_cert.specs.Views.{book_of, first_at, range_rows, Rows}
 use Rattle.fb_model.specs.Certificates.{Certificate, all_leaves, channel_in, places_of}
 use Rattle.fb_model.specs.CertificateText.{names_in, most_places, most_steps}
 use Rattle.fb_model_laws.specs.Demands.{Demand, Node, state, event, channel}
 use Rattle.fb_model_laws.specs.Columns.{demands, network_demands, MeetAll, number_of}
 use Rattle.fb_find_laws.specs.Nodes.{IsFirstWalk}
 use Rattle.fb_model_laws.specs.FinderRanges.{AreFound}
+use Rattle.fb_find_laws.specs.Finding.{AreTaken, IsFoundWithin}
 use Rattle.fb_check_ranges.specs.declared.fault.Unclear.TheVariants as unclear
 use Rattle.fb_check_ranges.specs.Fitting.{IsUnclear}
 use Rattle.fb_find_rows.specs.declared.fault.NoBound.{NoBound}
@@ -34,20 +39,68 @@ pub record IsGreat (ds : List Demand) (limit : ℕ) (s : System) (resource : Nam
   pub great : (y : Node → ℕ) → MeetAll y ds → limit < y node
 
 -- the resource of this path follows too many connections; or it needs a number above the limit of rows, in the steps or in the places column, or in that of the steps
--- on all devices, under the ranges that are found; or more depth than a row can say, whatever numbers meet the demands
-pub data IsAbove (repeats : Option ℕ) (s : System) (resource : Name) : Type 0 where
-  follows_many : (d : Device) (r : Resource) → Contains s.devices d → Contains d.resources r → names_in resource ≡ d.name ∷ r.name ∷ [] → most_followed < resource_count r → IsAbove repeats s resource
-  needs_steps : (ranges : List Range) → AreFound s.devices ranges → IsGreat (demands 1 ranges (all_leaves s.devices)) most_steps s resource → IsAbove repeats s resource
-  needs_places : (ranges : List Range) → AreFound s.devices ranges → IsGreat (demands 0 ranges (all_leaves s.devices)) most_places s resource → IsAbove repeats s resource
-  needs_far : (r : ℕ) (ranges : List Range) → repeats ≡ Some r → AreFound s.devices ranges → IsGreat (network_demands r ranges (all_leaves s.devices)) most_steps s resource → IsAbove repeats s resource
-  needs_depth : (ranges : List Range) → AreFound s.devices ranges → ((cert : Certificate) → MeetAll (number_of (places_of cert)) (demands 0 ranges (all_leaves s.devices)) → IsPastAmong cert resource s.devices) → IsAbove repeats s resource
+-- on all devices, under ranges of which this is so; or more depth than a row can say, whatever numbers meet the demands
+pub data IsAboveWith (Are : List Range → Type 0) (repeats : Option ℕ) (s : System) (resource : Name) : Type 0 where
+  follows_many : (d : Device) (r : Resource) → Contains s.devices d → Contains d.resources r → names_in resource ≡ d.name ∷ r.name ∷ [] → most_followed < resource_count r → IsAboveWith Are repeats s resource
+  needs_steps : (ranges : List Range) → Are ranges → IsGreat (demands 1 ranges (all_leaves s.devices)) most_steps s resource → IsAboveWith Are repeats s resource
+  needs_places : (ranges : List Range) → Are ranges → IsGreat (demands 0 ranges (all_leaves s.devices)) most_places s resource → IsAboveWith Are repeats s resource
+  needs_far : (r : ℕ) (ranges : List Range) → repeats ≡ Some r → Are ranges → IsGreat (network_demands r ranges (all_leaves s.devices)) most_steps s resource → IsAboveWith Are repeats s resource
+  needs_depth : (ranges : List Range) → Are ranges → ((cert : Certificate) → MeetAll (number_of (places_of cert)) (demands 0 ranges (all_leaves s.devices)) → IsPastAmong cert resource s.devices) → IsAboveWith Are repeats s resource
 
--- want of memory; a closed walk of demands, over the network where datagrams are followed, from the first of its nodes on; what is unclear; or what is above a limit
+-- want of memory; a closed walk of demands, over the network where datagrams are followed, from the first of its nodes on; a path that is at fault; or what is above a
+-- limit under such ranges
+abbrev pub IsNoBoundWith : (List Range → Type 0) → (String Global → Type 0) → Option ℕ → System → NoBound → Type 0
+IsNoBoundWith Are Fails repeats s OutOfMemory = Unit {0}
+IsNoBoundWith Are Fails repeats s (Cycle places) = IsFirstWalk (asked repeats s) (all_leaves s.devices) (map node_of places.items)
+IsNoBoundWith Are Fails repeats s (NoRange path) = Fails path
+IsNoBoundWith Are Fails repeats s (Limit resource) = IsAboveWith Are repeats s (string_bytes resource)
+
+-- this algorithm or guard is not clear
+abbrev pub IsUnclearRun : List Range → System → String Global → Type 0
+IsUnclearRun ranges s path = IsUnclear ranges s (unclear.Kept path) ⊎ IsUnclear ranges s (unclear.IndexOrDivisor path)
+
+-- or the range of this variable does not hold what it has at first, or what it takes
+abbrev pub IsUnclearPath : List Range → System → String Global → Type 0
+IsUnclearPath ranges s path = (IsUnclear ranges s (unclear.Start path) ⊎ IsUnclear ranges s (unclear.Link path)) ⊎ IsUnclearRun ranges s path
+
+-- with the ranges that are found
 abbrev pub IsNoBound : Option ℕ → System → NoBound → Type 0
-IsNoBound repeats s OutOfMemory = Unit {0}
-IsNoBound repeats s (Cycle places) = IsFirstWalk (asked repeats s) (all_leaves s.devices) (map node_of places.items)
-IsNoBound repeats s (NoRange path) = (ranges : List Range) × AreFound s.devices ranges × (IsUnclear ranges s (unclear.Kept path) ⊎ IsUnclear ranges s (unclear.IndexOrDivisor path))
-IsNoBound repeats s (Limit resource) = IsAbove repeats s (string_bytes resource)
+IsNoBound repeats s fault = IsNoBoundWith (AreFound s.devices) (λ path. (ranges : List Range) × AreFound s.devices ranges × IsUnclearRun ranges s path) repeats s fault
+
+-- a row RANGE, its path and its range, stands in a certificate
+abbrev pub Stands : Rows → Name × Span → Type 0
+Stands rows r = first_at r.0 rows.ranges ≡ Some r.1
+
+-- each row RANGE of the first stands in the second
+abbrev pub RowsStand : Rows → Rows → Type 0
+RowsStand given rows = AllByRecursion (Stands rows) given.ranges
+
+-- this one does not
+abbrev pub IsStray : Rows → Rows → Name → Type 0
+IsStray given rows path = Any (λ r. (r.0 ≡ path) × (Stands rows r → ⊥)) given.ranges
+
+-- want of memory, or one that does not
+abbrev pub IsStrayFault : Rows → Rows → NoBound → Type 0
+IsStrayFault given rows OutOfMemory = Unit {0}
+IsStrayFault given rows (Cycle places) = ⊥
+IsStrayFault given rows (NoRange path) = IsStray given rows (string_bytes path)
+IsStrayFault given rows (Limit resource) = ⊥
+
+-- with ranges that are taken from a certificate: a path at fault is that of a row RANGE of it that the certificate with these ranges has not, or something is unclear there
+abbrev pub IsPathWithin : Rows → Option ℕ → System → String Global → Type 0
+IsPathWithin given repeats s path =
+    ((rows : Rows) × IsFoundWithin (range_rows given.ranges) repeats s (book_of rows) × IsStray given rows (string_bytes path)) ⊎ ((ranges : List Range) × AreTaken (range_rows given.ranges) s.devices ranges × IsUnclearPath ranges s path)
+
+abbrev pub IsNoBoundWithin : Rows → Option ℕ → System → NoBound → Type 0
+IsNoBoundWithin given repeats s fault = IsNoBoundWith (AreTaken (range_rows given.ranges) s.devices) (IsPathWithin given repeats s) repeats s fault
+
+-- with these ranges themselves
+abbrev pub IsNoBoundAt : List Range → Option ℕ → System → NoBound → Type 0
+IsNoBoundAt ranges repeats s fault = IsNoBoundWith (λ rs. rs ≡ ranges) (IsUnclearPath ranges s) repeats s fault
+
+-- whatever the ranges
+abbrev pub IsNeverBound : Option ℕ → System → NoBound → Type 0
+IsNeverBound repeats s fault = IsNoBoundWith (λ rs. ⊥) (λ path. ⊥) repeats s fault
 
 -- it shows a walk
 abbrev pub IsWalk : NoBound → Type 0

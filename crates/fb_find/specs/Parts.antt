@@ -4,9 +4,13 @@ use Rattle.fb_model.specs.Names.{Name}
 use Rattle.fb_model.specs.Clear.{Spans}
 use Rattle.fb_model.specs.Ranges.{Range}
 use Rattle.fb_model.specs.System.{System}
-use Rattle.fb_model.specs.Certificates.{all_leaves}
-use Rattle.fb_model_laws.specs.FinderRanges.{AreFound}
+use Rattle.fb_model.specs.Certificates.{all_leaves, range_places, ranged}
+use Rattle.fb_model.specs.Wires.{Kind, Charted, Serviced}
+use Rattle.fb_cert.specs.declared.certificate.Certificate.{Certificate}
 use Rattle.fb_cert.specs.Views.{range_rows, Rows}
+use Rattle.fb_flat.specs.declared.flat.Leaf.{Leaf}
+use Rattle.fb_flat.specs.Leaves.{kind_of}
+use Rattle.fb_check_ranges.specs.Rows.{numbers_in, rows_in}
 use Rattle.fb_flat.specs.declared.flat.FlatDevice.{FlatDevice}
 use Rattle.fb_check_ranges.specs.declared.fault.Unclear.{Unclear}
 use Rattle.fb_check_ranges.specs.declared.fault.Unclear.TheVariants as unclear
@@ -22,11 +26,11 @@ use Rattle.fb_model.specs.CertificateText.{names_in}
 use Rattle.fb_find_demands.specs.Ends.{end_of}
 use Rattle.fb_find_demands.specs.Prices.{AreClear, AreTables}
 use Rattle.fb_find.specs.Columns.{FulfilsAll}
-use Rattle.fb_find.specs.Given.{IsNumbered}
+use Rattle.fb_find.specs.Given.{IsGiven, IsNumbered}
 
--- the rows are the rows RANGE that are found, and all is clear under them
-pub record HasFoundRanges (s : System) (ranges : List Range) (rows : Rows) : Type 0 where
-  pub found : AreFound s.devices ranges
+-- the rows are these rows RANGE of all variables, in order, and all is clear under them
+pub record HasRanges (s : System) (ranges : List Range) (rows : Rows) : Type 0 where
+  pub places : range_places ranges ≡ ranged (all_leaves s.devices)
   pub are : range_rows rows.ranges ≡ ranges
   pub clear : AllClear ranges s
   pub no_charge : rows.charges ≡ []
@@ -36,6 +40,11 @@ pub record HasFoundRanges (s : System) (ranges : List Range) (rows : Rows) : Typ
   pub no_far : rows.fars ≡ []
   pub no_far_state : rows.far_states ≡ []
   pub no_channel : rows.channels ≡ []
+
+-- the leaves of a system that is given have these tables, one each
+pub record HaveTables (devices : List FlatDevice) (tables : List Spans) (s : System) : Type 0 where
+  pub given : IsGiven devices s
+  pub many : length tables ≡ length (all_leaves s.devices)
 
 -- the nodes have numbers by the texts of their rows, in their order, and channels that are followed their first ends
 pub record HasNumbering (repeats : Option ℕ) (devices : List FlatDevice) (n : Numbering) (s : System) : Type 0 where
@@ -53,6 +62,16 @@ pub record IsReady (repeats : Option ℕ) (devices : List FlatDevice) (n : Numbe
 pub record HasTables (s : System) (ranges : List Range) (tables : List Spans) : Type 0 where
   pub tables_are : AreTables ranges tables (all_leaves s.devices)
   pub clear : AreClear ranges (all_leaves s.devices)
+
+-- ---- tables
+
+-- the table of a leaf by the rows of a certificate
+abbrev pub kind_table : Certificate → Name → Kind → Spans
+kind_table cert path (Charted block) = rows_in cert path (Charted block)
+kind_table cert path (Serviced service) = λ x. numbers_in None
+
+abbrev pub table_in : Certificate → Leaf → Spans
+table_in cert leaf = kind_table cert (string_bytes leaf.path) (kind_of leaf.body)
 
 -- ---- rows of nodes
 

@@ -6,10 +6,8 @@ ghost use Rattle.fb_model.specs.Certificates.{all_leaves};
 ghost use Rattle.fb_cert.specs.Views.{rows_of};
 ghost use Rattle.fb_ranges.specs.Views.{spans_of};
 ghost use Rattle.fb_find_ranges.specs.Found.{spelled};
-ghost use Rattle.fb_find_ranges.specs.FoundTables.{AreFoundTables};
-ghost use Rattle.fb_find.specs.Given.{IsGiven};
-ghost use Rattle.fb_find.specs.Bounds.{IsNoBound};
-ghost use Rattle.fb_find.specs.Parts.{HasFoundRanges, told_of};
+ghost use Rattle.fb_find.specs.Bounds.{IsNoBoundAt};
+ghost use Rattle.fb_find.specs.Parts.{HasRanges, HaveTables, told_of};
 
 use fb_cert::Certificate;
 use fb_check_ranges::{Unclear, rows_clear};
@@ -19,7 +17,7 @@ use fb_flat::Flat;
 use fb_ranges::Ranges;
 use std::alloc::Global;
 
-// What is unclear under the ranges that are found has no range.
+// What is unclear under ranges has no range.
 fn no_range(fault: Unclear) -> NoBound
     ensures { result ≡ told_of fault }
 {
@@ -38,8 +36,8 @@ pub(crate) fn with_ranges(
     flat: &Flat,
     tables: &[Ranges],
 ) -> Result<Certificate, NoBound>
-    ensures found { (s : System) → IsGiven flat.now.devices.items s → AreFoundTables s.devices (map spans_of tables.now) → IfOk result (λ c. HasFoundRanges s (spelled (map spans_of tables.now) (all_leaves s.devices)) (rows_of c)) }
-    ensures refused { (repeats : Option ℕ) (s : System) → IsGiven flat.now.devices.items s → AreFoundTables s.devices (map spans_of tables.now) → IfErr result (IsNoBound repeats s) }
+    ensures ranged { (s : System) → HaveTables flat.now.devices.items (map spans_of tables.now) s → IfOk result (λ c. HasRanges s (spelled (map spans_of tables.now) (all_leaves s.devices)) (rows_of c)) }
+    ensures refused { (repeats : Option ℕ) (s : System) → HaveTables flat.now.devices.items (map spans_of tables.now) s → IfErr result (IsNoBoundAt (spelled (map spans_of tables.now) (all_leaves s.devices)) repeats s) }
 {
     let mut certificate = Certificate::new(alloc);
     add_ranges(alloc, flat, tables, &mut certificate)?;

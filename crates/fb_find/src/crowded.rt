@@ -8,7 +8,7 @@ ghost use Rattle.fb_verdict.specs.Verdicts.{IsWritten};
 ghost use Rattle.fb_flat.specs.Leaves.{flat_device, written_device};
 ghost use Rattle.fb_types.specs.Views.{system_of, resource_of, device_of};
 ghost use Rattle.fb_find_rows.specs.Needs.{IsPastFault};
-ghost use Rattle.fb_find.specs.Bounds.{IsNoBound};
+ghost use Rattle.fb_find.specs.Bounds.{IsNeverBound};
 ghost use Rattle.fb_find.specs.Crowds.{IsCrowded};
 
 use fb_find_rows::NoBound;
@@ -72,7 +72,7 @@ fn crowded(alloc: Global, typed: &Configuration) -> NoBound
 pub(crate) fn leaves(alloc: Global, typed: &Typed) -> Result<Flat, NoBound>
     ensures tables { IfOk result (λ f. map flat_device f.devices.items ≡ map written_device (system_of typed.now).devices) }
     ensures few { OnOk result (AllByRecursion FollowsFew (system_of typed.now).devices) }
-    ensures refused { (repeats : Option ℕ) → IfErr result (IsNoBound repeats (system_of typed.now)) }
+    ensures refused { (repeats : Option ℕ) → IfErr result (IsNeverBound repeats (system_of typed.now)) }
 {
     typed.stands_in_text();
     match flatten(alloc, typed) {

@@ -1,25 +1,29 @@
 //! The finder.
 
-ghost use Rattle.std.specs.Prelude.{◌≡◌, ◌≤◌, IfErr, IfOk, IfSome};
+ghost use Rattle.std.specs.Prelude.{◌≡◌, ◌≤◌, map, IfErr, IfOk, IfSome};
 ghost use Rattle.fb_model.specs.System.{System};
 ghost use Rattle.fb_model.specs.Certificates as book;
-ghost use Rattle.fb_model.specs.Certificates.{Fits};
+ghost use Rattle.fb_model.specs.Certificates.{all_leaves, Fits};
 ghost use Rattle.fb_cert.specs.Views.{certificate_of};
 ghost use Rattle.fb_types.specs.Views.{system_of};
-ghost use Rattle.fb_find_laws.specs.Finding.{IsFound};
+ghost use Rattle.fb_ranges.specs.Views.{spans_of};
+ghost use Rattle.fb_find_laws.specs.Finding.{IsFound, IsFoundWith};
+ghost use Rattle.fb_find_ranges.specs.Found.{spelled};
 ghost use Rattle.fb_find.specs.Given.{IsGiven};
-ghost use Rattle.fb_find.specs.Parts.{HasNumbering};
-ghost use Rattle.fb_find.specs.Bounds.{IsNoBound, IsWalk, IsDenied};
+ghost use Rattle.fb_find.specs.Parts.{HasNumbering, HaveTables};
+ghost use Rattle.fb_find.specs.Bounds.{IsNoBound, IsNoBoundAt, IsWalk, IsDenied};
 
 use crate::clear::with_ranges;
 use crate::crowded::leaves;
 use crate::least::with_numbers;
 use crate::order;
+use crate::table::tables_in;
 use fb_cert::Certificate;
 use fb_find_demands::{Numbering, numbering};
 use fb_find_ranges::tables;
 use fb_find_rows::NoBound;
 use fb_flat::Flat;
+use fb_ranges::Ranges;
 use fb_types::Typed;
 use std::alloc::{AllocError, Global};
 
@@ -33,6 +37,33 @@ fn numbered(alloc: Global, repeats: Option<u8>, flat: &Flat) -> Result<Numbering
     Ok(numbering)
 }
 
+/// The certificate of a system whose ranges are those of tables, leaf by leaf.
+pub(crate) fn with_tables(
+    alloc: Global,
+    flat: &Flat,
+    repeats: Option<u8>,
+    tables: &[Ranges],
+) -> Result<Certificate, NoBound>
+    requires some { IfSome repeats (λ r. 1 ≤ r) }
+    requires tables { (s : System) × HaveTables flat.now.devices.items (map spans_of tables.now) s }
+    ensures found { (s : System) → HaveTables flat.now.devices.items (map spans_of tables.now) s → IfOk result (λ c. IsFoundWith (λ rs. rs ≡ spelled (map spans_of tables.now) (all_leaves s.devices)) repeats s (certificate_of c)) }
+    ensures refused { (s : System) → HaveTables flat.now.devices.items (map spans_of tables.now) s → IfErr result (IsNoBoundAt (spelled (map spans_of tables.now) (all_leaves s.devices)) repeats s) }
+{
+    let numbering = numbered(alloc, repeats, flat)?;
+    let order = order(alloc, flat, &numbering, repeats)?;
+    let certificate = with_ranges(alloc, flat, tables)?;
+    let own = tables_in(alloc, flat, &certificate)?;
+    with_numbers(
+        alloc,
+        flat,
+        repeats,
+        &numbering,
+        order.as_slice(),
+        own.as_slice(),
+        certificate,
+    )
+}
+
 // The certificate of a system's leaves.
 fn found(alloc: Global, flat: &Flat, repeats: Option<u8>) -> Result<Certificate, NoBound>
     requires some { IfSome repeats (λ r. 1 ≤ r) }
@@ -40,19 +71,8 @@ fn found(alloc: Global, flat: &Flat, repeats: Option<u8>) -> Result<Certificate,
     ensures found { (s : System) → IsGiven flat.now.devices.items s → IfOk result (λ c. IsFound repeats s (certificate_of c)) }
     ensures refused { (s : System) → IsGiven flat.now.devices.items s → IfErr result (IsNoBound repeats s) }
 {
-    let numbering = numbered(alloc, repeats, flat)?;
-    let order = order(alloc, flat, &numbering, repeats)?;
     let tables = tables(alloc, flat)?;
-    let certificate = with_ranges(alloc, flat, tables.as_slice())?;
-    with_numbers(
-        alloc,
-        flat,
-        repeats,
-        &numbering,
-        order.as_slice(),
-        tables.as_slice(),
-        certificate,
-    )
+    with_tables(alloc, flat, repeats, tables.as_slice())
 }
 
 /// The certificate of a system. Its ranges are those of the finder's rounds, and every other number is the least of all certificates with these

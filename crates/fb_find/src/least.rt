@@ -8,11 +8,11 @@ ghost use Rattle.fb_model.specs.Certificates.{all_leaves};
 ghost use Rattle.fb_model.specs.CertificateText.{most_places, most_steps};
 ghost use Rattle.fb_cert.specs.Views.{certificate_of, rows_of};
 ghost use Rattle.fb_model_laws.specs.Columns.{demands};
-ghost use Rattle.fb_find_laws.specs.Finding.{IsMade};
+ghost use Rattle.fb_find_laws.specs.Finding.{IsMadeWith};
 ghost use Rattle.fb_ranges.specs.Views.{spans_of};
 ghost use Rattle.fb_find.specs.Columns.{AreSmallest, IsPastFault};
-ghost use Rattle.fb_find.specs.Bounds.{IsNoBound};
-ghost use Rattle.fb_find.specs.Parts.{events_in, states_in, CanBeAdded, HasFoundRanges, HasTables, IsReady, with_columns};
+ghost use Rattle.fb_find.specs.Bounds.{IsNoBoundAt};
+ghost use Rattle.fb_find.specs.Parts.{events_in, states_in, CanBeAdded, HasRanges, HasTables, IsReady, with_columns};
 
 use crate::column;
 use crate::network::add_network;
@@ -104,8 +104,8 @@ pub(crate) fn with_numbers(
 ) -> Result<Certificate, NoBound>
     requires some { IfSome repeats (λ r. 1 ≤ r) }
     requires ready { (s : System) × (ranges : List Range) × IsReady repeats flat.now.devices.items numbering.now order.now s × HasTables s ranges (map spans_of tables.now) }
-    ensures made { (s : System) (ranges : List Range) → IsReady repeats flat.now.devices.items numbering.now order.now s → HasTables s ranges (map spans_of tables.now) → HasFoundRanges s ranges (rows_of certificate) → IfOk result (λ c. IsMade repeats s (states_in numbering.now) (events_in numbering.now) numbering.now.channels.items (certificate_of c)) }
-    ensures refused { (s : System) (ranges : List Range) → IsReady repeats flat.now.devices.items numbering.now order.now s → HasTables s ranges (map spans_of tables.now) → HasFoundRanges s ranges (rows_of certificate) → IfErr result (IsNoBound repeats s) }
+    ensures made { (s : System) (ranges : List Range) → IsReady repeats flat.now.devices.items numbering.now order.now s → HasTables s ranges (map spans_of tables.now) → HasRanges s ranges (rows_of certificate) → IfOk result (λ c. IsMadeWith (λ rs. rs ≡ ranges) repeats s (states_in numbering.now) (events_in numbering.now) numbering.now.channels.items (certificate_of c)) }
+    ensures refused { (s : System) (ranges : List Range) → IsReady repeats flat.now.devices.items numbering.now order.now s → HasTables s ranges (map spans_of tables.now) → HasRanges s ranges (rows_of certificate) → IfErr result (IsNoBoundAt ranges repeats s) }
 {
     let mut certificate = certificate;
     let steps = steps(alloc, flat, numbering, order, tables)?;

@@ -10,7 +10,12 @@ mod least;
 mod network;
 mod ordering;
 mod solving;
+mod stand;
+mod table;
+mod within;
 
 pub use finding::find;
 pub use ordering::order;
 pub use solving::column;
+pub use stand::rows_stand;
+pub use within::find_within;
