@@ -1,6 +1,6 @@
 //! Places of typed expressions in the text.
 
-use crate::shape::{Part, front, index, operand, operation};
+use crate::shape::{Part, front, index, operand, operation, operation_begins};
 use fb_tree::Expr;
 
 /// The innermost place that is known of a typed expression, and what the text has there; nothing where the trees differ in shape.
@@ -46,6 +46,14 @@ impl<'a> Origin<'a> {
         match self.source {
             Some(source) => self.moved(operation(source, count, index)),
             None => self,
+        }
+    }
+
+    /// Where what is before one operation of a chain of so many begins.
+    pub fn begins(self, count: usize, index: usize) -> usize {
+        match self.source {
+            Some(source) => operation_begins(source, count, index).unwrap_or(self.at),
+            None => self.at,
         }
     }
 

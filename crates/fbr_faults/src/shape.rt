@@ -2,7 +2,7 @@
 //!
 //! A typed chain goes on with the operations of the chain or call that its first operand was in the text.
 
-use fb_tree::Expr;
+use fb_tree::{Constant, Expr, Literal};
 
 /// Where an operation or an index stands, and an operand of it.
 pub(crate) type Part<'a> = Option<(usize, &'a Expr)>;
@@ -54,19 +54,31 @@ fn added(source: &Expr, index: usize) -> Part<'_> {
     }
 }
 
-/// The second operand of one operation of a typed chain of so many.
-pub(crate) fn operation(source: &Expr, count: usize, index: usize) -> Part<'_> {
+// The chain or call that adds one operation of a typed chain of so many, and which of those that it adds this is.
+fn level_of(source: &Expr, count: usize, index: usize) -> Option<(&Expr, usize)> {
     let mut expr = source;
     let mut left = count;
     for _ in 0..count {
         let (own, first) = level(expr)?;
         left = left.checked_sub(own)?;
         if left <= index {
-            return added(expr, index - left);
+            return Some((expr, index - left));
         }
         expr = first;
     }
     None
+}
+
+/// The second operand of one operation of a typed chain of so many.
+pub(crate) fn operation(source: &Expr, count: usize, index: usize) -> Part<'_> {
+    let (expr, own) = level_of(source, count, index)?;
+    added(expr, own)
+}
+
+/// Where the chain or call begins that adds this operation.
+pub(crate) fn operation_begins(source: &Expr, count: usize, index: usize) -> Option<usize> {
+    let (expr, _) = level_of(source, count, index)?;
+    Some(beginning(expr))
 }
 
 /// The first operand of a typed chain of so many operations.
@@ -106,12 +118,39 @@ pub(crate) fn index(source: &Expr) -> Part<'_> {
     }
 }
 
-/// Where an expression begins, but for parentheses and the sign of a literal.
+// Where a literal begins, with its sign.
+fn literal_begins(constant: Constant) -> usize {
+    match constant.value {
+        Literal::Whole(true, _) => constant.at.saturating_sub(1),
+        _ => constant.at,
+    }
+}
+
+/// Where an expression begins, but for parentheses.
 pub(crate) fn beginning(source: &Expr) -> usize {
     match source {
-        Expr::Literal(constant) => constant.at,
+        Expr::Literal(constant) => literal_begins(*constant),
         Expr::Variable(name) | Expr::Element(name, _, _) | Expr::Call(name, _) => name.at,
         Expr::Negative(at, _) | Expr::Inverse(at, _) => *at,
         Expr::Chain(first, _) => beginning(first),
+    }
+}
+
+/// Where the last token of an expression begins, but for parentheses and brackets.
+pub(crate) fn ending(source: &Expr) -> usize {
+    match source {
+        Expr::Literal(constant) => constant.at,
+        Expr::Variable(name) => name.at,
+        Expr::Element(_, _, inner) | Expr::Negative(_, inner) | Expr::Inverse(_, inner) => {
+            ending(inner)
+        }
+        Expr::Call(name, arguments) => match arguments.last() {
+            Some(last) => ending(last),
+            None => name.at,
+        },
+        Expr::Chain(first, links) => match links.last() {
+            Some(link) => ending(&link.operand),
+            None => ending(first),
+        },
     }
 }
