@@ -1,0 +1,26 @@
+-- Where nothing that was proposed is clear, the path that was told before is told.
+use Rattle.std.proofs.Common.{ℕ, sym, subst, Option, Result, Ok, Err, IfOk}
+use Rattle.std.specs.declared.string.String.{String}
+use Rattle.std.specs.declared.alloc.Global.{Global}
+use Rattle.fb_model.specs.System.{System}
+use Rattle.fb_model.specs.Certificates.{Certificate, Fits}
+use Rattle.fb_find_rows.specs.declared.fault.NoBound.{NoBound}
+use Rattle.fb_find_rows.specs.declared.fault.NoBound.TheVariants.{OutOfMemory, Cycle, NoRange, Limit}
+use Rattle.fb_find.specs.Bounds.{IsDenied, IsNoBound, IsWalk}
+use Rattle.fb_find_search.specs.Searching.{IsStill}
+
+pub still_told : (repeats : Option ℕ) (s : System) (path : String Global) → IsNoBound repeats s (NoRange path) → (fault : NoBound) → IsStill path fault → IsNoBound repeats s fault
+still_told repeats s path before OutOfMemory h = tt
+still_told repeats s path before (Cycle places) h = absurd h
+still_told repeats s path before (NoRange other) h = subst (λ p. IsNoBound repeats s (NoRange p)) (sym h) before
+still_told repeats s path before (Limit resource) h = absurd h
+
+pub still_denies : (repeats : Option ℕ) (s : System) (path : String Global) (fault : NoBound) → IsStill path fault → IsWalk fault → (cert : Certificate) → IsDenied repeats cert → Fits s cert → ⊥
+still_denies repeats s path OutOfMemory h w cert d fits = absurd w
+still_denies repeats s path (Cycle places) h w cert d fits = absurd h
+still_denies repeats s path (NoRange other) h w cert d fits = absurd w
+still_denies repeats s path (Limit resource) h w cert d fits = absurd w
+
+pub ok_weaker : {X E : Type 0} (P Q : X → Type 0) → ((x : X) → P x → Q x) → (r : Result X E) → IfOk r P → IfOk r Q
+ok_weaker P Q g (Ok x) h = g x h
+ok_weaker P Q g (Err e) h = tt

@@ -1,0 +1,47 @@
+//! What algorithms ask of the ranges of their variables.
+
+use crate::walk::walk;
+use crate::way::{Scene, Way, first_way};
+use fb_ranges::{Ranges, reset};
+use fb_ranges_intervals::{Interval, joined};
+use st_types::Algo;
+use std::alloc::AllocError;
+
+/// A range is asked to hold another too.
+pub(crate) fn ask(name: &str, range: Interval, asked: &mut Ranges) -> Result<(), AllocError> {
+    let row = asked.find(name);
+    asked.insert(name, joined(row, range))
+}
+
+/// The ranges of these variables are asked to hold what they were given on a way, and they have their rows.
+pub(crate) fn settle(
+    scene: Scene<'_>,
+    names: &[String],
+    way: &mut Way,
+    asked: &mut Ranges,
+) -> Result<(), AllocError> {
+    for name in names {
+        if let Some(value) = way.given.swap_remove(name.as_str()) {
+            ask(name.as_str(), value, asked)?;
+        }
+    }
+    reset(names, scene.rows, &mut way.ranges)
+}
+
+// The ranges are asked to hold what variables were given on a way.
+fn ask_given(way: &Way, asked: &mut Ranges) -> Result<(), AllocError> {
+    for index in 0..way.given.len() {
+        let Some((name, value)) = way.given.get_index(index) else {
+            return Ok(());
+        };
+        ask(name.as_str(), *value, asked)?;
+    }
+    Ok(())
+}
+
+/// All that an algorithm asks.
+pub(crate) fn ask_all(scene: Scene<'_>, algo: &Algo, asked: &mut Ranges) -> Result<(), AllocError> {
+    let mut way = first_way(scene)?;
+    walk(scene, &algo.statements, &mut way, asked)?;
+    ask_given(&way, asked)
+}

@@ -1,0 +1,129 @@
+//! Ways through an algorithm: what variables have on them, and what they were given.
+
+use fb_ranges::{Ranges, copied, narrow};
+use fb_ranges_intervals::{Interval, joined};
+use indexmap::IndexMap;
+use st_types::TypedExpr;
+use std::alloc::{AllocError, Global};
+
+/// What algorithms are walked under: the rows of a leaf's variables, their names, and whether arms that cannot run are left out.
+#[derive(Clone, Copy)]
+pub(crate) struct Scene<'a> {
+    pub alloc: Global,
+    pub rows: &'a Ranges,
+    pub names: &'a [&'a str],
+    pub skips: bool,
+}
+
+/// The ranges of variables on a way, and of what those have that it assigned.
+#[derive(Drop)]
+pub(crate) struct Way {
+    pub ranges: Ranges,
+    pub given: IndexMap<String, Interval>,
+}
+
+/// The way before anything is assigned.
+pub(crate) fn first_way(scene: Scene<'_>) -> Result<Way, AllocError> {
+    Ok(Way {
+        ranges: copied(scene.rows)?,
+        given: IndexMap::new(scene.alloc),
+    })
+}
+
+/// The same way once more.
+pub(crate) fn same_way(way: &Way) -> Result<Way, AllocError> {
+    Ok(Way {
+        ranges: copied(&way.ranges)?,
+        given: way.given.clone()?,
+    })
+}
+
+/// A variable gets a value.
+pub(crate) fn give(name: &String, value: Interval, way: &mut Way) -> Result<(), AllocError> {
+    way.ranges.insert(name.as_str(), value)?;
+    way.given.insert(name.clone()?, value)?;
+    Ok(())
+}
+
+// What two ranges have in common; the first, where that is nothing.
+fn cut(r: Interval, s: Interval) -> Interval {
+    let low = r.low.max(s.low);
+    let high = r.high.min(s.high);
+    if high < low {
+        r
+    } else {
+        Interval { low, high }
+    }
+}
+
+// What variables were given is no more than they have.
+fn trim(alloc: Global, way: &mut Way) -> Result<(), AllocError> {
+    let mut given = IndexMap::new(alloc);
+    for index in 0..way.given.len() {
+        let Some((name, value)) = way.given.get_index(index) else {
+            return Ok(());
+        };
+        let now = cut(*value, way.ranges.find(name.as_str()));
+        given.insert(name.clone()?, now)?;
+    }
+    way.given = given;
+    Ok(())
+}
+
+/// The part of a way where a condition holds, or fails.
+pub(crate) fn narrow_way(
+    alloc: Global,
+    condition: &TypedExpr,
+    holds: bool,
+    way: &mut Way,
+) -> Result<(), AllocError> {
+    narrow(condition, holds, &mut way.ranges)?;
+    trim(alloc, way)
+}
+
+// What was given on another way too.
+fn join_given(other: &Way, way: &mut Way) -> Result<(), AllocError> {
+    for index in 0..other.given.len() {
+        let Some((name, value)) = other.given.get_index(index) else {
+            return Ok(());
+        };
+        let all = match way.given.get(name.as_str()) {
+            Some(own) => joined(*own, *value),
+            None => *value,
+        };
+        way.given.insert(name.clone()?, all)?;
+    }
+    Ok(())
+}
+
+// One way or another.
+fn join_way(names: &[&str], other: &Way, way: &mut Way) -> Result<(), AllocError> {
+    for name in names {
+        let all = joined(way.ranges.find(*name), other.ranges.find(*name));
+        way.ranges.insert(*name, all)?;
+    }
+    join_given(other, way)
+}
+
+/// One of all these ways.
+pub(crate) fn join_ways(names: &[&str], others: &[Way], way: &mut Way) -> Result<(), AllocError> {
+    for other in others {
+        join_way(names, other, way)?;
+    }
+    Ok(())
+}
+
+/// One of these ways alone.
+pub(crate) fn only_ways(
+    names: &[&str],
+    mut others: Vec<Way>,
+    way: &mut Way,
+) -> Result<(), AllocError> {
+    match others.pop() {
+        Some(last) => {
+            *way = last;
+            join_ways(names, others.as_slice(), way)
+        }
+        None => Ok(()),
+    }
+}
