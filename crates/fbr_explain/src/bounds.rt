@@ -140,18 +140,21 @@ fn tell_resource<'a, W: Write>(
 }
 
 /// Writes the bounds of what fits: how deep each queue is, what each arrival causes at most and beside which others it has no room, the range of each
-/// variable that is not its whole type, and the channels; and notes on the text.
+/// variable that is not its whole type, and the channels; and notes on the text. Says whether there are notes.
 pub fn tell_bounds<W: Write>(
     alloc: Global,
     verified: &Verified,
     app: Named<'_>,
     output: &mut W,
-) -> io::Result<()> {
+) -> io::Result<bool> {
     for device in &verified.flat().devices {
         for resource in &device.resources {
             tell_resource(alloc, verified, resource, output)?;
         }
     }
     tell_channels(alloc, verified, output)?;
-    tell_notes(alloc, app, output)
+    let mut notes = Vec::new(alloc);
+    tell_notes(alloc, verified, app, &mut notes)?;
+    output.write_all(&notes)?;
+    Ok(!notes.is_empty())
 }

@@ -42,6 +42,7 @@ mod used;
 mod walk;
 mod wanted;
 mod wired;
+mod wrapped;
 
 pub use again::certificate_again;
 pub use bounds::tell_bounds;

@@ -161,7 +161,10 @@ pub fn meaning_of(code: u8) -> Option<Meaning> {
             "this line of the script is no call, or names a device, a resource, a datagram or a root that is not there, or a number does not fit",
             "mend the line; what stands before it has run",
         ),
-        61 => said("not readable, no UTF-8, or more than 33,554,432 bytes", ""),
+        61 => said(
+            "not readable, no UTF-8, or more than 33,554,432 bytes",
+            "of the files of `bound`, `check`, `explain` and `draw` one may be `-`, and no other; behind `-o` it is a file that can be written",
+        ),
         62 => said(
             "nothing could be bound to this port, from `fbr serve`: another program has it",
             "take another port, or end the other program",

@@ -5,6 +5,8 @@ use crate::noted::Page;
 use crate::spotted::Named;
 use crate::used::note_variables;
 use crate::wired::note_network;
+use crate::wrapped::note_wraps;
+use fb_check::Verified;
 use fb_lex::Token;
 use fb_tree::{BodyTree, FileTree};
 use fbr_places::{FACES, Types, tokens_of, tree_of};
@@ -31,9 +33,16 @@ fn note_all<W: Write>(page: Page<'_>, output: &mut W) -> io::Result<()> {
     Ok(())
 }
 
+// The same, and behind them those on its arithmetic.
+fn note_both<W: Write>(page: Page<'_>, verified: &Verified, output: &mut W) -> io::Result<()> {
+    note_all(page, output)?;
+    note_wraps(page, verified, output)
+}
+
 // The same of its tokens and its source tree, beside the types that are there beforehand.
 fn note_file<W: Write>(
     alloc: Global,
+    verified: &Verified,
     app: Named<'_>,
     tokens: &[Token],
     file: &FileTree,
@@ -51,7 +60,7 @@ fn note_file<W: Write>(
                 tokens,
                 types,
             };
-            let told = note_all(page, output);
+            let told = note_both(page, verified, output);
             library.let_go();
             told
         }
@@ -59,14 +68,20 @@ fn note_file<W: Write>(
     }
 }
 
-/// Writes notes on the text of an application that is accepted: what it has and does not use, what leads nowhere, and numbers without a unit.
-pub fn tell_notes<W: Write>(alloc: Global, app: Named<'_>, output: &mut W) -> io::Result<()> {
+/// Writes notes on the text of an application that is accepted: what it has and does not use, what leads nowhere, numbers without a unit, and arithmetic that may
+/// wrap under the ranges of its certificate.
+pub fn tell_notes<W: Write>(
+    alloc: Global,
+    verified: &Verified,
+    app: Named<'_>,
+    output: &mut W,
+) -> io::Result<()> {
     let Some(tokens) = tokens_of(alloc, app.text)? else {
         return Ok(());
     };
     match tree_of(alloc, app.text)? {
         Some(file) => {
-            let told = note_file(alloc, app, &tokens, &file, output);
+            let told = note_file(alloc, verified, app, &tokens, &file, output);
             file.let_go();
             told
         }
