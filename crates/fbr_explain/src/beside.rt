@@ -1,11 +1,15 @@
 //! How much fits into a queue at once.
 
 use crate::put::{put, put_number};
+use crate::seen::resource_at;
 use fb_check::Verified;
 use fb_flat::{Body, FlatResource, joined};
 use std::alloc::{AllocError, Global};
 use std::io;
 use std::io::Write;
+
+// The most that a row DEPTH can say.
+const DEEPEST: u64 = 4096;
 
 // So many others are named.
 const NAMED: usize = 3;
@@ -59,6 +63,35 @@ pub fn tell_depth<W: Write>(queue: Queue<'_>, output: &mut W) -> io::Result<()> 
         put(" takes each arrival once", output)?;
     }
     put("\n", output)
+}
+
+// The places of the largest arrival, and those of all.
+fn largest_and_all(arrivals: &[Arrival]) -> (u64, u64) {
+    let mut largest: u64 = 0;
+    let mut all: u64 = 0;
+    for arrival in arrivals {
+        largest = largest.max(arrival.places);
+        all = all.saturating_add(arrival.places);
+    }
+    (largest, all)
+}
+
+/// The depth of a resource's queue that takes its largest arrival so many times, or each arrival once where that is less; never less than its row says, nor more than a
+/// row can say. Nothing where there is no such resource.
+pub fn depth_with_room(
+    alloc: Global,
+    verified: &Verified,
+    path: &str,
+    times: u8,
+) -> Result<Option<u64>, AllocError> {
+    let (Some(resource), Some(depth)) = (resource_at(verified.flat(), path), verified.depth(path))
+    else {
+        return Ok(None);
+    };
+    let arrivals = arrivals_of(alloc, verified, resource)?;
+    let (largest, all) = largest_and_all(&arrivals);
+    let wanted = largest.saturating_mul(u64::from(times)).min(all);
+    Ok(Some(wanted.min(DEEPEST).max(depth)))
 }
 
 // The path of an arrival within its resource.

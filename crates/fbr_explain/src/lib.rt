@@ -45,6 +45,7 @@ mod wired;
 mod wrapped;
 
 pub use again::certificate_again;
+pub use beside::depth_with_room;
 pub use bounds::tell_bounds;
 pub use fb_check;
 pub use meaning::{Meaning, found_limit, meaning_of};

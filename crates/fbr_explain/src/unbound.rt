@@ -3,12 +3,14 @@
 use crate::again::flat_again;
 use crate::inner::tell_inner;
 use crate::meaning::{found_limit, meaning_of};
+use crate::put::put;
 use crate::seen::block_in;
 use crate::spotted::{Named, tell_spot};
 use crate::told::tell_meaning;
 use crate::walk::tell_walk;
 use fb_find_ranges::tables;
 use fb_find_rows::NoBound;
+use fb_find_search::search;
 use fb_flat::{Flat, Leaf};
 use fb_ranges::Ranges;
 use fb_tree::FileTree;
@@ -135,6 +137,25 @@ fn tell_in_flat<W: Write>(
     }
 }
 
+// Writes whether there are other ranges under which all is clear.
+fn tell_search<W: Write>(alloc: Global, typed: &Typed, output: &mut W) -> io::Result<()> {
+    match search(alloc, typed, None) {
+        Ok(certificate) => {
+            certificate.let_go();
+            put(
+                "There is a certificate with narrower ranges: `fbr bound APP --search` finds it.\n",
+                output,
+            )
+        }
+        Err(NoBound::NoRange(_)) => put(
+            "Narrower ranges were looked for, and under none of them it is clear: let a test of the plain variable against a number stand right before it (LANGUAGE.md has a table of spellings).\n",
+            output,
+        ),
+        Err(NoBound::OutOfMemory) => Err(io::Error::from(io::ErrorKind::OutOfMemory)),
+        Err(_) => Ok(()),
+    }
+}
+
 /// Writes why there is no certificate of a system, where that stands in the application's text, what it says and what to do.
 pub fn tell_no_bound<W: Write>(
     alloc: Global,
@@ -150,6 +171,10 @@ pub fn tell_no_bound<W: Write>(
     }
     match fault {
         NoBound::Limit(_) => tell_meaning(Some(found_limit()), output),
+        NoBound::NoRange(_) => {
+            tell_meaning(meaning_of(fault.code()), output)?;
+            tell_search(alloc, typed, output)
+        }
         _ => tell_meaning(meaning_of(fault.code()), output),
     }
 }
