@@ -6,8 +6,9 @@ _fbr() {
         return
     fi
     case $command in
-        bound | explain) options="--repeats --help" ;;
-        draw) options="--repeats --flat --chart --help" ;;
+        bound) options="--repeats --output --help" ;;
+        explain) options="--repeats --strict --help" ;;
+        draw) options="--repeats --flat --chart --output --help" ;;
         serve) options="--bind --turns --boot --help" ;;
         check | sim) options="--help" ;;
         help) mapfile -t COMPREPLY < <(compgen -W "bound check sim explain draw serve help" -- "$word") && return ;;

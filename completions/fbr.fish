@@ -9,6 +9,8 @@ complete -c fbr -n __fish_use_subcommand -f -a help -d 'tells the words of a com
 complete -c fbr -s h -l help -d 'tells the words'
 complete -c fbr -n __fish_use_subcommand -s V -l version -d 'tells the version'
 complete -c fbr -n '__fish_seen_subcommand_from bound explain draw' -x -l repeats -d 'how often a datagram is delivered to a device, 1 to 255'
+complete -c fbr -n '__fish_seen_subcommand_from bound draw' -l output -s o -r -d 'writes into this file'
+complete -c fbr -n '__fish_seen_subcommand_from explain' -l strict -d 'ends with status 1 where there are notes'
 complete -c fbr -n '__fish_seen_subcommand_from draw' -l flat -d 'draws composites without boxes'
 complete -c fbr -n '__fish_seen_subcommand_from draw' -x -l chart -d 'draws the chart of this basic block type'
 complete -c fbr -n '__fish_seen_subcommand_from serve' -x -l bind -d 'the port that it receives at'
