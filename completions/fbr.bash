@@ -6,7 +6,7 @@ _fbr() {
         return
     fi
     case $command in
-        bound) options="--repeats --output --help" ;;
+        bound) options="--repeats --search --ranges --room --output --help" ;;
         explain) options="--repeats --strict --help" ;;
         draw) options="--repeats --flat --chart --output --help" ;;
         serve) options="--bind --turns --boot --help" ;;
