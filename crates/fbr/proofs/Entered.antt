@@ -42,9 +42,12 @@ apart one two own other f g e x y h k =
 pub memory_usage : {E : Type 0} (old new : Option (List ℕ)) (r : Result ℕ E) → IfOk r (λ status. Tells (refusal Memory) old new status) → IfOk r (λ status. TellsUsage old new status)
 memory_usage old new r h = IfOk-weaker r _ _ (λ s k. inr k) h
 
-abbrev pub unwrap_or_nil : Option Text → Text
-unwrap_or_nil None = []
-unwrap_or_nil (Some x) = x
+abbrev or_first : {X : Type 0} → X → Option X → X
+or_first x None = x
+or_first x (Some y) = y
+
+pub same_inside : {X : Type 0} (x y : X) → Some x ≡ Some y → x ≡ y
+same_inside x y h = ap (or_first x) h
 
 abbrev pub unwrap_or_nils : Option (Text × Text) → Text × Text
 unwrap_or_nils None = ([], [])

@@ -12,7 +12,7 @@ use Rattle.clap.specs.declared.error.kind.ErrorKind.TheVariants.{OutOfMemory, Di
 use Rattle.clap.proofs.OnLiterals.{clap_on_literals}
 use Rattle.fbr.specs.declared.fault.Fault.TheVariants.{Memory}
 use Rattle.fbr.specs.Outcomes.{Tells, TellsFiles, refusal}
-use Rattle.fbr.specs.Program.{program, IsBound, IsUncounted, IsCheck, IsSim, IsMisuse}
+use Rattle.fbr.specs.Program.{program, IsBound, IsBoundInto, IsUncounted, IsCheck, IsSim, IsMisuse}
 use Rattle.fbr.proofs.Told.{tells_files}
 use Rattle.fbr.proofs.Verdicts.{files_memory}
 
@@ -72,17 +72,22 @@ or_three (Err x) n P e h = inr e
 -- such words ask for a certificate of this file
 is_bound : IsBound (codes "fbr" ∷ codes "bound" ∷ codes "cell.fb" ∷ []) None (codes "cell.fb")
 unfolding clap_on_literals
-is_bound = record { taken = refl; file_is = refl; repeats_are = refl }
+is_bound = record { taken = refl; asked = refl }
 
 -- and such for one with steps over the network
 is_far : IsBound (codes "fbr" ∷ codes "bound" ∷ codes "cell.fb" ∷ codes "--repeats" ∷ codes "2" ∷ []) (Some 2) (codes "cell.fb")
 unfolding clap_on_literals
-is_far = record { taken = refl; file_is = refl; repeats_are = refl }
+is_far = record { taken = refl; asked = refl }
+
+-- and such for one in a file
+is_into : IsBoundInto (codes "fbr" ∷ codes "bound" ∷ codes "cell.fb" ∷ codes "-o" ∷ codes "cell.cert" ∷ []) None (codes "cell.fb") (codes "cell.cert")
+unfolding clap_on_literals
+is_into = record { taken = refl; asked = refl }
 
 -- a number above 255 is none that counts
-is_uncounted : IsUncounted (codes "fbr" ∷ codes "bound" ∷ codes "cell.fb" ∷ codes "--repeats" ∷ codes "256" ∷ []) (codes "cell.fb")
+is_uncounted : IsUncounted (codes "fbr" ∷ codes "bound" ∷ codes "cell.fb" ∷ codes "--repeats" ∷ codes "256" ∷ [])
 unfolding clap_on_literals
-is_uncounted = record { taken = refl; file_is = refl; none = refl }
+is_uncounted = record { taken = refl; none = refl }
 
 -- such words are a check of these files
 is_taken : IsCheck (codes "fbr" ∷ codes "check" ∷ codes "cell.fb" ∷ codes "cell.cert" ∷ []) (codes "cell.fb") (codes "cell.cert")

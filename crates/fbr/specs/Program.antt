@@ -23,9 +23,13 @@ over_files name = with_rule (over_file name) (file (codes "CERT"))
 abbrev pub repeats : Rule
 repeats = record (new_rule (codes "repeats")) { long = Some (codes "repeats"); action = Some Set; value_names = 1 }
 
--- `bound`, its file, and how often datagrams are delivered
+-- `-o` or `--output`, and the name of a file
+abbrev pub output : Rule
+output = record (new_rule (codes "output")) { long = Some (codes "output"); short = Some 111; action = Some Set; value_names = 1 }
+
+-- `bound`, its file, how often datagrams are delivered, and the file that is written
 abbrev pub bound : App
-bound = with_rule (over_file (codes "bound")) repeats
+bound = with_rule (with_rule (over_file (codes "bound")) repeats) output
 
 -- `check` and its two files
 abbrev pub check : App
@@ -39,9 +43,13 @@ sim = over_files (codes "sim")
 abbrev pub maybe_file : Text → Rule
 maybe_file id = new_rule id
 
--- `explain`, its file or number, perhaps another file, and how often datagrams are delivered
+-- `--strict`
+abbrev pub strict : Rule
+strict = record (new_rule (codes "strict")) { long = Some (codes "strict"); action = Some SetTrue }
+
+-- `explain`, its file or number, perhaps another file, how often datagrams are delivered, and `--strict`
 abbrev pub explain : App
-explain = with_rule (with_rule (over_file (codes "explain")) (maybe_file (codes "CERT"))) repeats
+explain = with_rule (with_rule (with_rule (over_file (codes "explain")) (maybe_file (codes "CERT"))) repeats) strict
 
 -- `--flat`
 abbrev pub flat : Rule
@@ -51,9 +59,9 @@ flat = record (new_rule (codes "flat")) { long = Some (codes "flat"); action = S
 abbrev pub chart : Rule
 chart = record (new_rule (codes "chart")) { long = Some (codes "chart"); action = Some Set; value_names = 1 }
 
--- `draw`, its file, perhaps another one, how often datagrams are delivered, `--flat`, and the block type whose chart is drawn
+-- `draw`, its file, perhaps another one, how often datagrams are delivered, `--flat`, the block type whose chart is drawn, and the file that is written
 abbrev pub draw : App
-draw = with_rule (with_rule (with_rule (with_rule (over_file (codes "draw")) (maybe_file (codes "CERT"))) repeats) flat) chart
+draw = with_rule (with_rule (with_rule (with_rule (with_rule (over_file (codes "draw")) (maybe_file (codes "CERT"))) repeats) flat) chart) output
 
 -- an option that takes a number
 abbrev pub number : Text → Rule
@@ -85,14 +93,6 @@ abbrev pub both : Option Text → Option Text → Option (Text × Text)
 both (Some one) (Some two) = Some (one, two)
 both one two = None
 
--- the file of a subcommand, where it has this name
-abbrev pub file_in : Text → Text × List Row → Option Text
-file_in name entered = if bytes_eq entered.0 name then first_of (codes "APP") entered.1 else None
-
--- the file that the words name to a subcommand of this name
-abbrev pub file_of : Text → List Text → Option Text
-file_of name words = option_and_then (file_in name) (subcommand_of program words)
-
 -- a number of 1 to 255
 abbrev pub small_in : Option ℕ → Option ℕ
 small_in None = None
@@ -107,9 +107,41 @@ repeats_in (Some word) = elim (small_in (number_in word)) [ None ↦ None | Some
 abbrev pub repeats_of : Text × List Row → Option (Option ℕ)
 repeats_of entered = repeats_in (first_of (codes "repeats") entered.1)
 
--- what the words say of it
-abbrev pub asked_of : List Text → Option (Option ℕ)
-asked_of words = option_and_then repeats_of (subcommand_of program words)
+-- the file that is written: none where no word names one, or where it is `-`
+abbrev pub into_in : Option Text → Option Text
+into_in None = None
+into_in (Some name) = if bytes_eq name (codes "-") then None else Some name
+
+-- the same of a subcommand
+abbrev pub into_of : Text × List Row → Option Text
+into_of entered = into_in (first_of (codes "output") entered.1)
+
+-- ---- what `bound` is asked for
+
+-- a certificate of this file, perhaps with steps over the network, and the file that is written where there is one
+pub record Sought : Type 0 where
+  pub app : Text
+  pub repeats : Option ℕ
+  pub into : Option Text
+
+-- all of it, where nothing is missing
+abbrev pub sought_with : Option Text → Option (Option ℕ) → Option Text → Option Sought
+sought_with (Some app) (Some often) into = Some (record { app = app; repeats = often; into = into })
+sought_with app often into = None
+
+-- what the words of `bound` ask for; nothing where a number is none
+abbrev pub sought_in : List Row → Option Sought
+sought_in rows = sought_with (first_of (codes "APP") rows) (repeats_in (first_of (codes "repeats") rows)) (into_in (first_of (codes "output") rows))
+
+-- the same of a subcommand, where it is `bound`
+abbrev pub bound_in : Text × List Row → Option (Option Sought)
+bound_in entered = if bytes_eq entered.0 (codes "bound") then Some (sought_in entered.1) else None
+
+-- what the words ask `bound` for
+abbrev pub bound_of : List Text → Option (Option Sought)
+bound_of words = option_and_then bound_in (subcommand_of program words)
+
+-- ---- what `check` and `sim` are asked for
 
 -- the files of a subcommand, where it has this name
 abbrev pub files_in : Text → Text × List Row → Option (Text × Text)
@@ -180,17 +212,20 @@ serve_of words = option_and_then serve_in (subcommand_of program words)
 
 -- ---- what the words are
 
--- the words ask for a certificate of this file, perhaps with steps over the network
+-- the words ask for a certificate of this file, perhaps with steps over the network, on standard output
 pub record IsBound (words : List Text) (repeats : Option ℕ) (app : Text) : Type 0 where
   pub taken : fault_of program words ≡ []
-  pub file_is : file_of (codes "bound") words ≡ Some app
-  pub repeats_are : asked_of words ≡ Some repeats
+  pub asked : bound_of words ≡ Some (Some (record { app = app; repeats = repeats; into = None }))
+
+-- the same in a file of this name
+pub record IsBoundInto (words : List Text) (repeats : Option ℕ) (app name : Text) : Type 0 where
+  pub taken : fault_of program words ≡ []
+  pub asked : bound_of words ≡ Some (Some (record { app = app; repeats = repeats; into = Some name }))
 
 -- they ask for one where datagrams are delivered as often as no number of 1 to 255 says
-pub record IsUncounted (words : List Text) (app : Text) : Type 0 where
+pub record IsUncounted (words : List Text) : Type 0 where
   pub taken : fault_of program words ≡ []
-  pub file_is : file_of (codes "bound") words ≡ Some app
-  pub none : asked_of words ≡ None
+  pub none : bound_of words ≡ Some None
 
 -- the words are a check of these two files
 pub record IsCheck (words : List Text) (app cert : Text) : Type 0 where
@@ -217,3 +252,7 @@ pub record IsMisuse (words : List Text) : Type 0 where
   pub fault : fault_of program words ≢ []
   pub no_help : IsAmong DisplayHelp (fault_of program words) → ⊥
   pub no_version : IsAmong DisplayVersion (fault_of program words) → ⊥
+
+-- no file is written
+abbrev pub IsToldOnly : List Text → Type 0
+IsToldOnly words = option_and_then into_of (subcommand_of program words) ≡ None

@@ -7,13 +7,16 @@ ghost use Rattle.fb_types.specs.Views.{system_of};
 ghost use Rattle.fb_find_laws.specs.Finding.{IsFound};
 ghost use Rattle.fb_cert.specs.Views.{rows_of, certificate_of};
 ghost use Rattle.fb_cert.specs.Printed.{printed};
-ghost use Rattle.fbr.specs.Bounding.{IsTextFor, IsUnbound, IsBoundText, IsBoundFault, TellsBound};
+ghost use Rattle.fbr.specs.Outcomes.{Tells, refusal};
+ghost use Rattle.fbr.specs.Bounding.{IsTextFor, IsUnbound, IsBoundText, IsBoundFault, IsTextOver, IsFaultOver, TellsBound, WritesBound};
 ghost use Rattle.fbr.specs.declared.fault.Fault.TheVariants.{Memory};
 
 use crate::check::{print_outcome, read_text};
 use crate::fault::Fault;
 use crate::hint::{Given, hint};
+use crate::into::write_into;
 use crate::sources::Sources;
+use crate::wanted::Wanted;
 use fb_cert::{Certificate, print_cert};
 use fb_find::find;
 use fb_find_rows::NoBound;
@@ -99,35 +102,76 @@ fn print_text<W: Write>(text: &str, output: &mut W) -> io::Result<u8>
     Ok(0)
 }
 
-/// Finds a certificate of the application in a file, and writes its text, or why there is none, and nothing else; on `errors` people are told of a fault.
-pub fn bound_file<'a, S: Sources, W: Write, E: Write>(
+// The text of the certificate that is found of the application in a file.
+fn text_over<'a, S: Sources>(
     alloc: Global,
     files: &S,
     app: &'a str,
     repeats: Option<u8>,
+) -> Result<String, Fault<'a>>
+    requires { IfSome repeats (λ r. 1 ≤ r) }
+    ensures { MatchResult result (λ text. IsTextOver repeats (S.contents files.now app.now) (string_bytes text)) (IsFaultOver repeats app.now (S.contents files.now app.now)) }
+{
+    match read_text(alloc, files, app) {
+        Ok(text) => bound_text(alloc, text.as_str(), repeats),
+        Err(fault) => Err(fault),
+    }
+}
+
+// Tells why there is no certificate, and people too.
+fn tell_fault<'a, S: Sources, W: Write, E: Write>(
+    alloc: Global,
+    files: &S,
+    wanted: Wanted<'a>,
+    fault: Fault<'a>,
     output: &mut W,
     errors: &mut E,
 ) -> io::Result<u8>
-    requires { IfSome repeats (λ r. 1 ≤ r) }
-    ensures told { IfOk result (λ status. TellsBound repeats app.now (S.contents files.now app.now) (W.contents output.old) (W.contents output.new) status) }
+    ensures told { IfOk result (λ status. Tells (refusal fault.entry) (W.contents output.old) (W.contents output.new) status) }
     ensures status { IfOk result (λ status. status ≤ 4) }
 {
     let given = Given {
-        app,
+        app: wanted.app,
         cert: None,
-        repeats,
+        repeats: wanted.repeats,
     };
-    match read_text(alloc, files, app) {
-        Ok(text) => match bound_text(alloc, text.as_str(), repeats) {
-            Ok(found) => print_text(found.as_str(), output),
-            Err(fault) => {
-                hint(alloc, files, &fault, given, errors);
-                print_outcome(Err(fault), output)
-            }
-        },
-        Err(fault) => {
-            hint(alloc, files, &fault, given, errors);
-            print_outcome(Err(fault), output)
-        }
+    hint(alloc, files, &fault, given, errors);
+    print_outcome(Err(fault), output)
+}
+
+/// Finds a certificate of the application in a file, and writes its text, or why there is none, and nothing else; on `errors` people are told of a fault.
+pub fn bound_file<'a, S: Sources, W: Write, E: Write>(
+    alloc: Global,
+    files: &S,
+    wanted: Wanted<'a>,
+    output: &mut W,
+    errors: &mut E,
+) -> io::Result<u8>
+    requires { IfSome wanted.repeats (λ r. 1 ≤ r) }
+    ensures told { IfOk result (λ status. TellsBound wanted.entry.repeats wanted.entry.app.now (S.contents files.now wanted.entry.app.now) (W.contents output.old) (W.contents output.new) status) }
+    ensures status { IfOk result (λ status. status ≤ 4) }
+{
+    match text_over(alloc, files, wanted.app, wanted.repeats) {
+        Ok(found) => print_text(found.as_str(), output),
+        Err(fault) => tell_fault(alloc, files, wanted, fault, output, errors),
+    }
+}
+
+/// The same with a file for the text: it is written where there is a certificate, and then nothing is told.
+pub fn bound_into<'a, S: Sources, W: Write, E: Write>(
+    alloc: Global,
+    files: &mut S,
+    wanted: Wanted<'a>,
+    name: &'a str,
+    output: &mut W,
+    errors: &mut E,
+) -> io::Result<u8>
+    requires { IfSome wanted.repeats (λ r. 1 ≤ r) }
+    ensures written { IfOk result (λ status. WritesBound wanted.entry.repeats wanted.entry.app.now name.now (S.contents files.old) (S.contents files.new) (W.contents output.old) (W.contents output.new) status) }
+    ensures status { IfOk result (λ status. status ≤ 4) }
+{
+    match text_over(alloc, files, wanted.app, wanted.repeats) {
+        Ok(found) => write_into(files, name, found.as_bytes(), output, errors),
+        Err(fault) => tell_fault(alloc, files, wanted, fault, output, errors),
     }
 }

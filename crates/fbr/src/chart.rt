@@ -79,12 +79,12 @@ fn hint_type<E: Write>(alloc: Global, app: &str, text: &str, name: &str, errors:
 pub fn hint_chart<S: Sources, E: Write>(
     alloc: Global,
     files: &S,
-    app: Option<&str>,
+    app: &str,
     name: Option<&str>,
-    told: &io::Result<u8>,
+    status: u8,
     errors: &mut E,
 ) {
-    let (Some(app), Some(name), Ok(2)) = (app, name, told) else {
+    let (Some(name), 2) = (name, status) else {
         return;
     };
     if let Ok(text) = read_text(alloc, files, app) {

@@ -4,8 +4,11 @@
 ghost use Rattle.std.specs.Prelude.{◌≤◌, IfOk, IfSome};
 
 use crate::bound::{found_for, typed_in};
+use crate::chart::hint_chart;
 use crate::check::{print_outcome, read_text};
 use crate::fault::Fault;
+use crate::hint::hint_drawing;
+use crate::into::write_into;
 use crate::sources::Sources;
 use fb_cert::{Certificate, parse_cert};
 use fb_find_rows::NoBound;
@@ -19,7 +22,7 @@ use std::io;
 use std::io::Write;
 
 /// What is drawn of a system, which a file of this name has: the weights of a certificate in this file, or else of the one that is found, or the walk for which
-/// there is none; whether composites are boxes; and the block type whose chart is drawn, where it is one.
+/// there is none; whether composites are boxes; the block type whose chart is drawn, where it is one; and the file that is written, where one is named.
 #[derive(Clone, Copy)]
 pub struct Drawing<'a> {
     pub name: &'a str,
@@ -27,6 +30,7 @@ pub struct Drawing<'a> {
     pub repeats: Option<u8>,
     pub boxes: bool,
     pub chart: Option<&'a str>,
+    pub into: Option<&'a str>,
 }
 
 // A system that is drawn, with its text.
@@ -176,23 +180,45 @@ fn draw_named<'a, S: Sources, W: Write>(
     }
 }
 
+// Hands out a graph, or why there is none.
+fn give_page<'a, S: Sources, W: Write, E: Write>(
+    files: &mut S,
+    into: Option<&'a str>,
+    page: &[u8],
+    status: u8,
+    output: &mut W,
+    errors: &mut E,
+) -> io::Result<u8>
+    requires { status ≤ 4 }
+    ensures status { IfOk result (λ status. status ≤ 4) }
+{
+    match into {
+        Some(name) if status == 0 => write_into(files, name, page, output, errors),
+        _ => {
+            output.write_all(page)?;
+            Ok(status)
+        }
+    }
+}
+
 /// Writes the system of the application in a file as a graph in DOT, with its bounds, or the chart of a block type; or the fault of a text, or of the words where
-/// there is no such type. Where memory runs out, that and nothing else.
-pub fn draw_file<'a, S: Sources, W: Write>(
+/// there is no such type, and people are told why. Where memory runs out, that and nothing else. A file that is named for it gets the graph, and nothing else.
+pub fn draw_file<'a, S: Sources, W: Write, E: Write>(
     alloc: Global,
-    files: &S,
-    app: &'a str,
+    files: &mut S,
     drawing: Drawing<'a>,
     output: &mut W,
+    errors: &mut E,
 ) -> io::Result<u8>
     requires { IfSome drawing.repeats (λ r. 1 ≤ r) }
     ensures status { IfOk result (λ status. status ≤ 4) }
 {
     let mut page = Vec::new(alloc);
-    match draw_named(alloc, files, app, drawing, &mut page) {
+    match draw_named(alloc, files, drawing.name, drawing, &mut page) {
         Ok(status) => {
-            output.write_all(&page)?;
-            Ok(status)
+            hint_drawing(alloc, files, drawing.name, status, errors);
+            hint_chart(alloc, files, drawing.name, drawing.chart, status, errors);
+            give_page(files, drawing.into, &page, status, output, errors)
         }
         // A write into memory fails for want of it.
         Err(_) => print_outcome(Err(Fault::Memory), output),

@@ -8,6 +8,7 @@ use crate::check::{print_outcome, read_text};
 use crate::fault::Fault;
 use crate::sim::verified_texts;
 use crate::sources::Sources;
+use crate::stray::stray_in;
 use fb_cert::Certificate;
 use fb_find_rows::NoBound;
 use fb_script::read_number;
@@ -20,6 +21,16 @@ use fbr_explain::{
 use std::alloc::{AllocError, Global};
 use std::io;
 use std::io::Write;
+
+/// What is asked: the number of a refusal or a denial, or else the file of an application; the file of a certificate, where one is named; how often datagrams
+/// are delivered, where that is said; and whether notes count in the status.
+#[derive(Clone, Copy)]
+pub struct Question<'a> {
+    pub what: &'a str,
+    pub cert: Option<&'a str>,
+    pub repeats: Option<u8>,
+    pub is_strict: bool,
+}
 
 // Writes what a number says. One that no refusal and no denial has is a fault of the words.
 fn explain_number<W: Write>(number: u16, output: &mut W) -> io::Result<u8>
@@ -39,6 +50,25 @@ fn explain_fault<W: Write>(fault: Fault<'_>, output: &mut W) -> io::Result<u8>
     ensures status { IfOk result (λ status. status ≤ 4) }
 {
     writeln!(output, "{fault}")?;
+    tell_meaning(meaning_of(fault.code()), output)?;
+    Ok(fault.status())
+}
+
+// The same of a file that was not read: where it is no UTF-8, its first byte that is not.
+fn explain_unread<'a, S: Sources, W: Write>(
+    alloc: Global,
+    files: &S,
+    fault: Fault<'a>,
+    output: &mut W,
+) -> io::Result<u8>
+    ensures status { IfOk result (λ status. status ≤ 4) }
+{
+    let said = stray_in(alloc, files, &fault);
+    writeln!(output, "{fault}")?;
+    if let Some(said) = said {
+        output.write_all(said.as_bytes())?;
+        output.write_all(b"\n")?;
+    }
     tell_meaning(meaning_of(fault.code()), output)?;
     Ok(fault.status())
 }
@@ -160,11 +190,12 @@ fn explain_unbound<W: Write>(
     Ok(Fault::Unbound(reason).status())
 }
 
-// Writes the line of an acceptance, the bounds of what fits, and notes on the application's text.
+// Writes the line of an acceptance, the bounds of what fits, and notes on the application's text, which count where one is strict.
 fn explain_bounds<W: Write>(
     alloc: Global,
     verified: Verified,
     app: Named<'_>,
+    is_strict: bool,
     output: &mut W,
 ) -> io::Result<u8>
     ensures status { IfOk result (λ status. status ≤ 4) }
@@ -172,8 +203,7 @@ fn explain_bounds<W: Write>(
     writeln!(output, "accepted")?;
     let told = tell_bounds(alloc, &verified, app, output);
     verified.let_go();
-    told?;
-    Ok(0)
+    Ok(if told? && is_strict { 1 } else { 0 })
 }
 
 // Explains a verdict over two texts.
@@ -182,12 +212,13 @@ fn explain_verdict<W: Write>(
     verdict: Result<Verified, Fault<'_>>,
     app: Named<'_>,
     cert: Named<'_>,
+    is_strict: bool,
     output: &mut W,
 ) -> io::Result<u8>
     ensures status { IfOk result (λ status. status ≤ 4) }
 {
     match verdict {
-        Ok(verified) => explain_bounds(alloc, verified, app, output),
+        Ok(verified) => explain_bounds(alloc, verified, app, is_strict, output),
         Err(Fault::Refused(refusal)) => explain_refusal(alloc, refusal, app, cert, output),
         Err(fault) => explain_fault(fault, output),
     }
@@ -210,17 +241,17 @@ fn verified_with<'a>(
 fn explain_system<W: Write>(
     alloc: Global,
     typed: Typed,
-    repeats: Option<u8>,
+    question: Question<'_>,
     app: Named<'_>,
     output: &mut W,
 ) -> io::Result<u8>
-    requires { IfSome repeats (λ r. 1 ≤ r) }
+    requires { IfSome question.repeats (λ r. 1 ≤ r) }
     ensures status { IfOk result (λ status. status ≤ 4) }
 {
-    match found_for(alloc, &typed, repeats) {
+    match found_for(alloc, &typed, question.repeats) {
         Ok(certificate) => {
             let verdict = verified_with(alloc, typed, certificate);
-            explain_verdict(alloc, verdict, app, app, output)
+            explain_verdict(alloc, verdict, app, app, question.is_strict, output)
         }
         Err(Fault::Unbound(reason)) => {
             let explained = explain_unbound(alloc, reason, &typed, app, output);
@@ -237,16 +268,16 @@ fn explain_system<W: Write>(
 // Explains an application's text by itself.
 fn explain_alone<W: Write>(
     alloc: Global,
-    repeats: Option<u8>,
+    question: Question<'_>,
     app: Named<'_>,
     output: &mut W,
 ) -> io::Result<u8>
-    requires { IfSome repeats (λ r. 1 ≤ r) }
+    requires { IfSome question.repeats (λ r. 1 ≤ r) }
     ensures status { IfOk result (λ status. status ≤ 4) }
 {
     match typed_in(alloc, app.text) {
-        Ok(typed) => explain_system(alloc, typed, repeats, app, output),
-        Err(fault) => explain_verdict(alloc, Err(fault), app, app, output),
+        Ok(typed) => explain_system(alloc, typed, question, app, output),
+        Err(fault) => explain_verdict(alloc, Err(fault), app, app, false, output),
     }
 }
 
@@ -256,6 +287,7 @@ fn explain_both<'a, S: Sources, W: Write>(
     files: &S,
     app: Named<'a>,
     name: &'a str,
+    is_strict: bool,
     output: &mut W,
 ) -> io::Result<u8>
     ensures status { IfOk result (λ status. status ≤ 4) }
@@ -267,9 +299,9 @@ fn explain_both<'a, S: Sources, W: Write>(
                 name,
                 text: text.as_str(),
             };
-            explain_verdict(alloc, verdict, app, cert, output)
+            explain_verdict(alloc, verdict, app, cert, is_strict, output)
         }
-        Err(fault) => explain_fault(fault, output),
+        Err(fault) => explain_unread(alloc, files, fault, output),
     }
 }
 
@@ -277,26 +309,24 @@ fn explain_both<'a, S: Sources, W: Write>(
 fn explain_files<'a, S: Sources, W: Write>(
     alloc: Global,
     files: &S,
-    name: &'a str,
-    cert: Option<&'a str>,
-    repeats: Option<u8>,
+    question: Question<'a>,
     output: &mut W,
 ) -> io::Result<u8>
-    requires { IfSome repeats (λ r. 1 ≤ r) }
+    requires { IfSome question.repeats (λ r. 1 ≤ r) }
     ensures status { IfOk result (λ status. status ≤ 4) }
 {
-    match read_text(alloc, files, name) {
+    match read_text(alloc, files, question.what) {
         Ok(text) => {
             let app = Named {
-                name,
+                name: question.what,
                 text: text.as_str(),
             };
-            match cert {
-                Some(cert) => explain_both(alloc, files, app, cert, output),
-                None => explain_alone(alloc, repeats, app, output),
+            match question.cert {
+                Some(cert) => explain_both(alloc, files, app, cert, question.is_strict, output),
+                None => explain_alone(alloc, question, app, output),
             }
         }
-        Err(fault) => explain_fault(fault, output),
+        Err(fault) => explain_unread(alloc, files, fault, output),
     }
 }
 
@@ -304,16 +334,14 @@ fn explain_files<'a, S: Sources, W: Write>(
 fn explain_whole<'a, S: Sources, W: Write>(
     alloc: Global,
     files: &S,
-    name: &'a str,
-    cert: Option<&'a str>,
-    repeats: Option<u8>,
+    question: Question<'a>,
     output: &mut W,
 ) -> io::Result<u8>
-    requires { IfSome repeats (λ r. 1 ≤ r) }
+    requires { IfSome question.repeats (λ r. 1 ≤ r) }
     ensures status { IfOk result (λ status. status ≤ 4) }
 {
     let mut page = Vec::new(alloc);
-    match explain_files(alloc, files, name, cert, repeats, &mut page) {
+    match explain_files(alloc, files, question, &mut page) {
         Ok(status) => {
             output.write_all(&page)?;
             Ok(status)
@@ -325,20 +353,18 @@ fn explain_whole<'a, S: Sources, W: Write>(
 
 /// Explains the number of a refusal or a denial, or else the verdict over the application in the file of this name: with the certificate of a second
 /// file, or with the one that is found, for `repeats`, 1 or more, over all devices too. The first line is that of `check`, or of `bound` where there is
-/// no certificate, and so is the status.
+/// no certificate, and so is the status; where one is strict, it is 1 too where there are notes.
 pub fn explain<'a, S: Sources, W: Write>(
     alloc: Global,
     files: &S,
-    what: &'a str,
-    cert: Option<&'a str>,
-    repeats: Option<u8>,
+    question: Question<'a>,
     output: &mut W,
 ) -> io::Result<u8>
-    requires { IfSome repeats (λ r. 1 ≤ r) }
+    requires { IfSome question.repeats (λ r. 1 ≤ r) }
     ensures status { IfOk result (λ status. status ≤ 4) }
 {
-    match read_number(what) {
+    match read_number(question.what) {
         Some(number) => explain_number(number, output),
-        None => explain_whole(alloc, files, what, cert, repeats, output),
+        None => explain_whole(alloc, files, question, output),
     }
 }

@@ -7,6 +7,7 @@ use crate::explain::tell_rows;
 use crate::fault::Fault;
 use crate::sim::verified_files;
 use crate::sources::Sources;
+use crate::stray::stray_in;
 use fb_find_rows::NoBound;
 use fbr_explain::fb_check::Refusal;
 use fbr_explain::{Named, found_limit, meaning_of};
@@ -167,7 +168,13 @@ fn tell<S: Sources, E: Write>(
             Some(told) => write_taught(told.as_str(), fault, given, errors),
             None => write_line(fault, given, errors),
         },
-        _ => write_line(fault, given, errors),
+        _ => match stray_in(alloc, files, fault) {
+            Some(said) => {
+                put("fbr: ", errors)?;
+                write_rest(fault, said.as_str(), given, errors)
+            }
+            None => write_line(fault, given, errors),
+        },
     }
 }
 
@@ -267,11 +274,11 @@ fn hint_text<S: Sources, E: Write>(alloc: Global, files: &S, app: &str, errors: 
 pub fn hint_drawing<S: Sources, E: Write>(
     alloc: Global,
     files: &S,
-    app: Option<&str>,
-    told: &io::Result<u8>,
+    app: &str,
+    status: u8,
     errors: &mut E,
 ) {
-    if let (Some(app), Some(_)) = (app, refused(told)) {
+    if status > 0 && status < 4 {
         hint_text(alloc, files, app, errors);
     }
 }

@@ -6,18 +6,25 @@
 mod bound;
 mod chart;
 mod check;
+mod colour;
 mod draw;
 mod explain;
 mod fault;
 mod hint;
+mod into;
+mod piped;
 mod request;
 mod serve;
 mod sim;
 mod sources;
+mod stray;
 mod turns;
+mod wanted;
 mod words;
 
+pub use colour::paint;
 pub use fault::Fault;
+pub use piped::input_named;
 pub use sources::{Disk, ReadFault, Sources};
 pub use turns::{Stop, Sums, serve_on};
 pub use words::command;

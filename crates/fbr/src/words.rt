@@ -5,25 +5,24 @@ ghost use Rattle.clap.specs.Words.{Text, app_of, rule_of, subcommand_rows_of, ro
 ghost use Rattle.clap.specs.Values.{kind_of};
 ghost use Rattle.fbr.specs.Outcomes.{Tells, TellsInput, TellsFiles, TellsUsage, refusal};
 ghost use Rattle.fbr.specs.Simulation.{TellsSim};
-ghost use Rattle.fbr.specs.Bounding.{TellsBound};
-ghost use Rattle.fbr.specs.Program.{IsBound, IsCheck, IsSim, IsMisuse, IsUncounted, IsServe, IsMisnumbered};
+ghost use Rattle.fbr.specs.Bounding.{TellsBound, WritesBound, sought_of};
+ghost use Rattle.fbr.specs.Program.{IsBound, IsBoundInto, IsCheck, IsSim, IsMisuse, IsUncounted, IsServe, IsMisnumbered};
 ghost use Rattle.fbr.specs.Serving.{asked_of, TellsServe};
 ghost use Rattle.fbr.specs.Program as program;
 
-use crate::bound::bound_file;
-use crate::chart::hint_chart;
+use crate::bound::{bound_file, bound_into};
 use crate::check::{check_files, check_input, print_outcome};
 use crate::draw::{Drawing, draw_file};
-use crate::explain::explain;
+use crate::explain::{Question, explain};
 use crate::fault::Fault;
-use crate::hint::{Given, hint_drawing, hint_serve, hint_sim};
+use crate::hint::{Given, hint_serve, hint_sim};
 use crate::request::{Request, request_in};
 use crate::serve::serve_files;
 use crate::sim::sim_files;
 use crate::sources::Sources;
+use crate::wanted::{Wanted, into_in, repeats_in, wanted_in};
 use clap::error::ErrorKind;
 use clap::{Arg, ArgAction, ArgMatches, Command, Error};
-use fb_script::read_number;
 use std::alloc::{AllocError, Global};
 use std::io;
 use std::io::{Read, Write};
@@ -86,12 +85,38 @@ fn repeats<'a>(alloc: Global) -> Arg<'a>
         .help(help)
 }
 
+// The option `-o`.
+fn output<'a>(alloc: Global) -> Arg<'a>
+    ensures rule { rule_of result ≡ program.output }
+    ensures local { result.global ≡ false }
+{
+    Arg::new(alloc, "output")
+        .long("output")
+        .short('o')
+        .action(ArgAction::Set)
+        .value_name("FILE")
+        .help("Writes into this file in place of standard output, where nothing is refused")
+}
+
 // The subcommand that finds certificates.
 fn bound<'a>(alloc: Global) -> Result<Command<'a>, AllocError>
     ensures { IfOk result (λ c. app_of c ≡ program.bound) }
 {
     let about = "Finds a certificate whose numbers are the least, and prints it";
-    over_file(alloc, "bound", about)?.arg(repeats(alloc))
+    over_file(alloc, "bound", about)?
+        .arg(repeats(alloc))?
+        .arg(output(alloc))
+}
+
+// The option `--strict`.
+fn strict<'a>(alloc: Global) -> Arg<'a>
+    ensures rule { rule_of result ≡ program.strict }
+    ensures local { result.global ≡ false }
+{
+    Arg::new(alloc, "strict")
+        .long("strict")
+        .action(ArgAction::SetTrue)
+        .help("Ends with status 1 too where there are notes")
 }
 
 // The subcommand that explains.
@@ -105,7 +130,8 @@ fn explained<'a>(alloc: Global) -> Result<Command<'a>, AllocError>
         .about(about)
         .arg(file(alloc, "APP", help_app))?
         .arg(maybe_file(alloc, "CERT", help_cert))?
-        .arg(repeats(alloc))
+        .arg(repeats(alloc))?
+        .arg(strict(alloc))
 }
 
 // The option `--flat`.
@@ -141,7 +167,8 @@ fn drawn<'a>(alloc: Global) -> Result<Command<'a>, AllocError>
         .arg(maybe_file(alloc, "CERT", help_cert))?
         .arg(repeats(alloc))?
         .arg(flat(alloc))?
-        .arg(chart(alloc))
+        .arg(chart(alloc))?
+        .arg(output(alloc))
 }
 
 // An option that takes a number, which help calls so.
@@ -252,22 +279,6 @@ fn files_in<'a>(words: &ArgMatches<'a>) -> Option<(&'a str, &'a str)>
     both(given(words, "APP"), given(words, "CERT"))
 }
 
-// The file of a subcommand, where it has this name.
-fn file_named<'a>(matches: &ArgMatches<'a>, wanted: &str) -> Option<&'a str>
-    ensures { option_map (λ file. file.now) result ≡ option_and_then (program.file_in wanted.now) (subcommand_rows_of matches.now) }
-{
-    match entered(matches) {
-        Some((name, words)) => {
-            if name == wanted {
-                given(words, "APP")
-            } else {
-                None
-            }
-        }
-        None => None,
-    }
-}
-
 // The two files of a subcommand, where it has this name.
 fn files_named<'a>(matches: &ArgMatches<'a>, wanted: &str) -> Option<(&'a str, &'a str)>
     ensures { option_map (λ files. (files.0.now, files.1.now)) result ≡ option_and_then (program.files_in wanted.now) (subcommand_rows_of matches.now) }
@@ -284,33 +295,24 @@ fn files_named<'a>(matches: &ArgMatches<'a>, wanted: &str) -> Option<(&'a str, &
     }
 }
 
-// A number of 1 to 255.
-fn small(number: Option<u16>) -> Option<u8>
-    ensures value { result ≡ program.small_in number }
-    ensures some { IfSome result (λ n. 1 ≤ n) }
+// What `bound` is asked for, where it is the subcommand; nothing where a number of it is none.
+fn bound_asked<'a>(matches: &ArgMatches<'a>) -> Option<Option<Wanted<'a>>>
+    ensures asked { option_map (λ wanted. option_map sought_of wanted) result ≡ option_and_then program.bound_in (subcommand_rows_of matches.now) }
+    ensures some { IfSome result (λ wanted. IfSome wanted (λ w. IfSome w.repeats (λ n. 1 ≤ n))) }
 {
-    match u8::try_from(number?) {
-        Ok(0) => None,
-        Ok(number) => Some(number),
-        Err(_) => None,
+    match entered(matches) {
+        Some((name, words)) => {
+            if name == "bound" {
+                Some(wanted_in(words))
+            } else {
+                None
+            }
+        }
+        None => None,
     }
 }
 
-// How often datagrams are delivered, where the word says it; nothing where it is no number of 1 to 255.
-fn repeats_in(word: Option<&str>) -> Option<Option<u8>>
-    ensures value { result ≡ program.repeats_in (option_map (λ text. text.now) word.entry) }
-    ensures some { IfSome result (λ r. IfSome r (λ n. 1 ≤ n)) }
-{
-    match word {
-        None => Some(None),
-        Some(word) => match small(read_number(word)) {
-            Some(number) => Some(Some(number)),
-            None => None,
-        },
-    }
-}
-
-// The same of the words of a subcommand.
+// How often datagrams are delivered, where the words of a subcommand say it; nothing where they say no number of 1 to 255.
 fn repeats_given<'a>(matches: &ArgMatches<'a>) -> Option<Option<u8>>
     ensures value { result ≡ option_and_then program.repeats_of (subcommand_rows_of matches.now) }
     ensures some { IfSome result (λ r. IfSome r (λ n. 1 ≤ n)) }
@@ -339,31 +341,35 @@ fn given_two<'a>(app: &'a str, cert: &'a str) -> Given<'a> {
     }
 }
 
-// Finds a certificate, where it is said well how often datagrams are delivered.
-fn run_bound<S: Sources, W: Write, E: Write>(
+// Finds a certificate, where it is said well what is asked for.
+fn run_bound<'a, S: Sources, W: Write, E: Write>(
     alloc: Global,
-    files: &S,
-    app: &str,
-    repeats: Option<Option<u8>>,
+    files: &mut S,
+    wanted: Option<Wanted<'a>>,
     output: &mut W,
     errors: &mut E,
 ) -> io::Result<u8>
-    requires { IfSome repeats (λ r. IfSome r (λ n. 1 ≤ n)) }
-    ensures bounds { (r : Option ℕ) → repeats ≡ Some r → IfOk result (λ status. TellsBound r app.now (S.contents files.now app.now) (W.contents output.old) (W.contents output.new) status) }
-    ensures usage { repeats ≡ None → IfOk result (λ status. TellsUsage (W.contents output.old) (W.contents output.new) status) }
+    requires { IfSome wanted (λ w. IfSome w.repeats (λ n. 1 ≤ n)) }
+    ensures bounds { (r : Option ℕ) (app : Text) → option_map sought_of wanted.entry ≡ Some (record { app = app; repeats = r; into = None })
+        → IfOk result (λ status. TellsBound r app (S.contents files.old app) (W.contents output.old) (W.contents output.new) status) }
+    ensures writes { (r : Option ℕ) (app name : Text) → option_map sought_of wanted.entry ≡ Some (record { app = app; repeats = r; into = Some name })
+        → IfOk result (λ status. WritesBound r app name (S.contents files.old) (S.contents files.new) (W.contents output.old) (W.contents output.new) status) }
+    ensures usage { option_map sought_of wanted.entry ≡ None → IfOk result (λ status. TellsUsage (W.contents output.old) (W.contents output.new) status) }
     ensures status { IfOk result (λ status. status ≤ 4) }
 {
-    match repeats {
-        Some(repeats) => bound_file(alloc, files, app, repeats, output, errors),
+    match wanted {
+        Some(wanted) => match wanted.into {
+            Some(name) => bound_into(alloc, files, wanted, name, output, errors),
+            None => bound_file(alloc, files, wanted, output, errors),
+        },
         None => misused(UNCOUNTED, output, errors),
     }
 }
 
-// Explains or draws what the words of a subcommand name.
-fn run_telling<'a, S: Sources, W: Write>(
+// Explains what the words of a subcommand name.
+fn run_explain<'a, S: Sources, W: Write>(
     alloc: Global,
     files: &S,
-    name: &str,
     words: &ArgMatches<'a>,
     repeats: Option<u8>,
     output: &mut W,
@@ -371,29 +377,52 @@ fn run_telling<'a, S: Sources, W: Write>(
     requires { IfSome repeats (λ r. 1 ≤ r) }
     ensures status { IfOk result (λ status. status ≤ 4) }
 {
-    let cert = given(words, "CERT");
     match given(words, "APP") {
-        Some(app) => {
-            if name == "explain" {
-                return explain(alloc, files, app, cert, repeats, output);
-            }
-            let drawing = Drawing {
-                name: app,
-                cert,
+        Some(what) => {
+            let question = Question {
+                what,
+                cert: given(words, "CERT"),
                 repeats,
-                boxes: !words.get_flag("flat"),
-                chart: given(words, "chart"),
+                is_strict: words.get_flag("strict"),
             };
-            draw_file(alloc, files, app, drawing, output)
+            explain(alloc, files, question, output)
         }
         None => print_outcome(Err(Fault::Usage), output),
     }
 }
 
-// The same of all words, where it is said well how often datagrams are delivered.
+// Draws what the words of a subcommand name, and tells people why not.
+fn run_draw<'a, S: Sources, W: Write, E: Write>(
+    alloc: Global,
+    files: &mut S,
+    words: &ArgMatches<'a>,
+    repeats: Option<u8>,
+    output: &mut W,
+    errors: &mut E,
+) -> io::Result<u8>
+    requires { IfSome repeats (λ r. 1 ≤ r) }
+    ensures status { IfOk result (λ status. status ≤ 4) }
+{
+    match given(words, "APP") {
+        Some(app) => {
+            let drawing = Drawing {
+                name: app,
+                cert: given(words, "CERT"),
+                repeats,
+                boxes: !words.get_flag("flat"),
+                chart: given(words, "chart"),
+                into: into_in(words),
+            };
+            draw_file(alloc, files, drawing, output, errors)
+        }
+        None => print_outcome(Err(Fault::Usage), output),
+    }
+}
+
+// Explains or draws, where it is said well how often datagrams are delivered.
 fn run_told<'a, S: Sources, W: Write, E: Write>(
     alloc: Global,
-    files: &S,
+    files: &mut S,
     matches: &ArgMatches<'a>,
     output: &mut W,
     errors: &mut E,
@@ -402,19 +431,11 @@ fn run_told<'a, S: Sources, W: Write, E: Write>(
 {
     match (entered(matches), repeats_given(matches)) {
         (Some((name, words)), Some(repeats)) => {
-            let told = run_telling(alloc, files, name, words, repeats, output);
             if name == "draw" {
-                hint_drawing(alloc, files, given(words, "APP"), &told, errors);
-                hint_chart(
-                    alloc,
-                    files,
-                    given(words, "APP"),
-                    given(words, "chart"),
-                    &told,
-                    errors,
-                );
+                run_draw(alloc, files, words, repeats, output, errors)
+            } else {
+                run_explain(alloc, files, words, repeats, output)
             }
-            told
         }
         _ => misused(UNCOUNTED, output, errors),
     }
@@ -465,13 +486,13 @@ fn serve_asked<'a>(matches: &ArgMatches<'a>) -> Option<Option<Request<'a>>>
 fn run_rest<'a, R: Clock + Net, S: Sources, W: Write, E: Write>(
     rt: &R,
     alloc: Global,
-    files: &S,
+    files: &mut S,
     matches: &ArgMatches<'a>,
     output: &mut W,
     errors: &mut E,
 ) -> io::Result<u8>
     ensures serves { (q : program.Asked) → option_and_then program.serve_in (subcommand_rows_of matches.now) ≡ Some (Some q)
-        → IfOk result (λ status. TellsServe q (S.contents files.now q.app) (S.contents files.now q.cert) (W.contents output.old) (W.contents output.new) status) }
+        → IfOk result (λ status. TellsServe q (S.contents files.old q.app) (S.contents files.old q.cert) (W.contents output.old) (W.contents output.new) status) }
     ensures misnumbered { option_and_then program.serve_in (subcommand_rows_of matches.now) ≡ Some None
         → IfOk result (λ status. TellsUsage (W.contents output.old) (W.contents output.new) status) }
     ensures status { IfOk result (λ status. status ≤ 4) }
@@ -506,23 +527,25 @@ fn run_words<R: Clock + Net, S: Sources, I: Read, W: Write, E: Write>(
     rt: &R,
     alloc: Global,
     words: &[&str],
-    files: &S,
+    files: &mut S,
     input: &mut I,
     output: &mut W,
     errors: &mut E,
 ) -> io::Result<u8>
     ensures bounds { (repeats : Option ℕ) (app : Text) → IsBound (map (λ word. word.now) words.now) repeats app
-        → IfOk result (λ status. TellsBound repeats app (S.contents files.now app) (W.contents output.old) (W.contents output.new) status) }
+        → IfOk result (λ status. TellsBound repeats app (S.contents files.old app) (W.contents output.old) (W.contents output.new) status) }
+    ensures writes { (repeats : Option ℕ) (app name : Text) → IsBoundInto (map (λ word. word.now) words.now) repeats app name
+        → IfOk result (λ status. WritesBound repeats app name (S.contents files.old) (S.contents files.new) (W.contents output.old) (W.contents output.new) status) }
     ensures checks { (app cert : Text) → IsCheck (map (λ word. word.now) words.now) app cert
-        → IfOk result (λ status. TellsFiles app cert (S.contents files.now app) (S.contents files.now cert) (W.contents output.old) (W.contents output.new) status) }
+        → IfOk result (λ status. TellsFiles app cert (S.contents files.old app) (S.contents files.old cert) (W.contents output.old) (W.contents output.new) status) }
     ensures sims { (app cert : Text) → IsSim (map (λ word. word.now) words.now) app cert
-        → IfOk result (λ status. TellsSim app cert (S.contents files.now app) (S.contents files.now cert) (I.remaining input.old) (W.contents output.old) (W.contents output.new) status) }
+        → IfOk result (λ status. TellsSim app cert (S.contents files.old app) (S.contents files.old cert) (I.remaining input.old) (W.contents output.old) (W.contents output.new) status) }
     ensures usage { IsMisuse (map (λ word. word.now) words.now)
         → IfOk result (λ status. TellsUsage (W.contents output.old) (W.contents output.new) status) }
-    ensures uncounted { (app : Text) → IsUncounted (map (λ word. word.now) words.now) app
+    ensures uncounted { IsUncounted (map (λ word. word.now) words.now)
         → IfOk result (λ status. TellsUsage (W.contents output.old) (W.contents output.new) status) }
     ensures serves { (q : program.Asked) → IsServe (map (λ word. word.now) words.now) q
-        → IfOk result (λ status. TellsServe q (S.contents files.now q.app) (S.contents files.now q.cert) (W.contents output.old) (W.contents output.new) status) }
+        → IfOk result (λ status. TellsServe q (S.contents files.old q.app) (S.contents files.old q.cert) (W.contents output.old) (W.contents output.new) status) }
     ensures misnumbered { IsMisnumbered (map (λ word. word.now) words.now)
         → IfOk result (λ status. TellsUsage (W.contents output.old) (W.contents output.new) status) }
     ensures status { IfOk result (λ status. status ≤ 4) }
@@ -535,8 +558,8 @@ fn run_words<R: Clock + Net, S: Sources, I: Read, W: Write, E: Write>(
         Ok(matches) => matches,
         Err(error) => return refused(&error, output, errors),
     };
-    if let Some(app) = file_named(&matches, "bound") {
-        return run_bound(alloc, files, app, repeats_given(&matches), output, errors);
+    if let Some(wanted) = bound_asked(&matches) {
+        return run_bound(alloc, files, wanted, output, errors);
     }
     match files_named(&matches, "check") {
         Some((app, cert)) => check_files(alloc, files, app, cert, output, errors),
@@ -562,7 +585,7 @@ fn run_words<R: Clock + Net, S: Sources, I: Read, W: Write, E: Write>(
 pub fn command<R: AllocGlobal + Clock + Net, S: Sources, I: Read, W: Write, E: Write>(
     rt: &R,
     words: &[&str],
-    files: &S,
+    files: &mut S,
     input: &mut I,
     output: &mut W,
     errors: &mut E,
@@ -572,22 +595,25 @@ pub fn command<R: AllocGlobal + Clock + Net, S: Sources, I: Read, W: Write, E: W
     ensures input { length words.now < 2 → TellsInput (I.remaining input.old) (W.contents output.old) (W.contents output.new) result ⊎ (result ≡ 3) }
     // with those that ask for a certificate the text of one that is found, perhaps with steps over the network, or why there is none,
     ensures bounds { (repeats : Option ℕ) (app : Text) → 2 ≤ length words.now → IsBound (map (λ word. word.now) words.now) repeats app
-        → TellsBound repeats app (S.contents files.now app) (W.contents output.old) (W.contents output.new) result ⊎ (result ≡ 3) }
+        → TellsBound repeats app (S.contents files.old app) (W.contents output.old) (W.contents output.new) result ⊎ (result ≡ 3) }
+    // with those that name a file for it that file alone, which gets the text of one that is found, or keeps what it held where there is none,
+    ensures writes { (repeats : Option ℕ) (app name : Text) → 2 ≤ length words.now → IsBoundInto (map (λ word. word.now) words.now) repeats app name
+        → WritesBound repeats app name (S.contents files.old) (S.contents files.new) (W.contents output.old) (W.contents output.new) result ⊎ (result ≡ 3) }
     // with the words of a check that of the two files that they name,
     ensures checks { (app cert : Text) → 2 ≤ length words.now → IsCheck (map (λ word. word.now) words.now) app cert
-        → TellsFiles app cert (S.contents files.now app) (S.contents files.now cert) (W.contents output.old) (W.contents output.new) result ⊎ (result ≡ 3) }
+        → TellsFiles app cert (S.contents files.old app) (S.contents files.old cert) (W.contents output.old) (W.contents output.new) result ⊎ (result ≡ 3) }
     // with those of a simulation the verdict over their two files, or what the script on `input` does on a device,
     ensures sims { (app cert : Text) → 2 ≤ length words.now → IsSim (map (λ word. word.now) words.now) app cert
-        → TellsSim app cert (S.contents files.now app) (S.contents files.now cert) (I.remaining input.old) (W.contents output.old) (W.contents output.new) result ⊎ (result ≡ 3) }
+        → TellsSim app cert (S.contents files.old app) (S.contents files.old cert) (I.remaining input.old) (W.contents output.old) (W.contents output.new) result ⊎ (result ≡ 3) }
     // and that they are at fault where they are no words of the program, and ask for neither help nor the version,
     ensures usage { 2 ≤ length words.now → IsMisuse (map (λ word. word.now) words.now)
         → TellsUsage (W.contents output.old) (W.contents output.new) result ⊎ (result ≡ 3) }
     // or where the number behind `--repeats` is none of 1 to 255;
-    ensures uncounted { (app : Text) → 2 ≤ length words.now → IsUncounted (map (λ word. word.now) words.now) app
+    ensures uncounted { 2 ≤ length words.now → IsUncounted (map (λ word. word.now) words.now)
         → TellsUsage (W.contents output.old) (W.contents output.new) result ⊎ (result ≡ 3) }
     // with those that ask for turns of a device why there are none, or what these turns write, and their sums,
     ensures serves { (q : program.Asked) → 2 ≤ length words.now → IsServe (map (λ word. word.now) words.now) q
-        → TellsServe q (S.contents files.now q.app) (S.contents files.now q.cert) (W.contents output.old) (W.contents output.new) result ⊎ (result ≡ 3) }
+        → TellsServe q (S.contents files.old q.app) (S.contents files.old q.cert) (W.contents output.old) (W.contents output.new) result ⊎ (result ≡ 3) }
     // or that the words are at fault where a number or a port there is none, or there are more than 64 peers.
     ensures misnumbered { 2 ≤ length words.now → IsMisnumbered (map (λ word. word.now) words.now)
         → TellsUsage (W.contents output.old) (W.contents output.new) result ⊎ (result ≡ 3) }

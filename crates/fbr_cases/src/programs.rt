@@ -1,6 +1,6 @@
 //! What the program prints.
 
-use fbr::{ReadFault, Sources, command};
+use fbr::{ReadFault, Sources, command, input_named, paint};
 use fbr_cases_language::{Case, ended};
 use std::alloc::{AllocError, Global};
 use std::io;
@@ -21,10 +21,13 @@ fn bytes(alloc: Global, case: &Case<'_>, text: &str) -> Result<Vec<u8>, AllocErr
     Ok(bytes)
 }
 
-// The files of a case: a section `file NAME` each.
+// The files of a case: a section `file NAME` each, and what standard input holds where words name it; and what is written. Those in the folder `locked` are not.
 #[derive(Drop)]
 struct Held<'c, 'a> {
+    alloc: Global,
     case: &'c Case<'a>,
+    input: Result<Vec<u8>, ReadFault>,
+    written: Vec<u8>,
 }
 
 impl Sources for Held<'_, '_> {
@@ -33,12 +36,28 @@ impl Sources for Held<'_, '_> {
     ghost contents = { λ _ _. None };
 
     fn read(&self, alloc: Global, name: &str) -> Result<Vec<u8>, ReadFault> {
+        if name == "-" {
+            return match &self.input {
+                Ok(bytes) => bytes.clone().map_err(|_| ReadFault::Memory),
+                Err(fault) => Err(*fault),
+            };
+        }
         for section in self.case.sections.iter().rev() {
             if section.name.strip_prefix("file ") == Some(name) {
                 return bytes(alloc, self.case, section.text).map_err(|_| ReadFault::Memory);
             }
         }
         Err(ReadFault::Unreadable)
+    }
+
+    fn write(&mut self, name: &str, text: &[u8]) -> io::Result<()> {
+        if name.starts_with("locked/") {
+            return Err(io::Error::from(io::ErrorKind::PermissionDenied));
+        }
+        let line = format!(in self.alloc; "in the file {name}:\n")?;
+        self.written.extend_from_slice(line.as_bytes())?;
+        self.written.extend_from_slice(text)?;
+        Ok(())
     }
 }
 
@@ -65,7 +84,17 @@ impl io::Write for Output {
     }
 }
 
-/// The status of a command and what it prints, on standard error behind what it prints on standard output: its words stand in the section `words`, its standard input in `input`, its files in
+// What people see of bytes, in colour where a section `terminal` is there.
+fn shown(alloc: Global, case: &Case<'_>, told: &[u8]) -> Result<String, AllocError> {
+    if case.text("terminal").is_empty() {
+        return String::from_utf8_lossy(alloc, told);
+    }
+    let mut painted = Vec::new(alloc);
+    let _ = paint(told, &mut painted);
+    String::from_utf8_lossy(alloc, painted.as_slice())
+}
+
+/// The status of a command and what it prints, the files that it writes behind what it prints on standard output, and standard error behind that: its words stand in the section `words`, its standard input in `input`, its files in
 /// a section `file NAME` each, and in `room`, where it is given, how many bytes its output takes before it fails.
 pub fn commands<R: AllocGlobal + Clock + Net>(
     rt: &R,
@@ -82,22 +111,29 @@ pub fn commands<R: AllocGlobal + Clock + Net>(
         room: case.text("room").parse::<usize>().unwrap_or(usize::MAX),
     };
     let input = bytes(alloc, case, case.text("input"))?;
-    let files = Held { case };
+    let mut input = input.as_slice();
+    let mut files = Held {
+        alloc,
+        case,
+        input: input_named(alloc, words.as_slice(), &mut input),
+        written: Vec::new(alloc),
+    };
     let mut errors: Vec<u8> = Vec::new(alloc);
     let status = command(
         rt,
         words.as_slice(),
-        &files,
-        &mut input.as_slice(),
+        &mut files,
+        &mut input,
         &mut output,
         &mut errors,
     );
-    let text = String::from_utf8_lossy(alloc, output.bytes.as_slice())?;
-    let told = String::from_utf8_lossy(alloc, errors.as_slice())?;
+    let text = shown(alloc, case, output.bytes.as_slice())?;
+    let written = String::from_utf8_lossy(alloc, files.written.as_slice())?;
+    let told = shown(alloc, case, errors.as_slice())?;
     let mark = if told.is_empty() {
         ""
     } else {
         "on standard error:\n"
     };
-    Ok(ended(format!(in alloc; "status {status}\n{text}{mark}{told}")?))
+    Ok(ended(format!(in alloc; "status {status}\n{text}{written}{mark}{told}")?))
 }

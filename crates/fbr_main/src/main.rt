@@ -5,8 +5,9 @@
 ghost use Rattle.std.specs.Prelude.{◌≡◌, ◌≤◌, IfOk, MatchResult};
 ghost use Rattle.std.specs.Process.{exit_status};
 
-use fbr::{Disk, command};
+use fbr::{Disk, command, input_named, paint};
 use std::alloc::AllocError;
+use std::env::VarError;
 use std::io;
 use std::io::{BufWriter, ErrorKind, IsTerminal, Write};
 use std::process::ExitCode;
@@ -51,7 +52,7 @@ fn outcome(status: u8, flushed: io::Result<()>) -> u8
 fn tell_failure(rt: &HostRuntime, status: u8) -> io::Result<()> {
     if status == 3 {
         let why =
-            "fbr: a file could not be read, a port could not be used, or the output failed; `fbr --help` lists the commands";
+            "fbr: a file could not be read or written, a port could not be used, or the output failed; `fbr --help` lists the commands";
         eprintln!(rt; "{why}")?;
     }
     Ok(())
@@ -77,6 +78,44 @@ fn words_of(rt: &HostRuntime) -> io::Result<Vec<String>> {
     }
 }
 
+// Whether what goes to a terminal has colour: it has not where NO_COLOR is set, or that cannot be known.
+fn is_coloured(rt: &HostRuntime) -> bool {
+    match std::env::var(rt, "NO_COLOR") {
+        Ok(text) => text.is_empty(),
+        Err(VarError::NotPresent) => true,
+        Err(_) => false,
+    }
+}
+
+// Writes what is told to people.
+fn tell<W: Write>(told: &[u8], is_coloured: bool, output: &mut W) -> io::Result<()> {
+    if is_coloured {
+        paint(told, output)
+    } else {
+        output.write_all(told)
+    }
+}
+
+// Runs a command that explains at a terminal, and gives the lines that it writes a colour.
+fn explain_in_colour<W: Write>(
+    rt: &HostRuntime,
+    words: &[&str],
+    files: &mut Disk<'_, HostRuntime>,
+    output: &mut W,
+    errors: &mut Vec<u8>,
+) -> u8
+    ensures { result ≤ 4 }
+{
+    let mut page = Vec::new(rt.alloc());
+    let status = command(rt, words, files, &mut rt.reader(), &mut page, errors);
+    outcome(status, paint(&page, output))
+}
+
+// Whether the words ask for an explanation.
+fn is_explained(words: &[&str]) -> bool {
+    matches!(words.get(1).copied(), Some("explain"))
+}
+
 // Runs the command of the process's words, over its files, its standard input, its standard output, and its standard error for people.
 fn status(rt: &HostRuntime) -> io::Result<u8>
     ensures { IfOk result (λ status. status ≤ 4) }
@@ -89,17 +128,22 @@ fn status(rt: &HostRuntime) -> io::Result<u8>
     }
     tell_waiting(rt, texts.as_slice()).unwrap_or(());
     let mut input = rt.reader();
-    let mut output = BufWriter::new(rt.alloc(), io::writer(rt))?;
-    let mut errors = rt.stderr();
-    let status = command(
+    let mut files = Disk {
         rt,
-        texts.as_slice(),
-        &Disk { rt },
-        &mut input,
-        &mut output,
-        &mut errors,
-    );
+        input: input_named(alloc, texts.as_slice(), &mut input),
+    };
+    let mut output = BufWriter::new(rt.alloc(), io::writer(rt))?;
+    let mut errors = Vec::new(alloc);
+    let words = texts.as_slice();
+    let is_coloured = is_coloured(rt);
+    let status = if is_explained(words) && is_coloured && rt.stdout().is_terminal() {
+        explain_in_colour(rt, words, &mut files, &mut output, &mut errors)
+    } else {
+        command(rt, words, &mut files, &mut input, &mut output, &mut errors)
+    };
     let status = outcome(status, output.flush());
+    let mut people = rt.stderr();
+    tell(&errors, is_coloured && people.is_terminal(), &mut people).unwrap_or(());
     tell_failure(rt, status).unwrap_or(());
     Ok(status)
 }

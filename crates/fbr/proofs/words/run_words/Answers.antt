@@ -1,16 +1,17 @@
 use Rattle.std.proofs.Common.{codes, ◌≡◌, ◌∙◌, refl, sym, ap, subst, map, List, None, Some, IfOk}
 use Rattle.std.specs.Prelude.{option_map, option_and_then}
 use Rattle.clap.specs.Words.{Text, HasKind, app_of, fault_of, first_of, subcommand_of}
-use Rattle.fbr.specs.Program.{program, file_of, file_in, files_of, files_in, both, repeats_of, Asked, asked_in, serve_in}
+use Rattle.fbr.specs.Program.{program, bound_of, bound_in, sought_in, files_of, files_in, both, Asked, asked_in, serve_in}
 use Rattle.fbr.specs.Outcomes.{TellsFiles}
 use Rattle.fbr.specs.Simulation.{TellsSim}
 use Rattle.fbr.specs.Bounding.{TellsBound}
 use Rattle.fbr.specs.Serving.{TellsServe}
-use Rattle.fbr.proofs.Entered.{rows_taken, apart, memory_usage, unwrap_or_nil, unwrap_or_nils, no_some}
+use Rattle.fbr.proofs.Entered.{rows_taken, apart, memory_usage, same_inside, unwrap_or_nils, no_some}
 use Rattle.fbr.proofs.Taken.{free_app, taken_memory, no_help, no_version, no_misuse, memory_told}
 use Rattle.fbr.specs.declared.fault.Fault.TheVariants.{Memory}
 use Rattle.fbr.proofs.Simulated as simulated
-use Rattle.fbr.proofs.Bounded.{unread_told}
+use Rattle.fbr.specs.Bounding.{sought_of}
+use Rattle.fbr.proofs.Bounded.{unread_told, into_memory}
 use Rattle.fbr.proofs.Loaded.{memory_served}
 use Rattle.fbr.proofs.words.run_words.Goals as goal
 
@@ -65,6 +66,10 @@ pub returns-in-Err-clause-bounds : goal.returns-in-Err-clause-bounds
 returns-in-Err-clause-bounds g c = λ repeats app is.
     unread_told repeats app Memory (g.S.Sources.contents c.args.files.now app) (g.W.Write.contents c.args.output.now) (g.W.Write.contents c.print_outcome.new.output) c.print_outcome.result tt c.print_outcome.ensures.told
 
+pub returns-in-Err-clause-writes : goal.returns-in-Err-clause-writes
+returns-in-Err-clause-writes g c = λ repeats app name is.
+    into_memory repeats app name (g.S.Sources.contents c.args.files.now) (g.W.Write.contents c.args.output.now) (g.W.Write.contents c.print_outcome.new.output) c.print_outcome.result c.print_outcome.ensures.told
+
 pub returns-in-Err-try_get_matches_from-clause-bounds : goal.returns-in-Err-try_get_matches_from-clause-bounds
 returns-in-Err-try_get_matches_from-clause-bounds g c = λ repeats app is.
     let words : List Text = map (λ word. word.now) c.args.words.now in
@@ -72,6 +77,15 @@ returns-in-Err-try_get_matches_from-clause-bounds g c = λ repeats app is.
     let program_is : app_of c.in-Ok.command ≡ program = c.in-Ok.ensures in
     let kinds : HasKind (fault_of program words) error = subst (λ a. HasKind (fault_of a words) error) program_is (c.in-Err-try_get_matches_from.ensures.kinds (free_app _ program_is)) in
     unread_told repeats app Memory (g.S.Sources.contents c.args.files.now app) (g.W.Write.contents c.args.output.now) (g.W.Write.contents c.refused.new.output) c.refused.result tt
+    (c.refused.ensures.memory (taken_memory words is.taken error kinds))
+
+pub returns-in-Err-try_get_matches_from-clause-writes : goal.returns-in-Err-try_get_matches_from-clause-writes
+returns-in-Err-try_get_matches_from-clause-writes g c = λ repeats app name is.
+    let words : List Text = map (λ word. word.now) c.args.words.now in
+    let error = c.in-Err-try_get_matches_from.error in
+    let program_is : app_of c.in-Ok.command ≡ program = c.in-Ok.ensures in
+    let kinds : HasKind (fault_of program words) error = subst (λ a. HasKind (fault_of a words) error) program_is (c.in-Err-try_get_matches_from.ensures.kinds (free_app _ program_is)) in
+    into_memory repeats app name (g.S.Sources.contents c.args.files.now) (g.W.Write.contents c.args.output.now) (g.W.Write.contents c.refused.new.output) c.refused.result
     (c.refused.ensures.memory (taken_memory words is.taken error kinds))
 
 pub returns-in-Some-files_named-2-clause-usage : goal.returns-in-Some-files_named-2-clause-usage
@@ -87,7 +101,7 @@ returns-clause-usage g c = λ is.
     absurd (no_misuse words _ program_is (c.in-Ok-try_get_matches_from.ensures.kinds (free_app _ program_is)) is)
 
 pub returns-in-Err-try_get_matches_from-clause-uncounted : goal.returns-in-Err-try_get_matches_from-clause-uncounted
-returns-in-Err-try_get_matches_from-clause-uncounted g c = λ app is.
+returns-in-Err-try_get_matches_from-clause-uncounted g c = λ is.
     let words : List Text = map (λ word. word.now) c.args.words.now in
     let program_is : app_of c.in-Ok.command ≡ program = c.in-Ok.ensures in
     let error = c.in-Err-try_get_matches_from.error in
@@ -99,33 +113,40 @@ returns-in-Some-clause-bounds g c = λ repeats app is.
     let words : List Text = map (λ word. word.now) c.args.words.now in
     let program_is : app_of c.in-Ok.command ≡ program = c.in-Ok.ensures in
     let rows = rows_taken _ program_is words c.in-Ok-try_get_matches_from.matches c.in-Ok-try_get_matches_from.ensures.matches in
-    let here : Some c.in-Some.app.now ≡ file_of (codes "bound") words = c.in-Some.ensures ∙ ap (option_and_then (file_in (codes "bound"))) rows in
-    let same : c.in-Some.app.now ≡ app = ap (unwrap_or_nil) (here ∙ is.file_is) in
-    let asked = c.repeats_given.ensures.value ∙ ap (option_and_then repeats_of) rows ∙ is.repeats_are in
-    subst (λ (a : Text). IfOk c.run_bound.result (λ status. TellsBound repeats a (g.S.Sources.contents c.args.files.now a) (g.W.Write.contents c.args.output.now) (g.W.Write.contents c.run_bound.new.output) status)) same (c.run_bound.ensures.bounds repeats asked)
+    let here : Some (option_map sought_of c.in-Some.wanted) ≡ bound_of words = c.in-Some.ensures.asked ∙ ap (option_and_then bound_in) rows in
+    c.run_bound.ensures.bounds repeats app (same_inside _ _ (here ∙ is.asked))
+
+pub returns-in-Some-clause-writes : goal.returns-in-Some-clause-writes
+returns-in-Some-clause-writes g c = λ repeats app name is.
+    let words : List Text = map (λ word. word.now) c.args.words.now in
+    let program_is : app_of c.in-Ok.command ≡ program = c.in-Ok.ensures in
+    let rows = rows_taken _ program_is words c.in-Ok-try_get_matches_from.matches c.in-Ok-try_get_matches_from.ensures.matches in
+    let here : Some (option_map sought_of c.in-Some.wanted) ≡ bound_of words = c.in-Some.ensures.asked ∙ ap (option_and_then bound_in) rows in
+    c.run_bound.ensures.writes repeats app name (same_inside _ _ (here ∙ is.asked))
 
 pub returns-in-Some-clause-checks : goal.returns-in-Some-clause-checks
 returns-in-Some-clause-checks g c = λ app cert is.
     let words : List Text = map (λ word. word.now) c.args.words.now in
     let program_is : app_of c.in-Ok.command ≡ program = c.in-Ok.ensures in
     let rows = rows_taken _ program_is words c.in-Ok-try_get_matches_from.matches c.in-Ok-try_get_matches_from.ensures.matches in
-    let here : Some c.in-Some.app.now ≡ file_of (codes "bound") words = c.in-Some.ensures ∙ ap (option_and_then (file_in (codes "bound"))) rows in
-    absurd (apart (codes "bound") (codes "check") refl refl (first_of (codes "APP")) (λ r. both (first_of (codes "APP") r) (first_of (codes "CERT") r)) (subcommand_of program words) _ _ (sym here) is.files)
+    let here : Some (option_map sought_of c.in-Some.wanted) ≡ bound_of words = c.in-Some.ensures.asked ∙ ap (option_and_then bound_in) rows in
+    absurd (apart (codes "bound") (codes "check") refl refl (λ r. Some (sought_in r)) (λ r. both (first_of (codes "APP") r) (first_of (codes "CERT") r)) (subcommand_of program words) _ _ (sym here) is.files)
 
 pub returns-in-Some-clause-sims : goal.returns-in-Some-clause-sims
 returns-in-Some-clause-sims g c = λ app cert is.
     let words : List Text = map (λ word. word.now) c.args.words.now in
     let program_is : app_of c.in-Ok.command ≡ program = c.in-Ok.ensures in
     let rows = rows_taken _ program_is words c.in-Ok-try_get_matches_from.matches c.in-Ok-try_get_matches_from.ensures.matches in
-    let here : Some c.in-Some.app.now ≡ file_of (codes "bound") words = c.in-Some.ensures ∙ ap (option_and_then (file_in (codes "bound"))) rows in
-    absurd (apart (codes "bound") (codes "sim") refl refl (first_of (codes "APP")) (λ r. both (first_of (codes "APP") r) (first_of (codes "CERT") r)) (subcommand_of program words) _ _ (sym here) is.files)
+    let here : Some (option_map sought_of c.in-Some.wanted) ≡ bound_of words = c.in-Some.ensures.asked ∙ ap (option_and_then bound_in) rows in
+    absurd (apart (codes "bound") (codes "sim") refl refl (λ r. Some (sought_in r)) (λ r. both (first_of (codes "APP") r) (first_of (codes "CERT") r)) (subcommand_of program words) _ _ (sym here) is.files)
 
 pub returns-in-Some-clause-uncounted : goal.returns-in-Some-clause-uncounted
-returns-in-Some-clause-uncounted g c = λ app is.
+returns-in-Some-clause-uncounted g c = λ is.
     let words : List Text = map (λ word. word.now) c.args.words.now in
     let program_is : app_of c.in-Ok.command ≡ program = c.in-Ok.ensures in
     let rows = rows_taken _ program_is words c.in-Ok-try_get_matches_from.matches c.in-Ok-try_get_matches_from.ensures.matches in
-    c.run_bound.ensures.usage (c.repeats_given.ensures.value ∙ ap (option_and_then repeats_of) rows ∙ is.none)
+    let here : Some (option_map sought_of c.in-Some.wanted) ≡ bound_of words = c.in-Some.ensures.asked ∙ ap (option_and_then bound_in) rows in
+    c.run_bound.ensures.usage (same_inside _ _ (here ∙ is.none))
 
 pub returns-in-Some-files_named-clause-bounds : goal.returns-in-Some-files_named-clause-bounds
 returns-in-Some-files_named-clause-bounds g c = λ repeats app is.
@@ -133,7 +154,15 @@ returns-in-Some-files_named-clause-bounds g c = λ repeats app is.
     let program_is : app_of c.in-Ok.command ≡ program = c.in-Ok.ensures in
     let rows = rows_taken _ program_is words c.in-Ok-try_get_matches_from.matches c.in-Ok-try_get_matches_from.ensures.matches in
     let here : Some (c.in-Some-files_named.app.now, c.in-Some-files_named.cert.now) ≡ files_of (codes "check") words = c.in-Some-files_named.ensures ∙ ap (option_and_then (files_in (codes "check"))) rows in
-    absurd (apart (codes "check") (codes "bound") refl refl (λ r. both (first_of (codes "APP") r) (first_of (codes "CERT") r)) (first_of (codes "APP")) (subcommand_of program words) _ _ (sym here) is.file_is)
+    absurd (apart (codes "check") (codes "bound") refl refl (λ r. both (first_of (codes "APP") r) (first_of (codes "CERT") r)) (λ r. Some (sought_in r)) (subcommand_of program words) _ _ (sym here) is.asked)
+
+pub returns-in-Some-files_named-clause-writes : goal.returns-in-Some-files_named-clause-writes
+returns-in-Some-files_named-clause-writes g c = λ repeats app name is.
+    let words : List Text = map (λ word. word.now) c.args.words.now in
+    let program_is : app_of c.in-Ok.command ≡ program = c.in-Ok.ensures in
+    let rows = rows_taken _ program_is words c.in-Ok-try_get_matches_from.matches c.in-Ok-try_get_matches_from.ensures.matches in
+    let here : Some (c.in-Some-files_named.app.now, c.in-Some-files_named.cert.now) ≡ files_of (codes "check") words = c.in-Some-files_named.ensures ∙ ap (option_and_then (files_in (codes "check"))) rows in
+    absurd (apart (codes "check") (codes "bound") refl refl (λ r. both (first_of (codes "APP") r) (first_of (codes "CERT") r)) (λ r. Some (sought_in r)) (subcommand_of program words) _ _ (sym here) is.asked)
 
 pub returns-in-Some-files_named-clause-checks : goal.returns-in-Some-files_named-clause-checks
 returns-in-Some-files_named-clause-checks g c = λ app cert is.
@@ -153,12 +182,12 @@ returns-in-Some-files_named-clause-sims g c = λ app cert is.
     absurd (apart (codes "check") (codes "sim") refl refl (λ r. both (first_of (codes "APP") r) (first_of (codes "CERT") r)) (λ r. both (first_of (codes "APP") r) (first_of (codes "CERT") r)) (subcommand_of program words) _ _ (sym here) is.files)
 
 pub returns-in-Some-files_named-clause-uncounted : goal.returns-in-Some-files_named-clause-uncounted
-returns-in-Some-files_named-clause-uncounted g c = λ app is.
+returns-in-Some-files_named-clause-uncounted g c = λ is.
     let words : List Text = map (λ word. word.now) c.args.words.now in
     let program_is : app_of c.in-Ok.command ≡ program = c.in-Ok.ensures in
     let rows = rows_taken _ program_is words c.in-Ok-try_get_matches_from.matches c.in-Ok-try_get_matches_from.ensures.matches in
     let here : Some (c.in-Some-files_named.app.now, c.in-Some-files_named.cert.now) ≡ files_of (codes "check") words = c.in-Some-files_named.ensures ∙ ap (option_and_then (files_in (codes "check"))) rows in
-    absurd (apart (codes "check") (codes "bound") refl refl (λ r. both (first_of (codes "APP") r) (first_of (codes "CERT") r)) (first_of (codes "APP")) (subcommand_of program words) _ _ (sym here) is.file_is)
+    absurd (apart (codes "check") (codes "bound") refl refl (λ r. both (first_of (codes "APP") r) (first_of (codes "CERT") r)) (λ r. Some (sought_in r)) (subcommand_of program words) _ _ (sym here) is.none)
 
 pub returns-in-Some-files_named-2-clause-bounds : goal.returns-in-Some-files_named-2-clause-bounds
 returns-in-Some-files_named-2-clause-bounds g c = λ repeats app is.
@@ -166,7 +195,15 @@ returns-in-Some-files_named-2-clause-bounds g c = λ repeats app is.
     let program_is : app_of c.in-Ok.command ≡ program = c.in-Ok.ensures in
     let rows = rows_taken _ program_is words c.in-Ok-try_get_matches_from.matches c.in-Ok-try_get_matches_from.ensures.matches in
     let here : Some (c.in-Some-files_named-2.app.now, c.in-Some-files_named-2.cert.now) ≡ files_of (codes "sim") words = c.in-Some-files_named-2.ensures ∙ ap (option_and_then (files_in (codes "sim"))) rows in
-    absurd (apart (codes "sim") (codes "bound") refl refl (λ r. both (first_of (codes "APP") r) (first_of (codes "CERT") r)) (first_of (codes "APP")) (subcommand_of program words) _ _ (sym here) is.file_is)
+    absurd (apart (codes "sim") (codes "bound") refl refl (λ r. both (first_of (codes "APP") r) (first_of (codes "CERT") r)) (λ r. Some (sought_in r)) (subcommand_of program words) _ _ (sym here) is.asked)
+
+pub returns-in-Some-files_named-2-clause-writes : goal.returns-in-Some-files_named-2-clause-writes
+returns-in-Some-files_named-2-clause-writes g c = λ repeats app name is.
+    let words : List Text = map (λ word. word.now) c.args.words.now in
+    let program_is : app_of c.in-Ok.command ≡ program = c.in-Ok.ensures in
+    let rows = rows_taken _ program_is words c.in-Ok-try_get_matches_from.matches c.in-Ok-try_get_matches_from.ensures.matches in
+    let here : Some (c.in-Some-files_named-2.app.now, c.in-Some-files_named-2.cert.now) ≡ files_of (codes "sim") words = c.in-Some-files_named-2.ensures ∙ ap (option_and_then (files_in (codes "sim"))) rows in
+    absurd (apart (codes "sim") (codes "bound") refl refl (λ r. both (first_of (codes "APP") r) (first_of (codes "CERT") r)) (λ r. Some (sought_in r)) (subcommand_of program words) _ _ (sym here) is.asked)
 
 pub returns-in-Some-files_named-2-clause-checks : goal.returns-in-Some-files_named-2-clause-checks
 returns-in-Some-files_named-2-clause-checks g c = λ app cert is.
@@ -186,20 +223,28 @@ returns-in-Some-files_named-2-clause-sims g c = λ app cert is.
     subst (λ (p : Text × Text). IfOk c.sim_files-told.result (λ status. TellsSim p.0 p.1 (g.S.Sources.contents c.args.files.now p.0) (g.S.Sources.contents c.args.files.now p.1) (g.I.Read.remaining c.args.input.now) (g.W.Write.contents c.args.output.now) (g.W.Write.contents c.sim_files-told.new.output) status)) same c.sim_files-told.ensures.told
 
 pub returns-in-Some-files_named-2-clause-uncounted : goal.returns-in-Some-files_named-2-clause-uncounted
-returns-in-Some-files_named-2-clause-uncounted g c = λ app is.
+returns-in-Some-files_named-2-clause-uncounted g c = λ is.
     let words : List Text = map (λ word. word.now) c.args.words.now in
     let program_is : app_of c.in-Ok.command ≡ program = c.in-Ok.ensures in
     let rows = rows_taken _ program_is words c.in-Ok-try_get_matches_from.matches c.in-Ok-try_get_matches_from.ensures.matches in
     let here : Some (c.in-Some-files_named-2.app.now, c.in-Some-files_named-2.cert.now) ≡ files_of (codes "sim") words = c.in-Some-files_named-2.ensures ∙ ap (option_and_then (files_in (codes "sim"))) rows in
-    absurd (apart (codes "sim") (codes "bound") refl refl (λ r. both (first_of (codes "APP") r) (first_of (codes "CERT") r)) (first_of (codes "APP")) (subcommand_of program words) _ _ (sym here) is.file_is)
+    absurd (apart (codes "sim") (codes "bound") refl refl (λ r. both (first_of (codes "APP") r) (first_of (codes "CERT") r)) (λ r. Some (sought_in r)) (subcommand_of program words) _ _ (sym here) is.none)
 
 pub returns-clause-bounds : goal.returns-clause-bounds
 returns-clause-bounds g c = λ repeats app is.
     let words : List Text = map (λ word. word.now) c.args.words.now in
     let program_is : app_of c.in-Ok.command ≡ program = c.in-Ok.ensures in
     let rows = rows_taken _ program_is words c.in-Ok-try_get_matches_from.matches c.in-Ok-try_get_matches_from.ensures.matches in
-    let none : None ≡ file_of (codes "bound") words = ap (option_map (λ file. file.now)) (sym c.in_default.is) ∙ c.file_named.ensures ∙ ap (option_and_then (file_in (codes "bound"))) rows in
-    absurd (no_some _ (none ∙ is.file_is))
+    let none : None ≡ bound_of words = ap (option_map (λ wanted. option_map sought_of wanted)) (sym c.in_default.is) ∙ c.bound_asked.ensures.asked ∙ ap (option_and_then bound_in) rows in
+    absurd (no_some _ (none ∙ is.asked))
+
+pub returns-clause-writes : goal.returns-clause-writes
+returns-clause-writes g c = λ repeats app name is.
+    let words : List Text = map (λ word. word.now) c.args.words.now in
+    let program_is : app_of c.in-Ok.command ≡ program = c.in-Ok.ensures in
+    let rows = rows_taken _ program_is words c.in-Ok-try_get_matches_from.matches c.in-Ok-try_get_matches_from.ensures.matches in
+    let none : None ≡ bound_of words = ap (option_map (λ wanted. option_map sought_of wanted)) (sym c.in_default.is) ∙ c.bound_asked.ensures.asked ∙ ap (option_and_then bound_in) rows in
+    absurd (no_some _ (none ∙ is.asked))
 
 pub returns-clause-checks : goal.returns-clause-checks
 returns-clause-checks g c = λ app cert is.
@@ -218,12 +263,12 @@ returns-clause-sims g c = λ app cert is.
     absurd (no_some _ (none ∙ is.files))
 
 pub returns-clause-uncounted : goal.returns-clause-uncounted
-returns-clause-uncounted g c = λ app is.
+returns-clause-uncounted g c = λ is.
     let words : List Text = map (λ word. word.now) c.args.words.now in
     let program_is : app_of c.in-Ok.command ≡ program = c.in-Ok.ensures in
     let rows = rows_taken _ program_is words c.in-Ok-try_get_matches_from.matches c.in-Ok-try_get_matches_from.ensures.matches in
-    let none : None ≡ file_of (codes "bound") words = ap (option_map (λ file. file.now)) (sym c.in_default.is) ∙ c.file_named.ensures ∙ ap (option_and_then (file_in (codes "bound"))) rows in
-    absurd (no_some _ (none ∙ is.file_is))
+    let none : None ≡ bound_of words = ap (option_map (λ wanted. option_map sought_of wanted)) (sym c.in_default.is) ∙ c.bound_asked.ensures.asked ∙ ap (option_and_then bound_in) rows in
+    absurd (no_some _ (none ∙ is.none))
 
 pub returns-in-Err-clause-serves : goal.returns-in-Err-clause-serves
 returns-in-Err-clause-serves g c = λ q is.
@@ -254,16 +299,16 @@ returns-in-Some-clause-serves g c = λ q is.
     let words : List Text = map (λ word. word.now) c.args.words.now in
     let program_is : app_of c.in-Ok.command ≡ program = c.in-Ok.ensures in
     let rows = rows_taken _ program_is words c.in-Ok-try_get_matches_from.matches c.in-Ok-try_get_matches_from.ensures.matches in
-    let here : Some c.in-Some.app.now ≡ file_of (codes "bound") words = c.in-Some.ensures ∙ ap (option_and_then (file_in (codes "bound"))) rows in
-    absurd (apart (codes "bound") (codes "serve") refl refl (first_of (codes "APP")) (λ r. Some (asked_in r)) (subcommand_of program words) _ _ (sym here) is.asked)
+    let here : Some (option_map sought_of c.in-Some.wanted) ≡ bound_of words = c.in-Some.ensures.asked ∙ ap (option_and_then bound_in) rows in
+    absurd (apart (codes "bound") (codes "serve") refl refl (λ r. Some (sought_in r)) (λ r. Some (asked_in r)) (subcommand_of program words) _ _ (sym here) is.asked)
 
 pub returns-in-Some-clause-misnumbered : goal.returns-in-Some-clause-misnumbered
 returns-in-Some-clause-misnumbered g c = λ is.
     let words : List Text = map (λ word. word.now) c.args.words.now in
     let program_is : app_of c.in-Ok.command ≡ program = c.in-Ok.ensures in
     let rows = rows_taken _ program_is words c.in-Ok-try_get_matches_from.matches c.in-Ok-try_get_matches_from.ensures.matches in
-    let here : Some c.in-Some.app.now ≡ file_of (codes "bound") words = c.in-Some.ensures ∙ ap (option_and_then (file_in (codes "bound"))) rows in
-    absurd (apart (codes "bound") (codes "serve") refl refl (first_of (codes "APP")) (λ r. Some (asked_in r)) (subcommand_of program words) _ _ (sym here) is.none)
+    let here : Some (option_map sought_of c.in-Some.wanted) ≡ bound_of words = c.in-Some.ensures.asked ∙ ap (option_and_then bound_in) rows in
+    absurd (apart (codes "bound") (codes "serve") refl refl (λ r. Some (sought_in r)) (λ r. Some (asked_in r)) (subcommand_of program words) _ _ (sym here) is.none)
 
 pub returns-in-Some-files_named-clause-serves : goal.returns-in-Some-files_named-clause-serves
 returns-in-Some-files_named-clause-serves g c = λ q is.

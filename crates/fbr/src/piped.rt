@@ -1,0 +1,41 @@
+//! Standard input as a file, where words name it so.
+
+use crate::check::read_whole;
+use crate::sources::ReadFault;
+use std::alloc::Global;
+use std::io::Read;
+
+// How many words are `-`, but for those that are said of an option.
+fn count_named(words: &[&str]) -> usize {
+    let mut count: usize = 0;
+    let mut is_value = false;
+    for word in words {
+        if *word == "-" && !is_value {
+            count = count.saturating_add(1);
+        }
+        is_value = matches!(*word, "-o" | "--output" | "--repeats" | "--chart");
+    }
+    count
+}
+
+// Whether a file of `bound`, `check`, `explain` or `draw` is named `-`, and only one.
+fn is_named(words: &[&str]) -> bool {
+    match words.get(1).copied() {
+        Some("bound" | "check" | "explain" | "draw") => count_named(words) == 1,
+        _ => false,
+    }
+}
+
+/// What standard input holds, where words name it as a file, `-`, of `bound`, `check`, `explain` or `draw`. No file is named so where there is no such word, or
+/// more than one; and then it is not read.
+pub fn input_named<I: Read>(
+    alloc: Global,
+    words: &[&str],
+    input: &mut I,
+) -> Result<Vec<u8>, ReadFault> {
+    if is_named(words) {
+        read_whole(alloc, input)
+    } else {
+        Err(ReadFault::Unreadable)
+    }
+}

@@ -1,0 +1,27 @@
+//! What people are told of a file that is no UTF-8. It is tested, and no contract says it.
+
+use crate::fault::Fault;
+use crate::sources::Sources;
+use fbr_places::Spot;
+use std::alloc::Global;
+
+// The first byte that is no UTF-8, in one sentence.
+fn stray_byte(alloc: Global, bytes: &[u8]) -> Option<String> {
+    let at = str::from_utf8(bytes).err()?.valid_up_to();
+    let byte = bytes.get(at)?;
+    let before = str::from_utf8(bytes.get(..at)?).ok()?;
+    let spot = Spot::of_byte(before, at)?;
+    let line = spot.line;
+    let column = spot.column;
+    format!(in alloc;
+        "the text is no UTF-8: byte 0x{byte:02X} at line {line}, column {column}"
+    ).ok()
+}
+
+/// The same of the file that a fault is of, where it can be read.
+pub fn stray_in<S: Sources>(alloc: Global, files: &S, fault: &Fault<'_>) -> Option<String> {
+    match fault {
+        Fault::File(name) => stray_byte(alloc, &files.read(alloc, name).ok()?),
+        _ => None,
+    }
+}

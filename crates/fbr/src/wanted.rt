@@ -1,0 +1,74 @@
+//! What the words of `fbr bound` ask for.
+
+ghost use Rattle.std.specs.Prelude.{◌≡◌, ◌≤◌, ℕ, Option, Some, None, option_map, codes, IfSome};
+ghost use Rattle.clap.specs.Words.{rows_of, found_of, first_of};
+ghost use Rattle.fbr.specs.Program as program;
+ghost use Rattle.fbr.specs.Bounding.{sought_of};
+
+use crate::words::given;
+use clap::ArgMatches;
+use fb_script::read_number;
+
+/// A certificate of the application in a file, also of its steps on all devices where it is said how often datagrams are delivered; and the file that it is
+/// written into, where one is named.
+#[derive(Clone, Copy)]
+pub struct Wanted<'a> {
+    pub app: &'a str,
+    pub repeats: Option<u8>,
+    pub into: Option<&'a str>,
+}
+
+// A number of 1 to 255.
+fn small(number: Option<u16>) -> Option<u8>
+    ensures value { result ≡ program.small_in number }
+    ensures some { IfSome result (λ n. 1 ≤ n) }
+{
+    match u8::try_from(number?) {
+        Ok(0) => None,
+        Ok(number) => Some(number),
+        Err(_) => None,
+    }
+}
+
+/// How often datagrams are delivered, where the word says it; nothing where it is no number of 1 to 255.
+pub fn repeats_in(word: Option<&str>) -> Option<Option<u8>>
+    ensures value { result ≡ program.repeats_in (option_map (λ text. text.now) word.entry) }
+    ensures some { IfSome result (λ r. IfSome r (λ n. 1 ≤ n)) }
+{
+    match word {
+        None => Some(None),
+        Some(word) => match small(read_number(word)) {
+            Some(number) => Some(Some(number)),
+            None => None,
+        },
+    }
+}
+
+// The file that a word names, which is not standard output.
+fn file_in<'a>(word: Option<&'a str>) -> Option<&'a str>
+    ensures { option_map (λ name. name.now) result ≡ program.into_in (option_map (λ text. text.now) word.entry) }
+{
+    match word {
+        Some(name) => { if name == "-" { None } else { Some(name) } }
+        None => None,
+    }
+}
+
+/// The file that words name to be written.
+pub fn into_in<'a>(words: &ArgMatches<'a>) -> Option<&'a str>
+    ensures { option_map (λ name. name.now) result ≡ program.into_in (first_of (codes "output") (rows_of (found_of words.now))) }
+{
+    file_in(given(words, "output"))
+}
+
+/// What is asked for; `None` where a number is none.
+pub fn wanted_in<'a>(words: &ArgMatches<'a>) -> Option<Wanted<'a>>
+    ensures asked { option_map sought_of result ≡ program.sought_in (rows_of (found_of words.now)) }
+    ensures some { IfSome result (λ w. IfSome w.repeats (λ n. 1 ≤ n)) }
+{
+    Some(Wanted {
+        app: given(words, "APP")?,
+        repeats: repeats_in(given(words, "repeats"))?,
+        into: into_in(words),
+    })
+}
