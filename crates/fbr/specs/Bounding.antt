@@ -1,5 +1,5 @@
 -- What the finder's command tells: this project's profile.
-use Rattle.std.specs.Prelude.{◌≡◌, ◌⊎◌, ℕ, List, Option, option_map}
+use Rattle.std.specs.Prelude.{◌≡◌, ◌⊎◌, ℕ, List, Option, None, Some, option_map}
 use Rattle.std.specs.Io.KnownBytes.{Appends}
 use Rattle.fb_model.specs.System.{System}
 use Rattle.fb_find.specs.Bounds.{IsNoBound}
@@ -12,12 +12,21 @@ use Rattle.fb_cert.specs.Printed.{printed}
 use Rattle.fbr.specs.declared.fault.Fault.{Fault}
 use Rattle.fbr.specs.declared.fault.Fault.TheVariants.{Memory, Refused, Unbound}
 use Rattle.fbr.specs.Outcomes.{Tells, refusal, IsContents, IsReadFault}
+use Rattle.clap.specs.Words.{Text}
 use Rattle.fbr.specs.Program.{Sought}
+use Rattle.fbr.specs.declared.wanted.Ranges.{Ranges}
+use Rattle.fbr.specs.declared.wanted.Ranges.TheVariants.{Rounds, Searched, Within}
 use Rattle.fbr.specs.declared.wanted.Wanted.{Wanted}
+
+-- which ranges are wanted, as the words say it: the file that is named, or that there is a search
+abbrev pub ranges_of : Ranges → Option (Option Text)
+ranges_of Rounds = None
+ranges_of Searched = Some None
+ranges_of (Within name) = Some (Some name.now)
 
 -- what is wanted, as the words say it
 abbrev pub sought_of : Wanted → Sought
-sought_of w = record { app = w.app.now; repeats = w.repeats; into = option_map (λ name. name.now) w.into }
+sought_of w = record { app = w.app.now; repeats = w.repeats; into = option_map (λ name. name.now) w.into; ranges = ranges_of w.ranges; room = w.room }
 
 -- the text is that of a certificate of the system, which has the least numbers, perhaps with those of the network
 pub record IsTextFor (repeats : Option ℕ) (system : System) (text : List ℕ) : Type 0 where

@@ -6,3 +6,4 @@ pub mod Simulation
 pub mod Bounding
 pub mod Codes
 pub mod Serving
+pub mod Seeking

@@ -1,5 +1,5 @@
 -- The words of the program, in the terms of the crate that reads them.
-use Rattle.std.specs.Prelude.{◌≡◌, ◌≢◌, ℕ, ◌==◌, nat_le, ◌&&◌, List, [], ◌∷◌, length, Option, Some, None, true, codes, option_and_then, if◌then◌else◌}
+use Rattle.std.specs.Prelude.{◌≡◌, ◌≢◌, ℕ, ◌==◌, nat_le, ◌&&◌, Bool, false, List, [], ◌∷◌, length, Option, Some, None, true, codes, option_and_then, if◌then◌else◌}
 use Rattle.std.specs.Str.{bytes_eq}
 use Rattle.clap.specs.Words.{App, Row, Rule, Text, first_of, all_of, new_app, new_rule, with_rule, with_subcommand, subcommand_of, fault_of, IsAmong}
 use Rattle.clap.specs.declared.builder.action.ArgAction.TheVariants.{Set, SetTrue, Append}
@@ -27,9 +27,21 @@ repeats = record (new_rule (codes "repeats")) { long = Some (codes "repeats"); a
 abbrev pub output : Rule
 output = record (new_rule (codes "output")) { long = Some (codes "output"); short = Some 111; action = Some Set; value_names = 1 }
 
--- `bound`, its file, how often datagrams are delivered, and the file that is written
+-- `--ranges` and the name of a file
+abbrev pub ranges : Rule
+ranges = record (new_rule (codes "ranges")) { long = Some (codes "ranges"); action = Some Set; value_names = 1 }
+
+-- `--search`
+abbrev pub search : Rule
+search = record (new_rule (codes "search")) { long = Some (codes "search"); action = Some SetTrue }
+
+-- `--room` and its number
+abbrev pub room : Rule
+room = record (new_rule (codes "room")) { long = Some (codes "room"); action = Some Set; value_names = 1 }
+
+-- `bound`, its file, how often datagrams are delivered, the file that is written, which ranges there are, and how much room
 abbrev pub bound : App
-bound = with_rule (with_rule (over_file (codes "bound")) repeats) output
+bound = with_rule (with_rule (with_rule (with_rule (with_rule (over_file (codes "bound")) repeats) output) ranges) search) room
 
 -- `check` and its two files
 abbrev pub check : App
@@ -118,20 +130,38 @@ into_of entered = into_in (first_of (codes "output") entered.1)
 
 -- ---- what `bound` is asked for
 
--- a certificate of this file, perhaps with steps over the network, and the file that is written where there is one
+-- a certificate of this file, perhaps with steps over the network; the file that is written where there is one; the file whose ranges are kept, or none, where other
+-- ranges may be found than those of the rounds; and how often there is room for the largest arrival, where that is said
 pub record Sought : Type 0 where
   pub app : Text
   pub repeats : Option ℕ
   pub into : Option Text
+  pub ranges : Option (Option Text)
+  pub room : Option ℕ
+
+abbrev pub is_set : Option Text → Bool
+is_set None = false
+is_set (Some word) = bytes_eq word (codes "true")
+
+-- which ranges, by the name of a file, and whether there is to be a search
+abbrev pub ranges_by : Option Text → Bool → Option (Option Text)
+ranges_by (Some name) wish = Some (Some name)
+ranges_by None wish = if wish then Some None else None
 
 -- all of it, where nothing is missing
-abbrev pub sought_with : Option Text → Option (Option ℕ) → Option Text → Option Sought
-sought_with (Some app) (Some often) into = Some (record { app = app; repeats = often; into = into })
-sought_with app often into = None
+abbrev pub sought_with : Option Text → Option (Option ℕ) → Option Text → Option (Option Text) → Option (Option ℕ) → Option Sought
+sought_with (Some app) (Some often) into kept (Some times) = Some (record { app = app; repeats = often; into = into; ranges = kept; room = times })
+sought_with app often into kept times = None
 
 -- what the words of `bound` ask for; nothing where a number is none
 abbrev pub sought_in : List Row → Option Sought
-sought_in rows = sought_with (first_of (codes "APP") rows) (repeats_in (first_of (codes "repeats") rows)) (into_in (first_of (codes "output") rows))
+sought_in rows =
+    sought_with (first_of (codes "APP") rows) (repeats_in (first_of (codes "repeats") rows)) (into_in (first_of (codes "output") rows))
+    (ranges_by (first_of (codes "ranges") rows) (is_set (first_of (codes "search") rows))) (repeats_in (first_of (codes "room") rows))
+
+-- it is the least certificate with the ranges of the rounds
+abbrev pub is_plain : Sought → Bool
+is_plain q = elim q.ranges [ None ↦ elim q.room [ None ↦ true | Some n ↦ false ] | Some r ↦ false ]
 
 -- the same of a subcommand, where it is `bound`
 abbrev pub bound_in : Text × List Row → Option (Option Sought)
@@ -215,14 +245,20 @@ serve_of words = option_and_then serve_in (subcommand_of program words)
 -- the words ask for a certificate of this file, perhaps with steps over the network, on standard output
 pub record IsBound (words : List Text) (repeats : Option ℕ) (app : Text) : Type 0 where
   pub taken : fault_of program words ≡ []
-  pub asked : bound_of words ≡ Some (Some (record { app = app; repeats = repeats; into = None }))
+  pub asked : bound_of words ≡ Some (Some (record { app = app; repeats = repeats; into = None; ranges = None; room = None }))
 
 -- the same in a file of this name
 pub record IsBoundInto (words : List Text) (repeats : Option ℕ) (app name : Text) : Type 0 where
   pub taken : fault_of program words ≡ []
-  pub asked : bound_of words ≡ Some (Some (record { app = app; repeats = repeats; into = Some name }))
+  pub asked : bound_of words ≡ Some (Some (record { app = app; repeats = repeats; into = Some name; ranges = None; room = None }))
 
--- they ask for one where datagrams are delivered as often as no number of 1 to 255 says
+-- they ask for one with other ranges, or with more room
+pub record IsBoundAsked (words : List Text) (q : Sought) : Type 0 where
+  pub taken : fault_of program words ≡ []
+  pub asked : bound_of words ≡ Some (Some q)
+  pub other : is_plain q ≡ false
+
+-- they ask for one where datagrams are delivered, or there is room, as often as no number of 1 to 255 says
 pub record IsUncounted (words : List Text) : Type 0 where
   pub taken : fault_of program words ≡ []
   pub none : bound_of words ≡ Some None

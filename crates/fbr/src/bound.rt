@@ -16,7 +16,7 @@ use crate::fault::Fault;
 use crate::hint::{Given, hint};
 use crate::into::write_into;
 use crate::sources::Sources;
-use crate::wanted::Wanted;
+use crate::wanted::{Ranges, Wanted};
 use fb_cert::{Certificate, print_cert};
 use fb_find::find;
 use fb_find_rows::NoBound;
@@ -53,8 +53,8 @@ pub fn found_for<'a>(
     }
 }
 
-// The text of a certificate.
-fn text_of<'a>(alloc: Global, certificate: &Certificate) -> Result<String, Fault<'a>>
+/// The text of a certificate.
+pub fn text_of<'a>(alloc: Global, certificate: &Certificate) -> Result<String, Fault<'a>>
     ensures { MatchResult result (λ text. string_bytes text ≡ printed (rows_of certificate.now)) (λ f. f ≡ Memory) }
 {
     match print_cert(alloc, certificate) {
@@ -93,8 +93,8 @@ pub fn bound_text<'a>(alloc: Global, app: &str, repeats: Option<u8>) -> Result<S
     }
 }
 
-// Prints a text as it is.
-fn print_text<W: Write>(text: &str, output: &mut W) -> io::Result<u8>
+/// Prints a text as it is.
+pub fn print_text<W: Write>(text: &str, output: &mut W) -> io::Result<u8>
     ensures told { IfOk result (λ status. (status ≡ 0) × Appends (W.contents output.old) (W.contents output.new) text.now) }
     ensures status { IfOk result (λ status. status ≤ 4) }
 {
@@ -118,8 +118,16 @@ fn text_over<'a, S: Sources>(
     }
 }
 
-// Tells why there is no certificate, and people too.
-fn tell_fault<'a, S: Sources, W: Write, E: Write>(
+// The file whose rows are no certificate, where that is the fault.
+fn certificate_at_fault<'a>(fault: &Fault<'_>, ranges: Ranges<'a>) -> Option<&'a str> {
+    match (fault, ranges) {
+        (Fault::Refused(Refusal::Certificate(_)), Ranges::Within(name)) => Some(name),
+        _ => None,
+    }
+}
+
+/// Tells why there is no certificate, and people too.
+pub fn tell_fault<'a, S: Sources, W: Write, E: Write>(
     alloc: Global,
     files: &S,
     wanted: Wanted<'a>,
@@ -132,7 +140,7 @@ fn tell_fault<'a, S: Sources, W: Write, E: Write>(
 {
     let given = Given {
         app: wanted.app,
-        cert: None,
+        cert: certificate_at_fault(&fault, wanted.ranges),
         repeats: wanted.repeats,
     };
     hint(alloc, files, &fault, given, errors);

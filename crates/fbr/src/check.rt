@@ -77,8 +77,8 @@ fn as_text<'a, 'b>(bytes: &'a [u8]) -> Result<&'a str, Fault<'b>>
     }
 }
 
-// The verdict over two texts.
-fn check_texts<'a>(alloc: Global, app: &str, cert: &str) -> Result<(), Fault<'a>>
+/// The verdict over two texts.
+pub fn check_texts<'a>(alloc: Global, app: &str, cert: &str) -> Result<(), Fault<'a>>
     ensures { IsVerdict app.now cert.now result }
 {
     match check_text(alloc, app, cert) {

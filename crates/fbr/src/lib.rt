@@ -14,6 +14,8 @@ mod hint;
 mod into;
 mod piped;
 mod request;
+mod room;
+mod seek;
 mod serve;
 mod sim;
 mod sources;

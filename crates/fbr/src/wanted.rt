@@ -3,11 +3,19 @@
 ghost use Rattle.std.specs.Prelude.{◌≡◌, ◌≤◌, ℕ, Option, Some, None, option_map, codes, IfSome};
 ghost use Rattle.clap.specs.Words.{rows_of, found_of, first_of};
 ghost use Rattle.fbr.specs.Program as program;
-ghost use Rattle.fbr.specs.Bounding.{sought_of};
+ghost use Rattle.fbr.specs.Bounding.{ranges_of, sought_of};
 
 use crate::words::given;
 use clap::ArgMatches;
 use fb_script::read_number;
+
+/// Which ranges a certificate gets: those of the finder's rounds; others where nothing is clear under these; or such as keep the rows RANGE of a file.
+#[derive(Clone, Copy)]
+pub enum Ranges<'a> {
+    Rounds,
+    Searched,
+    Within(&'a str),
+}
 
 /// A certificate of the application in a file, also of its steps on all devices where it is said how often datagrams are delivered; and the file that it is
 /// written into, where one is named.
@@ -16,6 +24,21 @@ pub struct Wanted<'a> {
     pub app: &'a str,
     pub repeats: Option<u8>,
     pub into: Option<&'a str>,
+    pub ranges: Ranges<'a>,
+    /// How often each queue has room for its largest arrival, where that is said.
+    pub room: Option<u8>,
+}
+
+impl Wanted<'_> {
+    /// Whether it is the least certificate with the ranges of the rounds.
+    pub fn is_plain(&self) -> bool
+        ensures { result ≡ program.is_plain (sought_of self.now) }
+    {
+        match (self.ranges, self.room) {
+            (Ranges::Rounds, None) => true,
+            _ => false,
+        }
+    }
 }
 
 // A number of 1 to 255.
@@ -61,6 +84,32 @@ pub fn into_in<'a>(words: &ArgMatches<'a>) -> Option<&'a str>
     file_in(given(words, "output"))
 }
 
+// Whether a flag is given.
+fn is_set(word: Option<&str>) -> bool
+    ensures { result ≡ program.is_set (option_map (λ text. text.now) word.entry) }
+{
+    match word {
+        Some(word) => word == "true",
+        None => false,
+    }
+}
+
+// Which ranges are asked for, by the name of a file, and whether there is to be a search.
+fn ranges_by<'a>(file: Option<&'a str>, is_search: bool) -> Ranges<'a>
+    ensures { ranges_of result ≡ program.ranges_by (option_map (λ text. text.now) file.entry) is_search }
+{
+    match file {
+        Some(name) => Ranges::Within(name),
+        None => {
+            if is_search {
+                Ranges::Searched
+            } else {
+                Ranges::Rounds
+            }
+        }
+    }
+}
+
 /// What is asked for; `None` where a number is none.
 pub fn wanted_in<'a>(words: &ArgMatches<'a>) -> Option<Wanted<'a>>
     ensures asked { option_map sought_of result ≡ program.sought_in (rows_of (found_of words.now)) }
@@ -70,5 +119,7 @@ pub fn wanted_in<'a>(words: &ArgMatches<'a>) -> Option<Wanted<'a>>
         app: given(words, "APP")?,
         repeats: repeats_in(given(words, "repeats"))?,
         into: into_in(words),
+        ranges: ranges_by(given(words, "ranges"), is_set(given(words, "search"))),
+        room: repeats_in(given(words, "room"))?,
     })
 }

@@ -6,7 +6,8 @@ ghost use Rattle.clap.specs.Values.{kind_of};
 ghost use Rattle.fbr.specs.Outcomes.{Tells, TellsInput, TellsFiles, TellsUsage, refusal};
 ghost use Rattle.fbr.specs.Simulation.{TellsSim};
 ghost use Rattle.fbr.specs.Bounding.{TellsBound, WritesBound, sought_of};
-ghost use Rattle.fbr.specs.Program.{IsBound, IsBoundInto, IsCheck, IsSim, IsMisuse, IsUncounted, IsServe, IsMisnumbered};
+ghost use Rattle.fbr.specs.Seeking.{TellsSought};
+ghost use Rattle.fbr.specs.Program.{IsBound, IsBoundInto, IsBoundAsked, IsCheck, IsSim, IsMisuse, IsUncounted, IsServe, IsMisnumbered};
 ghost use Rattle.fbr.specs.Serving.{asked_of, TellsServe};
 ghost use Rattle.fbr.specs.Program as program;
 
@@ -17,6 +18,7 @@ use crate::explain::{Question, explain};
 use crate::fault::Fault;
 use crate::hint::{Given, hint_serve, hint_sim};
 use crate::request::{Request, request_in};
+use crate::seek::bound_asked;
 use crate::serve::serve_files;
 use crate::sim::sim_files;
 use crate::sources::Sources;
@@ -32,8 +34,8 @@ use std::rt::Clock;
 /// The version that `fbr --version` tells.
 pub const VERSION: &str = "0.1.0";
 
-// What people are told where the number behind `--repeats` is none.
-const UNCOUNTED: &str = "fbr: `--repeats` takes a number of 1 to 255";
+// What people are told where the number behind `--repeats` or `--room` is none.
+const UNCOUNTED: &str = "fbr: `--repeats` and `--room` take a number of 1 to 255";
 
 // What people are told where a number of `serve` is none.
 const UNNUMBERED: &str =
@@ -98,6 +100,47 @@ fn output<'a>(alloc: Global) -> Arg<'a>
         .help("Writes into this file in place of standard output, where nothing is refused")
 }
 
+// The option `--ranges`.
+fn ranges<'a>(alloc: Global) -> Arg<'a>
+    ensures rule { rule_of result ≡ program.ranges }
+    ensures local { result.global ≡ false }
+{
+    Arg::new(alloc, "ranges")
+        .long("ranges")
+        .action(ArgAction::Set)
+        .value_name("FILE")
+        .help(
+            "Keeps the rows RANGE of this certificate, and looks for the other ranges as `--search` does",
+        )
+}
+
+// The option `--search`.
+fn search<'a>(alloc: Global) -> Arg<'a>
+    ensures rule { rule_of result ≡ program.search }
+    ensures local { result.global ≡ false }
+{
+    Arg::new(alloc, "search")
+        .long("search")
+        .action(ArgAction::SetTrue)
+        .help(
+            "Tries harder where an index or a divisor is refused with 44: looks for narrower ranges",
+        )
+}
+
+// The option `--room`.
+fn room<'a>(alloc: Global) -> Arg<'a>
+    ensures rule { rule_of result ≡ program.room }
+    ensures local { result.global ≡ false }
+{
+    let help =
+        "Writes each DEPTH as N times the largest arrival, or as all arrivals together where that is less (1 to 255)";
+    Arg::new(alloc, "room")
+        .long("room")
+        .action(ArgAction::Set)
+        .value_name("N")
+        .help(help)
+}
+
 // The subcommand that finds certificates.
 fn bound<'a>(alloc: Global) -> Result<Command<'a>, AllocError>
     ensures { IfOk result (λ c. app_of c ≡ program.bound) }
@@ -105,7 +148,10 @@ fn bound<'a>(alloc: Global) -> Result<Command<'a>, AllocError>
     let about = "Finds a certificate whose numbers are the least, and prints it";
     over_file(alloc, "bound", about)?
         .arg(repeats(alloc))?
-        .arg(output(alloc))
+        .arg(output(alloc))?
+        .arg(ranges(alloc))?
+        .arg(search(alloc))?
+        .arg(room(alloc))
 }
 
 // The option `--strict`.
@@ -296,7 +342,7 @@ fn files_named<'a>(matches: &ArgMatches<'a>, wanted: &str) -> Option<(&'a str, &
 }
 
 // What `bound` is asked for, where it is the subcommand; nothing where a number of it is none.
-fn bound_asked<'a>(matches: &ArgMatches<'a>) -> Option<Option<Wanted<'a>>>
+fn bound_wanted<'a>(matches: &ArgMatches<'a>) -> Option<Option<Wanted<'a>>>
     ensures asked { option_map (λ wanted. option_map sought_of wanted) result ≡ option_and_then program.bound_in (subcommand_rows_of matches.now) }
     ensures some { IfSome result (λ wanted. IfSome wanted (λ w. IfSome w.repeats (λ n. 1 ≤ n))) }
 {
@@ -350,18 +396,25 @@ fn run_bound<'a, S: Sources, W: Write, E: Write>(
     errors: &mut E,
 ) -> io::Result<u8>
     requires { IfSome wanted (λ w. IfSome w.repeats (λ n. 1 ≤ n)) }
-    ensures bounds { (r : Option ℕ) (app : Text) → option_map sought_of wanted.entry ≡ Some (record { app = app; repeats = r; into = None })
+    ensures bounds { (r : Option ℕ) (app : Text) → option_map sought_of wanted.entry ≡ Some (record { app = app; repeats = r; into = None; ranges = None; room = None })
         → IfOk result (λ status. TellsBound r app (S.contents files.old app) (W.contents output.old) (W.contents output.new) status) }
-    ensures writes { (r : Option ℕ) (app name : Text) → option_map sought_of wanted.entry ≡ Some (record { app = app; repeats = r; into = Some name })
+    ensures writes { (r : Option ℕ) (app name : Text) → option_map sought_of wanted.entry ≡ Some (record { app = app; repeats = r; into = Some name; ranges = None; room = None })
         → IfOk result (λ status. WritesBound r app name (S.contents files.old) (S.contents files.new) (W.contents output.old) (W.contents output.new) status) }
+    ensures asked { (q : program.Sought) → option_map sought_of wanted.entry ≡ Some q → program.is_plain q ≡ false
+        → IfOk result (λ status. TellsSought q (S.contents files.old) (S.contents files.new) (W.contents output.old) (W.contents output.new) status) }
     ensures usage { option_map sought_of wanted.entry ≡ None → IfOk result (λ status. TellsUsage (W.contents output.old) (W.contents output.new) status) }
     ensures status { IfOk result (λ status. status ≤ 4) }
 {
     match wanted {
-        Some(wanted) => match wanted.into {
-            Some(name) => bound_into(alloc, files, wanted, name, output, errors),
-            None => bound_file(alloc, files, wanted, output, errors),
-        },
+        Some(wanted) => {
+            if !wanted.is_plain() {
+                return bound_asked(alloc, files, wanted, output, errors);
+            }
+            match wanted.into {
+                Some(name) => bound_into(alloc, files, wanted, name, output, errors),
+                None => bound_file(alloc, files, wanted, output, errors),
+            }
+        }
         None => misused(UNCOUNTED, output, errors),
     }
 }
@@ -536,6 +589,8 @@ fn run_words<R: Clock + Net, S: Sources, I: Read, W: Write, E: Write>(
         → IfOk result (λ status. TellsBound repeats app (S.contents files.old app) (W.contents output.old) (W.contents output.new) status) }
     ensures writes { (repeats : Option ℕ) (app name : Text) → IsBoundInto (map (λ word. word.now) words.now) repeats app name
         → IfOk result (λ status. WritesBound repeats app name (S.contents files.old) (S.contents files.new) (W.contents output.old) (W.contents output.new) status) }
+    ensures asked { (q : program.Sought) → IsBoundAsked (map (λ word. word.now) words.now) q
+        → IfOk result (λ status. TellsSought q (S.contents files.old) (S.contents files.new) (W.contents output.old) (W.contents output.new) status) }
     ensures checks { (app cert : Text) → IsCheck (map (λ word. word.now) words.now) app cert
         → IfOk result (λ status. TellsFiles app cert (S.contents files.old app) (S.contents files.old cert) (W.contents output.old) (W.contents output.new) status) }
     ensures sims { (app cert : Text) → IsSim (map (λ word. word.now) words.now) app cert
@@ -558,7 +613,7 @@ fn run_words<R: Clock + Net, S: Sources, I: Read, W: Write, E: Write>(
         Ok(matches) => matches,
         Err(error) => return refused(&error, output, errors),
     };
-    if let Some(wanted) = bound_asked(&matches) {
+    if let Some(wanted) = bound_wanted(&matches) {
         return run_bound(alloc, files, wanted, output, errors);
     }
     match files_named(&matches, "check") {
@@ -599,6 +654,10 @@ pub fn command<R: AllocGlobal + Clock + Net, S: Sources, I: Read, W: Write, E: W
     // with those that name a file for it that file alone, which gets the text of one that is found, or keeps what it held where there is none,
     ensures writes { (repeats : Option ℕ) (app name : Text) → 2 ≤ length words.now → IsBoundInto (map (λ word. word.now) words.now) repeats app name
         → WritesBound repeats app name (S.contents files.old) (S.contents files.new) (W.contents output.old) (W.contents output.new) result ⊎ (result ≡ 3) }
+    // with those that ask for other ranges or more room, told or in a file, the text of one that is accepted, whose other numbers are the least for its ranges where there is
+    // no more room asked for, or why there is none,
+    ensures asked { (q : program.Sought) → 2 ≤ length words.now → IsBoundAsked (map (λ word. word.now) words.now) q
+        → TellsSought q (S.contents files.old) (S.contents files.new) (W.contents output.old) (W.contents output.new) result ⊎ (result ≡ 3) }
     // with the words of a check that of the two files that they name,
     ensures checks { (app cert : Text) → 2 ≤ length words.now → IsCheck (map (λ word. word.now) words.now) app cert
         → TellsFiles app cert (S.contents files.old app) (S.contents files.old cert) (W.contents output.old) (W.contents output.new) result ⊎ (result ≡ 3) }
@@ -608,7 +667,7 @@ pub fn command<R: AllocGlobal + Clock + Net, S: Sources, I: Read, W: Write, E: W
     // and that they are at fault where they are no words of the program, and ask for neither help nor the version,
     ensures usage { 2 ≤ length words.now → IsMisuse (map (λ word. word.now) words.now)
         → TellsUsage (W.contents output.old) (W.contents output.new) result ⊎ (result ≡ 3) }
-    // or where the number behind `--repeats` is none of 1 to 255;
+    // or where a number behind `--repeats` or `--room` is none of 1 to 255;
     ensures uncounted { 2 ≤ length words.now → IsUncounted (map (λ word. word.now) words.now)
         → TellsUsage (W.contents output.old) (W.contents output.new) result ⊎ (result ≡ 3) }
     // with those that ask for turns of a device why there are none, or what these turns write, and their sums,

@@ -1,6 +1,7 @@
 use Rattle.fbr.specs.Outcomes.{TellsFiles}
 use Rattle.fbr.specs.Simulation.{TellsSim}
 use Rattle.fbr.specs.Bounding.{TellsBound, WritesBound}
+use Rattle.fbr.specs.Seeking.{TellsSought}
 use Rattle.fbr.specs.Serving.{TellsServe}
 use Rattle.fbr.proofs.Taken.{or_three}
 use Rattle.fbr.proofs.words.command.Goals as goal
@@ -34,3 +35,9 @@ returns-clause-writes g c = λ repeats app name two is.
     or_three c.run_words.result c.unwrap_or-2.result
     (λ status. WritesBound repeats app name (g.S.Sources.contents c.args.files.now) (g.S.Sources.contents c.run_words.new.files) (g.W.Write.contents c.args.output.now) (g.W.Write.contents c.run_words.new.output) status)
     c.unwrap_or-2.ensures (c.run_words.ensures.writes repeats app name is)
+
+pub returns-clause-asked : goal.returns-clause-asked
+returns-clause-asked g c = λ q two is.
+    or_three c.run_words.result c.unwrap_or-2.result
+    (λ status. TellsSought q (g.S.Sources.contents c.args.files.now) (g.S.Sources.contents c.run_words.new.files) (g.W.Write.contents c.args.output.now) (g.W.Write.contents c.run_words.new.output) status)
+    c.unwrap_or-2.ensures (c.run_words.ensures.asked q is)

@@ -12,6 +12,7 @@ use Rattle.fbr.specs.declared.fault.Fault.TheVariants.{Memory}
 use Rattle.fbr.proofs.Simulated as simulated
 use Rattle.fbr.specs.Bounding.{sought_of}
 use Rattle.fbr.proofs.Bounded.{unread_told, into_memory}
+use Rattle.fbr.proofs.Seeking.{asked_memory}
 use Rattle.fbr.proofs.Loaded.{memory_served}
 use Rattle.fbr.proofs.words.run_words.Goals as goal
 
@@ -235,7 +236,7 @@ returns-clause-bounds g c = λ repeats app is.
     let words : List Text = map (λ word. word.now) c.args.words.now in
     let program_is : app_of c.in-Ok.command ≡ program = c.in-Ok.ensures in
     let rows = rows_taken _ program_is words c.in-Ok-try_get_matches_from.matches c.in-Ok-try_get_matches_from.ensures.matches in
-    let none : None ≡ bound_of words = ap (option_map (λ wanted. option_map sought_of wanted)) (sym c.in_default.is) ∙ c.bound_asked.ensures.asked ∙ ap (option_and_then bound_in) rows in
+    let none : None ≡ bound_of words = ap (option_map (λ wanted. option_map sought_of wanted)) (sym c.in_default.is) ∙ c.bound_wanted.ensures.asked ∙ ap (option_and_then bound_in) rows in
     absurd (no_some _ (none ∙ is.asked))
 
 pub returns-clause-writes : goal.returns-clause-writes
@@ -243,7 +244,7 @@ returns-clause-writes g c = λ repeats app name is.
     let words : List Text = map (λ word. word.now) c.args.words.now in
     let program_is : app_of c.in-Ok.command ≡ program = c.in-Ok.ensures in
     let rows = rows_taken _ program_is words c.in-Ok-try_get_matches_from.matches c.in-Ok-try_get_matches_from.ensures.matches in
-    let none : None ≡ bound_of words = ap (option_map (λ wanted. option_map sought_of wanted)) (sym c.in_default.is) ∙ c.bound_asked.ensures.asked ∙ ap (option_and_then bound_in) rows in
+    let none : None ≡ bound_of words = ap (option_map (λ wanted. option_map sought_of wanted)) (sym c.in_default.is) ∙ c.bound_wanted.ensures.asked ∙ ap (option_and_then bound_in) rows in
     absurd (no_some _ (none ∙ is.asked))
 
 pub returns-clause-checks : goal.returns-clause-checks
@@ -267,7 +268,7 @@ returns-clause-uncounted g c = λ is.
     let words : List Text = map (λ word. word.now) c.args.words.now in
     let program_is : app_of c.in-Ok.command ≡ program = c.in-Ok.ensures in
     let rows = rows_taken _ program_is words c.in-Ok-try_get_matches_from.matches c.in-Ok-try_get_matches_from.ensures.matches in
-    let none : None ≡ bound_of words = ap (option_map (λ wanted. option_map sought_of wanted)) (sym c.in_default.is) ∙ c.bound_asked.ensures.asked ∙ ap (option_and_then bound_in) rows in
+    let none : None ≡ bound_of words = ap (option_map (λ wanted. option_map sought_of wanted)) (sym c.in_default.is) ∙ c.bound_wanted.ensures.asked ∙ ap (option_and_then bound_in) rows in
     absurd (no_some _ (none ∙ is.none))
 
 pub returns-in-Err-clause-serves : goal.returns-in-Err-clause-serves
@@ -355,3 +356,48 @@ returns-clause-misnumbered g c = λ is.
     let program_is : app_of c.in-Ok.command ≡ program = c.in-Ok.ensures in
     let rows = rows_taken _ program_is words c.in-Ok-try_get_matches_from.matches c.in-Ok-try_get_matches_from.ensures.matches in
     c.run_rest.ensures.misnumbered (ap (option_and_then serve_in) rows ∙ is.none)
+
+pub returns-in-Err-clause-asked : goal.returns-in-Err-clause-asked
+returns-in-Err-clause-asked g c = λ q is.
+    asked_memory q (g.S.Sources.contents c.args.files.now) (g.W.Write.contents c.args.output.now) (g.W.Write.contents c.print_outcome.new.output) c.print_outcome.result c.print_outcome.ensures.told
+
+pub returns-in-Err-try_get_matches_from-clause-asked : goal.returns-in-Err-try_get_matches_from-clause-asked
+returns-in-Err-try_get_matches_from-clause-asked g c = λ q is.
+    let words : List Text = map (λ word. word.now) c.args.words.now in
+    let error = c.in-Err-try_get_matches_from.error in
+    let program_is : app_of c.in-Ok.command ≡ program = c.in-Ok.ensures in
+    let kinds : HasKind (fault_of program words) error = subst (λ a. HasKind (fault_of a words) error) program_is (c.in-Err-try_get_matches_from.ensures.kinds (free_app _ program_is)) in
+    asked_memory q (g.S.Sources.contents c.args.files.now) (g.W.Write.contents c.args.output.now) (g.W.Write.contents c.refused.new.output) c.refused.result
+    (c.refused.ensures.memory (taken_memory words is.taken error kinds))
+
+pub returns-in-Some-clause-asked : goal.returns-in-Some-clause-asked
+returns-in-Some-clause-asked g c = λ q is.
+    let words : List Text = map (λ word. word.now) c.args.words.now in
+    let program_is : app_of c.in-Ok.command ≡ program = c.in-Ok.ensures in
+    let rows = rows_taken _ program_is words c.in-Ok-try_get_matches_from.matches c.in-Ok-try_get_matches_from.ensures.matches in
+    let here : Some (option_map sought_of c.in-Some.wanted) ≡ bound_of words = c.in-Some.ensures.asked ∙ ap (option_and_then bound_in) rows in
+    c.run_bound.ensures.asked q (same_inside _ _ (here ∙ is.asked)) is.other
+
+pub returns-in-Some-files_named-clause-asked : goal.returns-in-Some-files_named-clause-asked
+returns-in-Some-files_named-clause-asked g c = λ q is.
+    let words : List Text = map (λ word. word.now) c.args.words.now in
+    let program_is : app_of c.in-Ok.command ≡ program = c.in-Ok.ensures in
+    let rows = rows_taken _ program_is words c.in-Ok-try_get_matches_from.matches c.in-Ok-try_get_matches_from.ensures.matches in
+    let here : Some (c.in-Some-files_named.app.now, c.in-Some-files_named.cert.now) ≡ files_of (codes "check") words = c.in-Some-files_named.ensures ∙ ap (option_and_then (files_in (codes "check"))) rows in
+    absurd (apart (codes "check") (codes "bound") refl refl (λ r. both (first_of (codes "APP") r) (first_of (codes "CERT") r)) (λ r. Some (sought_in r)) (subcommand_of program words) _ _ (sym here) is.asked)
+
+pub returns-in-Some-files_named-2-clause-asked : goal.returns-in-Some-files_named-2-clause-asked
+returns-in-Some-files_named-2-clause-asked g c = λ q is.
+    let words : List Text = map (λ word. word.now) c.args.words.now in
+    let program_is : app_of c.in-Ok.command ≡ program = c.in-Ok.ensures in
+    let rows = rows_taken _ program_is words c.in-Ok-try_get_matches_from.matches c.in-Ok-try_get_matches_from.ensures.matches in
+    let here : Some (c.in-Some-files_named-2.app.now, c.in-Some-files_named-2.cert.now) ≡ files_of (codes "sim") words = c.in-Some-files_named-2.ensures ∙ ap (option_and_then (files_in (codes "sim"))) rows in
+    absurd (apart (codes "sim") (codes "bound") refl refl (λ r. both (first_of (codes "APP") r) (first_of (codes "CERT") r)) (λ r. Some (sought_in r)) (subcommand_of program words) _ _ (sym here) is.asked)
+
+pub returns-clause-asked : goal.returns-clause-asked
+returns-clause-asked g c = λ q is.
+    let words : List Text = map (λ word. word.now) c.args.words.now in
+    let program_is : app_of c.in-Ok.command ≡ program = c.in-Ok.ensures in
+    let rows = rows_taken _ program_is words c.in-Ok-try_get_matches_from.matches c.in-Ok-try_get_matches_from.ensures.matches in
+    let none : None ≡ bound_of words = ap (option_map (λ wanted. option_map sought_of wanted)) (sym c.in_default.is) ∙ c.bound_wanted.ensures.asked ∙ ap (option_and_then bound_in) rows in
+    absurd (no_some _ (none ∙ is.asked))
