@@ -12,7 +12,7 @@ use Rattle.clap.specs.declared.error.kind.ErrorKind.TheVariants.{OutOfMemory, Di
 use Rattle.clap.proofs.OnLiterals.{clap_on_literals}
 use Rattle.fbr.specs.declared.fault.Fault.TheVariants.{Memory}
 use Rattle.fbr.specs.Outcomes.{Tells, TellsFiles, refusal}
-use Rattle.fbr.specs.Program.{program, IsBound, IsBoundInto, IsUncounted, IsCheck, IsSim, IsMisuse}
+use Rattle.fbr.specs.Program.{program, IsBound, IsBoundInto, IsBoundAsked, IsUncounted, IsCheck, IsSim, IsMisuse}
 use Rattle.fbr.proofs.Told.{tells_files}
 use Rattle.fbr.proofs.Verdicts.{files_memory}
 
@@ -83,6 +83,11 @@ is_far = record { taken = refl; asked = refl }
 is_into : IsBoundInto (codes "fbr" ∷ codes "bound" ∷ codes "cell.fb" ∷ codes "-o" ∷ codes "cell.cert" ∷ []) None (codes "cell.fb") (codes "cell.cert")
 unfolding clap_on_literals
 is_into = record { taken = refl; asked = refl }
+
+-- and such for one with other ranges, and with more room
+is_asked : IsBoundAsked (codes "fbr" ∷ codes "bound" ∷ codes "cell.fb" ∷ codes "--search" ∷ codes "--room" ∷ codes "2" ∷ []) (record { app = codes "cell.fb"; repeats = None; into = None; ranges = Some None; room = Some 2 })
+unfolding clap_on_literals
+is_asked = record { taken = refl; asked = refl; other = refl }
 
 -- a number above 255 is none that counts
 is_uncounted : IsUncounted (codes "fbr" ∷ codes "bound" ∷ codes "cell.fb" ∷ codes "--repeats" ∷ codes "256" ∷ [])
