@@ -124,9 +124,10 @@ abbrev pub into_in : Option Text → Option Text
 into_in None = None
 into_in (Some name) = if bytes_eq name (codes "-") then None else Some name
 
--- the same of a subcommand
-abbrev pub into_of : Text × List Row → Option Text
-into_of entered = into_in (first_of (codes "output") entered.1)
+-- the same, where it is another file than this
+abbrev pub another : Option Text → Text → Option (Option Text)
+another None app = Some None
+another (Some name) app = if bytes_eq name app then None else Some (Some name)
 
 -- ---- what `bound` is asked for
 
@@ -149,14 +150,14 @@ ranges_by (Some name) wish = Some (Some name)
 ranges_by None wish = if wish then Some None else None
 
 -- all of it, where nothing is missing
-abbrev pub sought_with : Option Text → Option (Option ℕ) → Option Text → Option (Option Text) → Option (Option ℕ) → Option Sought
-sought_with (Some app) (Some often) into kept (Some times) = Some (record { app = app; repeats = often; into = into; ranges = kept; room = times })
+abbrev pub sought_with : Option Text → Option (Option ℕ) → Option (Option Text) → Option (Option Text) → Option (Option ℕ) → Option Sought
+sought_with (Some app) (Some often) (Some into) kept (Some times) = Some (record { app = app; repeats = often; into = into; ranges = kept; room = times })
 sought_with app often into kept times = None
 
--- what the words of `bound` ask for; nothing where a number is none
+-- what the words of `bound` ask for; nothing where a number is none, or the file that is written is the application's own
 abbrev pub sought_in : List Row → Option Sought
 sought_in rows =
-    sought_with (first_of (codes "APP") rows) (repeats_in (first_of (codes "repeats") rows)) (into_in (first_of (codes "output") rows))
+    sought_with (first_of (codes "APP") rows) (repeats_in (first_of (codes "repeats") rows)) (option_and_then (another (into_in (first_of (codes "output") rows))) (first_of (codes "APP") rows))
     (ranges_by (first_of (codes "ranges") rows) (is_set (first_of (codes "search") rows))) (repeats_in (first_of (codes "room") rows))
 
 -- it is the least certificate with the ranges of the rounds
@@ -258,7 +259,7 @@ pub record IsBoundAsked (words : List Text) (q : Sought) : Type 0 where
   pub asked : bound_of words ≡ Some (Some q)
   pub other : is_plain q ≡ false
 
--- they ask for one where datagrams are delivered, or there is room, as often as no number of 1 to 255 says
+-- they ask for one where datagrams are delivered, or there is room, as often as no number of 1 to 255 says, or in the application's own file
 pub record IsUncounted (words : List Text) : Type 0 where
   pub taken : fault_of program words ≡ []
   pub none : bound_of words ≡ Some None
@@ -288,7 +289,3 @@ pub record IsMisuse (words : List Text) : Type 0 where
   pub fault : fault_of program words ≢ []
   pub no_help : IsAmong DisplayHelp (fault_of program words) → ⊥
   pub no_version : IsAmong DisplayVersion (fault_of program words) → ⊥
-
--- no file is written
-abbrev pub IsToldOnly : List Text → Type 0
-IsToldOnly words = option_and_then into_of (subcommand_of program words) ≡ None

@@ -110,15 +110,33 @@ fn ranges_by<'a>(file: Option<&'a str>, is_search: bool) -> Ranges<'a>
     }
 }
 
-/// What is asked for; `None` where a number is none.
+// The file that is written, where it is not the application's own.
+fn another<'a>(into: Option<&'a str>, app: &str) -> Option<Option<&'a str>>
+    ensures { option_map (λ file. option_map (λ name. name.now) file) result ≡ program.another (option_map (λ name. name.now) into.entry) app.now }
+{
+    match into {
+        Some(name) => {
+            if name == app {
+                None
+            } else {
+                Some(Some(name))
+            }
+        }
+        None => Some(None),
+    }
+}
+
+/// What is asked for; `None` where a number is none, or the file that is written is the application's own.
 pub fn wanted_in<'a>(words: &ArgMatches<'a>) -> Option<Wanted<'a>>
     ensures asked { option_map sought_of result ≡ program.sought_in (rows_of (found_of words.now)) }
     ensures some { IfSome result (λ w. IfSome w.repeats (λ n. 1 ≤ n)) }
 {
+    let app = given(words, "APP")?;
+    let into = another(into_in(words), app)?;
     Some(Wanted {
-        app: given(words, "APP")?,
+        app,
         repeats: repeats_in(given(words, "repeats"))?,
-        into: into_in(words),
+        into,
         ranges: ranges_by(given(words, "ranges"), is_set(given(words, "search"))),
         room: repeats_in(given(words, "room"))?,
     })

@@ -34,8 +34,9 @@ use std::rt::Clock;
 /// The version that `fbr --version` tells.
 pub const VERSION: &str = "0.1.0";
 
-// What people are told where the number behind `--repeats` or `--room` is none.
-const UNCOUNTED: &str = "fbr: `--repeats` and `--room` take a number of 1 to 255";
+// What people are told where the number behind `--repeats` or `--room` is none, or the application's own file would be written.
+const UNCOUNTED: &str =
+    "fbr: `--repeats` and `--room` take a number of 1 to 255, and `-o` another file than APP";
 
 // What people are told where a number of `serve` is none.
 const UNNUMBERED: &str =
@@ -466,6 +467,9 @@ fn run_draw<'a, S: Sources, W: Write, E: Write>(
                 chart: given(words, "chart"),
                 into: into_in(words),
             };
+            if drawing.into == Some(app) {
+                return misused(UNCOUNTED, output, errors);
+            }
             draw_file(alloc, files, drawing, output, errors)
         }
         None => print_outcome(Err(Fault::Usage), output),
@@ -667,7 +671,7 @@ pub fn command<R: AllocGlobal + Clock + Net, S: Sources, I: Read, W: Write, E: W
     // and that they are at fault where they are no words of the program, and ask for neither help nor the version,
     ensures usage { 2 ≤ length words.now → IsMisuse (map (λ word. word.now) words.now)
         → TellsUsage (W.contents output.old) (W.contents output.new) result ⊎ (result ≡ 3) }
-    // or where a number behind `--repeats` or `--room` is none of 1 to 255;
+    // or where a number behind `--repeats` or `--room` is none of 1 to 255, or the file behind `-o` is the application's own;
     ensures uncounted { 2 ≤ length words.now → IsUncounted (map (λ word. word.now) words.now)
         → TellsUsage (W.contents output.old) (W.contents output.new) result ⊎ (result ≡ 3) }
     // with those that ask for turns of a device why there are none, or what these turns write, and their sums,
