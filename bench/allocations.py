@@ -83,7 +83,7 @@ class Plant:
             yield words, ""
         with open(app) as text, open(self.cert) as cert:
             yield [], f"{text.read()}====\n{cert.read()}"
-        for words in (["bound", app], ["bound", app, "--repeats", "2"]):
+        for words in (["bound", app], ["bound", app, "--repeats", "2"], ["bound", app, "--room", "2"], ["bound", app, "--search"], ["bound", app, "--ranges", self.cert]):
             yield words, ""
         for words in (["explain", app], ["explain", app, self.bad], ["draw", app], ["draw", app, self.far], ["draw", app, self.far, "--chart", "counter"]):
             yield words, ""

@@ -10,6 +10,7 @@ one of the text; of all together: `explain` begins as `check` does, what `bound`
 takes more steps than its WEIGHT, no cause more than its bound, and no root more than its FAR where no datagram was admitted too often. A trial that fails is kept in a folder."""
 import argparse
 import concurrent.futures
+import itertools
 import os
 import pathlib
 import random
@@ -46,7 +47,7 @@ ANSWERS = {
 }
 SUMS = re.compile(r"fired (\d+) received (\d+) denied (\d+) ran (\d+) sent (\d+) lost (\d+)")
 NONE = b"CERT 1\n"
-WORDS = "check bound sim serve explain draw help --help --version -h -V --repeats --bind --turns --boot --flat --chart -- - 0 1 2 255 256 43 -1 4294967296 D x APP CERT".split()
+WORDS = "check bound sim serve explain draw help --help --version -h -V --repeats --search --ranges --room --output -o --strict --bind --turns --boot --flat --chart -- - 0 1 2 255 256 43 -1 4294967296 D x APP CERT".split()
 
 
 class Wrong(Exception):
@@ -297,6 +298,7 @@ class Trial:
         found = self.outcome(["bound", path, *option], app, b"")
         told = self.outcome(["explain", path, *option], app, b"")
         drawn = self.outcome(["draw", path, *option], app, b"")
+        self.searched(app, path, option, found)
         if found.startswith("refused"):
             ask(found.count("\n") == 1, "more than one line")
             ask(told.startswith(found), f"explain begins otherwise than {found!r}")
@@ -311,12 +313,33 @@ class Trial:
         cert = self.file("found", found.encode())
         ask(self.outcome(["check", path, cert], app, found.encode()) == "accepted\n", "a certificate that was found is refused")
         self.play(app, path, found, cert)
+        ask(self.outcome(["bound", path, "--ranges", cert, *option], app, found.encode()) == found, "its own ranges give another certificate")
+        self.roomy(app, path, option, found)
         other = mutated(self.rng, found.encode(), self.corpus, lines=True)
         at = self.file("other", other)
         verdict = self.outcome(["check", path, at], app, other)
         if verdict == "accepted\n" and other != found.encode():
             self.accepted += 1
             self.play(app, path, other.decode(), at)
+
+    def searched(self, app, path, option, found):
+        """A search answers what is found without one, or where that is 44 perhaps a certificate that is accepted."""
+        searched = self.outcome(["bound", path, "--search", *option], app, b"")
+        if searched != found:
+            ask(found.startswith("refused 44 ") and searched.startswith("CERT 1\n"), f"a search answers otherwise than {found!r}")
+            cert = self.file("searched", searched.encode())
+            ask(self.outcome(["check", path, cert], app, searched.encode()) == "accepted\n", "a certificate that was searched for is refused")
+
+    def roomy(self, app, path, option, found):
+        """With more room only depths differ, and none is less."""
+        times = self.rng.choice([1, 2, 3, 255])
+        roomy = self.outcome(["bound", path, "--room", str(times), *option], app, b"")
+        for one, other in itertools.zip_longest(found.splitlines(), roomy.splitlines()):
+            if one != other:
+                ask(one and other and one.split()[:2] == other.split()[:2] and one.startswith("DEPTH "), "more room changes another row")
+                ask(int(one.split()[2]) < int(other.split()[2]), "more room is less")
+        cert = self.file("roomy", roomy.encode())
+        ask(self.outcome(["check", path, cert], app, roomy.encode()) == "accepted\n", "a certificate with more room is refused")
 
     def play(self, app, path, cert, at):
         """A random script over an accepted pair, and now and then some turns."""

@@ -115,13 +115,7 @@ fn another<'a>(into: Option<&'a str>, app: &str) -> Option<Option<&'a str>>
     ensures { option_map (λ file. option_map (λ name. name.now) file) result ≡ program.another (option_map (λ name. name.now) into.entry) app.now }
 {
     match into {
-        Some(name) => {
-            if name == app {
-                None
-            } else {
-                Some(Some(name))
-            }
-        }
+        Some(name) => { if name == app { None } else { Some(Some(name)) } }
         None => Some(None),
     }
 }
