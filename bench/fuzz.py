@@ -47,7 +47,7 @@ ANSWERS = {
 }
 SUMS = re.compile(r"fired (\d+) received (\d+) denied (\d+) ran (\d+) sent (\d+) lost (\d+)")
 NONE = b"CERT 1\n"
-WORDS = "check bound sim serve explain draw help --help --version -h -V --repeats --search --ranges --room --output -o --strict --bind --turns --boot --flat --chart -- - 0 1 2 255 256 43 -1 4294967296 D x APP CERT".split()
+WORDS = "check bound sim serve explain draw help --help --version -h -V --repeats --search --ranges --room --strict --bind --turns --boot --flat --chart -- - 0 1 2 255 256 43 -1 4294967296 D x APP CERT".split()
 
 
 class Wrong(Exception):
