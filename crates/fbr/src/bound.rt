@@ -126,6 +126,14 @@ fn certificate_at_fault<'a>(fault: &Fault<'_>, ranges: Ranges<'a>) -> Option<&'a
     }
 }
 
+// Tells people what a 44 says where rows RANGE are kept.
+fn hint_rows<E: Write>(fault: &Fault<'_>, name: &str, errors: &mut E) {
+    let _ = writeln!(
+        errors,
+        "fbr: {fault}: with the rows RANGE of {name} this is not clear, or this row does not hold what its variable has at first or takes, or is of no variable"
+    );
+}
+
 /// Tells why there is no certificate, and people too.
 pub fn tell_fault<'a, S: Sources, W: Write, E: Write>(
     alloc: Global,
@@ -143,7 +151,12 @@ pub fn tell_fault<'a, S: Sources, W: Write, E: Write>(
         cert: certificate_at_fault(&fault, wanted.ranges),
         repeats: wanted.repeats,
     };
-    hint(alloc, files, &fault, given, errors);
+    match (&fault, wanted.ranges) {
+        (Fault::Unbound(NoBound::NoRange(_)), Ranges::Within(name)) => {
+            hint_rows(&fault, name, errors);
+        }
+        _ => hint(alloc, files, &fault, given, errors),
+    }
     print_outcome(Err(fault), output)
 }
 
