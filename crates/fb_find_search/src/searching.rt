@@ -13,7 +13,7 @@ use fb_cert::Certificate;
 use fb_find::{find, find_within, rows_stand};
 use fb_find_rows::NoBound;
 use fb_flat::flatten;
-use fb_types::Typed;
+use fb_types::{TypeFault, Typed};
 use std::alloc::{AllocError, Global};
 
 // Rows RANGE that are proposed, with those that are given; the latter alone, where there are no leaves.
@@ -24,6 +24,7 @@ fn proposed(alloc: Global, typed: &Typed, given: &Certificate) -> Result<Certifi
             flat.let_go();
             ranges
         }
+        Err(TypeFault::OutOfMemory) => Err(AllocError),
         Err(_) => Ok(Certificate::new(alloc)),
     }
 }
