@@ -157,7 +157,7 @@ def try_commands(plants, program, library, folder):
 
 
 def told_cases(word, most):
-    """The first cases of each file of tests/commands in which this word tells of files: the words, the files by their names, and the status that the case has."""
+    """The first cases of each file of tests/commands in which this word tells of files: the words, standard input, the files by their names, and the status that the case has."""
     for path in sorted(glob.glob(f"{TOP}/tests/commands/*.case")):
         with open(path, encoding="utf-8", newline="") as it:
             cases = it.read().split("==== case ")[1:]
@@ -169,17 +169,17 @@ def told_cases(word, most):
             if words[:1] == [word] and count < most and not given.keys() & {"room", "byte 255"}:
                 count += 1
                 files = {head.removeprefix("file "): text for head, text in given.items() if head.startswith("file ")}
-                yield words, files, int(re.match(r"status (\d)", given["answer"])[1])
+                yield words, given.get("input", ""), files, int(re.match(r"status (\d)", given["answer"])[1])
 
 
 def try_told(case, program, library, folder):
     """Refuses each growth of a command over the files of a case, in a folder of their own."""
-    words, files, status = case
+    words, text, files, status = case
     with tempfile.TemporaryDirectory(dir=folder) as own:
-        for name, text in files.items():
+        for name, held in files.items():
             with open(f"{own}/{name}", "w", encoding="utf-8", newline="") as it:
-                it.write(text)
-        return try_command(words, "", program, library, folder, own, (status,))
+                it.write(held)
+        return try_command(words, text, program, library, folder, own, (status,))
 
 
 def try_telling(program, library, folder, most):
