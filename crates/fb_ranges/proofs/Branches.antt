@@ -17,7 +17,6 @@ use Rattle.fb_ranges.specs.Meeting.{Besides, Mark, joint, met_by, ranges_after}
 use Rattle.fb_ranges.specs.Narrowing.{read_in}
 use Rattle.fb_ranges.proofs.Covers.{narrowed_besides}
 use Rattle.fb_ranges.proofs.Frames.{all_besides}
-use Rattle.fb_ranges.proofs.Joins.{ended_at}
 use Rattle.fb_ranges.proofs.Telling.{longer_again, tell_either}
 use Rattle.fb_ranges.proofs.Ways.{joint_again}
 
@@ -30,10 +29,6 @@ branch_besides rows s t e c q put = λ x out.
     all_besides rows c (point t q) x (not_back x (read_in e) (assigned c) out)
     ∙ ap (λ (u : Spans). u x) put
     ∙ narrowed_besides e true s x (not_front x (read_in e) (assigned c) out)
-
--- a way, by what is told of its ranges
-pub way_ends : (xs ys : List Name) (s after ends : Spans) → Besides xs s after → ys ≡ xs → ((base : Spans) → reset xs ends base ≡ reset xs after base) → reset ys ends s ≡ after
-way_ends xs ys s after ends h same told = ap (λ (zs : List Name). reset zs ends s) same ∙ ended_at xs s after ends h told
 
 -- one more way, before those that are still to be examined
 meets_on : (i j : ℕ) (s t u : Spans) (rest all : Asked) → j ≡ i + 1 → u ≡ joint i s t → met_by i s (point (λ x. joined (t x) (rest.spans x)) rest.rows) ≡ all → met_by j u rest ≡ all

@@ -41,13 +41,6 @@ reset_push xs x rows spans = fun_ext (λ y. ap (λ b. if b then rows y else span
   by y true false e = refl
   by y false false e = refl
 
--- what is set twice
-pub reset_again : (xs : List Name) (rows others spans : Spans) → reset xs (reset xs rows others) spans ≡ reset xs rows spans
-reset_again xs rows others spans = fun_ext (λ y. by y (is_in y xs)) where
-  by : (y : Name) (b : Bool) → (if b then (if b then rows y else others y) else spans y) ≡ (if b then rows y else spans y)
-  by y true = refl
-  by y false = refl
-
 -- only these variables have changed, and have their ranges back
 pub taken_back : (xs : List Name) (spans others : Spans) → Besides xs spans others → reset xs spans others ≡ spans
 taken_back xs spans others h = fun_ext (λ y. by y (is_in y xs) refl) where
@@ -61,10 +54,6 @@ ended_at xs spans after ends h same = same spans ∙ fun_ext (λ y. by y (is_in 
   by : (y : Name) (b : Bool) → is_in y xs ≡ b → (if b then after y else spans y) ≡ after y
   by y true e = refl
   by y false e = sym (h y e)
-
--- and taken back to what was noted
-pub back_at : (xs : List Name) (spans after noted end : Spans) → Besides xs spans after → ((base : Spans) → reset xs noted base ≡ reset xs spans base) → end ≡ reset xs noted after → end ≡ spans
-back_at xs spans after noted end h same e = e ∙ same after ∙ taken_back xs spans after h
 
 -- variables that are set anyway
 pub reset_besides : (xs : List Name) (rows spans others : Spans) → Besides xs spans others → reset xs rows others ≡ reset xs rows spans

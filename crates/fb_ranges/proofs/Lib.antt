@@ -10,3 +10,4 @@ pub mod Telling
 pub mod Blocks
 pub mod Branches
 pub mod Laws
+pub mod Noted

@@ -2,7 +2,7 @@
 //!
 //! It goes on behind a fault, so that all is asked; what is told is the first fault in the text.
 
-ghost use Rattle.std.specs.Prelude.{◌≡◌, ◌<◌, ◌^◌, ◌++◌, true, false, if◌then◌else◌, IfOk, OnOk};
+ghost use Rattle.std.specs.Prelude.{◌≡◌, ◌<◌, ◌^◌, ◌++◌, true, false, map, if◌then◌else◌, IfOk, OnOk};
 ghost use Rattle.fb_model.specs.Names.{Name};
 ghost use Rattle.fb_model.specs.Clear as book;
 ghost use Rattle.fb_model.specs.Clear.{Clear, Leaves, Traps, with_range};
@@ -144,7 +144,7 @@ fn examine_branch(
     ranges: &mut Ranges,
     asked: &mut Ranges,
 ) -> Result<Way, AllocError>
-    ensures ends { IfOk result (λ way. book.reset (busy_of way.names.items) (spans_of way.ends) (spans_of ranges.old) ≡ (asking.ask (spans_of rows.now) (choice_of branch.now).1 (point (book.narrowed (choice_of branch.now).0 true (spans_of ranges.old)) (spans_of asked.old))).spans) }
+    ensures ends { IfOk result (λ way. map span_of way.ends.items ≡ map (asking.ask (spans_of rows.now) (choice_of branch.now).1 (point (book.narrowed (choice_of branch.now).0 true (spans_of ranges.old)) (spans_of asked.old))).spans (busy_of way.names.items)) }
     ensures asks { OnOk result (spans_of asked.new ≡ (asking.ask (spans_of rows.now) (choice_of branch.now).1 (point (book.narrowed (choice_of branch.now).0 true (spans_of ranges.old)) (spans_of asked.old))).rows) }
     ensures tells { IfOk result (λ way. way.told ≡ tell (with_range (book.range_of (choice_of branch.now).0 (spans_of ranges.old)) (λ r. book.examine (spans_of rows.now) (choice_of branch.now).1 (book.narrowed (choice_of branch.now).0 true (spans_of ranges.old))))) }
     ensures touched { IfOk result (λ way. busy_of way.names.items ≡ read_in (choice_of branch.now).0 ++ book.assigned (choice_of branch.now).1) }
@@ -189,7 +189,8 @@ fn examine_way(
     ranges: &mut Ranges,
     asked: &mut Ranges,
 ) -> Result<Way, AllocError>
-    ensures ends { IfOk result (λ way. book.reset (busy_of way.names.items) (spans_of way.ends) (spans_of ranges.old) ≡ (asking.ask (spans_of rows.now) (commands_of body.now) (point (spans_of ranges.old) (spans_of asked.old))).spans) }
+    ensures ends { IfOk result (λ way. map span_of way.ends.items ≡ map (asking.ask (spans_of rows.now) (commands_of body.now) (point (spans_of ranges.old) (spans_of asked.old))).spans (busy_of way.names.items)) }
+    ensures touched { IfOk result (λ way. busy_of way.names.items ≡ book.assigned (commands_of body.now)) }
     ensures asks { OnOk result (spans_of asked.new ≡ (asking.ask (spans_of rows.now) (commands_of body.now) (point (spans_of ranges.old) (spans_of asked.old))).rows) }
     ensures tells { IfOk result (λ way. way.told ≡ tell (book.examine (spans_of rows.now) (commands_of body.now) (spans_of ranges.old))) }
     ensures unchanged { OnOk result (spans_of ranges.new ≡ spans_of ranges.old) }

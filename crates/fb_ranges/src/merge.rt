@@ -1,6 +1,6 @@
 //! Ways that meet.
 
-ghost use Rattle.std.specs.Prelude.{◌≡◌, ◌+◌, ◌<◌, ◌^◌, IfOk, None, OnOk, Some, if◌then◌else◌};
+ghost use Rattle.std.specs.Prelude.{◌≡◌, ◌+◌, ◌<◌, ◌^◌, IfOk, None, OnOk, Some, map, if◌then◌else◌};
 ghost use Rattle.std.specs.Str.{bytes_eq};
 ghost use Rattle.fb_model.specs.Names.{Name};
 ghost use Rattle.fb_model.specs.Clear as book;
@@ -12,7 +12,6 @@ ghost use Rattle.fb_ranges.specs.Meeting.{Besides, Dated, joint, marked, met, ra
 ghost use Rattle.fb_ranges_intervals.specs.Views.{span_of};
 ghost use Rattle.fb_ranges.specs.Views.{mark_of, spans_of};
 
-use crate::join::reset;
 use crate::rows::Ranges;
 use crate::told::{Told, longer};
 use crate::way::{Reached, Way, Ways};
@@ -20,30 +19,49 @@ use fb_ranges_intervals::{Interval, joined};
 use indexmap::IndexMap;
 use std::alloc::{AllocError, Global};
 
-/// These variables alone, with their ranges.
-pub(crate) fn noted(alloc: Global, names: &[String], ranges: &Ranges) -> Result<Ranges, AllocError>
-    ensures { IfOk result (λ r. (base : Spans) → book.reset (busy_of names.now) (spans_of r) base ≡ book.reset (busy_of names.now) (spans_of ranges.now) base) }
+/// The ranges of these variables, in their order.
+pub(crate) fn noted(
+    alloc: Global,
+    names: &[String],
+    ranges: &Ranges,
+) -> Result<Vec<Interval>, AllocError>
+    ensures { IfOk result (λ v. map span_of v.items ≡ map (spans_of ranges.now) (busy_of names.now)) }
 {
-    let mut noted = Ranges::new(alloc);
-    reset(names, ranges, &mut noted)?;
+    let mut noted = Vec::with_capacity(alloc, names.len())?;
+    for name in names {
+        noted.push(ranges.find(name.as_str()))?;
+    }
     Ok(noted)
 }
 
-/// A way that has ended, began with what is noted of these variables, and may have touched no others; its ranges are taken back.
+// Gives each of these variables the range that was noted of it.
+fn take_back(names: &[String], noted: &[Interval], ranges: &mut Ranges) -> Result<(), AllocError>
+    ensures { (spans : Spans) → map span_of noted.now ≡ map spans (busy_of names.now) → OnOk result (spans_of ranges.new ≡ book.reset (busy_of names.now) spans (spans_of ranges.old)) }
+{
+    for i in 0..names.len() {
+        let Some(range) = noted.get(i) else {
+            return Ok(());
+        };
+        ranges.insert(names[i].as_str(), *range)?;
+    }
+    Ok(())
+}
+
+/// A way that has ended, began with what was noted of these variables, and may have touched no others; its ranges are taken back.
 pub(crate) fn ended(
     alloc: Global,
     names: Vec<String>,
     told: Told,
-    before: &Ranges,
+    before: &[Interval],
     ranges: &mut Ranges,
 ) -> Result<Way, AllocError>
     ensures told { IfOk result (λ way. way.told ≡ told) }
     ensures names { IfOk result (λ way. busy_of way.names.items ≡ busy_of names.items) }
-    ensures ends { IfOk result (λ way. (base : Spans) → book.reset (busy_of names.items) (spans_of way.ends) base ≡ book.reset (busy_of names.items) (spans_of ranges.old) base) }
-    ensures ranges { OnOk result (spans_of ranges.new ≡ book.reset (busy_of names.items) (spans_of before.now) (spans_of ranges.old)) }
+    ensures ends { IfOk result (λ way. map span_of way.ends.items ≡ map (spans_of ranges.old) (busy_of names.items)) }
+    ensures ranges { (spans : Spans) → map span_of before.now ≡ map spans (busy_of names.items) → OnOk result (spans_of ranges.new ≡ book.reset (busy_of names.items) spans (spans_of ranges.old)) }
 {
     let ends = noted(alloc, &names, ranges)?;
-    reset(&names, before, ranges)?;
+    take_back(&names, before, ranges)?;
     Ok(Way { names, ends, told })
 }
 
@@ -106,8 +124,8 @@ pub(crate) fn merged(ways: &mut Ways, way: &Way, ranges: &Ranges) -> Result<(), 
     requires dated { (x : Name) → Dated ways.old.count (mark_of ways.old x) }
     ensures count { OnOk result (ways.new.count ≡ ways.old.count + 1) }
     ensures told { OnOk result (ways.new.told ≡ longer ways.old.told way.now.told) }
-    ensures dated { OnOk result ((x : Name) → Dated ways.new.count (mark_of ways.new x)) }
-    ensures ranges { OnOk result ((later : Spans) → Besides (busy_of way.now.names.items) (spans_of ranges.now) later → ranges_after ways.new.count (mark_of ways.new) later ≡ joint ways.old.count (ranges_after ways.old.count (mark_of ways.old) (spans_of ranges.now)) (book.reset (busy_of way.now.names.items) (spans_of way.now.ends) (spans_of ranges.now))) }
+    ensures dated { (ends : Spans) → map span_of way.now.ends.items ≡ map ends (busy_of way.now.names.items) → OnOk result ((x : Name) → Dated ways.new.count (mark_of ways.new x)) }
+    ensures ranges { (ends later : Spans) → map span_of way.now.ends.items ≡ map ends (busy_of way.now.names.items) → Besides (busy_of way.now.names.items) (spans_of ranges.now) later → OnOk result (ranges_after ways.new.count (mark_of ways.new) later ≡ joint ways.old.count (ranges_after ways.old.count (mark_of ways.old) (spans_of ranges.now)) (book.reset (busy_of way.now.names.items) ends (spans_of ranges.now))) }
 {
     merge_rows(ways, &way.names, &way.ends, ranges)?;
     ways.told = longer(ways.told, way.told);
@@ -119,17 +137,20 @@ pub(crate) fn merged(ways: &mut Ways, way: &Way, ranges: &Ranges) -> Result<(), 
 fn merge_rows(
     ways: &mut Ways,
     names: &[String],
-    ends: &Ranges,
+    ends: &[Interval],
     ranges: &Ranges,
 ) -> Result<(), AllocError>
     requires room { ways.old.count < 2 ^ 63 }
     ensures count { ways.new.count ≡ ways.old.count }
     ensures told { ways.new.told ≡ ways.old.told }
-    ensures rows { OnOk result ((x : Name) → mark_of ways.new x ≡ marked ways.old.count (busy_of names.now) (spans_of ranges.now) (spans_of ends.now) (mark_of ways.old) x) }
+    ensures rows { (spans : Spans) → map span_of ends.now ≡ map spans (busy_of names.now) → OnOk result ((x : Name) → mark_of ways.new x ≡ marked ways.old.count (busy_of names.now) (spans_of ranges.now) spans (mark_of ways.old) x) }
 {
-    for name in names {
-        let name = name.as_str();
-        merge_row(ways, name, ranges.find(name), ends.find(name))?;
+    for i in 0..names.len() {
+        let Some(end) = ends.get(i) else {
+            return Ok(());
+        };
+        let name = names[i].as_str();
+        merge_row(ways, name, ranges.find(name), *end)?;
     }
     Ok(())
 }

@@ -41,6 +41,10 @@ impl Ranges {
         ensures set { OnOk result (spans_of self.new ≡ changed name.now (λ _. span_of interval) (spans_of self.old)) }
         ensures unchanged { OnErr result (spans_of self.new ≡ spans_of self.old) }
     {
+        if let Some(row) = self.rows.get_mut(name) {
+            *row = interval;
+            return Ok(());
+        }
         let key = String::from_str(self.alloc, name)?;
         self.rows.insert(key, interval)?;
         Ok(())

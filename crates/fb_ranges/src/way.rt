@@ -1,16 +1,15 @@
 //! Ways through an algorithm, of which each touches a few variables.
 
-use crate::rows::Ranges;
 use crate::told::Told;
 use fb_ranges_intervals::Interval;
 use indexmap::IndexMap;
 use std::alloc::Global;
 
-/// What an examination of one way finds: the variables that it may touch, their ranges at its end, and what is told of it.
+/// What an examination of one way finds: the variables that it may touch, their ranges at its end in this order, and what is told of it.
 #[derive(Drop)]
 pub(crate) struct Way {
     pub names: Vec<String>,
-    pub ends: Ranges,
+    pub ends: Vec<Interval>,
     pub told: Told,
 }
 

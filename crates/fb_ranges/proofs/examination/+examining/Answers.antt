@@ -1,4 +1,4 @@
-use Rattle.std.proofs.Common.{◌≡◌, ℤ, List, Option, true, false, ◌++◌, ◌<◌, ◌+◌, refl, sym, ap, ap₂, subst, ◌∙◌, arith, drop, to_z, of_z, w64}
+use Rattle.std.proofs.Common.{◌≡◌, ℤ, List, Option, true, false, ◌++◌, ◌<◌, ◌+◌, refl, map, sym, ap, ap₂, subst, ◌∙◌, arith, drop, to_z, of_z, w64}
 use Rattle.std.specs.Prelude.{if◌then◌else◌, string_bytes}
 use Rattle.std.specs.declared.string.String.{String}
 use Rattle.std.specs.declared.alloc.Global.{Global}
@@ -17,12 +17,14 @@ use Rattle.fb_ranges.specs.declared.told.Told.TheVariants as told
 use Rattle.fb_ranges.specs.Finding.{in_sequence, longer, tell, iterated}
 use Rattle.fb_ranges.specs.Meeting.{Besides, joint, met_by, ranges_after}
 use Rattle.fb_ranges.specs.Narrowing.{read_in}
+use Rattle.fb_ranges_intervals.specs.declared.interval.Interval.{Interval}
 use Rattle.fb_ranges_intervals.specs.Views.{span_of}
 use Rattle.fb_ranges.specs.Views.{mark_of, spans_of}
 use Rattle.fb_ranges.proofs.Blocks.{command_set, command_element, next_asked, next_told, choice_is, on_ok, iterations_asked}
-use Rattle.fb_ranges.proofs.Branches.{branch_asked, branch_besides, branch_told, arm_asked, arm_told, case_is, way_ends}
+use Rattle.fb_ranges.proofs.Branches.{branch_asked, branch_besides, branch_told, arm_asked, arm_told, case_is}
 use Rattle.fb_ranges.proofs.Frames.{all_besides}
-use Rattle.fb_ranges.proofs.Joins.{back_at, reset_besides, iterations_leave}
+use Rattle.fb_ranges.proofs.Joins.{ended_at, reset_besides, iterations_leave, taken_back}
+use Rattle.fb_ranges.proofs.Noted.{IsNoted}
 use Rattle.fb_ranges.proofs.Telling.{tell_last, tell_looped, told_kept}
 use Rattle.fb_ranges.proofs.examination.+examining.Goals as goal
 
@@ -108,16 +110,19 @@ examine_branches-loop-branch-preserved t c =
     let whole = tell (examine_choices rows (choices_of branches) other (spans_of c.args.ranges.now)) in
     let meets = subst (λ (u : Spans). met_by ways.count (ranges_after ways.count (mark_of ways) u) (ask_choices rows (choices_of (drop i branches)) asks (point u q)) ≡ all) back h.meets in
     let tells = subst (λ (u : Spans). longer ways.told (tell (examine_choices rows (choices_of (drop i branches)) other u)) ≡ whole) back h.tells in
-    let ends_so = subst (λ (u : Spans). reset xs (spans_of way.ends) u ≡ (ask rows (choice_of b).1 (point (narrowed (choice_of b).0 true s) q)).spans) back (c.in_ok-way.ensures.ends ∙ ap (λ (u : Spans). (ask rows (choice_of b).1 (point (narrowed (choice_of b).0 true u) q)).spans) back) in
+    let ends = λ (u : Spans). (ask rows (choice_of b).1 (point (narrowed (choice_of b).0 true u) q)).spans in
+    let besides = subst (λ (ys : List Name). Besides ys s (ends s)) (sym c.in_ok-way.ensures.touched) (branch_besides rows s (narrowed (choice_of b).0 true s) (choice_of b).0 (choice_of b).1 q refl) in
+    let ends_so = ended_at xs s (ends s) (ends s) besides (λ base. refl) in
+    let noted = c.in_ok-way.ensures.ends ∙ ap (λ (u : Spans). map (ends u) xs) back in
     let asked = c.in_ok-way.ensures.asks ∙ ap (λ (u : Spans). (ask rows (choice_of b).1 (point (narrowed (choice_of b).0 true u) q)).rows) back in
     let told = c.in_ok-way.ensures.tells ∙ ap (λ (u : Spans). tell (with_range (range_of (choice_of b).0 u) (λ r. examine rows (choice_of b).1 (narrowed (choice_of b).0 true u)))) back in
     let put = c.in_ok-narrow.ensures ∙ ap (λ (p : Chosen). narrowed p.0 false s) (sym (choice_is b)) in
     record {
       count = c.in_ok-merged.ensures.count ∙ ap (λ n. n + 1) h.count;
-      dated = c.in_ok-merged.ensures.dated;
+      dated = c.in_ok-merged.ensures.dated (ends s) noted;
       meets =
-          branch_asked rows branches i b asks ways.count merged.count (mark_of ways) (mark_of merged) s (spans_of way.ends) later q more xs all
-          c.loop-branch-test.true c.branch-item.is meets ends_so asked c.in_ok-way.ensures.touched c.in_ok-merged.ensures.count c.in_ok-merged.ensures.ranges put;
+          branch_asked rows branches i b asks ways.count merged.count (mark_of ways) (mark_of merged) s (ends s) later q more xs all
+          c.loop-branch-test.true c.branch-item.is meets ends_so asked c.in_ok-way.ensures.touched c.in_ok-merged.ensures.count (λ others. c.in_ok-merged.ensures.ranges (ends s) others noted) put;
       tells = branch_told rows branches i b other s later ways.told way.told merged.told whole c.loop-branch-test.true c.branch-item.is tells told c.in_ok-merged.ensures.told put;
     }
 
@@ -144,30 +149,38 @@ examine_arms-loop-arm-preserved t c =
     let meets = subst (λ (u : Spans). met_by ways.count (ranges_after ways.count (mark_of ways) u) (ask_cases rows (cases_of (drop i arms)) asks (point u q)) ≡ all) back h.meets in
     let tells = subst (λ (u : Spans). longer ways.told (tell (examine_cases rows (cases_of (drop i arms)) (other u) u)) ≡ whole) back h.tells in
     let body = ap commands_of c.deref.ensures.value ∙ ap (λ (p : Cased). p.1) (sym (case_is a)) in
-    let ends_so = subst (λ (u : Spans). reset xs (spans_of way.ends) u ≡ (ask rows (case_of a).1 (point s q)).spans) back (c.in_ok-way.ensures.ends ∙ ap₂ (λ (k : Commands) (u : Spans). (ask rows k (point u q)).spans) body back) in
+    let ends = λ (k : Commands) (u : Spans). (ask rows k (point u q)).spans in
+    let end = ends (case_of a).1 s in
+    let besides = subst (λ (ys : List Name). Besides ys s end) (sym (c.in_ok-way.ensures.touched ∙ ap assigned body)) (all_besides rows (case_of a).1 (point s q)) in
+    let ends_so = ended_at xs s end end besides (λ base. refl) in
+    let noted = c.in_ok-way.ensures.ends ∙ ap₂ (λ (k : Commands) (u : Spans). map (ends k u) xs) body back in
     let asked = c.in_ok-way.ensures.asks ∙ ap₂ (λ (k : Commands) (u : Spans). (ask rows k (point u q)).rows) body back in
     let told = c.in_ok-way.ensures.tells ∙ ap₂ (λ (k : Commands) (u : Spans). tell (examine rows k u)) body back in
     record {
       count = c.in_ok-merged.ensures.count ∙ ap (λ n. n + 1) h.count;
-      dated = c.in_ok-merged.ensures.dated;
+      dated = c.in_ok-merged.ensures.dated end noted;
       same = c.in_ok-way.ensures.unchanged ∙ h.same;
       meets =
-          arm_asked rows arms i a asks ways.count merged.count (mark_of ways) (mark_of merged) s (spans_of way.ends) q more xs all
-          c.loop-arm-test.true c.arm-item.is meets ends_so asked c.in_ok-merged.ensures.count c.in_ok-merged.ensures.ranges;
+          arm_asked rows arms i a asks ways.count merged.count (mark_of ways) (mark_of merged) s end q more xs all
+          c.loop-arm-test.true c.arm-item.is meets ends_so asked c.in_ok-merged.ensures.count (λ others. c.in_ok-merged.ensures.ranges end others noted);
       tells = arm_told rows arms i a (other s) s ways.told way.told merged.told whole c.loop-arm-test.true c.arm-item.is tells told c.in_ok-merged.ensures.told;
     }
 
 pub examine_last-returns-clause-ranges : goal.examine_last-returns-clause-ranges
 examine_last-returns-clause-ranges t c =
+    let rows = spans_of c.args.rows.now in
     let ways = c.args.ways in
-    let way = c.in_ok-way.way in
-    let xs = busy_of way.names.items in
+    let xs = busy_of c.in_ok-way.way.names.items in
+    let start = spans_of c.args.ranges.now in
     let s = spans_of c.examine_way.new.ranges in
-    let before = ranges_after ways.count (mark_of ways) (spans_of c.args.ranges.now) in
+    let a = commands_of c.args.body.now in
+    let from = point start (spans_of c.args.asked.now) in
+    let end = (ask rows a from).spans in
+    let besides = subst (λ (ys : List Name). Besides ys start end) (sym c.in_ok-way.ensures.touched) (all_besides rows a from) in
     c.in_ok-close.ensures
-    ∙ c.in_ok-merged.ensures.ranges s (λ x out. refl)
-    ∙ ap (λ (u : Spans). joint ways.count (ranges_after ways.count (mark_of ways) u) (reset xs (spans_of way.ends) u)) c.in_ok-way.ensures.unchanged
-    ∙ ap (joint ways.count before) c.in_ok-way.ensures.ends
+    ∙ c.in_ok-merged.ensures.ranges end s c.in_ok-way.ensures.ends (λ x out. refl)
+    ∙ ap (λ (u : Spans). joint ways.count (ranges_after ways.count (mark_of ways) u) (reset xs end u)) c.in_ok-way.ensures.unchanged
+    ∙ ap (joint ways.count (ranges_after ways.count (mark_of ways) start)) (ended_at xs start end end besides (λ base. refl))
 
 pub examine_branch-returns-clause-ends : goal.examine_branch-returns-clause-ends
 examine_branch-returns-clause-ends t c =
@@ -181,11 +194,8 @@ examine_branch-returns-clause-ends t c =
     let way = c.in_ok-ended.field-0 in
     let after = spans_of c.examine.new.ranges in
     let asks = c.in_ok-told.ensures.asks ∙ ap (λ (l : List TypedStmt). ask rows (commands_of l) (point begin q)) c.deref-3.ensures.value in
-    let names = c.in_ok-names.ensures ∙ ap (λ (l : List TypedStmt). read_in e ++ assigned (commands_of l)) c.deref.ensures.value in
-    let besides = subst (λ (ys : List Name). Besides ys s after) (sym names) (subst (λ (u : Spans). Besides (read_in e ++ assigned a) s u) (sym (ap (λ (p : Asked). p.spans) asks)) (branch_besides rows s begin e a q c.in_ok-narrow.ensures)) in
-    way_ends (busy_of c.in_ok-names.names.items) (busy_of way.names.items) s after (spans_of way.ends) besides c.in_ok-ended.ensures.names c.in_ok-ended.ensures.ends
-    ∙ ap (λ (p : Asked). p.spans) (asks ∙ ap (λ (u : Spans). ask rows a (point u q)) c.in_ok-narrow.ensures)
-    ∙ ap (λ (p : Chosen). (ask rows p.1 (point (narrowed p.0 true s) q)).spans) (sym (choice_is b))
+    let end = ap (λ (p : Asked). p.spans) (asks ∙ ap (λ (u : Spans). ask rows a (point u q)) c.in_ok-narrow.ensures) ∙ ap (λ (p : Chosen). (ask rows p.1 (point (narrowed p.0 true s) q)).spans) (sym (choice_is b)) in
+    c.in_ok-ended.ensures.ends ∙ ap₂ (λ (u : Spans) (ys : List Name). map u ys) end (sym c.in_ok-ended.ensures.names)
 
 pub examine_branch-returns-clause-unchanged : goal.examine_branch-returns-clause-unchanged
 examine_branch-returns-clause-unchanged t c =
@@ -200,19 +210,13 @@ examine_branch-returns-clause-unchanged t c =
     let asks = c.in_ok-told.ensures.asks ∙ ap (λ (l : List TypedStmt). ask rows (commands_of l) (point begin q)) c.deref-3.ensures.value in
     let names = c.in_ok-names.ensures ∙ ap (λ (l : List TypedStmt). read_in e ++ assigned (commands_of l)) c.deref.ensures.value in
     let besides = subst (λ (ys : List Name). Besides ys s after) (sym names) (subst (λ (u : Spans). Besides (read_in e ++ assigned a) s u) (sym (ap (λ (p : Asked). p.spans) asks)) (branch_besides rows s begin e a q c.in_ok-narrow.ensures)) in
-    let noted = subst (λ (l : List (String Global)). (base : Spans) → reset (busy_of l) (spans_of c.in_ok-before.before) base ≡ reset (busy_of l) s base) c.deref-2.ensures.value c.in_ok-before.ensures in
-    back_at (busy_of c.in_ok-names.names.items) s after (spans_of c.in_ok-before.before) (spans_of c.ended.new.ranges) besides noted c.in_ok-ended.ensures.ranges
+    let noted = subst (λ (l : List (String Global)). IsNoted l s c.in_ok-before.before.items) c.deref-2.ensures.value c.in_ok-before.ensures in
+    let here = subst (λ (rs : List Interval). IsNoted c.in_ok-names.names.items s rs) (sym c.deref-4.ensures.value) noted in
+    c.in_ok-ended.ensures.ranges s here ∙ taken_back (busy_of c.in_ok-names.names.items) s after besides
 
 pub examine_way-returns-clause-ends : goal.examine_way-returns-clause-ends
 examine_way-returns-clause-ends t c =
-    let rows = spans_of c.args.rows.now in
-    let s = spans_of c.args.ranges.now in
-    let a = commands_of c.args.body.now in
-    let way = c.in_ok-ended.field-0 in
-    let after = spans_of c.examine.new.ranges in
-    let asks = ap (λ (p : Asked). p.spans) c.in_ok-told.ensures.asks in
-    let besides = subst (λ (ys : List Name). Besides ys s after) (sym c.in_ok-names.ensures) (subst (λ (u : Spans). Besides (assigned a) s u) (sym asks) (all_besides rows a (point s (spans_of c.args.asked.now)))) in
-    way_ends (busy_of c.in_ok-names.names.items) (busy_of way.names.items) s after (spans_of way.ends) besides c.in_ok-ended.ensures.names c.in_ok-ended.ensures.ends ∙ asks
+    c.in_ok-ended.ensures.ends ∙ ap₂ (λ (u : Spans) (ys : List Name). map u ys) (ap (λ (p : Asked). p.spans) c.in_ok-told.ensures.asks) (sym c.in_ok-ended.ensures.names)
 
 pub examine_way-returns-clause-unchanged : goal.examine_way-returns-clause-unchanged
 examine_way-returns-clause-unchanged t c =
@@ -222,8 +226,9 @@ examine_way-returns-clause-unchanged t c =
     let after = spans_of c.examine.new.ranges in
     let asks = ap (λ (p : Asked). p.spans) c.in_ok-told.ensures.asks in
     let besides = subst (λ (ys : List Name). Besides ys s after) (sym c.in_ok-names.ensures) (subst (λ (u : Spans). Besides (assigned a) s u) (sym asks) (all_besides rows a (point s (spans_of c.args.asked.now)))) in
-    let noted = subst (λ (l : List (String Global)). (base : Spans) → reset (busy_of l) (spans_of c.in_ok-before.before) base ≡ reset (busy_of l) s base) c.deref.ensures.value c.in_ok-before.ensures in
-    back_at (busy_of c.in_ok-names.names.items) s after (spans_of c.in_ok-before.before) (spans_of c.ended.new.ranges) besides noted c.in_ok-ended.ensures.ranges
+    let noted = subst (λ (l : List (String Global)). IsNoted l s c.in_ok-before.before.items) c.deref.ensures.value c.in_ok-before.ensures in
+    let here = subst (λ (rs : List Interval). IsNoted c.in_ok-names.names.items s rs) (sym c.deref-2.ensures.value) noted in
+    c.in_ok-ended.ensures.ranges s here ∙ taken_back (busy_of c.in_ok-names.names.items) s after besides
 
 pub examine_iterations-iterated-requires : goal.examine_iterations-iterated-requires
 examine_iterations-iterated-requires t c =

@@ -1,11 +1,16 @@
-use Rattle.std.proofs.Common.{ap, ◌∙◌}
-use Rattle.fb_model.specs.Clear.{reset}
+use Rattle.std.proofs.Common.{◌≡◌, length, ap, ◌∙◌, arith, map}
+use Rattle.std.proofs.lemmas.List.{take_all}
 use Rattle.st_types.specs.CommandViews.{busy_of}
+use Rattle.fb_ranges_intervals.specs.Views.{span_of}
 use Rattle.fb_ranges.specs.Views.{spans_of}
-use Rattle.fb_ranges.proofs.Joins.{reset_again}
+use Rattle.fb_ranges.proofs.Noted.{noted_next}
 use Rattle.fb_ranges.proofs.merge.noted.Goals as goal
 
+pub loop-name-preserved : goal.loop-name-preserved
+loop-name-preserved c =
+    ap (map span_of) c.in_ok-push.ensures.items
+    ∙ noted_next c.args.names.now c.loop-name.name-index c.name-item.result (spans_of c.args.ranges.now) c.loop-name.noted.items c.find.result c.as_str.result.now
+    c.loop-name-test.true c.name-item.is c.as_str.ensures.value c.find.ensures c.loop-name.invariant
+
 pub returns : goal.returns
-returns c = λ base.
-    let xs = busy_of c.args.names.now in
-    ap (λ s. reset xs s base) c.in_ok-reset.ensures ∙ reset_again xs (spans_of c.args.ranges.now) (spans_of c.new-noted.result) base
+returns c = c.loop-name.invariant ∙ ap (λ ns. map (spans_of c.args.ranges.now) (busy_of ns)) (take_all c.loop-name.name-index c.args.names.now (omega (arith, c.loop-name-test.false)))
