@@ -5,6 +5,7 @@ pub mod Conditions
 pub mod Joins
 pub mod Covers
 pub mod Frames
+pub mod Asking
 pub mod Ways
 pub mod Telling
 pub mod Blocks

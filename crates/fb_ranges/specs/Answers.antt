@@ -16,6 +16,13 @@ IsExamined (Err f.Leaves) found = found ≡ Leaves
 IsExamined (Err f.Traps) found = found ≡ Traps
 IsExamined (Err f.OutOfMemory) found = Unit {0}
 
+-- so it is, unless memory runs out
+abbrev pub UnlessMemory : {X : Type 0} → Result X RangeFault → Type 0 → Type 0
+UnlessMemory (Ok x) Holds = Holds
+UnlessMemory (Err f.Leaves) Holds = Holds
+UnlessMemory (Err f.Traps) Holds = Holds
+UnlessMemory (Err f.OutOfMemory) Holds = Unit {0}
+
 -- the most steps, where what was found is clear and they are no more than 1,000,000,000,000
 abbrev pub most_steps : Found → Option ℕ
 most_steps (Clear end n) = if nat_le n 1000000000000 then Some n else None

@@ -280,30 +280,30 @@ fn examine_iterations(
     ask_all(&names, ranges, asked)?;
     reset(&names, rows, ranges)?;
     let before = ranges.find(name);
-    let own = taken(first, last, step, iterations);
-    let told = examine_body(alloc, rows, name, own, &names, body, ranges, asked)?;
+    ranges.insert(name, taken(first, last, step, iterations))?;
+    let told = examine_keeping(alloc, rows, &names, body, ranges, asked)?;
     ranges.insert(name, left_with(first, last, step, iterations, before))?;
     Ok(iterated(iterations, begins, told))
 }
 
-// The body of a FOR, once for all iterations; it has to keep the rows of the variables that it assigns, and these have them afterwards.
+/// Statements that have to keep the rows of the variables that they assign: an algorithm, or the body of a FOR, once for all iterations.
+/// Afterwards these variables have their rows.
+///
+/// Fails where memory runs out; then nothing is said of the ranges.
 #[cycle(examining)]
-fn examine_body(
+pub(crate) fn examine_keeping(
     alloc: Global,
     rows: &Ranges,
-    name: &str,
-    own: Interval,
     names: &[String],
     body: &[TypedStmt],
     ranges: &mut Ranges,
     asked: &mut Ranges,
 ) -> Result<Told, AllocError>
-    requires { busy_of names.now ≡ book.assigned (commands_of body.now) }
-    ensures asks { OnOk result (spans_of asked.new ≡ (let end = asking.ask (spans_of rows.now) (commands_of body.now) (point (book.changed name.now (λ b. span_of own) (spans_of ranges.old)) (spans_of asked.old)) in asking.asking_all (busy_of names.now) end.spans end.rows)) }
-    ensures tells { IfOk result (λ told. told ≡ tell (book.kept (spans_of rows.now) (busy_of names.now) (book.examine (spans_of rows.now) (commands_of body.now) (book.changed name.now (λ b. span_of own) (spans_of ranges.old))))) }
-    ensures rest { OnOk result (spans_of ranges.new ≡ book.reset (busy_of names.now) (spans_of rows.now) (book.changed name.now (λ b. span_of own) (spans_of ranges.old))) }
+    requires named { busy_of names.now ≡ book.assigned (commands_of body.now) }
+    ensures asks { OnOk result (spans_of asked.new ≡ (let end = asking.ask (spans_of rows.now) (commands_of body.now) (point (spans_of ranges.old) (spans_of asked.old)) in asking.asking_all (busy_of names.now) end.spans end.rows)) }
+    ensures tells { IfOk result (λ told. told ≡ tell (book.kept (spans_of rows.now) (busy_of names.now) (book.examine (spans_of rows.now) (commands_of body.now) (spans_of ranges.old)))) }
+    ensures rest { OnOk result (spans_of ranges.new ≡ book.reset (busy_of names.now) (spans_of rows.now) (spans_of ranges.old)) }
 {
-    ranges.insert(name, own)?;
     let told = examine(alloc, rows, body, ranges, asked)?;
     ask_all(names, ranges, asked)?;
     let all = keeping(are_kept(names, rows, ranges), told);

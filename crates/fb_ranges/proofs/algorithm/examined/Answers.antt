@@ -1,24 +1,38 @@
-use Rattle.std.proofs.Common.{List, sym, ap, ap₂, subst, ◌∙◌}
-use Rattle.fb_model.specs.Clear.{Spans, are_kept, assigned, examine}
-use Rattle.fb_model_laws.specs.Asking.{Asked, point, ask}
-use Rattle.fb_model_laws.proofs.Ending.{Ends, ends}
+use Rattle.std.proofs.Common.{◌≡◌, List, refl, ap, ap₂, ◌∙◌}
+use Rattle.fb_model.specs.Names.{Name}
+use Rattle.fb_model.specs.Spans.{joined}
+use Rattle.fb_model.specs.Clear.{Spans, assigned, reset}
+use Rattle.fb_model_laws.specs.Asking.{asking_all, ask, grown, point}
 use Rattle.st_types.specs.declared.command.TypedStmt.{TypedStmt}
 use Rattle.st_types.specs.CommandViews.{busy_of, commands_of}
-use Rattle.fb_ranges.specs.Finding.{tell}
 use Rattle.fb_ranges.specs.Views.{spans_of}
-use Rattle.fb_ranges.proofs.Telling.{told_kept}
+use Rattle.fb_ranges.proofs.Asking.{grown_alike}
+use Rattle.fb_ranges.proofs.Blocks.{on_ok}
+use Rattle.fb_ranges.proofs.Joins.{taken_back}
 use Rattle.fb_ranges.proofs.algorithm.examined.Goals as goal
 
-pub returns-clause-tells : goal.returns-clause-tells
-returns-clause-tells c =
+pub returns-clause-asks : goal.returns-clause-asks
+returns-clause-asks c =
     let rows = spans_of c.args.rows.now in
     let a = commands_of c.args.algo.now.statements.items in
-    let q = spans_of c.in_ok-asked.asked in
-    let after = spans_of c.examine.new.ranges in
-    let found = examine rows a rows in
-    let told = c.in_ok-told.ensures.tells ∙ ap₂ (λ (l : List TypedStmt) (s : Spans). tell (examine rows (commands_of l) s)) c.deref.ensures.value c.in_ok-ranges.ensures in
-    let asks = c.in_ok-told.ensures.asks ∙ ap₂ (λ (l : List TypedStmt) (s : Spans). ask rows (commands_of l) (point s q)) c.deref.ensures.value c.in_ok-ranges.ensures in
-    let end = subst (Ends found) (sym (ap (λ (p : Asked). p.spans) asks)) (ends rows a (point rows q)) in
-    let names = ap busy_of c.deref-4.ensures.value ∙ c.in_ok-names.ensures ∙ ap (λ (l : List TypedStmt). assigned (commands_of l)) c.deref-2.ensures.value in
-    let held = c.are_kept.ensures ∙ ap (λ xs. are_kept xs rows after) names in
-    told_kept rows (assigned a) found after c.in_ok-told.told c.keeping-all.result c.are_kept.result end told held c.keeping-all.ensures
+    let list = c.deref-3.result.now in
+    let work = spans_of c.args.work.now in
+    let old = spans_of c.args.asked.now in
+    let new = spans_of c.examine_keeping.new.asked in
+    let asks = λ (xs : List Name) (l : List TypedStmt) (s : Spans). let end = ask rows (commands_of l) (point s old) in asking_all xs end.spans end.rows in
+    let names = ap busy_of c.deref-2.ensures.value ∙ c.in_ok-names.ensures ∙ ap (λ (l : List TypedStmt). assigned (commands_of l)) c.deref.ensures.value in
+    let is = ap (λ (xs : List Name). asks xs list work) names ∙ ap₂ (asks (assigned a)) c.deref-3.ensures.value c.requires in
+    on_ok c.examine_keeping.result (new ≡ asks (busy_of c.deref-2.result.now) list work) ((x : Name) → joined (new x) (rows x) ≡ joined (old x) (grown rows a x))
+    (λ h. λ x. ap (λ (t : Spans). joined (t x) (rows x)) (h ∙ is) ∙ grown_alike rows old a x)
+    c.examine_keeping.ensures.asks
+
+pub returns-clause-rest : goal.returns-clause-rest
+returns-clause-rest c =
+    let rows = spans_of c.args.rows.now in
+    let a = commands_of c.args.algo.now.statements.items in
+    let work = spans_of c.args.work.now in
+    let new = spans_of c.examine_keeping.new.ranges in
+    let names = ap busy_of c.deref-2.ensures.value ∙ c.in_ok-names.ensures ∙ ap (λ (l : List TypedStmt). assigned (commands_of l)) c.deref.ensures.value in
+    on_ok c.examine_keeping.result (new ≡ reset (busy_of c.deref-2.result.now) rows work) (new ≡ rows)
+    (λ h. h ∙ ap₂ (λ (xs : List Name) (s : Spans). reset xs rows s) names c.requires ∙ taken_back (assigned a) rows rows (λ x out. refl))
+    c.examine_keeping.ensures.rest

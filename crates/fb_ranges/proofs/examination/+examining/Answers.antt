@@ -245,9 +245,10 @@ examine_iterations-returns-clause-asks t c =
     let spans = spans_of c.args.ranges.now in
     let q = spans_of c.args.asked.now in
     let base = spans_of c.reset.new.ranges in
-    let after = spans_of c.insert.new.self in
+    let begin = spans_of c.insert.new.self in
+    let after = spans_of c.insert-2.new.self in
     let asked = spans_of c.ask_all.new.asked in
-    let own = span_of c.taken-own.result in
+    let own = span_of c.taken.result in
     let left = span_of c.left_with.result in
     let x = c.args.name.now in
     let f = ask rows (commands_of c.args.body.now) in
@@ -258,16 +259,17 @@ examine_iterations-returns-clause-asks t c =
     let some : 0 < n = subst (λ m. 0 < m) (sym iterations) c.requires.1.1 in
     let begins : asked ≡ asking_all xs spans q = c.in_ok-ask_all.ensures ∙ ap (λ ys. asking_all ys spans q) (ap busy_of c.deref-2.ensures.value ∙ c.in_ok-names.ensures) in
     let same : base ≡ reset xs rows spans = c.in_ok-reset.ensures ∙ ap (λ ys. reset ys rows spans) (ap busy_of c.deref-3.ensures.value ∙ c.in_ok-names.ensures) in
-    let o : own ≡ taken r s c.args.step n = c.taken-own.ensures ∙ ap (λ z. taken r s z n) k in
+    let o : own ≡ taken r s c.args.step n = c.taken.ensures ∙ ap (λ z. taken r s z n) k in
     let l : left ≡ left_with r s c.args.step n (base x) = c.left_with.ensures ∙ ap₂ (λ z b. left_with r s z n b) k c.find-before.ensures in
     let names = ap busy_of c.deref-4.ensures.value ∙ c.in_ok-names.ensures in
+    let set : begin ≡ changed x (λ b. own) base = c.in_ok-insert.ensures.set in
     let put : after ≡ changed x (λ b. left) base =
-    c.in_ok-insert.ensures.set
-    ∙ ap (changed x (λ b. left)) (c.in_ok-told.ensures.rest ∙ ap₂ (λ (ys : List Name) (u : Spans). reset ys rows (changed x (λ b. own) u)) names same)
+    c.in_ok-insert-2.ensures.set
+    ∙ ap (changed x (λ b. left)) (c.in_ok-told.ensures.rest ∙ ap₂ (λ (ys : List Name) (u : Spans). reset ys rows u) names (set ∙ ap (changed x (λ b. own)) same))
     ∙ iterations_leave xs rows spans x own left
     ∙ ap (changed x (λ b. left)) (sym same) in
-    let end = f (point (changed x (λ b. own) base) asked) in
-    iterations_asked n xs rows f x r s c.args.step (point spans q) base after asked (spans_of c.examine_body.new.asked) own left some same o l put begins (c.in_ok-told.ensures.asks ∙ ap (λ ys. asking_all ys end.spans end.rows) names)
+    let asks = λ (ys : List Name) (u : Spans). let end = f (point u asked) in asking_all ys end.spans end.rows in
+    iterations_asked n xs rows f x r s c.args.step (point spans q) base after asked (spans_of c.examine_keeping.new.asked) own left some same o l put begins (c.in_ok-told.ensures.asks ∙ ap₂ asks names set)
     ∙ ap (λ m. asked_loop m xs rows f x r s c.args.step (point spans q)) iterations
 
 pub examine_iterations-returns-clause-tells : goal.examine_iterations-returns-clause-tells
@@ -277,7 +279,7 @@ examine_iterations-returns-clause-tells t c =
     let rows = spans_of c.args.rows.now in
     let spans = spans_of c.args.ranges.now in
     let base = spans_of c.reset.new.ranges in
-    let own = span_of c.taken-own.result in
+    let own = span_of c.taken.result in
     let x = c.args.name.now in
     let body = examine rows (commands_of c.args.body.now) in
     let xs = assigned (commands_of c.args.body.now) in
@@ -287,44 +289,36 @@ examine_iterations-returns-clause-tells t c =
     let some : 0 < n = subst (λ m. 0 < m) (sym iterations) c.requires.1.1 in
     let begins : c.are_kept-begins.result ≡ are_kept xs rows spans = c.are_kept-begins.ensures ∙ ap (λ ys. are_kept ys rows spans) (ap busy_of c.deref.ensures.value ∙ c.in_ok-names.ensures) in
     let same : base ≡ reset xs rows spans = c.in_ok-reset.ensures ∙ ap (λ ys. reset ys rows spans) (ap busy_of c.deref-3.ensures.value ∙ c.in_ok-names.ensures) in
-    let o : own ≡ taken r s c.args.step n = c.taken-own.ensures ∙ ap (λ z. taken r s z n) k in
+    let o : own ≡ taken r s c.args.step n = c.taken.ensures ∙ ap (λ z. taken r s z n) k in
     let names = ap busy_of c.deref-4.ensures.value ∙ c.in_ok-names.ensures in
-    let told = c.in_ok-told.ensures.tells ∙ ap (λ ys. tell (kept rows ys (body (changed x (λ b. own) base)))) names ∙ ap₂ (λ p (u : Spans). tell (kept rows xs (body (changed x (λ b. p) u)))) o same in
+    let set = c.in_ok-insert.ensures.set ∙ ap₂ (λ p (u : Spans). changed x (λ b. p) u) o same in
+    let told = c.in_ok-told.ensures.tells ∙ ap₂ (λ (ys : List Name) (u : Spans). tell (kept rows ys (body u))) names set in
     c.iterated.ensures
     ∙ ap₂ (iterated n) begins told
     ∙ sym (tell_looped n xs rows body x r s c.args.step spans some)
     ∙ ap (λ m. tell (looped m xs rows body x r s c.args.step spans)) iterations
 
-pub examine_body-returns-clause-asks : goal.examine_body-returns-clause-asks
-examine_body-returns-clause-asks t c =
-    let rows = spans_of c.args.rows.now in
-    let a = commands_of c.args.body.now in
-    let q = spans_of c.args.asked.now in
-    let xs = busy_of c.args.names.now in
-    c.in_ok-ask_all.ensures
-    ∙ ap (λ (p : Asked). asking_all xs p.spans p.rows) (c.in_ok-told.ensures.asks ∙ ap (λ (u : Spans). ask rows a (point u q)) c.in_ok-insert.ensures.set)
+pub examine_keeping-returns-clause-asks : goal.examine_keeping-returns-clause-asks
+examine_keeping-returns-clause-asks t c = c.in_ok-ask_all.ensures ∙ ap (λ (p : Asked). asking_all (busy_of c.args.names.now) p.spans p.rows) c.in_ok-told.ensures.asks
 
-pub examine_body-returns-clause-tells : goal.examine_body-returns-clause-tells
-examine_body-returns-clause-tells t c =
+pub examine_keeping-returns-clause-tells : goal.examine_keeping-returns-clause-tells
+examine_keeping-returns-clause-tells t c =
     let rows = spans_of c.args.rows.now in
     let a = commands_of c.args.body.now in
-    let q = spans_of c.args.asked.now in
-    let xs = busy_of c.args.names.now in
-    let begin = spans_of c.insert.new.self in
+    let begin = spans_of c.args.ranges.now in
     let after = spans_of c.examine.new.ranges in
     let found = examine rows a begin in
-    let end = subst (Ends found) (sym (ap (λ (p : Asked). p.spans) c.in_ok-told.ensures.asks)) (ends rows a (point begin q)) in
-    told_kept rows xs found after c.in_ok-told.told c.keeping-all.result c.are_kept.result end c.in_ok-told.ensures.tells c.are_kept.ensures c.keeping-all.ensures
-    ∙ ap (λ (u : Spans). tell (kept rows xs (examine rows a u))) c.in_ok-insert.ensures.set
+    let end = subst (Ends found) (sym (ap (λ (p : Asked). p.spans) c.in_ok-told.ensures.asks)) (ends rows a (point begin (spans_of c.args.asked.now))) in
+    told_kept rows (busy_of c.args.names.now) found after c.in_ok-told.told c.keeping-all.result c.are_kept.result end c.in_ok-told.ensures.tells c.are_kept.ensures c.keeping-all.ensures
 
-pub examine_body-returns-clause-rest : goal.examine_body-returns-clause-rest
-examine_body-returns-clause-rest t c =
+pub examine_keeping-returns-clause-rest : goal.examine_keeping-returns-clause-rest
+examine_keeping-returns-clause-rest t c =
     let rows = spans_of c.args.rows.now in
     let a = commands_of c.args.body.now in
-    let q = spans_of c.args.asked.now in
     let xs = busy_of c.args.names.now in
-    let begin = spans_of c.insert.new.self in
+    let begin = spans_of c.args.ranges.now in
     let after = spans_of c.examine.new.ranges in
     let besides : Besides xs begin after =
-    subst (λ (ys : List Name). Besides ys begin after) (sym c.requires.1.1) (subst (λ (u : Spans). Besides (assigned a) begin u) (sym (ap (λ (p : Asked). p.spans) c.in_ok-told.ensures.asks)) (all_besides rows a (point begin q))) in
-    c.in_ok-reset.ensures ∙ reset_besides xs rows begin after besides ∙ ap (reset xs rows) c.in_ok-insert.ensures.set
+    subst (λ (ys : List Name). Besides ys begin after) (sym c.requires.named)
+    (subst (λ (u : Spans). Besides (assigned a) begin u) (sym (ap (λ (p : Asked). p.spans) c.in_ok-told.ensures.asks)) (all_besides rows a (point begin (spans_of c.args.asked.now)))) in
+    c.in_ok-reset.ensures ∙ reset_besides xs rows begin after besides

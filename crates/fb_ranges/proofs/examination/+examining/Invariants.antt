@@ -40,8 +40,8 @@ decreases-examine_for l = 5 * most stmt_size l.body.now + 4
 abbrev pub decreases-examine_iterations : goal.decreases-examine_iterations
 decreases-examine_iterations l = 5 * most stmt_size l.body.now + 3
 
-abbrev pub decreases-examine_body : goal.decreases-examine_body
-decreases-examine_body l = 5 * most stmt_size l.body.now + 2
+abbrev pub decreases-examine_keeping : goal.decreases-examine_keeping
+decreases-examine_keeping l = 5 * most stmt_size l.body.now + 2
 
 abbrev pub invariant-examine-loop-statement : goal.invariant-examine-loop-statement
 invariant-examine-loop-statement l =
