@@ -113,6 +113,10 @@ fn merge_row(ways: &mut Ways, name: &str, before: Interval, end: Interval) -> Re
         range: next_range(ways, name, before, end),
         ways: ways.count + 1,
     };
+    if let Some(before) = ways.rows.get_mut(name) {
+        *before = reached;
+        return Ok(());
+    }
     let key = String::from_str(ways.alloc, name)?;
     ways.rows.insert(key, reached)?;
     Ok(())

@@ -1,10 +1,7 @@
-use Rattle.std.proofs.Common.{◌≡◌, Option, Some, None, ap, sym, ◌∙◌, arith, length, take}
-use Rattle.std.proofs.lemmas.List.{take_all}
+use Rattle.std.proofs.Common.{ap, sym, ◌∙◌}
 use Rattle.std.specs.Prelude.{if◌then◌else◌}
 use Rattle.std.specs.Str.{bytes_eq}
-use Rattle.st_types.specs.CommandViews.{busy_of}
 use Rattle.fb_ranges_intervals.specs.Views.{span_of}
-use Rattle.fb_ranges.specs.Meeting.{marked}
 use Rattle.fb_ranges.specs.Views.{mark_of, spans_of}
 use Rattle.fb_ranges.proofs.Noted.{noted_at}
 use Rattle.fb_ranges.proofs.Ways.{next_mark, same_mark}

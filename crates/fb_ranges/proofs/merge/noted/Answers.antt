@@ -1,4 +1,4 @@
-use Rattle.std.proofs.Common.{◌≡◌, length, ap, ◌∙◌, arith, map}
+use Rattle.std.proofs.Common.{ap, ◌∙◌, arith, map}
 use Rattle.std.proofs.lemmas.List.{take_all}
 use Rattle.st_types.specs.CommandViews.{busy_of}
 use Rattle.fb_ranges_intervals.specs.Views.{span_of}
