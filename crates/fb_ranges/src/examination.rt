@@ -10,7 +10,7 @@ ghost use Rattle.fb_model.specs.Spans.{within, span};
 ghost use Rattle.fb_model_laws.specs.Asking as asking;
 ghost use Rattle.fb_model_laws.specs.Asking.{point, range_in};
 ghost use Rattle.st_types.specs.Views.{term_of};
-ghost use Rattle.st_types.specs.CommandViews.{busy_of, case_of, cases_of, choice_of, choices_of, command_of, commands_of, counted_command, counting_of};
+ghost use Rattle.st_types.specs.CommandViews.{busy_of, cases_of, choice_of, choices_of, command_of, commands_of, counted_command, counting_of};
 ghost use Rattle.fb_ranges.specs.Finding.{longer, tell};
 ghost use Rattle.fb_ranges.specs.Meeting.{Dated, joint, ranges_after};
 ghost use Rattle.fb_ranges.specs.Narrowing.{read_in};
@@ -30,6 +30,14 @@ use fb_ranges_intervals::{Interval, is_within, left_with, most_iterations, taken
 use st_types::{Counting, TypedArm, TypedBranch, TypedExpr, TypedStmt};
 use std::alloc::{AllocError, Global};
 
+// The ranges of the numbers from which and to which a FOR counts, and its step.
+#[derive(Clone, Copy)]
+struct Bounds {
+    first: Interval,
+    last: Interval,
+    step: i64,
+}
+
 // A variable gets a value.
 fn examine_set(name: &str, value: &TypedExpr, ranges: &mut Ranges) -> Result<Told, AllocError>
     ensures ranges { OnOk result (spans_of ranges.new ≡ book.changed name.now (λ b. range_in (term_of value.now) (spans_of ranges.old)) (spans_of ranges.old)) }
@@ -40,20 +48,11 @@ fn examine_set(name: &str, value: &TypedExpr, ranges: &mut Ranges) -> Result<Tol
     Ok(trapping(value.is_clear, Told::Steps(1)))
 }
 
-// What is told of an element of an array that gets a value.
-fn element_told(
-    rows: &Ranges,
-    name: &str,
-    low: i64,
-    high: i64,
-    index: &TypedExpr,
-    value: Ranged,
-    ranges: &Ranges,
-) -> Told
-    ensures { result ≡ tell (with_range (book.range_of (term_of index.now) (spans_of ranges.now)) (λ k. with_range (clear_range value) (λ r. if within k (span low high) then (if within r (spans_of rows.now name.now) then Clear (spans_of ranges.now) 1 else Leaves) else Traps))) }
+// What is told of an element of an array between these bounds that gets a value, by its array's row.
+fn element_told(row: Interval, low: i64, high: i64, index: Ranged, value: Ranged) -> Told
+    ensures { (s : book.Spans) → result ≡ tell (with_range (clear_range index) (λ k. with_range (clear_range value) (λ r. if within k (span low high) then (if within r (span_of row) then Clear s 1 else Leaves) else Traps))) }
 {
-    let index = range(index, ranges);
-    let stays = is_within(value.range, rows.find(name));
+    let stays = is_within(value.range, row);
     let fits = is_between(index.range, low, high);
     let told = trapping(fits, keeping(stays, Told::Steps(1)));
     trapping(index.is_clear, trapping(value.is_clear, told))
@@ -96,9 +95,11 @@ pub fn examine_one(
     match statement {
         TypedStmt::Set(name, value) => examine_set(name.as_str(), value, ranges),
         TypedStmt::SetElement(name, low, high, index, value) => {
+            let index = range(index, ranges);
             let value = range(value, ranges);
             ask(name.as_str(), value.range, asked)?;
-            Ok(element_told(rows, name.as_str(), *low, *high, index, value, ranges))
+            let row = rows.find(name.as_str());
+            Ok(element_told(row, *low, *high, index, value))
         }
         TypedStmt::If(branches, other) => {
             let told = examine_branches(alloc, rows, branches, other, ranges, asked)?;
@@ -243,17 +244,13 @@ fn examine_for(
     if most_iterations(first.range, last.range, counting.step) == 0 {
         return Ok(trapping(are_clear, Told::Steps(1)));
     }
-    let told = examine_iterations(
-        alloc,
-        rows,
-        counting.variable.as_str(),
-        first.range,
-        last.range,
-        counting.step,
-        body,
-        ranges,
-        asked,
-    )?;
+    let name = counting.variable.as_str();
+    let bounds = Bounds {
+        first: first.range,
+        last: last.range,
+        step: counting.step,
+    };
+    let told = examine_iterations(alloc, rows, name, bounds, body, ranges, asked)?;
     Ok(trapping(are_clear, told))
 }
 
@@ -263,17 +260,16 @@ fn examine_iterations(
     alloc: Global,
     rows: &Ranges,
     name: &str,
-    first: Interval,
-    last: Interval,
-    step: i64,
+    bounds: Bounds,
     body: &[TypedStmt],
     ranges: &mut Ranges,
     asked: &mut Ranges,
 ) -> Result<Told, AllocError>
-    requires { 0 < book.most_iterations (span_of first) (span_of last) step }
-    ensures asks { OnOk result (point (spans_of ranges.new) (spans_of asked.new) ≡ asking.asked_loop (book.most_iterations (span_of first) (span_of last) step) (book.assigned (commands_of body.now)) (spans_of rows.now) (asking.ask (spans_of rows.now) (commands_of body.now)) name.now (span_of first) (span_of last) step (point (spans_of ranges.old) (spans_of asked.old))) }
-    ensures tells { IfOk result (λ told. told ≡ tell (book.looped (book.most_iterations (span_of first) (span_of last) step) (book.assigned (commands_of body.now)) (spans_of rows.now) (book.examine (spans_of rows.now) (commands_of body.now)) name.now (span_of first) (span_of last) step (spans_of ranges.old))) }
+    requires { 0 < book.most_iterations (span_of bounds.first) (span_of bounds.last) bounds.step }
+    ensures asks { OnOk result (point (spans_of ranges.new) (spans_of asked.new) ≡ asking.asked_loop (book.most_iterations (span_of bounds.first) (span_of bounds.last) bounds.step) (book.assigned (commands_of body.now)) (spans_of rows.now) (asking.ask (spans_of rows.now) (commands_of body.now)) name.now (span_of bounds.first) (span_of bounds.last) bounds.step (point (spans_of ranges.old) (spans_of asked.old))) }
+    ensures tells { IfOk result (λ told. told ≡ tell (book.looped (book.most_iterations (span_of bounds.first) (span_of bounds.last) bounds.step) (book.assigned (commands_of body.now)) (spans_of rows.now) (book.examine (spans_of rows.now) (commands_of body.now)) name.now (span_of bounds.first) (span_of bounds.last) bounds.step (spans_of ranges.old))) }
 {
+    let Bounds { first, last, step } = bounds;
     let iterations = most_iterations(first, last, step);
     let names = names_assigned(alloc, body)?;
     let begins = are_kept(&names, rows, ranges);
