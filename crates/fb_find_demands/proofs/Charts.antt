@@ -1,5 +1,6 @@
 -- States and transitions of tables in the book.
-use Rattle.std.proofs.Common.{◌≡◌, ℕ, Bool, true, false, cond, List, [], ◌∷◌, ◌++◌, map, Option, Some, None, refl, sym, ap, ◌∙◌, string_bytes}
+use Rattle.std.proofs.Common.{◌≡◌, ℕ, ◌+◌, arith, Bool, true, false, cond, List, [], ◌∷◌, ◌++◌, map, Option, Some, None, refl, sym, ap, ◌∙◌, string_bytes}
+use Rattle.std.specs.List.{AllZip}
 use Rattle.std.specs.Map.{lookup}
 use Rattle.std.specs.Str.{bytes_eq}
 use Rattle.std.specs.declared.string.String.{String}
@@ -54,6 +55,21 @@ actions_are (e ∷ es) x = ap (cond (bytes_eq x (string_bytes e.0)) (map action_
 pub says : (f : Node → ℕ) (d : Demand) (r : Right) → r.node ≡ f d.node → r.constant ≡ capped d.constant → r.terms.items ≡ map f d.terms → right_of r ≡ by_number f d
 says f d r a b c =
     ap (λ n. record { node = n; constant = r.constant; terms = r.terms.items }) a ∙ ap (λ n. record { node = f d.node; constant = n; terms = r.terms.items }) b ∙ ap (λ ns. record { node = f d.node; constant = capped d.constant; terms = ns }) c
+
+-- one node more behind those that actions emit
+pub emits_more : (f : Node → ℕ) (terms : List ℕ) (nodes : List Node) (t : ℕ) (node : Node) → terms ≡ map f nodes → t ≡ f node → terms ++ t ∷ [] ≡ map f (nodes ++ node ∷ [])
+emits_more f terms nodes t node h e = ap (λ ts. ts ++ t ∷ []) h ∙ ap (λ x. map f nodes ++ x ∷ []) e ∙ sym (map-append f nodes (node ∷ []))
+
+-- a copy of numbers
+pub same_numbers : (xs ys : List ℕ) → AllZip (λ x y. y ≡ x) xs ys → ys ≡ xs
+same_numbers [] [] h = refl
+same_numbers [] (y ∷ ys) h = absurd h
+same_numbers (x ∷ xs) [] h = absurd h
+same_numbers (x ∷ xs) (y ∷ ys) h = ap (λ z. z ∷ ys) h.0 ∙ ap (λ zs. x ∷ zs) (same_numbers xs ys h.1)
+
+-- a sum of what is told apart
+pub sum_is : (a b u : ℕ) → a ≡ capped b → capped (a + u) ≡ capped (b + u)
+sum_is a b u h = ap (λ k. capped (k + u)) h ∙ grind (arith)
 
 pub pushed : (n : Numbering) (old new : List Right) (r : Right) (d : Demand) → new ≡ old ++ r ∷ [] → right_of r ≡ by_number (numbers_of n) d → rights_of new ≡ rights_of old ++ numbered n (d ∷ [])
 pushed n old new r d e k = ap rights_of e ∙ map-append right_of old (r ∷ []) ∙ ap (λ q. rights_of old ++ q ∷ []) k

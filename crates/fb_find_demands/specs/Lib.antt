@@ -5,3 +5,4 @@ pub mod Leaves
 pub mod Ends
 pub mod Prices
 pub mod Shown
+pub mod Spending

@@ -17,5 +17,8 @@ loop-transition-preserved c =
     let xs = c.args.transitions.now in
     let i = c.loop-transition.transition-index in
     let x = c.transition-item.result in
-    turn (λ (ts : List Transition). numbered n (flat_map f (map transition_of ts))) xs i x (numbered n (f (transition_of x))) (rights_of c.loop-transition.rights.items) (rights_of c.add_free.new.rights.items) _
-    (rest_of xs i x c.loop-transition-test.true c.transition-item.is) (map-append (by_number (numbers_of n)) (f (transition_of x)) (flat_map f (map transition_of (drop (i + 1) xs)))) c.in_ok-add_free.ensures c.loop-transition.invariant
+    record {
+      added = turn (λ (ts : List Transition). numbered n (flat_map f (map transition_of ts))) xs i x (numbered n (f (transition_of x))) (rights_of c.loop-transition.rights.items) (rights_of c.add_free.new.rights.items) _
+          (rest_of xs i x c.loop-transition-test.true c.transition-item.is) (map-append (by_number (numbers_of n)) (f (transition_of x)) (flat_map f (map transition_of (drop (i + 1) xs)))) c.in_ok-add_free.ensures.added c.loop-transition.invariant.added;
+      spent = c.in_ok-add_free.ensures.spent;
+    }
