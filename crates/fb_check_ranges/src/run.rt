@@ -1,6 +1,6 @@
 //! Algorithms and guards under the rows of their variables.
 
-ghost use Rattle.std.specs.Prelude.{string_bytes};
+ghost use Rattle.std.specs.Prelude.{◌≡◌, OnOk, string_bytes};
 ghost use Rattle.fb_model.specs.Ranges.{IsClearAlgorithm, IsClearGuard};
 ghost use Rattle.st_types.specs.CommandViews.{commands_of};
 ghost use Rattle.fb_ranges.specs.Views.{spans_of};
@@ -9,23 +9,26 @@ ghost use Rattle.fb_check_ranges.specs.Clearing.{AlgorithmFails, GuardFails, pro
 
 use crate::fault::Unclear;
 use fb_flat::joined;
-use fb_ranges::{RangeFault, Ranges, check_algorithm, check_guard};
+use fb_ranges::{RangeFault, Ranges, check_algorithm, check_guard, copied};
 use fb_types_blocks::Transition;
 use indexmap::IndexMap;
 use st_types::Algo;
 use std::alloc::Global;
 
-// An algorithm is clear.
+// An algorithm is clear, by an examination in a copy of the rows.
 fn algorithm_clear(
     alloc: Global,
     path: &str,
     rows: &Ranges,
+    work: &mut Ranges,
     name: &str,
     algo: &Algo,
 ) -> Result<(), Unclear>
-    ensures { Names path.now name.now (IsClearAlgorithm (spans_of rows.now) (commands_of algo.now.statements.items)) (AlgorithmFails (spans_of rows.now) (commands_of algo.now.statements.items)) result }
+    requires { spans_of work.old ≡ spans_of rows.now }
+    ensures answer { Names path.now name.now (IsClearAlgorithm (spans_of rows.now) (commands_of algo.now.statements.items)) (AlgorithmFails (spans_of rows.now) (commands_of algo.now.statements.items)) result }
+    ensures rest { OnOk result (spans_of work.new ≡ spans_of rows.now) }
 {
-    match check_algorithm(alloc, algo, rows) {
+    match check_algorithm(alloc, algo, rows, work) {
         Ok(()) => Ok(()),
         Err(RangeFault::Leaves) => Err(Unclear::Kept(joined(alloc, path, name)?)),
         Err(RangeFault::Traps) => Err(Unclear::IndexOrDivisor(joined(alloc, path, name)?)),
@@ -42,11 +45,12 @@ pub(crate) fn algorithms_clear(
 ) -> Result<(), Unclear>
     ensures { NamesOne path.now procedure_name (λ p. IsClearAlgorithm (spans_of rows.now) (procedure_text p)) (λ p. AlgorithmFails (spans_of rows.now) (procedure_text p)) procedures.now.entries result }
 {
+    let mut work = copied(rows)?;
     for index in 0..procedures.len() {
         let Some((name, algo)) = procedures.get_index(index) else {
             return Ok(());
         };
-        algorithm_clear(alloc, path, rows, name.as_str(), algo)?;
+        algorithm_clear(alloc, path, rows, &mut work, name.as_str(), algo)?;
     }
     Ok(())
 }
