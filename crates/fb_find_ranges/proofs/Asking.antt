@@ -19,7 +19,7 @@ use Rattle.fb_find_ranges.specs.Lines.{Tabled, tabled_at, given, fed_in, all_gro
 
 -- ---- algorithms
 
-joined_swap : (r s u : Span) → joined (joined r s) u ≡ joined (joined r u) s
+pub joined_swap : (r s u : Span) → joined (joined r s) u ≡ joined (joined r u) s
 joined_swap r s u =
     let low : int_min (int_min r.low s.low) u.low ≡ int_min (int_min r.low u.low) s.low = omega (arith, ints, clamps) in
     let high : int_max (int_max r.high s.high) u.high ≡ int_max (int_max r.high u.high) s.high = omega (arith, ints, clamps) in

@@ -26,7 +26,7 @@ use Rattle.fb_find_ranges.proofs.Typed.{first_inside}
 
 -- ---- the same ranges
 
-span_is : (r s : Span) → same_span r s ≡ true → r ≡ s
+pub span_is : (r s : Span) → same_span r s ≡ true → r ≡ s
 span_is r s e = let p = and_parts (int_eq r.low s.low) (int_eq r.high s.high) e in ap₂ span ((Decides-int_eq r.low s.low).0 p.0) ((Decides-int_eq r.high s.high).0 p.1)
 
 span_same : (r : Span) → same_span r r ≡ true

@@ -1,6 +1,8 @@
 -- Entries of tables in the book's words, one after another.
 use Rattle.std.proofs.Common.{◌≡◌, ℕ, suc, ◌+◌, ◌<◌, Bool, ◌&&◌, length, drop, get_or, ap₂, arith, true, false, cond, ◌||◌, List, [], ◌∷◌, ◌++◌, map, take, Some, is_some, refl, sym, ap, ◌∙◌, string_bytes, Global}
 use Rattle.std.specs.Prelude.{slice_get}
+use Rattle.std.specs.Int.{int_min, int_max}
+use Rattle.std.proofs.lemmas.Int.{ints, clamps}
 use Rattle.std.proofs.Math.Seq.{drop-cons}
 use Rattle.std.proofs.lemmas.List.{map_push, append_assoc, take_more}
 use Rattle.std.specs.Map.{lookup}
@@ -14,19 +16,16 @@ use Rattle.fb_types_blocks.specs.declared.typed.Variable.{Variable}
 use Rattle.fb_types_blocks.specs.Views.{declared_of}
 use Rattle.st_types.specs.declared.whole.Algo.{Algo}
 use Rattle.st_types.specs.CommandViews.{commands_of}
-use Rattle.fb_model.specs.Spans.{Span}
+use Rattle.fb_model.specs.Spans.{Span, span, joined}
 use Rattle.fb_model.specs.Clear.{Spans, changed}
 use Rattle.fb_model_laws.specs.Asking.{grown}
 use Rattle.fb_ranges_intervals.specs.Views.{span_of}
-use Rattle.fb_ranges.specs.declared.rows.Ranges.{Ranges}
-use Rattle.fb_ranges.specs.Views.{spans_of}
 use Rattle.fb_check_ranges.proofs.Lists.{take_get}
 use Rattle.fb_find_ranges.specs.declared.rows.Row.{Row}
-use Rattle.fb_find_ranges.specs.declared.rows.LeafRows.{LeafRows}
-use Rattle.fb_find_ranges.specs.declared.rows.Table.{Table}
-use Rattle.fb_find_ranges.specs.Lines.{Line, line_by, all_grown, put, Tabled, next_lined}
+use Rattle.fb_find_ranges.specs.Lines.{Line, line_by, all_grown, joined_all, IsAsked, put}
 use Rattle.fb_find_ranges.specs.Sameness.{same_span, same_lines, same_all}
-use Rattle.fb_find_ranges.specs.Views.{line_of, lined_of, tabled_of}
+use Rattle.fb_find_ranges.specs.Views.{line_of, lined_in, Shared}
+use Rattle.fb_find_ranges.proofs.Asking.{joined_swap}
 
 abbrev pub booked : List (String Global × Variable) → List book.Variable
 booked es = map variable_of (map (λ p. declared_of (string_bytes p.0) p.1) es)
@@ -62,21 +61,44 @@ next_row f es i e rows now old row x is name put line before =
     ∙ append_assoc old (map (line_by f) (booked (take i es))) (line_by f (shown e) ∷ [])
     ∙ ap (λ ls. old ++ ls) (sym (map_push (line_by f) (booked (take i es)) (shown e)) ∙ ap (map (line_by f)) (sym (ap booked (take_get es i e is) ∙ booked_push (take i es) e)))
 
-procedure : String Global × Algo → book.Procedure
+abbrev procedure : String Global × Algo → book.Procedure
 procedure p = record { name = string_bytes p.0; algorithm = commands_of p.1.statements.items }
 
+procedures_push : (es : List (String Global × Algo)) (e : String Global × Algo) → procedures_in (es ++ e ∷ []) ≡ procedures_in es ++ procedure e ∷ []
+procedures_push [] e = refl
+procedures_push (f ∷ es) e = ap (λ ps. procedure f ∷ ps) (procedures_push es e)
+
+joined_self : (r : Span) → joined r r ≡ r
+joined_self r =
+    let low : int_min r.low r.low ≡ r.low = omega (arith, ints, clamps) in
+    let high : int_max r.high r.high ≡ r.high = omega (arith, ints, clamps) in
+    ap₂ span low high
+
+joined_twice : (r s : Span) → joined (joined r s) s ≡ joined r s
+joined_twice r s =
+    let low : int_min (int_min r.low s.low) s.low ≡ int_min r.low s.low = omega (arith, ints, clamps) in
+    let high : int_max (int_max r.high s.high) s.high ≡ int_max r.high s.high = omega (arith, ints, clamps) in
+    ap₂ span low high
+
+one_more : (spans : Spans) (ps : List book.Procedure) (p : book.Procedure) (x : Name) (r : Span) → joined_all (all_grown spans (ps ++ p ∷ [])) x r ≡ joined (joined_all (all_grown spans ps) x r) (grown spans p.algorithm x)
+one_more spans [] p x r = refl
+one_more spans (q ∷ ps) p x r = one_more spans ps p x (joined r (grown spans q.algorithm x))
+
+-- the ranges themselves are what no algorithm asks
+pub none_asks : (asked spans : Spans) → asked ≡ spans → IsAsked asked [] spans
+none_asks asked spans e x = ap (λ (f : Spans). joined (f x) (spans x)) e ∙ joined_self (spans x)
+
 -- what the next algorithm asks is added
-pub next_grown : (spans : Spans) (es : List (String Global × Algo)) (i : ℕ) (e : String Global × Algo) (all now : List Ranges) (r : Ranges)
-    → Some e ≡ slice_get es i → now ≡ all ++ r ∷ [] → spans_of r ≡ grown spans (commands_of e.1.statements.items) → map spans_of all ≡ all_grown spans (procedures_in (take i es)) → map spans_of now ≡ all_grown spans (procedures_in (take (i + 1) es))
-next_grown spans es i e all now r is put asked before =
-    ap (map spans_of) put
-    ∙ map_push spans_of all r
-    ∙ ap₂ (λ ls l. ls ++ l ∷ []) before asked
-    ∙ sym (ap (λ xs. all_grown spans (procedures_in xs)) (take_get es i e is) ∙ grown_push (take i es))
-  where
-    grown_push : (xs : List (String Global × Algo)) → all_grown spans (procedures_in (xs ++ e ∷ [])) ≡ all_grown spans (procedures_in xs) ++ grown spans (commands_of e.1.statements.items) ∷ []
-    grown_push [] = refl
-    grown_push (x ∷ xs) = ap (λ ls. grown spans (commands_of x.1.statements.items) ∷ ls) (grown_push xs)
+pub next_asks : (spans : Spans) (es : List (String Global × Algo)) (i : ℕ) (e : String Global × Algo) (asked now : Spans)
+    → Some e ≡ slice_get es i → ((x : Name) → joined (now x) (spans x) ≡ joined (asked x) (grown spans (commands_of e.1.statements.items) x)) → IsAsked asked (all_grown spans (procedures_in (take i es))) spans → IsAsked now (all_grown spans (procedures_in (take (i + 1) es))) spans
+next_asks spans es i e asked now is more before x =
+    let r = spans x in
+    let g = grown spans (commands_of e.1.statements.items) x in
+    sym (joined_twice (now x) r)
+    ∙ ap (λ s. joined s r) (more x)
+    ∙ joined_swap (asked x) g r
+    ∙ ap (λ s. joined s g) (before x)
+    ∙ sym (ap (λ ps. joined_all (all_grown spans ps) x r) (ap procedures_in (take_get es i e is) ∙ procedures_push (take i es) e) ∙ one_more spans (procedures_in (take i es)) (procedure e) x r)
 
 -- the next row is put
 pub next_put : (rows : List Row) (i : ℕ) (row : Row) (before now all : Spans) → i < length rows → row ≡ get_or rows i row → put (map line_of (drop i rows)) before ≡ all → now ≡ changed row.name.now (λ r. span_of row.range) before
@@ -97,22 +119,16 @@ other_lines (x ∷ xs) (y ∷ ys) d = by (same_span (span_of x.range) (span_of y
   by true e = e
   by false e = refl
 
-pub other_leaves : (xs ys : List LeafRows) → (length xs ≡ length ys → ⊥) → false ≡ same_all (map lined_of xs) (map lined_of ys)
+pub other_leaves : (xs ys : List Shared) → (length xs ≡ length ys → ⊥) → false ≡ same_all (map lined_in xs) (map lined_in ys)
 other_leaves [] [] d = absurd (d refl)
 other_leaves [] (y ∷ ys) d = refl
 other_leaves (x ∷ xs) [] d = refl
-other_leaves (x ∷ xs) (y ∷ ys) d = by (same_lines (map line_of x.rows.items) (map line_of y.rows.items)) (other_leaves xs ys (λ e. d (ap suc e))) where
-  by : (b : Bool) → false ≡ same_all (map lined_of xs) (map lined_of ys) → false ≡ (b && same_all (map lined_of xs) (map lined_of ys))
+other_leaves (x ∷ xs) (y ∷ ys) d = by (same_lines (map line_of x.value.rows.items) (map line_of y.value.rows.items)) (other_leaves xs ys (λ e. d (ap suc e))) where
+  by : (b : Bool) → false ≡ same_all (map lined_in xs) (map lined_in ys) → false ≡ (b && same_all (map lined_in xs) (map lined_in ys))
   by true e = e
   by false e = refl
 
--- ---- leaves
-
--- the rows of the next leaf are added
-pub next_leaf : (n : ℕ) (ts : List Tabled) (tables : List Table) (i : ℕ) (t : Table) (all now : List LeafRows) (s : LeafRows) → i < length tables → t ≡ get_or tables i t → now ≡ all ++ s ∷ [] → lined_of s ≡ next_lined n ts (tabled_of t)
-    → map lined_of all ≡ map (next_lined n ts) (map tabled_of (take i tables)) → map lined_of now ≡ map (next_lined n ts) (map tabled_of (take (i + 1) tables))
-next_leaf n ts tables i t all now s l is put lined before =
-    ap (map lined_of) put
-    ∙ map_push lined_of all s
-    ∙ ap₂ (λ ls x. ls ++ x ∷ []) before lined
-    ∙ sym (ap (λ xs. map (next_lined n ts) (map tabled_of xs)) (take_more tables i t l ∙ ap (λ y. take i tables ++ y ∷ []) (sym is)) ∙ ap (map (next_lined n ts)) (map_push tabled_of (take i tables) t) ∙ map_push (next_lined n ts) (map tabled_of (take i tables)) (tabled_of t))
+-- the next of a list is added
+pub next_added : {A B C : Type 0} (f : A → C) (g : B → C) (bs : List B) (i : ℕ) (b : B) (all now : List A) (a : A) → i < length bs → b ≡ get_or bs i b → now ≡ all ++ a ∷ [] → f a ≡ g b → map f all ≡ map g (take i bs) → map f now ≡ map g (take (i + 1) bs)
+next_added f g bs i b all now a l is put same before =
+    ap (map f) put ∙ map_push f all a ∙ ap₂ (λ xs x. xs ++ x ∷ []) before same ∙ sym (ap (map g) (take_more bs i b l ∙ ap (λ y. take i bs ++ y ∷ []) (sym is)) ∙ map_push g (take i bs) b)

@@ -8,6 +8,7 @@ pub mod Ranging
 pub mod Starting
 pub mod Entries
 pub mod Putting
+pub mod Sharing
 pub mod Capitals
 pub mod Distinct
 pub mod Added

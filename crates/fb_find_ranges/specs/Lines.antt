@@ -1,5 +1,5 @@
 -- The finder's ranges of a device's leaves while its rounds go on: in order, and by the names of variables. What a round makes of them.
-use Rattle.std.specs.Prelude.{ℕ, ◌+◌, nat_le, List, [], ◌∷◌, map, Option, None, Some, if◌then◌else◌}
+use Rattle.std.specs.Prelude.{◌≡◌, ℕ, ◌+◌, nat_le, List, [], ◌∷◌, map, Option, None, Some, if◌then◌else◌}
 use Rattle.std.specs.Option.{option_map}
 use Rattle.fb_words.specs.declared.elem_type.ElemType.{ElemType}
 use Rattle.fb_words.specs.declared.elem_type.ElemType.TheVariants as t
@@ -41,6 +41,9 @@ pub record Lined : Type 0 where
   pub leaf : Leaf
   pub lines : List Line
 
+abbrev pub lined : Leaf → List Line → Lined
+lined leaf ls = record { leaf = leaf; lines = ls }
+
 -- ---- at first
 
 -- the range of what a variable has at first, by the inputs of its block and their sources
@@ -48,7 +51,7 @@ abbrev pub first_from : List Variable → (Name → Source) → Variable → Spa
 first_from ins source v = held (numbers_of (if is_in v.name (variable_names ins) then first_input (source v.name) (start_of v) else start_of v))
 
 abbrev pub first_lined : Leaf → Lined
-first_lined leaf = record { leaf = leaf; lines = lines_by (first_from (inputs leaf.kind) leaf.source) leaf.kind }
+first_lined leaf = lined leaf (lines_by (first_from (inputs leaf.kind) leaf.source) leaf.kind)
 
 -- ---- by names
 
@@ -99,6 +102,10 @@ grown_by spans (Serviced service) = []
 abbrev pub joined_all : List Spans → Name → Span → Span
 joined_all [] x r = r
 joined_all (s ∷ ss) x r = joined_all ss x (joined r (s x))
+
+-- joined to the ranges of variables, these are what algorithms ask under them
+abbrev pub IsAsked : Spans → List Spans → Spans → Type 0
+IsAsked asked all spans = (x : Name) → joined (asked x) (spans x) ≡ joined_all all x (spans x)
 
 abbrev pub asked_in : List Tabled → Tabled → Name → Span
 asked_in ts t x = fed_in ts (t.leaf.source x) (joined_all (grown_by t.spans t.leaf.kind) x (t.spans x))

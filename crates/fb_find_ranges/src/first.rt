@@ -7,15 +7,17 @@ ghost use Rattle.fb_types_blocks.specs.Views.{declared_of, variables_of, block_o
 ghost use Rattle.fb_flat.specs.Tables.{source_at};
 ghost use Rattle.fb_ranges_intervals.specs.Views.{span_of};
 ghost use Rattle.fb_find_ranges.specs.Lines.{first_from, first_lined, line_by, lines_by};
-ghost use Rattle.fb_find_ranges.specs.Views.{line_of, lined_of, shown};
+ghost use Rattle.fb_find_ranges.specs.Views.{AreKept, IsKept, line_of, lined_in, shown};
 
 use crate::rows::{LeafRows, Row};
+use crate::table::with_rows;
 use fb_check_ranges::{first_range, source_named, start_range};
 use fb_flat::{Body, Input, Leaf};
 use fb_ranges_intervals::{Interval, whole};
 use fb_types_blocks::{Block, Variable, Variables};
 use fb_words::ElemType;
 use std::alloc::{AllocError, Global};
+use std::rc::Rc;
 
 // The range of what a variable has at first, by the inputs of its block and their sources.
 fn range_first(sources: &[Input], inputs: &Variables, name: &str, variable: &Variable) -> Interval
@@ -83,23 +85,32 @@ fn block_rows<'a>(
     Ok(rows)
 }
 
-// The rows of a leaf.
-fn leaf_rows<'a>(alloc: Global, leaf: &'a Leaf) -> Result<LeafRows<'a>, AllocError>
-    ensures { IfOk result (λ s. lined_of s ≡ first_lined (shown leaf.now)) }
+// The rows of a leaf; a service has none.
+fn own_rows<'a>(alloc: Global, leaf: &'a Leaf) -> Result<Vec<Row<'a>>, AllocError>
+    ensures { IfOk result (λ v. map line_of v.items ≡ (first_lined (shown leaf.now)).lines) }
 {
-    let rows = match &leaf.body {
-        Body::Basic(block) => block_rows(alloc, leaf.inputs.as_slice(), block)?,
-        Body::Served(_) => Vec::new(alloc),
-    };
-    Ok(LeafRows { leaf, rows })
+    match &leaf.body {
+        Body::Basic(block) => block_rows(alloc, leaf.inputs.as_slice(), block),
+        Body::Served(_) => Ok(Vec::new(alloc)),
+    }
+}
+
+// A leaf with its rows.
+fn leaf_rows<'a>(alloc: Global, leaf: &'a Leaf) -> Result<Rc<LeafRows<'a>>, AllocError>
+    ensures lined { IfOk result (λ s. lined_in s ≡ first_lined (shown leaf.now)) }
+    ensures kept { IfOk result (λ s. IsKept s.value) }
+{
+    let rows = own_rows(alloc, leaf)?;
+    with_rows(alloc, leaf, rows)
 }
 
 /// The rows of leaves at first.
 pub(crate) fn first_rows<'a>(
     alloc: Global,
     leaves: &[&'a Leaf],
-) -> Result<Vec<LeafRows<'a>>, AllocError>
-    ensures { IfOk result (λ v. map lined_of v.items ≡ map (λ l. first_lined (shown l.now)) leaves.now) }
+) -> Result<Vec<Rc<LeafRows<'a>>>, AllocError>
+    ensures lined { IfOk result (λ v. map lined_in v.items ≡ map (λ l. first_lined (shown l.now)) leaves.now) }
+    ensures kept { IfOk result (λ v. AreKept v.items) }
 {
     let mut all = Vec::new(alloc);
     for leaf in leaves {

@@ -11,53 +11,54 @@ ghost use Rattle.fb_flat.specs.Leaves.{kind_of};
 ghost use Rattle.fb_ranges.specs.Views.{spans_of};
 ghost use Rattle.fb_model.specs.Wires.{Output_of};
 ghost use Rattle.fb_find_ranges.specs.Lines.{Tabled, fed_in, given, tabled_at};
-ghost use Rattle.fb_find_ranges.specs.Views.{AreNear, near_at, tabled_of};
+ghost use Rattle.fb_find_ranges.specs.Views.{AreNear, near_at, tabled_in, tabled_of};
 
-use crate::rows::Table;
+use crate::rows::LeafRows;
 use crate::service::port_range;
 use fb_flat::{Body, Source};
 use fb_ranges_intervals::{Interval, joined};
 use indexmap::IndexMap;
 use std::alloc::{AllocError, Global};
+use std::rc::Rc;
 
 /// Leaves by their paths.
-pub(crate) type Near<'a, 'b, 'c> = IndexMap<String, &'c Table<'a, 'b>>;
+pub(crate) type Near<'a, 'c> = IndexMap<String, &'c LeafRows<'a>>;
 
 // Puts a leaf under its path, unless one stands there.
-fn put<'a, 'b, 'c>(
+fn put<'a, 'c>(
     alloc: Global,
-    near: &mut Near<'a, 'b, 'c>,
-    table: &'c Table<'a, 'b>,
+    near: &mut Near<'a, 'c>,
+    leaf: &'c LeafRows<'a>,
 ) -> Result<(), AllocError>
-    ensures { OnOk result ((x : Name) → near_at near.new x ≡ or_else (near_at near.old x) (tabled_at (tabled_of table.now ∷ []) (names_in x))) }
+    ensures { OnOk result ((x : Name) → near_at near.new x ≡ or_else (near_at near.old x) (tabled_at (tabled_of leaf.now ∷ []) (names_in x))) }
 {
-    let path = table.leaf.path.as_str();
+    let path = leaf.leaf.path.as_str();
     if !near.contains_key(path) {
-        near.insert(String::from_str(alloc, path)?, table)?;
+        near.insert(String::from_str(alloc, path)?, leaf)?;
     }
     Ok(())
 }
 
 /// Leaves by their paths: the first of each path.
-pub(crate) fn near<'a, 'b, 'c>(
+pub(crate) fn near<'a, 'c>(
     alloc: Global,
-    tables: &'c [Table<'a, 'b>],
-) -> Result<Near<'a, 'b, 'c>, AllocError>
-    ensures { IfOk result (λ m. AreNear (map tabled_of tables.now) m) }
+    leaves: &'c [Rc<LeafRows<'a>>],
+) -> Result<Near<'a, 'c>, AllocError>
+    ensures { IfOk result (λ m. AreNear (map tabled_in leaves.now) m) }
 {
     let mut near = IndexMap::new(alloc);
-    for table in tables {
-        put(alloc, &mut near, table)?;
+    for leaf in leaves {
+        put(alloc, &mut near, leaf)?;
     }
     Ok(near)
 }
 
 // The range of an output of a leaf.
-fn output_range(table: &Table, name: &str) -> Interval
-    ensures { span_of result ≡ given (kind_of table.now.leaf.now.body) (spans_of table.now.ranges) name.now }
+fn output_range(leaf: &LeafRows, name: &str) -> Interval
+    ensures { span_of result ≡ given (kind_of leaf.now.leaf.now.body) (spans_of leaf.now.ranges) name.now }
 {
-    match &table.leaf.body {
-        Body::Basic(_) => table.ranges.find(name),
+    match &leaf.leaf.body {
+        Body::Basic(_) => leaf.ranges.find(name),
         Body::Served(service) => port_range(service, name),
     }
 }
@@ -67,7 +68,7 @@ fn output_fed(near: &Near, path: &str, name: &str, range: Interval) -> Interval
     ensures { (ts : List Tabled) → AreNear ts near.now → span_of result ≡ fed_in ts (Output_of (names_in path.now) name.now) (span_of range) }
 {
     match near.get(path) {
-        Some(table) => joined(range, output_range(*table, name)),
+        Some(leaf) => joined(range, output_range(*leaf, name)),
         None => range,
     }
 }

@@ -1,27 +1,27 @@
 //! One round.
 
 ghost use Rattle.std.specs.Prelude.{◌≡◌, map, List, IfOk};
-ghost use Rattle.fb_flat.specs.Leaves.{kind_of};
-ghost use Rattle.fb_ranges.specs.Views.{spans_of};
-ghost use Rattle.fb_find_ranges.specs.Lines.{Tabled, grown_by, next_line, next_lined, next_round};
-ghost use Rattle.fb_find_ranges.specs.Views.{AreNear, line_of, lined_of, tabled_of};
+ghost use Rattle.fb_find_ranges.specs.Lines.{Tabled, next_line, next_lined, next_round};
+ghost use Rattle.fb_find_ranges.specs.Views.{AreKept, AreNear, IsKept, line_of, lined_in, tabled_in, tabled_of};
 
 use crate::near::{Near, fed, near};
-use crate::rows::{LeafRows, Row, Table};
-use crate::table::tables;
+use crate::rows::{LeafRows, Row};
+use crate::same::same_rows;
+use crate::table::with_rows;
 use crate::widen::stepped;
-use crate::work::{asked, joined_with};
 use fb_check_ranges::source_named;
-use fb_ranges::Ranges;
+use fb_ranges_intervals::joined;
 use std::alloc::{AllocError, Global};
+use std::rc::Rc;
 
-// A row after a round, by what each algorithm of its leaf asks.
-fn next_row<'a>(round: u8, near: &Near, table: &Table, all: &[Ranges], row: Row<'a>) -> Row<'a>
-    ensures { (ts : List Tabled) → AreNear ts near.now → map spans_of all.now ≡ grown_by (spans_of table.now.ranges) (kind_of table.now.leaf.now.body) → line_of result ≡ next_line round ts (tabled_of table.now) (line_of row.entry) }
+// A row after a round.
+fn next_row<'a>(round: u8, near: &Near, leaf: &LeafRows, row: Row<'a>) -> Row<'a>
+    requires { IsKept leaf.now }
+    ensures { (ts : List Tabled) → AreNear ts near.now → line_of result ≡ next_line round ts (tabled_of leaf.now) (line_of row.entry) }
 {
     let name = row.name;
-    let worked = joined_with(all, name, table.ranges.find(name));
-    let source = source_named(table.leaf.inputs.as_slice(), name);
+    let worked = joined(leaf.asked.find(name), leaf.ranges.find(name));
+    let source = source_named(leaf.leaf.inputs.as_slice(), name);
     let asked = fed(near, source, worked);
     Row {
         name,
@@ -35,45 +35,50 @@ fn next_rows<'a>(
     alloc: Global,
     round: u8,
     near: &Near,
-    table: &Table<'a, '_>,
-) -> Result<LeafRows<'a>, AllocError>
-    ensures { (ts : List Tabled) → AreNear ts near.now → IfOk result (λ s. lined_of s ≡ next_lined round ts (tabled_of table.now)) }
+    leaf: &LeafRows<'a>,
+) -> Result<Vec<Row<'a>>, AllocError>
+    requires { IsKept leaf.now }
+    ensures { (ts : List Tabled) → AreNear ts near.now → IfOk result (λ v. map line_of v.items ≡ map (next_line round ts (tabled_of leaf.now)) (map line_of leaf.now.rows.items)) }
 {
-    let all = asked(alloc, table.leaf, &table.ranges)?;
     let mut rows = Vec::new(alloc);
-    for row in table.rows {
-        rows.push(next_row(round, near, table, all.as_slice(), *row))?;
+    for row in &leaf.rows {
+        rows.push(next_row(round, near, leaf, *row))?;
     }
-    Ok(LeafRows {
-        leaf: table.leaf,
-        rows,
-    })
+    Ok(rows)
 }
 
-// The rows of leaves after a round, by those before it.
-fn all_next<'a>(
+// A leaf after a round: the same where none of its ranges has changed.
+fn next_leaf<'a>(
     alloc: Global,
     round: u8,
-    tables: &[Table<'a, '_>],
-) -> Result<Vec<LeafRows<'a>>, AllocError>
-    ensures { IfOk result (λ v. map lined_of v.items ≡ map (next_lined round (map tabled_of tables.now)) (map tabled_of tables.now)) }
+    near: &Near,
+    leaf: &Rc<LeafRows<'a>>,
+) -> Result<Rc<LeafRows<'a>>, AllocError>
+    requires { IsKept leaf.now.value }
+    ensures lined { (ts : List Tabled) → AreNear ts near.now → IfOk result (λ s. lined_in s ≡ next_lined round ts (tabled_in leaf.now)) }
+    ensures kept { IfOk result (λ s. IsKept s.value) }
 {
-    let near = near(alloc, tables)?;
-    let mut all = Vec::new(alloc);
-    for table in tables {
-        all.push(next_rows(alloc, round, &near, table)?)?;
+    let rows = next_rows(alloc, round, near, leaf)?;
+    if same_rows(leaf.rows.as_slice(), rows.as_slice()) {
+        return leaf.clone();
     }
-    Ok(all)
+    with_rows(alloc, leaf.leaf, rows)
 }
 
 /// The rows of leaves after a round.
 pub(crate) fn next<'a>(
     alloc: Global,
     round: u8,
-    rows: &[LeafRows<'a>],
-) -> Result<Vec<LeafRows<'a>>, AllocError>
-    ensures { IfOk result (λ v. map lined_of v.items ≡ next_round round (map lined_of rows.now)) }
+    leaves: &[Rc<LeafRows<'a>>],
+) -> Result<Vec<Rc<LeafRows<'a>>>, AllocError>
+    requires { AreKept leaves.now }
+    ensures lined { IfOk result (λ v. map lined_in v.items ≡ next_round round (map lined_in leaves.now)) }
+    ensures kept { IfOk result (λ v. AreKept v.items) }
 {
-    let tables = tables(alloc, rows)?;
-    all_next(alloc, round, tables.as_slice())
+    let near = near(alloc, leaves)?;
+    let mut all = Vec::new(alloc);
+    for leaf in leaves {
+        all.push(next_leaf(alloc, round, &near, leaf)?)?;
+    }
+    Ok(all)
 }

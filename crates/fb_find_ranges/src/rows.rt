@@ -13,17 +13,12 @@ pub(crate) struct Row<'a> {
     pub(crate) range: Interval,
 }
 
-/// A leaf, and the rows of its variables: inputs, outputs, internal ones. A service has none.
+/// A leaf, the rows of its variables in order (inputs, outputs, internal ones; a service has none) and by their names, and what its
+/// algorithms ask under these.
 #[derive(Drop)]
 pub(crate) struct LeafRows<'a> {
     pub(crate) leaf: &'a Leaf,
     pub(crate) rows: Vec<Row<'a>>,
-}
-
-/// A leaf, and the rows of its variables in order and by their names.
-#[derive(Drop)]
-pub(crate) struct Table<'a, 'b> {
-    pub(crate) leaf: &'a Leaf,
-    pub(crate) rows: &'b [Row<'a>],
     pub(crate) ranges: Ranges,
+    pub(crate) asked: Ranges,
 }

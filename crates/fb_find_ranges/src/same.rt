@@ -3,10 +3,11 @@
 ghost use Rattle.std.specs.Prelude.{◌≡◌, map};
 ghost use Rattle.fb_ranges_intervals.specs.Views.{span_of};
 ghost use Rattle.fb_find_ranges.specs.Sameness.{same_span, same_lines, same_all};
-ghost use Rattle.fb_find_ranges.specs.Views.{line_of, lined_of};
+ghost use Rattle.fb_find_ranges.specs.Views.{line_of, lined_in};
 
 use crate::rows::{LeafRows, Row};
 use fb_ranges_intervals::Interval;
+use std::rc::Rc;
 
 // Two ranges are the same.
 fn is_same(r: Interval, s: Interval) -> bool
@@ -15,8 +16,8 @@ fn is_same(r: Interval, s: Interval) -> bool
     r.low == s.low && r.high == s.high
 }
 
-// The ranges of two rows of each number are the same.
-fn same_rows(some: &[Row], others: &[Row]) -> bool
+/// The ranges of two rows of each number are the same.
+pub(crate) fn same_rows(some: &[Row], others: &[Row]) -> bool
     ensures { result ≡ same_lines (map line_of some.now) (map line_of others.now) }
 {
     if some.len() != others.len() {
@@ -31,8 +32,8 @@ fn same_rows(some: &[Row], others: &[Row]) -> bool
 }
 
 /// So it is at all leaves.
-pub(crate) fn are_same(some: &[LeafRows], others: &[LeafRows]) -> bool
-    ensures { result ≡ same_all (map lined_of some.now) (map lined_of others.now) }
+pub(crate) fn are_same(some: &[Rc<LeafRows<'_>>], others: &[Rc<LeafRows<'_>>]) -> bool
+    ensures { result ≡ same_all (map lined_in some.now) (map lined_in others.now) }
 {
     if some.len() != others.len() {
         return false;

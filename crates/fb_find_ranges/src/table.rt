@@ -2,12 +2,15 @@
 
 ghost use Rattle.std.specs.Prelude.{◌≡◌, map, IfOk};
 ghost use Rattle.fb_ranges.specs.Views.{spans_of};
-ghost use Rattle.fb_find_ranges.specs.Lines.{spans_by, tabled};
-ghost use Rattle.fb_find_ranges.specs.Views.{line_of, lined_of, tabled_of};
+ghost use Rattle.fb_find_ranges.specs.Lines.{lined, spans_by};
+ghost use Rattle.fb_find_ranges.specs.Views.{IsKept, line_of, lined_in, shown};
 
-use crate::rows::{LeafRows, Row, Table};
+use crate::rows::{LeafRows, Row};
+use crate::work::asked;
+use fb_flat::Leaf;
 use fb_ranges::Ranges;
 use std::alloc::{AllocError, Global};
+use std::rc::Rc;
 
 // Rows by their names; of those of one name the last.
 fn ranges(alloc: Global, rows: &[Row]) -> Result<Ranges, AllocError>
@@ -20,29 +23,29 @@ fn ranges(alloc: Global, rows: &[Row]) -> Result<Ranges, AllocError>
     Ok(ranges)
 }
 
-/// The rows of leaves, by their names too.
-pub(crate) fn tables<'a, 'b>(
+/// A leaf with rows of its variables, by their names too, and what its algorithms ask under these.
+pub(crate) fn with_rows<'a>(
     alloc: Global,
-    all: &'b [LeafRows<'a>],
-) -> Result<Vec<Table<'a, 'b>>, AllocError>
-    ensures { IfOk result (λ v. map tabled_of v.items ≡ map tabled (map lined_of all.now)) }
+    leaf: &'a Leaf,
+    rows: Vec<Row<'a>>,
+) -> Result<Rc<LeafRows<'a>>, AllocError>
+    ensures lined { IfOk result (λ s. lined_in s ≡ lined (shown leaf.now) (map line_of rows.entry.items)) }
+    ensures kept { IfOk result (λ s. IsKept s.value) }
 {
-    let mut tables = Vec::new(alloc);
-    for leaf_rows in all {
-        let rows = leaf_rows.rows.as_slice();
-        let ranges = ranges(alloc, rows)?;
-        tables.push(Table {
-            leaf: leaf_rows.leaf,
-            rows,
-            ranges,
-        })?;
-    }
-    Ok(tables)
+    let ranges = ranges(alloc, rows.as_slice())?;
+    let asked = asked(alloc, leaf, &ranges)?;
+    let leaf_rows = LeafRows {
+        leaf,
+        rows,
+        ranges,
+        asked,
+    };
+    Ok(Rc::new(alloc, leaf_rows)?)
 }
 
 /// The rows of leaves, by their names alone.
-pub(crate) fn all_ranges(alloc: Global, all: &[LeafRows]) -> Result<Vec<Ranges>, AllocError>
-    ensures { IfOk result (λ v. map spans_of v.items ≡ map (λ s. spans_by s.lines) (map lined_of all.now)) }
+pub(crate) fn all_ranges(alloc: Global, all: &[Rc<LeafRows<'_>>]) -> Result<Vec<Ranges>, AllocError>
+    ensures { IfOk result (λ v. map spans_of v.items ≡ map (λ s. spans_by s.lines) (map lined_in all.now)) }
 {
     let mut tables = Vec::new(alloc);
     for leaf_rows in all {

@@ -3,8 +3,7 @@ use Rattle.std.specs.Prelude.{IfOk}
 use Rattle.fb_find_ranges.specs.Found.{AreLastTables}
 use Rattle.fb_find_ranges.specs.Lines.{Lined, spans_by, next_round}
 use Rattle.fb_find_ranges.specs.Sameness.{same_all}
-use Rattle.fb_find_ranges.specs.Views.{lined_of}
-use Rattle.fb_find_ranges.specs.declared.rows.LeafRows.{LeafRows}
+use Rattle.fb_find_ranges.specs.Views.{Shared, lined_in}
 use Rattle.fb_find_ranges.proofs.Ending.{first_by, stands_first, stands_next, are_last}
 use Rattle.fb_find_ranges.proofs.Falling.{ends_by}
 use Rattle.fb_find_ranges.proofs.Keeping.{AreLined}
@@ -12,9 +11,10 @@ use Rattle.fb_find_ranges.proofs.Starting.{all_first_lined, told}
 use Rattle.fb_find_ranges.proofs.last.last_rows.Goals as goal
 
 pub loop-rows-init : goal.loop-rows-init
-loop-rows-init c =
-    λ bs are apart feds.
-    stands_first bs (map lined_of c.in_ok-rows.rows.items) feds (subst (λ (ss : List Lined). AreLined first_by ss bs) (sym c.in_ok-rows.ensures) (all_first_lined bs c.args.leaves.now bs are feds))
+loop-rows-init c = (
+  λ bs are apart feds. stands_first bs (map lined_in c.in_ok-rows.rows.items) feds (subst (λ (ss : List Lined). AreLined first_by ss bs) (sym c.in_ok-rows.ensures.lined) (all_first_lined bs c.args.leaves.now bs are feds)),
+  c.in_ok-rows.ensures.kept,
+)
 
 pub returns-then-are_same : goal.returns-then-are_same
 returns-then-are_same c =
@@ -22,29 +22,30 @@ returns-then-are_same c =
     let n = c.loop-rows.round in
     let rows = c.loop-rows.rows.items in
     let grown = c.in_ok-grown.grown.items in
-    let is : map lined_of grown ≡ next_round n (map lined_of rows) = c.in_ok-grown.ensures ∙ ap (λ (xs : List LeafRows). next_round n (map lined_of xs)) c.as_slice.ensures.value in
-    let slices = ap₂ (λ (xs ys : List LeafRows). same_all (map lined_of xs) (map lined_of ys)) c.as_slice-in-loop-rows.ensures.value c.as_slice-in-loop-rows-2.ensures.value in
-    let same : same_all (map lined_of rows) (map lined_of grown) ≡ true = sym slices ∙ sym c.are_same.ensures ∙ c.if-are_same.true in
-    told bs c.all_ranges.result (map lined_of rows) (rw c.as_slice-then-are_same.ensures.value at c.all_ranges.ensures)
-    (are_last bs n (map lined_of rows) (map lined_of grown) apart feds (c.loop-rows.invariant bs are apart feds) is same)
+    let is : map lined_in grown ≡ next_round n (map lined_in rows) = c.in_ok-grown.ensures.lined ∙ ap (λ (xs : List Shared). next_round n (map lined_in xs)) c.as_slice.ensures.value in
+    let slices = ap₂ (λ (xs ys : List Shared). same_all (map lined_in xs) (map lined_in ys)) c.as_slice-in-loop-rows.ensures.value c.as_slice-in-loop-rows-2.ensures.value in
+    let same : same_all (map lined_in rows) (map lined_in grown) ≡ true = sym slices ∙ sym c.are_same.ensures ∙ c.if-are_same.true in
+    told bs c.all_ranges.result (map lined_in rows) (rw c.as_slice-then-are_same.ensures.value at c.all_ranges.ensures)
+    (are_last bs n (map lined_in rows) (map lined_in grown) apart feds (c.loop-rows.invariant.0 bs are apart feds) is same)
 
 pub loop-rows-smaller : goal.loop-rows-smaller
 loop-rows-smaller c =
     let n = c.loop-rows.round in
     let rows = c.loop-rows.rows.items in
     let grown = c.in_ok-grown.grown.items in
-    let is : map lined_of grown ≡ next_round n (map lined_of rows) = c.in_ok-grown.ensures ∙ ap (λ (xs : List LeafRows). next_round n (map lined_of xs)) c.as_slice.ensures.value in
-    let slices = ap₂ (λ (xs ys : List LeafRows). same_all (map lined_of xs) (map lined_of ys)) c.as_slice-in-loop-rows.ensures.value c.as_slice-in-loop-rows-2.ensures.value in
-    let other : same_all (map lined_of rows) (map lined_of grown) ≡ false = sym slices ∙ sym c.are_same.ensures ∙ c.if-are_same.false in
-    ends_by n c.later-round.result (map lined_of rows) (map lined_of grown) is other c.later-round.ensures
+    let is : map lined_in grown ≡ next_round n (map lined_in rows) = c.in_ok-grown.ensures.lined ∙ ap (λ (xs : List Shared). next_round n (map lined_in xs)) c.as_slice.ensures.value in
+    let slices = ap₂ (λ (xs ys : List Shared). same_all (map lined_in xs) (map lined_in ys)) c.as_slice-in-loop-rows.ensures.value c.as_slice-in-loop-rows-2.ensures.value in
+    let other : same_all (map lined_in rows) (map lined_in grown) ≡ false = sym slices ∙ sym c.are_same.ensures ∙ c.if-are_same.false in
+    ends_by n c.later-round.result (map lined_in rows) (map lined_in grown) is other c.later-round.ensures
 
 pub loop-rows-preserved : goal.loop-rows-preserved
 loop-rows-preserved c =
-    λ bs are apart feds.
     let n = c.loop-rows.round in
     let rows = c.loop-rows.rows.items in
     let grown = c.in_ok-grown.grown.items in
-    let is : map lined_of grown ≡ next_round n (map lined_of rows) = c.in_ok-grown.ensures ∙ ap (λ (xs : List LeafRows). next_round n (map lined_of xs)) c.as_slice.ensures.value in
-    let slices = ap₂ (λ (xs ys : List LeafRows). same_all (map lined_of xs) (map lined_of ys)) c.as_slice-in-loop-rows.ensures.value c.as_slice-in-loop-rows-2.ensures.value in
-    let other : same_all (map lined_of rows) (map lined_of grown) ≡ false = sym slices ∙ sym c.are_same.ensures ∙ c.if-are_same.false in
-    stands_next bs n c.later-round.result (map lined_of rows) (map lined_of grown) apart feds (c.loop-rows.invariant bs are apart feds) is other c.later-round.ensures
+    let is : map lined_in grown ≡ next_round n (map lined_in rows) = c.in_ok-grown.ensures.lined ∙ ap (λ (xs : List Shared). next_round n (map lined_in xs)) c.as_slice.ensures.value in
+    let slices = ap₂ (λ (xs ys : List Shared). same_all (map lined_in xs) (map lined_in ys)) c.as_slice-in-loop-rows.ensures.value c.as_slice-in-loop-rows-2.ensures.value in
+    let other : same_all (map lined_in rows) (map lined_in grown) ≡ false = sym slices ∙ sym c.are_same.ensures ∙ c.if-are_same.false in (
+      λ bs are apart feds. stands_next bs n c.later-round.result (map lined_in rows) (map lined_in grown) apart feds (c.loop-rows.invariant.0 bs are apart feds) is other c.later-round.ensures,
+      c.in_ok-grown.ensures.kept,
+    )

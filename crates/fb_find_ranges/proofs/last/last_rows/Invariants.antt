@@ -3,14 +3,14 @@ use Rattle.std.specs.List.{AllByRecursion}
 use Rattle.fb_model.specs.Wires as wires
 use Rattle.fb_model_laws.specs.Leaves.{AreApart, IsFed}
 use Rattle.fb_flat.specs.Tables.{AreLeaves}
-use Rattle.fb_find_ranges.specs.Views.{lined_of}
+use Rattle.fb_find_ranges.specs.Views.{AreKept, lined_in}
 use Rattle.fb_find_ranges.proofs.Falling.{open_in}
 use Rattle.fb_find_ranges.proofs.Ending.{Stands}
 use Rattle.fb_find_ranges.proofs.last.last_rows.Given as goal
 
 abbrev pub invariant-loop-rows : goal.invariant-loop-rows
 invariant-loop-rows l =
-    (bs : List wires.Leaf) → AreLeaves (map (λ y. y.now) l.leaves) bs → AreApart bs → AllByRecursion (IsFed bs) bs → Stands bs l.round (map lined_of l.rows.items)
+    ((bs : List wires.Leaf) → AreLeaves (map (λ y. y.now) l.leaves) bs → AreApart bs → AllByRecursion (IsFed bs) bs → Stands bs l.round (map lined_in l.rows.items)) × AreKept l.rows.items
 
 abbrev pub decreases-loop-rows : goal.decreases-loop-rows
-decreases-loop-rows l = 65 - l.round + open_in (map lined_of l.rows.items)
+decreases-loop-rows l = 65 - l.round + open_in (map lined_in l.rows.items)
