@@ -1,6 +1,6 @@
 //! What the parts of a block's actions cost in a column.
 
-ghost use Rattle.std.specs.Prelude.{◌≡◌, ◌*◌, ℕ, List, map, IfOk, IfErr};
+ghost use Rattle.std.specs.Prelude.{◌≡◌, ◌*◌, ℕ, List, map, IfOk, IfErr, OnOk};
 ghost use Rattle.std.specs.List.{AllByRecursion};
 ghost use Rattle.fb_model.specs.System as system;
 ghost use Rattle.fb_model.specs.Wires as book;
@@ -22,7 +22,7 @@ use crate::column::{Column, plus};
 use crate::fault::Shortfall;
 use fb_cert::Certificate;
 use fb_check_ranges::block_rows;
-use fb_ranges::{Ranges, max_steps};
+use fb_ranges::{Ranges, copied, max_steps};
 use fb_types_blocks::{Action, Block};
 use indexmap::IndexMap;
 use st_types::Algo;
@@ -35,18 +35,21 @@ pub(crate) struct Prices {
     pub(crate) outputs: Vec<Option<u64>>,
 }
 
-// The steps that an algorithm costs at most, which are nothing in the column of places.
+// The steps that an algorithm costs at most, by an examination in a copy of the rows; nothing in the column of places.
 fn cost(
     alloc: Global,
     column: Column,
     algorithm: &Algo,
     rows: &Ranges,
+    work: &mut Ranges,
 ) -> Result<Option<u64>, Shortfall>
+    requires { spans_of work.old ≡ spans_of rows.now }
     ensures value { IsClearAlgorithm (spans_of rows.now) (commands_of algorithm.now.statements.items) → IfOk result (λ s. IsSum s (unit_of column * cost (spans_of rows.now) (commands_of algorithm.now.statements.items))) }
     ensures refused { IfErr result IsMemory }
+    ensures rest { OnOk result (spans_of work.new ≡ spans_of rows.now) }
 {
     match column {
-        Column::Steps | Column::Far => Ok(max_steps(alloc, algorithm, rows)?),
+        Column::Steps | Column::Far => Ok(max_steps(alloc, algorithm, rows, work)?),
         Column::Places => Ok(Some(0)),
     }
 }
@@ -61,12 +64,13 @@ fn costs(
     ensures values { AllByRecursion (λ (p : system.Procedure). IsClearAlgorithm (spans_of rows.now) p.algorithm) (procedures_of procedures.now) → IfOk result (λ v. AreSums v.items (map (λ (p : system.Procedure). unit_of column * cost (spans_of rows.now) p.algorithm) (procedures_of procedures.now))) }
     ensures refused { IfErr result IsMemory }
 {
+    let mut work = copied(rows)?;
     let mut costs = Vec::new(alloc);
     for index in 0..procedures.len() {
         let Some((_, algorithm)) = procedures.get_index(index) else {
             return Ok(costs);
         };
-        costs.push(cost(alloc, column, algorithm, rows)?)?;
+        costs.push(cost(alloc, column, algorithm, rows, &mut work)?)?;
     }
     Ok(costs)
 }

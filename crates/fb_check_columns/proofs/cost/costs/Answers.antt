@@ -14,11 +14,15 @@ use Rattle.fb_check_columns.proofs.cost.costs.Goals as goal
 
 pub loop-index-preserved : goal.loop-index-preserved
 loop-index-preserved c =
-    λ clear.
     let spans = spans_of c.args.rows.now in
     let es = c.args.procedures.now.entries in
     let e : String Global × Algo = (c.in-Some.field-0-0.now, c.in-Some.algorithm.now) in
     let g = got es c.loop-index.index e c.in-Some.ensures.entry in
     let f : system.Procedure → ℕ = λ p. unit_of c.args.column * cost spans p.algorithm in
-    let one = c.in_ok-cost.ensures.value (all_at (λ (p : system.Procedure). IsClearAlgorithm spans p.algorithm) procedure_of es c.loop-index.index e clear g.0 g.1) in
-    rw (twice_more f es c.loop-index.index e g.0 g.1, c.in_ok-push.ensures.items) (more_sums _ _ _ _ (c.loop-index.invariant clear) one)
+    record {
+      same = c.in_ok-cost.ensures.rest;
+      sums =
+          λ clear.
+          let one = c.in_ok-cost.ensures.value (all_at (λ (p : system.Procedure). IsClearAlgorithm spans p.algorithm) procedure_of es c.loop-index.index e clear g.0 g.1) in
+          rw (twice_more f es c.loop-index.index e g.0 g.1, c.in_ok-push.ensures.items) (more_sums _ _ _ _ (c.loop-index.invariant.sums clear) one);
+    }

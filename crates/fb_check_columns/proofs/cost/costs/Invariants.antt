@@ -1,4 +1,4 @@
-use Rattle.std.proofs.Common.{◌*◌, map, take}
+use Rattle.std.proofs.Common.{◌≡◌, ◌*◌, map, take}
 use Rattle.std.specs.List.{AllByRecursion}
 use Rattle.fb_model.specs.System as system
 use Rattle.fb_model.specs.Clear.{cost}
@@ -13,5 +13,9 @@ use Rattle.fb_check_columns.proofs.cost.costs.Given as goal
 -- the costs so far are those of the algorithms so far
 abbrev pub invariant-loop-index : goal.invariant-loop-index
 invariant-loop-index l =
-    AllByRecursion (λ (p : system.Procedure). IsClearAlgorithm (spans_of l.rows) p.algorithm) (procedures_of l.procedures)
-    → AreSums l.costs.items (map (λ (p : system.Procedure). unit_of l.column * cost (spans_of l.rows) p.algorithm) (map procedure_of (take l.index l.procedures.entries)))
+    record {
+      same : spans_of l.work ≡ spans_of l.rows;
+      sums :
+          AllByRecursion (λ (p : system.Procedure). IsClearAlgorithm (spans_of l.rows) p.algorithm) (procedures_of l.procedures)
+          → AreSums l.costs.items (map (λ (p : system.Procedure). unit_of l.column * cost (spans_of l.rows) p.algorithm) (map procedure_of (take l.index l.procedures.entries)));
+    }
