@@ -32,7 +32,7 @@ use std::alloc::{AllocError, Global};
 
 // The ranges of the numbers from which and to which a FOR counts, and its step.
 #[derive(Clone, Copy)]
-struct Bounds {
+struct Count {
     first: Interval,
     last: Interval,
     step: i64,
@@ -245,12 +245,12 @@ fn examine_for(
         return Ok(trapping(are_clear, Told::Steps(1)));
     }
     let name = counting.variable.as_str();
-    let bounds = Bounds {
+    let count = Count {
         first: first.range,
         last: last.range,
         step: counting.step,
     };
-    let told = examine_iterations(alloc, rows, name, bounds, body, ranges, asked)?;
+    let told = examine_iterations(alloc, rows, name, count, body, ranges, asked)?;
     Ok(trapping(are_clear, told))
 }
 
@@ -260,16 +260,16 @@ fn examine_iterations(
     alloc: Global,
     rows: &Ranges,
     name: &str,
-    bounds: Bounds,
+    count: Count,
     body: &[TypedStmt],
     ranges: &mut Ranges,
     asked: &mut Ranges,
 ) -> Result<Told, AllocError>
-    requires { 0 < book.most_iterations (span_of bounds.first) (span_of bounds.last) bounds.step }
-    ensures asks { OnOk result (point (spans_of ranges.new) (spans_of asked.new) ≡ asking.asked_loop (book.most_iterations (span_of bounds.first) (span_of bounds.last) bounds.step) (book.assigned (commands_of body.now)) (spans_of rows.now) (asking.ask (spans_of rows.now) (commands_of body.now)) name.now (span_of bounds.first) (span_of bounds.last) bounds.step (point (spans_of ranges.old) (spans_of asked.old))) }
-    ensures tells { IfOk result (λ told. told ≡ tell (book.looped (book.most_iterations (span_of bounds.first) (span_of bounds.last) bounds.step) (book.assigned (commands_of body.now)) (spans_of rows.now) (book.examine (spans_of rows.now) (commands_of body.now)) name.now (span_of bounds.first) (span_of bounds.last) bounds.step (spans_of ranges.old))) }
+    requires { 0 < book.most_iterations (span_of count.first) (span_of count.last) count.step }
+    ensures asks { OnOk result (point (spans_of ranges.new) (spans_of asked.new) ≡ asking.asked_loop (book.most_iterations (span_of count.first) (span_of count.last) count.step) (book.assigned (commands_of body.now)) (spans_of rows.now) (asking.ask (spans_of rows.now) (commands_of body.now)) name.now (span_of count.first) (span_of count.last) count.step (point (spans_of ranges.old) (spans_of asked.old))) }
+    ensures tells { IfOk result (λ told. told ≡ tell (book.looped (book.most_iterations (span_of count.first) (span_of count.last) count.step) (book.assigned (commands_of body.now)) (spans_of rows.now) (book.examine (spans_of rows.now) (commands_of body.now)) name.now (span_of count.first) (span_of count.last) count.step (spans_of ranges.old))) }
 {
-    let Bounds { first, last, step } = bounds;
+    let Count { first, last, step } = count;
     let iterations = most_iterations(first, last, step);
     let names = names_assigned(alloc, body)?;
     let begins = are_kept(&names, rows, ranges);

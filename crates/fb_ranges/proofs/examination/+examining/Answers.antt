@@ -232,15 +232,15 @@ examine_way-returns-clause-unchanged t c =
 
 pub examine_iterations-iterated-requires : goal.examine_iterations-iterated-requires
 examine_iterations-iterated-requires t c =
-    let r = span_of c.args.bounds.first in
-    let s = span_of c.args.bounds.last in
-    let k : to_z w64 (of_z w64 c.args.bounds.step) ≡ c.args.bounds.step = omega (arith, ints) in
+    let r = span_of c.args.count.first in
+    let s = span_of c.args.count.last in
+    let k : to_z w64 (of_z w64 c.args.count.step) ≡ c.args.count.step = omega (arith, ints) in
     subst (λ m. 0 < m) (sym (c.most_iterations-iterations.ensures ∙ ap (most_iterations r s) k)) c.requires.1.1
 
 pub examine_iterations-returns-clause-asks : goal.examine_iterations-returns-clause-asks
 examine_iterations-returns-clause-asks t c =
-    let r = span_of c.args.bounds.first in
-    let s = span_of c.args.bounds.last in
+    let r = span_of c.args.count.first in
+    let s = span_of c.args.count.last in
     let rows = spans_of c.args.rows.now in
     let spans = spans_of c.args.ranges.now in
     let q = spans_of c.args.asked.now in
@@ -254,13 +254,13 @@ examine_iterations-returns-clause-asks t c =
     let f = ask rows (commands_of c.args.body.now) in
     let xs = assigned (commands_of c.args.body.now) in
     let n = c.most_iterations-iterations.result in
-    let k : to_z w64 (of_z w64 c.args.bounds.step) ≡ c.args.bounds.step = omega (arith, ints) in
-    let iterations : n ≡ most_iterations r s c.args.bounds.step = c.most_iterations-iterations.ensures ∙ ap (most_iterations r s) k in
+    let k : to_z w64 (of_z w64 c.args.count.step) ≡ c.args.count.step = omega (arith, ints) in
+    let iterations : n ≡ most_iterations r s c.args.count.step = c.most_iterations-iterations.ensures ∙ ap (most_iterations r s) k in
     let some : 0 < n = subst (λ m. 0 < m) (sym iterations) c.requires.1.1 in
     let begins : asked ≡ asking_all xs spans q = c.in_ok-ask_all.ensures ∙ ap (λ ys. asking_all ys spans q) (ap busy_of c.deref-2.ensures.value ∙ c.in_ok-names.ensures) in
     let same : base ≡ reset xs rows spans = c.in_ok-reset.ensures ∙ ap (λ ys. reset ys rows spans) (ap busy_of c.deref-3.ensures.value ∙ c.in_ok-names.ensures) in
-    let o : own ≡ taken r s c.args.bounds.step n = c.taken.ensures ∙ ap (λ z. taken r s z n) k in
-    let l : left ≡ left_with r s c.args.bounds.step n (base x) = c.left_with.ensures ∙ ap₂ (λ z b. left_with r s z n b) k c.find-before.ensures in
+    let o : own ≡ taken r s c.args.count.step n = c.taken.ensures ∙ ap (λ z. taken r s z n) k in
+    let l : left ≡ left_with r s c.args.count.step n (base x) = c.left_with.ensures ∙ ap₂ (λ z b. left_with r s z n b) k c.find-before.ensures in
     let names = ap busy_of c.deref-4.ensures.value ∙ c.in_ok-names.ensures in
     let set : begin ≡ changed x (λ b. own) base = c.in_ok-insert.ensures.set in
     let put : after ≡ changed x (λ b. left) base =
@@ -269,13 +269,13 @@ examine_iterations-returns-clause-asks t c =
     ∙ iterations_leave xs rows spans x own left
     ∙ ap (changed x (λ b. left)) (sym same) in
     let asks = λ (ys : List Name) (u : Spans). let end = f (point u asked) in asking_all ys end.spans end.rows in
-    iterations_asked n xs rows f x r s c.args.bounds.step (point spans q) base after asked (spans_of c.examine_keeping.new.asked) own left some same o l put begins (c.in_ok-told.ensures.asks ∙ ap₂ asks names set)
-    ∙ ap (λ m. asked_loop m xs rows f x r s c.args.bounds.step (point spans q)) iterations
+    iterations_asked n xs rows f x r s c.args.count.step (point spans q) base after asked (spans_of c.examine_keeping.new.asked) own left some same o l put begins (c.in_ok-told.ensures.asks ∙ ap₂ asks names set)
+    ∙ ap (λ m. asked_loop m xs rows f x r s c.args.count.step (point spans q)) iterations
 
 pub examine_iterations-returns-clause-tells : goal.examine_iterations-returns-clause-tells
 examine_iterations-returns-clause-tells t c =
-    let r = span_of c.args.bounds.first in
-    let s = span_of c.args.bounds.last in
+    let r = span_of c.args.count.first in
+    let s = span_of c.args.count.last in
     let rows = spans_of c.args.rows.now in
     let spans = spans_of c.args.ranges.now in
     let base = spans_of c.reset.new.ranges in
@@ -284,19 +284,19 @@ examine_iterations-returns-clause-tells t c =
     let body = examine rows (commands_of c.args.body.now) in
     let xs = assigned (commands_of c.args.body.now) in
     let n = c.most_iterations-iterations.result in
-    let k : to_z w64 (of_z w64 c.args.bounds.step) ≡ c.args.bounds.step = omega (arith, ints) in
-    let iterations : n ≡ most_iterations r s c.args.bounds.step = c.most_iterations-iterations.ensures ∙ ap (most_iterations r s) k in
+    let k : to_z w64 (of_z w64 c.args.count.step) ≡ c.args.count.step = omega (arith, ints) in
+    let iterations : n ≡ most_iterations r s c.args.count.step = c.most_iterations-iterations.ensures ∙ ap (most_iterations r s) k in
     let some : 0 < n = subst (λ m. 0 < m) (sym iterations) c.requires.1.1 in
     let begins : c.are_kept-begins.result ≡ are_kept xs rows spans = c.are_kept-begins.ensures ∙ ap (λ ys. are_kept ys rows spans) (ap busy_of c.deref.ensures.value ∙ c.in_ok-names.ensures) in
     let same : base ≡ reset xs rows spans = c.in_ok-reset.ensures ∙ ap (λ ys. reset ys rows spans) (ap busy_of c.deref-3.ensures.value ∙ c.in_ok-names.ensures) in
-    let o : own ≡ taken r s c.args.bounds.step n = c.taken.ensures ∙ ap (λ z. taken r s z n) k in
+    let o : own ≡ taken r s c.args.count.step n = c.taken.ensures ∙ ap (λ z. taken r s z n) k in
     let names = ap busy_of c.deref-4.ensures.value ∙ c.in_ok-names.ensures in
     let set = c.in_ok-insert.ensures.set ∙ ap₂ (λ p (u : Spans). changed x (λ b. p) u) o same in
     let told = c.in_ok-told.ensures.tells ∙ ap₂ (λ (ys : List Name) (u : Spans). tell (kept rows ys (body u))) names set in
     c.iterated.ensures
     ∙ ap₂ (iterated n) begins told
-    ∙ sym (tell_looped n xs rows body x r s c.args.bounds.step spans some)
-    ∙ ap (λ m. tell (looped m xs rows body x r s c.args.bounds.step spans)) iterations
+    ∙ sym (tell_looped n xs rows body x r s c.args.count.step spans some)
+    ∙ ap (λ m. tell (looped m xs rows body x r s c.args.count.step spans)) iterations
 
 pub examine_keeping-returns-clause-asks : goal.examine_keeping-returns-clause-asks
 examine_keeping-returns-clause-asks t c = c.in_ok-ask_all.ensures ∙ ap (λ (p : Asked). asking_all (busy_of c.args.names.now) p.spans p.rows) c.in_ok-told.ensures.asks
