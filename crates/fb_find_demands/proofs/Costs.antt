@@ -1,5 +1,5 @@
 -- The prices of algorithms under the tables of leaves are what they cost in the book, as far as numbers tell.
-use Rattle.std.proofs.Common.{◌≡◌, ℕ, ◌+◌, ◌*◌, nat_le, Bool, true, false, List, [], ◌∷◌, ◌++◌, map, Option, Some, None, refl, sym, ap, ap₂, subst, ◌∙◌, arith, string_bytes, if◌then◌else◌}
+use Rattle.std.proofs.Common.{◌≡◌, ℕ, zero, suc, ◌+◌, ◌*◌, ◌<◌, nat_le, Bool, true, false, List, [], ◌∷◌, ◌++◌, add-one, drop, length, map, Option, Some, None, refl, sym, ap, ap₂, subst, ◌∙◌, arith, string_bytes, if◌then◌else◌}
 use Rattle.std.specs.Option.{unwrap_or}
 use Rattle.std.specs.List.{flat_map, AllByRecursion}
 use Rattle.std.specs.Str.{bytes_eq}
@@ -56,6 +56,14 @@ found_same found end n e = subst (λ (f : Found). Same (unwrap_or (most_steps f)
 
 abbrev pub procedure : String Global × Algo → Procedure
 procedure p = record { name = string_bytes p.0; algorithm = commands_of p.1.statements.items }
+
+-- without a table, one more algorithm has the price of which nothing is told
+pub unknown_more : (es : List (String Global × Algo)) (i : ℕ) → i < length es → prices None (map procedure (drop i es)) ≡ 1000000000001 ∷ prices None (map procedure (drop (i + 1) es))
+unknown_more es i l = rw add-one (by es i l) where
+  by : (es : List (String Global × Algo)) (i : ℕ) → i < length es → prices None (map procedure (drop i es)) ≡ 1000000000001 ∷ prices None (map procedure (drop (suc i) es))
+  by [] i l = absurd (omega (arith, l))
+  by (e ∷ es) zero l = refl
+  by (e ∷ es) (suc i) l = by es i (omega (arith, l))
 
 value_same : (spans : Spans) (es : List (String Global × Algo)) → AllByRecursion (λ (p : Procedure). IsClearAlgorithm spans p.algorithm) (map procedure es) → (x : Name)
     → Same (value_at (map (λ p. string_bytes p.0) es) (prices (Some spans) (map procedure es)) x) (1 * cost_of spans (named (map procedure es) x))
