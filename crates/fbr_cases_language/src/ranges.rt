@@ -6,15 +6,20 @@ use crate::text::{ended, refused, text_of};
 use fb_cert::{Certificate, parse_cert};
 use fb_check_ranges::block_rows;
 use fb_flat::{Body, Flat, Leaf};
-use fb_ranges::{Ranges, check_algorithm, check_guard, max_steps};
+use fb_ranges::{Ranges, check_algorithm, check_guard, copied, max_steps};
 use st_types::{Algo, TypedExpr};
 use std::alloc::{AllocError, Global};
 use std::fmt::Write;
 
-// The most steps of an algorithm, or why it is refused.
-fn cost(alloc: Global, algorithm: &Algo, rows: &Ranges) -> Result<String, AllocError> {
-    match check_algorithm(alloc, algorithm, rows) {
-        Ok(()) => match max_steps(alloc, algorithm, rows) {
+// The most steps of an algorithm, or why it is refused, by examinations in a copy of the rows.
+fn cost(
+    alloc: Global,
+    algorithm: &Algo,
+    rows: &Ranges,
+    work: &mut Ranges,
+) -> Result<String, AllocError> {
+    match check_algorithm(alloc, algorithm, rows, work) {
+        Ok(()) => match max_steps(alloc, algorithm, rows, work) {
             Ok(Some(steps)) => format!(in alloc; "{steps}"),
             Ok(None) => String::from_str(alloc, "many"),
             Err(_) => Err(AllocError),
@@ -42,8 +47,9 @@ fn leaf_ranges(
         return Ok(());
     };
     let rows = block_rows(alloc, certificate, leaf.path.as_str(), block)?;
+    let mut work = copied(&rows)?;
     for (name, algorithm) in &block.procedures {
-        let told = cost(alloc, algorithm, &rows)?;
+        let told = cost(alloc, algorithm, &rows, &mut work)?;
         writeln!(out, "{name} {told}")?;
     }
     for transition in &block.transitions {

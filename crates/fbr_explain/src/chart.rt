@@ -3,7 +3,7 @@
 use crate::term::{Cause, Page, Term};
 use fb_check_ranges::block_rows;
 use fb_flat::{Leaf, joined};
-use fb_ranges::max_steps;
+use fb_ranges::{copied, max_steps};
 use fb_types_blocks::{Action, Block, Transition};
 use std::alloc::AllocError;
 
@@ -25,7 +25,8 @@ fn add_algorithm(
         return Ok(());
     };
     let rows = block_rows(page.alloc, page.certificate, leaf.path.as_str(), block)?;
-    let most = max_steps(page.alloc, algorithm, &rows).map_err(|_| AllocError)?;
+    let mut work = copied(&rows)?;
+    let most = max_steps(page.alloc, algorithm, &rows, &mut work).map_err(|_| AllocError)?;
     terms.push(Term {
         amount: most.unwrap_or(ENDLESS),
         cause: Cause::Algorithm(name.clone()?),
