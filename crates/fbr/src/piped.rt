@@ -5,7 +5,7 @@ use crate::sources::ReadFault;
 use std::alloc::Global;
 use std::io::Read;
 
-// How many words are `-`, but for those that are said of an option.
+// How many words are `-`, but for those behind an option that names no file to be read.
 fn count_named(words: &[&str]) -> usize {
     let mut count: usize = 0;
     let mut is_value = false;
@@ -13,7 +13,10 @@ fn count_named(words: &[&str]) -> usize {
         if *word == "-" && !is_value {
             count = count.saturating_add(1);
         }
-        is_value = matches!(*word, "-o" | "--output" | "--repeats" | "--chart");
+        is_value = matches!(
+            *word,
+            "-o" | "--output" | "--repeats" | "--room" | "--chart"
+        );
     }
     count
 }
