@@ -1,22 +1,27 @@
 -- What is said of certificates whose ranges were proposed.
-use Rattle.std.specs.Prelude.{ℕ, ◌≡◌, ◌⊎◌, Option}
+use Rattle.std.specs.Prelude.{ℕ, ◌≡◌, ◌++◌, Option}
 use Rattle.std.specs.declared.string.String.{String}
 use Rattle.std.specs.declared.alloc.Global.{Global}
 use Rattle.fb_model.specs.System.{System}
 use Rattle.fb_model.specs.Certificates.{Certificate}
-use Rattle.fb_cert.specs.Views.{Rows}
+use Rattle.fb_model.specs.Spans.{Span}
+use Rattle.fb_cert.specs.Views.{Rows, Table}
 use Rattle.fb_find_laws.specs.Finding.{IsFoundWith}
 use Rattle.fb_find_rows.specs.declared.fault.NoBound.{NoBound}
 use Rattle.fb_find_rows.specs.declared.fault.NoBound.TheVariants.{OutOfMemory, Cycle, NoRange, Limit}
-use Rattle.fb_find.specs.Bounds.{IsNoBoundWithin, IsStrayFault}
+use Rattle.fb_find.specs.Bounds.{IsNoBoundWithin}
 
 -- whatever its ranges are, it fits, and its other numbers are the least for these
 abbrev pub IsFoundSomehow : Option ℕ → System → Certificate → Type 0
 IsFoundSomehow repeats system cert = IsFoundWith (λ ranges. Unit {0}) repeats system cert
 
--- why there is none with ranges that were proposed; or a row that is given does not stand in what was found
+-- the rows RANGE of the second are those of the first, and then others
+abbrev pub AreFirstOf : Rows → Rows → Type 0
+AreFirstOf given rows = (more : Table Span) × (rows.ranges ≡ given.ranges ++ more)
+
+-- why there is none within rows of which the first are those that are given
 abbrev pub IsNoBoundKeeping : Rows → Option ℕ → System → NoBound → Type 0
-IsNoBoundKeeping given repeats s fault = (rows : Rows) × (IsNoBoundWithin rows repeats s fault ⊎ IsStrayFault given rows fault)
+IsNoBoundKeeping given repeats s fault = (rows : Rows) × AreFirstOf given rows × IsNoBoundWithin rows repeats s fault
 
 -- want of memory, or the same path
 abbrev pub IsStill : String Global → NoBound → Type 0

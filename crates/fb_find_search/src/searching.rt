@@ -1,22 +1,22 @@
 //! The finder that keeps given ranges, and the one that tries harder.
 
-ghost use Rattle.std.specs.Prelude.{◌≡◌, ◌≤◌, ◌⊎◌, IfErr, IfOk, IfSome};
+ghost use Rattle.std.specs.Prelude.{◌≡◌, ◌≤◌, IfErr, IfOk, IfSome};
 ghost use Rattle.fb_model.specs.Certificates as book;
 ghost use Rattle.fb_model.specs.Certificates.{Fits};
 ghost use Rattle.fb_cert.specs.Views.{certificate_of, rows_of};
 ghost use Rattle.fb_types.specs.Views.{system_of};
-ghost use Rattle.fb_find.specs.Bounds.{IsDenied, IsNoBound, IsStrayFault, IsWalk, RowsStand};
-ghost use Rattle.fb_find_search.specs.Searching.{IsFoundSomehow, IsNoBoundKeeping, IsStill};
+ghost use Rattle.fb_find.specs.Bounds.{IsDenied, IsNoBound, IsWalk, RowsStand};
+ghost use Rattle.fb_find_search.specs.Searching.{AreFirstOf, IsFoundSomehow, IsNoBoundKeeping, IsStill};
 
 use crate::proposal::candidate;
-use fb_cert::Certificate;
-use fb_find::{find, find_within, rows_stand};
+use fb_cert::{Certificate, Row};
+use fb_find::{find, find_within};
 use fb_find_rows::NoBound;
 use fb_flat::flatten;
 use fb_types::{TypeFault, Typed};
 use std::alloc::{AllocError, Global};
 
-// Rows RANGE that are proposed, with those that are given; the latter alone, where there are no leaves.
+// Rows RANGE that are proposed with those that are given; none, where there are no leaves.
 fn proposed(alloc: Global, typed: &Typed, given: &Certificate) -> Result<Certificate, AllocError> {
     match flatten(alloc, typed) {
         Ok(flat) => {
@@ -29,62 +29,76 @@ fn proposed(alloc: Global, typed: &Typed, given: &Certificate) -> Result<Certifi
     }
 }
 
-// A certificate in which each row RANGE that is given stands.
-fn kept(
-    alloc: Global,
-    given: &Certificate,
-    certificate: Certificate,
-) -> Result<Certificate, NoBound>
-    ensures same { IfOk result (λ c. rows_of c ≡ rows_of certificate) }
-    ensures stand { IfOk result (λ c. RowsStand (rows_of given.now) (rows_of c)) }
-    ensures refused { IfErr result (IsStrayFault (rows_of given.now) (rows_of certificate)) }
+// Adds the rows RANGE of another certificate at the end, where their paths are new.
+fn add_ranges(alloc: Global, more: &Certificate, rows: &mut Certificate) -> Result<(), AllocError>
+    ensures { AreFirstOf (rows_of rows.old) (rows_of rows.new) }
 {
-    match rows_stand(alloc, given, &certificate) {
-        Ok(()) => Ok(certificate),
-        Err(fault) => {
-            certificate.let_go();
-            Err(fault)
+    for index in 0..more.range_count() {
+        let Some((path, bounds)) = more.range_at(index) else {
+            return Ok(());
+        };
+        rows.add(alloc, Row::Range(path, bounds))?;
+    }
+    Ok(())
+}
+
+// The rows that are given, and after them those RANGE of another certificate.
+fn with_more(
+    alloc: Global,
+    given: Certificate,
+    more: &Certificate,
+) -> Result<Certificate, AllocError>
+    ensures { IfOk result (λ c. AreFirstOf (rows_of given) (rows_of c)) }
+{
+    let mut rows = given;
+    match add_ranges(alloc, more, &mut rows) {
+        Ok(()) => Ok(rows),
+        Err(error) => {
+            rows.let_go();
+            Err(error)
         }
     }
 }
 
-// The certificate with these ranges, in which each row RANGE that is given stands.
-fn kept_within(
+// The rows that are given, and after them those RANGE that are proposed.
+fn with_proposed(
     alloc: Global,
     typed: &Typed,
-    repeats: Option<u8>,
-    given: &Certificate,
-    ranges: &Certificate,
-) -> Result<Certificate, NoBound>
-    requires { IfSome repeats (λ r. 1 ≤ r) }
-    ensures found { IfOk result (λ c. IsFoundSomehow repeats (system_of typed.now) (certificate_of c)) }
-    ensures stand { IfOk result (λ c. RowsStand (rows_of given.now) (rows_of c)) }
-    ensures refused { IfErr result (IsNoBoundKeeping (rows_of given.now) repeats (system_of typed.now)) }
+    given: Certificate,
+) -> Result<Certificate, AllocError>
+    ensures { IfOk result (λ c. AreFirstOf (rows_of given) (rows_of c)) }
 {
-    match find_within(alloc, typed, repeats, ranges) {
-        Ok(certificate) => kept(alloc, given, certificate),
-        Err(fault) => Err(fault),
+    match proposed(alloc, typed, &given) {
+        Ok(more) => {
+            let rows = with_more(alloc, given, &more);
+            more.let_go();
+            rows
+        }
+        Err(error) => {
+            given.let_go();
+            Err(error)
+        }
     }
 }
 
 /// A certificate in which each row RANGE of another stands; the other ranges are proposed. Every other number is the least of all certificates with these ranges that
 /// fit, as `find` has it.
 ///
-/// Refused as by `find_within` under ranges that were proposed; or with `NoRange` where a row that is given is of no variable.
+/// Refused as by `find_within` under the rows that are given with those that are proposed behind them.
 pub fn find_keeping(
     alloc: Global,
     typed: &Typed,
     repeats: Option<u8>,
-    given: &Certificate,
+    given: Certificate,
 ) -> Result<Certificate, NoBound>
     requires { IfSome repeats (λ r. 1 ≤ r) }
     ensures found { IfOk result (λ c. IsFoundSomehow repeats (system_of typed.now) (certificate_of c)) }
-    ensures stand { IfOk result (λ c. RowsStand (rows_of given.now) (rows_of c)) }
-    ensures refused { IfErr result (IsNoBoundKeeping (rows_of given.now) repeats (system_of typed.now)) }
+    ensures stand { IfOk result (λ c. RowsStand (rows_of given) (rows_of c)) }
+    ensures refused { IfErr result (IsNoBoundKeeping (rows_of given) repeats (system_of typed.now)) }
 {
-    match proposed(alloc, typed, given) {
+    match with_proposed(alloc, typed, given) {
         Ok(ranges) => {
-            let found = kept_within(alloc, typed, repeats, given, &ranges);
+            let found = find_within(alloc, typed, repeats, &ranges);
             ranges.let_go();
             found
         }
@@ -103,10 +117,7 @@ fn tried(
     ensures found { IfOk result (λ c. IsFoundSomehow repeats (system_of typed.now) (certificate_of c)) }
     ensures refused { IfErr result (IsStill path) }
 {
-    let given = Certificate::new(alloc);
-    let found = find_keeping(alloc, typed, repeats, &given);
-    given.let_go();
-    match found {
+    match find_keeping(alloc, typed, repeats, Certificate::new(alloc)) {
         Ok(certificate) => Ok(certificate),
         Err(NoBound::OutOfMemory) => Err(NoBound::OutOfMemory),
         Err(_) => Err(NoBound::NoRange(path)),

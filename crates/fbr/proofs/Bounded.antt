@@ -12,7 +12,7 @@ use Rattle.fbr.specs.declared.fault.Fault.TheVariants.{Memory, Input, File, Line
 use Rattle.fbr.specs.Outcomes.{Tells, refusal, IsContents, IsReadFault}
 use Rattle.fbr.specs.declared.wanted.Wanted.{Wanted}
 use Rattle.fbr.specs.Program.{Sought}
-use Rattle.fbr.specs.Bounding.{IsTextFor, IsUnbound, IsBoundText, IsBoundFault, IsTextOver, IsFaultOver, TellsBound, a_text, no_text, unread, Writes, unwritten, WritesBound, a_file, no_file, sought_of}
+use Rattle.fbr.specs.Bounding.{IsTypedFault, IsTextFor, IsUnbound, IsBoundText, IsBoundFault, IsTextOver, IsFaultOver, TellsBound, a_text, no_text, unread, Writes, unwritten, WritesBound, a_file, no_file, sought_of}
 
 -- what is found of the system of a text is found of the text
 pub of_text : (repeats : Option ℕ) (app : List ℕ) (typed : Configuration) (r : Result (String Global) Fault) → IsTypedOf app typed
@@ -28,6 +28,19 @@ of_text repeats app typed (Err (Unbound f)) is h = (typed, is, h)
 of_text repeats app typed (Err (Device name)) is h = absurd h
 of_text repeats app typed (Err LinkDown) is h = absurd h
 of_text repeats app typed (Err (Socket port)) is h = absurd h
+
+-- a fault of a text is one here
+pub typed_fault : (repeats : Option ℕ) (app : List ℕ) (f : Fault) → IsTypedFault app f → IsBoundFault repeats app f
+typed_fault repeats app Memory h = tt
+typed_fault repeats app Input h = absurd h
+typed_fault repeats app (File name) h = absurd h
+typed_fault repeats app (Line n) h = absurd h
+typed_fault repeats app Usage h = absurd h
+typed_fault repeats app (Refused f) h = h
+typed_fault repeats app (Unbound f) h = absurd h
+typed_fault repeats app (Device name) h = absurd h
+typed_fault repeats app LinkDown h = absurd h
+typed_fault repeats app (Socket port) h = absurd h
 
 -- what is found of what a file holds is found over the file
 pub over : (repeats : Option ℕ) (name app : List ℕ) (held : Option (List ℕ)) (r : Result (String Global) Fault) → IsContents held app

@@ -46,6 +46,12 @@ pub record IsBoundText (repeats : Option ℕ) (app text : List ℕ) : Type 0 whe
   pub typed_is : IsTypedOf app typed
   pub certificate : IsTextFor repeats (system_of typed) text
 
+-- want of memory, or a fault of an application's text
+abbrev pub IsTypedFault : List ℕ → Fault → Type 0
+IsTypedFault app Memory = Unit {0}
+IsTypedFault app (Refused refusal) = IsTextFault app refusal
+IsTypedFault app other = ⊥
+
 -- want of memory, a fault of the application's text, or why there is no certificate of its system
 abbrev pub IsBoundFault : Option ℕ → List ℕ → Fault → Type 0
 IsBoundFault repeats app Memory = Unit {0}

@@ -5,7 +5,7 @@ use Rattle.fb_model.specs.System.{System}
 use Rattle.fb_model.specs.CertificateText.{Spells}
 use Rattle.fb_cert.specs.Views.{Rows, book_of}
 use Rattle.fb_cert.specs.Printed.{printed}
-use Rattle.fb_find.specs.Bounds.{IsNoBound, RowsStand}
+use Rattle.fb_find.specs.Bounds.{RowsStand}
 use Rattle.fb_find_rows.specs.declared.fault.NoBound.{NoBound}
 use Rattle.fb_find_search.specs.Searching.{IsFoundSomehow, IsNoBoundKeeping}
 use Rattle.fb_types.specs.declared.typed.Configuration.{Configuration}
@@ -16,7 +16,7 @@ use Rattle.fbr.specs.declared.fault.Fault.{Fault}
 use Rattle.fbr.specs.declared.fault.Fault.TheVariants.{Memory, File, Refused, Unbound}
 use Rattle.fbr.specs.Outcomes.{Tells, refusal, IsContents, IsReadFault}
 use Rattle.fbr.specs.Program.{Sought}
-use Rattle.fbr.specs.Bounding.{Writes}
+use Rattle.fbr.specs.Bounding.{IsTypedFault, IsUnbound, Writes}
 
 -- ---- ranges
 
@@ -57,29 +57,28 @@ IsSoughtText q files text = (app : List ℕ) × IsContents (files q.app) app × 
 
 -- ---- faults
 
--- a file of this name was not read, or holds no rows
-abbrev pub IsGivenFault : List ℕ → Fault → Type 0
-IsGivenFault name Memory = Unit {0}
-IsGivenFault name (File one) = one.now ≡ name
-IsGivenFault name (Refused f) = (cert : List ℕ) × IsCertificateFault cert f
-IsGivenFault name other = ⊥
+-- a file of this name was not read, or what it holds is no text of a certificate
+abbrev pub IsGivenFault : List ℕ → Option (List ℕ) → Fault → Type 0
+IsGivenFault name held Memory = Unit {0}
+IsGivenFault name held (File one) = one.now ≡ name
+IsGivenFault name held (Refused f) = (cert : List ℕ) × IsContents held cert × IsCertificateFault cert f
+IsGivenFault name held other = ⊥
 
--- why there is no certificate of a system: with the finder's ranges, or with others that keep some rows
-abbrev pub IsUnboundSomehow : Option ℕ → System → NoBound → Type 0
-IsUnboundSomehow repeats system f = IsNoBound repeats system f ⊎ ((given : Rows) × IsNoBoundKeeping given repeats system f)
+-- want of memory, or why there is no certificate of a system that keeps these rows
+abbrev pub IsUnboundKeeping : Rows → Option ℕ → System → Fault → Type 0
+IsUnboundKeeping given repeats system Memory = Unit {0}
+IsUnboundKeeping given repeats system (Unbound f) = IsNoBoundKeeping given repeats system f
+IsUnboundKeeping given repeats system other = ⊥
 
-abbrev pub IsUnboundFault : Option ℕ → System → Fault → Type 0
-IsUnboundFault repeats system Memory = Unit {0}
-IsUnboundFault repeats system (Unbound f) = IsUnboundSomehow repeats system f
-IsUnboundFault repeats system other = ⊥
+-- the file of this name is at fault, or this is why there is none that keeps the rows that it holds
+abbrev pub IsKeptFault : List ℕ → Option (List ℕ) → Option ℕ → System → Fault → Type 0
+IsKeptFault name held repeats system f = IsGivenFault name held f ⊎ ((given : Rows) × HoldsRows held given × IsUnboundKeeping given repeats system f)
 
--- the same, or the file that is named for ranges is at fault
-abbrev pub IsRangesFault : Sought → System → Fault → Type 0
-IsRangesFault q system Memory = Unit {0}
-IsRangesFault q system (File name) = q.ranges ≡ Some (Some name.now)
-IsRangesFault q system (Refused f) = (cert : List ℕ) × IsCertificateFault cert f
-IsRangesFault q system (Unbound f) = IsUnboundSomehow q.repeats system f
-IsRangesFault q system other = ⊥
+-- why there is none of a system: with the finder's ranges, or where a file is named for ranges, with its rows
+abbrev pub IsRangesFault : Option (Option (List ℕ)) → Option ℕ → (List ℕ → Option (List ℕ)) → System → Fault → Type 0
+IsRangesFault None repeats files system f = IsUnbound repeats system f
+IsRangesFault (Some None) repeats files system f = IsUnbound repeats system f
+IsRangesFault (Some (Some name)) repeats files system f = IsKeptFault name (files name) repeats system f
 
 -- the checker accepts no text of a certificate for want of memory, or for this fault
 abbrev pub IsCheckFault : List ℕ → Fault → Type 0
@@ -87,17 +86,15 @@ IsCheckFault app Memory = Unit {0}
 IsCheckFault app (Refused f) = (cert : List ℕ) × IsFaultOf app cert f
 IsCheckFault app other = ⊥
 
--- the same of an application's text, which may be at fault too, as may be what was found
-abbrev pub IsTextFaultAsked : Sought → List ℕ → Fault → Type 0
-IsTextFaultAsked q app Memory = Unit {0}
-IsTextFaultAsked q app (File name) = q.ranges ≡ Some (Some name.now)
-IsTextFaultAsked q app (Refused f) = (cert : List ℕ) × IsFaultOf app cert f
-IsTextFaultAsked q app (Unbound f) = (typed : Configuration) × IsTypedOf app typed × IsUnboundSomehow q.repeats (system_of typed) f
-IsTextFaultAsked q app other = ⊥
+-- why there is no text: the application's is at fault, or there is no certificate of its system, or what was found has no more room
+pub data IsTextFaultAsked (q : Sought) (files : List ℕ → Option (List ℕ)) (app : List ℕ) (f : Fault) : Type 0 where
+  of_application : IsTypedFault app f → IsTextFaultAsked q files app f
+  of_ranges : (typed : Configuration) → IsTypedOf app typed → IsRangesFault q.ranges q.repeats files (system_of typed) f → IsTextFaultAsked q files app f
+  of_room : (times : ℕ) → q.room ≡ Some times → IsCheckFault app f → IsTextFaultAsked q files app f
 
--- a file of this name was not read, or it is at fault so
+-- the application's file was not read, or what it holds is at fault so
 abbrev pub IsSoughtFault : Sought → (List ℕ → Option (List ℕ)) → Fault → Type 0
-IsSoughtFault q files f = IsReadFault q.app f ⊎ ((app : List ℕ) × IsContents (files q.app) app × IsTextFaultAsked q app f)
+IsSoughtFault q files f = IsReadFault q.app f ⊎ ((app : List ℕ) × IsContents (files q.app) app × IsTextFaultAsked q files app f)
 
 -- ---- what is told
 

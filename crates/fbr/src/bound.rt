@@ -1,6 +1,6 @@
 //! Finds a certificate of an application, and prints it.
 
-ghost use Rattle.std.specs.Prelude.{◌≡◌, ◌≤◌, ℕ, Option, IfOk, IfSome, MatchResult, string_bytes};
+ghost use Rattle.std.specs.Prelude.{◌≡◌, ◌≤◌, IfOk, IfSome, MatchResult, string_bytes};
 ghost use Rattle.std.specs.Io.KnownBytes.{Appends};
 ghost use Rattle.fbr_explain.specs.fb_verdict.Verdicts.{IsTypedOf};
 ghost use Rattle.fb_types.specs.Views.{system_of};
@@ -8,7 +8,7 @@ ghost use Rattle.fb_find_laws.specs.Finding.{IsFound};
 ghost use Rattle.fb_cert.specs.Views.{rows_of, certificate_of};
 ghost use Rattle.fb_cert.specs.Printed.{printed};
 ghost use Rattle.fbr.specs.Outcomes.{Tells, refusal};
-ghost use Rattle.fbr.specs.Bounding.{IsTextFor, IsUnbound, IsBoundText, IsBoundFault, IsTextOver, IsFaultOver, TellsBound, WritesBound};
+ghost use Rattle.fbr.specs.Bounding.{IsTypedFault, IsTextFor, IsUnbound, IsBoundText, IsBoundFault, IsTextOver, IsFaultOver, TellsBound, WritesBound};
 ghost use Rattle.fbr.specs.declared.fault.Fault.TheVariants.{Memory};
 
 use crate::check::{print_outcome, read_text};
@@ -28,7 +28,7 @@ use std::io::Write;
 
 /// The typed system of an application's text.
 pub fn typed_in<'a>(alloc: Global, app: &str) -> Result<Typed, Fault<'a>>
-    ensures { (repeats : Option ℕ) → MatchResult result (IsTypedOf app.now) (IsBoundFault repeats app.now) }
+    ensures { MatchResult result (IsTypedOf app.now) (IsTypedFault app.now) }
 {
     match read_system(alloc, app) {
         Ok(typed) => Ok(typed),

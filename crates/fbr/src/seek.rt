@@ -1,12 +1,12 @@
 //! Finds certificates with other ranges than those of the finder's rounds, or with more room in their queues.
 
-ghost use Rattle.std.specs.Prelude.{◌≤◌, ◌⊎◌, IfErr, IfOk, IfSome, MatchResult, string_bytes};
+ghost use Rattle.std.specs.Prelude.{◌≤◌, IfErr, IfOk, IfSome, MatchResult, string_bytes};
 ghost use Rattle.fb_types.specs.Views.{system_of};
 ghost use Rattle.fb_cert.specs.Views.{certificate_of, rows_of, Rows};
 ghost use Rattle.fb_find.specs.Bounds.{RowsStand};
 ghost use Rattle.fb_find_search.specs.Searching.{IsFoundSomehow};
-ghost use Rattle.fbr.specs.Bounding.{sought_of};
-ghost use Rattle.fbr.specs.Seeking.{HoldsRows, IsGivenFault, IsUnboundFault, IsRangesFault, IsTextFaultAsked, IsSoughtFault, IsLeastText, IsLeastTextOf, IsTextAsked, IsSoughtText, KeepsRanges, IsPutOut, TellsSought};
+ghost use Rattle.fbr.specs.Bounding.{IsUnbound, sought_of};
+ghost use Rattle.fbr.specs.Seeking.{HoldsRows, IsGivenFault, IsKeptFault, IsUnboundKeeping, IsRangesFault, IsTextFaultAsked, IsSoughtFault, IsLeastText, IsLeastTextOf, IsTextAsked, IsSoughtText, KeepsRanges, IsPutOut, TellsSought};
 
 use crate::bound::{print_text, tell_fault, text_of, typed_in};
 use crate::check::read_text;
@@ -31,7 +31,7 @@ fn given_rows<'a, S: Sources>(
     files: &S,
     name: &'a str,
 ) -> Result<Certificate, Fault<'a>>
-    ensures { MatchResult result (λ c. HoldsRows (S.contents files.now name.now) (rows_of c)) (IsGivenFault name.now) }
+    ensures { MatchResult result (λ c. HoldsRows (S.contents files.now name.now) (rows_of c)) (IsGivenFault name.now (S.contents files.now name.now)) }
 {
     let text = read_text(alloc, files, name)?;
     match parse_cert(alloc, text.as_str()) {
@@ -48,7 +48,7 @@ fn least_for<'a>(
     repeats: Option<u8>,
 ) -> Result<Certificate, Fault<'a>>
     requires { IfSome repeats (λ r. 1 ≤ r) }
-    ensures { MatchResult result (λ c. IsFoundSomehow repeats (system_of typed.now) (certificate_of c)) (IsUnboundFault repeats (system_of typed.now)) }
+    ensures { MatchResult result (λ c. IsFoundSomehow repeats (system_of typed.now) (certificate_of c)) (IsUnbound repeats (system_of typed.now)) }
 {
     match find(alloc, typed, repeats) {
         Ok(certificate) => Ok(certificate),
@@ -64,7 +64,7 @@ fn searched_for<'a>(
     repeats: Option<u8>,
 ) -> Result<Certificate, Fault<'a>>
     requires { IfSome repeats (λ r. 1 ≤ r) }
-    ensures { MatchResult result (λ c. IsFoundSomehow repeats (system_of typed.now) (certificate_of c)) (IsUnboundFault repeats (system_of typed.now)) }
+    ensures { MatchResult result (λ c. IsFoundSomehow repeats (system_of typed.now) (certificate_of c)) (IsUnbound repeats (system_of typed.now)) }
 {
     match search(alloc, typed, repeats) {
         Ok(certificate) => Ok(certificate),
@@ -78,10 +78,10 @@ fn kept_for<'a>(
     alloc: Global,
     typed: &Typed,
     repeats: Option<u8>,
-    given: &Certificate,
+    given: Certificate,
 ) -> Result<Certificate, Fault<'a>>
     requires { IfSome repeats (λ r. 1 ≤ r) }
-    ensures { MatchResult result (λ c. IsFoundSomehow repeats (system_of typed.now) (certificate_of c) × RowsStand (rows_of given.now) (rows_of c)) (IsUnboundFault repeats (system_of typed.now)) }
+    ensures { MatchResult result (λ c. IsFoundSomehow repeats (system_of typed.now) (certificate_of c) × RowsStand (rows_of given) (rows_of c)) (IsUnboundKeeping (rows_of given) repeats (system_of typed.now)) }
 {
     match find_keeping(alloc, typed, repeats, given) {
         Ok(certificate) => Ok(certificate),
@@ -101,14 +101,10 @@ fn kept_in<'a, S: Sources>(
     requires { IfSome repeats (λ r. 1 ≤ r) }
     ensures found { IfOk result (λ c. IsFoundSomehow repeats (system_of typed.now) (certificate_of c)) }
     ensures keeps { IfOk result (λ c. (given : Rows) × HoldsRows (S.contents files.now name.now) given × RowsStand given (rows_of c)) }
-    ensures refused { IfErr result (λ f. IsGivenFault name.now f ⊎ IsUnboundFault repeats (system_of typed.now) f) }
+    ensures refused { IfErr result (IsKeptFault name.now (S.contents files.now name.now) repeats (system_of typed.now)) }
 {
     match given_rows(alloc, files, name) {
-        Ok(given) => {
-            let kept = kept_for(alloc, typed, repeats, &given);
-            given.let_go();
-            kept
-        }
+        Ok(given) => kept_for(alloc, typed, repeats, given),
         Err(fault) => Err(fault),
     }
 }
@@ -123,7 +119,7 @@ fn certificate_in<'a, S: Sources>(
     requires { IfSome wanted.repeats (λ r. 1 ≤ r) }
     ensures found { IfOk result (λ c. IsFoundSomehow wanted.entry.repeats (system_of typed.now) (certificate_of c)) }
     ensures keeps { IfOk result (λ c. KeepsRanges (sought_of wanted.entry).ranges (S.contents files.now) (rows_of c)) }
-    ensures refused { IfErr result (IsRangesFault (sought_of wanted.entry) (system_of typed.now)) }
+    ensures refused { IfErr result (IsRangesFault (sought_of wanted.entry).ranges wanted.entry.repeats (S.contents files.now) (system_of typed.now)) }
 {
     match wanted.ranges {
         Ranges::Rounds => least_for(alloc, typed, wanted.repeats),
@@ -141,7 +137,7 @@ fn text_for<'a, S: Sources>(
 ) -> Result<String, Fault<'a>>
     requires { IfSome wanted.repeats (λ r. 1 ≤ r) }
     ensures text { IfOk result (λ text. IsLeastTextOf (sought_of wanted.entry) (S.contents files.now) (system_of typed.now) (string_bytes text)) }
-    ensures refused { IfErr result (IsRangesFault (sought_of wanted.entry) (system_of typed.now)) }
+    ensures refused { IfErr result (IsRangesFault (sought_of wanted.entry).ranges wanted.entry.repeats (S.contents files.now) (system_of typed.now)) }
 {
     match certificate_in(alloc, files, typed, wanted) {
         Ok(certificate) => {
@@ -162,7 +158,7 @@ fn text_in<'a, S: Sources>(
 ) -> Result<String, Fault<'a>>
     requires { IfSome wanted.repeats (λ r. 1 ≤ r) }
     ensures text { IfOk result (λ text. IsLeastText (sought_of wanted.entry) (S.contents files.now) app.now (string_bytes text)) }
-    ensures refused { IfErr result (IsTextFaultAsked (sought_of wanted.entry) app.now) }
+    ensures refused { IfErr result (IsTextFaultAsked (sought_of wanted.entry) (S.contents files.now) app.now) }
 {
     match typed_in(alloc, app) {
         Ok(typed) => {
@@ -183,7 +179,7 @@ fn text_asked<'a, S: Sources>(
 ) -> Result<String, Fault<'a>>
     requires { IfSome wanted.repeats (λ r. 1 ≤ r) }
     ensures text { IfOk result (λ text. IsTextAsked (sought_of wanted.entry).room (sought_of wanted.entry) (S.contents files.now) app.now (string_bytes text)) }
-    ensures refused { IfErr result (IsTextFaultAsked (sought_of wanted.entry) app.now) }
+    ensures refused { IfErr result (IsTextFaultAsked (sought_of wanted.entry) (S.contents files.now) app.now) }
 {
     match text_in(alloc, files, app, wanted) {
         Ok(text) => match wanted.room {
