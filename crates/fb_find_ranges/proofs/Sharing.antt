@@ -1,7 +1,6 @@
 -- Leaves that rounds share, with what is kept of them.
 use Rattle.std.proofs.Common.{◌≡◌, ℕ, true, List, [], ◌∷◌, ◌++◌, map, refl, sym, ap, ap₂, subst, ◌∙◌, Result, Ok, Err}
 use Rattle.std.specs.Prelude.{IfOk, MatchResult}
-use Rattle.std.specs.List.{AllByRecursion}
 use Rattle.std.proofs.lemmas.Bool.{and_parts}
 use Rattle.fb_model.proofs.Lists.{all_append}
 use Rattle.fb_find_ranges.specs.declared.rows.Row.{Row}

@@ -3,7 +3,7 @@ use Rattle.std.proofs.lemmas.Result.{IfOk-weaker}
 use Rattle.fb_find_ranges.specs.declared.rows.Row.{Row}
 use Rattle.fb_find_ranges.specs.Lines.{lined, next_line, next_lined}
 use Rattle.fb_find_ranges.specs.Sameness.{same_lines}
-use Rattle.fb_find_ranges.specs.Views.{Shared, line_of, lined_in, tabled_of, tabled_in, shown}
+use Rattle.fb_find_ranges.specs.Views.{Shared, line_of, lined_in, tabled_of, shown}
 use Rattle.fb_find_ranges.proofs.Sharing.{leaf_stays, same_shared}
 use Rattle.fb_find_ranges.proofs.round.next_leaf.Goals as goal
 
