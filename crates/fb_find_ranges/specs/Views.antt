@@ -1,6 +1,5 @@
 -- What the code's rows are in these words.
-use denote.Ref.{Bor}
-use Rattle.std.specs.Prelude.{◌≡◌, [], map, List, Option, string_bytes}
+use Rattle.std.specs.Prelude.{◌≡◌, ℕ, suc, [], ◌∷◌, map, List, Option, None, Some, string_bytes, if◌then◌else◌}
 use Rattle.std.specs.List.{AllByRecursion}
 use Rattle.std.specs.Option.{option_map}
 use Rattle.std.specs.Map.{lookup}
@@ -9,9 +8,10 @@ use Rattle.std.specs.declared.string.String.{String}
 use Rattle.std.specs.declared.alloc.Global.{Global}
 use Rattle.std.specs.declared.rc.Rc.{Rc}
 use Rattle.indexmap.specs.IndexMap.{IndexMap}
-use Rattle.fb_model.specs.Names.{Name}
+use Rattle.fb_model.specs.Names.{Name, Path, path_eq}
 use Rattle.fb_model.specs.Wires as wires
 use Rattle.fb_model.specs.CertificateText.{names_in}
+use Rattle.fb_model.specs.Spans.{Span, joined}
 use Rattle.fb_flat.specs.declared.flat.Leaf as flat
 use Rattle.fb_flat.specs.Leaves.{kind_of}
 use Rattle.fb_flat.specs.Tables.{source_at}
@@ -19,7 +19,7 @@ use Rattle.fb_ranges_intervals.specs.Views.{span_of}
 use Rattle.fb_ranges.specs.Views.{spans_of}
 use Rattle.fb_find_ranges.specs.declared.rows.Row.{Row}
 use Rattle.fb_find_ranges.specs.declared.rows.LeafRows.{LeafRows}
-use Rattle.fb_find_ranges.specs.Lines.{Line, line, Lined, lined, Tabled, tabled_at, spans_by, grown_by, IsAsked}
+use Rattle.fb_find_ranges.specs.Lines.{Line, line, Lined, lined, Tabled, given, spans_by, grown_by, IsAsked}
 
 -- a leaf of the tables by its path, what it is, and where its inputs take their values from
 abbrev pub shown : flat.Leaf → wires.Leaf
@@ -52,10 +52,23 @@ pub record IsKept (s : LeafRows) : Type 0 where
 abbrev pub AreKept : List Shared → Type 0
 AreKept ss = AllByRecursion (λ (s : Shared). IsKept s.value) ss
 
--- what stands under a path
-abbrev pub near_at : {S : Type 0} → IndexMap (String Global) (Bor LeafRows) S → Name → Option Tabled
-near_at m path = option_map (λ (t : Bor LeafRows). tabled_of t.now) (lookup (λ y. bytes_eq path (string_bytes y)) m.entries)
+abbrev pub leaf_in : Shared → wires.Leaf
+leaf_in s = shown s.value.leaf.now
+
+-- a range, and that of an output of a leaf, if there is one
+abbrev pub fed_from : Option Tabled → Name → Span → Span
+fed_from None y r = r
+fed_from (Some t) y r = joined r (given t.leaf.kind t.spans y)
+
+-- the number of the first leaf of a path
+abbrev pub number_of : List wires.Leaf → Path → Option ℕ
+number_of [] path = None
+number_of (l ∷ ls) path = if path_eq l.path path then Some 0 else option_map suc (number_of ls path)
+
+-- the number that stands under a path
+abbrev pub near_at : {S : Type 0} → IndexMap (String Global) ℕ S → Name → Option ℕ
+near_at m path = lookup (λ y. bytes_eq path (string_bytes y)) m.entries
 
 -- each path stands for the first leaf that has it
-abbrev pub AreNear : {S : Type 0} → List Tabled → IndexMap (String Global) (Bor LeafRows) S → Type 0
-AreNear ts m = (path : Name) → near_at m path ≡ tabled_at ts (names_in path)
+abbrev pub AreNear : {S : Type 0} → List wires.Leaf → IndexMap (String Global) ℕ S → Type 0
+AreNear ls m = (path : Name) → near_at m path ≡ number_of ls (names_in path)

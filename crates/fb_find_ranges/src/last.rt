@@ -10,6 +10,7 @@ ghost use Rattle.fb_find_ranges.specs.Found.{AreLastTables};
 ghost use Rattle.fb_find_ranges.specs.Lines.{next_number};
 
 use crate::first::first_rows;
+use crate::near::near;
 use crate::round::next;
 use crate::same::are_same;
 use crate::table::all_ranges;
@@ -34,10 +35,11 @@ fn later(round: u8) -> u8
 pub fn last_rows(alloc: Global, leaves: &[&Leaf]) -> Result<Vec<Ranges>, AllocError>
     ensures { (bs : List wires.Leaf) → AreLeaves (map (λ l. l.now) leaves.now) bs → AreApart bs → AllByRecursion (IsFed bs) bs → IfOk result (λ v. AreLastTables bs (map spans_of v.items)) }
 {
+    let near = near(alloc, leaves)?;
     let mut rows = first_rows(alloc, leaves)?;
     let mut round = 1;
     loop {
-        let grown = next(alloc, round, rows.as_slice())?;
+        let grown = next(alloc, round, &near, rows.as_slice())?;
         if are_same(rows.as_slice(), grown.as_slice()) {
             return all_ranges(alloc, rows.as_slice());
         }

@@ -1,10 +1,10 @@
 //! One round.
 
-ghost use Rattle.std.specs.Prelude.{◌≡◌, map, List, IfOk};
-ghost use Rattle.fb_find_ranges.specs.Lines.{Tabled, next_line, next_lined, next_round};
-ghost use Rattle.fb_find_ranges.specs.Views.{AreKept, AreNear, IsKept, line_of, lined_in, tabled_in, tabled_of};
+ghost use Rattle.std.specs.Prelude.{◌≡◌, map, IfOk};
+ghost use Rattle.fb_find_ranges.specs.Lines.{next_line, next_lined, next_round};
+ghost use Rattle.fb_find_ranges.specs.Views.{AreKept, AreNear, IsKept, leaf_in, line_of, lined_in, tabled_in, tabled_of};
 
-use crate::near::{Near, fed, near};
+use crate::near::{Near, fed};
 use crate::rows::{LeafRows, Row};
 use crate::same::same_rows;
 use crate::table::with_rows;
@@ -15,14 +15,21 @@ use std::alloc::{AllocError, Global};
 use std::rc::Rc;
 
 // A row after a round.
-fn next_row<'a>(round: u8, near: &Near, leaf: &LeafRows, row: Row<'a>) -> Row<'a>
-    requires { IsKept leaf.now }
-    ensures { (ts : List Tabled) → AreNear ts near.now → line_of result ≡ next_line round ts (tabled_of leaf.now) (line_of row.entry) }
+fn next_row<'a>(
+    round: u8,
+    near: &Near,
+    leaves: &[Rc<LeafRows<'_>>],
+    leaf: &LeafRows,
+    row: Row<'a>,
+) -> Row<'a>
+    requires near { AreNear (map leaf_in leaves.now) near.now }
+    requires kept { IsKept leaf.now }
+    ensures { line_of result ≡ next_line round (map tabled_in leaves.now) (tabled_of leaf.now) (line_of row.entry) }
 {
     let name = row.name;
     let worked = joined(leaf.asked.find(name), leaf.ranges.find(name));
     let source = source_named(leaf.leaf.inputs.as_slice(), name);
-    let asked = fed(near, source, worked);
+    let asked = fed(near, leaves, source, worked);
     Row {
         name,
         of_type: row.of_type,
@@ -35,14 +42,16 @@ fn next_rows<'a>(
     alloc: Global,
     round: u8,
     near: &Near,
+    leaves: &[Rc<LeafRows<'_>>],
     leaf: &LeafRows<'a>,
 ) -> Result<Vec<Row<'a>>, AllocError>
-    requires { IsKept leaf.now }
-    ensures { (ts : List Tabled) → AreNear ts near.now → IfOk result (λ v. map line_of v.items ≡ map (next_line round ts (tabled_of leaf.now)) (map line_of leaf.now.rows.items)) }
+    requires near { AreNear (map leaf_in leaves.now) near.now }
+    requires kept { IsKept leaf.now }
+    ensures { IfOk result (λ v. map line_of v.items ≡ map (next_line round (map tabled_in leaves.now) (tabled_of leaf.now)) (map line_of leaf.now.rows.items)) }
 {
     let mut rows = Vec::new(alloc);
     for row in &leaf.rows {
-        rows.push(next_row(round, near, leaf, *row))?;
+        rows.push(next_row(round, near, leaves, leaf, *row))?;
     }
     Ok(rows)
 }
@@ -52,13 +61,15 @@ fn next_leaf<'a>(
     alloc: Global,
     round: u8,
     near: &Near,
+    leaves: &[Rc<LeafRows<'_>>],
     leaf: &Rc<LeafRows<'a>>,
 ) -> Result<Rc<LeafRows<'a>>, AllocError>
-    requires { IsKept leaf.now.value }
-    ensures lined { (ts : List Tabled) → AreNear ts near.now → IfOk result (λ s. lined_in s ≡ next_lined round ts (tabled_in leaf.now)) }
+    requires near { AreNear (map leaf_in leaves.now) near.now }
+    requires kept { IsKept leaf.now.value }
+    ensures lined { IfOk result (λ s. lined_in s ≡ next_lined round (map tabled_in leaves.now) (tabled_in leaf.now)) }
     ensures kept { IfOk result (λ s. IsKept s.value) }
 {
-    let rows = next_rows(alloc, round, near, leaf)?;
+    let rows = next_rows(alloc, round, near, leaves, leaf)?;
     if same_rows(leaf.rows.as_slice(), rows.as_slice()) {
         return leaf.clone();
     }
@@ -69,16 +80,17 @@ fn next_leaf<'a>(
 pub(crate) fn next<'a>(
     alloc: Global,
     round: u8,
+    near: &Near,
     leaves: &[Rc<LeafRows<'a>>],
 ) -> Result<Vec<Rc<LeafRows<'a>>>, AllocError>
-    requires { AreKept leaves.now }
+    requires near { AreNear (map leaf_in leaves.now) near.now }
+    requires kept { AreKept leaves.now }
     ensures lined { IfOk result (λ v. map lined_in v.items ≡ next_round round (map lined_in leaves.now)) }
     ensures kept { IfOk result (λ v. AreKept v.items) }
 {
-    let near = near(alloc, leaves)?;
     let mut all = Vec::new(alloc);
     for leaf in leaves {
-        all.push(next_leaf(alloc, round, &near, leaf)?)?;
+        all.push(next_leaf(alloc, round, near, leaves, leaf)?)?;
     }
     Ok(all)
 }
