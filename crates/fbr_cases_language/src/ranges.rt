@@ -12,14 +12,10 @@ use std::alloc::{AllocError, Global};
 use std::fmt::Write;
 
 // The most steps of an algorithm, or why it is refused, by examinations in a copy of the rows.
-fn cost(
-    alloc: Global,
-    algorithm: &Algo,
-    rows: &Ranges,
-    work: &mut Ranges,
-) -> Result<String, AllocError> {
-    match check_algorithm(alloc, algorithm, rows, work) {
-        Ok(()) => match max_steps(alloc, algorithm, rows, work) {
+fn cost(alloc: Global, algorithm: &Algo, rows: &Ranges) -> Result<String, AllocError> {
+    let mut work = copied(rows)?;
+    match check_algorithm(alloc, algorithm, rows, &mut work) {
+        Ok(()) => match max_steps(alloc, algorithm, rows, &mut work) {
             Ok(Some(steps)) => format!(in alloc; "{steps}"),
             Ok(None) => String::from_str(alloc, "many"),
             Err(_) => Err(AllocError),
@@ -47,9 +43,8 @@ fn leaf_ranges(
         return Ok(());
     };
     let rows = block_rows(alloc, certificate, leaf.path.as_str(), block)?;
-    let mut work = copied(&rows)?;
     for (name, algorithm) in &block.procedures {
-        let told = cost(alloc, algorithm, &rows, &mut work)?;
+        let told = cost(alloc, algorithm, &rows)?;
         writeln!(out, "{name} {told}")?;
     }
     for transition in &block.transitions {

@@ -12,6 +12,27 @@ use std::io;
 use std::io::{BufWriter, ErrorKind, IsTerminal, Write};
 use std::process::ExitCode;
 
+// Whether words ask for more room in queues.
+fn is_roomy(words: &[&str]) -> bool {
+    for word in words {
+        if word.starts_with("--room") {
+            return true;
+        }
+    }
+    false
+}
+
+// Tells people at a terminal that a certificate is looked for, and what its depths are to be where more room is asked for.
+fn tell_bound(rt: &HostRuntime, words: &[&str]) -> io::Result<()> {
+    eprintln!(rt; "fbr: looking for the least certificate")?;
+    if is_roomy(words) {
+        let depths =
+            "fbr: each DEPTH is then that of so many of its largest arrivals, or of each arrival once where that is less";
+        eprintln!(rt; "{depths}")?;
+    }
+    Ok(())
+}
+
 // Tells people at a terminal what the command waits for or does.
 fn tell_waiting(rt: &HostRuntime, words: &[&str]) -> io::Result<()> {
     let word = words.get(1).copied();
@@ -28,7 +49,7 @@ fn tell_waiting(rt: &HostRuntime, words: &[&str]) -> io::Result<()> {
     }
     if rt.stderr().is_terminal() {
         match word {
-            Some("bound") => eprintln!(rt; "fbr: looking for the least certificate")?,
+            Some("bound") => tell_bound(rt, words)?,
             Some("serve") => eprintln!(rt; "fbr: the device runs to its last turn")?,
             _ => {}
         }
