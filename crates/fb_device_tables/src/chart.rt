@@ -8,7 +8,7 @@ ghost use Rattle.fb_device_tables.specs.Filling.{IsProcedureMade, IsCodeOf, IsSh
 
 use crate::state::states;
 use fb_chart::{Chart, ChartCode};
-use fb_device_same::is_alike;
+use fb_types_same::is_alike;
 use fb_types_blocks::Block;
 use st_exec::{Layout, Procedure, coded_algorithm};
 use std::alloc::{AllocError, Global};

@@ -39,6 +39,7 @@ pub mod Devices
 pub mod Among
 pub mod Beginning
 pub mod Lists
+pub mod Alike
 pub mod Meeting
 pub mod Likening
 pub mod Walks

@@ -1,6 +1,5 @@
 pub mod Laying
 pub mod Coding
-pub mod Alike
 pub mod Reading
 pub mod Writing
 pub mod Chaining

@@ -3,7 +3,7 @@ use Rattle.std.specs.declared.string.String.{String}
 use Rattle.std.specs.declared.alloc.Global.{Global}
 use Rattle.st_exec.specs.declared.location.Location.{Location}
 use Rattle.st_exec.specs.Laid.{form_in}
-use Rattle.st_exec.proofs.Alike.{alike_more, alike_whole, names_alike, bounds_alike}
+use Rattle.fb_model_laws.proofs.Alike.{alike_more, alike_whole, names_alike, bounds_alike}
 use Rattle.st_exec.proofs.location.same_locations.Goals as goal
 
 pub loop-at-init : goal.loop-at-init

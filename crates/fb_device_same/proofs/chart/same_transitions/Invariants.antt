@@ -1,6 +1,0 @@
-use Rattle.std.proofs.Common.{◌≡◌, map, take}
-use Rattle.fb_types_blocks.specs.Views.{transition_of}
-use Rattle.fb_device_same.proofs.chart.same_transitions.Given as goal
-
-abbrev pub invariant-loop-at : goal.invariant-loop-at
-invariant-loop-at l = map transition_of (take l.at l.one) ≡ map transition_of (take l.at l.other)

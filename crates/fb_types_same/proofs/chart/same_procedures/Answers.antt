@@ -1,0 +1,19 @@
+use Rattle.std.proofs.Common.{refl, sym, ◌∙◌, arith}
+use Rattle.fb_model_laws.proofs.Alike.{alike_more, alike_whole, names_alike}
+use Rattle.fb_types_same.proofs.Entries.{ProcedureEntry, procedure_entry, procedures_alike}
+use Rattle.fb_types_same.proofs.chart.same_procedures.Goals as goal
+
+pub loop-at-init : goal.loop-at-init
+loop-at-init c = refl
+
+pub loop-at-preserved : goal.loop-at-preserved
+loop-at-preserved c =
+    let x : ProcedureEntry = (c.in-Some-Some.name.now, c.in-Some-Some.algorithm.now) in
+    let y : ProcedureEntry = (c.in-Some-Some.next.now, c.in-Some-Some.like.now) in
+    let name = names_alike x.0 y.0 c.if-ne.ensures in
+    alike_more procedure_entry c.args.one.now.entries c.args.other.now.entries c.loop-at.at x y c.in-Some-Some.ensures.entry c.in-Some-Some.ensures'.entry (sym c.len.ensures.len ∙ c.if-len.false ∙ c.len-2.ensures.len) c.loop-at.invariant
+    (procedures_alike x y name (c.if-not-same_algorithm.ensures refl))
+
+pub returns : goal.returns
+returns c t =
+    alike_whole procedure_entry c.args.one.now.entries c.args.other.now.entries c.loop-at.at (omega (arith, c.loop-at-test.false, c.len-at-end.ensures.len)) (sym c.len.ensures.len ∙ c.if-len.false ∙ c.len-2.ensures.len) c.loop-at.invariant
