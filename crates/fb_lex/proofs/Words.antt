@@ -11,7 +11,7 @@ use Rattle.fb_words.specs.declared.mark.Mark.{Mark}
 use Rattle.fb_words.specs.declared.mark.Mark.TheVariants as m
 use Rattle.fb_words.specs.Writing.{sign_text, word_text}
 use Rattle.fb_model.specs.Spelling.{is_digit, is_start, is_part, IsParts, no_part, part}
-use Rattle.fb_lex.specs.Scanning.{find, parts_at}
+use Rattle.fb_lex.specs.Scanning.{find, may_be_word, is_second, parts_at}
 
 pub chosen : {A : Type 0} (b : Bool) (x y z : A) → cond b x y ≡ z → ((b ≡ true) × (x ≡ z)) ⊎ ((b ≡ false) × (y ≡ z))
 chosen true x y z e = inl (refl, e)
@@ -99,3 +99,32 @@ find_sound text (j ∷ ks) t k e =
       | inl p ↦ let q : j ≡ k = cc in sym (ap text q) ∙ text_is _ _ p.0
       | inr p ↦ find_sound text ks t k p.1
     ]
+
+may_or_empty : List ℕ → Bool
+may_or_empty [] = true
+may_or_empty (c ∷ cs) = may_be_word (c ∷ cs)
+
+all_begin : (k : Mark) → may_or_empty (word_text k) ≡ true
+unfolding may_or_empty may_be_word
+all_begin m.If = refl
+all_begin k = refl
+
+-- no reserved word begins so
+pub no_word : (t : List ℕ) → may_be_word t ≡ false → find word_text WORDS t ≡ None
+unfolding may_or_empty
+no_word [] h = refl
+no_word (c ∷ cs) h = find_none word_text WORDS (c ∷ cs) (λ k e. let p : may_be_word (c ∷ cs) ≡ true = subst (λ u. may_or_empty u ≡ true) e (all_begin k) in let q : true ≡ false = sym p ∙ h in absurd cc)
+
+second_or_other : List ℕ → Bool
+second_or_other (c ∷ d ∷ []) = is_second d
+second_or_other t = true
+
+all_seconds : (k : Mark) → second_or_other (sign_text k) ≡ true
+unfolding second_or_other
+all_seconds m.Assign = refl
+all_seconds k = refl
+
+-- no sign of two characters ends so
+pub no_second : (c d : ℕ) → is_second d ≡ false → find sign_text SIGNS (c ∷ d ∷ []) ≡ None
+unfolding second_or_other
+no_second c d h = find_none sign_text SIGNS (c ∷ d ∷ []) (λ k e. let p : is_second d ≡ true = subst (λ u. second_or_other u ≡ true) e (all_seconds k) in let q : true ≡ false = sym p ∙ h in absurd cc)

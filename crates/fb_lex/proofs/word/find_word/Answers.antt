@@ -1,25 +1,10 @@
-use Rattle.std.proofs.Common.{◌≡◌, ◌<◌, true, false, get_or, length, sym, ap, ◌∙◌, add-one}
-use Rattle.std.specs.Str.{bytes_eq}
-use Rattle.fb_words.specs.declared.mark.Mark.TheVariants as m
-use Rattle.fb_words.specs.declared.mark.TheConstants.{WORDS}
-use Rattle.fb_words.specs.Writing.{word_text}
-use Rattle.fb_lex.specs.Scanning.{find_word}
-use Rattle.fb_lex.proofs.Marks.{find_step, find_here}
+use Rattle.std.proofs.Common.{◌≡◌, false, sym, ap, ◌∙◌}
+use Rattle.fb_lex.specs.Scanning.{find_word, may_be_word}
+use Rattle.fb_lex.proofs.Words.{no_word}
 use Rattle.fb_lex.proofs.word.find_word.Goals as goal
 
-pub returns-then-eq : goal.returns-then-eq
+pub returns-then-not-may_be_word : goal.returns-then-not-may_be_word
 unfolding find_word
-returns-then-eq c =
-    let i = c.loop-mark.mark-index in
-    let t = c.args.text.now in
-    let lt : i < length WORDS = c.loop-mark-test.true in
-    let same : bytes_eq (word_text (get_or WORDS i m.Assign)) t ≡ true = ap (λ w. bytes_eq w t) (sym c.word.ensures) ∙ sym c.eq.ensures ∙ c.if-eq.true in
-    sym (find_here word_text WORDS i m.Assign t lt same) ∙ c.loop-mark.invariant
-
-pub loop-mark-preserved : goal.loop-mark-preserved
-loop-mark-preserved c =
-    let i = c.loop-mark.mark-index in
-    let t = c.args.text.now in
-    let lt : i < length WORDS = c.loop-mark-test.true in
-    let differs : bytes_eq (word_text (get_or WORDS i m.Assign)) t ≡ false = ap (λ w. bytes_eq w t) (sym c.word.ensures) ∙ sym c.eq.ensures ∙ c.if-eq.false in
-    rw add-one (sym (find_step word_text WORDS i m.Assign t lt differs) ∙ c.loop-mark.invariant)
+returns-then-not-may_be_word c =
+    let is : may_be_word c.args.text.now ≡ false = ap may_be_word (sym c.as_bytes.ensures.value) ∙ sym c.may_be_word.ensures ∙ c.if-not-may_be_word.true in
+    sym (no_word c.args.text.now is)

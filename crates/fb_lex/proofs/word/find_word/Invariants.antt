@@ -1,8 +1,0 @@
-use Rattle.std.proofs.Common.{◌≡◌, drop}
-use Rattle.fb_words.specs.declared.mark.TheConstants.{WORDS}
-use Rattle.fb_words.specs.Writing.{word_text}
-use Rattle.fb_lex.specs.Scanning.{find}
-use Rattle.fb_lex.proofs.word.find_word.Given as goal
-
-abbrev pub invariant-loop-mark : goal.invariant-loop-mark
-invariant-loop-mark l = find word_text (drop l.mark-index WORDS) l.text ≡ find word_text WORDS l.text
