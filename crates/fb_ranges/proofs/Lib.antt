@@ -12,3 +12,4 @@ pub mod Blocks
 pub mod Branches
 pub mod Laws
 pub mod Noted
+pub mod Likening

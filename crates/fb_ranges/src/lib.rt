@@ -32,4 +32,5 @@ pub use join::{copied, reset};
 pub use law::{clear_algorithms_keep, clear_guards_answer, steps_are_enough};
 pub use narrowed::narrow;
 pub use rows::Ranges;
+pub use table::is_same;
 pub use told::Told;

@@ -1,6 +1,7 @@
 //! The ranges of a block's variables, by their names.
 
-ghost use Rattle.std.specs.Prelude.{◌≡◌, OnErr, OnOk};
+ghost use Rattle.std.specs.Prelude.{◌≡◌, true, ◌&&◌, OnErr, OnOk};
+ghost use Rattle.std.specs.Ordering.{int_eq};
 ghost use Rattle.fb_words.specs.declared.elem_type.ElemType.TheVariants as t;
 ghost use Rattle.fb_model.specs.Spans.{whole};
 ghost use Rattle.fb_model.specs.Clear.{changed};
@@ -12,6 +13,13 @@ use fb_ranges_intervals::{Interval, whole};
 use fb_words::ElemType;
 use indexmap::IndexMap;
 use std::alloc::{AllocError, Global};
+
+/// Whether two ranges are the same.
+pub fn is_same(one: Interval, other: Interval) -> bool
+    ensures { result ≡ (int_eq one.low other.low && int_eq one.high other.high) }
+{
+    one.low == other.low && one.high == other.high
+}
 
 impl Ranges {
     /// No ranges.
@@ -48,5 +56,29 @@ impl Ranges {
         let key = String::from_str(self.alloc, name)?;
         self.rows.insert(key, interval)?;
         Ok(())
+    }
+
+    /// Whether the same variables have the same ranges, in the same order: then the ranges are the same. (Not said: that it ever says so.)
+    pub fn is_like(&self, other: &Ranges) -> bool
+        ensures { result ≡ true → spans_of self.now ≡ spans_of other.now }
+    {
+        if self.rows.len() != other.rows.len() {
+            return false;
+        }
+        for at in 0..self.rows.len() {
+            let (Some((name, range)), Some((next, like))) = (
+                self.rows.get_index(at),
+                other.rows.get_index(at),
+            ) else {
+                return false;
+            };
+            if !is_same(*range, *like) {
+                return false;
+            }
+            if name != next {
+                return false;
+            }
+        }
+        true
     }
 }
