@@ -2,6 +2,7 @@
 //! `rows_clear` accepts only where all is clear; each refusal names a variable, an algorithm or a state of which it is not so (`refusals_deny`).
 #![tactic(auto)]
 
+mod alike;
 mod begin;
 mod clear;
 mod fault;
@@ -13,6 +14,7 @@ mod row;
 mod run;
 mod span;
 
+pub use alike::are_alike;
 pub use begin::{first_range, start_range};
 pub use clear::rows_clear;
 pub use fault::Unclear;
