@@ -32,7 +32,7 @@ abbrev pub lined_of : LeafRows → Lined
 lined_of s = lined (shown s.leaf.now) (map line_of s.rows.items)
 
 abbrev pub tabled_of : LeafRows → Tabled
-tabled_of s = record { leaf = shown s.leaf.now; lines = map line_of s.rows.items; spans = spans_of s.ranges }
+tabled_of s = record { leaf = shown s.leaf.now; lines = map line_of s.rows.items; spans = spans_of s.ranges.value }
 
 -- the same of leaves that rounds share
 abbrev pub Shared : Type 0
@@ -46,11 +46,16 @@ tabled_in s = tabled_of s.value
 
 -- the ranges of a leaf are its rows by their names, and what is asked its algorithms ask under them
 pub record IsKept (s : LeafRows) : Type 0 where
-  pub ranges : spans_of s.ranges ≡ spans_by (map line_of s.rows.items)
-  pub asked : IsAsked (spans_of s.asked) (grown_by (spans_of s.ranges) (kind_of s.leaf.now.body)) (spans_of s.ranges)
+  pub ranges : spans_of s.ranges.value ≡ spans_by (map line_of s.rows.items)
+  pub asked : IsAsked (spans_of s.asked.value) (grown_by (spans_of s.ranges.value) (kind_of s.leaf.now.body)) (spans_of s.ranges.value)
 
 abbrev pub AreKept : List Shared → Type 0
 AreKept ss = AllByRecursion (λ (s : Shared). IsKept s.value) ss
+
+-- the same block under the same rows
+pub record IsLike (s : LeafRows) (l : flat.Leaf) (rows : List Row) : Type 0 where
+  pub block : kind_of s.leaf.now.body ≡ kind_of l.body
+  pub lines : map line_of s.rows.items ≡ map line_of rows
 
 abbrev pub leaf_in : Shared → wires.Leaf
 leaf_in s = shown s.value.leaf.now

@@ -95,13 +95,18 @@ fn own_rows<'a>(alloc: Global, leaf: &'a Leaf) -> Result<Vec<Row<'a>>, AllocErro
     }
 }
 
-// A leaf with its rows.
-fn leaf_rows<'a>(alloc: Global, leaf: &'a Leaf) -> Result<Rc<LeafRows<'a>>, AllocError>
+// A leaf with its rows, behind those before it.
+fn leaf_rows<'a>(
+    alloc: Global,
+    before: &[Rc<LeafRows<'a>>],
+    leaf: &'a Leaf,
+) -> Result<Rc<LeafRows<'a>>, AllocError>
+    requires { AreKept before.now }
     ensures lined { IfOk result (λ s. lined_in s ≡ first_lined (shown leaf.now)) }
     ensures kept { IfOk result (λ s. IsKept s.value) }
 {
     let rows = own_rows(alloc, leaf)?;
-    with_rows(alloc, leaf, rows)
+    with_rows(alloc, before, leaf, rows)
 }
 
 /// The rows of leaves at first.
@@ -114,7 +119,8 @@ pub(crate) fn first_rows<'a>(
 {
     let mut all = Vec::new(alloc);
     for leaf in leaves {
-        all.push(leaf_rows(alloc, *leaf)?)?;
+        let first = leaf_rows(alloc, all.as_slice(), *leaf)?;
+        all.push(first)?;
     }
     Ok(all)
 }

@@ -2,6 +2,7 @@
 //! `last_rows` and `tables` answer exactly the ranges after the last round (`AreFoundTables`). That these are the narrowest is not said.
 #![tactic(auto)]
 
+mod alike;
 mod first;
 mod found_law;
 mod found_table;

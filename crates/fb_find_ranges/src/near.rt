@@ -48,7 +48,7 @@ pub(crate) fn near(alloc: Global, leaves: &[&Leaf]) -> Result<Near, AllocError>
 
 // The range of an output of a leaf.
 fn output_range(leaf: &LeafRows, name: &str) -> Interval
-    ensures { span_of result ≡ given (kind_of leaf.now.leaf.now.body) (spans_of leaf.now.ranges) name.now }
+    ensures { span_of result ≡ given (kind_of leaf.now.leaf.now.body) (spans_of leaf.now.ranges.value) name.now }
 {
     match &leaf.leaf.body {
         Body::Basic(_) => leaf.ranges.find(name),

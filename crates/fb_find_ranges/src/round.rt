@@ -56,15 +56,17 @@ fn next_rows<'a>(
     Ok(rows)
 }
 
-// A leaf after a round: the same where none of its ranges has changed.
+// A leaf after a round, behind those before it: the same where none of its ranges has changed.
 fn next_leaf<'a>(
     alloc: Global,
     round: u8,
     near: &Near,
     leaves: &[Rc<LeafRows<'_>>],
+    before: &[Rc<LeafRows<'a>>],
     leaf: &Rc<LeafRows<'a>>,
 ) -> Result<Rc<LeafRows<'a>>, AllocError>
     requires near { AreNear (map leaf_in leaves.now) near.now }
+    requires before { AreKept before.now }
     requires kept { IsKept leaf.now.value }
     ensures lined { IfOk result (λ s. lined_in s ≡ next_lined round (map tabled_in leaves.now) (tabled_in leaf.now)) }
     ensures kept { IfOk result (λ s. IsKept s.value) }
@@ -73,7 +75,7 @@ fn next_leaf<'a>(
     if same_rows(leaf.rows.as_slice(), rows.as_slice()) {
         return leaf.clone();
     }
-    with_rows(alloc, leaf.leaf, rows)
+    with_rows(alloc, before, leaf.leaf, rows)
 }
 
 /// The rows of leaves after a round.
@@ -90,7 +92,8 @@ pub(crate) fn next<'a>(
 {
     let mut all = Vec::new(alloc);
     for leaf in leaves {
-        all.push(next_leaf(alloc, round, near, leaves, leaf)?)?;
+        let next = next_leaf(alloc, round, near, leaves, all.as_slice(), leaf)?;
+        all.push(next)?;
     }
     Ok(all)
 }

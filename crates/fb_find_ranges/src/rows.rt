@@ -4,6 +4,7 @@ use fb_flat::Leaf;
 use fb_ranges::Ranges;
 use fb_ranges_intervals::Interval;
 use fb_words::ElemType;
+use std::rc::Rc;
 
 /// A variable, and its range.
 #[derive(Clone, Copy)]
@@ -14,11 +15,11 @@ pub(crate) struct Row<'a> {
 }
 
 /// A leaf, the rows of its variables in order (inputs, outputs, internal ones; a service has none) and by their names, and what its
-/// algorithms ask under these.
+/// algorithms ask under these. Leaves whose blocks and rows are alike share both tables.
 #[derive(Drop)]
 pub(crate) struct LeafRows<'a> {
     pub(crate) leaf: &'a Leaf,
     pub(crate) rows: Vec<Row<'a>>,
-    pub(crate) ranges: Ranges,
-    pub(crate) asked: Ranges,
+    pub(crate) ranges: Rc<Ranges>,
+    pub(crate) asked: Rc<Ranges>,
 }

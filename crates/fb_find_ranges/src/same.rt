@@ -1,20 +1,12 @@
 //! Whether a round has enlarged anything.
 
 ghost use Rattle.std.specs.Prelude.{◌≡◌, map};
-ghost use Rattle.fb_ranges_intervals.specs.Views.{span_of};
-ghost use Rattle.fb_find_ranges.specs.Sameness.{same_span, same_lines, same_all};
+ghost use Rattle.fb_find_ranges.specs.Sameness.{same_lines, same_all};
 ghost use Rattle.fb_find_ranges.specs.Views.{line_of, lined_in};
 
 use crate::rows::{LeafRows, Row};
-use fb_ranges_intervals::Interval;
+use fb_ranges::is_same;
 use std::rc::Rc;
-
-// Two ranges are the same.
-fn is_same(r: Interval, s: Interval) -> bool
-    ensures { result ≡ same_span (span_of r) (span_of s) }
-{
-    r.low == s.low && r.high == s.high
-}
 
 /// The ranges of two rows of each number are the same.
 pub(crate) fn same_rows(some: &[Row], others: &[Row]) -> bool

@@ -1,10 +1,12 @@
 //! Rows by the names of their variables.
 
 ghost use Rattle.std.specs.Prelude.{◌≡◌, map, IfOk};
+ghost use Rattle.fb_flat.specs.Leaves.{kind_of};
 ghost use Rattle.fb_ranges.specs.Views.{spans_of};
 ghost use Rattle.fb_find_ranges.specs.Lines.{lined, spans_by};
-ghost use Rattle.fb_find_ranges.specs.Views.{IsKept, line_of, lined_in, shown};
+ghost use Rattle.fb_find_ranges.specs.Views.{AreKept, IsKept, line_of, lined_in, lined_of, shown};
 
+use crate::alike::alike;
 use crate::rows::{LeafRows, Row};
 use crate::work::asked;
 use fb_flat::Leaf;
@@ -23,22 +25,60 @@ fn ranges(alloc: Global, rows: &[Row]) -> Result<Ranges, AllocError>
     Ok(ranges)
 }
 
-/// A leaf with rows of its variables, by their names too, and what its algorithms ask under these.
-pub(crate) fn with_rows<'a>(
+// A leaf with rows of its variables, by their names too, and what its algorithms ask under these.
+fn examined<'a>(
     alloc: Global,
     leaf: &'a Leaf,
     rows: Vec<Row<'a>>,
-) -> Result<Rc<LeafRows<'a>>, AllocError>
-    ensures lined { IfOk result (λ s. lined_in s ≡ lined (shown leaf.now) (map line_of rows.entry.items)) }
-    ensures kept { IfOk result (λ s. IsKept s.value) }
+) -> Result<LeafRows<'a>, AllocError>
+    ensures lined { IfOk result (λ s. lined_of s ≡ lined (shown leaf.now) (map line_of rows.entry.items)) }
+    ensures kept { IfOk result IsKept }
 {
     let ranges = ranges(alloc, rows.as_slice())?;
     let asked = asked(alloc, leaf, &ranges)?;
-    let leaf_rows = LeafRows {
+    Ok(LeafRows {
         leaf,
         rows,
-        ranges,
-        asked,
+        ranges: Rc::new(alloc, ranges)?,
+        asked: Rc::new(alloc, asked)?,
+    })
+}
+
+// The same with the tables of a leaf whose block and rows are alike.
+fn likened<'a>(
+    like: &LeafRows<'a>,
+    leaf: &'a Leaf,
+    rows: Vec<Row<'a>>,
+) -> Result<LeafRows<'a>, AllocError>
+    requires kept { IsKept like.now }
+    requires block { kind_of like.now.leaf.now.body ≡ kind_of leaf.now.body }
+    requires rows { map line_of like.now.rows.items ≡ map line_of rows.items }
+    ensures lined { IfOk result (λ s. lined_of s ≡ lined (shown leaf.now) (map line_of rows.entry.items)) }
+    ensures kept { IfOk result IsKept }
+{
+    Ok(LeafRows {
+        leaf,
+        rows,
+        ranges: like.ranges.clone()?,
+        asked: like.asked.clone()?,
+    })
+}
+
+/// A leaf with rows of its variables, by their names too, and what its algorithms ask under these. Where one of the last leaves before it is alike, that has
+/// been examined for it.
+pub(crate) fn with_rows<'a>(
+    alloc: Global,
+    before: &[Rc<LeafRows<'a>>],
+    leaf: &'a Leaf,
+    rows: Vec<Row<'a>>,
+) -> Result<Rc<LeafRows<'a>>, AllocError>
+    requires { AreKept before.now }
+    ensures lined { IfOk result (λ s. lined_in s ≡ lined (shown leaf.now) (map line_of rows.entry.items)) }
+    ensures kept { IfOk result (λ s. IsKept s.value) }
+{
+    let leaf_rows = match alike(before, leaf, rows.as_slice()) {
+        Some(like) => likened(like, leaf, rows)?,
+        None => examined(alloc, leaf, rows)?,
     };
     Ok(Rc::new(alloc, leaf_rows)?)
 }

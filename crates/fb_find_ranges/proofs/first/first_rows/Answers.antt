@@ -8,6 +8,6 @@ use Rattle.fb_find_ranges.proofs.first.first_rows.Goals as goal
 
 pub loop-leaf-preserved : goal.loop-leaf-preserved
 loop-leaf-preserved c = (
-  next_added lined_in (λ (y : Bor Leaf). first_lined (shown y.now)) c.args.leaves.now c.loop-leaf.leaf-index c.leaf-item.result c.loop-leaf.all.items c.push.new.self.items c.in_ok-leaf_rows.field-0 c.loop-leaf-test.true c.leaf-item.is c.in_ok-push.ensures.items c.in_ok-leaf_rows.ensures.lined c.loop-leaf.invariant.0,
-  kept_more c.loop-leaf.all.items c.push.new.self.items c.in_ok-leaf_rows.field-0 c.in_ok-push.ensures.items c.loop-leaf.invariant.1 c.in_ok-leaf_rows.ensures.kept,
+  next_added lined_in (λ (y : Bor Leaf). first_lined (shown y.now)) c.args.leaves.now c.loop-leaf.leaf-index c.leaf-item.result c.loop-leaf.all.items c.push.new.self.items c.in_ok-first.first c.loop-leaf-test.true c.leaf-item.is c.in_ok-push.ensures.items c.in_ok-first.ensures.lined c.loop-leaf.invariant.0,
+  kept_more c.loop-leaf.all.items c.push.new.self.items c.in_ok-first.first c.in_ok-push.ensures.items c.loop-leaf.invariant.1 c.in_ok-first.ensures.kept,
 )

@@ -12,8 +12,8 @@ next_leaf-requires-clause-kept c = all_here (λ (s : Shared). IsKept s.value) c.
 pub loop-leaf-preserved : goal.loop-leaf-preserved
 loop-leaf-preserved c =
     let ts = map tabled_in c.args.leaves.now in (
-      next_added lined_in (λ (s : Shared). next_lined c.args.round ts (tabled_in s)) c.args.leaves.now c.loop-leaf.leaf-index c.leaf-item.result c.loop-leaf.all.items c.push.new.self.items c.in_ok-next_leaf.field-0 c.loop-leaf-test.true c.leaf-item.is c.in_ok-push.ensures.items c.in_ok-next_leaf.ensures.lined c.loop-leaf.invariant.0,
-      kept_more c.loop-leaf.all.items c.push.new.self.items c.in_ok-next_leaf.field-0 c.in_ok-push.ensures.items c.loop-leaf.invariant.1 c.in_ok-next_leaf.ensures.kept,
+      next_added lined_in (λ (s : Shared). next_lined c.args.round ts (tabled_in s)) c.args.leaves.now c.loop-leaf.leaf-index c.leaf-item.result c.loop-leaf.all.items c.push.new.self.items c.in_ok-next.next c.loop-leaf-test.true c.leaf-item.is c.in_ok-push.ensures.items c.in_ok-next.ensures.lined c.loop-leaf.invariant.0,
+      kept_more c.loop-leaf.all.items c.push.new.self.items c.in_ok-next.next c.in_ok-push.ensures.items c.loop-leaf.invariant.1 c.in_ok-next.ensures.kept,
     )
 
 pub returns-clause-lined : goal.returns-clause-lined
