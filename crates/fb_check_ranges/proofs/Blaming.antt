@@ -1,21 +1,18 @@
 -- Refusals and what they name.
-use Rattle.std.proofs.Common.{◌≡◌, ◌↔◌, ℕ, ◌<◌, Bool, true, false, List, length, get_or, Result, Ok, Err, refl, sym, inl, inr, string_bytes, Global}
+use Rattle.std.proofs.Common.{◌≡◌, ◌↔◌, ℕ, ◌<◌, Bool, true, false, List, length, get_or, Result, Ok, Err, sym, inr, string_bytes}
 use Rattle.std.specs.Prelude.{MatchResult, IsTrue, OnOk, IfErr}
-use Rattle.std.specs.List.{AllByRecursion, Any}
-use Rattle.std.specs.declared.string.String.{String}
+use Rattle.std.specs.List.{AllByRecursion}
 use Rattle.fb_model.specs.Names.{Name}
 use Rattle.fb_flat.specs.Sites.{dotted}
 use Rattle.fb_check_ranges.specs.declared.fault.Unclear.{Unclear}
 use Rattle.fb_check_ranges.specs.declared.fault.Unclear.TheVariants as u
-use Rattle.fb_model.specs.Ranges.{IsClearAlgorithm, IsClearGuard}
 use Rattle.fb_model.specs.Wires as wires
 use Rattle.fb_cert.specs.declared.certificate.Certificate.{Certificate}
 use Rattle.fb_flat.specs.declared.flat.Leaf.{Leaf}
-use Rattle.fb_types_blocks.specs.declared.typed.Transition.{Transition}
 use Rattle.fb_types_blocks.specs.declared.typed.Block.{Block}
-use Rattle.fb_check_ranges.specs.Reasons.{Reason, Starts, Links, Keeps, Divides, Refuses, Blames, Names, OneFails, NamesOne}
+use Rattle.fb_check_ranges.specs.Reasons.{Reason, Starts, Links, Keeps, Divides, Refuses, Blames, OneFails}
 use Rattle.fb_check_ranges.specs.Beginning.{NamedVariable, shown, LinkLies}
-use Rattle.fb_check_ranges.specs.Clearing.{Procedure, procedure_text, guard_in, rows_of_block, GuardFails, VariablesBegin, RunsClear, RunFails, ChartLies, BlockFails}
+use Rattle.fb_check_ranges.specs.Clearing.{VariablesBegin, RunsClear, RunFails, ChartLies, BlockFails}
 
 pub refuses_weaker : (P Q : Reason → List ℕ → Type 0) (e : Unclear) → ((r : Reason) (row : List ℕ) → P r row → Q r row) → Refuses P e → Refuses Q e
 refuses_weaker P Q u.OutOfMemory f h = tt
@@ -48,12 +45,6 @@ refused P Q S (Ok u) h f = tt
 refused P Q S (Err e) h f = f e h
 
 -- ---- parts of a block
-
-pub run_all : (cert : Certificate) (path : Name) (k : Block) (r : Result (Unit {0}) Unclear) → AllByRecursion (λ (p : Procedure). IsClearAlgorithm (rows_of_block cert path k) (procedure_text p)) k.procedures.entries
-    → NamesOne path (λ (t : Transition). string_bytes t.source) (λ t. IsClearGuard (rows_of_block cert path k) (guard_in t)) (λ t. GuardFails (rows_of_block cert path k) (guard_in t)) k.transitions.items r
-    → MatchResult r (λ u. RunsClear cert path k) (Blames path (RunFails cert path k))
-run_all cert path k (Ok u) a h = record { algorithms = a; guards = h }
-run_all cert path k (Err e) a h = blames_weaker path (OneFails (λ (t : Transition). string_bytes t.source) (λ t. GuardFails (rows_of_block cert path k) (guard_in t)) k.transitions.items) (RunFails cert path k) e (λ reason y q. inr q) h
 
 pub chart_all : (cert : Certificate) (path : Name) (ls : List Leaf) (source : Name → wires.Source) (k : Block) (r : Result (Unit {0}) Unclear) → VariablesBegin cert path source k → AllByRecursion (λ (e : NamedVariable). LinkLies cert path ls source (shown e)) k.face.inputs.entries
     → MatchResult r (λ u. RunsClear cert path k) (Blames path (RunFails cert path k)) → MatchResult r (λ u. ChartLies cert path ls source k) (Blames path (BlockFails cert path ls source k))

@@ -1,5 +1,6 @@
 pub mod Lists
 pub mod Blaming
+pub mod Sharing
 pub mod Rowing
 pub mod Starting
 pub mod Placing

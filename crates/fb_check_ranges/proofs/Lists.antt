@@ -55,6 +55,10 @@ pub all_image : {X Y : Type 0} (T P : X → Type 0) (Q : Y → Type 0) (f : X �
 all_image T P Q f [] t g h = tt
 all_image T P Q f (x ∷ xs) t g h = (g x t.0 h.0, all_image T P Q f xs t.1 g h.1)
 
+pub all_over : {X Y : Type 0} (Q : Y → Type 0) (f : X → Y) (xs : List X) → AllByRecursion (λ x. Q (f x)) xs → AllByRecursion Q (map f xs)
+all_over Q f [] h = tt
+all_over Q f (x ∷ xs) h = (h.0, all_over Q f xs h.1)
+
 pub all_source : {X Y : Type 0} (Q : X → Type 0) (P : Y → Type 0) (f : X → Y) (xs : List X) → ((x : X) → P (f x) → Q x) → AllByRecursion P (map f xs) → AllByRecursion Q xs
 all_source Q P f [] g h = tt
 all_source Q P f (x ∷ xs) g h = (g x h.0, all_source Q P f xs g h.1)

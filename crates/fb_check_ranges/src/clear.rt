@@ -28,8 +28,9 @@ fn leaves_clear(
     ensures clears { ArePlaces (map (λ l. l.now) leaves.now) places.now → (bs : List wires.Leaf) → AreLeaves (map (λ l. l.now) leaves.now) bs → AreKnownLeaves bs → OnOk result (AllByRecursion (LeafClears (certificate_of certificate.now).ranges bs) bs) }
     ensures refused { ArePlaces (map (λ l. l.now) leaves.now) places.now → (bs : List wires.Leaf) → AreLeaves (map (λ l. l.now) leaves.now) bs → AreKnownLeaves bs → IfErr result (OneLeafFails (certificate_of certificate.now).ranges bs) }
 {
+    let mut known = Vec::new(alloc);
     for leaf in leaves {
-        leaf_clear(alloc, certificate, places, *leaf)?;
+        leaf_clear(alloc, certificate, places, &mut known, *leaf)?;
     }
     Ok(())
 }

@@ -5,6 +5,7 @@
 mod alike;
 mod begin;
 mod clear;
+mod examined;
 mod fault;
 mod law;
 mod leaf;

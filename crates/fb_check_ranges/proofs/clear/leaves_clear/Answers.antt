@@ -20,15 +20,19 @@ returns-in_err-leaf_clear-clause-refused c =
 
 pub loop-leaf-preserved : goal.loop-leaf-preserved
 loop-leaf-preserved c =
-    λ places bs are known.
     let ranges = (certificate_of c.args.certificate.now).ranges in
     let ls = map (λ (l : Bor Leaf). l.now) c.args.leaves.now in
     let at = there_at (λ (l : Bor Leaf). l.now) c.args.leaves.now c.loop-leaf.leaf-index c.leaf-item.result c.loop-leaf-test.true c.leaf-item.is in
-    all_on (LeafPasses ranges bs) ls c.loop-leaf.leaf-index c.leaf-item.result.now at.0 at.1 (λ b is k. c.in_ok-leaf_clear.ensures.clears ls bs b places are known is k) (c.loop-leaf.invariant places bs are known)
+    record {
+      pass =
+          λ places bs are known.
+          all_on (LeafPasses ranges bs) ls c.loop-leaf.leaf-index c.leaf-item.result.now at.0 at.1 (λ b is k. c.in_ok-leaf_clear.ensures.clears ls bs b places are known is k) (c.loop-leaf.invariant.pass places bs are known);
+      known = c.in_ok-leaf_clear.ensures.known;
+    }
 
 pub returns-clause-clears : goal.returns-clause-clears
 returns-clause-clears c =
     λ places bs are known.
     let ranges = (certificate_of c.args.certificate.now).ranges in
     let ls = map (λ (l : Bor Leaf). l.now) c.args.leaves.now in
-    leaves_pass ranges bs ls bs (c.loop-leaf.invariant places bs are known (all_dropped (LeafPasses ranges bs) (λ (l : Bor Leaf). l.now) c.args.leaves.now c.loop-leaf.leaf-index c.loop-leaf-test.false)) are known
+    leaves_pass ranges bs ls bs (c.loop-leaf.invariant.pass places bs are known (all_dropped (LeafPasses ranges bs) (λ (l : Bor Leaf). l.now) c.args.leaves.now c.loop-leaf.leaf-index c.loop-leaf-test.false)) are known
