@@ -1,6 +1,6 @@
 -- What algorithms cost under tables of ranges, and what the leaves of the tables ask by numbers with these prices.
 -- This project's profile.
-use Rattle.std.specs.Prelude.{ℕ, Bool, List, [], ◌∷◌, ◌++◌, map, Option, None, Some}
+use Rattle.std.specs.Prelude.{ℕ, ◌≡◌, Bool, List, [], ◌∷◌, ◌++◌, map, Option, None, Some}
 use Rattle.std.specs.Option.{unwrap_or}
 use Rattle.std.specs.List.{AllByRecursion, AllZip}
 use Rattle.fb_model.specs.System.{Procedure}
@@ -14,6 +14,9 @@ use Rattle.fb_model_laws.specs.FinderRanges.{IsTable}
 use Rattle.fb_ranges.specs.Answers.{most_steps}
 use Rattle.fb_flat.specs.declared.flat.Leaf.{Leaf}
 use Rattle.fb_flat.specs.Leaves.{kind_of}
+use Rattle.fb_ranges.specs.Views.{spans_of}
+use Rattle.fb_types_blocks.specs.Views.{procedures_of}
+use Rattle.fb_find_demands.specs.declared.known.Priced.{Priced}
 use Rattle.fb_find_demands.specs.declared.numbered.Numbering.{Numbering}
 use Rattle.fb_find_demands.specs.Leaves.{leaf_rights}
 
@@ -41,6 +44,10 @@ abbrev pub priced : Numbering → Bool → List Leaf → List Spans → List Num
 priced n follows [] ts = []
 priced n follows (l ∷ ls) [] = priced_leaf n follows l None ++ priced n follows ls []
 priced n follows (l ∷ ls) (t ∷ ts) = priced_leaf n follows l (Some t) ++ priced n follows ls ts
+
+-- what is kept of a block and a table are the prices of its algorithms
+abbrev pub IsPriced : Priced → Type 0
+IsPriced p = p.prices.items ≡ prices (Some (spans_of p.ranges.now)) (procedures_of p.block.now.value.procedures)
 
 -- ---- the book
 

@@ -7,6 +7,7 @@ mod channels;
 mod chart;
 mod closing;
 mod grouping;
+mod known;
 mod leaf;
 mod leaves;
 mod nodes;

@@ -1,6 +1,7 @@
 //! The demands of a system where its algorithms cost their most steps.
 
 ghost use Rattle.std.specs.Prelude.{◌≡◌, ◌++◌, List, map, IfOk, OnOk};
+ghost use Rattle.std.specs.List.{AllByRecursion};
 ghost use Rattle.std.specs.Option.{option_map};
 ghost use Rattle.fb_model.specs.System.{System};
 ghost use Rattle.fb_model.specs.Ranges.{Range};
@@ -10,8 +11,9 @@ ghost use Rattle.fb_flat.specs.Tables.{AreDevices};
 ghost use Rattle.fb_ranges.specs.Views.{spans_of};
 ghost use Rattle.fb_find_demands.specs.Rights.{numbered, rights_of};
 ghost use Rattle.fb_find_demands.specs.Leaves.{AreClosed};
-ghost use Rattle.fb_find_demands.specs.Prices.{AreClear, AreTables, priced, priced_leaf};
+ghost use Rattle.fb_find_demands.specs.Prices.{AreClear, AreTables, IsPriced, priced, priced_leaf};
 
+use crate::known::Priced;
 use crate::leaves::every_leaf;
 use crate::prices::leaf_prices;
 use crate::{Numbering, Right, add_channels, add_leaf};
@@ -20,17 +22,20 @@ use fb_ranges::Ranges;
 use std::alloc::{AllocError, Global};
 
 // Adds the demands of a leaf, where datagrams are followed or not, and its algorithms cost their most steps under a table of ranges.
-fn add_priced(
+fn add_priced<'a>(
     alloc: Global,
     numbering: &Numbering,
     follows: bool,
-    leaf: &Leaf,
-    table: Option<&Ranges>,
+    known: &mut Vec<Priced<'a>>,
+    leaf: &'a Leaf,
+    table: Option<&'a Ranges>,
     rights: &mut Vec<Right>,
 ) -> Result<(), AllocError>
-    ensures { OnOk result (rights_of rights.new.items ≡ rights_of rights.old.items ++ priced_leaf numbering.now follows leaf.now (option_map (λ t. spans_of t.now) table.entry)) }
+    requires { AllByRecursion IsPriced known.old.items }
+    ensures known { OnOk result (AllByRecursion IsPriced known.new.items) }
+    ensures rights { OnOk result (rights_of rights.new.items ≡ rights_of rights.old.items ++ priced_leaf numbering.now follows leaf.now (option_map (λ t. spans_of t.now) table.entry)) }
 {
-    let prices = leaf_prices(alloc, leaf, table)?;
+    let prices = leaf_prices(alloc, known, leaf, table)?;
     add_leaf(
         alloc,
         numbering,
@@ -52,12 +57,14 @@ fn priced_leaves(
 ) -> Result<Vec<Right>, AllocError>
     ensures { IfOk result (λ v. rights_of v.items ≡ priced numbering.now follows (map (λ l. l.now) leaves.now) (map spans_of tables.now)) }
 {
+    let mut known = Vec::new(alloc);
     let mut rights = Vec::new(alloc);
     for index in 0..leaves.len() {
         add_priced(
             alloc,
             numbering,
             follows,
+            &mut known,
             leaves[index],
             tables.get(index),
             &mut rights,

@@ -1,18 +1,22 @@
 //! What algorithms cost at most.
 
 ghost use Rattle.std.specs.Prelude.{◌≡◌, None, Some, IfOk, OnOk};
+ghost use Rattle.std.specs.List.{AllByRecursion};
 ghost use Rattle.std.specs.Option.{option_map};
 ghost use Rattle.st_types.specs.CommandViews.{commands_of};
 ghost use Rattle.fb_types_blocks.specs.Views.{procedures_of};
 ghost use Rattle.fb_flat.specs.Leaves.{kind_of};
 ghost use Rattle.fb_ranges.specs.Views.{spans_of};
-ghost use Rattle.fb_find_demands.specs.Prices.{most, prices, kind_prices};
+ghost use Rattle.fb_find_demands.specs.Prices.{most, prices, kind_prices, IsPriced};
 
+use crate::known::{Priced, found, keep};
 use fb_flat::{Body, Leaf};
 use fb_ranges::{Ranges, copied, max_steps};
+use fb_types_blocks::Block;
 use indexmap::IndexMap;
 use st_types::Algo;
 use std::alloc::{AllocError, Global};
+use std::rc::Rc;
 
 /// The first number that stands for all greater ones.
 const MANY: u64 = 1_000_000_000_001;
@@ -68,30 +72,77 @@ fn unknown_prices(
     Ok(prices)
 }
 
-// The same under a table, or without one.
-fn block_prices(
+// The same under a table. Kept for other instances of the block.
+fn noted_prices<'a>(
     alloc: Global,
-    procedures: &IndexMap<String, Algo>,
-    table: Option<&Ranges>,
+    known: &mut Vec<Priced<'a>>,
+    block: &'a Rc<Block>,
+    ranges: &'a Ranges,
 ) -> Result<Vec<u64>, AllocError>
-    ensures { IfOk result (λ v. v.items ≡ prices (option_map (λ t. spans_of t.now) table.entry) (procedures_of procedures.now)) }
+    requires { AllByRecursion IsPriced known.old.items }
+    ensures answer { IfOk result (λ v. v.items ≡ prices (Some (spans_of ranges.now)) (procedures_of block.now.value.procedures)) }
+    ensures known { OnOk result (AllByRecursion IsPriced known.new.items) }
 {
-    match table {
-        Some(ranges) => known_prices(alloc, procedures, ranges),
-        None => unknown_prices(alloc, procedures),
+    let own = known_prices(alloc, &block.procedures, ranges)?;
+    let prices = own.clone()?;
+    keep(
+        known,
+        Priced {
+            block,
+            ranges,
+            prices,
+        },
+    )?;
+    Ok(own)
+}
+
+// The same, by an examination only where no instance before is alike.
+fn shared_prices<'a>(
+    alloc: Global,
+    known: &mut Vec<Priced<'a>>,
+    block: &'a Rc<Block>,
+    ranges: &'a Ranges,
+) -> Result<Vec<u64>, AllocError>
+    requires { AllByRecursion IsPriced known.old.items }
+    ensures answer { IfOk result (λ v. v.items ≡ prices (Some (spans_of ranges.now)) (procedures_of block.now.value.procedures)) }
+    ensures known { OnOk result (AllByRecursion IsPriced known.new.items) }
+{
+    match found(known, block, ranges)? {
+        Some(prices) => Ok(prices),
+        None => noted_prices(alloc, known, block, ranges),
     }
 }
 
-/// What the algorithms of a leaf cost under a table of ranges, in their order.
-pub(crate) fn leaf_prices(
+// The same under a table, or without one.
+fn block_prices<'a>(
     alloc: Global,
-    leaf: &Leaf,
-    table: Option<&Ranges>,
+    known: &mut Vec<Priced<'a>>,
+    block: &'a Rc<Block>,
+    table: Option<&'a Ranges>,
 ) -> Result<Vec<u64>, AllocError>
-    ensures { IfOk result (λ v. v.items ≡ kind_prices (option_map (λ t. spans_of t.now) table.entry) (kind_of leaf.now.body)) }
+    requires { AllByRecursion IsPriced known.old.items }
+    ensures answer { IfOk result (λ v. v.items ≡ prices (option_map (λ t. spans_of t.now) table.entry) (procedures_of block.now.value.procedures)) }
+    ensures known { OnOk result (AllByRecursion IsPriced known.new.items) }
+{
+    match table {
+        Some(ranges) => shared_prices(alloc, known, block, ranges),
+        None => unknown_prices(alloc, &block.procedures),
+    }
+}
+
+/// What the algorithms of a leaf cost under a table of ranges, in their order. Its prices are shared with the leaves before, where one of these is alike.
+pub(crate) fn leaf_prices<'a>(
+    alloc: Global,
+    known: &mut Vec<Priced<'a>>,
+    leaf: &'a Leaf,
+    table: Option<&'a Ranges>,
+) -> Result<Vec<u64>, AllocError>
+    requires { AllByRecursion IsPriced known.old.items }
+    ensures answer { IfOk result (λ v. v.items ≡ kind_prices (option_map (λ t. spans_of t.now) table.entry) (kind_of leaf.now.body)) }
+    ensures known { OnOk result (AllByRecursion IsPriced known.new.items) }
 {
     match &leaf.body {
-        Body::Basic(block) => block_prices(alloc, &block.procedures, table),
+        Body::Basic(block) => block_prices(alloc, known, block, table),
         Body::Served(_) => Ok(Vec::new(alloc)),
     }
 }
