@@ -1,13 +1,9 @@
 //! The demands of a leaf.
 
-ghost use Rattle.std.specs.Prelude.{◌≡◌, ◌++◌, [], OnOk, string_bytes};
-ghost use Rattle.std.specs.List.{flat_map};
-ghost use Rattle.fb_model.specs.Services.{service_events};
-ghost use Rattle.fb_model_laws.specs.Demands.{of_chart, of_dispatch, of_kind};
-ghost use Rattle.fb_types_blocks.specs.Views.{block_of};
-ghost use Rattle.fb_types_services.specs.Views.{service_of};
+ghost use Rattle.std.specs.Prelude.{◌≡◌, ◌++◌, OnOk};
+ghost use Rattle.fb_model_laws.specs.Demands.{of_kind};
 ghost use Rattle.fb_flat.specs.Leaves.{kind_of};
-ghost use Rattle.fb_find_demands.specs.Grounds.{ground, leaf_ground, table_names};
+ghost use Rattle.fb_find_demands.specs.Grounds.{algorithms_of, leaf_ground, names_among};
 ghost use Rattle.fb_find_demands.specs.Rights.{numbered, rights_of};
 
 use crate::chart::add_chart;
@@ -16,60 +12,18 @@ use crate::right::Right;
 use crate::scene::Scene;
 use crate::service::add_service;
 use fb_flat::{Body, Leaf};
-use fb_types_blocks::Block;
-use fb_types_services::Service;
+use indexmap::IndexMap;
+use st_types::Algo;
 use std::alloc::{AllocError, Global};
 
-// Adds the demands of a block.
-fn add_block<'a>(
-    alloc: Global,
-    numbering: &'a Numbering,
-    unit: u64,
-    follows: bool,
-    prices: &'a [u64],
-    leaf: &'a Leaf,
-    block: &'a Block,
-    rights: &mut Vec<Right>,
-) -> Result<(), AllocError>
-    ensures { OnOk result (rights_of rights.new.items ≡ rights_of rights.old.items ++ numbered numbering.now (of_chart (ground unit follows (table_names block.now.procedures) prices.now (string_bytes leaf.now.path) leaf.now.outputs.items) (block_of block.now))) }
+// The algorithms of a body, where it is a block.
+fn procedures(body: &Body) -> Option<&IndexMap<String, Algo>>
+    ensures { names_among result ≡ algorithms_of body.now }
 {
-    let scene = Scene {
-        alloc,
-        numbering,
-        unit,
-        follows,
-        procedures: Some(&block.procedures),
-        prices,
-        path: leaf.path.as_str(),
-        outputs: leaf.outputs.as_slice(),
-    };
-    add_chart(&scene, block, rights)
-}
-
-// Adds the demands of a service.
-fn add_served<'a>(
-    alloc: Global,
-    numbering: &'a Numbering,
-    unit: u64,
-    follows: bool,
-    prices: &'a [u64],
-    leaf: &'a Leaf,
-    service: &Service,
-    rights: &mut Vec<Right>,
-) -> Result<(), AllocError>
-    ensures { OnOk result (rights_of rights.new.items ≡ rights_of rights.old.items ++ numbered numbering.now (flat_map (of_dispatch (ground unit follows [] prices.now (string_bytes leaf.now.path) leaf.now.outputs.items) (service_of service.now)) (service_events (service_of service.now)))) }
-{
-    let scene = Scene {
-        alloc,
-        numbering,
-        unit,
-        follows,
-        procedures: None,
-        prices,
-        path: leaf.path.as_str(),
-        outputs: leaf.outputs.as_slice(),
-    };
-    add_service(&scene, service, rights)
+    match body {
+        Body::Basic(block) => Some(&block.procedures),
+        Body::Served(_) => None,
+    }
 }
 
 /// Adds the demands of a leaf, where a dispatch or a crossing counts `unit`, datagrams are followed or not, and its algorithms cost `prices`, in their order; an
@@ -85,12 +39,18 @@ pub fn add_leaf(
 ) -> Result<(), AllocError>
     ensures { OnOk result (rights_of rights.new.items ≡ rights_of rights.old.items ++ numbered numbering.now (of_kind (leaf_ground unit follows prices.now leaf.now) (kind_of leaf.now.body))) }
 {
+    let scene = Scene {
+        alloc,
+        numbering,
+        unit,
+        follows,
+        procedures: procedures(&leaf.body),
+        prices,
+        path: leaf.path.as_str(),
+        outputs: leaf.outputs.as_slice(),
+    };
     match &leaf.body {
-        Body::Basic(block) => add_block(
-            alloc, numbering, unit, follows, prices, leaf, block, rights,
-        ),
-        Body::Served(service) => add_served(
-            alloc, numbering, unit, follows, prices, leaf, service, rights,
-        ),
+        Body::Basic(block) => add_chart(&scene, block, rights),
+        Body::Served(service) => add_service(&scene, service, rights),
     }
 }

@@ -10,6 +10,7 @@ ghost use Rattle.fb_ranges.specs.Views.{spans_of};
 ghost use Rattle.fb_find_demands.specs.Prices.{most, prices, kind_prices, IsPriced};
 
 use crate::known::{Priced, found, keep};
+use crate::scene::MANY;
 use fb_flat::{Body, Leaf};
 use fb_ranges::{Ranges, copied, max_steps};
 use fb_types_blocks::Block;
@@ -17,9 +18,6 @@ use indexmap::IndexMap;
 use st_types::Algo;
 use std::alloc::{AllocError, Global};
 use std::rc::Rc;
-
-/// The first number that stands for all greater ones.
-const MANY: u64 = 1_000_000_000_001;
 
 // The most steps of an algorithm under a table of ranges, by an examination in a copy of it. What is told of none stands for all greater numbers.
 fn price(

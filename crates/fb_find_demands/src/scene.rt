@@ -17,7 +17,7 @@ use st_types::Algo;
 use std::alloc::{AllocError, Global};
 
 /// The first number that stands for all greater ones.
-const MANY: u64 = 1_000_000_000_001;
+pub(crate) const MANY: u64 = 1_000_000_000_001;
 
 /// What is reckoned with at a leaf: what a dispatch or a crossing counts, whether datagrams are followed, the prices of its algorithms in their order,
 /// its path, and where its outputs lead.
