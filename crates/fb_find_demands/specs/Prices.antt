@@ -11,11 +11,11 @@ use Rattle.fb_model.specs.Clear.{Spans, examined}
 use Rattle.fb_model.specs.Ranges.{Range, rows, IsClearAlgorithm}
 use Rattle.fb_find_laws.specs.Nodes.{Numbered}
 use Rattle.fb_model_laws.specs.FinderRanges.{IsTable}
+use Rattle.fb_types_blocks.specs.Views.{procedures_of}
 use Rattle.fb_ranges.specs.Answers.{most_steps}
+use Rattle.fb_ranges.specs.Views.{spans_of}
 use Rattle.fb_flat.specs.declared.flat.Leaf.{Leaf}
 use Rattle.fb_flat.specs.Leaves.{kind_of}
-use Rattle.fb_ranges.specs.Views.{spans_of}
-use Rattle.fb_types_blocks.specs.Views.{procedures_of}
 use Rattle.fb_find_demands.specs.declared.known.Priced.{Priced}
 use Rattle.fb_find_demands.specs.declared.numbered.Numbering.{Numbering}
 use Rattle.fb_find_demands.specs.Leaves.{leaf_rights}
