@@ -13,4 +13,5 @@ pub mod Composed
 pub mod Denied
 pub mod Small
 pub mod Costing
+pub mod Sharing
 pub mod Hearing

@@ -1,6 +1,7 @@
 pub mod Sums
 pub mod Columns
 pub mod Reckoning
+pub mod Sharing
 pub mod Paying
 pub mod Channels
 pub mod Fitting

@@ -1,27 +1,19 @@
 //! What the parts of a block's actions cost in a column.
 
-ghost use Rattle.std.specs.Prelude.{◌≡◌, ◌*◌, ℕ, List, map, IfOk, IfErr, OnOk};
+ghost use Rattle.std.specs.Prelude.{◌≡◌, ℕ, List, map, IfOk, IfErr, OnOk};
 ghost use Rattle.std.specs.List.{AllByRecursion};
 ghost use Rattle.fb_model.specs.System as system;
-ghost use Rattle.fb_model.specs.Wires as book;
-ghost use Rattle.fb_model.specs.Wires.{Charted};
-ghost use Rattle.fb_model.specs.Ranges.{rows, IsClearAlgorithm};
+ghost use Rattle.fb_model.specs.Ranges.{IsClearAlgorithm};
 ghost use Rattle.fb_model.specs.Clear.{cost};
-ghost use Rattle.fb_model.specs.CertificateText.{names_in};
-ghost use Rattle.fb_cert.specs.Views.{certificate_of};
 ghost use Rattle.st_types.specs.CommandViews.{commands_of};
 ghost use Rattle.fb_ranges.specs.Views.{spans_of};
-ghost use Rattle.fb_types_blocks.specs.Views.{block_of, procedures_of};
-ghost use Rattle.fb_check_columns.specs.Columns.{unit_of};
-ghost use Rattle.fb_check_columns.specs.Fitting.{IsKnownLeaf};
+ghost use Rattle.fb_types_blocks.specs.Views.{procedures_of};
 ghost use Rattle.fb_check_columns.specs.Paying.{IsMemory};
 ghost use Rattle.fb_check_columns.specs.Reckoning.{Costs, AreSums, ArePrices, worked, emitted, acted, value_at, table_names};
 ghost use Rattle.fb_check_columns.specs.Sums.{IsSum};
 
-use crate::column::{Column, plus};
+use crate::column::plus;
 use crate::fault::Shortfall;
-use fb_cert::Certificate;
-use fb_check_ranges::block_rows;
 use fb_ranges::{Ranges, copied, max_steps};
 use fb_types_blocks::{Action, Block};
 use indexmap::IndexMap;
@@ -35,33 +27,28 @@ pub(crate) struct Prices {
     pub(crate) outputs: Vec<Option<u64>>,
 }
 
-// The steps that an algorithm costs at most, by an examination in a copy of the rows; nothing in the column of places.
+// The steps that an algorithm costs at most, by an examination in a copy of the rows.
 fn cost(
     alloc: Global,
-    column: Column,
     algorithm: &Algo,
     rows: &Ranges,
     work: &mut Ranges,
 ) -> Result<Option<u64>, Shortfall>
     requires { spans_of work.old ≡ spans_of rows.now }
-    ensures value { IsClearAlgorithm (spans_of rows.now) (commands_of algorithm.now.statements.items) → IfOk result (λ s. IsSum s (unit_of column * cost (spans_of rows.now) (commands_of algorithm.now.statements.items))) }
+    ensures value { IsClearAlgorithm (spans_of rows.now) (commands_of algorithm.now.statements.items) → IfOk result (λ s. IsSum s (cost (spans_of rows.now) (commands_of algorithm.now.statements.items))) }
     ensures refused { IfErr result IsMemory }
     ensures rest { OnOk result (spans_of work.new ≡ spans_of rows.now) }
 {
-    match column {
-        Column::Steps | Column::Far => Ok(max_steps(alloc, algorithm, rows, work)?),
-        Column::Places => Ok(Some(0)),
-    }
+    Ok(max_steps(alloc, algorithm, rows, work)?)
 }
 
-// The same of each algorithm, in their order.
-fn costs(
+/// The same of each algorithm, in their order.
+pub(crate) fn costs(
     alloc: Global,
-    column: Column,
     procedures: &IndexMap<String, Algo>,
     rows: &Ranges,
 ) -> Result<Vec<Option<u64>>, Shortfall>
-    ensures values { AllByRecursion (λ (p : system.Procedure). IsClearAlgorithm (spans_of rows.now) p.algorithm) (procedures_of procedures.now) → IfOk result (λ v. AreSums v.items (map (λ (p : system.Procedure). unit_of column * cost (spans_of rows.now) p.algorithm) (procedures_of procedures.now))) }
+    ensures values { AllByRecursion (λ (p : system.Procedure). IsClearAlgorithm (spans_of rows.now) p.algorithm) (procedures_of procedures.now) → IfOk result (λ v. AreSums v.items (map (λ (p : system.Procedure). cost (spans_of rows.now) p.algorithm) (procedures_of procedures.now))) }
     ensures refused { IfErr result IsMemory }
 {
     let mut work = copied(rows)?;
@@ -70,24 +57,9 @@ fn costs(
         let Some((_, algorithm)) = procedures.get_index(index) else {
             return Ok(costs);
         };
-        costs.push(cost(alloc, column, algorithm, rows, &mut work)?)?;
+        costs.push(cost(alloc, algorithm, rows, &mut work)?)?;
     }
     Ok(costs)
-}
-
-/// What each algorithm of a block costs in a column: its most steps under the rows of its variables, and no places.
-pub(crate) fn algorithm_costs(
-    alloc: Global,
-    certificate: &Certificate,
-    column: Column,
-    path: &str,
-    block: &Block,
-) -> Result<Vec<Option<u64>>, Shortfall>
-    ensures values { (b : book.Leaf) → names_in path.now ≡ b.path → Charted (block_of block.now) ≡ b.kind → IsKnownLeaf (certificate_of certificate.now).ranges b → IfOk result (λ v. AreSums v.items (map (λ (p : system.Procedure). unit_of column * cost (rows (certificate_of certificate.now).ranges b.path b.kind) p.algorithm) (block_of block.now).procedures)) }
-    ensures refused { IfErr result IsMemory }
-{
-    let rows = block_rows(alloc, certificate, path, block)?;
-    costs(alloc, column, &block.procedures, &rows)
 }
 
 // The sum at the place of a name, 0 where the name has none.

@@ -6,6 +6,7 @@ mod channel;
 mod chart;
 mod column;
 mod cost;
+mod costed;
 mod fault;
 mod laws;
 mod leaf;

@@ -6,10 +6,12 @@ ghost use Rattle.fb_model.specs.System.{System};
 ghost use Rattle.fb_cert.specs.Views.{certificate_of};
 ghost use Rattle.fb_flat.specs.Tables.{AreDevices};
 ghost use Rattle.fb_check_columns.specs.Columns.{column_of};
+ghost use Rattle.fb_check_columns.specs.Sharing.{IsCosted};
 ghost use Rattle.fb_check_columns.specs.Tables.{LeafPays, LeafFails, ResourcePays, ResourceFails, DevicePays, DeviceFails};
 ghost use Rattle.fb_check_columns.specs.Fitting.{IsUnpaid, AllPay, AreKnown};
 
 use crate::column::Column;
+use crate::costed::Costed;
 use crate::fault::Shortfall;
 use crate::leaf::leaf_pays;
 use fb_cert::Certificate;
@@ -17,38 +19,45 @@ use fb_flat::{Flat, FlatDevice, FlatResource, Leaf};
 use std::alloc::Global;
 
 // The rows of all leaves of a resource pay.
-fn leaves_pay(
+fn leaves_pay<'a>(
     alloc: Global,
-    leaves: &[Leaf],
+    leaves: &'a [Leaf],
     certificate: &Certificate,
     column: Column,
+    known: &mut Vec<Costed<'a>>,
 ) -> Result<(), Shortfall>
+    requires { AllByRecursion IsCosted known.old.items }
     ensures pays { OnOk result (AllByRecursion (LeafPays column certificate.now) leaves.now) }
     ensures refused { IfErr result (λ f. Any (LeafFails column certificate.now f) leaves.now) }
+    ensures known { OnOk result (AllByRecursion IsCosted known.new.items) }
 {
     for leaf in leaves {
-        leaf_pays(alloc, certificate, column, leaf)?;
+        leaf_pays(alloc, certificate, column, known, leaf)?;
     }
     Ok(())
 }
 
 // The same of all resources of a device.
-fn resources_pay(
+fn resources_pay<'a>(
     alloc: Global,
-    resources: &[FlatResource],
+    resources: &'a [FlatResource],
     certificate: &Certificate,
     column: Column,
+    known: &mut Vec<Costed<'a>>,
 ) -> Result<(), Shortfall>
+    requires { AllByRecursion IsCosted known.old.items }
     ensures pays { OnOk result (AllByRecursion (ResourcePays column certificate.now) resources.now) }
     ensures refused { IfErr result (λ f. Any (ResourceFails column certificate.now f) resources.now) }
+    ensures known { OnOk result (AllByRecursion IsCosted known.new.items) }
 {
     for resource in resources {
-        leaves_pay(alloc, resource.leaves.as_slice(), certificate, column)?;
+        let leaves = resource.leaves.as_slice();
+        leaves_pay(alloc, leaves, certificate, column, known)?;
     }
     Ok(())
 }
 
-// The same of all devices.
+// The same of all devices. Leaves that are alike share what their algorithms cost.
 fn devices_pay(
     alloc: Global,
     devices: &[FlatDevice],
@@ -58,8 +67,10 @@ fn devices_pay(
     ensures pays { OnOk result (AllByRecursion (DevicePays column certificate.now) devices.now) }
     ensures refused { IfErr result (λ f. Any (DeviceFails column certificate.now f) devices.now) }
 {
+    let mut known = Vec::new(alloc);
     for device in devices {
-        resources_pay(alloc, device.resources.as_slice(), certificate, column)?;
+        let resources = device.resources.as_slice();
+        resources_pay(alloc, resources, certificate, column, &mut known)?;
     }
     Ok(())
 }

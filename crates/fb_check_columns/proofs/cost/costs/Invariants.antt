@@ -1,11 +1,10 @@
-use Rattle.std.proofs.Common.{◌≡◌, ◌*◌, map, take}
+use Rattle.std.proofs.Common.{◌≡◌, map, take}
 use Rattle.std.specs.List.{AllByRecursion}
 use Rattle.fb_model.specs.System as system
 use Rattle.fb_model.specs.Clear.{cost}
 use Rattle.fb_model.specs.Ranges.{IsClearAlgorithm}
 use Rattle.fb_ranges.specs.Views.{spans_of}
 use Rattle.fb_types_blocks.specs.Views.{procedures_of}
-use Rattle.fb_check_columns.specs.Columns.{unit_of}
 use Rattle.fb_check_columns.specs.Reckoning.{AreSums}
 use Rattle.fb_check_columns.proofs.Costing.{procedure_of}
 use Rattle.fb_check_columns.proofs.cost.costs.Given as goal
@@ -17,5 +16,5 @@ invariant-loop-index l =
       same : spans_of l.work ≡ spans_of l.rows;
       sums :
           AllByRecursion (λ (p : system.Procedure). IsClearAlgorithm (spans_of l.rows) p.algorithm) (procedures_of l.procedures)
-          → AreSums l.costs.items (map (λ (p : system.Procedure). unit_of l.column * cost (spans_of l.rows) p.algorithm) (map procedure_of (take l.index l.procedures.entries)));
+          → AreSums l.costs.items (map (λ (p : system.Procedure). cost (spans_of l.rows) p.algorithm) (map procedure_of (take l.index l.procedures.entries)));
     }

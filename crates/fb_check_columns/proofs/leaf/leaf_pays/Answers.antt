@@ -18,8 +18,8 @@ returns-in_ok-loads-in-Basic-clause-pays c =
     let kind = ap kind_of (sym {A = Body} c.in-Basic.is) ∙ h.kind in
     let ns = costs c.args.column c.args.certificate.now small (certificate_of c.args.certificate.now).ranges (string_bytes l.path) l.outputs.items b k h.path kind (h.outputs ∙ ap outputs_of (sym kind)) (λ o e. h.targets o (ap (λ q. is_in o (outputs_of q)) (sym kind) ∙ e)) known in
     let outs = rw c.as_slice-outputs.ensures.value at c.in_ok-loads-in-Basic.ensures.values in
-    let algs = rw c.deref.ensures at (c.in_ok-algorithm_costs-in-Basic.ensures.values b (ap names_in c.as_str-path.ensures.value ∙ h.path) (ap (λ x. Charted (block_of x)) c.deref.ensures ∙ kind) known) in
-    let exact = rw (c.as_str-path.ensures.value, c.deref-in-Basic.ensures) at (c.chart_pays.ensures ns (algs, outs)) in
+    let algs = c.in_ok-algorithm_costs-in-Basic.ensures.values b (ap names_in c.as_str-path.ensures.value ∙ h.path) kind known in
+    let exact = rw (c.as_str-path.ensures.value, c.deref.ensures) at (c.chart_pays.ensures ns (algs, outs)) in
     accepted _ _ _ c.chart_pays.result exact
     (chart_fits c.args.column c.args.certificate.now small (certificate_of c.args.certificate.now).ranges (string_bytes l.path) l.outputs.items b k h.path kind (h.outputs ∙ ap outputs_of (sym kind)) (λ o e. h.targets o (ap (λ q. is_in o (outputs_of q)) (sym kind) ∙ e)) known)
 
@@ -31,8 +31,8 @@ returns-in_ok-loads-in-Basic-clause-refused c =
     let kind = ap kind_of (sym {A = Body} c.in-Basic.is) ∙ h.kind in
     let ns = costs c.args.column c.args.certificate.now small (certificate_of c.args.certificate.now).ranges (string_bytes l.path) l.outputs.items b k h.path kind (h.outputs ∙ ap outputs_of (sym kind)) (λ o e. h.targets o (ap (λ q. is_in o (outputs_of q)) (sym kind) ∙ e)) known in
     let outs = rw c.as_slice-outputs.ensures.value at c.in_ok-loads-in-Basic.ensures.values in
-    let algs = rw c.deref.ensures at (c.in_ok-algorithm_costs-in-Basic.ensures.values b (ap names_in c.as_str-path.ensures.value ∙ h.path) (ap (λ x. Charted (block_of x)) c.deref.ensures ∙ kind) known) in
-    let exact = rw (c.as_str-path.ensures.value, c.deref-in-Basic.ensures) at (c.chart_pays.ensures ns (algs, outs)) in
+    let algs = c.in_ok-algorithm_costs-in-Basic.ensures.values b (ap names_in c.as_str-path.ensures.value ∙ h.path) kind known in
+    let exact = rw (c.as_str-path.ensures.value, c.deref.ensures) at (c.chart_pays.ensures ns (algs, outs)) in
     refused _ _ _ c.chart_pays.result exact
     (chart_fails c.args.column c.args.certificate.now small (certificate_of c.args.certificate.now).ranges (string_bytes l.path) l.outputs.items b k h.path kind (h.outputs ∙ ap outputs_of (sym kind)) (λ o e. h.targets o (ap (λ q. is_in o (outputs_of q)) (sym kind) ∙ e)) known)
 

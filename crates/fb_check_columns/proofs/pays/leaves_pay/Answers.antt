@@ -11,5 +11,9 @@ returns-in_err-leaf_pays-clause-refused c =
 
 pub loop-leaf-preserved : goal.loop-leaf-preserved
 loop-leaf-preserved c =
-    all_on (LeafPays c.args.column c.args.certificate.now) c.args.leaves.now c.loop-leaf.leaf-index c.leaf-item.result c.loop-leaf-test.true c.leaf-item.is
-    (λ leaf small is known. c.in_ok-leaf_pays.ensures.pays leaf small is known) c.loop-leaf.invariant
+    record {
+      pay =
+          all_on (LeafPays c.args.column c.args.certificate.now) c.args.leaves.now c.loop-leaf.leaf-index c.leaf-item.result c.loop-leaf-test.true c.leaf-item.is
+          (λ leaf small is known. c.in_ok-leaf_pays.ensures.pays leaf small is known) c.loop-leaf.invariant.pay;
+      known = c.in_ok-leaf_pays.ensures.known;
+    }
