@@ -1,4 +1,4 @@
-use Rattle.std.proofs.Common.{◌≡◌, ◌++◌, ◌∷◌, [], length, replicate, Some, ap, ◌∙◌, arith}
+use Rattle.std.proofs.Common.{◌++◌, ◌∷◌, [], Some, ap, ◌∙◌}
 use Rattle.fb_check_columns.proofs.Sharing.{one_zero_more}
 use Rattle.fb_check_columns.proofs.costed.no_costs.Goals as goal
 

@@ -4,8 +4,6 @@ use Rattle.fb_model.specs.CertificateText.{names_in}
 use Rattle.fb_flat.specs.declared.flat.Body.{Body}
 use Rattle.fb_flat.specs.Leaves.{kind_of, outputs_of}
 use Rattle.fb_types_services.specs.Views.{service_of}
-use Rattle.fb_types_blocks.specs.Views.{block_of}
-use Rattle.fb_model.specs.Wires.{Charted}
 use Rattle.fb_cert.specs.Views.{certificate_of}
 use Rattle.fb_check_columns.proofs.Leaves.{costs, accepted, refused, chart_fits, chart_fails, service_fits, service_fails}
 use Rattle.fb_check_columns.proofs.leaf.leaf_pays.Goals as goal
