@@ -8,8 +8,8 @@ ghost use Rattle.fb_device_tables.specs.Filling.{IsProcedureMade, IsCodeOf, IsSh
 
 use crate::state::states;
 use fb_chart::{Chart, ChartCode};
-use fb_types_same::is_alike;
 use fb_types_blocks::Block;
+use fb_types_same::is_alike;
 use st_exec::{Layout, Procedure, coded_algorithm};
 use std::alloc::{AllocError, Global};
 use std::rc::Rc;
