@@ -3,25 +3,25 @@ use Rattle.std.proofs.Common.{◌≡◌, ◌≢◌, ℕ, ◌+◌, nat_lt, nat_le
 use Rattle.std.specs.List.{AllByRecursion, AllZip}
 use Rattle.std.proofs.lemmas.Bool.{and_parts}
 use Rattle.std.proofs.lemmas.Bool.Decides.{Decides-int_eq, nat_tests}
-use Rattle.fb_model.specs.Names.{Name, Path}
+use Rattle.fb_model.specs.Names.{Path}
 use Rattle.fb_model.specs.Values.{numbers_of}
-use Rattle.fb_model.specs.System.{Variable, Block}
+use Rattle.fb_model.specs.System.{Variable}
 use Rattle.fb_model.specs.NetworkTyping.{variable_named}
 use Rattle.fb_model.specs.Wires.{Kind, Charted, Serviced, Leaf}
 use Rattle.fb_model.specs.Spans.{Span, span, whole}
 use Rattle.fb_model.specs.Clear.{Spans}
-use Rattle.fb_model.specs.Ranges.{Range, variables, row_of, row_at, rows}
+use Rattle.fb_model.specs.Ranges.{Range, variables, row_of, rows}
 use Rattle.fb_model.specs.Certificates.{is_boolean}
-use Rattle.fb_model.proofs.Lists.{all_weaker, all_both}
+use Rattle.fb_model.proofs.Lists.{all_weaker}
 use Rattle.fb_model_laws.specs.Leaves.{AreApart, IsFed}
-use Rattle.fb_model_laws.specs.FinderRanges.{held, first_value, range_row, rows_by, kind_rows, leaf_rows, round, Settles, ends, goes_on, IsLast, start_rows, IsTable}
+use Rattle.fb_model_laws.specs.FinderRanges.{held, first_value, range_row, rows_by, kind_rows, leaf_rows, round, Settles, ends, goes_on, IsLast, IsTable}
 use Rattle.fb_model_laws.proofs.HoldingRows.{all_own}
 use Rattle.fb_model_laws.proofs.Looking.{settled, AreSame, AreOwn, RowsStand, rows_stand}
 use Rattle.fb_find_ranges.specs.Lines.{line_by, lines_by, Lined, spans_by, next_round, next_number}
 use Rattle.fb_find_ranges.specs.Sameness.{same_span, same_lines, same_all}
 use Rattle.fb_find_ranges.specs.Found.{spelled, AreLastTables}
 use Rattle.fb_find_ranges.proofs.Tabling.{shown_range, put_own, table_is}
-use Rattle.fb_find_ranges.proofs.Keeping.{IsLined, AreLined, IsTyped, AreTyped, after, round_kept, round_typed}
+use Rattle.fb_find_ranges.proofs.Keeping.{AreLined, IsTyped, AreTyped, after, round_kept, round_typed}
 use Rattle.fb_find_ranges.proofs.Typed.{first_inside}
 
 -- ---- the same ranges

@@ -1,24 +1,23 @@
 -- A round of lines is a round of the book's rows.
 use Rattle.std.proofs.Common.{◌≡◌, ℕ, nat_lt, Bool, true, false, List, [], ◌∷◌, map, refl, sym, ap, ap₂, subst, ◌∙◌, arith, if◌then◌else◌}
-use Rattle.std.proofs.Math.Path.{fun_ext}
 use Rattle.std.specs.Int.{int_min, int_max}
 use Rattle.std.specs.List.{AllByRecursion}
 use Rattle.std.proofs.lemmas.Int.{ints, clamps}
 use Rattle.fb_words.specs.declared.elem_type.ElemType.{ElemType}
-use Rattle.fb_model.specs.Names.{Name, Path}
+use Rattle.fb_model.specs.Names.{Name}
 use Rattle.fb_model.specs.System.{Variable, Block}
 use Rattle.fb_model.specs.Wires.{Source, Kind, Charted, Serviced, Leaf}
 use Rattle.fb_model.specs.Spans.{Span, span, whole, joined}
 use Rattle.fb_model.specs.Clear.{Spans}
 use Rattle.fb_model.specs.Ranges.{Range, variables, row_of, rows}
 use Rattle.fb_model.specs.Certificates.{is_boolean}
-use Rattle.fb_model.proofs.Lists.{all_weaker, all_both}
+use Rattle.fb_model.proofs.Lists.{all_both}
 use Rattle.fb_model_laws.specs.Leaves.{AreApart, IsFed}
 use Rattle.fb_model_laws.specs.FinderRanges.{leaf_rows, asked, widened}
 use Rattle.fb_model_laws.proofs.HoldingRows.{all_own}
 use Rattle.fb_model_laws.proofs.Looking.{settled, AreOwn, RowsStand, rows_stand}
 use Rattle.fb_model_laws.proofs.Spans.{Inside, widened_typed, widened_more}
-use Rattle.fb_find_ranges.specs.Lines.{Line, line_by, lines_by, Lined, spans_by, Tabled, tabled, given, asked_in, stepped, next_line, next_lined, next_round}
+use Rattle.fb_find_ranges.specs.Lines.{line_by, lines_by, Lined, spans_by, Tabled, tabled, given, asked_in, next_line, next_lined, next_round}
 use Rattle.fb_find_ranges.proofs.Tabling.{table_is}
 use Rattle.fb_find_ranges.proofs.Asking.{IsTabled, AreTabled, asked_is, port_is}
 

@@ -13,3 +13,4 @@ pub mod Capitals
 pub mod Distinct
 pub mod Added
 pub mod Tabled
+pub mod Linking

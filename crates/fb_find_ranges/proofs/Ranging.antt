@@ -1,9 +1,9 @@
 -- A range that is that of a value is the smallest that holds its numbers.
-use Rattle.std.proofs.Common.{◌≡◌, ◌↔◌, ℤ, ◌≤ℤ◌, pos, ◌+ℤ◌, true, List, [], ◌∷◌, sym, ap, ap₂, ◌∙◌, arith}
+use Rattle.std.proofs.Common.{◌≡◌, ◌↔◌, ℤ, pos, ◌+ℤ◌, true, List, [], ◌∷◌, ap₂, arith}
 use Rattle.std.specs.List.{AllByRecursion}
 use Rattle.std.proofs.lemmas.Int.{ints, clamps}
 use Rattle.fb_model.specs.Values.{Value, numbers_of}
-use Rattle.fb_model.specs.Spans.{Span, span, within, joined}
+use Rattle.fb_model.specs.Spans.{Span, span, within}
 use Rattle.fb_model.specs.Shapes.{IsIn}
 use Rattle.fb_model_laws.specs.FinderRanges.{held}
 use Rattle.fb_model_laws.proofs.Spans.{Inside, inside_is, inside_within, held_holds}

@@ -1,6 +1,6 @@
 -- The lines of the tables' leaves at first are those of the book's leaves.
 use denote.Ref.{Bor}
-use Rattle.std.proofs.Common.{◌≡◌, pos, Bool, true, false, ◌||◌, List, [], ◌∷◌, map, Option, None, Some, refl, sym, ap, ap₂, subst, ◌∙◌, string_bytes, Result, Ok, Err, Vec, Global}
+use Rattle.std.proofs.Common.{◌≡◌, pos, Bool, true, false, ◌||◌, List, [], ◌∷◌, map, Option, None, Some, refl, sym, ap, subst, ◌∙◌, string_bytes, Result, Ok, Err, Vec, Global}
 use Rattle.std.proofs.Math.Path.{fun_ext}
 use Rattle.std.specs.Prelude.{if◌then◌else◌, IfOk}
 use Rattle.std.specs.Str.{bytes_eq}
@@ -21,7 +21,7 @@ use Rattle.fb_ranges.specs.Views.{spans_of}
 use Rattle.fb_find_ranges.specs.Found.{AreLastTables}
 use Rattle.fb_find_ranges.specs.Lines.{lines_by, first_from, first_lined, Lined, spans_by}
 use Rattle.fb_find_ranges.specs.Views.{shown}
-use Rattle.fb_find_ranges.proofs.Keeping.{SameSources, IsShown, AreLined}
+use Rattle.fb_find_ranges.proofs.Keeping.{SameSources, AreLined}
 use Rattle.fb_find_ranges.proofs.Ending.{first_by}
 
 -- what is no input has no source

@@ -7,7 +7,7 @@ use Rattle.fb_model.specs.Names.{Name}
 use Rattle.fb_model.specs.Clear.{Spans}
 use Rattle.fb_model.specs.Declarations.{BlockTree, SourceTree}
 use Rattle.fb_model.specs.NetworkTyping.{ElaboratesWith}
-use Rattle.fb_model.specs.Ranges.{Range, rows}
+use Rattle.fb_model.specs.Ranges.{Range}
 use Rattle.fb_model.specs.System.{Device, System}
 use Rattle.fb_model.specs.Wires.{Kind, Charted, Serviced, Leaf, leaves}
 use Rattle.fb_model.specs.Certificates.{all_leaves}

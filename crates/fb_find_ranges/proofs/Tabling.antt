@@ -5,18 +5,17 @@ use Rattle.std.specs.Str.{bytes_eq}
 use Rattle.std.specs.List.{AllByRecursion}
 use Rattle.fb_words.specs.declared.elem_type.ElemType.TheVariants as t
 use Rattle.fb_model.specs.Names.{Name, Path}
-use Rattle.fb_model.specs.System.{Variable, Block, Service}
+use Rattle.fb_model.specs.System.{Variable, Block}
 use Rattle.fb_model.specs.NetworkTyping.{variable_named}
-use Rattle.fb_model.specs.Wires.{Kind, Charted, Serviced, Leaf}
+use Rattle.fb_model.specs.Wires.{Charted}
 use Rattle.fb_model.specs.Spans.{Span, whole}
 use Rattle.fb_model.specs.Clear.{Spans, changed}
 use Rattle.fb_model.specs.Ranges.{Range, variables, row_at, row_of, rows}
 use Rattle.fb_model.specs.Certificates.{is_boolean}
 use Rattle.fb_model.proofs.Lists.{same_name, all_both}
-use Rattle.fb_model.proofs.Placed.{name_same}
 use Rattle.fb_model.proofs.Names.{eq_turned}
-use Rattle.fb_model_laws.proofs.Looking.{settled, AreSame, AreOwn, RowsStand}
-use Rattle.fb_find_ranges.specs.Lines.{line_by, lines_by, put, spans_by, given}
+use Rattle.fb_model_laws.proofs.Looking.{settled, AreSame, AreOwn}
+use Rattle.fb_find_ranges.specs.Lines.{line_by, lines_by, put, spans_by}
 
 -- a variable's range as lines have it
 abbrev pub shown_range : (Variable → Span) → Variable → Span

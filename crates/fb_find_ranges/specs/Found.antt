@@ -1,9 +1,9 @@
 -- What the ranges that are found are in the book's terms.
-use Rattle.std.specs.Prelude.{◌≡◌, List, [], ◌∷◌, ◌++◌}
+use Rattle.std.specs.Prelude.{List, [], ◌∷◌, ◌++◌}
 use Rattle.std.specs.List.{AllZip}
-use Rattle.fb_model.specs.Wires.{Kind, Charted, Serviced, Leaf}
+use Rattle.fb_model.specs.Wires.{Leaf}
 use Rattle.fb_model.specs.Clear.{Spans}
-use Rattle.fb_model.specs.Ranges.{Range, rows}
+use Rattle.fb_model.specs.Ranges.{Range}
 use Rattle.fb_model_laws.specs.FinderRanges.{kind_rows, IsLast, IsTable}
 
 -- the rows that tables spell, leaf by leaf

@@ -1,6 +1,5 @@
 -- The finder's ranges of a device's leaves while its rounds go on: in order, and by the names of variables. What a round makes of them.
 use Rattle.std.specs.Prelude.{◌≡◌, ℕ, ◌+◌, nat_le, List, [], ◌∷◌, map, Option, None, Some, if◌then◌else◌}
-use Rattle.std.specs.Option.{option_map}
 use Rattle.fb_words.specs.declared.elem_type.ElemType.{ElemType}
 use Rattle.fb_words.specs.declared.elem_type.ElemType.TheVariants as t
 use Rattle.fb_model.specs.Names.{Name, Path, path_eq, is_in}
@@ -13,7 +12,7 @@ use Rattle.fb_model.specs.Clear.{Spans, changed}
 use Rattle.fb_model.specs.Ranges.{variables}
 use Rattle.fb_model.specs.Certificates.{is_boolean}
 use Rattle.fb_model_laws.specs.Asking.{grown}
-use Rattle.fb_model_laws.specs.FinderRanges.{held, worked, widened}
+use Rattle.fb_model_laws.specs.FinderRanges.{held, widened}
 use Rattle.fb_check_ranges.specs.Rows.{type_in, numbers_in}
 
 -- ---- rows in order

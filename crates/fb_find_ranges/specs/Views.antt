@@ -1,5 +1,5 @@
 -- What the code's rows are in these words.
-use Rattle.std.specs.Prelude.{◌≡◌, ℕ, suc, [], ◌∷◌, map, List, Option, None, Some, string_bytes, if◌then◌else◌}
+use Rattle.std.specs.Prelude.{◌≡◌, ◌≤◌, slice_get, ℕ, suc, [], ◌∷◌, map, List, Option, None, Some, string_bytes, if◌then◌else◌}
 use Rattle.std.specs.List.{AllByRecursion}
 use Rattle.std.specs.Option.{option_map}
 use Rattle.std.specs.Map.{lookup}
@@ -52,9 +52,23 @@ pub record IsKept (s : LeafRows) : Type 0 where
 abbrev pub AreKept : List Shared → Type 0
 AreKept ss = AllByRecursion (λ (s : Shared). IsKept s.value) ss
 
+-- what a leaf is, and the number of one before it that is the same (or its own)
+abbrev pub Link : Type 0
+Link = wires.Kind × ℕ
+
+abbrev pub linked_in : Shared → Link
+linked_in s = (kind_of s.value.leaf.now.body, s.value.like)
+
+-- the leaf of this number, if there is one, is that
+abbrev pub IsKind : List Link → ℕ → wires.Kind → Type 0
+IsKind links n kind = (b : Link) → Some b ≡ slice_get links n → b.0 ≡ kind
+
+abbrev pub AreLinked : List Link → Type 0
+AreLinked links = (n : ℕ) (a : Link) → Some a ≡ slice_get links n → (a.1 ≤ n) × IsKind links a.1 a.0
+
 -- the same block under the same rows
-pub record IsLike (s : LeafRows) (l : flat.Leaf) (rows : List Row) : Type 0 where
-  pub block : kind_of s.leaf.now.body ≡ kind_of l.body
+pub record IsLike (s : LeafRows) (kind : wires.Kind) (rows : List Row) : Type 0 where
+  pub block : kind_of s.leaf.now.body ≡ kind
   pub lines : map line_of s.rows.items ≡ map line_of rows
 
 abbrev pub leaf_in : Shared → wires.Leaf

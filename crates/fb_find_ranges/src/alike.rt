@@ -1,8 +1,8 @@
 //! Leaves whose blocks and rows are alike: what the algorithms of one ask, those of the other ask.
 
-ghost use Rattle.std.specs.Prelude.{◌≡◌, true, map, IfSome};
+ghost use Rattle.std.specs.Prelude.{◌≡◌, ◌≤◌, true, map, length, IfSome};
 ghost use Rattle.fb_flat.specs.Leaves.{kind_of};
-ghost use Rattle.fb_find_ranges.specs.Views.{line_of, AreKept, IsKept, IsLike};
+ghost use Rattle.fb_find_ranges.specs.Views.{line_of, linked_in, AreKept, AreLinked, IsKept, IsKind, IsLike};
 
 use crate::rows::{LeafRows, Row};
 use fb_flat::{Body, Leaf};
@@ -10,7 +10,7 @@ use fb_ranges::is_same;
 use fb_types_same::is_alike;
 use std::rc::Rc;
 
-/// How many of the leaves that were made last are looked at.
+/// How many leaves are looked at: of those that were made last, and of those of one block.
 const LOOKED_BACK: usize = 32;
 
 // Whether two rows are of one name, and have the same type and range.
@@ -53,27 +53,42 @@ fn alike_block(one: &Leaf, other: &Leaf) -> bool
     }
 }
 
-// Whether a leaf with its rows is like another.
-fn is_like(made: &LeafRows, leaf: &Leaf, rows: &[Row]) -> bool
-    ensures { result ≡ true → IsLike made.now leaf.now rows.now }
+/// The number of one of the leaves that were made last whose block is that of this leaf; the number of all where there is none.
+pub(crate) fn like(before: &[Rc<LeafRows<'_>>], leaf: &Leaf) -> usize
+    ensures within { result ≤ length before.now }
+    ensures kind { IsKind (map linked_in before.now) result (kind_of leaf.now.body) }
 {
-    alike_block(made.leaf, leaf) && alike_rows(made.rows.as_slice(), rows)
+    for back in 1..=before.len().min(LOOKED_BACK) {
+        let at = before.len() - back;
+        if alike_block(before[at].leaf, leaf) {
+            return at;
+        }
+    }
+    before.len()
 }
 
-/// One of the leaves that were made last which is like this one under these rows, if there is one.
+/// A leaf that was made of the same block under the same rows, by the number of one of the same block.
 pub(crate) fn alike<'a, 'b>(
     before: &'b [Rc<LeafRows<'a>>],
+    like: usize,
     leaf: &Leaf,
     rows: &[Row],
 ) -> Option<&'b LeafRows<'a>>
-    requires { AreKept before.now }
-    ensures { IfSome result (λ made. IsKept made.now × IsLike made.now leaf.now rows.now) }
+    requires kept { AreKept before.now }
+    requires links { AreLinked (map linked_in before.now) }
+    requires kind { IsKind (map linked_in before.now) like (kind_of leaf.now.body) }
+    ensures { IfSome result (λ made. IsKept made.now × IsLike made.now (kind_of leaf.now.body) rows.now) }
 {
-    for back in 1..=before.len().min(LOOKED_BACK) {
-        let made = &before[before.len() - back];
-        if is_like(made, leaf, rows) {
+    let mut at = like;
+    for _ in 0..LOOKED_BACK {
+        if before.len() <= at {
+            return None;
+        }
+        let made = &before[at];
+        if alike_rows(made.rows.as_slice(), rows) {
             return Some(made.as_ref());
         }
+        at = made.like;
     }
     None
 }

@@ -1,14 +1,16 @@
 //! The rows of variables at first.
 
-ghost use Rattle.std.specs.Prelude.{◌≡◌, ◌++◌, map, IfOk, OnOk};
+ghost use Rattle.std.specs.Prelude.{◌≡◌, ◌≤◌, ◌++◌, map, length, IfOk, OnOk};
 ghost use Rattle.fb_model.specs.Wires.{Charted};
 ghost use Rattle.fb_model.specs.BlockTyping.{variable_of};
 ghost use Rattle.fb_types_blocks.specs.Views.{declared_of, variables_of, block_of};
+ghost use Rattle.fb_flat.specs.Leaves.{kind_of};
 ghost use Rattle.fb_flat.specs.Tables.{source_at};
 ghost use Rattle.fb_ranges_intervals.specs.Views.{span_of};
 ghost use Rattle.fb_find_ranges.specs.Lines.{first_from, first_lined, line_by, lines_by};
-ghost use Rattle.fb_find_ranges.specs.Views.{AreKept, IsKept, line_of, lined_in, shown};
+ghost use Rattle.fb_find_ranges.specs.Views.{AreKept, AreLinked, IsKept, IsKind, line_of, lined_in, linked_in, shown};
 
+use crate::alike::like;
 use crate::rows::{LeafRows, Row};
 use crate::table::with_rows;
 use fb_check_ranges::{first_range, source_named, start_range};
@@ -101,12 +103,14 @@ fn leaf_rows<'a>(
     before: &[Rc<LeafRows<'a>>],
     leaf: &'a Leaf,
 ) -> Result<Rc<LeafRows<'a>>, AllocError>
-    requires { AreKept before.now }
+    requires before { AreKept before.now }
+    requires links { AreLinked (map linked_in before.now) }
+    ensures link { IfOk result (λ s. ((linked_in s).0 ≡ kind_of leaf.now.body) × ((linked_in s).1 ≤ length before.now) × IsKind (map linked_in before.now) (linked_in s).1 (kind_of leaf.now.body)) }
     ensures lined { IfOk result (λ s. lined_in s ≡ first_lined (shown leaf.now)) }
     ensures kept { IfOk result (λ s. IsKept s.value) }
 {
     let rows = own_rows(alloc, leaf)?;
-    with_rows(alloc, before, leaf, rows)
+    with_rows(alloc, before, like(before, leaf), leaf, rows)
 }
 
 /// The rows of leaves at first.
@@ -115,6 +119,7 @@ pub(crate) fn first_rows<'a>(
     leaves: &[&'a Leaf],
 ) -> Result<Vec<Rc<LeafRows<'a>>>, AllocError>
     ensures lined { IfOk result (λ v. map lined_in v.items ≡ map (λ l. first_lined (shown l.now)) leaves.now) }
+    ensures links { IfOk result (λ v. AreLinked (map linked_in v.items)) }
     ensures kept { IfOk result (λ v. AreKept v.items) }
 {
     let mut all = Vec::new(alloc);

@@ -1,8 +1,9 @@
 //! One round.
 
 ghost use Rattle.std.specs.Prelude.{◌≡◌, map, IfOk};
+ghost use Rattle.fb_flat.specs.Leaves.{kind_of};
 ghost use Rattle.fb_find_ranges.specs.Lines.{next_line, next_lined, next_round};
-ghost use Rattle.fb_find_ranges.specs.Views.{AreKept, AreNear, IsKept, leaf_in, line_of, lined_in, tabled_in, tabled_of};
+ghost use Rattle.fb_find_ranges.specs.Views.{AreKept, AreLinked, AreNear, IsKept, IsKind, leaf_in, line_of, lined_in, linked_in, tabled_in, tabled_of};
 
 use crate::near::{Near, fed};
 use crate::rows::{LeafRows, Row};
@@ -67,15 +68,18 @@ fn next_leaf<'a>(
 ) -> Result<Rc<LeafRows<'a>>, AllocError>
     requires near { AreNear (map leaf_in leaves.now) near.now }
     requires before { AreKept before.now }
+    requires links { AreLinked (map linked_in before.now) }
+    requires kind { IsKind (map linked_in before.now) leaf.now.value.like (kind_of leaf.now.value.leaf.now.body) }
     requires kept { IsKept leaf.now.value }
     ensures lined { IfOk result (λ s. lined_in s ≡ next_lined round (map tabled_in leaves.now) (tabled_in leaf.now)) }
+    ensures link { IfOk result (λ s. linked_in s ≡ linked_in leaf.now) }
     ensures kept { IfOk result (λ s. IsKept s.value) }
 {
     let rows = next_rows(alloc, round, near, leaves, leaf)?;
     if same_rows(leaf.rows.as_slice(), rows.as_slice()) {
         return leaf.clone();
     }
-    with_rows(alloc, before, leaf.leaf, rows)
+    with_rows(alloc, before, leaf.like, leaf.leaf, rows)
 }
 
 /// The rows of leaves after a round.
@@ -87,7 +91,9 @@ pub(crate) fn next<'a>(
 ) -> Result<Vec<Rc<LeafRows<'a>>>, AllocError>
     requires near { AreNear (map leaf_in leaves.now) near.now }
     requires kept { AreKept leaves.now }
+    requires links { AreLinked (map linked_in leaves.now) }
     ensures lined { IfOk result (λ v. map lined_in v.items ≡ next_round round (map lined_in leaves.now)) }
+    ensures links { IfOk result (λ v. map linked_in v.items ≡ map linked_in leaves.now) }
     ensures kept { IfOk result (λ v. AreKept v.items) }
 {
     let mut all = Vec::new(alloc);

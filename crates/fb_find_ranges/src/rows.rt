@@ -14,11 +14,12 @@ pub(crate) struct Row<'a> {
     pub(crate) range: Interval,
 }
 
-/// A leaf, the rows of its variables in order (inputs, outputs, internal ones; a service has none) and by their names, and what its
+/// A leaf, the number of one before it with the same block (or its own), the rows of its variables in order (inputs, outputs, internal ones; a service has none) and by their names, and what its
 /// algorithms ask under these. Leaves whose blocks and rows are alike share both tables.
 #[derive(Drop)]
 pub(crate) struct LeafRows<'a> {
     pub(crate) leaf: &'a Leaf,
+    pub(crate) like: usize,
     pub(crate) rows: Vec<Row<'a>>,
     pub(crate) ranges: Rc<Ranges>,
     pub(crate) asked: Rc<Ranges>,

@@ -1,10 +1,8 @@
-use Rattle.std.proofs.Common.{◌≡◌, Bool, true, false, List, Result, Ok, Err, map, sym, ap, ap₂, subst, ◌∙◌}
-use Rattle.std.specs.Prelude.{IfOk}
+use Rattle.std.proofs.Common.{◌≡◌, true, false, List, map, sym, ap, ap₂, subst, ◌∙◌}
 use Rattle.fb_model.specs.Wires as wires
-use Rattle.fb_find_ranges.specs.Found.{AreLastTables}
-use Rattle.fb_find_ranges.specs.Lines.{Lined, spans_by, next_round}
+use Rattle.fb_find_ranges.specs.Lines.{Lined, next_round}
 use Rattle.fb_find_ranges.specs.Sameness.{same_all}
-use Rattle.fb_find_ranges.specs.Views.{AreKept, AreNear, Shared, leaf_in, lined_in}
+use Rattle.fb_find_ranges.specs.Views.{AreKept, AreLinked, AreNear, Shared, leaf_in, lined_in, linked_in}
 use Rattle.fb_find_ranges.proofs.Ending.{first_by, stands_first, stands_next, are_last}
 use Rattle.fb_find_ranges.proofs.Falling.{ends_by}
 use Rattle.fb_find_ranges.proofs.Keeping.{AreLined}
@@ -17,12 +15,16 @@ loop-rows-init c =
     record {
       stands = λ bs are apart feds. stands_first bs (map lined_in c.in_ok-rows.rows.items) feds (subst (λ (ss : List Lined). AreLined first_by ss bs) (sym c.in_ok-rows.ensures.lined) (all_first_lined bs c.args.leaves.now bs are feds));
       kept = c.in_ok-rows.ensures.kept;
+      links = c.in_ok-rows.ensures.links;
       leaves = leaves_first c.args.leaves.now c.in_ok-rows.rows.items c.in_ok-rows.ensures.lined;
     }
 
 pub next-requires-clause-near : goal.next-requires-clause-near
 next-requires-clause-near c =
     subst (λ (ls : List wires.Leaf). AreNear ls c.in_ok-near.near) (sym (ap (λ (xs : List Shared). map leaf_in xs) c.as_slice.ensures.value ∙ c.loop-rows.invariant.leaves)) c.in_ok-near.ensures
+
+pub next-requires-clause-links : goal.next-requires-clause-links
+next-requires-clause-links c = subst (λ (xs : List Shared). AreLinked (map linked_in xs)) (sym c.as_slice.ensures.value) c.loop-rows.invariant.links
 
 pub next-requires-clause-kept : goal.next-requires-clause-kept
 next-requires-clause-kept c = subst AreKept (sym c.as_slice.ensures.value) c.loop-rows.invariant.kept
@@ -60,5 +62,6 @@ loop-rows-preserved c =
     record {
       stands = λ bs are apart feds. stands_next bs n c.later-round.result (map lined_in rows) (map lined_in grown) apart feds (c.loop-rows.invariant.stands bs are apart feds) is other c.later-round.ensures;
       kept = c.in_ok-grown.ensures.kept;
+      links = subst AreLinked (sym (c.in_ok-grown.ensures.links ∙ ap (λ (xs : List Shared). map linked_in xs) c.as_slice.ensures.value)) c.loop-rows.invariant.links;
       leaves = leaves_stay n rows grown is ∙ c.loop-rows.invariant.leaves;
     }

@@ -1,4 +1,4 @@
-use Rattle.std.proofs.Common.{◌≡◌, map, take}
+use Rattle.std.proofs.Common.{◌≡◌, take}
 use Rattle.fb_model.specs.Names.{Name}
 use Rattle.fb_model.specs.CertificateText.{names_in}
 use Rattle.fb_find_ranges.specs.Views.{near_at, number_of}

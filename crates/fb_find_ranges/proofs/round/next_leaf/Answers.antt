@@ -21,5 +21,5 @@ returns-clause-lined c =
     let s = c.args.leaf.now.value in
     let rows = c.in_ok-rows.rows.items in
     let is : map line_of rows ≡ map (next_line c.args.round (map tabled_in c.args.leaves.now) (tabled_of s)) (map line_of s.rows.items) = rw c.deref.ensures at c.in_ok-rows.ensures in
-    IfOk-weaker c.with_rows.result (λ (x : Shared). lined_in x ≡ lined (shown c.deref-3.result.now.leaf.now) (map line_of rows)) (λ (x : Shared). lined_in x ≡ next_lined c.args.round (map tabled_in c.args.leaves.now) (tabled_of s))
-    (λ x e. e ∙ ap₂ lined (ap (λ t. shown t.leaf.now) c.deref-3.ensures) is) c.with_rows.ensures.lined
+    IfOk-weaker c.with_rows.result (λ (x : Shared). lined_in x ≡ lined (shown c.deref-4.result.now.leaf.now) (map line_of rows)) (λ (x : Shared). lined_in x ≡ next_lined c.args.round (map tabled_in c.args.leaves.now) (tabled_of s))
+    (λ x e. e ∙ ap₂ lined (ap (λ t. shown t.leaf.now) c.deref-4.ensures) is) c.with_rows.ensures.lined

@@ -1,4 +1,4 @@
-use Rattle.std.proofs.Common.{◌≡◌, length, map, drop}
+use Rattle.std.proofs.Common.{◌≡◌, map, drop}
 use Rattle.fb_find_ranges.specs.Sameness.{same_all}
 use Rattle.fb_find_ranges.specs.Views.{lined_in}
 use Rattle.fb_find_ranges.proofs.same.are_same.Given as goal

@@ -1,4 +1,4 @@
-use Rattle.std.proofs.Common.{◌≡◌, length, map, drop}
+use Rattle.std.proofs.Common.{◌≡◌, map, drop}
 use Rattle.fb_find_ranges.specs.Sameness.{same_lines}
 use Rattle.fb_find_ranges.specs.Views.{line_of}
 use Rattle.fb_find_ranges.proofs.same.same_rows.Given as goal
