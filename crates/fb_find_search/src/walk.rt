@@ -33,7 +33,7 @@ fn walk_one(
     match statement {
         TypedStmt::Set(name, expr) => {
             let value = value(expr, &way.ranges);
-            give(name, value, way)
+            give(&name.name, value, way)
         }
         TypedStmt::SetElement(name, _, _, _, expr) => {
             ask(name.as_str(), value(expr, &way.ranges), asked)
@@ -118,9 +118,9 @@ fn walk_for(
     settle(scene, &names, way, asked)?;
     let before = way.ranges.find(counting.variable.as_str());
     let own = taken(first, last, counting.step, iterations);
-    give(&counting.variable, own, way)?;
+    give(&counting.variable.name, own, way)?;
     walk(scene, body, way, asked)?;
     settle(scene, &names, way, asked)?;
     let left = left_with(first, last, counting.step, iterations, before);
-    give(&counting.variable, left, way)
+    give(&counting.variable.name, left, way)
 }

@@ -26,6 +26,7 @@ fn enlarge(scope: &mut Scope, variables: &Variables, writable: bool) -> Result<(
             of_type: variable.of_type,
             bounds: variable.bounds,
             writable,
+            number: scope.len(),
         };
         add(scope, name, entry)?;
     }

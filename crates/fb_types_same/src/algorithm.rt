@@ -11,7 +11,7 @@ use st_types::{Algo, Counting, TypedArm, TypedBranch, TypedStmt};
 fn same_counting(one: &Counting, other: &Counting) -> bool
     ensures { result ≡ true → counting_of one.now ≡ counting_of other.now }
 {
-    one.variable == other.variable
+    one.variable.name == other.variable.name
         && one.of_type == other.of_type
         && same_term(&one.first, &other.first)
         && same_term(&one.last, &other.last)
@@ -26,13 +26,13 @@ fn same_statement(one: &TypedStmt, other: &TypedStmt) -> bool
 {
     match (one, other) {
         (TypedStmt::Set(one, value), TypedStmt::Set(other, number)) => {
-            one == other && same_term(value, number)
+            one.name == other.name && same_term(value, number)
         }
         (
             TypedStmt::SetElement(one, low, high, at, value),
             TypedStmt::SetElement(other, first, last, index, number),
         ) => {
-            one == other
+            one.name == other.name
                 && *low == *first
                 && *high == *last
                 && same_term(at, index)

@@ -56,9 +56,9 @@ pub(crate) fn same_term(one: &TypedExpr, other: &TypedExpr) -> bool
 {
     match (one, other) {
         (TypedExpr::Constant(one), TypedExpr::Constant(other)) => *one == *other,
-        (TypedExpr::Read(one), TypedExpr::Read(other)) => one == other,
+        (TypedExpr::Read(one), TypedExpr::Read(other)) => one.name == other.name,
         (TypedExpr::Element(one, low, high, at), TypedExpr::Element(other, first, last, index)) => {
-            one == other && *low == *first && *high == *last && same_term(at, index)
+            one.name == other.name && *low == *first && *high == *last && same_term(at, index)
         }
         (TypedExpr::Unary(does, of, one), TypedExpr::Unary(operation, of_type, other)) => {
             same_operation(*does, *operation) && *of == *of_type && same_term(one, other)

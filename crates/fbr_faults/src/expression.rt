@@ -58,7 +58,7 @@ pub(crate) fn expression_fault(
         TypedExpr::Element(name, low, high, index) => {
             let inner = origin.index();
             let array = Array {
-                name,
+                name: &name.name,
                 low: *low,
                 high: *high,
             };

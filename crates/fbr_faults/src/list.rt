@@ -133,7 +133,7 @@ fn one_fault(
         TypedStmt::Set(_, value) => expression_fault(value, line.value(), ranges),
         TypedStmt::SetElement(name, low, high, index, value) => {
             let array = Array {
-                name,
+                name: &name.name,
                 low: *low,
                 high: *high,
             };

@@ -20,13 +20,13 @@ pub fn coded_term(alloc: Global, layout: &Layout, expr: &TypedExpr) -> Result<Co
         TypedExpr::Constant(number) => Ok(Code::Constant(*number)),
         TypedExpr::Read(name) => {
             let slot = layout.plain_slot(name.as_str());
-            Ok(Code::Read(name.clone()?, slot))
+            Ok(Code::Read(name.name.clone()?, slot))
         }
         TypedExpr::Element(name, low, high, index) => {
             let index = coded_term(alloc, layout, index)?;
             let slot = layout.slot(name.as_str());
             let index = Box::new(alloc, index)?;
-            Ok(Code::Element(name.clone()?, slot, *low, *high, index))
+            Ok(Code::Element(name.name.clone()?, slot, *low, *high, index))
         }
         TypedExpr::Unary(operation, of, operand) => {
             let operand = coded_term(alloc, layout, operand)?;

@@ -22,7 +22,7 @@ fn coded_counting(
 {
     let slot = layout.plain_slot(counting.variable.as_str());
     Ok(CodeCounting {
-        variable: counting.variable.clone()?,
+        variable: counting.variable.name.clone()?,
         slot,
         of_type: counting.of_type,
         first: coded_term(alloc, layout, &counting.first)?,
@@ -52,13 +52,13 @@ fn coded_statement(
         TypedStmt::Set(name, value) => {
             let slot = layout.plain_slot(name.as_str());
             let value = coded_term(alloc, layout, value)?;
-            Ok(CodeStmt::Set(name.clone()?, slot, value))
+            Ok(CodeStmt::Set(name.name.clone()?, slot, value))
         }
         TypedStmt::SetElement(name, low, high, index, value) => {
             let slot = layout.slot(name.as_str());
             let index = coded_term(alloc, layout, index)?;
             let value = coded_term(alloc, layout, value)?;
-            Ok(CodeStmt::SetElement(name.clone()?, slot, *low, *high, index, value))
+            Ok(CodeStmt::SetElement(name.name.clone()?, slot, *low, *high, index, value))
         }
         TypedStmt::If(branches, other) => {
             let branches = coded_branches(alloc, layout, branches)?;

@@ -35,14 +35,14 @@ all_cases [] rest = rest
 all_cases (c ∷ cs) rest = a_case c.0 c.1 (all_cases cs rest)
 
 abbrev pub counting_of : Counting → Counted
-counting_of k = record { variable = string_bytes k.variable; type = k.of_type; first = term_of k.first; last = term_of k.last; step = k.step; plain = k.plain }
+counting_of k = record { variable = string_bytes k.variable.name; type = k.of_type; first = term_of k.first; last = term_of k.last; step = k.step; plain = k.plain }
 
 abbrev pub counted_command : Counted → Commands → Command
 counted_command k c = count k.variable k.type k.first k.last k.step k.plain c
 
 abbrev pub command_step : TypedStmt-F Command Cased Chosen → Command
-command_step (TypedStmt-F.Set x e) = set (string_bytes x) (term_of e)
-command_step (TypedStmt-F.SetElement x low high i e) = set_part (string_bytes x) low high (term_of i) (term_of e)
+command_step (TypedStmt-F.Set x e) = set (string_bytes x.name) (term_of e)
+command_step (TypedStmt-F.SetElement x low high i e) = set_part (string_bytes x.name) low high (term_of i) (term_of e)
 command_step (TypedStmt-F.If b v) = choose (all_choices b.items no_choice) (then_all v.items done)
 command_step (TypedStmt-F.Case e a v) = match_on (term_of e) (all_cases a.items no_case) (then_all v.items done)
 command_step (TypedStmt-F.For k v) = counted_command (counting_of k) (then_all v.items done)

@@ -39,8 +39,8 @@ joined x (l ∷ ls) = joined (double l.0 l.1 x l.2) ls
 
 abbrev pub term_step : TypedExpr-F Term Tail → Term
 term_step (TypedExpr-F.Constant n) = constant n
-term_step (TypedExpr-F.Read x) = read (string_bytes x)
-term_step (TypedExpr-F.Element x low high b) = part (string_bytes x) low high b.value
+term_step (TypedExpr-F.Read x) = read (string_bytes x.name)
+term_step (TypedExpr-F.Element x low high b) = part (string_bytes x.name) low high b.value
 term_step (TypedExpr-F.Unary f a b) = single f a b.value
 term_step (TypedExpr-F.Chain b v) = joined b.value v.items
 

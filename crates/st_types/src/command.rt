@@ -1,6 +1,6 @@
 //! Typed statements.
 
-use crate::term::TypedExpr;
+use crate::term::{TypedExpr, VariableName};
 use fb_words::ElemType;
 
 /// A statement whose expressions have types: IEC 61131-3 edition 3, 7.3.3.
@@ -8,9 +8,9 @@ use fb_words::ElemType;
 #[cycle(command)]
 pub enum TypedStmt {
     /// A variable and its new value.
-    Set(String, TypedExpr),
+    Set(VariableName, TypedExpr),
     /// An array, its lowest and its highest index, the index, and the element's new value.
-    SetElement(String, i64, i64, TypedExpr, TypedExpr),
+    SetElement(VariableName, i64, i64, TypedExpr, TypedExpr),
     /// IF: its conditions, and what is done where none holds.
     If(Vec<TypedBranch>, Vec<TypedStmt>),
     /// CASE: the selector, the arms, and what is done where no label has its value.
@@ -22,7 +22,7 @@ pub enum TypedStmt {
 /// How a FOR counts.
 #[derive(Drop)]
 pub struct Counting {
-    pub variable: String,
+    pub variable: VariableName,
     pub of_type: ElemType,
     pub first: TypedExpr,
     pub last: TypedExpr,

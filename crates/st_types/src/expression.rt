@@ -15,7 +15,7 @@ use crate::operand::{
     Operand, constant, integer, linked, loosely_linked, operands_type, taken, truth,
 };
 use crate::operation::{arity, called, gives, stays_free};
-use crate::scope::{Scope, Variable, find};
+use crate::scope::{Scope, Variable, find, named};
 use crate::term::{Loose, TypedExpr};
 use fb_tree::{Constant, Expr, Link, Literal, Name};
 use fb_words::{ElemType, Operation};
@@ -198,7 +198,7 @@ fn value(name: &Name, variable: Variable) -> Result<Operand, TypingFault>
     ensures { Gives operand_of result (Ok (book.value_of (word_of name.now).text (symbol_of (word_of name.now).text variable))) }
 {
     match variable.bounds {
-        None => Ok(Operand::Fixed(variable.of_type, TypedExpr::Read(name.text.clone()?))),
+        None => Ok(Operand::Fixed(variable.of_type, TypedExpr::Read(named(name, variable)?))),
         Some(_) => Ok(Operand::Whole),
     }
 }
@@ -218,7 +218,7 @@ fn element(
             let (_, index) = integer(alloc, at, index)?;
             Ok(Operand::Fixed(
                 variable.of_type,
-                TypedExpr::Element(name.text.clone()?, low, high, Box::new(alloc, index)?),
+                TypedExpr::Element(named(name, variable)?, low, high, Box::new(alloc, index)?),
             ))
         }
     }

@@ -18,7 +18,7 @@ pub use command::{Counting, TypedArm, TypedBranch, TypedStmt};
 pub use expression::signed;
 pub use fault::TypingFault;
 pub use scope::{Scope, Variable};
-pub use term::{TypedExpr, TypedLink};
+pub use term::{TypedExpr, TypedLink, VariableName};
 pub use types::widens;
 pub use whole::{
     Algo, one_algorithm, one_term, refusals_are_true, resolve_algorithm, resolve_condition,

@@ -15,7 +15,7 @@ use crate::command::{Counting, TypedArm, TypedBranch, TypedStmt};
 use crate::expression::{asked, condition, known, signed, typed};
 use crate::fault::TypingFault;
 use crate::operand::integer;
-use crate::scope::{Scope, Variable};
+use crate::scope::{Scope, Variable, named};
 use crate::types::is_integer;
 use fb_tree::{Arm, Bound, Branch, Constant, Expr, Label, Literal, Name, Stmt};
 use fb_words::ElemType;
@@ -162,7 +162,7 @@ fn assignment(
     let variable = assignable(scope, busy, name)?;
     let of = scalar(name, at, variable)?;
     let value = asked(alloc, scope, of, at, value)?;
-    Ok(TypedStmt::Set(name.text.clone()?, value))
+    Ok(TypedStmt::Set(named(name, variable)?, value))
 }
 
 fn bounds(name: &Name, at: usize, variable: Variable) -> Result<(i64, i64), TypingFault>
@@ -189,7 +189,7 @@ fn element(
     let operand = typed(alloc, scope, target.index)?;
     let (_, index) = integer(alloc, target.bracket, operand)?;
     let value = asked(alloc, scope, variable.of_type, at, value)?;
-    Ok(TypedStmt::SetElement(target.name.text.clone()?, low, high, index, value))
+    Ok(TypedStmt::SetElement(named(target.name, variable)?, low, high, index, value))
 }
 
 // How a FOR counts.
@@ -208,7 +208,7 @@ fn counting(
     let last = asked(alloc, scope, of_type, head.at, &head.last.value)?;
     let step = step(of_type, head.by)?;
     Ok(Counting {
-        variable: head.name.text.clone()?,
+        variable: named(head.name, variable)?,
         of_type,
         first,
         last,

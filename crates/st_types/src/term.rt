@@ -1,6 +1,25 @@
 //! Typed expressions.
 
+ghost use Rattle.std.specs.Prelude.{◌≡◌, string_bytes};
+
 use fb_words::{ElemType, Operation};
+
+/// A variable that an expression or a statement names.
+#[derive(Drop)]
+pub struct VariableName {
+    pub name: String,
+    /// Where it stands among the variables of its block, from 0. A hint where to look for it first: no view shows it.
+    pub number: usize,
+}
+
+impl VariableName {
+    /// The name.
+    pub fn as_str(&self) -> &str
+        ensures { result.now ≡ string_bytes self.now.name }
+    {
+        self.name.as_str()
+    }
+}
 
 /// An expression whose operations have types: IEC 61131-3 edition 3, 7.3.2.
 #[derive(Drop)]
@@ -9,9 +28,9 @@ pub enum TypedExpr {
     /// A number, or a truth value as 0 or 1.
     Constant(i64),
     /// The variable of a name.
-    Read(String),
+    Read(VariableName),
     /// An element of the array of a name, with the lowest and the highest index, and the index.
-    Element(String, i64, i64, Box<TypedExpr>),
+    Element(VariableName, i64, i64, Box<TypedExpr>),
     /// An operation on one operand, which has the type.
     Unary(Operation, ElemType, Box<TypedExpr>),
     /// A first operand, and operations that group to the left.
