@@ -24,6 +24,7 @@ use crate::weights::weight;
 use fb_cert::Certificate;
 use fb_check_ranges::leaves_of;
 use fb_flat::{Body, Flat, FlatDevice, Leaf};
+use fb_types_services::points::ARRIVE;
 use fb_types_services::{Channel, Service};
 use fb_words::Format;
 use std::alloc::Global;
@@ -56,7 +57,7 @@ fn cost(
     ensures value { IfOk result (λ s. IsSum s (admitted repeats (channel_of channel.now) * weight_of Far certificate.now path.now arrive)) }
     ensures refused { IfErr result IsMemory }
 {
-    let far = weight(alloc, certificate, Column::Far, path, "ARRIVE")?;
+    let far = weight(alloc, certificate, Column::Far, path, ARRIVE)?;
     Ok(u64::from(times(repeats, channel)).checked_mul(far))
 }
 

@@ -17,13 +17,14 @@ use crate::weights::{loads_named, weighed, weight};
 use fb_cert::Certificate;
 use fb_flat::Output;
 use fb_types_services::Service;
+use fb_types_services::points::INIT;
 use std::alloc::Global;
 
 // What a datagram of a channel has to be paid, which each event input but INIT sends.
 fn datagram(certificate: &Certificate, column: Column, number: u16, event: &str) -> u64
     ensures { result ≡ (if bytes_eq event.now init then 0 else (column_of column (certificate_of certificate.now)).sending number) }
 {
-    if event == "INIT" {
+    if event == INIT {
         return 0;
     }
     column.sending(certificate, number)

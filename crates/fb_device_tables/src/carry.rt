@@ -7,6 +7,7 @@ ghost use Rattle.fb_types_services.specs.Views.{service_of};
 ghost use Rattle.fb_device_tables.specs.Filling.{IsSmall};
 
 use fb_types_services::Service;
+use fb_types_services::points::{ARRIVE, DT, IND, QI, QO, REQ, START};
 use std::alloc::{AllocError, Global};
 
 // One name.
@@ -30,22 +31,22 @@ pub(crate) fn taken(
         Service::Input(_, _) | Service::Restart => Ok(Vec::new(alloc)),
         Service::Output(_, _) => service.inputs(alloc),
         Service::Publish(_, _) => {
-            if event == "REQ" {
+            if event == REQ {
                 service.inputs(alloc)
             } else {
-                one(alloc, "QI")
+                one(alloc, QI)
             }
         }
         Service::Subscribe(_, _) => {
-            if event == "ARRIVE" {
+            if event == ARRIVE {
                 Ok(Vec::new(alloc))
             } else {
-                one(alloc, "QI")
+                one(alloc, QI)
             }
         }
         Service::Delay | Service::Cycle => {
-            if event == "START" {
-                one(alloc, "DT")
+            if event == START {
+                one(alloc, DT)
             } else {
                 Ok(Vec::new(alloc))
             }
@@ -63,12 +64,12 @@ pub(crate) fn given(
 {
     match service {
         Service::Input(_, _) => service.outputs(alloc),
-        Service::Publish(_, _) => one(alloc, "QO"),
+        Service::Publish(_, _) => one(alloc, QO),
         Service::Subscribe(_, _) => {
-            if event == "IND" {
+            if event == IND {
                 service.outputs(alloc)
             } else {
-                one(alloc, "QO")
+                one(alloc, QO)
             }
         }
         Service::Output(_, _) | Service::Delay | Service::Cycle | Service::Restart => {

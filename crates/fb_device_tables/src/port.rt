@@ -11,6 +11,7 @@ use crate::seat::Seat;
 use fb_chart::Ports;
 use fb_flat::Body;
 use fb_types_services::Service;
+use fb_types_services::points::{DT, QI, QO};
 use st_exec::Layout;
 use std::alloc::{AllocError, Global};
 
@@ -74,9 +75,9 @@ fn served(alloc: Global, own: &Layout, service: &Service) -> Result<Ports, Alloc
     ensures { IsSmall (service_of service.now) → IfOk result (λ p. ArePorts (service_of service.now) own.now p) }
 {
     Ok(Ports {
-        quality_in: own.plain_slot("QI"),
-        quality_out: own.plain_slot("QO"),
-        time: own.plain_slot("DT"),
+        quality_in: own.plain_slot(QI),
+        quality_out: own.plain_slot(QO),
+        time: own.plain_slot(DT),
         sent: sent(alloc, own, service)?,
         received: received(alloc, own, service)?,
     })

@@ -15,6 +15,7 @@ use crate::seat::Seat;
 use fb_chart::{Output, Point};
 use fb_flat::{Body, Target};
 use fb_types_services::Service;
+use fb_types_services::points::{INIT, RSP, START, STOP};
 use indexmap::IndexSet;
 use std::alloc::{AllocError, Global};
 
@@ -44,9 +45,9 @@ fn served(service: &Service, name: &str) -> u16
 {
     match service {
         Service::Input(_, _) | Service::Output(_, _) | Service::Restart => 0,
-        Service::Publish(_, _) => of_two(name, "INIT"),
-        Service::Subscribe(_, _) => of_three(name, "INIT", "RSP"),
-        Service::Delay | Service::Cycle => of_three(name, "START", "STOP"),
+        Service::Publish(_, _) => of_two(name, INIT),
+        Service::Subscribe(_, _) => of_three(name, INIT, RSP),
+        Service::Delay | Service::Cycle => of_three(name, START, STOP),
     }
 }
 

@@ -14,6 +14,7 @@ use crate::numbered::Numbering;
 use crate::right::Right;
 use fb_flat::{Body, Leaf};
 use fb_types_services::Service;
+use fb_types_services::points::ARRIVE;
 use fb_words::Format;
 use std::alloc::{AllocError, Global};
 
@@ -76,7 +77,7 @@ fn add_heard(
     if count == 0 {
         return Ok(());
     }
-    let arrival = numbering.event(alloc, leaf.path.as_str(), "ARRIVE")?;
+    let arrival = numbering.event(alloc, leaf.path.as_str(), ARRIVE)?;
     add_times(arrival, count, terms)
 }
 

@@ -14,6 +14,7 @@ use crate::chart::least_right;
 use crate::right::Right;
 use crate::scene::{Scene, add_reached, added};
 use fb_types_services::Service;
+use fb_types_services::points::INIT;
 use std::alloc::AllocError;
 
 // What a datagram of a channel asks for, which each event input but INIT sends.
@@ -21,7 +22,7 @@ fn datagram(scene: &Scene, number: u16, event: &str) -> Result<Vec<usize>, Alloc
     ensures { IfOk result (λ v. v.items ≡ map (numbers_of scene.now.numbering.now) (if bytes_eq event.now init then [] else datagram_of scene.now.follows number)) }
 {
     let mut terms = Vec::new(scene.alloc);
-    if event == "INIT" {
+    if event == INIT {
         return Ok(terms);
     }
     if !scene.follows {

@@ -1,6 +1,6 @@
 //! What services take and give.
 
-ghost use Rattle.std.specs.Prelude.{◌≡◌, ◌++◌, ℕ, codes};
+ghost use Rattle.std.specs.Prelude.{◌≡◌, ◌++◌, ℕ, codes, map};
 ghost use Rattle.std.specs.Option.{option_map};
 ghost use Rattle.std.specs.Str.{bytes_eq};
 ghost use Rattle.fb_model.specs.Names.{is_in};
@@ -8,6 +8,7 @@ ghost use Rattle.fb_model.specs.NetworkTyping.{variable_named};
 ghost use Rattle.fb_model.specs.Services.{digits, ports, received, sent, service_inputs, service_outputs, service_event_inputs, service_event_outputs};
 ghost use Rattle.fb_types_services.specs.Views.{service_of, typed_as};
 
+use crate::points::{DT, QI, QO, RD, SD};
 use crate::service::Service;
 use fb_words::ElemType;
 
@@ -37,32 +38,31 @@ fn port(types: &[ElemType], prefix: &str, name: &str) -> Option<ElemType>
     None
 }
 
+// Whether this name is in a list.
+fn lists(names: &[&str], name: &str) -> bool
+    ensures { result ≡ is_in name.now (map (λ s. s.now) names.now) }
+{
+    for one in names {
+        if name == *one {
+            return true;
+        }
+    }
+    false
+}
+
 impl Service {
     /// Whether the service has an event input of this name.
     pub fn has_event_input(&self, name: &str) -> bool
         ensures { result ≡ is_in name.now (service_event_inputs (service_of self.now)) }
     {
-        match self {
-            Service::Input(_, _) | Service::Restart => false,
-            Service::Output(_, _) => name == "REQ",
-            Service::Publish(_, _) => name == "INIT" || name == "REQ",
-            Service::Subscribe(_, _) => name == "INIT" || name == "RSP",
-            Service::Delay | Service::Cycle => name == "START" || name == "STOP",
-        }
+        lists(self.event_inputs(), name)
     }
 
     /// Whether the service has an event output of this name.
     pub fn has_event_output(&self, name: &str) -> bool
         ensures { result ≡ is_in name.now (service_event_outputs (service_of self.now)) }
     {
-        match self {
-            Service::Input(_, _) => name == "IND",
-            Service::Output(_, _) => false,
-            Service::Publish(_, _) => name == "INITO" || name == "CNF",
-            Service::Subscribe(_, _) => name == "INITO" || name == "IND",
-            Service::Delay | Service::Cycle => name == "EO",
-            Service::Restart => name == "COLD",
-        }
+        lists(self.event_outputs(), name)
     }
 
     /// The type of the data input of this name.
@@ -71,16 +71,16 @@ impl Service {
     {
         match self {
             Service::Input(_, _) | Service::Restart => None,
-            Service::Output(_, types) => port(types, "SD_", name),
+            Service::Output(_, types) => port(types, SD, name),
             Service::Publish(_, types) => {
-                if name == "QI" {
+                if name == QI {
                     Some(ElemType::Bool)
                 } else {
-                    port(types, "SD_", name)
+                    port(types, SD, name)
                 }
             }
-            Service::Subscribe(_, _) => (name == "QI").then_some(ElemType::Bool),
-            Service::Delay | Service::Cycle => (name == "DT").then_some(ElemType::Time),
+            Service::Subscribe(_, _) => (name == QI).then_some(ElemType::Bool),
+            Service::Delay | Service::Cycle => (name == DT).then_some(ElemType::Time),
         }
     }
 
@@ -89,13 +89,13 @@ impl Service {
         ensures { typed_as result (variable_named (service_outputs (service_of self.now)) name.now) }
     {
         match self {
-            Service::Input(_, types) => port(types, "RD_", name),
-            Service::Publish(_, _) => (name == "QO").then_some(ElemType::Bool),
+            Service::Input(_, types) => port(types, RD, name),
+            Service::Publish(_, _) => (name == QO).then_some(ElemType::Bool),
             Service::Subscribe(_, types) => {
-                if name == "QO" {
+                if name == QO {
                     Some(ElemType::Bool)
                 } else {
-                    port(types, "RD_", name)
+                    port(types, RD, name)
                 }
             }
             Service::Output(_, _) | Service::Delay | Service::Cycle | Service::Restart => None,

@@ -6,6 +6,7 @@ mod declared;
 mod interface;
 mod names;
 mod number;
+pub mod points;
 mod service;
 
 pub use declared::{bare, served};

@@ -6,6 +6,10 @@ ghost use Rattle.fb_model.specs.Store.{variable_names};
 ghost use Rattle.fb_model.specs.Services.{digits, ports, sent, received, service_inputs, service_outputs, service_events, service_event_inputs, service_event_outputs, arrivals, can_emit};
 ghost use Rattle.fb_types_services.specs.Views.{service_of, values_of, listed};
 
+use crate::points::{
+    ARRIVE, BEGIN, CNF, COLD, DT, EO, EXPIRE, IND, INIT, INITO, QI, QO, RD, REQ, RSP, SD, START,
+    STOP,
+};
 use crate::service::Service;
 use fb_words::ElemType;
 use std::alloc::{AllocError, Global};
@@ -17,10 +21,10 @@ impl Service {
     {
         match self {
             Service::Input(_, _) | Service::Restart => &[],
-            Service::Output(_, _) => &["REQ"],
-            Service::Publish(_, _) => &["INIT", "REQ"],
-            Service::Subscribe(_, _) => &["INIT", "RSP"],
-            Service::Delay | Service::Cycle => &["START", "STOP"],
+            Service::Output(_, _) => &[REQ],
+            Service::Publish(_, _) => &[INIT, REQ],
+            Service::Subscribe(_, _) => &[INIT, RSP],
+            Service::Delay | Service::Cycle => &[START, STOP],
         }
     }
 
@@ -29,12 +33,12 @@ impl Service {
         ensures { map (λ s. s.now) result.now ≡ service_event_outputs (service_of self.now) }
     {
         match self {
-            Service::Input(_, _) => &["IND"],
+            Service::Input(_, _) => &[IND],
             Service::Output(_, _) => &[],
-            Service::Publish(_, _) => &["INITO", "CNF"],
-            Service::Subscribe(_, _) => &["INITO", "IND"],
-            Service::Delay | Service::Cycle => &["EO"],
-            Service::Restart => &["COLD"],
+            Service::Publish(_, _) => &[INITO, CNF],
+            Service::Subscribe(_, _) => &[INITO, IND],
+            Service::Delay | Service::Cycle => &[EO],
+            Service::Restart => &[COLD],
         }
     }
 
@@ -43,10 +47,10 @@ impl Service {
         ensures { listed result ≡ arrivals (service_of self.now) }
     {
         match self {
-            Service::Input(_, _) | Service::Subscribe(_, _) => Some("ARRIVE"),
+            Service::Input(_, _) | Service::Subscribe(_, _) => Some(ARRIVE),
             Service::Output(_, _) | Service::Publish(_, _) => None,
-            Service::Delay | Service::Cycle => Some("EXPIRE"),
-            Service::Restart => Some("BEGIN"),
+            Service::Delay | Service::Cycle => Some(EXPIRE),
+            Service::Restart => Some(BEGIN),
         }
     }
 
@@ -55,26 +59,20 @@ impl Service {
         ensures { map (λ s. s.now) result.now ≡ can_emit (service_of self.now) event.now }
     {
         match self {
-            Service::Input(_, _) => &["IND"],
+            Service::Input(_, _) => &[IND],
             Service::Output(_, _) => &[],
-            Service::Publish(_, _) => {
-                if event == "INIT" {
-                    &["INITO"]
-                } else {
-                    &["CNF"]
-                }
-            }
+            Service::Publish(_, _) => { if event == INIT { &[INITO] } else { &[CNF] } }
             Service::Subscribe(_, _) => {
-                if event == "INIT" {
-                    &["INITO"]
-                } else if event == "RSP" {
+                if event == INIT {
+                    &[INITO]
+                } else if event == RSP {
                     &[]
                 } else {
-                    &["IND"]
+                    &[IND]
                 }
             }
-            Service::Delay | Service::Cycle => { if event == "EXPIRE" { &["EO"] } else { &[] } }
-            Service::Restart => &["COLD"],
+            Service::Delay | Service::Cycle => { if event == EXPIRE { &[EO] } else { &[] } }
+            Service::Restart => &[COLD],
         }
     }
 }
@@ -129,13 +127,13 @@ impl Service {
         let mut names = Vec::new(alloc);
         match self {
             Service::Input(_, _) | Service::Restart => {}
-            Service::Output(_, types) => add_ports(alloc, &mut names, "SD_", types)?,
+            Service::Output(_, types) => add_ports(alloc, &mut names, SD, types)?,
             Service::Publish(_, types) => {
-                names.push(String::from_str(alloc, "QI")?)?;
-                add_ports(alloc, &mut names, "SD_", types)?;
+                names.push(String::from_str(alloc, QI)?)?;
+                add_ports(alloc, &mut names, SD, types)?;
             }
-            Service::Subscribe(_, _) => names.push(String::from_str(alloc, "QI")?)?,
-            Service::Delay | Service::Cycle => names.push(String::from_str(alloc, "DT")?)?,
+            Service::Subscribe(_, _) => names.push(String::from_str(alloc, QI)?)?,
+            Service::Delay | Service::Cycle => names.push(String::from_str(alloc, DT)?)?,
         }
         Ok(names)
     }
@@ -146,11 +144,11 @@ impl Service {
     {
         let mut names = Vec::new(alloc);
         match self {
-            Service::Input(_, types) => add_ports(alloc, &mut names, "RD_", types)?,
-            Service::Publish(_, _) => names.push(String::from_str(alloc, "QO")?)?,
+            Service::Input(_, types) => add_ports(alloc, &mut names, RD, types)?,
+            Service::Publish(_, _) => names.push(String::from_str(alloc, QO)?)?,
             Service::Subscribe(_, types) => {
-                names.push(String::from_str(alloc, "QO")?)?;
-                add_ports(alloc, &mut names, "RD_", types)?;
+                names.push(String::from_str(alloc, QO)?)?;
+                add_ports(alloc, &mut names, RD, types)?;
             }
             Service::Output(_, _) | Service::Delay | Service::Cycle | Service::Restart => {}
         }

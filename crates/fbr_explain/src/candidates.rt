@@ -2,6 +2,7 @@
 
 use crate::wanted::Wanted;
 use fb_tree::{BlockTree, BodyTree, ChartTree, EventTree, InstanceTree, Name, VariableTree};
+use fb_types_services::points::{RD, SD};
 use std::alloc::{AllocError, Global};
 
 /// Adds a name.
@@ -36,8 +37,8 @@ pub fn add_values(
     names: &mut Vec<String>,
 ) -> Result<(), AllocError> {
     let prefix = match (instance.of_type.text.as_str(), wanted) {
-        ("OUTPUT" | "PUBLISH", Wanted::Input) => "SD_",
-        ("INPUT" | "SUBSCRIBE", Wanted::Output) => "RD_",
+        ("OUTPUT" | "PUBLISH", Wanted::Input) => SD,
+        ("INPUT" | "SUBSCRIBE", Wanted::Output) => RD,
         _ => return Ok(()),
     };
     if let Some(types) = &instance.types {
