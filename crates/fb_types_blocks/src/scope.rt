@@ -22,11 +22,12 @@ fn enlarge(scope: &mut Scope, variables: &Variables, writable: bool) -> Result<(
         let Some((name, variable)) = variables.get_index(index) else {
             unreachable!()
         };
+        let number = scope.len();
         let entry = Variable {
             of_type: variable.of_type,
             bounds: variable.bounds,
             writable,
-            number: scope.len(),
+            number,
         };
         add(scope, name, entry)?;
     }

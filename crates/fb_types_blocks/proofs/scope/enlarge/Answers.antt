@@ -25,7 +25,7 @@ loop-index-preserved c =
     let l = c.loop-index in
     let m = l.scope in
     let rest = map (λ p. declared_of (string_bytes p.0) p.1) (drop (l.index + 1) es) in
-    let x : Variable = record { of_type = v.of_type; bounds = v.bounds; writable = w } in
+    let x : Variable = record { of_type = v.of_type; bounds = v.bounds; writable = w; number = c.len-number.result } in
     let step = drop_got es l.index (c.in-Some.name.now, v) (sym c.in-Some.ensures.entry) in
     let names : names_in_map c.add.new.entries ≡ names_in_map m ++ n ∷ [] = seen (λ n w. n) m.entries c.add.new.entries.entries n x c.in_ok-add.ensures in
     let added : entries c.add.new.entries ≡ entries m ++ symbol_of w (declared_of n v) ∷ [] = seen seen_as m.entries c.add.new.entries.entries n x c.in_ok-add.ensures in
