@@ -33,13 +33,14 @@ fn cost(
     algorithm: &Algo,
     rows: &Ranges,
     work: &mut Ranges,
+    asked: &mut Ranges,
 ) -> Result<Option<u64>, Shortfall>
     requires { spans_of work.old ≡ spans_of rows.now }
     ensures value { IsClearAlgorithm (spans_of rows.now) (commands_of algorithm.now.statements.items) → IfOk result (λ s. IsSum s (cost (spans_of rows.now) (commands_of algorithm.now.statements.items))) }
     ensures refused { IfErr result IsMemory }
     ensures rest { OnOk result (spans_of work.new ≡ spans_of rows.now) }
 {
-    Ok(max_steps(alloc, algorithm, rows, work)?)
+    Ok(max_steps(alloc, algorithm, rows, work, asked)?)
 }
 
 /// The same of each algorithm, in their order.
@@ -52,12 +53,13 @@ pub(crate) fn costs(
     ensures refused { IfErr result IsMemory }
 {
     let mut work = copied(rows)?;
+    let mut asked = copied(rows)?;
     let mut costs = Vec::new(alloc);
     for index in 0..procedures.len() {
         let Some((_, algorithm)) = procedures.get_index(index) else {
             return Ok(costs);
         };
-        costs.push(cost(alloc, algorithm, rows, &mut work)?)?;
+        costs.push(cost(alloc, algorithm, rows, &mut work, &mut asked)?)?;
     }
     Ok(costs)
 }

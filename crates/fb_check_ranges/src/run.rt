@@ -21,6 +21,7 @@ fn algorithm_clear(
     path: &str,
     rows: &Ranges,
     work: &mut Ranges,
+    asked: &mut Ranges,
     name: &str,
     algo: &Algo,
 ) -> Result<(), Unclear>
@@ -28,7 +29,7 @@ fn algorithm_clear(
     ensures answer { Names path.now name.now (IsClearAlgorithm (spans_of rows.now) (commands_of algo.now.statements.items)) (AlgorithmFails (spans_of rows.now) (commands_of algo.now.statements.items)) result }
     ensures rest { OnOk result (spans_of work.new ≡ spans_of rows.now) }
 {
-    match check_algorithm(alloc, algo, rows, work) {
+    match check_algorithm(alloc, algo, rows, work, asked) {
         Ok(()) => Ok(()),
         Err(RangeFault::Leaves) => Err(Unclear::Kept(joined(alloc, path, name)?)),
         Err(RangeFault::Traps) => Err(Unclear::IndexOrDivisor(joined(alloc, path, name)?)),
@@ -46,11 +47,20 @@ pub(crate) fn algorithms_clear(
     ensures { NamesOne path.now procedure_name (λ p. IsClearAlgorithm (spans_of rows.now) (procedure_text p)) (λ p. AlgorithmFails (spans_of rows.now) (procedure_text p)) procedures.now.entries result }
 {
     let mut work = copied(rows)?;
+    let mut asked = copied(rows)?;
     for index in 0..procedures.len() {
         let Some((name, algo)) = procedures.get_index(index) else {
             return Ok(());
         };
-        algorithm_clear(alloc, path, rows, &mut work, name.as_str(), algo)?;
+        algorithm_clear(
+            alloc,
+            path,
+            rows,
+            &mut work,
+            &mut asked,
+            name.as_str(),
+            algo,
+        )?;
     }
     Ok(())
 }

@@ -25,12 +25,13 @@ fn price(
     algorithm: &Algo,
     ranges: &Ranges,
     work: &mut Ranges,
+    asked: &mut Ranges,
 ) -> Result<u64, AllocError>
     requires { spans_of work.old ≡ spans_of ranges.now }
     ensures answer { IfOk result (λ n. n ≡ most (Some (spans_of ranges.now)) (commands_of algorithm.now.statements.items)) }
     ensures rest { OnOk result (spans_of work.new ≡ spans_of ranges.now) }
 {
-    match max_steps(alloc, algorithm, ranges, work) {
+    match max_steps(alloc, algorithm, ranges, work, asked) {
         Ok(Some(steps)) => Ok(steps),
         Ok(None) => Ok(MANY),
         Err(_) => Err(AllocError),
@@ -46,12 +47,13 @@ fn known_prices(
     ensures { IfOk result (λ v. v.items ≡ prices (Some (spans_of ranges.now)) (procedures_of procedures.now)) }
 {
     let mut work = copied(ranges)?;
+    let mut asked = copied(ranges)?;
     let mut prices = Vec::new(alloc);
     for index in 0..procedures.len() {
         let Some((_, algorithm)) = procedures.get_index(index) else {
             return Ok(prices);
         };
-        prices.push(price(alloc, algorithm, ranges, &mut work)?)?;
+        prices.push(price(alloc, algorithm, ranges, &mut work, &mut asked)?)?;
     }
     Ok(prices)
 }

@@ -38,6 +38,7 @@ fn row_first<'a>(
     inputs: &Variables,
     name: &'a str,
     variable: &Variable,
+    number: usize,
 ) -> Row<'a>
     ensures { line_of result ≡ line_by (first_from (variables_of inputs.now) (source_at sources.now)) (variable_of (declared_of name.now variable.now)) }
 {
@@ -50,6 +51,7 @@ fn row_first<'a>(
         name,
         of_type,
         range,
+        number,
     }
 }
 
@@ -66,7 +68,8 @@ fn add_rows<'a>(
         let Some((name, variable)) = variables.get_index(index) else {
             return Ok(());
         };
-        rows.push(row_first(sources, inputs, name.as_str(), variable))?;
+        let number = rows.len();
+        rows.push(row_first(sources, inputs, name.as_str(), variable, number))?;
     }
     Ok(())
 }

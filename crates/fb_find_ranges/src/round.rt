@@ -28,13 +28,17 @@ fn next_row<'a>(
     ensures { line_of result ≡ next_line round (map tabled_in leaves.now) (tabled_of leaf.now) (line_of row.entry) }
 {
     let name = row.name;
-    let worked = joined(leaf.asked.find(name), leaf.ranges.find(name));
+    let worked = joined(
+        leaf.asked.find_near(name, row.number),
+        leaf.ranges.find_near(name, row.number),
+    );
     let source = source_named(leaf.leaf.inputs.as_slice(), name);
     let asked = fed(near, leaves, source, worked);
     Row {
         name,
         of_type: row.of_type,
         range: stepped(round, row.of_type, row.range, asked),
+        number: row.number,
     }
 }
 

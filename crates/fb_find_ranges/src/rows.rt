@@ -12,10 +12,12 @@ pub(crate) struct Row<'a> {
     pub(crate) name: &'a str,
     pub(crate) of_type: ElemType,
     pub(crate) range: Interval,
+    /// Where it stands among the variables of its leaf, from 0: a hint where to look for it, which no view shows.
+    pub(crate) number: usize,
 }
 
-/// A leaf, the number of one before it with the same block (or its own), the rows of its variables in order (inputs, outputs, internal ones; a service has none) and by their names, and what its
-/// algorithms ask under these. Leaves whose blocks and rows are alike share both tables.
+/// A leaf, the number of one before it with the same block (or its own), the rows of its variables in order (inputs, outputs, internal ones; a service
+/// has none) and by their names, and what its algorithms ask under these. Leaves whose blocks and rows are alike share both tables.
 #[derive(Drop)]
 pub(crate) struct LeafRows<'a> {
     pub(crate) leaf: &'a Leaf,

@@ -4,7 +4,7 @@ use crate::walk::walk;
 use crate::way::{Scene, Way, first_way};
 use fb_ranges::{Ranges, reset};
 use fb_ranges_intervals::{Interval, joined};
-use st_types::Algo;
+use st_types::{Algo, VariableName};
 use std::alloc::AllocError;
 
 /// A range is asked to hold another too.
@@ -16,7 +16,7 @@ pub(crate) fn ask(name: &str, range: Interval, asked: &mut Ranges) -> Result<(),
 /// The ranges of these variables are asked to hold what they were given on a way, and they have their rows.
 pub(crate) fn settle(
     scene: Scene<'_>,
-    names: &[String],
+    names: &[&VariableName],
     way: &mut Way,
     asked: &mut Ranges,
 ) -> Result<(), AllocError> {

@@ -88,8 +88,8 @@ pub(crate) fn value(expr: &TypedExpr, ranges: &Ranges) -> Interval {
             low: *number,
             high: *number,
         },
-        TypedExpr::Read(name) => ranges.find(name.as_str()),
-        TypedExpr::Element(name, _, _, _) => ranges.find(name.as_str()),
+        TypedExpr::Read(name) => ranges.find_at(name),
+        TypedExpr::Element(name, _, _, _) => ranges.find_at(name),
         TypedExpr::Unary(operation, of, operand) => {
             applied(*operation, *of, value(operand, ranges))
         }

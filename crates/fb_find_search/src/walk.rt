@@ -33,7 +33,7 @@ fn walk_one(
     match statement {
         TypedStmt::Set(name, expr) => {
             let value = value(expr, &way.ranges);
-            give(&name.name, value, way)
+            give(name, value, way)
         }
         TypedStmt::SetElement(name, _, _, _, expr) => {
             ask(name.as_str(), value(expr, &way.ranges), asked)
@@ -116,11 +116,11 @@ fn walk_for(
     }
     let names = names_assigned(scene.alloc, body)?;
     settle(scene, &names, way, asked)?;
-    let before = way.ranges.find(counting.variable.as_str());
+    let before = way.ranges.find_at(&counting.variable);
     let own = taken(first, last, counting.step, iterations);
-    give(&counting.variable.name, own, way)?;
+    give(&counting.variable, own, way)?;
     walk(scene, body, way, asked)?;
     settle(scene, &names, way, asked)?;
     let left = left_with(first, last, counting.step, iterations, before);
-    give(&counting.variable.name, left, way)
+    give(&counting.variable, left, way)
 }

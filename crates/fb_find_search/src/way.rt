@@ -3,7 +3,7 @@
 use fb_ranges::{Ranges, copied, narrow};
 use fb_ranges_intervals::{Interval, joined};
 use indexmap::IndexMap;
-use st_types::TypedExpr;
+use st_types::{TypedExpr, VariableName};
 use std::alloc::{AllocError, Global};
 
 /// What algorithms are walked under: the rows of a leaf's variables, their names, and whether arms that cannot run are left out.
@@ -39,9 +39,13 @@ pub(crate) fn same_way(way: &Way) -> Result<Way, AllocError> {
 }
 
 /// A variable gets a value.
-pub(crate) fn give(name: &String, value: Interval, way: &mut Way) -> Result<(), AllocError> {
-    way.ranges.insert(name.as_str(), value)?;
-    way.given.insert(name.clone()?, value)?;
+pub(crate) fn give(
+    variable: &VariableName,
+    value: Interval,
+    way: &mut Way,
+) -> Result<(), AllocError> {
+    way.ranges.insert_at(variable, value)?;
+    way.given.insert(variable.name.clone()?, value)?;
     Ok(())
 }
 

@@ -1,8 +1,7 @@
 -- Examinations, a statement, a branch and an arm at a time.
 use Rattle.std.proofs.Common.{◌≡◌, ℕ, zero, suc, ◌+◌, ◌<◌, ℤ, List, length, drop, get_or, refl, sym, ap, ap₂, ◌∙◌, arith, rules, string_bytes}
 use Rattle.std.specs.Prelude.{OnOk, Result, Ok, Err}
-use Rattle.std.specs.declared.string.String.{String}
-use Rattle.std.specs.declared.alloc.Global.{Global}
+use Rattle.st_types.specs.declared.term.VariableName.{VariableName}
 use Rattle.fb_model.specs.Names.{Name}
 use Rattle.fb_model.specs.TypedText.{set, set_part}
 use Rattle.fb_model.specs.Spans.{Span}
@@ -27,10 +26,10 @@ on_ok (Err e) P Q f h = tt
 
 -- ---- statements
 
-pub command_set : (x : String Global) (e : TypedExpr) → command_of (Set x e) ≡ set (string_bytes x) (term_of e)
+pub command_set : (x : VariableName) (e : TypedExpr) → command_of (Set x e) ≡ set (string_bytes x.name) (term_of e)
 command_set x e = search (rules, the_lemmas)
 
-pub command_element : (x : String Global) (low high : ℤ) (i e : TypedExpr) → command_of (SetElement x low high i e) ≡ set_part (string_bytes x) low high (term_of i) (term_of e)
+pub command_element : (x : VariableName) (low high : ℤ) (i e : TypedExpr) → command_of (SetElement x low high i e) ≡ set_part (string_bytes x.name) low high (term_of i) (term_of e)
 command_element x low high i e = search (rules, the_lemmas)
 
 -- one more statement

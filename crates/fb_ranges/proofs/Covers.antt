@@ -11,9 +11,10 @@ use Rattle.fb_words.specs.declared.operator.Operator.TheVariants as o
 use Rattle.fb_words.specs.declared.operator.Operation.TheVariants.{Infix, Negate, Not, Abs, Min, Max, Limit, Convert}
 use Rattle.fb_model.specs.Names.{Name, is_in}
 use Rattle.fb_model.specs.TypedText.{Term, constant, read, part, single, double}
-use Rattle.fb_model.specs.Spans.{Span, span, joined}
+use Rattle.fb_model.specs.Spans.{Span, span, joined, within}
 use Rattle.fb_model.specs.Clear.{Spans, changed, cut, at_most, at_least, just, without, meets, opposite, mirrored, is_truth, related, narrowed}
 use Rattle.fb_model.proofs.Names.{not_first, not_front, not_back}
+use Rattle.fb_model.proofs.Results.{and_left, and_right}
 use Rattle.fb_words.proofs.Types.{le_is}
 use Rattle.fb_ranges.specs.Narrowing.{read_in}
 
@@ -34,6 +35,13 @@ joined_twice r s = ap₂ span (omega (arith, ints, clamps)) (omega (arith, ints,
 -- a range in one that lies in another
 joined_in : (r s u : Span) → joined r s ≡ r → joined s u ≡ s → joined r u ≡ r
 joined_in r s u h k = ap (λ x. joined x u) (sym h) ∙ sym (joined_again r s u) ∙ ap (joined r) k ∙ h
+
+-- it is the larger one
+pub joined_within : (r s : Span) → within r s ≡ true → joined s r ≡ s
+joined_within r s h =
+    let low = le_is s.low r.low (and_left _ _ h) in
+    let high = le_is r.high s.high (and_right (int_le s.low r.low) _ h) in
+    ap₂ span (omega (arith, ints, clamps, low)) (omega (arith, ints, clamps, high))
 
 -- ---- cuts
 

@@ -3,7 +3,6 @@ use Rattle.std.proofs.Common.{◌≡◌, ℕ, zero, suc, ◌+◌, ◌<◌, Bool,
 use Rattle.std.proofs.Math.Path.{fun_ext}
 use Rattle.std.specs.Prelude.{if◌then◌else◌, string_bytes, slice_get}
 use Rattle.std.specs.List.{AllZip}
-use Rattle.st_types.specs.CommandViews.{busy_of}
 use Rattle.std.specs.Str.{bytes_eq}
 use Rattle.std.specs.declared.string.String.{String}
 use Rattle.std.specs.declared.alloc.Global.{Global}
@@ -17,8 +16,10 @@ use Rattle.st_types.proofs.Gathering.{drop_step}
 use Rattle.fb_model_laws.specs.Asking.{asking, asking_all}
 use Rattle.fb_ranges_intervals.specs.declared.interval.Interval.{Interval}
 use Rattle.fb_ranges.specs.Meeting.{Besides}
-use Rattle.fb_ranges.specs.Views.{row_of, spans_in, names_in}
+use Rattle.fb_ranges.specs.Views.{names_in, names_of, row_of, spans_in}
 use Rattle.fb_ranges.proofs.Tables.{shown}
+use Rattle.std.specs.Borrow.{Bor}
+use Rattle.st_types.specs.declared.term.VariableName.{VariableName}
 
 or_none : (b : Bool) → (b || false) ≡ b
 or_none true = refl
@@ -106,21 +107,21 @@ next_row {A} rows i e both before now old x r is name range start put =
     ∙ ap (λ ns. reset ns both old) (sym (ap names_in (take_get rows i e is) ∙ map_push (λ (p : String Global × A). string_bytes p.0) (take i rows) e))
 
 -- the next of listed variables gets its row
-pub next_name : (names : List (String Global)) (i : ℕ) (n : String Global) (rows : Spans) (before now old : Spans) (x : Name) (r : Span)
-    → i < length names → n ≡ get_or names i n → x ≡ string_bytes n → r ≡ rows x → before ≡ reset (busy_of (take i names)) rows old → now ≡ changed x (λ s. r) before
-    → now ≡ reset (busy_of (take (i + 1) names)) rows old
+pub next_name : (names : List (Bor VariableName)) (i : ℕ) (n : Bor VariableName) (rows : Spans) (before now old : Spans) (x : Name) (r : Span)
+    → i < length names → n ≡ get_or names i n → x ≡ string_bytes n.now.name → r ≡ rows x → before ≡ reset (names_of (take i names)) rows old → now ≡ changed x (λ s. r) before
+    → now ≡ reset (names_of (take (i + 1) names)) rows old
 next_name names i n rows before now old x r lt is name range start put =
     put
     ∙ ap₂ (λ y z. changed y (λ s. z) before) name (range ∙ ap rows name)
-    ∙ ap (λ z. changed (string_bytes n) (λ s. rows (string_bytes n)) z) start
-    ∙ sym (reset_push (busy_of (take i names)) (string_bytes n) rows old)
-    ∙ ap (λ ns. reset ns rows old) (sym (ap busy_of (take_more names i n lt ∙ ap (λ m. take i names ++ m ∷ []) (sym is)) ∙ map_push string_bytes (take i names) n))
+    ∙ ap (λ z. changed (string_bytes n.now.name) (λ s. rows (string_bytes n.now.name)) z) start
+    ∙ sym (reset_push (names_of (take i names)) (string_bytes n.now.name) rows old)
+    ∙ ap (λ ns. reset ns rows old) (sym (ap names_of (take_more names i n lt ∙ ap (λ m. take i names ++ m ∷ []) (sym is)) ∙ map_push (λ (v : Bor VariableName). string_bytes v.now.name) (take i names) n))
 
 -- the row of the next of listed variables is asked to hold what it has
-pub next_ask : (names : List (String Global)) (i : ℕ) (n : String Global) (spans before now all : Spans) (x : Name) (r : Span)
-    → i < length names → n ≡ get_or names i n → x ≡ string_bytes n → r ≡ spans x → asking_all (busy_of (drop i names)) spans before ≡ all → now ≡ asking x r before
-    → asking_all (busy_of (drop (i + 1) names)) spans now ≡ all
+pub next_ask : (names : List (Bor VariableName)) (i : ℕ) (n : Bor VariableName) (spans before now all : Spans) (x : Name) (r : Span)
+    → i < length names → n ≡ get_or names i n → x ≡ string_bytes n.now.name → r ≡ spans x → asking_all (names_of (drop i names)) spans before ≡ all → now ≡ asking x r before
+    → asking_all (names_of (drop (i + 1) names)) spans now ≡ all
 next_ask names i n spans before now all x r lt is name range h put =
-    ap (asking_all (busy_of (drop (i + 1) names)) spans) (put ∙ ap₂ (λ y z. asking y z before) name (range ∙ ap spans name))
-    ∙ ap (λ (l : List (String Global)). asking_all (busy_of l) spans before) (sym (drop_step names i n lt is))
+    ap (asking_all (names_of (drop (i + 1) names)) spans) (put ∙ ap₂ (λ y z. asking y z before) name (range ∙ ap spans name))
+    ∙ ap (λ (l : List (Bor VariableName)). asking_all (names_of l) spans before) (sym (drop_step names i n lt is))
     ∙ h

@@ -1,5 +1,5 @@
 -- What stands on a side of a relation, and what the relation says.
-use Rattle.std.proofs.Common.{◌≡◌, ◌≢◌, ◌==◌, Bool, true, false, List, [], ◌∷◌, length, map, Option, None, refl, ap, ◌∙◌, Vec, vec_len, eq-eqb, arith, rules}
+use Rattle.std.proofs.Common.{◌≡◌, ◌≢◌, ◌==◌, Bool, true, false, List, [], ◌∷◌, length, map, Option, None, refl, sym, ap, ◌∙◌, Vec, vec_len, eq-eqb, arith, rules}
 use Rattle.std.proofs.Math.Path.{fun_ext}
 use Rattle.std.specs.Prelude.{if◌then◌else◌}
 use Rattle.std.specs.Str.{bytes_eq}
@@ -22,6 +22,13 @@ pub changed_known : (x : Name) (f : Span → Span) (spans : Spans) (s : Span) �
 changed_known x f spans s e = fun_ext (λ y. by y (bytes_eq x y) refl) where
   by : (y : Name) (b : Bool) → bytes_eq x y ≡ b → (if b then s else spans y) ≡ (if b then f (spans y) else spans y)
   by y true h = e ∙ ap (λ z. f (spans z)) (same_name x y h)
+  by y false h = refl
+
+-- a variable has the range that a function gives of its own already
+pub changed_same : (x : Name) (f : Span → Span) (spans : Spans) → f (spans x) ≡ spans x → spans ≡ changed x f spans
+changed_same x f spans e = fun_ext (λ y. by y (bytes_eq x y) refl) where
+  by : (y : Name) (b : Bool) → bytes_eq x y ≡ b → spans y ≡ (if b then f (spans y) else spans y)
+  by y true h = ap spans (sym (same_name x y h)) ∙ sym e ∙ ap (λ z. f (spans z)) (same_name x y h)
   by y false h = refl
 
 -- ---- chains

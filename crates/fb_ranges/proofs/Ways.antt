@@ -8,16 +8,17 @@ use Rattle.std.specs.Map.{lookup}
 use Rattle.std.specs.Str.{bytes_eq}
 use Rattle.std.specs.declared.string.String.{String}
 use Rattle.std.specs.declared.alloc.Global.{Global}
+use Rattle.std.specs.Borrow.{Bor}
+use Rattle.st_types.specs.declared.term.VariableName.{VariableName}
 use Rattle.fb_model.specs.Names.{Name, is_in}
 use Rattle.fb_model.specs.Spans.{Span, joined}
 use Rattle.fb_model.specs.Clear.{Spans, reset}
 use Rattle.fb_model.proofs.Lists.{same_name}
 use Rattle.fb_model.proofs.Names.{eq_turned}
-use Rattle.st_types.specs.CommandViews.{busy_of}
 use Rattle.fb_ranges.specs.declared.way.Reached.{Reached}
 use Rattle.fb_ranges.specs.Meeting.{Besides, Dated, Mark, joint, marked, met, ranges_after, row_after}
 use Rattle.fb_ranges_intervals.specs.Views.{span_of}
-use Rattle.fb_ranges.specs.Views.{mark_in, names_in}
+use Rattle.fb_ranges.specs.Views.{mark_in, names_in, names_of}
 use Rattle.fb_ranges.proofs.Covers.{joined_same, joined_again, joined_twice}
 use Rattle.fb_ranges.proofs.Joins.{in_push}
 
@@ -107,17 +108,17 @@ pub same_mark : (i j : ℕ) (m : Mark) (r s before end : Span) → j ≡ i → r
 same_mark i j m r s before end e f g = ap (λ k. mark (row_after k m r s) (k + 1)) e ∙ ap₂ (λ p q. mark (row_after i m p q) (i + 1)) f g
 
 -- the next of listed variables is touched
-pub next_mark : (names : List (String Global)) (k : ℕ) (n : String Global) (i : ℕ) (spans ends : Spans) (marks before now : Name → Mark) (x : Name)
-    → k < length names → n ≡ get_or names k n → x ≡ string_bytes n → ((y : Name) → before y ≡ marked i (busy_of (take k names)) spans ends marks y)
+pub next_mark : (names : List (Bor VariableName)) (k : ℕ) (n : Bor VariableName) (i : ℕ) (spans ends : Spans) (marks before now : Name → Mark) (x : Name)
+    → k < length names → n ≡ get_or names k n → x ≡ string_bytes n.now.name → ((y : Name) → before y ≡ marked i (names_of (take k names)) spans ends marks y)
     → ((y : Name) → now y ≡ (if bytes_eq x y then Some (row_after i (before x) (spans x) (ends x), i + 1) else before y))
-    → (y : Name) → now y ≡ marked i (busy_of (take (k + 1) names)) spans ends marks y
+    → (y : Name) → now y ≡ marked i (names_of (take (k + 1) names)) spans ends marks y
 next_mark names k n i spans ends marks before now x lt is name start put y =
     put y
     ∙ by (bytes_eq x y) (is_in y xs) refl refl
     ∙ sym (ap (λ b. if b then Some (row_after i (marks y) (spans y) (ends y), i + 1) else marks y)
-    (ap (is_in y) (ap busy_of (take_more names k n lt ∙ ap (λ m. take k names ++ m ∷ []) (sym is)) ∙ map_push string_bytes (take k names) n ∙ ap (λ z. xs ++ z ∷ []) (sym name)) ∙ in_push y x xs ∙ ap (λ b. is_in y xs || b) (eq_turned y x))) where
+    (ap (is_in y) (ap names_of (take_more names k n lt ∙ ap (λ m. take k names ++ m ∷ []) (sym is)) ∙ map_push (λ (v : Bor VariableName). string_bytes v.now.name) (take k names) n ∙ ap (λ z. xs ++ z ∷ []) (sym name)) ∙ in_push y x xs ∙ ap (λ b. is_in y xs || b) (eq_turned y x))) where
       xs : List Name
-      xs = busy_of (take k names)
+      xs = names_of (take k names)
 
       touch : Name → Mark → Mark
       touch z m = Some (row_after i m (spans z) (ends z), i + 1)

@@ -5,6 +5,8 @@ use Rattle.std.specs.Map.{lookup}
 use Rattle.std.specs.Str.{bytes_eq}
 use Rattle.std.specs.declared.string.String.{String}
 use Rattle.std.specs.declared.alloc.Global.{Global}
+use Rattle.std.specs.Borrow.{Bor}
+use Rattle.st_types.specs.declared.term.VariableName.{VariableName}
 use Rattle.fb_words.specs.declared.elem_type.ElemType.TheVariants as t
 use Rattle.fb_model.specs.Names.{Name}
 use Rattle.fb_model.specs.Spans.{Span, whole, range_two}
@@ -48,6 +50,10 @@ clear_range e = if e.is_clear then Some (span_of e.range) else None
 -- the variables that have a row
 abbrev pub names_in : {A : Type 0} → List (String Global × A) → List Name
 names_in rows = map (λ p. string_bytes p.0) rows
+
+-- the variables of a list
+abbrev pub names_of : List (Bor VariableName) → List Name
+names_of variables = map (λ v. string_bytes v.now.name) variables
 
 -- what the variable of a name has come to
 abbrev pub mark_in : List (String Global × Reached) → Name → Mark

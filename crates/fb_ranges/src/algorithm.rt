@@ -37,7 +37,8 @@ fn examined(
 
 /// Whether an algorithm is clear under the rows of its variables: run from values in the rows, it neither traps nor leaves them.
 ///
-/// It is examined in `work`, a copy of the rows, which is one again afterwards.
+/// It is examined in `work`, a copy of the rows, which is one again afterwards; what it asks is noted in `asked`, of which nothing is said (another
+/// copy of the rows costs least).
 ///
 /// Refused with `Traps` where a divisor may be zero or an index out of bounds, with `Leaves` where a variable may leave its row at the
 /// end or around a iteration of a FOR, or an element of an array may leave the array's row at its assignment: the first of these in the text.
@@ -47,13 +48,13 @@ pub fn check_algorithm(
     algo: &Algo,
     rows: &Ranges,
     work: &mut Ranges,
+    asked: &mut Ranges,
 ) -> Result<(), RangeFault>
     requires { spans_of work.old ≡ spans_of rows.now }
     ensures answer { IsExamined result (book.examined (spans_of rows.now) (commands_of algo.now.statements.items)) }
     ensures rest { UnlessMemory result (spans_of work.new ≡ spans_of rows.now) }
 {
-    let mut asked = Ranges::new(alloc);
-    match examined(alloc, algo, rows, work, &mut asked) {
+    match examined(alloc, algo, rows, work, asked) {
         Ok(told) => answer(told),
         Err(_) => Err(RangeFault::OutOfMemory),
     }
@@ -61,19 +62,20 @@ pub fn check_algorithm(
 
 /// The most steps of an algorithm, where it is clear under the rows of its variables and these are no more than 1,000,000,000,000.
 ///
-/// It is examined in `work`, a copy of the rows, which is one again afterwards. Where memory runs out, nothing is said of `work`.
+/// It is examined in `work`, a copy of the rows, which is one again afterwards; what it asks is noted in `asked`, of which nothing is said. Where
+/// memory runs out, nothing is said of `work`.
 pub fn max_steps(
     alloc: Global,
     algo: &Algo,
     rows: &Ranges,
     work: &mut Ranges,
+    asked: &mut Ranges,
 ) -> Result<Option<u64>, OutOfMemory>
     requires { spans_of work.old ≡ spans_of rows.now }
     ensures answer { IfOk result (λ most. most ≡ most_steps (book.examined (spans_of rows.now) (commands_of algo.now.statements.items))) }
     ensures rest { OnOk result (spans_of work.new ≡ spans_of rows.now) }
 {
-    let mut asked = Ranges::new(alloc);
-    match examined(alloc, algo, rows, work, &mut asked) {
+    match examined(alloc, algo, rows, work, asked) {
         Ok(told) => Ok(most(told)),
         Err(_) => Err(OutOfMemory),
     }

@@ -3,11 +3,12 @@
 ghost use Rattle.std.specs.Prelude.{◌≡◌, ◌++◌, ◌∷◌, [], IfOk, OnOk, string_bytes};
 ghost use Rattle.fb_model.specs.Clear as book;
 ghost use Rattle.st_types.specs.Views.{term_of};
-ghost use Rattle.st_types.specs.CommandViews.{busy_of, cases_of, choices_of, command_of, commands_of};
+ghost use Rattle.st_types.specs.CommandViews.{cases_of, choices_of, command_of, commands_of};
+ghost use Rattle.fb_ranges.specs.Views.{names_of};
 
 use crate::side::number;
 use fb_ranges_intervals::iterations;
-use st_types::{Counting, TypedArm, TypedBranch, TypedStmt};
+use st_types::{Counting, TypedArm, TypedBranch, TypedStmt, VariableName};
 use std::alloc::{AllocError, Global};
 
 // Whether a FOR between two spelled numbers has no iteration.
@@ -24,17 +25,20 @@ fn is_idle(counting: &Counting) -> bool
 }
 
 /// One more variable.
-pub(crate) fn pushed(name: &String, names: &mut Vec<String>) -> Result<(), AllocError>
-    ensures { OnOk result (busy_of names.new.items ≡ busy_of names.old.items ++ string_bytes name.now ∷ []) }
+pub(crate) fn pushed<'a>(
+    name: &'a VariableName,
+    names: &mut Vec<&'a VariableName>,
+) -> Result<(), AllocError>
+    ensures { OnOk result (names_of names.new.items ≡ names_of names.old.items ++ string_bytes name.now.name ∷ []) }
 {
-    names.push(name.clone()?)?;
+    names.push(name)?;
     Ok(())
 }
 
 /// The variables that statements assign, as they stand in the text: the own variable of each FOR too, but of one between two spelled numbers
 /// that has no iteration.
-pub fn names_assigned(alloc: Global, list: &[TypedStmt]) -> Result<Vec<String>, AllocError>
-    ensures { IfOk result (λ names. busy_of names.items ≡ book.assigned (commands_of list.now)) }
+pub fn names_assigned(alloc: Global, list: &[TypedStmt]) -> Result<Vec<&VariableName>, AllocError>
+    ensures { IfOk result (λ names. names_of names.items ≡ book.assigned (commands_of list.now)) }
 {
     let mut names = Vec::new(alloc);
     assigned(list, &mut names)?;
@@ -43,8 +47,11 @@ pub fn names_assigned(alloc: Global, list: &[TypedStmt]) -> Result<Vec<String>, 
 
 /// Adds the variables that statements assign to others.
 #[cycle(assigning)]
-pub(crate) fn assigned(list: &[TypedStmt], names: &mut Vec<String>) -> Result<(), AllocError>
-    ensures { OnOk result (busy_of names.new.items ≡ busy_of names.old.items ++ book.assigned (commands_of list.now)) }
+pub(crate) fn assigned<'a>(
+    list: &'a [TypedStmt],
+    names: &mut Vec<&'a VariableName>,
+) -> Result<(), AllocError>
+    ensures { OnOk result (names_of names.new.items ≡ names_of names.old.items ++ book.assigned (commands_of list.now)) }
 {
     for statement in list {
         assigned_one(statement, names)?;
@@ -53,8 +60,11 @@ pub(crate) fn assigned(list: &[TypedStmt], names: &mut Vec<String>) -> Result<()
 }
 
 #[cycle(assigning)]
-fn assigned_one(statement: &TypedStmt, names: &mut Vec<String>) -> Result<(), AllocError>
-    ensures { OnOk result (busy_of names.new.items ≡ busy_of names.old.items ++ book.assigned_one (command_of statement.now)) }
+fn assigned_one<'a>(
+    statement: &'a TypedStmt,
+    names: &mut Vec<&'a VariableName>,
+) -> Result<(), AllocError>
+    ensures { OnOk result (names_of names.new.items ≡ names_of names.old.items ++ book.assigned_one (command_of statement.now)) }
 {
     match statement {
         TypedStmt::Set(name, _) => pushed(name, names),
@@ -78,8 +88,11 @@ fn assigned_one(statement: &TypedStmt, names: &mut Vec<String>) -> Result<(), Al
 }
 
 #[cycle(assigning)]
-fn assigned_branches(list: &[TypedBranch], names: &mut Vec<String>) -> Result<(), AllocError>
-    ensures { OnOk result (busy_of names.new.items ≡ busy_of names.old.items ++ book.assigned_choices (choices_of list.now)) }
+fn assigned_branches<'a>(
+    list: &'a [TypedBranch],
+    names: &mut Vec<&'a VariableName>,
+) -> Result<(), AllocError>
+    ensures { OnOk result (names_of names.new.items ≡ names_of names.old.items ++ book.assigned_choices (choices_of list.now)) }
 {
     for branch in list {
         assigned(&branch.body, names)?;
@@ -88,8 +101,11 @@ fn assigned_branches(list: &[TypedBranch], names: &mut Vec<String>) -> Result<()
 }
 
 #[cycle(assigning)]
-fn assigned_arms(list: &[TypedArm], names: &mut Vec<String>) -> Result<(), AllocError>
-    ensures { OnOk result (busy_of names.new.items ≡ busy_of names.old.items ++ book.assigned_cases (cases_of list.now)) }
+fn assigned_arms<'a>(
+    list: &'a [TypedArm],
+    names: &mut Vec<&'a VariableName>,
+) -> Result<(), AllocError>
+    ensures { OnOk result (names_of names.new.items ≡ names_of names.old.items ++ book.assigned_cases (cases_of list.now)) }
 {
     for arm in list {
         assigned(&arm.body, names)?;

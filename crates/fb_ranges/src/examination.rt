@@ -2,7 +2,7 @@
 //!
 //! It goes on behind a fault, so that all is asked; what is told is the first fault in the text.
 
-ghost use Rattle.std.specs.Prelude.{◌≡◌, ◌<◌, ◌^◌, ◌++◌, true, false, map, if◌then◌else◌, IfOk, OnOk};
+ghost use Rattle.std.specs.Prelude.{◌≡◌, ◌<◌, ◌^◌, ◌++◌, true, false, map, if◌then◌else◌, IfOk, OnOk, string_bytes};
 ghost use Rattle.fb_model.specs.Names.{Name};
 ghost use Rattle.fb_model.specs.Clear as book;
 ghost use Rattle.fb_model.specs.Clear.{Clear, Leaves, Traps, with_range};
@@ -10,12 +10,12 @@ ghost use Rattle.fb_model.specs.Spans.{within, span};
 ghost use Rattle.fb_model_laws.specs.Asking as asking;
 ghost use Rattle.fb_model_laws.specs.Asking.{point, range_in};
 ghost use Rattle.st_types.specs.Views.{term_of};
-ghost use Rattle.st_types.specs.CommandViews.{busy_of, cases_of, choice_of, choices_of, command_of, commands_of, counted_command, counting_of};
+ghost use Rattle.st_types.specs.CommandViews.{cases_of, choice_of, choices_of, command_of, commands_of, counted_command, counting_of};
 ghost use Rattle.fb_ranges.specs.Finding.{longer, tell};
 ghost use Rattle.fb_ranges.specs.Meeting.{Dated, joint, ranges_after};
 ghost use Rattle.fb_ranges.specs.Narrowing.{read_in};
 ghost use Rattle.fb_ranges_intervals.specs.Views.{span_of};
-ghost use Rattle.fb_ranges.specs.Views.{clear_range, mark_of, spans_of};
+ghost use Rattle.fb_ranges.specs.Views.{clear_range, mark_of, names_of, spans_of};
 
 use crate::assigned::names_assigned;
 use crate::expression::{Ranged, is_between, range};
@@ -27,7 +27,7 @@ use crate::told::{Told, in_sequence, iterated, keeping, trapping};
 use crate::touched::names_touched;
 use crate::way::{Way, Ways};
 use fb_ranges_intervals::{Interval, is_within, left_with, most_iterations, taken};
-use st_types::{Counting, TypedArm, TypedBranch, TypedExpr, TypedStmt};
+use st_types::{Counting, TypedArm, TypedBranch, TypedExpr, TypedStmt, VariableName};
 use std::alloc::{AllocError, Global};
 
 // The ranges of the numbers from which and to which a FOR counts, and its step.
@@ -39,12 +39,16 @@ struct Count {
 }
 
 // A variable gets a value.
-fn examine_set(name: &str, value: &TypedExpr, ranges: &mut Ranges) -> Result<Told, AllocError>
-    ensures ranges { OnOk result (spans_of ranges.new ≡ book.changed name.now (λ b. range_in (term_of value.now) (spans_of ranges.old)) (spans_of ranges.old)) }
-    ensures tells { IfOk result (λ told. told ≡ tell (with_range (book.range_of (term_of value.now) (spans_of ranges.old)) (λ r. Clear (book.changed name.now (λ b. r) (spans_of ranges.old)) 1))) }
+fn examine_set(
+    name: &VariableName,
+    value: &TypedExpr,
+    ranges: &mut Ranges,
+) -> Result<Told, AllocError>
+    ensures ranges { OnOk result (spans_of ranges.new ≡ book.changed (string_bytes name.now.name) (λ b. range_in (term_of value.now) (spans_of ranges.old)) (spans_of ranges.old)) }
+    ensures tells { IfOk result (λ told. told ≡ tell (with_range (book.range_of (term_of value.now) (spans_of ranges.old)) (λ r. Clear (book.changed (string_bytes name.now.name) (λ b. r) (spans_of ranges.old)) 1))) }
 {
     let value = range(value, ranges);
-    ranges.insert(name, value.range)?;
+    ranges.insert_at(name, value.range)?;
     Ok(trapping(value.is_clear, Told::Steps(1)))
 }
 
@@ -93,12 +97,12 @@ pub fn examine_one(
     ensures tells { IfOk result (λ told. told ≡ tell (book.examine_one (spans_of rows.now) (command_of statement.now) (spans_of ranges.old))) }
 {
     match statement {
-        TypedStmt::Set(name, value) => examine_set(name.as_str(), value, ranges),
+        TypedStmt::Set(name, value) => examine_set(name, value, ranges),
         TypedStmt::SetElement(name, low, high, index, value) => {
             let index = range(index, ranges);
             let value = range(value, ranges);
-            ask(name.as_str(), value.range, asked)?;
-            let row = rows.find(name.as_str());
+            ask(name, value.range, asked)?;
+            let row = rows.find_at(name);
             Ok(element_told(row, *low, *high, index, value))
         }
         TypedStmt::If(branches, other) => {
@@ -138,17 +142,17 @@ fn examine_branches(
 
 // A branch, where its condition is true; afterwards the ranges are as before.
 #[cycle(examining)]
-fn examine_branch(
+fn examine_branch<'a>(
     alloc: Global,
     rows: &Ranges,
-    branch: &TypedBranch,
+    branch: &'a TypedBranch,
     ranges: &mut Ranges,
     asked: &mut Ranges,
-) -> Result<Way, AllocError>
-    ensures ends { IfOk result (λ way. map span_of way.ends.items ≡ map (asking.ask (spans_of rows.now) (choice_of branch.now).1 (point (book.narrowed (choice_of branch.now).0 true (spans_of ranges.old)) (spans_of asked.old))).spans (busy_of way.names.items)) }
+) -> Result<Way<'a>, AllocError>
+    ensures ends { IfOk result (λ way. map span_of way.ends.items ≡ map (asking.ask (spans_of rows.now) (choice_of branch.now).1 (point (book.narrowed (choice_of branch.now).0 true (spans_of ranges.old)) (spans_of asked.old))).spans (names_of way.names.items)) }
     ensures asks { OnOk result (spans_of asked.new ≡ (asking.ask (spans_of rows.now) (choice_of branch.now).1 (point (book.narrowed (choice_of branch.now).0 true (spans_of ranges.old)) (spans_of asked.old))).rows) }
     ensures tells { IfOk result (λ way. way.told ≡ tell (with_range (book.range_of (choice_of branch.now).0 (spans_of ranges.old)) (λ r. book.examine (spans_of rows.now) (choice_of branch.now).1 (book.narrowed (choice_of branch.now).0 true (spans_of ranges.old))))) }
-    ensures touched { IfOk result (λ way. busy_of way.names.items ≡ read_in (choice_of branch.now).0 ++ book.assigned (choice_of branch.now).1) }
+    ensures touched { IfOk result (λ way. names_of way.names.items ≡ read_in (choice_of branch.now).0 ++ book.assigned (choice_of branch.now).1) }
     ensures unchanged { OnOk result (spans_of ranges.new ≡ spans_of ranges.old) }
 {
     let is_clear = range(&branch.condition, ranges).is_clear;
@@ -183,15 +187,15 @@ fn examine_arms(
 
 // A way that narrows nothing; afterwards the ranges are as before.
 #[cycle(examining)]
-fn examine_way(
+fn examine_way<'a>(
     alloc: Global,
     rows: &Ranges,
-    body: &[TypedStmt],
+    body: &'a [TypedStmt],
     ranges: &mut Ranges,
     asked: &mut Ranges,
-) -> Result<Way, AllocError>
-    ensures ends { IfOk result (λ way. map span_of way.ends.items ≡ map (asking.ask (spans_of rows.now) (commands_of body.now) (point (spans_of ranges.old) (spans_of asked.old))).spans (busy_of way.names.items)) }
-    ensures touched { IfOk result (λ way. busy_of way.names.items ≡ book.assigned (commands_of body.now)) }
+) -> Result<Way<'a>, AllocError>
+    ensures ends { IfOk result (λ way. map span_of way.ends.items ≡ map (asking.ask (spans_of rows.now) (commands_of body.now) (point (spans_of ranges.old) (spans_of asked.old))).spans (names_of way.names.items)) }
+    ensures touched { IfOk result (λ way. names_of way.names.items ≡ book.assigned (commands_of body.now)) }
     ensures asks { OnOk result (spans_of asked.new ≡ (asking.ask (spans_of rows.now) (commands_of body.now) (point (spans_of ranges.old) (spans_of asked.old))).rows) }
     ensures tells { IfOk result (λ way. way.told ≡ tell (book.examine (spans_of rows.now) (commands_of body.now) (spans_of ranges.old))) }
     ensures unchanged { OnOk result (spans_of ranges.new ≡ spans_of ranges.old) }
@@ -244,12 +248,12 @@ fn examine_for(
     if most_iterations(first.range, last.range, counting.step) == 0 {
         return Ok(trapping(are_clear, Told::Steps(1)));
     }
-    let name = counting.variable.as_str();
     let count = Count {
         first: first.range,
         last: last.range,
         step: counting.step,
     };
+    let name = &counting.variable;
     let told = examine_iterations(alloc, rows, name, count, body, ranges, asked)?;
     Ok(trapping(are_clear, told))
 }
@@ -259,15 +263,15 @@ fn examine_for(
 fn examine_iterations(
     alloc: Global,
     rows: &Ranges,
-    name: &str,
+    name: &VariableName,
     count: Count,
     body: &[TypedStmt],
     ranges: &mut Ranges,
     asked: &mut Ranges,
 ) -> Result<Told, AllocError>
     requires { 0 < book.most_iterations (span_of count.first) (span_of count.last) count.step }
-    ensures asks { OnOk result (point (spans_of ranges.new) (spans_of asked.new) ≡ asking.asked_loop (book.most_iterations (span_of count.first) (span_of count.last) count.step) (book.assigned (commands_of body.now)) (spans_of rows.now) (asking.ask (spans_of rows.now) (commands_of body.now)) name.now (span_of count.first) (span_of count.last) count.step (point (spans_of ranges.old) (spans_of asked.old))) }
-    ensures tells { IfOk result (λ told. told ≡ tell (book.looped (book.most_iterations (span_of count.first) (span_of count.last) count.step) (book.assigned (commands_of body.now)) (spans_of rows.now) (book.examine (spans_of rows.now) (commands_of body.now)) name.now (span_of count.first) (span_of count.last) count.step (spans_of ranges.old))) }
+    ensures asks { OnOk result (point (spans_of ranges.new) (spans_of asked.new) ≡ asking.asked_loop (book.most_iterations (span_of count.first) (span_of count.last) count.step) (book.assigned (commands_of body.now)) (spans_of rows.now) (asking.ask (spans_of rows.now) (commands_of body.now)) (string_bytes name.now.name) (span_of count.first) (span_of count.last) count.step (point (spans_of ranges.old) (spans_of asked.old))) }
+    ensures tells { IfOk result (λ told. told ≡ tell (book.looped (book.most_iterations (span_of count.first) (span_of count.last) count.step) (book.assigned (commands_of body.now)) (spans_of rows.now) (book.examine (spans_of rows.now) (commands_of body.now)) (string_bytes name.now.name) (span_of count.first) (span_of count.last) count.step (spans_of ranges.old))) }
 {
     let Count { first, last, step } = count;
     let iterations = most_iterations(first, last, step);
@@ -275,10 +279,10 @@ fn examine_iterations(
     let begins = are_kept(&names, rows, ranges);
     ask_all(&names, ranges, asked)?;
     reset(&names, rows, ranges)?;
-    let before = ranges.find(name);
-    ranges.insert(name, taken(first, last, step, iterations))?;
+    let before = ranges.find_at(name);
+    ranges.insert_at(name, taken(first, last, step, iterations))?;
     let told = examine_keeping(alloc, rows, &names, body, ranges, asked)?;
-    ranges.insert(name, left_with(first, last, step, iterations, before))?;
+    ranges.insert_at(name, left_with(first, last, step, iterations, before))?;
     Ok(iterated(iterations, begins, told))
 }
 
@@ -290,15 +294,15 @@ fn examine_iterations(
 pub(crate) fn examine_keeping(
     alloc: Global,
     rows: &Ranges,
-    names: &[String],
+    names: &[&VariableName],
     body: &[TypedStmt],
     ranges: &mut Ranges,
     asked: &mut Ranges,
 ) -> Result<Told, AllocError>
-    requires named { busy_of names.now ≡ book.assigned (commands_of body.now) }
-    ensures asks { OnOk result (spans_of asked.new ≡ (let end = asking.ask (spans_of rows.now) (commands_of body.now) (point (spans_of ranges.old) (spans_of asked.old)) in asking.asking_all (busy_of names.now) end.spans end.rows)) }
-    ensures tells { IfOk result (λ told. told ≡ tell (book.kept (spans_of rows.now) (busy_of names.now) (book.examine (spans_of rows.now) (commands_of body.now) (spans_of ranges.old)))) }
-    ensures rest { OnOk result (spans_of ranges.new ≡ book.reset (busy_of names.now) (spans_of rows.now) (spans_of ranges.old)) }
+    requires named { names_of names.now ≡ book.assigned (commands_of body.now) }
+    ensures asks { OnOk result (spans_of asked.new ≡ (let end = asking.ask (spans_of rows.now) (commands_of body.now) (point (spans_of ranges.old) (spans_of asked.old)) in asking.asking_all (names_of names.now) end.spans end.rows)) }
+    ensures tells { IfOk result (λ told. told ≡ tell (book.kept (spans_of rows.now) (names_of names.now) (book.examine (spans_of rows.now) (commands_of body.now) (spans_of ranges.old)))) }
+    ensures rest { OnOk result (spans_of ranges.new ≡ book.reset (names_of names.now) (spans_of rows.now) (spans_of ranges.old)) }
 {
     let told = examine(alloc, rows, body, ranges, asked)?;
     ask_all(names, ranges, asked)?;

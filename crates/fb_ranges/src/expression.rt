@@ -1,6 +1,6 @@
 //! Ranges of expressions.
 
-ghost use Rattle.std.specs.Prelude.{◌≡◌, map, if◌then◌else◌, None, Some};
+ghost use Rattle.std.specs.Prelude.{◌≡◌, map, if◌then◌else◌, None, Some, string_bytes};
 ghost use Rattle.std.specs.Option.{option_map, unwrap_or};
 ghost use Rattle.fb_model.specs.Clear as book;
 ghost use Rattle.fb_model.specs.Language.{given};
@@ -14,7 +14,7 @@ ghost use Rattle.fb_ranges.specs.Views.{clear_range, linked, linked_in, spans_of
 use crate::rows::Ranges;
 use fb_ranges_intervals::{Interval, range_one, range_two, whole};
 use fb_words::{ElemType, Operation};
-use st_types::{TypedExpr, TypedLink};
+use st_types::{TypedExpr, TypedLink, VariableName};
 
 /// The range of an expression, in which a division at fault counts as its whole type; and whether it is clear: no divisor in it may be zero
 /// and no index out of bounds.
@@ -32,9 +32,9 @@ pub fn is_between(index: Interval, low: i64, high: i64) -> bool
 }
 
 // An element of an array, by its index.
-fn element(name: &str, low: i64, high: i64, index: Ranged, ranges: &Ranges) -> Ranged
-    ensures range { span_of result.range ≡ spans_of ranges.now name.now }
-    ensures clear { clear_range result ≡ given (clear_range index) (λ r. if within r (span low high) then Some (spans_of ranges.now name.now) else None) }
+fn element(name: &VariableName, low: i64, high: i64, index: Ranged, ranges: &Ranges) -> Ranged
+    ensures range { span_of result.range ≡ spans_of ranges.now (string_bytes name.now.name) }
+    ensures clear { clear_range result ≡ given (clear_range index) (λ r. if within r (span low high) then Some (spans_of ranges.now (string_bytes name.now.name)) else None) }
 {
     let is_clear = if index.is_clear {
         is_between(index.range, low, high)
@@ -42,7 +42,7 @@ fn element(name: &str, low: i64, high: i64, index: Ranged, ranges: &Ranges) -> R
         false
     };
     Ranged {
-        range: ranges.find(name),
+        range: ranges.find_at(name),
         is_clear,
     }
 }
@@ -99,12 +99,12 @@ pub fn range(expr: &TypedExpr, ranges: &Ranges) -> Ranged
             is_clear: true,
         },
         TypedExpr::Read(name) => Ranged {
-            range: ranges.find(name.as_str()),
+            range: ranges.find_at(name),
             is_clear: true,
         },
         TypedExpr::Element(name, low, high, index) => {
             let index = range(index, ranges);
-            element(name.as_str(), *low, *high, index, ranges)
+            element(name, *low, *high, index, ranges)
         }
         TypedExpr::Unary(operation, of, operand) => {
             let operand = range(operand, ranges);

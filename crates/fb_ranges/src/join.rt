@@ -1,14 +1,14 @@
 //! Ranges of variables, copied, set, tested and asked for.
 
-ghost use Rattle.std.specs.Prelude.{◌≡◌, IfOk, OnOk};
+ghost use Rattle.std.specs.Prelude.{◌≡◌, IfOk, OnOk, string_bytes};
 ghost use Rattle.fb_model.specs.Clear as book;
-ghost use Rattle.st_types.specs.CommandViews.{busy_of};
 ghost use Rattle.fb_model_laws.specs.Asking.{asking, asking_all};
 ghost use Rattle.fb_ranges_intervals.specs.Views.{span_of};
-ghost use Rattle.fb_ranges.specs.Views.{spans_of};
+ghost use Rattle.fb_ranges.specs.Views.{names_of, spans_of};
 
 use crate::rows::Ranges;
 use fb_ranges_intervals::{Interval, is_within, joined};
+use st_types::VariableName;
 use std::alloc::AllocError;
 
 /// The same ranges.
@@ -22,21 +22,21 @@ pub fn copied(ranges: &Ranges) -> Result<Ranges, AllocError>
 }
 
 /// Gives each of these variables its row.
-pub fn reset(names: &[String], rows: &Ranges, ranges: &mut Ranges) -> Result<(), AllocError>
-    ensures { OnOk result (spans_of ranges.new ≡ book.reset (busy_of names.now) (spans_of rows.now) (spans_of ranges.old)) }
+pub fn reset(names: &[&VariableName], rows: &Ranges, ranges: &mut Ranges) -> Result<(), AllocError>
+    ensures { OnOk result (spans_of ranges.new ≡ book.reset (names_of names.now) (spans_of rows.now) (spans_of ranges.old)) }
 {
     for name in names {
-        ranges.insert(name.as_str(), rows.find(name.as_str()))?;
+        ranges.insert_at(name, rows.find_at(name))?;
     }
     Ok(())
 }
 
 /// Whether each of these variables lies in its row.
-pub(crate) fn are_kept(names: &[String], rows: &Ranges, ranges: &Ranges) -> bool
-    ensures { result ≡ book.are_kept (busy_of names.now) (spans_of rows.now) (spans_of ranges.now) }
+pub(crate) fn are_kept(names: &[&VariableName], rows: &Ranges, ranges: &Ranges) -> bool
+    ensures { result ≡ book.are_kept (names_of names.now) (spans_of rows.now) (spans_of ranges.now) }
 {
     for name in names {
-        if !is_within(ranges.find(name.as_str()), rows.find(name.as_str())) {
+        if !is_within(ranges.find_at(name), rows.find_at(name)) {
             return false;
         }
     }
@@ -44,24 +44,30 @@ pub(crate) fn are_kept(names: &[String], rows: &Ranges, ranges: &Ranges) -> bool
 }
 
 /// The row of a variable is asked to hold a range too.
-pub(crate) fn ask(name: &str, range: Interval, asked: &mut Ranges) -> Result<(), AllocError>
-    ensures { OnOk result (spans_of asked.new ≡ asking name.now (span_of range) (spans_of asked.old)) }
+pub(crate) fn ask(
+    name: &VariableName,
+    range: Interval,
+    asked: &mut Ranges,
+) -> Result<(), AllocError>
+    ensures { OnOk result (spans_of asked.new ≡ asking (string_bytes name.now.name) (span_of range) (spans_of asked.old)) }
 {
-    let row = asked.find(name);
-    asked.insert(name, joined(row, range))
+    let row = asked.find_at(name);
+    if is_within(range, row) {
+        return Ok(());
+    }
+    asked.insert_at(name, joined(row, range))
 }
 
 /// The rows of these variables are asked to hold what the variables have.
 pub(crate) fn ask_all(
-    names: &[String],
+    names: &[&VariableName],
     ranges: &Ranges,
     asked: &mut Ranges,
 ) -> Result<(), AllocError>
-    ensures { OnOk result (spans_of asked.new ≡ asking_all (busy_of names.now) (spans_of ranges.now) (spans_of asked.old)) }
+    ensures { OnOk result (spans_of asked.new ≡ asking_all (names_of names.now) (spans_of ranges.now) (spans_of asked.old)) }
 {
     for name in names {
-        let name = name.as_str();
-        ask(name, ranges.find(name), asked)?;
+        ask(name, ranges.find_at(name), asked)?;
     }
     Ok(())
 }

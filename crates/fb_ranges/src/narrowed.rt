@@ -1,6 +1,6 @@
 //! Ranges where a condition is true, or false.
 
-ghost use Rattle.std.specs.Prelude.{◌≡◌, ◌<◌, ◌≤◌, ◌-◌, ℕ, [], ◌∷◌, OnOk, length, map, take, true, false, slice_index_or};
+ghost use Rattle.std.specs.Prelude.{◌≡◌, ◌<◌, ◌≤◌, ◌-◌, ℕ, [], ◌∷◌, OnOk, length, map, take, true, false, slice_index_or, string_bytes};
 ghost use Rattle.st_types.specs.declared.term.TypedLink.{TypedLink};
 ghost use Rattle.fb_model.specs.Clear as book;
 ghost use Rattle.fb_model.specs.Clear.{changed};
@@ -13,20 +13,20 @@ use crate::rows::Ranges;
 use crate::side::{number, variable};
 use fb_ranges_intervals::{is_truth, meets, mirrored, opposite};
 use fb_words::{ElemType, Operation, Operator};
-use st_types::{TypedExpr, TypedLink};
+use st_types::{TypedExpr, TypedLink, VariableName};
 use std::alloc::AllocError;
 
 // A variable that stands in a relation to a number.
 fn narrow_variable(
-    name: &str,
+    name: &VariableName,
     operator: Operator,
     number: i64,
     ranges: &mut Ranges,
 ) -> Result<(), AllocError>
-    ensures { OnOk result (spans_of ranges.new ≡ changed name.now (book.meets operator number) (spans_of ranges.old)) }
+    ensures { OnOk result (spans_of ranges.new ≡ changed (string_bytes name.now.name) (book.meets operator number) (spans_of ranges.old)) }
 {
-    let before = ranges.find(name);
-    ranges.insert(name, meets(operator, number, before))
+    let before = ranges.find_at(name);
+    ranges.insert_at(name, meets(operator, number, before))
 }
 
 // A relation between a variable and a number, from either side.

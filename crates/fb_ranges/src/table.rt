@@ -1,6 +1,7 @@
 //! The ranges of a block's variables, by their names.
 
-ghost use Rattle.std.specs.Prelude.{◌≡◌, true, ◌&&◌, OnErr, OnOk};
+ghost use Rattle.std.specs.Prelude.{◌≡◌, true, ◌&&◌, Some, OnErr, OnOk, slice_get, string_bytes};
+ghost use Rattle.std.specs.Option.{option_map};
 ghost use Rattle.std.specs.Ordering.{int_eq};
 ghost use Rattle.fb_words.specs.declared.elem_type.ElemType.TheVariants as t;
 ghost use Rattle.fb_model.specs.Spans.{whole};
@@ -12,6 +13,7 @@ use crate::rows::Ranges;
 use fb_ranges_intervals::{Interval, whole};
 use fb_words::ElemType;
 use indexmap::IndexMap;
+use st_types::VariableName;
 use std::alloc::{AllocError, Global};
 
 /// Whether two ranges are the same.
@@ -42,6 +44,23 @@ impl Ranges {
         }
     }
 
+    /// The same, where the row with this number is looked at first.
+    pub fn find_near(&self, name: &str, number: usize) -> Interval
+        ensures { span_of result ≡ spans_of self.now name.now }
+    {
+        match self.rows.get_index(number) {
+            Some((key, row)) if key.as_str() == name => *row,
+            _ => self.find(name),
+        }
+    }
+
+    /// The range of a variable.
+    pub fn find_at(&self, variable: &VariableName) -> Interval
+        ensures { span_of result ≡ spans_of self.now (string_bytes variable.now.name) }
+    {
+        self.find_near(variable.as_str(), variable.number)
+    }
+
     /// Gives the variable of a name a range, in place of any that it has.
     ///
     /// Fails where memory runs out; then the ranges are as before.
@@ -56,6 +75,47 @@ impl Ranges {
         let key = String::from_str(self.alloc, name)?;
         self.rows.insert(key, interval)?;
         Ok(())
+    }
+
+    // Whether the row with a number is that of the variable of this name.
+    fn is_at(&self, name: &str, number: usize) -> bool
+        ensures { result ≡ true → option_map (λ p. string_bytes p.0) (slice_get self.now.rows.entries number) ≡ Some name.now }
+    {
+        match self.rows.get_index(number) {
+            Some((key, _)) => key.as_str() == name,
+            None => false,
+        }
+    }
+
+    /// The same, where the row with this number is looked at first.
+    pub fn insert_near(
+        &mut self,
+        name: &str,
+        number: usize,
+        interval: Interval,
+    ) -> Result<(), AllocError>
+        ensures set { OnOk result (spans_of self.new ≡ changed name.now (λ _. span_of interval) (spans_of self.old)) }
+        ensures unchanged { OnErr result (spans_of self.new ≡ spans_of self.old) }
+    {
+        if self.is_at(name, number)
+            && let Some(row) = self.rows.get_index_mut(number)
+        {
+            *row = interval;
+            return Ok(());
+        }
+        self.insert(name, interval)
+    }
+
+    /// Gives a variable a range, as `insert`.
+    pub fn insert_at(
+        &mut self,
+        variable: &VariableName,
+        interval: Interval,
+    ) -> Result<(), AllocError>
+        ensures set { OnOk result (spans_of self.new ≡ changed (string_bytes variable.now.name) (λ _. span_of interval) (spans_of self.old)) }
+        ensures unchanged { OnErr result (spans_of self.new ≡ spans_of self.old) }
+    {
+        self.insert_near(variable.as_str(), variable.number, interval)
     }
 
     /// Whether the same variables have the same ranges, in the same order: then the ranges are the same. (Not said: that it ever says so.)

@@ -3,12 +3,13 @@
 use crate::told::Told;
 use fb_ranges_intervals::Interval;
 use indexmap::IndexMap;
+use st_types::VariableName;
 use std::alloc::Global;
 
 /// What an examination of one way finds: the variables that it may touch, their ranges at its end in this order, and what is told of it.
 #[derive(Drop)]
-pub(crate) struct Way {
-    pub names: Vec<String>,
+pub(crate) struct Way<'a> {
+    pub names: Vec<&'a VariableName>,
     pub ends: Vec<Interval>,
     pub told: Told,
 }

@@ -14,8 +14,9 @@ use std::fmt::Write;
 // The most steps of an algorithm, or why it is refused, by examinations in a copy of the rows.
 fn cost(alloc: Global, algorithm: &Algo, rows: &Ranges) -> Result<String, AllocError> {
     let mut work = copied(rows)?;
-    match check_algorithm(alloc, algorithm, rows, &mut work) {
-        Ok(()) => match max_steps(alloc, algorithm, rows, &mut work) {
+    let mut asked = copied(rows)?;
+    match check_algorithm(alloc, algorithm, rows, &mut work, &mut asked) {
+        Ok(()) => match max_steps(alloc, algorithm, rows, &mut work, &mut asked) {
             Ok(Some(steps)) => format!(in alloc; "{steps}"),
             Ok(None) => String::from_str(alloc, "many"),
             Err(_) => Err(AllocError),

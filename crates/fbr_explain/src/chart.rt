@@ -26,7 +26,10 @@ fn add_algorithm(
     };
     let rows = block_rows(page.alloc, page.certificate, leaf.path.as_str(), block)?;
     let mut work = copied(&rows)?;
-    let most = max_steps(page.alloc, algorithm, &rows, &mut work).map_err(|_| AllocError)?;
+    let mut asked = copied(&rows)?;
+    let most = max_steps(page.alloc, algorithm, &rows, &mut work, &mut asked).map_err(
+        |_| AllocError,
+    )?;
     terms.push(Term {
         amount: most.unwrap_or(ENDLESS),
         cause: Cause::Algorithm(name.clone()?),

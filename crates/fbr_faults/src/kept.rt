@@ -5,7 +5,7 @@ use crate::found::{Fault, leaving};
 use crate::line::Lines;
 use fb_ranges::{Ranges, copied};
 use fb_ranges_intervals::is_within;
-use st_types::TypedStmt;
+use st_types::{TypedStmt, VariableName};
 use std::alloc::{AllocError, Global};
 
 /// Statements that have run, where they stand in the text, and the ranges that they began with.
@@ -17,10 +17,14 @@ pub(crate) struct Past<'a> {
 }
 
 // The first of these variables that is outside of its row.
-fn first_outside<'a>(names: &'a [String], rows: &Ranges, ranges: &Ranges) -> Option<&'a String> {
+fn first_outside<'a>(
+    names: &[&'a VariableName],
+    rows: &Ranges,
+    ranges: &Ranges,
+) -> Option<&'a VariableName> {
     for name in names {
-        if !is_within(ranges.find(name.as_str()), rows.find(name.as_str())) {
-            return Some(name);
+        if !is_within(ranges.find_at(name), rows.find_at(name)) {
+            return Some(*name);
         }
     }
     None
@@ -31,7 +35,7 @@ fn first_outside<'a>(names: &'a [String], rows: &Ranges, ranges: &Ranges) -> Opt
 pub(crate) fn outside_fault(
     alloc: Global,
     rows: &Ranges,
-    names: &[String],
+    names: &[&VariableName],
     ranges: &Ranges,
     at: usize,
     past: Past<'_>,
@@ -46,8 +50,8 @@ pub(crate) fn outside_fault(
     };
     let mut start = copied(past.start)?;
     let fault = match brought_by_list(sought, past.list, past.lines, &mut start)? {
-        Some(brought) => leaving(brought.at, name, brought.range, rows)?,
-        None => leaving(at, name, ranges.find(name.as_str()), rows)?,
+        Some(brought) => leaving(brought.at, &name.name, brought.range, rows)?,
+        None => leaving(at, &name.name, ranges.find_at(name), rows)?,
     };
     Ok(Some(fault))
 }

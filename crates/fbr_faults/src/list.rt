@@ -6,7 +6,7 @@ use crate::kept::{Past, outside_fault};
 use crate::line::{Line, Lines};
 use fb_ranges::{Ranges, Told, copied, examine_one, names_assigned, narrow, range, reset};
 use fb_ranges_intervals::{Interval, is_within, most_iterations, taken};
-use st_types::{Counting, TypedArm, TypedBranch, TypedExpr, TypedStmt};
+use st_types::{Counting, TypedArm, TypedBranch, TypedExpr, TypedStmt, VariableName};
 use std::alloc::{AllocError, Global};
 
 // A value that leaves the row of the array that it is given to.
@@ -69,7 +69,7 @@ pub(crate) fn body_fault(
     alloc: Global,
     rows: &Ranges,
     list: &[TypedStmt],
-    names: &[String],
+    names: &[&VariableName],
     lines: Lines<'_>,
     ranges: &mut Ranges,
 ) -> Result<Option<Fault>, AllocError> {
@@ -222,6 +222,6 @@ fn for_fault(
     let names = names_assigned(alloc, body)?;
     reset(&names, rows, ranges)?;
     let own = taken(first, last, counting.step, iterations);
-    ranges.insert(counting.variable.as_str(), own)?;
+    ranges.insert_at(&counting.variable, own)?;
     body_fault(alloc, rows, body, &names, line.rest(), ranges)
 }

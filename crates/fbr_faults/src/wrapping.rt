@@ -116,7 +116,7 @@ fn for_wraps(
     let names = names_assigned(all.alloc, body)?;
     reset(&names, all.rows, ranges)?;
     let own = taken(first, last, counting.step, iterations);
-    ranges.insert(counting.variable.as_str(), own)?;
+    ranges.insert_at(&counting.variable, own)?;
     list_wraps(all, body, line.rest(), ranges, found)
 }
 

@@ -1,7 +1,7 @@
 use Rattle.std.proofs.Common.{◌≡◌, ℤ, List, Option, true, false, ◌++◌, ◌<◌, ◌+◌, refl, map, sym, ap, ap₂, subst, ◌∙◌, arith, drop, to_z, of_z, w64}
 use Rattle.std.specs.Prelude.{if◌then◌else◌, string_bytes}
-use Rattle.std.specs.declared.string.String.{String}
-use Rattle.std.specs.declared.alloc.Global.{Global}
+use Rattle.std.specs.Borrow.{Bor}
+use Rattle.st_types.specs.declared.term.VariableName.{VariableName}
 use Rattle.std.proofs.lemmas.Int.{ints}
 use Rattle.fb_model.specs.Names.{Name}
 use Rattle.fb_model.specs.TypedText.{Commands, set_part}
@@ -11,7 +11,7 @@ use Rattle.fb_model_laws.specs.Asking.{Asked, point, range_in, asking_all, asked
 use Rattle.fb_model_laws.proofs.Ending.{Ends, ends}
 use Rattle.st_types.specs.declared.command.TypedStmt.{TypedStmt}
 use Rattle.st_types.specs.Views.{term_of}
-use Rattle.st_types.specs.CommandViews.{Cased, Chosen, busy_of, cases_of, case_of, command_of, commands_of, choice_of, choices_of}
+use Rattle.st_types.specs.CommandViews.{Cased, Chosen, cases_of, case_of, command_of, commands_of, choice_of, choices_of}
 use Rattle.st_types.proofs.Gathering.{drop_all}
 use Rattle.fb_ranges.specs.declared.told.Told.TheVariants as told
 use Rattle.fb_ranges.specs.Finding.{in_sequence, longer, tell, iterated}
@@ -19,7 +19,7 @@ use Rattle.fb_ranges.specs.Meeting.{Besides, joint, met_by, ranges_after}
 use Rattle.fb_ranges.specs.Narrowing.{read_in}
 use Rattle.fb_ranges_intervals.specs.declared.interval.Interval.{Interval}
 use Rattle.fb_ranges_intervals.specs.Views.{span_of}
-use Rattle.fb_ranges.specs.Views.{clear_range, mark_of, spans_of}
+use Rattle.fb_ranges.specs.Views.{clear_range, mark_of, names_of, spans_of}
 use Rattle.fb_ranges.proofs.Blocks.{command_set, command_element, next_asked, next_told, choice_is, on_ok, iterations_asked}
 use Rattle.fb_ranges.proofs.Branches.{branch_asked, branch_besides, branch_told, arm_asked, arm_told, case_is}
 use Rattle.fb_ranges.proofs.Frames.{all_besides}
@@ -65,8 +65,8 @@ examine_one-returns-in-Set-clause-asks t c =
     let r = range_in (term_of c.in-Set.value) s in
     let new = spans_of c.examine_set.new.ranges in
     let e = ap command_of c.in-Set.is ∙ command_set c.in-Set.name c.in-Set.value in
-    on_ok c.examine_set.result (new ≡ changed c.as_str.result.now (λ b. r) s) (point new q ≡ ask_one rows (command_of c.args.statement.now) (point s q))
-    (λ h. ap (λ (u : Spans). point u q) (h ∙ ap (λ (x : Name). changed x (λ b. r) s) c.as_str.ensures.value) ∙ sym (ap (λ d. ask_one rows d (point s q)) e))
+    on_ok c.examine_set.result (new ≡ changed (string_bytes c.in-Set.name.name) (λ b. r) s) (point new q ≡ ask_one rows (command_of c.args.statement.now) (point s q))
+    (λ h. ap (λ (u : Spans). point u q) h ∙ sym (ap (λ d. ask_one rows d (point s q)) e))
     c.examine_set.ensures.ranges
 
 pub examine_one-returns-in_ok-ask-in-SetElement-clause-tells : goal.examine_one-returns-in_ok-ask-in-SetElement-clause-tells
@@ -83,9 +83,9 @@ examine_one-returns-in_ok-ask-in-SetElement-clause-tells t c =
     let b : to_z w64 (of_z w64 high) ≡ high = omega (arith, ints) in
     let found = λ (row : Span) (l h : ℤ) (o p : Option Span). tell (with_range o (λ k. with_range p (λ r. if within k (span l h) then (if within r row then Clear s 1 else Leaves) else Traps))) in
     c.element_told.ensures s
-    ∙ ap (λ (row : Span). found row (to_z w64 (of_z w64 low)) (to_z w64 (of_z w64 high)) (clear_range c.range-index.result) (clear_range c.range-value.result)) (c.find-row.ensures ∙ ap rows c.as_str-in-SetElement-2.ensures.value)
-    ∙ ap₂ (found (rows (string_bytes x)) (to_z w64 (of_z w64 low)) (to_z w64 (of_z w64 high))) c.range-index.ensures.clear c.range-value.ensures.clear
-    ∙ ap₂ (λ l h. tell (examine_one rows (set_part (string_bytes x) l h index value) s)) a b
+    ∙ ap (λ (row : Span). found row (to_z w64 (of_z w64 low)) (to_z w64 (of_z w64 high)) (clear_range c.range-index.result) (clear_range c.range-value.result)) c.find_at-row.ensures
+    ∙ ap₂ (found (rows (string_bytes x.name)) (to_z w64 (of_z w64 low)) (to_z w64 (of_z w64 high))) c.range-index.ensures.clear c.range-value.ensures.clear
+    ∙ ap₂ (λ l h. tell (examine_one rows (set_part (string_bytes x.name) l h index value) s)) a b
     ∙ sym (ap (λ d. tell (examine_one rows d s)) e)
 
 pub examine_branches-loop-branch-preserved : goal.examine_branches-loop-branch-preserved
@@ -100,7 +100,7 @@ examine_branches-loop-branch-preserved t c =
     let ways = c.loop-branch.ways in
     let merged = c.merged.new.ways in
     let way = c.in_ok-way.way in
-    let xs = busy_of way.names.items in
+    let xs = names_of way.names.items in
     let s = spans_of c.examine_branch.new.ranges in
     let q = spans_of c.loop-branch.asked in
     let later = spans_of c.narrow.new.ranges in
@@ -138,7 +138,7 @@ examine_arms-loop-arm-preserved t c =
     let ways = c.loop-arm.ways in
     let merged = c.merged.new.ways in
     let way = c.in_ok-way.way in
-    let xs = busy_of way.names.items in
+    let xs = names_of way.names.items in
     let s = spans_of c.examine_way.new.ranges in
     let q = spans_of c.loop-arm.asked in
     let more = spans_of c.examine_way.new.asked in
@@ -170,7 +170,7 @@ pub examine_last-returns-clause-ranges : goal.examine_last-returns-clause-ranges
 examine_last-returns-clause-ranges t c =
     let rows = spans_of c.args.rows.now in
     let ways = c.args.ways in
-    let xs = busy_of c.in_ok-way.way.names.items in
+    let xs = names_of c.in_ok-way.way.names.items in
     let start = spans_of c.args.ranges.now in
     let s = spans_of c.examine_way.new.ranges in
     let a = commands_of c.args.body.now in
@@ -210,9 +210,9 @@ examine_branch-returns-clause-unchanged t c =
     let asks = c.in_ok-told.ensures.asks ∙ ap (λ (l : List TypedStmt). ask rows (commands_of l) (point begin q)) c.deref-3.ensures.value in
     let names = c.in_ok-names.ensures ∙ ap (λ (l : List TypedStmt). read_in e ++ assigned (commands_of l)) c.deref.ensures.value in
     let besides = subst (λ (ys : List Name). Besides ys s after) (sym names) (subst (λ (u : Spans). Besides (read_in e ++ assigned a) s u) (sym (ap (λ (p : Asked). p.spans) asks)) (branch_besides rows s begin e a q c.in_ok-narrow.ensures)) in
-    let noted = subst (λ (l : List (String Global)). IsNoted l s c.in_ok-before.before.items) c.deref-2.ensures.value c.in_ok-before.ensures in
+    let noted = subst (λ (l : List (Bor VariableName)). IsNoted l s c.in_ok-before.before.items) c.deref-2.ensures.value c.in_ok-before.ensures in
     let here = subst (λ (rs : List Interval). IsNoted c.in_ok-names.names.items s rs) (sym c.deref-4.ensures.value) noted in
-    c.in_ok-ended.ensures.ranges s here ∙ taken_back (busy_of c.in_ok-names.names.items) s after besides
+    c.in_ok-ended.ensures.ranges s here ∙ taken_back (names_of c.in_ok-names.names.items) s after besides
 
 pub examine_way-returns-clause-ends : goal.examine_way-returns-clause-ends
 examine_way-returns-clause-ends t c =
@@ -226,16 +226,16 @@ examine_way-returns-clause-unchanged t c =
     let after = spans_of c.examine.new.ranges in
     let asks = ap (λ (p : Asked). p.spans) c.in_ok-told.ensures.asks in
     let besides = subst (λ (ys : List Name). Besides ys s after) (sym c.in_ok-names.ensures) (subst (λ (u : Spans). Besides (assigned a) s u) (sym asks) (all_besides rows a (point s (spans_of c.args.asked.now)))) in
-    let noted = subst (λ (l : List (String Global)). IsNoted l s c.in_ok-before.before.items) c.deref.ensures.value c.in_ok-before.ensures in
+    let noted = subst (λ (l : List (Bor VariableName)). IsNoted l s c.in_ok-before.before.items) c.deref.ensures.value c.in_ok-before.ensures in
     let here = subst (λ (rs : List Interval). IsNoted c.in_ok-names.names.items s rs) (sym c.deref-2.ensures.value) noted in
-    c.in_ok-ended.ensures.ranges s here ∙ taken_back (busy_of c.in_ok-names.names.items) s after besides
+    c.in_ok-ended.ensures.ranges s here ∙ taken_back (names_of c.in_ok-names.names.items) s after besides
 
 pub examine_iterations-iterated-requires : goal.examine_iterations-iterated-requires
 examine_iterations-iterated-requires t c =
     let r = span_of c.args.count.first in
     let s = span_of c.args.count.last in
     let k : to_z w64 (of_z w64 c.args.count.step) ≡ c.args.count.step = omega (arith, ints) in
-    subst (λ m. 0 < m) (sym (c.most_iterations-iterations.ensures ∙ ap (most_iterations r s) k)) c.requires.1.1
+    subst (λ m. 0 < m) (sym (c.most_iterations-iterations.ensures ∙ ap (most_iterations r s) k)) c.requires
 
 pub examine_iterations-returns-clause-asks : goal.examine_iterations-returns-clause-asks
 examine_iterations-returns-clause-asks t c =
@@ -245,26 +245,26 @@ examine_iterations-returns-clause-asks t c =
     let spans = spans_of c.args.ranges.now in
     let q = spans_of c.args.asked.now in
     let base = spans_of c.reset.new.ranges in
-    let begin = spans_of c.insert.new.self in
-    let after = spans_of c.insert-2.new.self in
+    let begin = spans_of c.insert_at.new.self in
+    let after = spans_of c.insert_at-2.new.self in
     let asked = spans_of c.ask_all.new.asked in
     let own = span_of c.taken.result in
     let left = span_of c.left_with.result in
-    let x = c.args.name.now in
+    let x = string_bytes c.args.name.now.name in
     let f = ask rows (commands_of c.args.body.now) in
     let xs = assigned (commands_of c.args.body.now) in
     let n = c.most_iterations-iterations.result in
     let k : to_z w64 (of_z w64 c.args.count.step) ≡ c.args.count.step = omega (arith, ints) in
     let iterations : n ≡ most_iterations r s c.args.count.step = c.most_iterations-iterations.ensures ∙ ap (most_iterations r s) k in
-    let some : 0 < n = subst (λ m. 0 < m) (sym iterations) c.requires.1.1 in
-    let begins : asked ≡ asking_all xs spans q = c.in_ok-ask_all.ensures ∙ ap (λ ys. asking_all ys spans q) (ap busy_of c.deref-2.ensures.value ∙ c.in_ok-names.ensures) in
-    let same : base ≡ reset xs rows spans = c.in_ok-reset.ensures ∙ ap (λ ys. reset ys rows spans) (ap busy_of c.deref-3.ensures.value ∙ c.in_ok-names.ensures) in
+    let some : 0 < n = subst (λ m. 0 < m) (sym iterations) c.requires in
+    let begins : asked ≡ asking_all xs spans q = c.in_ok-ask_all.ensures ∙ ap (λ ys. asking_all ys spans q) (ap names_of c.deref-2.ensures.value ∙ c.in_ok-names.ensures) in
+    let same : base ≡ reset xs rows spans = c.in_ok-reset.ensures ∙ ap (λ ys. reset ys rows spans) (ap names_of c.deref-3.ensures.value ∙ c.in_ok-names.ensures) in
     let o : own ≡ taken r s c.args.count.step n = c.taken.ensures ∙ ap (λ z. taken r s z n) k in
-    let l : left ≡ left_with r s c.args.count.step n (base x) = c.left_with.ensures ∙ ap₂ (λ z b. left_with r s z n b) k c.find-before.ensures in
-    let names = ap busy_of c.deref-4.ensures.value ∙ c.in_ok-names.ensures in
-    let set : begin ≡ changed x (λ b. own) base = c.in_ok-insert.ensures.set in
+    let l : left ≡ left_with r s c.args.count.step n (base x) = c.left_with.ensures ∙ ap₂ (λ z b. left_with r s z n b) k c.find_at-before.ensures in
+    let names = ap names_of c.deref-4.ensures.value ∙ c.in_ok-names.ensures in
+    let set : begin ≡ changed x (λ b. own) base = c.in_ok-insert_at.ensures.set in
     let put : after ≡ changed x (λ b. left) base =
-    c.in_ok-insert-2.ensures.set
+    c.in_ok-insert_at-2.ensures.set
     ∙ ap (changed x (λ b. left)) (c.in_ok-told.ensures.rest ∙ ap₂ (λ (ys : List Name) (u : Spans). reset ys rows u) names (set ∙ ap (changed x (λ b. own)) same))
     ∙ iterations_leave xs rows spans x own left
     ∙ ap (changed x (λ b. left)) (sym same) in
@@ -280,18 +280,18 @@ examine_iterations-returns-clause-tells t c =
     let spans = spans_of c.args.ranges.now in
     let base = spans_of c.reset.new.ranges in
     let own = span_of c.taken.result in
-    let x = c.args.name.now in
+    let x = string_bytes c.args.name.now.name in
     let body = examine rows (commands_of c.args.body.now) in
     let xs = assigned (commands_of c.args.body.now) in
     let n = c.most_iterations-iterations.result in
     let k : to_z w64 (of_z w64 c.args.count.step) ≡ c.args.count.step = omega (arith, ints) in
     let iterations : n ≡ most_iterations r s c.args.count.step = c.most_iterations-iterations.ensures ∙ ap (most_iterations r s) k in
-    let some : 0 < n = subst (λ m. 0 < m) (sym iterations) c.requires.1.1 in
-    let begins : c.are_kept-begins.result ≡ are_kept xs rows spans = c.are_kept-begins.ensures ∙ ap (λ ys. are_kept ys rows spans) (ap busy_of c.deref.ensures.value ∙ c.in_ok-names.ensures) in
-    let same : base ≡ reset xs rows spans = c.in_ok-reset.ensures ∙ ap (λ ys. reset ys rows spans) (ap busy_of c.deref-3.ensures.value ∙ c.in_ok-names.ensures) in
+    let some : 0 < n = subst (λ m. 0 < m) (sym iterations) c.requires in
+    let begins : c.are_kept-begins.result ≡ are_kept xs rows spans = c.are_kept-begins.ensures ∙ ap (λ ys. are_kept ys rows spans) (ap names_of c.deref.ensures.value ∙ c.in_ok-names.ensures) in
+    let same : base ≡ reset xs rows spans = c.in_ok-reset.ensures ∙ ap (λ ys. reset ys rows spans) (ap names_of c.deref-3.ensures.value ∙ c.in_ok-names.ensures) in
     let o : own ≡ taken r s c.args.count.step n = c.taken.ensures ∙ ap (λ z. taken r s z n) k in
-    let names = ap busy_of c.deref-4.ensures.value ∙ c.in_ok-names.ensures in
-    let set = c.in_ok-insert.ensures.set ∙ ap₂ (λ p (u : Spans). changed x (λ b. p) u) o same in
+    let names = ap names_of c.deref-4.ensures.value ∙ c.in_ok-names.ensures in
+    let set = c.in_ok-insert_at.ensures.set ∙ ap₂ (λ p (u : Spans). changed x (λ b. p) u) o same in
     let told = c.in_ok-told.ensures.tells ∙ ap₂ (λ (ys : List Name) (u : Spans). tell (kept rows ys (body u))) names set in
     c.iterated.ensures
     ∙ ap₂ (iterated n) begins told
@@ -299,7 +299,7 @@ examine_iterations-returns-clause-tells t c =
     ∙ ap (λ m. tell (looped m xs rows body x r s c.args.count.step spans)) iterations
 
 pub examine_keeping-returns-clause-asks : goal.examine_keeping-returns-clause-asks
-examine_keeping-returns-clause-asks t c = c.in_ok-ask_all.ensures ∙ ap (λ (p : Asked). asking_all (busy_of c.args.names.now) p.spans p.rows) c.in_ok-told.ensures.asks
+examine_keeping-returns-clause-asks t c = c.in_ok-ask_all.ensures ∙ ap (λ (p : Asked). asking_all (names_of c.args.names.now) p.spans p.rows) c.in_ok-told.ensures.asks
 
 pub examine_keeping-returns-clause-tells : goal.examine_keeping-returns-clause-tells
 examine_keeping-returns-clause-tells t c =
@@ -309,13 +309,13 @@ examine_keeping-returns-clause-tells t c =
     let after = spans_of c.examine.new.ranges in
     let found = examine rows a begin in
     let end = subst (Ends found) (sym (ap (λ (p : Asked). p.spans) c.in_ok-told.ensures.asks)) (ends rows a (point begin (spans_of c.args.asked.now))) in
-    told_kept rows (busy_of c.args.names.now) found after c.in_ok-told.told c.keeping-all.result c.are_kept.result end c.in_ok-told.ensures.tells c.are_kept.ensures c.keeping-all.ensures
+    told_kept rows (names_of c.args.names.now) found after c.in_ok-told.told c.keeping-all.result c.are_kept.result end c.in_ok-told.ensures.tells c.are_kept.ensures c.keeping-all.ensures
 
 pub examine_keeping-returns-clause-rest : goal.examine_keeping-returns-clause-rest
 examine_keeping-returns-clause-rest t c =
     let rows = spans_of c.args.rows.now in
     let a = commands_of c.args.body.now in
-    let xs = busy_of c.args.names.now in
+    let xs = names_of c.args.names.now in
     let begin = spans_of c.args.ranges.now in
     let after = spans_of c.examine.new.ranges in
     let besides : Besides xs begin after =

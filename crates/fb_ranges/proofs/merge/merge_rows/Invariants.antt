@@ -1,9 +1,8 @@
 use Rattle.std.proofs.Common.{◌≡◌, take}
 use Rattle.fb_model.specs.Names.{Name}
 use Rattle.fb_model.specs.Clear.{Spans}
-use Rattle.st_types.specs.CommandViews.{busy_of}
 use Rattle.fb_ranges.specs.Meeting.{marked}
-use Rattle.fb_ranges.specs.Views.{mark_of, spans_of}
+use Rattle.fb_ranges.specs.Views.{mark_of, names_of, spans_of}
 use Rattle.fb_ranges.proofs.Noted.{IsNoted}
 use Rattle.fb_ranges.proofs.merge.merge_rows.Given as goal
 
@@ -12,5 +11,5 @@ invariant-loop-i l =
     record {
       count : l.ways.count ≡ l.initial.ways.count;
       told : l.ways.told ≡ l.initial.ways.told;
-      rows : (spans : Spans) → IsNoted l.names spans l.ends → (x : Name) → mark_of l.ways x ≡ marked l.initial.ways.count (busy_of (take l.i l.names)) (spans_of l.ranges) spans (mark_of l.initial.ways) x;
+      rows : (spans : Spans) → IsNoted l.names spans l.ends → (x : Name) → mark_of l.ways x ≡ marked l.initial.ways.count (names_of (take l.i l.names)) (spans_of l.ranges) spans (mark_of l.initial.ways) x;
     }
