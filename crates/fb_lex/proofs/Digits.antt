@@ -1,8 +1,10 @@
 -- Digits one after the other.
-use Rattle.std.proofs.Common.{◌≡◌, ℕ, ◌+◌, ◌*◌, Bool, true, false, cond, List, [], ◌∷◌, Option, Some, None, refl, ap, ◌∙◌}
+use Rattle.std.proofs.Common.{◌≡◌, ℕ, ◌+◌, ◌*◌, ◌<◌, Bool, true, false, cond, List, [], ◌∷◌, length, get_or, Option, Some, None, refl, ap, ◌∙◌, arith}
 use Rattle.std.specs.Prelude.{◌==◌, ◌&&◌}
-use Rattle.fb_model.specs.Spelling.{digit_value, is_digit_in}
-use Rattle.fb_lex.specs.Scanning.{or_else, with_rest, joined_digit, next_digit, digits_at}
+use Rattle.std.proofs.lemmas.Bool.Decides.{nat_tests}
+use Rattle.fb_model.specs.Spelling.{digit_value, is_digit, is_digit_in}
+use Rattle.fb_lex.specs.Scanning.{or_else, with_rest, joined_digit, next_digit, digits_at, from_digit, whole_at, behind_hash, named_base, base_at, in_base, number_at}
+use Rattle.fb_lex.proofs.Words.{pick}
 
 pub digits_digit : (base v c : ℕ) (bytes : List ℕ) → is_digit_in base c ≡ true → digits_at base v (c ∷ bytes) ≡ digits_at base (v * base + digit_value c) bytes
 unfolding digits_at
@@ -55,3 +57,36 @@ digits_none base v (c ∷ cs) e = by_digit (is_digit_in base c) refl e where
   by_digit : (b : Bool) → is_digit_in base c ≡ b → or_else (with_rest cs (cond b (Some (digit_value c)) None)) (joined_digit base c cs) ≡ None → digits_at base v (c ∷ cs) ≡ (v, c ∷ cs)
   by_digit true h f = absurd cc
   by_digit false h f = digits_over base v c cs h f
+
+-- ---- no number begins without a digit
+
+no_digit : (c : ℕ) → is_digit c ≡ false → is_digit_in 10 c ≡ false
+no_digit c h = grind (arith, nat_tests)
+
+no_one : (c : ℕ) → is_digit c ≡ false → (c == 49) ≡ false
+no_one c h = grind (arith, nat_tests)
+
+no_two : (c : ℕ) → is_digit c ≡ false → (c == 50) ≡ false
+no_two c h = grind (arith, nat_tests)
+
+no_eight : (c : ℕ) → is_digit c ≡ false → (c == 56) ≡ false
+no_eight c h = grind (arith, nat_tests)
+
+no_base : (c d : ℕ) (cs : List ℕ) → is_digit c ≡ false → base_at (c ∷ d ∷ cs) ≡ None
+no_base c d cs h =
+    pick (λ q. q ≡ None) (d == 35) (named_base c cs) (cond ((c == 49) && (d == 54)) (behind_hash cs) None)
+    (λ e. ap (λ b. cond b (Some (2, cs)) (cond (c == 56) (Some (8, cs)) None)) (no_two c h) ∙ ap (λ b. cond b (Some (8, cs)) None) (no_eight c h))
+    (λ e. ap (λ b. cond (b && (d == 54)) (behind_hash cs) None) (no_one c h))
+
+no_whole : (c : ℕ) (cs : List ℕ) → is_digit c ≡ false → whole_at 10 (c ∷ cs) ≡ None
+no_whole c cs h = ap (λ b. from_digit 10 (with_rest cs (cond b (Some (digit_value c)) None))) (no_digit c h)
+
+pub no_number : (bytes : List ℕ) → is_digit (get_or bytes 0 0) ≡ false → number_at bytes ≡ None
+unfolding number_at
+no_number [] h = refl
+no_number (c ∷ []) h = no_whole c [] h
+no_number (c ∷ d ∷ cs) h = ap (λ q. or_else (in_base q) (whole_at 10 (c ∷ d ∷ cs))) (no_base c d cs h) ∙ no_whole c (d ∷ cs) h
+
+pub empty_number : (bytes : List ℕ) → length bytes < 1 → number_at bytes ≡ None
+empty_number [] h = no_number [] refl
+empty_number (c ∷ cs) h = absurd (omega arith)

@@ -1,8 +1,12 @@
 -- Words, and the marks that are written so.
-use Rattle.std.proofs.Common.{◌≡◌, ◌≢◌, ℕ, ◌+◌, ◌⊎◌, Bool, true, false, cond, List, [], ◌∷◌, ◌++◌, length, Option, Some, None, refl, sym, ap, subst, ◌∙◌, inl, inr, length-append}
-use Rattle.std.specs.Prelude.{◌&&◌, ◌||◌}
-use Rattle.std.specs.Str.{bytes_eq}
+use Rattle.std.proofs.lemmas.Str.Ascii.{IsAscii-from_all}
+use Rattle.std.proofs.lemmas.List.Elements.{All-nil, All-cons}
+use Rattle.std.proofs.Math.Seq.{take-append_seam}
+use Rattle.std.proofs.Common.{◌≡◌, ◌≢◌, ℕ, ◌+◌, ◌-◌, ◌<◌, ◌≤◌, ◌⊎◌, Bool, true, false, cond, List, [], ◌∷◌, ◌++◌, length, take, get_or, map, nat_eq, Option, Some, None, refl, sym, ap, subst, ◌∙◌, inl, inr, arith, length-append}
+use Rattle.std.specs.Prelude.{◌&&◌, ◌||◌, ◌↔◌, IsTrue, All}
+use Rattle.std.specs.Str.{bytes_eq, IsAscii}
 use Rattle.std.proofs.lemmas.Bool.{false_from_ne_true}
+use Rattle.std.proofs.lemmas.Bool.Decides.{nat_tests}
 use Rattle.std.proofs.lemmas.Slice.Eq.{bytes_eq-Decides}
 use denote.Enum.Bare.{sameb, same_true}
 use Rattle.fb_words.specs.contracts.mark.Mark.{the_type}
@@ -10,8 +14,10 @@ use Rattle.fb_words.specs.declared.mark.TheConstants.{WORDS, SIGNS}
 use Rattle.fb_words.specs.declared.mark.Mark.{Mark}
 use Rattle.fb_words.specs.declared.mark.Mark.TheVariants as m
 use Rattle.fb_words.specs.Writing.{sign_text, word_text}
-use Rattle.fb_model.specs.Spelling.{is_digit, is_start, is_part, IsParts, no_part, part}
-use Rattle.fb_lex.specs.Scanning.{find, may_be_word, is_second, parts_at}
+use Rattle.fb_model.specs.Spelling.{is_digit, is_start, is_part, IsParts, no_part, part, upper}
+use Rattle.std.specs.Char.{to_ascii_uppercase, to_ascii_lowercase}
+use Rattle.std.proofs.lemmas.Str.Ascii.{lowercase-uppercase}
+use Rattle.fb_lex.specs.Scanning.{find, parts_at}
 
 pub chosen : {A : Type 0} (b : Bool) (x y z : A) → cond b x y ≡ z → ((b ≡ true) × (x ≡ z)) ⊎ ((b ≡ false) × (y ≡ z))
 chosen true x y z e = inl (refl, e)
@@ -100,31 +106,66 @@ find_sound text (j ∷ ks) t k e =
       | inr p ↦ find_sound text ks t k p.1
     ]
 
-may_or_empty : List ℕ → Bool
-may_or_empty [] = true
-may_or_empty (c ∷ cs) = may_be_word (c ∷ cs)
+-- ---- letters of either case
 
-all_begin : (k : Mark) → may_or_empty (word_text k) ≡ true
-unfolding may_or_empty may_be_word
-all_begin m.If = refl
-all_begin k = refl
+no_one : (k : Mark) → nat_eq (length (word_text k)) 1 ≡ false
+no_one m.If = refl
+no_one k = refl
 
--- no reserved word begins so
-pub no_word : (t : List ℕ) → may_be_word t ≡ false → find word_text WORDS t ≡ None
-unfolding may_or_empty
-no_word [] h = refl
-no_word (c ∷ cs) h = find_none word_text WORDS (c ∷ cs) (λ k e. let p : may_be_word (c ∷ cs) ≡ true = subst (λ u. may_or_empty u ≡ true) e (all_begin k) in let q : true ≡ false = sym p ∙ h in absurd cc)
+pub no_short : (t : List ℕ) → length t < 2 → find word_text WORDS t ≡ None
+no_short [] h = refl
+no_short (c ∷ []) h = find_none word_text WORDS (c ∷ []) (λ k e. let p = subst (λ u. nat_eq (length u) 1 ≡ false) e (no_one k) in absurd cc)
+no_short (c ∷ d ∷ cs) h = absurd (omega arith)
 
-second_or_other : List ℕ → Bool
-second_or_other (c ∷ d ∷ []) = is_second d
-second_or_other t = true
+all_upper : (k : Mark) → upper (word_text k) ≡ word_text k
+all_upper m.If = refl
+all_upper k = refl
 
-all_seconds : (k : Mark) → second_or_other (sign_text k) ≡ true
-unfolding second_or_other
-all_seconds m.Assign = refl
-all_seconds k = refl
+uppercase-lowercase : (c : ℕ) → to_ascii_uppercase (to_ascii_lowercase c) ≡ to_ascii_uppercase c
+uppercase-lowercase c = grind (arith, nat_tests)
 
--- no sign of two characters ends so
-pub no_second : (c d : ℕ) → is_second d ≡ false → find sign_text SIGNS (c ∷ d ∷ []) ≡ None
-unfolding second_or_other
-no_second c d h = find_none sign_text SIGNS (c ∷ d ∷ []) (λ k e. let p : is_second d ≡ true = subst (λ u. second_or_other u ≡ true) e (all_seconds k) in let q : true ≡ false = sym p ∙ h in absurd cc)
+upper_lower : (t : List ℕ) → upper (map to_ascii_lowercase t) ≡ upper t
+upper_lower [] = refl
+upper_lower (c ∷ cs) = ap (λ x. x ∷ upper (map to_ascii_lowercase cs)) (uppercase-lowercase c) ∙ ap (λ xs. to_ascii_uppercase c ∷ xs) (upper_lower cs)
+
+lower_upper : (t : List ℕ) → map to_ascii_lowercase (upper t) ≡ map to_ascii_lowercase t
+lower_upper [] = refl
+lower_upper (c ∷ cs) = ap (λ x. x ∷ map to_ascii_lowercase (upper cs)) (lowercase-uppercase c) ∙ ap (λ xs. to_ascii_lowercase c ∷ xs) (lower_upper cs)
+
+-- a text in upper case, and another in either case
+pub same_letters : (u t : List ℕ) (b : Bool) → upper u ≡ u → IsTrue b ↔ (map to_ascii_lowercase u ≡ map to_ascii_lowercase t) → bytes_eq u (upper t) ≡ b
+same_letters u t true e h = (bytes_eq-Decides u (upper t)).1 (sym e ∙ sym (upper_lower u) ∙ ap upper (h.0 refl) ∙ upper_lower t)
+same_letters u t false e h = false_from_ne_true _ (λ f. let q = h.1 (ap (λ x. map to_ascii_lowercase x) (text_is u (upper t) f) ∙ lower_upper t) in absurd cc)
+
+pub letters_same : (t u : List ℕ) (b : Bool) → upper u ≡ u → IsTrue b ↔ (map to_ascii_lowercase t ≡ map to_ascii_lowercase u) → bytes_eq (upper t) u ≡ b
+letters_same t u true e h = (bytes_eq-Decides (upper t) u).1 (sym (upper_lower t) ∙ ap upper (h.0 refl) ∙ upper_lower u ∙ e)
+letters_same t u false e h = false_from_ne_true _ (λ f. let q = h.1 (sym (lower_upper t) ∙ ap (λ x. map to_ascii_lowercase x) (text_is (upper t) u f)) in absurd cc)
+
+pub word_letters : (k : Mark) (t : List ℕ) (b : Bool) (u : List ℕ) → u ≡ word_text k → IsTrue b ↔ (map to_ascii_lowercase u ≡ map to_ascii_lowercase t) → bytes_eq (word_text k) (upper t) ≡ b
+word_letters k t b u e h = same_letters (word_text k) t b (all_upper k) (subst (λ x. IsTrue b ↔ (map to_ascii_lowercase x ≡ map to_ascii_lowercase t)) e h)
+
+-- a search among the words that begin so
+pub found_with : (t : List ℕ) (ks : List Mark) (c d : ℕ) → 2 ≤ length t → c ≡ to_ascii_uppercase (get_or t 0 0) → d ≡ to_ascii_uppercase (get_or t 1 0)
+    → ((cs : List ℕ) → find word_text ks (c ∷ d ∷ cs) ≡ find word_text WORDS (c ∷ d ∷ cs)) → find word_text ks (upper t) ≡ find word_text WORDS (upper t)
+found_with [] ks c d l e f h = absurd (omega arith)
+found_with (x ∷ []) ks c d l e f h = absurd (omega arith)
+found_with (x ∷ y ∷ t) ks c d l e f h = subst (λ u. find word_text ks u ≡ find word_text WORDS u) (ap (λ z. z ∷ d ∷ upper t) e ∙ ap (λ z. to_ascii_uppercase x ∷ z ∷ upper t) f) (h (upper t))
+
+-- ---- where a word ends
+
+pub front_is : (bytes rest : List ℕ) → rest ≡ (parts_at bytes).1 → take (length bytes - length rest) bytes ≡ (parts_at bytes).0
+front_is bytes rest e =
+    let l = parts_left bytes in
+    let r = ap length e in
+    let n : length bytes - length rest ≡ length (parts_at bytes).0 = omega arith in
+    ap (λ k. take k bytes) n ∙ ap (take (length (parts_at bytes).0)) (parts_sound bytes).1 ∙ take-append_seam (parts_at bytes).0 (parts_at bytes).1
+
+part_ascii : (c : ℕ) → is_part c ≡ true → c < 128
+part_ascii c h = grind (arith, nat_tests)
+
+all_ascii : {cs : List ℕ} → IsParts cs → All (λ b. b < 128) cs
+all_ascii no_part = All-nil (λ b. b < 128)
+all_ascii (part {c = c} {cs = cs} h t) = All-cons (λ b. b < 128) c cs (part_ascii c h) (all_ascii t)
+
+pub word_ascii : (bytes : List ℕ) → IsAscii (parts_at bytes).0
+word_ascii bytes = IsAscii-from_all (parts_at bytes).0 (all_ascii (parts_sound bytes).0)

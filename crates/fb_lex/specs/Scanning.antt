@@ -1,5 +1,5 @@
 -- What the lexer finds at the front of a list of characters, part by part.
-use Rattle.std.specs.Prelude.{ℕ, zero, suc, ◌+◌, ◌*◌, ◌^◌, List, [], ◌∷◌, Bool, true, false, ◌==◌, ◌&&◌, ◌||◌, nat_lt, Option, Some, None, if◌then◌else◌}
+use Rattle.std.specs.Prelude.{ℕ, zero, suc, ◌+◌, ◌*◌, ◌^◌, List, [], ◌∷◌, Bool, true, false, ◌==◌, ◌&&◌, nat_lt, Option, Some, None, if◌then◌else◌}
 use Rattle.std.specs.Str.{bytes_eq}
 use Rattle.std.specs.Char.{to_ascii_uppercase}
 use Rattle.fb_words.specs.declared.mark.TheConstants.{WORDS, SIGNS}
@@ -176,38 +176,6 @@ find_word t = find word_text WORDS t
 
 unfoldable pub find_sign : List ℕ → Option Mark
 find_sign t = find sign_text SIGNS t
-
--- whether a reserved word begins with these two characters
-abbrev pub begins : ℕ → ℕ → Bool
-begins c d =
-    if c == 65 then (d == 76) || (d == 82) || (d == 78)
-    else if c == 66 then (d == 89) || (d == 79)
-    else if c == 67 then d == 65
-    else if c == 68 then (d == 65) || (d == 69) || (d == 79) || (d == 73)
-    else if c == 69 then (d == 67) || (d == 76) || (d == 78) || (d == 86)
-    else if c == 70 then (d == 65) || (d == 66) || (d == 79) || (d == 85)
-    else if c == 73 then (d == 70) || (d == 78)
-    else if c == 76 then d == 73
-    else if c == 77 then d == 79
-    else if c == 78 then d == 79
-    else if c == 79 then (d == 70) || (d == 82)
-    else if c == 82 then d == 69
-    else if c == 83 then (d == 73) || (d == 89)
-    else if c == 84 then (d == 72) || (d == 73) || (d == 79) || (d == 82)
-    else if c == 85 then (d == 68) || (d == 73) || (d == 83)
-    else if c == 86 then d == 65
-    else if c == 87 then d == 73
-    else if c == 88 then d == 79
-    else false
-
-unfoldable pub may_be_word : List ℕ → Bool
-may_be_word [] = false
-may_be_word (c ∷ []) = false
-may_be_word (c ∷ d ∷ cs) = begins c d
-
--- whether a sign of two characters may end so
-abbrev pub is_second : ℕ → Bool
-is_second d = (d == 61) || (d == 62) || (d == 46)
 
 abbrev pub named : List ℕ → Option Mark → Kind
 named t None = name t

@@ -1,7 +1,7 @@
 //! Literals with `#`. A token is `None` where its number is beyond its limit.
 
 ghost use Rattle.std.specs.Prelude.{◌≡◌, ℕ, Option};
-ghost use Rattle.fb_model.specs.Spelling.{is_integer, is_time_word};
+ghost use Rattle.fb_model.specs.Spelling.{upper, is_integer, is_time_word};
 ghost use Rattle.fb_model.specs.Tokens as book;
 ghost use Rattle.fb_lex.specs.Scanning.{integer_type, minus_at, typed_by, lasting, span_at, number_at, literal_at};
 ghost use Rattle.fb_lex.specs.Lexing.{Counts, Stays, GivesKind};
@@ -32,10 +32,10 @@ fn integer_type(mark: Option<Mark>) -> Option<ElemType>
     if is_integer(elem) { Some(elem) } else { None }
 }
 
-fn is_time_word(word: &str) -> bool
-    ensures { result ≡ is_time_word word.now }
+fn is_time_word(word: &[u8]) -> bool
+    ensures { result ≡ is_time_word (upper word.now) }
 {
-    word == "T" || word == "TIME"
+    word.eq_ignore_ascii_case(b"T") || word.eq_ignore_ascii_case(b"TIME")
 }
 
 fn minus_at(bytes: &[u8]) -> (bool, &[u8])
@@ -86,11 +86,11 @@ fn duration_at(negative: bool, bytes: &[u8]) -> Option<(Option<Kind>, &[u8])>
 /// What continues a word to a literal, and what is left.
 #[tactic(auto, unfolding(crate::specs::Scanning::literal_at))]
 pub(crate) fn literal_at<'a>(
-    word: &str,
+    word: &[u8],
     mark: Option<Mark>,
     bytes: &'a [u8],
 ) -> Option<(Option<Kind>, &'a [u8])>
-    ensures { GivesKind result (literal_at word.now mark bytes.now) }
+    ensures { GivesKind result (literal_at (upper word.now) mark bytes.now) }
 {
     let [byte, behind @ ..] = bytes else {
         return None;

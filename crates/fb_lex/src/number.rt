@@ -1,10 +1,10 @@
 //! Whole numbers. A value is `None` where it does not fit 64 bits.
 
-ghost use Rattle.std.specs.Prelude.{◌≡◌, ℕ, ◌+◌, ◌*◌, ◌≤◌, ◌<◌, length, IfSome};
+ghost use Rattle.std.specs.Prelude.{◌≡◌, ℕ, false, None, ◌+◌, ◌*◌, ◌≤◌, ◌<◌, length, IfSome};
 ghost use Rattle.fb_lex.specs.Scanning.{first_digit, joined_digit, next_digit, digits_at, whole_at, base_at, named_base, behind_hash, in_base, number_at};
 ghost use Rattle.fb_lex.specs.Lexing.{Gives, Counts, GivesNumber, CountsAt};
 
-use crate::characters::digit_in;
+use crate::characters::{digit_in, is_digit};
 
 /// A digit, or a `_` and a digit, and what is behind.
 fn next_digit(base: u64, bytes: &[u8]) -> Option<(u64, &[u8])>
@@ -125,11 +125,24 @@ fn based_at(bytes: &[u8]) -> Option<(Option<u64>, &[u8])>
     }
 }
 
+// Whether a number may begin so. (Most that are asked for are signs.)
+fn begins_number(bytes: &[u8]) -> bool
+    ensures { result ≡ false → number_at bytes.now ≡ None }
+{
+    match bytes {
+        [byte, ..] => is_digit(*byte),
+        [] => false,
+    }
+}
+
 /// A number with or without a base before it, and what is left.
 #[tactic(auto, unfolding(crate::specs::Scanning::number_at))]
 pub(crate) fn number_at(bytes: &[u8]) -> Option<(Option<u64>, &[u8])>
     ensures { GivesNumber result (number_at bytes.now) }
 {
+    if !begins_number(bytes) {
+        return None;
+    }
     match based_at(bytes) {
         Some(found) => Some(found),
         None => whole_at(10, bytes),

@@ -61,11 +61,11 @@ fn scan_plain(start: usize, bytes: &[u8]) -> Result<(Kind, &[u8]), TextFault>
 fn scan_word(alloc: Global, start: usize, bytes: &[u8]) -> Result<(Kind, &[u8]), TextFault>
     ensures { Scans start result (Some (word_at bytes.now)) }
 {
-    let (word, behind) = word_at(alloc, bytes)?;
-    let mark = find_word(word.as_str());
-    match literal_at(word.as_str(), mark, behind) {
+    let (word, behind) = word_at(bytes);
+    let mark = find_word(word);
+    match literal_at(word, mark, behind) {
         Some((kind, rest)) => fitting(start, kind, rest),
-        None => Ok((named(word, mark), behind)),
+        None => Ok((named(alloc, word, mark)?, behind)),
     }
 }
 

@@ -1,7 +1,7 @@
 //! Signs.
 
-ghost use Rattle.std.specs.Prelude.{◌≡◌, ◌∷◌, []};
-ghost use Rattle.fb_lex.specs.Scanning.{find_sign, is_second, one_sign, two_signs, sign_at};
+ghost use Rattle.std.specs.Prelude.{◌≡◌, ℕ, ◌∷◌, [], false, None};
+ghost use Rattle.fb_lex.specs.Scanning.{find_sign, one_sign, two_signs, sign_at};
 ghost use Rattle.fb_lex.specs.Lexing.{Gives};
 
 use fb_words::{Mark, SIGNS};
@@ -57,8 +57,9 @@ fn one_sign(bytes: &[u8]) -> Option<(Mark, &[u8])>
 }
 
 // Whether a sign of two characters may end so.
+#[tactic(auto, unfolding(crate::specs::Scanning::find_sign))]
 fn is_second(byte: u8) -> bool
-    ensures { result ≡ is_second byte }
+    ensures { (first : ℕ) → result ≡ false → find_sign (first ∷ byte ∷ []) ≡ None }
 {
     byte == b'=' || byte == b'>' || byte == b'.'
 }

@@ -1,10 +1,10 @@
 //! Words and names.
 
-ghost use Rattle.std.specs.Prelude.{◌≡◌, ℕ, List, ◌∷◌, IfOk, string_bytes};
-ghost use Rattle.fb_words.specs.declared.mark.TheConstants.{WORDS};
+ghost use Rattle.std.specs.Prelude.{◌≡◌, ℕ, List, ◌∷◌, false, None, IfOk, string_bytes};
+ghost use Rattle.std.specs.Str.{IsAscii};
 ghost use Rattle.fb_words.specs.Writing.{word_text};
 ghost use Rattle.fb_model.specs.Spelling.{upper};
-ghost use Rattle.fb_lex.specs.Scanning.{parts_at, find, begins, find_word, may_be_word, named};
+ghost use Rattle.fb_lex.specs.Scanning.{parts_at, find, find_word, named};
 ghost use Rattle.fb_lex.specs.Views.{kind_of};
 
 use crate::characters::is_part;
@@ -12,25 +12,33 @@ use crate::token::Kind;
 use fb_words::{Mark, WORDS};
 use std::alloc::{AllocError, Global};
 
-/// The letters, digits and `_` that stand there, in upper case, and what is left.
-pub(crate) fn word_at(alloc: Global, bytes: &[u8]) -> Result<(String, &[u8]), AllocError>
-    ensures word { IfOk result (λ p. string_bytes p.0 ≡ upper (parts_at bytes.now).0) }
-    ensures left { IfOk result (λ p. p.1.now ≡ (parts_at bytes.now).1) }
+// What is left behind the letters, digits and `_` that stand there.
+fn behind_word(bytes: &[u8]) -> &[u8]
+    ensures { result.now ≡ (parts_at bytes.now).1 }
 {
-    let mut word = String::new(alloc);
     let mut rest = bytes;
     while let [byte, behind @ ..] = rest
         && is_part(*byte)
     {
-        word.push(byte.to_ascii_uppercase() as char)?;
         rest = behind;
     }
-    Ok((word, rest))
+    rest
+}
+
+/// The letters, digits and `_` that stand there, and what is left.
+pub(crate) fn word_at(bytes: &[u8]) -> (&[u8], &[u8])
+    ensures word { result.0.now ≡ (parts_at bytes.now).0 }
+    ensures left { result.1.now ≡ (parts_at bytes.now).1 }
+    ensures ascii { IsAscii result.0.now }
+{
+    let behind = behind_word(bytes);
+    (&bytes[..bytes.len() - behind.len()], behind)
 }
 
 // Whether a reserved word may begin so.
+#[tactic(auto, unfolding(crate::specs::Scanning::find_word))]
 fn begins(first: u8, second: u8) -> bool
-    ensures { result ≡ begins first second }
+    ensures { (cs : List ℕ) → result ≡ false → find_word (first ∷ second ∷ cs) ≡ None }
 {
     match first {
         b'A' => second == b'L' || second == b'R' || second == b'N',
@@ -47,7 +55,7 @@ fn begins(first: u8, second: u8) -> bool
         b'R' => second == b'E',
         b'S' => second == b'I' || second == b'Y',
         b'T' => second == b'H' || second == b'I' || second == b'O' || second == b'R',
-        b'U' => second == b'D' || second == b'I' || second == b'S',
+        b'U' => second == b'S' || second == b'I' || second == b'D',
         b'V' => second == b'A',
         b'W' => second == b'I',
         b'X' => second == b'O',
@@ -55,99 +63,102 @@ fn begins(first: u8, second: u8) -> bool
     }
 }
 
-#[tactic(auto, unfolding(crate::specs::Scanning::may_be_word))]
-fn may_be_word(bytes: &[u8]) -> bool
-    ensures { result ≡ may_be_word bytes.now }
-{
-    match bytes {
-        [first, second, ..] => begins(*first, *second),
-        _ => false,
-    }
-}
-
-// The first of these reserved words that is written so.
-fn find_among(words: &[Mark], text: &str) -> Option<Mark>
-    ensures { result ≡ find word_text words.now text.now }
+// The first of these reserved words that is written so, in letters of either case.
+fn find_among(words: &[Mark], word: &[u8]) -> Option<Mark>
+    ensures { result ≡ find word_text words.now (upper word.now) }
 {
     for mark in words {
-        if mark.word() == text {
+        if mark.word().as_bytes().eq_ignore_ascii_case(word) {
             return Some(*mark);
         }
     }
     None
 }
 
-// The same of all reserved words, where it begins with E.
-fn find_behind_e(text: &str) -> Option<Mark>
-    ensures { (cs : List ℕ) → text.now ≡ 69 ∷ cs → result ≡ find word_text WORDS text.now }
-{
-    match text.as_bytes() {
-        [_, b'C', ..] => find_among(&[Mark::EcStates, Mark::EcTransitions], text),
-        [_, b'L', ..] => find_among(&[Mark::Elsif, Mark::Else], text),
-        [_, b'N', ..] => find_among(
-            &[
-                Mark::EndFunctionBlock,
-                Mark::EndEvent,
-                Mark::EndVar,
-                Mark::EndStates,
-                Mark::EndTransitions,
-                Mark::EndAlgorithm,
-                Mark::EndFbs,
-                Mark::EndConnections,
-                Mark::EndSystem,
-                Mark::EndDevice,
-                Mark::EndResource,
-                Mark::EndIf,
-                Mark::EndCase,
-                Mark::EndFor,
-            ],
-            text,
-        ),
-        [_, b'V', ..] => find_among(
-            &[Mark::EventInput, Mark::EventOutput, Mark::EventConnections],
-            text,
-        ),
-        _ => find_among(&WORDS, text),
-    }
-}
-
-/// The reserved word that is written so: those that begin with its first letter are looked through.
+// All reserved words that begin with E and this character, and perhaps more.
 #[tactic(auto, unfolding(crate::specs::Scanning::find_word))]
-pub(crate) fn find_word(text: &str) -> Option<Mark>
-    ensures { result ≡ find_word text.now }
+fn words_with_e(second: u8) -> &'static [Mark]
+    ensures { (cs : List ℕ) → find word_text result.now (69 ∷ second ∷ cs) ≡ find_word (69 ∷ second ∷ cs) }
 {
-    if !may_be_word(text.as_bytes()) {
-        return None;
-    }
-    match text.as_bytes() {
-        [b'A', ..] => find_among(&[Mark::Algorithm, Mark::Array, Mark::And], text),
-        [b'B', ..] => find_among(&[Mark::By, Mark::Bool], text),
-        [b'D', ..] => find_among(
-            &[Mark::DataConnections, Mark::Device, Mark::Do, Mark::Dint],
-            text,
-        ),
-        [b'E', ..] => find_behind_e(text),
-        [b'F', ..] => find_among(
-            &[Mark::FunctionBlock, Mark::Fbs, Mark::For, Mark::False],
-            text,
-        ),
-        [b'I', ..] => find_among(&[Mark::If, Mark::Int], text),
-        [b'M', ..] => find_among(&[Mark::Mod], text),
-        [b'O', ..] => find_among(&[Mark::Of, Mark::Or], text),
-        [b'R', ..] => find_among(&[Mark::Resource], text),
-        [b'S', ..] => find_among(&[Mark::System, Mark::Sint], text),
-        [b'T', ..] => find_among(&[Mark::To, Mark::Then, Mark::True, Mark::Time], text),
-        [b'U', ..] => find_among(&[Mark::Usint, Mark::Uint, Mark::Udint], text),
-        [b'V', ..] => find_among(&[Mark::VarInput, Mark::VarOutput, Mark::Var], text),
-        _ => find_among(&WORDS, text),
+    match second {
+        b'C' => &[Mark::EcStates, Mark::EcTransitions],
+        b'L' => &[Mark::Elsif, Mark::Else],
+        b'N' => &[
+            Mark::EndFunctionBlock,
+            Mark::EndEvent,
+            Mark::EndVar,
+            Mark::EndStates,
+            Mark::EndTransitions,
+            Mark::EndAlgorithm,
+            Mark::EndFbs,
+            Mark::EndConnections,
+            Mark::EndSystem,
+            Mark::EndDevice,
+            Mark::EndResource,
+            Mark::EndIf,
+            Mark::EndCase,
+            Mark::EndFor,
+        ],
+        b'V' => &[Mark::EventInput, Mark::EventOutput, Mark::EventConnections],
+        _ => &WORDS,
     }
 }
 
-pub(crate) fn named(word: String, mark: Option<Mark>) -> Kind
-    ensures { kind_of result ≡ named (string_bytes word) mark }
+// All reserved words that begin with these characters, and perhaps more.
+#[tactic(auto, unfolding(crate::specs::Scanning::find_word))]
+fn words_with(first: u8, second: u8) -> &'static [Mark]
+    ensures { (cs : List ℕ) → find word_text result.now (first ∷ second ∷ cs) ≡ find_word (first ∷ second ∷ cs) }
+{
+    if !begins(first, second) {
+        return &[];
+    }
+    match first {
+        b'A' => &[Mark::Algorithm, Mark::Array, Mark::And],
+        b'B' => &[Mark::By, Mark::Bool],
+        b'D' => &[Mark::DataConnections, Mark::Device, Mark::Do, Mark::Dint],
+        b'E' => words_with_e(second),
+        b'F' => &[Mark::FunctionBlock, Mark::Fbs, Mark::For, Mark::False],
+        b'I' => &[Mark::If, Mark::Int],
+        b'M' => &[Mark::Mod],
+        b'O' => &[Mark::Of, Mark::Or],
+        b'R' => &[Mark::Resource],
+        b'S' => &[Mark::System, Mark::Sint],
+        b'T' => &[Mark::To, Mark::Then, Mark::True, Mark::Time],
+        b'U' => &[Mark::Usint, Mark::Uint, Mark::Udint],
+        b'V' => &[Mark::VarInput, Mark::VarOutput, Mark::Var],
+        _ => &WORDS,
+    }
+}
+
+/// The reserved word that is written so, in letters of either case.
+#[tactic(auto, unfolding(crate::specs::Scanning::find_word))]
+pub(crate) fn find_word(word: &[u8]) -> Option<Mark>
+    ensures { result ≡ find_word (upper word.now) }
+{
+    let [first, second, ..] = word else {
+        return None;
+    };
+    let words = words_with(first.to_ascii_uppercase(), second.to_ascii_uppercase());
+    find_among(words, word)
+}
+
+fn name(alloc: Global, word: &[u8]) -> Result<String, AllocError>
+    requires { IsAscii word.now }
+    ensures { IfOk result (λ t. string_bytes t ≡ upper word.now) }
+{
+    match std::str::from_utf8(word) {
+        Ok(text) => text.to_ascii_uppercase(alloc),
+        Err(_) => unreachable!(),
+    }
+}
+
+/// The mark if the word is one, and else the name.
+pub(crate) fn named(alloc: Global, word: &[u8], mark: Option<Mark>) -> Result<Kind, AllocError>
+    requires { IsAscii word.now }
+    ensures { IfOk result (λ k. kind_of k ≡ named (upper word.now) mark) }
 {
     match mark {
-        Some(mark) => Kind::Mark(mark),
-        None => Kind::Name(word),
+        Some(mark) => Ok(Kind::Mark(mark)),
+        None => Ok(Kind::Name(name(alloc, word)?)),
     }
 }
