@@ -1,11 +1,12 @@
 -- The end of a comment, and that each step leaves less.
-use Rattle.std.proofs.Common.{◌≡◌, ◌≢◌, ℕ, ◌<◌, Bool, true, false, cond, List, [], ◌∷◌, ◌++◌, length, Option, Some, None, refl, sym, ap, subst, ◌∙◌, arith, inl, inr, length-append}
+use Rattle.std.proofs.Math.Seq.{take-length}
+use Rattle.std.proofs.Common.{◌-◌, ◌≤◌, get_or, take, drop, ◌≡◌, ◌≢◌, ℕ, ◌<◌, Bool, true, false, cond, List, [], ◌∷◌, ◌++◌, length, Option, Some, None, refl, sym, ap, subst, ◌∙◌, arith, inl, inr, length-append}
 use Rattle.std.specs.Prelude.{◌==◌, ◌&&◌}
 use Rattle.std.proofs.lemmas.Bool.{eqb-true}
 use Rattle.fb_model.specs.Tokens.{Kind, Token}
 use Rattle.fb_model.specs.Spelling.{is_layout, IsWhole, whole, IsNumber, decimal, based, IsWord, word, IsLexeme, a_word, a_name, a_number, a_typed, a_duration, a_sign, Closes, closed, inside, IsGap, layout, comment, OpensNone}
 use Rattle.fb_lex.specs.Scanning.{closes_at, Between, past, unclosed, nothing, closed_or, comment_at, gap_at, scan}
-use Rattle.fb_lex.specs.Lexing.{Passes}
+use Rattle.fb_lex.specs.Lexing.{Passes, Gaps, one_more}
 use Rattle.fb_lex.proofs.Words.{chosen, both_true}
 use Rattle.fb_lex.proofs.Sound.{ReadsKind, scan_sound}
 
@@ -83,6 +84,13 @@ gap_none bytes e cs h = no_gap (closes_at cs) (sym (ap gap_at h) ∙ e) where
   no_gap : (o : Option (List ℕ)) → closed_or o ≡ nothing → ⊥
   no_gap None f = absurd cc
   no_gap (Some r) f = absurd cc
+
+-- one more layout character is passed
+pub layout_more : {bytes : List ℕ} (rest : List ℕ) → 1 ≤ length rest → is_layout (get_or rest 0 0) ≡ true → Gaps bytes rest → Gaps bytes (take (length rest - 1) (drop 1 rest))
+layout_more [] l h g = absurd (omega arith)
+layout_more {bytes = bytes} (c ∷ cs) l h g =
+    let n : length (c ∷ cs) - 1 ≡ length cs = omega arith in
+    subst (λ xs. Gaps bytes xs) (sym (ap (λ k. take k cs) n ∙ take-length cs)) (one_more g (layout h))
 
 closes_shorter : {bytes rest : List ℕ} → Closes bytes rest → length rest < length bytes
 closes_shorter closed = omega arith

@@ -8,7 +8,7 @@ use Rattle.fb_model.specs.Spelling.{is_layout, IsLexeme, IsLongest, Fits, IsGap,
 use Rattle.fb_lex.specs.Scanning.{scan, closes_at, Between, past, unclosed, nothing, closed_or, gap_at, is_fit}
 use Rattle.fb_lex.specs.declared.fault.TextFault.{TextFault}
 use Rattle.fb_lex.specs.declared.fault.TextFault.TheVariants.{OutOfMemory, BadCharacter, Syntax, TooDeep, TooLong, BigNumber}
-use Rattle.fb_lex.specs.Lexing.{Passes, Sticks, Exceeds, Steps, Finds, Refuses}
+use Rattle.fb_lex.specs.Lexing.{Passes, Sticks, Exceeds, Steps, Finds, Refuses, Gaps, no_gap, one_more}
 use Rattle.fb_lex.proofs.Words.{both_true}
 use Rattle.fb_lex.proofs.Sound.{ReadsKind, scan_sound}
 use Rattle.fb_lex.proofs.Steps.{gap_sound, gap_found, gap_none, gap_shorter, lexeme_long, scan_shorter}
@@ -179,6 +179,20 @@ steps_on total bytes rest left before after le r p = by_gap (gap_at rest) refl p
       let a = scan_shorter rest left k e in
       let place : total - length rest + (length rest - length left) ≡ total - length left = omega arith in
       subst (λ ts. Reached bytes (total - length left) left ts) (sym more) (subst (λ n. Reached bytes n left (before ++ token k (total - length rest) n ∷ [])) place (over_a_token bytes rest left (total - length rest) before k r g e f))
+
+pub gaps_on : {from left : List ℕ} → Gaps from left → (total : ℕ) (bytes : List ℕ) (ts : List Token) → length from ≤ total → Reached bytes (total - length from) from ts
+    → (length left ≤ length from) × Reached bytes (total - length left) left ts
+gaps_on no_gap total bytes ts le r = (omega arith, r)
+gaps_on (one_more {rest = rest} {left = left} before g) total bytes ts le r =
+    let a = gaps_on before total bytes ts le r in
+    let b = gap_shorter g in
+    let e = a.0 in
+    let place : total - length rest + (length rest - length left) ≡ total - length left = omega arith in
+    (omega arith, subst (λ n. Reached bytes n left ts) place (over_a_gap bytes rest left (total - length rest) ts a.1 (gap_found g)))
+
+pub gaps_shorter : {from left : List ℕ} → Gaps from left → length left ≤ length from
+gaps_shorter no_gap = omega arith
+gaps_shorter (one_more before g) = let a = gaps_shorter before in let b = gap_shorter g in omega arith
 
 -- ---- what a text is
 

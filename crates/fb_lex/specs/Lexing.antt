@@ -3,7 +3,7 @@ use Rattle.std.specs.Prelude.{◌≡◌, ℕ, ◌-◌, ◌++◌, ◌≤◌, ◌<
 use Rattle.std.specs.Borrow.{Bor}
 use Rattle.std.specs.Global.{Global}
 use Rattle.fb_model.specs.Tokens as book
-use Rattle.fb_model.specs.Spelling.{IsBad, IsBig, FirstAt, text_limit}
+use Rattle.fb_model.specs.Spelling.{IsBad, IsBig, FirstAt, IsGap, text_limit}
 use Rattle.fb_lex.specs.declared.token.Token.{Token}
 use Rattle.fb_lex.specs.declared.token.Kind.{Kind}
 use Rattle.fb_lex.specs.declared.span.Unit.{Unit as TimeUnit}
@@ -69,6 +69,11 @@ Skips at (Err (BigNumber a)) q = ⊥
 Skips at (Err (Syntax a)) q = ⊥
 Skips at (Err (TooDeep a)) q = ⊥
 Skips at (Err TooLong) q = ⊥
+
+-- what gaps leave, however many
+pub data Gaps (bytes : List ℕ) : List ℕ → Type 0 where
+  no_gap : Gaps bytes bytes
+  one_more : {rest left : List ℕ} → Gaps bytes rest → IsGap rest left → Gaps bytes left
 
 -- what one step leaves, and the tokens after it
 abbrev pub Passes : ℕ → List ℕ → List ℕ → List book.Token → List book.Token → Between → Type 0

@@ -1,7 +1,7 @@
 //! Layout and comments.
 
 ghost use Rattle.fb_lex.specs.Scanning.{closes_at, comment_at, gap_at};
-ghost use Rattle.fb_lex.specs.Lexing.{Closing, Skips};
+ghost use Rattle.fb_lex.specs.Lexing.{Closing, Gaps, Skips};
 
 use crate::characters::is_layout;
 use crate::fault::TextFault;
@@ -45,4 +45,17 @@ pub(crate) fn gap_at(start: usize, bytes: &[u8]) -> Result<Option<&[u8]>, TextFa
         [byte, behind @ ..] if is_layout(*byte) => Ok(Some(behind)),
         _ => comment_at(start, bytes),
     }
+}
+
+/// What is left behind the layout characters that stand there.
+pub(crate) fn behind_layout(bytes: &[u8]) -> &[u8]
+    ensures { Gaps bytes.now result.now }
+{
+    let mut left = bytes;
+    while let [byte, behind @ ..] = left
+        && is_layout(*byte)
+    {
+        left = behind;
+    }
+    left
 }

@@ -8,7 +8,7 @@ ghost use Rattle.fb_lex.specs.Lexing.{Steps, Finds, Refuses};
 ghost use Rattle.fb_lex.specs.Views.{tokens_of};
 
 use crate::fault::TextFault;
-use crate::gap::gap_at;
+use crate::gap::{behind_layout, gap_at};
 use crate::scan::scan;
 use crate::token::Token;
 use std::alloc::Global;
@@ -51,9 +51,9 @@ pub fn lex(alloc: Global, text: &str) -> Result<Vec<Token>, TextFault>
         return Err(TextFault::TooLong);
     }
     let mut tokens = Vec::new(alloc);
-    let mut rest = bytes;
+    let mut rest = behind_layout(bytes);
     while !rest.is_empty() {
-        rest = step(alloc, bytes.len(), rest, &mut tokens)?;
+        rest = behind_layout(step(alloc, bytes.len(), rest, &mut tokens)?);
     }
     Ok(tokens)
 }
