@@ -1,3 +1,6 @@
+use Rattle.std.proofs.Common.{subst, arith}
+use Rattle.std.proofs.lemmas.List.{take_all}
+use Rattle.std.specs.List.{AllByRecursion}
 use Rattle.std.proofs.lemmas.Result.{err_from_is_err_and}
 use Rattle.fb_model.specs.Ranges.{IsClearAlgorithm}
 use Rattle.fb_ranges.specs.Views.{spans_of}
@@ -25,3 +28,9 @@ loop-index-preserved c =
           all_more (λ (q : Procedure). IsClearAlgorithm (spans_of c.args.rows.now) (procedure_text q)) c.args.procedures.now.entries c.loop-index.index e g.0 g.1 c.loop-index.invariant.all
           c.in_ok-algorithm_clear.ensures.answer;
     }
+
+pub returns : goal.returns
+returns c =
+    subst (AllByRecursion (λ (p : Procedure). IsClearAlgorithm (spans_of c.args.rows.now) (procedure_text p)))
+    (take_all c.loop-index.index c.args.procedures.now.entries (omega (arith, c.loop-index-test.false, c.len-index-end.ensures.len)))
+    c.loop-index.invariant.all
