@@ -1,19 +1,15 @@
 -- What the algorithms of a block cost.
-use Rattle.std.proofs.Common.{◌≡◌, ◌<◌, ◌+◌, ◌*◌, ◌++◌, ℕ, take, length, get_or, Bool, true, false, cond, List, [], ◌∷◌, map, None, Some, refl, sym, ap, ◌∙◌, string_bytes, arith}
-use Rattle.std.specs.Prelude.{nat_le}
-use Rattle.std.proofs.lemmas.Bool.{leb-false}
+use Rattle.std.proofs.Common.{◌≡◌, ◌<◌, ◌+◌, ◌*◌, ◌++◌, ℕ, take, length, get_or, Bool, true, false, cond, List, [], ◌∷◌, map, Some, refl, sym, ap, ◌∙◌, string_bytes, arith}
 use Rattle.std.specs.Str.{bytes_eq}
 use Rattle.std.specs.declared.string.String.{String}
 use Rattle.std.specs.declared.alloc.Global.{Global}
 use Rattle.fb_model.specs.Names.{Name}
 use Rattle.fb_model.specs.System as book
 use Rattle.fb_model.specs.Charts.{named}
-use Rattle.fb_model.specs.Clear.{Spans, Found, Clear, found_cost, cost}
+use Rattle.fb_model.specs.Clear.{Spans, cost}
 use Rattle.fb_model.specs.Ranges.{cost_of}
 use Rattle.st_types.specs.declared.whole.Algo.{Algo}
 use Rattle.st_types.specs.CommandViews.{commands_of}
-use Rattle.fb_ranges.specs.Answers.{most_steps}
-use Rattle.fb_check_columns.specs.Sums.{IsSum}
 use Rattle.fb_check_columns.specs.Reckoning.{value_at}
 use Rattle.fb_types_blocks.proofs.Lists.{mapped_more}
 use Rattle.fb_check_columns.proofs.Lists.{bytes_turned}
@@ -37,22 +33,6 @@ named_cost u spans (e ∷ es) x = by (bytes_eq x (string_bytes e.0)) refl (named
       ≡ u * cost_of spans (cond (bytes_eq (string_bytes e.0) x) (Some (commands_of e.1.statements.items)) (named (map procedure_of es) x))
   by true h others = ap (λ t. u * cost_of spans (cond t (Some (commands_of e.1.statements.items)) (named (map procedure_of es) x))) (sym (bytes_turned x (string_bytes e.0) true h))
   by false h others = others ∙ ap (λ t. u * cost_of spans (cond t (Some (commands_of e.1.statements.items)) (named (map procedure_of es) x))) (sym (bytes_turned x (string_bytes e.0) false h))
-
-one : (n : ℕ) → n ≡ 1 * n
-one n = omega arith
-
-many : (n : ℕ) → nat_le n 1000000000000 ≡ false → 1000000000000 < 1 * n
-many n h = let k = leb-false n 1000000000000 h in omega (arith, k)
-
-steps : (n : ℕ) (b : Bool) → nat_le n 1000000000000 ≡ b → IsSum (cond b (Some n) None) (1 * n)
-steps n true h = one n
-steps n false h = many n h
-
--- the most steps of what is clear are its cost, where they are told
-pub most_cost : (f : Found) (end : Spans) (n : ℕ) → f ≡ Clear end n → IsSum (most_steps f) (1 * found_cost f)
-most_cost (Clear spans m) end n e = steps m (nat_le m 1000000000000) refl
-most_cost Found.Leaves end n e = absurd cc
-most_cost Found.Traps end n e = absurd cc
 
 map_end : {X Y : Type 0} (f : X → Y) (xs : List X) (x : X) → map f (xs ++ x ∷ []) ≡ map f xs ++ f x ∷ []
 map_end f [] x = refl

@@ -1,5 +1,5 @@
 -- Refusals of a block.
-use Rattle.std.proofs.Common.{Result, Ok, Err, inr, string_bytes}
+use Rattle.std.proofs.Common.{Result, Ok, Err, inl, inr, string_bytes}
 use Rattle.std.specs.Prelude.{MatchResult}
 use Rattle.std.specs.List.{AllByRecursion}
 use Rattle.fb_model.specs.Names.{Name}
@@ -24,6 +24,9 @@ module _ (c : Column) (rows : cert.Certificate) (path : Name) (block : Block) (l
   owed_weight (Weight row) h = h
   owed_weight (Charge row) h = absurd h
   owed_weight (Channel number) h = absurd h
+
+  pub state_owes : (e : Shortfall) → NamesOne (IsCharge path) (λ s. string_bytes s.0) (StatePays c rows path block loads) block.states.entries (Err e) → IsOwing c rows path block loads e
+  state_owes e h = owed_charge e (charge_weaker path _ _ e (λ y p. inl p) h)
 
   pub source_owes : (e : Shortfall) → NamesOne (IsCharge path) (λ t. string_bytes t.source) (SourcePays c rows path (costs_in block loads)) block.transitions.items (Err e) → IsOwing c rows path block loads e
   source_owes e h = owed_charge e (charge_weaker path _ _ e (λ y p. inr p) h)

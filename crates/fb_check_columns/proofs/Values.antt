@@ -1,13 +1,18 @@
 -- Look-ups by the place of a name.
-use Rattle.std.proofs.Common.{◌≡◌, ℕ, zero, suc, ◌+◌, ◌<◌, ◌≤◌, drop, map, List, [], ◌∷◌, ◌++◌, Bool, true, false, cond, length, get_or, Option, Some, None, option_map, refl, sym, ap, ◌∙◌, arith}
+use Rattle.std.proofs.Common.{◌≡◌, ℕ, zero, suc, ◌+◌, ◌<◌, ◌≤◌, drop, map, List, [], ◌∷◌, ◌++◌, Bool, true, false, cond, length, get_or, slice_get, Option, Some, None, option_map, refl, sym, ap, subst, ◌∙◌, position, string_bytes, Global, arith}
+use Rattle.std.specs.Prelude.{min}
+use Rattle.std.specs.declared.string.String.{String}
+use Rattle.indexmap.specs.IndexMap.{IndexMap, keys}
 use Rattle.std.specs.Str.{bytes_eq}
 use Rattle.std.proofs.Math.Seq.{drop-cons}
 use Rattle.std.specs.List.{sum_by}
 use Rattle.std.proofs.lemmas.List.Sums.{sum_by-drop_more, sum_by-cons}
 use Rattle.fb_model.specs.Names.{Name}
-use Rattle.fb_types_networks.proofs.Places.{place}
+use Rattle.fb_model.specs.CertificateText.{most_steps}
+use Rattle.fb_model.proofs.Lists.{same_name}
+use Rattle.fb_types_networks.proofs.Places.{place, position_is, position_map}
 use Rattle.fb_check_columns.specs.Sums.{IsSum}
-use Rattle.fb_check_columns.specs.Reckoning.{value_at, AreSums}
+use Rattle.fb_check_columns.specs.Reckoning.{table_names, value_at, AreSums}
 
 abbrev pub by_place : {A : Type 0} → List A → A → Option ℕ → A
 by_place xs other None = other
@@ -76,3 +81,54 @@ sum_image f h xs i x l v total k =
     let next : suc i ≡ i + 1 = omega arith in
     let t : sum_by f (map h (drop (suc i) xs)) ≡ sum_by f (map h (drop (i + 1) xs)) = ap (λ n. sum_by f (map h (drop n xs))) next in
     omega (arith, s, t, k)
+
+-- ---- numbers of names
+
+-- the index of a name in a table is its place among the names
+pub placed : {V S : Type 0} (m : IndexMap (String Global) V S) (x : Name) → place (bytes_eq x) (table_names m) ≡ position (λ s. bytes_eq x (string_bytes s)) (keys m)
+placed m x = sym (position_is (bytes_eq x) (table_names m)) ∙ position_map (bytes_eq x) (λ e. string_bytes e.0) m.entries ∙ sym (position_map (λ s. bytes_eq x (string_bytes s)) (λ e. e.0) m.entries)
+
+suc_of : (o : Option ℕ) (i : ℕ) → option_map suc o ≡ Some i → (j : ℕ) × (o ≡ Some j) × (i ≡ suc j)
+suc_of None i e = absurd cc
+suc_of (Some j) i e = (j, refl, cc)
+
+-- the item at the place of a name is the name
+pub placed_name : (ns : List Name) (x : Name) (i : ℕ) → place (bytes_eq x) ns ≡ Some i → Some x ≡ slice_get ns i
+unfolding place
+placed_name [] x i h = absurd cc
+placed_name (n ∷ ns) x i h = by (bytes_eq x n) refl (λ j e. placed_name ns x j e) i h where
+  by : (b : Bool) → bytes_eq x n ≡ b → ((j : ℕ) → place (bytes_eq x) ns ≡ Some j → Some x ≡ slice_get ns j) → (i : ℕ) → cond b (Some 0) (option_map suc (place (bytes_eq x) ns)) ≡ Some i → Some x ≡ slice_get (n ∷ ns) i
+  by true e rest zero h = ap Some (same_name x n e)
+  by true e rest (suc i) h = absurd cc
+  by false e rest i h = let j = suc_of (place (bytes_eq x) ns) i h in subst (λ k. Some x ≡ slice_get (n ∷ ns) k) (sym j.2) (rest j.0 j.1)
+
+-- the number at a place is that of the name there
+pub number_at : (f : Name → ℕ) (ns : List Name) (xs : List ℕ) (x : Name) (i other : ℕ) → xs ≡ map f ns → Some x ≡ slice_get ns i → get_or xs i other ≡ f x
+number_at f ns xs x i other e h = ap (λ ys. get_or ys i other) e ∙ in_image ns i h where
+  in_image : (ns : List Name) (i : ℕ) → Some x ≡ slice_get ns i → get_or (map f ns) i other ≡ f x
+  in_image [] i h = absurd cc
+  in_image (n ∷ ns) zero h = let k : x ≡ n = cc in ap f (sym k)
+  in_image (n ∷ ns) (suc i) h = in_image ns i h
+
+-- an item at a place within
+pub some_at : {X : Type 0} (xs : List X) (i : ℕ) → i < length xs → (x : X) × (Some x ≡ slice_get xs i)
+some_at [] i l = absurd (omega arith)
+some_at (x ∷ xs) zero l = (x, refl)
+some_at (x ∷ xs) (suc i) l = some_at xs i (omega arith)
+
+-- the image of the item at a place
+pub image_got : {X Y : Type 0} (f : X → Y) (xs : List X) (i : ℕ) (x : X) → Some x ≡ slice_get xs i → Some (f x) ≡ slice_get (map f xs) i
+image_got f [] i x h = absurd cc
+image_got f (y ∷ ys) zero x h = let e : x ≡ y = cc in ap (λ z. Some (f z)) e
+image_got f (y ∷ ys) (suc i) x h = image_got f ys i x h
+
+-- what is capped at the most steps is no more
+pub capped : (n : ℕ) → min n most_steps ≤ most_steps
+capped n = omega arith
+
+-- the sum at a place is that of the number of the item there
+pub sum_here : {X : Type 0} (f : X → ℕ) (ss : List (Option ℕ)) (xs : List X) (i : ℕ) (x : X) → AreSums ss (map f xs) → Some x ≡ slice_get xs i → IsSum (get_or ss i (Some 0)) (f x)
+sum_here f ss [] i x a h = absurd cc
+sum_here f [] (y ∷ xs) i x a h = absurd a
+sum_here f (s ∷ ss) (y ∷ xs) zero x a h = let e : x ≡ y = cc in subst (λ z. IsSum s (f z)) (sym e) a.0
+sum_here f (s ∷ ss) (y ∷ xs) (suc i) x a h = sum_here f ss xs i x a.1 h

@@ -7,3 +7,4 @@ pub mod Channels
 pub mod Fitting
 pub mod Tables
 pub mod Codes
+pub mod Read

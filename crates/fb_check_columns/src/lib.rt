@@ -11,6 +11,7 @@ mod fault;
 mod laws;
 mod leaf;
 mod pays;
+mod rows;
 mod service;
 mod weights;
 

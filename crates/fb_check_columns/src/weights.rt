@@ -1,8 +1,9 @@
 //! The numbers of rows, and what an output of a leaf has to be paid.
 
-ghost use Rattle.std.specs.Prelude.{◌≡◌, ◌≤◌, ℕ, List, map, min, IfOk, IfErr};
+ghost use Rattle.std.specs.Prelude.{◌≡◌, ◌≤◌, ℕ, map, min, string_bytes, IfOk, IfErr, OnOk};
 ghost use Rattle.std.specs.List.{sum_by};
 ghost use Rattle.fb_model.specs.CertificateText.{most_steps};
+ghost use Rattle.fb_flat.specs.Sites.{dotted};
 ghost use Rattle.fb_check_columns.specs.Sums.{IsSum};
 ghost use Rattle.fb_check_columns.specs.Reckoning.{weight_of, charge_of, load_of, load_at, AreSums};
 ghost use Rattle.fb_check_columns.specs.Paying.{IsMemory, IsCharge, IsWeight, Names, Pays};
@@ -11,7 +12,7 @@ use crate::column::{Column, is_within, plus};
 use crate::fault::Shortfall;
 use fb_cert::Certificate;
 use fb_flat::{Output, Target, joined};
-use std::alloc::Global;
+use std::alloc::{AllocError, Global};
 
 /// The most that a row says.
 const MOST: u64 = 1_000_000_000_000;
@@ -22,6 +23,49 @@ fn capped(number: u64) -> u64
     ensures small { result ≤ most_steps }
 {
     number.min(MOST)
+}
+
+// Writes the row of a name at a path over a text: both joined by a dot.
+fn write_row(row: &mut String, path: &str, name: &str) -> Result<(), AllocError>
+    ensures { OnOk result (string_bytes row.new ≡ dotted path.now name.now) }
+{
+    row.clear();
+    row.push_str(path)?;
+    row.push_str(".")?;
+    row.push_str(name)?;
+    Ok(())
+}
+
+/// The weight of an event input or arrival. Its row is written over a text, which can be used again.
+pub(crate) fn weight_in(
+    row: &mut String,
+    certificate: &Certificate,
+    column: Column,
+    path: &str,
+    event: &str,
+) -> Result<u64, Shortfall>
+    ensures value { IfOk result (λ n. n ≡ weight_of column certificate.now path.now event.now) }
+    ensures small { IfOk result (λ n. n ≤ most_steps) }
+    ensures refused { IfErr result IsMemory }
+{
+    write_row(row, path, event)?;
+    Ok(capped(column.weight(certificate, row.as_str())))
+}
+
+/// The charge of a state. Its row is written over a text, which can be used again.
+pub(crate) fn charge_in(
+    row: &mut String,
+    certificate: &Certificate,
+    column: Column,
+    path: &str,
+    state: &str,
+) -> Result<u64, Shortfall>
+    ensures value { IfOk result (λ n. n ≡ charge_of column certificate.now path.now state.now) }
+    ensures small { IfOk result (λ n. n ≤ most_steps) }
+    ensures refused { IfErr result IsMemory }
+{
+    write_row(row, path, state)?;
+    Ok(capped(column.charge(certificate, row.as_str())))
 }
 
 /// The weight of an event input or arrival.
@@ -36,8 +80,7 @@ pub(crate) fn weight(
     ensures small { IfOk result (λ n. n ≤ most_steps) }
     ensures refused { IfErr result IsMemory }
 {
-    let row = joined(alloc, path, event)?;
-    Ok(capped(column.weight(certificate, row.as_str())))
+    weight_in(&mut String::new(alloc), certificate, column, path, event)
 }
 
 /// The charge of a state.
@@ -52,13 +95,12 @@ pub(crate) fn charge(
     ensures small { IfOk result (λ n. n ≤ most_steps) }
     ensures refused { IfErr result IsMemory }
 {
-    let row = joined(alloc, path, state)?;
-    Ok(capped(column.charge(certificate, row.as_str())))
+    charge_in(&mut String::new(alloc), certificate, column, path, state)
 }
 
 // The weights of all targets of an output.
 fn load(
-    alloc: Global,
+    row: &mut String,
     certificate: &Certificate,
     column: Column,
     targets: &[Target],
@@ -68,8 +110,8 @@ fn load(
 {
     let mut sum = Some(0);
     for target in targets {
-        let next = weight(
-            alloc,
+        let next = weight_in(
+            row,
             certificate,
             column,
             target.path.as_str(),
@@ -90,9 +132,10 @@ pub(crate) fn loads(
     ensures values { IfOk result (λ v. AreSums v.items (map (λ o. load_of column certificate.now o.targets.items) outputs.now)) }
     ensures refused { IfErr result IsMemory }
 {
+    let mut row = String::new(alloc);
     let mut loads = Vec::new(alloc);
     for output in outputs {
-        loads.push(load(alloc, certificate, column, &output.targets)?)?;
+        loads.push(load(&mut row, certificate, column, &output.targets)?)?;
     }
     Ok(loads)
 }
@@ -110,7 +153,12 @@ fn load_named(
 {
     for output in outputs {
         if name == output.name.as_str() {
-            return load(alloc, certificate, column, &output.targets);
+            return load(
+                &mut String::new(alloc),
+                certificate,
+                column,
+                &output.targets,
+            );
         }
     }
     Ok(Some(0))

@@ -11,11 +11,11 @@ returns-in_err-source_pays c =
     λ ns h.
     let p = err_from_is_err_and c.from_residual.result c.from_residual.ensures.1 in
     let name = λ (t : Transition). string_bytes t.source in
-    let pays = SourcePays c.args.column c.args.certificate.now c.args.path.now (value_at (table_names c.args.states.now) ns 0) in
-    rw (p.1, p.2) (one_charge c.args.path.now name pays c.args.transitions.now c.loop-transition.transition-index c.transition-item.result c.in_err-source_pays.field-0.0 c.loop-transition-test.true c.transition-item.is (c.in_err-source_pays.ensures ns h))
+    let pays = SourcePays c.args.rows.now.column c.args.rows.now.certificate.now c.args.rows.now.path.now (value_at (table_names c.args.rows.now.block.now.states) ns 0) in
+    rw (p.1, p.2) (one_charge c.args.rows.now.path.now name pays c.args.transitions.now c.loop-transition.transition-index c.transition-item.result c.in_err-source_pays.field-0.0 c.loop-transition-test.true c.transition-item.is (c.in_err-source_pays.ensures ns h))
 
 pub loop-transition-preserved : goal.loop-transition-preserved
 loop-transition-preserved c =
     λ ns h.
-    let pays = SourcePays c.args.column c.args.certificate.now c.args.path.now (value_at (table_names c.args.states.now) ns 0) in
+    let pays = SourcePays c.args.rows.now.column c.args.rows.now.certificate.now c.args.rows.now.path.now (value_at (table_names c.args.rows.now.block.now.states) ns 0) in
     all_more pays c.args.transitions.now c.loop-transition.transition-index c.transition-item.result c.loop-transition-test.true c.transition-item.is (c.loop-transition.invariant ns h) (c.in_ok-source_pays.ensures ns h)

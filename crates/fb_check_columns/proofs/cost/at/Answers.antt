@@ -1,16 +1,7 @@
-use Rattle.std.proofs.Common.{◌≡◌, Some, sym, ◌∙◌, position, string_bytes, Global}
-use Rattle.std.specs.Str.{bytes_eq}
-use Rattle.std.specs.declared.string.String.{String}
-use Rattle.indexmap.specs.IndexMap.{IndexMap, keys}
-use Rattle.fb_model.specs.Names.{Name}
-use Rattle.fb_types_networks.proofs.Places.{place, position_is, position_map}
+use Rattle.std.proofs.Common.{Some, sym, ◌∙◌}
 use Rattle.fb_check_columns.specs.Reckoning.{table_names}
-use Rattle.fb_check_columns.proofs.Values.{value_some, value_none, value_past}
+use Rattle.fb_check_columns.proofs.Values.{placed, value_some, value_none, value_past}
 use Rattle.fb_check_columns.proofs.cost.at.Goals as goal
-
--- the index of a name in a table is its place among the names
-placed : {V S : Type 0} (m : IndexMap (String Global) V S) (x : Name) → place (bytes_eq x) (table_names m) ≡ position (λ s. bytes_eq x (string_bytes s)) (keys m)
-placed m x = sym (position_is (bytes_eq x) (table_names m)) ∙ position_map (bytes_eq x) (λ e. string_bytes e.0) m.entries ∙ sym (position_map (λ s. bytes_eq x (string_bytes s)) (λ e. e.0) m.entries)
 
 pub returns-in-Some-get : goal.returns-in-Some-get
 returns-in-Some-get g c =
