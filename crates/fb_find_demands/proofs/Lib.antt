@@ -4,6 +4,7 @@ pub mod Ranks
 pub mod Entries
 pub mod Values
 pub mod Charts
+pub mod Opened
 pub mod Outputs
 pub mod Grouped
 pub mod Alike

@@ -6,3 +6,4 @@ pub mod Ends
 pub mod Prices
 pub mod Shown
 pub mod Spending
+pub mod Crossed

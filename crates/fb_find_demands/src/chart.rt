@@ -1,19 +1,18 @@
 //! The demands of a chart.
 
-ghost use Rattle.std.specs.Prelude.{◌≡◌, ◌++◌, ◌∷◌, [], map, string_bytes, IfOk, OnOk, Some};
+ghost use Rattle.std.specs.Prelude.{◌≡◌, ◌++◌, map, string_bytes, IfOk, OnOk};
 ghost use Rattle.std.specs.List.{flat_map};
-ghost use Rattle.fb_model.specs.Certificates.{event_names};
-ghost use Rattle.fb_model.specs.Charts as charts;
-ghost use Rattle.fb_model_laws.specs.Demands.{crossing_demand, free_demand, of_chart, of_crossing, of_free, of_input, of_least, of_state};
-ghost use Rattle.fb_types_blocks.specs.Views.{action_of, block_of, events_of, states_of, transition_of};
+ghost use Rattle.fb_model_laws.specs.Demands.{free_demand, of_chart, of_free, of_state};
+ghost use Rattle.fb_types_blocks.specs.Views.{action_of, block_of, states_of, transition_of};
 ghost use Rattle.fb_find_laws.specs.Nodes.{by_number};
 ghost use Rattle.fb_find_demands.specs.Grounds.{actions_in, ground_in};
 ghost use Rattle.fb_find_demands.specs.Rights.{numbered, numbers_of, right_of, rights_of};
 ghost use Rattle.fb_find_demands.specs.Spending.{States, IsSpent};
 
+use crate::crossings::add_inputs;
 use crate::right::Right;
 use crate::scene::{Scene, added, emitted, work};
-use fb_types_blocks::{Action, Block, Events, Transition};
+use fb_types_blocks::{Action, Block, Transition};
 use indexmap::IndexMap;
 use std::alloc::AllocError;
 
@@ -147,89 +146,6 @@ fn add_frees(
     let mut last = spending(scene, &block.states, "")?;
     for transition in transitions {
         add_free(scene, block, transition, &mut last, rights)?;
-    }
-    Ok(())
-}
-
-/// A weight is at least 1.
-pub(crate) fn least_right(scene: &Scene, event: &str) -> Result<Right, AllocError>
-    ensures { IfOk result (λ r. right_of r ≡ by_number (numbers_of scene.now.numbering.now) (of_least (ground_in scene.now) event.now)) }
-{
-    Ok(Right {
-        node: scene.numbering.event(scene.alloc, scene.path, event)?,
-        constant: 1,
-        terms: Vec::new(scene.alloc),
-    })
-}
-
-// The weight of an event input pays for its dispatch and a crossing, with the charge of the state that this leads to.
-fn crossing_right(scene: &Scene, event: &str, target: &str) -> Result<Right, AllocError>
-    ensures { IfOk result (λ r. right_of r ≡ by_number (numbers_of scene.now.numbering.now) (crossing_demand (ground_in scene.now) event.now target.now)) }
-{
-    let mut terms = Vec::new(scene.alloc);
-    terms.push(scene.numbering.state(scene.alloc, scene.path, target)?)?;
-    Ok(Right {
-        node: scene.numbering.event(scene.alloc, scene.path, event)?,
-        constant: added(scene.unit, scene.unit),
-        terms,
-    })
-}
-
-// Whether a transition may be crossed while this event waits: it names it, or none.
-fn is_open(transition: &Transition, event: &str) -> bool
-    ensures { result ≡ charts.is_open (transition_of transition.now).event (Some event.now) }
-{
-    match &transition.event {
-        Some(named) => named.as_str() == event,
-        None => true,
-    }
-}
-
-// The same of a transition, where it may be crossed then.
-fn add_crossing(
-    scene: &Scene,
-    event: &str,
-    transition: &Transition,
-    rights: &mut Vec<Right>,
-) -> Result<(), AllocError>
-    ensures { OnOk result (rights_of rights.new.items ≡ rights_of rights.old.items ++ numbered scene.now.numbering.now (of_crossing (ground_in scene.now) event.now (transition_of transition.now))) }
-{
-    if is_open(transition, event) {
-        rights.push(crossing_right(scene, event, transition.target.as_str())?)?;
-    }
-    Ok(())
-}
-
-// The demands of an event input.
-fn add_input(
-    scene: &Scene,
-    event: &str,
-    transitions: &[Transition],
-    rights: &mut Vec<Right>,
-) -> Result<(), AllocError>
-    ensures { OnOk result (rights_of rights.new.items ≡ rights_of rights.old.items ++ numbered scene.now.numbering.now (of_least (ground_in scene.now) event.now ∷ flat_map (of_crossing (ground_in scene.now) event.now) (map transition_of transitions.now))) }
-{
-    rights.push(least_right(scene, event)?)?;
-    for transition in transitions {
-        add_crossing(scene, event, transition, rights)?;
-    }
-    Ok(())
-}
-
-// The same of each event input.
-fn add_inputs(
-    scene: &Scene,
-    inputs: &Events,
-    block: &Block,
-    rights: &mut Vec<Right>,
-) -> Result<(), AllocError>
-    ensures { OnOk result (rights_of rights.new.items ≡ rights_of rights.old.items ++ numbered scene.now.numbering.now (flat_map (of_input (ground_in scene.now) (block_of block.now)) (event_names (events_of inputs.now)))) }
-{
-    for index in 0..inputs.len() {
-        let Some((event, _)) = inputs.get_index(index) else {
-            return Ok(());
-        };
-        add_input(scene, event.as_str(), block.transitions.as_slice(), rights)?;
     }
     Ok(())
 }

@@ -6,6 +6,7 @@ mod channel;
 mod channels;
 mod chart;
 mod closing;
+mod crossings;
 mod grouping;
 mod known;
 mod leaf;

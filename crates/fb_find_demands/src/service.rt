@@ -10,7 +10,7 @@ ghost use Rattle.fb_find_laws.specs.Nodes.{by_number};
 ghost use Rattle.fb_find_demands.specs.Grounds.{datagram_of, ground_in};
 ghost use Rattle.fb_find_demands.specs.Rights.{numbered, numbers_of, right_of, rights_of};
 
-use crate::chart::least_right;
+use crate::crossings::least_right;
 use crate::right::Right;
 use crate::scene::{Scene, add_reached, added};
 use fb_types_services::Service;

@@ -6,7 +6,7 @@ use Rattle.fb_types_blocks.specs.Views.{block_of, events_of}
 use Rattle.fb_find_demands.specs.Grounds.{ground_in}
 use Rattle.fb_find_demands.specs.Rights.{numbered, rights_of}
 use Rattle.fb_find_demands.proofs.Entries.{event_in}
-use Rattle.fb_find_demands.proofs.chart.add_inputs.Given as goal
+use Rattle.fb_find_demands.proofs.crossings.add_inputs.Given as goal
 
 abbrev pub invariant-loop-index : goal.invariant-loop-index
 invariant-loop-index l =
