@@ -1,5 +1,5 @@
 -- The places of events among names, and the transitions that are open.
-use Rattle.std.proofs.Common.{◌≡◌, ℕ, zero, suc, ◌+◌, ◌<◌, arith, Bool, true, false, not, cond, List, [], ◌∷◌, ◌++◌, length, map, slice_get, Option, Some, None, option_map, refl, sym, ap, ◌∙◌, string_bytes}
+use Rattle.std.proofs.Common.{◌≡◌, ℕ, zero, suc, ◌+◌, ◌<◌, arith, Bool, true, false, not, cond, List, [], ◌∷◌, ◌++◌, length, map, get_or, slice_get, Option, Some, None, option_map, refl, sym, ap, subst, ◌∙◌, string_bytes}
 use Rattle.std.specs.Prelude.{◌==◌}
 use Rattle.std.specs.List.{flat_map}
 use Rattle.std.specs.Str.{bytes_eq}
@@ -8,21 +8,26 @@ use Rattle.std.proofs.lemmas.List.{map-append}
 use Rattle.std.specs.declared.string.String.{String}
 use Rattle.std.specs.declared.vec.Vec.{Vec}
 use Rattle.std.specs.declared.alloc.Global.{Global}
+use Rattle.indexmap.specs.IndexMap.{IndexMap}
 use Rattle.fb_model.specs.Names.{Name}
 use Rattle.fb_model.specs.System as book
 use Rattle.fb_model.specs.Charts.{is_open}
 use Rattle.fb_model.specs.Certificates.{event_names}
 use Rattle.fb_model.proofs.Lists.{same_name}
 use Rattle.fb_model.proofs.Placed.{name_same}
-use Rattle.fb_model_laws.specs.Demands.{Node, event, Ground, crossing_demand, of_crossing, of_input, of_least}
+use Rattle.fb_model_laws.specs.Demands.{Node, event, state, Ground, crossing_demand, of_crossing, of_input, of_least}
 use Rattle.fb_find_laws.specs.Nodes.{by_number, index_in}
+use Rattle.fb_types_networks.proofs.Places.{place}
+use Rattle.fb_types_blocks.specs.declared.typed.Action.{Action}
 use Rattle.fb_types_blocks.specs.declared.typed.Block.{Block}
 use Rattle.fb_types_blocks.specs.declared.typed.Transition.{Transition}
-use Rattle.fb_types_blocks.specs.Views.{block_of, transition_of}
+use Rattle.fb_types_blocks.specs.Views.{block_of, states_of, transition_of}
 use Rattle.fb_find_demands.specs.declared.numbered.Numbering.{Numbering}
-use Rattle.fb_find_demands.specs.Crossed.{crossed, crossing_of, input_rights, is_crossed}
+use Rattle.fb_find_demands.specs.Crossed.{crossed, crossing_of, input_rights, is_crossed, state_numbers}
 use Rattle.fb_find_demands.specs.Rights.{numbered, numbers_of}
-use Rattle.fb_find_demands.proofs.Entries.{event_in}
+use Rattle.fb_find_demands.specs.Grounds.{table_names}
+use Rattle.fb_find_demands.specs.Spending.{States}
+use Rattle.fb_find_demands.proofs.Entries.{event_in, state_of}
 
 abbrev pub Entries : Type 0
 Entries = List (String Global × Vec (String Global) Global)
@@ -76,6 +81,31 @@ same_place names x e l = by (bytes_eq x e) refl where
   by : (b : Bool) → bytes_eq x e ≡ b → (index_in names x == index_in names e) ≡ b
   by true p = ap (λ z. index_in names z == index_in names e) (same_name x e p) ∙ equal (index_in names e)
   by false p = differs (index_in names x) (index_in names e) (λ k. let s : bytes_eq x e ≡ true = ap (bytes_eq x) (sym (same_named names x e l k)) ∙ name_same x in absurd cc)
+
+-- ---- numbers of states
+
+before : (o : Option ℕ) (i : ℕ) → option_map suc o ≡ Some i → (j : ℕ) × (o ≡ Some j) × (i ≡ suc j)
+before None i e = absurd cc
+before (Some j) i e = (j, refl, cc)
+
+number_step : (h : Name → ℕ) (n : Name) (ns : List Name) (x : Name) → ((j : ℕ) → place (bytes_eq x) ns ≡ Some j → get_or (map h ns) j 0 ≡ h x)
+    → (b : Bool) → bytes_eq x n ≡ b → (i : ℕ) → cond b (Some 0) (option_map suc (place (bytes_eq x) ns)) ≡ Some i → get_or (h n ∷ map h ns) i 0 ≡ h x
+number_step h n ns x again true p zero e = ap h (sym (same_name x n p))
+number_step h n ns x again true p (suc i) e = absurd cc
+number_step h n ns x again false p i e = let j = before (place (bytes_eq x) ns) i e in subst (λ k. get_or (h n ∷ map h ns) k 0 ≡ h x) (sym j.2) (again j.0 j.1)
+
+number_at : (h : Name → ℕ) (names : List Name) (x : Name) (i : ℕ) → place (bytes_eq x) names ≡ Some i → get_or (map h names) i 0 ≡ h x
+unfolding place
+number_at h [] x i e = absurd cc
+number_at h (n ∷ ns) x i e = number_step h n ns x (λ j k. number_at h ns x j k) (bytes_eq x n) refl i e
+
+named_numbers : (f : Node → ℕ) (g : Ground) (es : States) → state_numbers f g (map state_of es) ≡ map (λ x. f (state (g.own x))) (map (λ p. string_bytes p.0) es)
+named_numbers f g [] = refl
+named_numbers f g (e ∷ es) = ap (λ ks. f (state (g.own (string_bytes e.0))) ∷ ks) (named_numbers f g es)
+
+-- what stands at the place of a state's name is its number
+pub number_of_state : {S : Type 0} (f : Node → ℕ) (g : Ground) (m : IndexMap (String Global) (Vec Action Global) S) (numbers : List ℕ) (x : Name) (i k : ℕ) → numbers ≡ state_numbers f g (states_of m) → place (bytes_eq x) (table_names m) ≡ Some i → k ≡ get_or numbers i 0 → k ≡ f (state (g.own x))
+number_of_state f g m numbers x i k e p h = h ∙ ap (λ ks. get_or ks i 0) (e ∙ named_numbers f g m.entries) ∙ number_at (λ y. f (state (g.own y))) (table_names m) x i p
 
 -- ---- transitions by numbers
 

@@ -1,11 +1,15 @@
 -- Transitions by numbers, and what event inputs ask with these.
-use Rattle.std.specs.Prelude.{ℕ, ◌==◌, ◌*◌, Bool, true, List, [], ◌∷◌, flat_map, Option, None, Some, if◌then◌else◌}
+use Rattle.std.specs.Prelude.{ℕ, ◌==◌, ◌*◌, Bool, true, List, [], ◌∷◌, map, flat_map, Option, None, Some, if◌then◌else◌}
 use Rattle.std.specs.Option.{option_map}
 use Rattle.fb_model.specs.Names.{Name}
 use Rattle.fb_model.specs.System as book
 use Rattle.fb_model_laws.specs.Demands.{Node, state, event, Ground, of_least}
 use Rattle.fb_find_laws.specs.Nodes.{Numbered, by_number, capped, index_in}
 use Rattle.fb_find_demands.specs.declared.crossings.Crossing.{Crossing}
+
+-- the numbers of states, in their order
+abbrev pub state_numbers : (Node → ℕ) → Ground → List book.State → List ℕ
+state_numbers number g ss = map (λ (s : book.State). number (state (g.own s.name))) ss
 
 -- the place of a transition's event among names, if it names one, and the number of the state that it leads to
 abbrev pub crossing_of : (Node → ℕ) → Ground → List Name → book.Transition → Crossing

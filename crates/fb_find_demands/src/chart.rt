@@ -5,6 +5,7 @@ ghost use Rattle.std.specs.List.{flat_map};
 ghost use Rattle.fb_model_laws.specs.Demands.{free_demand, of_chart, of_free, of_state};
 ghost use Rattle.fb_types_blocks.specs.Views.{action_of, block_of, states_of, transition_of};
 ghost use Rattle.fb_find_laws.specs.Nodes.{by_number};
+ghost use Rattle.fb_find_demands.specs.Crossed.{state_numbers};
 ghost use Rattle.fb_find_demands.specs.Grounds.{actions_in, ground_in};
 ghost use Rattle.fb_find_demands.specs.Rights.{numbered, numbers_of, right_of, rights_of};
 ghost use Rattle.fb_find_demands.specs.Spending.{States, IsSpent};
@@ -27,21 +28,25 @@ fn state_right(scene: &Scene, name: &str, actions: &[Action]) -> Result<Right, A
     })
 }
 
-// The same of each state.
+// The same of each state; gives their numbers.
 fn add_states(
     scene: &Scene,
     states: &IndexMap<String, Vec<Action>>,
     rights: &mut Vec<Right>,
-) -> Result<(), AllocError>
-    ensures { OnOk result (rights_of rights.new.items ≡ rights_of rights.old.items ++ numbered scene.now.numbering.now (map (of_state (ground_in scene.now)) (states_of states.now))) }
+) -> Result<Vec<usize>, AllocError>
+    ensures added { OnOk result (rights_of rights.new.items ≡ rights_of rights.old.items ++ numbered scene.now.numbering.now (map (of_state (ground_in scene.now)) (states_of states.now))) }
+    ensures numbers { IfOk result (λ v. v.items ≡ state_numbers (numbers_of scene.now.numbering.now) (ground_in scene.now) (states_of states.now)) }
 {
+    let mut numbers = Vec::new(scene.alloc);
     for index in 0..states.len() {
         let Some((name, actions)) = states.get_index(index) else {
-            return Ok(());
+            return Ok(numbers);
         };
-        rights.push(state_right(scene, name.as_str(), actions.as_slice())?)?;
+        let right = state_right(scene, name.as_str(), actions.as_slice())?;
+        numbers.push(right.node)?;
+        rights.push(right)?;
     }
-    Ok(())
+    Ok(numbers)
 }
 
 // The actions of the state of a name.
@@ -158,7 +163,8 @@ pub(crate) fn add_chart(
 ) -> Result<(), AllocError>
     ensures { OnOk result (rights_of rights.new.items ≡ rights_of rights.old.items ++ numbered scene.now.numbering.now (of_chart (ground_in scene.now) (block_of block.now))) }
 {
-    add_states(scene, &block.states, rights)?;
+    let numbers = add_states(scene, &block.states, rights)?;
     add_frees(scene, block, block.transitions.as_slice(), rights)?;
-    add_inputs(scene, &block.face.event_inputs, block, rights)
+    let inputs = &block.face.event_inputs;
+    add_inputs(scene, inputs, block, numbers.as_slice(), rights)
 }

@@ -4,16 +4,17 @@ ghost use Rattle.std.specs.Prelude.{◌≡◌, ◌++◌, map, IfOk, OnOk};
 ghost use Rattle.std.specs.List.{flat_map};
 ghost use Rattle.std.specs.Option.{option_map};
 ghost use Rattle.fb_model.specs.Certificates.{event_names};
-ghost use Rattle.fb_model_laws.specs.Demands.{of_input, of_least};
-ghost use Rattle.fb_types_blocks.specs.Views.{block_of, events_of, transition_of};
+ghost use Rattle.fb_model_laws.specs.Demands.{of_input, of_least, state};
+ghost use Rattle.fb_types_blocks.specs.Views.{block_of, events_of, states_of, transition_of};
 ghost use Rattle.fb_find_laws.specs.Nodes.{by_number, index_in};
-ghost use Rattle.fb_find_demands.specs.Crossed.{crossed, crossing_at, crossing_of, input_rights, is_crossed};
+ghost use Rattle.fb_find_demands.specs.Crossed.{crossed, crossing_at, crossing_of, input_rights, is_crossed, state_numbers};
 ghost use Rattle.fb_find_demands.specs.Grounds.{ground_in};
 ghost use Rattle.fb_find_demands.specs.Rights.{numbered, numbers_of, right_of, rights_of};
 
 use crate::right::Right;
 use crate::scene::{Scene, added};
-use fb_types_blocks::{Block, Events, Transition};
+use fb_types_blocks::{Action, Block, Events, Transition};
+use indexmap::IndexMap;
 use std::alloc::AllocError;
 
 /// A transition by numbers: the place of its event, if it names one, among the event inputs, behind their end where it is none of them, and the number of the
@@ -45,18 +46,40 @@ fn event_place(inputs: &Events, transition: &Transition) -> Option<usize>
     }
 }
 
+// The number of the state of a name, by its place where it stands among the states, which have these numbers.
+fn state_number(
+    scene: &Scene,
+    states: &IndexMap<String, Vec<Action>>,
+    numbers: &[usize],
+    name: &str,
+) -> Result<usize, AllocError>
+    requires { numbers.now ≡ state_numbers (numbers_of scene.now.numbering.now) (ground_in scene.now) (states_of states.now) }
+    ensures { IfOk result (λ k. k ≡ numbers_of scene.now.numbering.now (state ((ground_in scene.now).own name.now))) }
+{
+    match states.get_index_of(name) {
+        Some(index) => match numbers.get(index) {
+            Some(number) => Ok(*number),
+            None => scene.numbering.state(scene.alloc, scene.path, name),
+        },
+        None => scene.numbering.state(scene.alloc, scene.path, name),
+    }
+}
+
 // A transition by numbers.
 fn one_crossing(
     scene: &Scene,
     inputs: &Events,
+    states: &IndexMap<String, Vec<Action>>,
+    numbers: &[usize],
     transition: &Transition,
 ) -> Result<Crossing, AllocError>
+    requires { numbers.now ≡ state_numbers (numbers_of scene.now.numbering.now) (ground_in scene.now) (states_of states.now) }
     ensures { IfOk result (λ c. c ≡ crossing_of (numbers_of scene.now.numbering.now) (ground_in scene.now) (event_names (events_of inputs.now)) (transition_of transition.now)) }
 {
     let target = transition.target.as_str();
     Ok(Crossing {
         event: event_place(inputs, transition),
-        target: scene.numbering.state(scene.alloc, scene.path, target)?,
+        target: state_number(scene, states, numbers, target)?,
     })
 }
 
@@ -64,13 +87,16 @@ fn one_crossing(
 fn all_crossings(
     scene: &Scene,
     inputs: &Events,
+    states: &IndexMap<String, Vec<Action>>,
+    numbers: &[usize],
     transitions: &[Transition],
 ) -> Result<Vec<Crossing>, AllocError>
+    requires { numbers.now ≡ state_numbers (numbers_of scene.now.numbering.now) (ground_in scene.now) (states_of states.now) }
     ensures { IfOk result (λ v. v.items ≡ map (λ t. crossing_of (numbers_of scene.now.numbering.now) (ground_in scene.now) (event_names (events_of inputs.now)) (transition_of t)) transitions.now) }
 {
     let mut crossings = Vec::new(scene.alloc);
     for transition in transitions {
-        crossings.push(one_crossing(scene, inputs, transition)?)?;
+        crossings.push(one_crossing(scene, inputs, states, numbers, transition)?)?;
     }
     Ok(crossings)
 }
@@ -157,16 +183,19 @@ fn add_input(
     add_crossings(scene, node, place(inputs, event), crossings, rights)
 }
 
-/// Adds the demands of each event input; its transitions are found by the places of their events.
+/// Adds the demands of each event input of a block whose states have these numbers; its transitions are found by the places of their events.
 pub(crate) fn add_inputs(
     scene: &Scene,
     inputs: &Events,
     block: &Block,
+    numbers: &[usize],
     rights: &mut Vec<Right>,
 ) -> Result<(), AllocError>
+    requires { numbers.now ≡ state_numbers (numbers_of scene.now.numbering.now) (ground_in scene.now) (states_of block.now.states) }
     ensures { OnOk result (rights_of rights.new.items ≡ rights_of rights.old.items ++ numbered scene.now.numbering.now (flat_map (of_input (ground_in scene.now) (block_of block.now)) (event_names (events_of inputs.now)))) }
 {
-    let crossings = all_crossings(scene, inputs, block.transitions.as_slice())?;
+    let transitions = block.transitions.as_slice();
+    let crossings = all_crossings(scene, inputs, &block.states, numbers, transitions)?;
     for index in 0..inputs.len() {
         let Some((event, _)) = inputs.get_index(index) else {
             return Ok(());

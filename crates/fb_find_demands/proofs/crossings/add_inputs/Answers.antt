@@ -28,10 +28,10 @@ loop-index-preserved c =
     let i = c.loop-index.index in
     let x : String Global × Vec (String Global) Global = (c.in-Some.event.now, c.in-Some.field-0-1.now) in
     let e = string_bytes x.0 in
-    let slice : c.as_slice-in-loop-index.result.now ≡ map (λ (t : Transition). crossing_of (numbers_of n) g names (transition_of t)) block.transitions.items =
-    c.as_slice-in-loop-index.ensures.value ∙ c.in_ok-crossings.ensures ∙ ap (map (λ (t : Transition). crossing_of (numbers_of n) g names (transition_of t))) c.as_slice.ensures.value in
+    let slice : c.as_slice.result.now ≡ map (λ (t : Transition). crossing_of (numbers_of n) g names (transition_of t)) block.transitions.items =
+    c.as_slice.ensures.value ∙ c.in_ok-crossings.ensures ∙ ap (map (λ (t : Transition). crossing_of (numbers_of n) g names (transition_of t))) c.as_slice-transitions.ensures.value in
     let one : rights_of c.add_input.new.rights.items ≡ rights_of c.loop-index.rights.items ++ numbered n (f e) =
     c.in_ok-add_input.ensures
-    ∙ ap (λ ys. rights_of c.loop-index.rights.items ++ ys) (ap (λ o. input_rights (numbers_of n) g names o c.as_slice-in-loop-index.result.now) c.as_str.ensures.value ∙ ap (input_rights (numbers_of n) g names e) slice ∙ input_is n g block names e (entry_within xs i x c.in-Some.ensures.entry)) in
+    ∙ ap (λ ys. rights_of c.loop-index.rights.items ++ ys) (ap (λ o. input_rights (numbers_of n) g names o c.as_slice.result.now) c.as_str.ensures.value ∙ ap (input_rights (numbers_of n) g names e) slice ∙ input_is n g block names e (entry_within xs i x c.in-Some.ensures.entry)) in
     turn (λ (es : List (String Global × Vec (String Global) Global)). numbered n (flat_map f (event_names (map event_in es)))) xs i x (numbered n (f e)) (rights_of c.loop-index.rights.items) (rights_of c.add_input.new.rights.items) _
     (rest_at xs i x c.in-Some.ensures.entry) (map-append (by_number (numbers_of n)) (f e) (flat_map f (event_names (map event_in (drop (i + 1) xs))))) one c.loop-index.invariant
