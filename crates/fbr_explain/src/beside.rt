@@ -1,9 +1,9 @@
 //! How much fits into a queue at once.
 
-use crate::put::{put, put_number};
 use crate::seen::resource_at;
 use fb_check::Verified;
 use fb_flat::{Body, FlatResource, joined};
+use fbr_advice::put::{put, put_number};
 use std::alloc::{AllocError, Global};
 use std::io;
 use std::io::Write;

@@ -3,12 +3,12 @@
 use crate::beside::{Queue, arrivals_of, tell_beside, tell_depth};
 use crate::channels::{Ways, channels_behind, numbered, tell_channels};
 use crate::notes::tell_notes;
-use crate::put::{put, put_number};
-use crate::spotted::Named;
 use fb_cert::Certificate;
 use fb_check::Verified;
 use fb_flat::{Body, FlatResource, Leaf, joined};
 use fb_types_blocks::{Block, Variables};
+use fbr_advice::put::{put, put_number};
+use fbr_advice::spotted::Named;
 use std::alloc::Global;
 use std::io;
 use std::io::Write;

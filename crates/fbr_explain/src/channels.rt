@@ -1,10 +1,10 @@
 //! Channels of what fits, told to people: who sends on them, where their datagrams come to, and what a datagram causes at most.
 
-use crate::put::{put, put_number};
 use crate::service::admitted;
 use fb_check::Verified;
 use fb_flat::{Body, Flat, FlatResource, Leaf, joined};
 use fb_types_services::{Channel, Service};
+use fbr_advice::put::{put, put_number};
 use indexmap::{IndexMap, IndexSet};
 use std::alloc::{AllocError, Global};
 use std::io;

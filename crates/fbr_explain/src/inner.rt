@@ -1,10 +1,10 @@
 //! Statements and operations at fault.
 
-use crate::put::put;
-use crate::spotted::{Named, tell_spot};
 use fb_ranges::Ranges;
 use fb_tree::{BodyTree, ChartTree};
 use fb_types_blocks::Block;
+use fbr_advice::put::put;
+use fbr_advice::spotted::{Named, tell_spot};
 use fbr_faults::{Fault, algorithm_fault, guard_fault, tell_fault};
 use fbr_places::{Declared, Spot};
 use std::alloc::{AllocError, Global};

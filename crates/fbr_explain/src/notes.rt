@@ -1,14 +1,14 @@
 //! Notes on what is accepted.
 
-use crate::charted::note_chart;
-use crate::noted::Page;
-use crate::spotted::Named;
-use crate::used::note_variables;
-use crate::wired::note_network;
 use crate::wrapped::note_wraps;
 use fb_check::Verified;
 use fb_lex::Token;
 use fb_tree::{BodyTree, FileTree};
+use fbr_advice::charted::note_chart;
+use fbr_advice::noted::Page;
+use fbr_advice::spotted::Named;
+use fbr_advice::used::note_variables;
+use fbr_advice::wired::note_network;
 use fbr_places::{FACES, Types, tokens_of, tree_of};
 use std::alloc::Global;
 use std::io;

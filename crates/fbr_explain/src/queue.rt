@@ -1,10 +1,10 @@
 //! What arrivals take of a queue.
 
-use crate::put::{put, put_number};
 use crate::seen::resource_at;
 use fb_cert::Certificate;
 use fb_flat::{Body, Flat, Leaf, joined};
 use fb_types_services::Service;
+use fbr_advice::put::{put, put_number};
 use std::alloc::Global;
 use std::io;
 use std::io::Write;

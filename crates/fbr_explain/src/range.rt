@@ -1,12 +1,12 @@
 //! What rows RANGE say beside what variables hold.
 
-use crate::put::put;
 use crate::seen::{block_in, leaf_at, place_at};
 use fb_cert::Certificate;
 use fb_check_ranges::{first_range, leaf_row, source_named, start_range};
 use fb_flat::{Flat, Leaf, Source};
 use fb_ranges::Interval;
 use fb_types_blocks::{Block, Variable};
+use fbr_advice::put::put;
 use fbr_faults::tell_numbers;
 use std::alloc::Global;
 use std::io;

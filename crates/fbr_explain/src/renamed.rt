@@ -1,9 +1,9 @@
 //! How many rows a certificate has too many, and how many it lacks.
 
-use crate::put::{put, put_number};
 use fb_cert::Certificate;
 use fb_check_rows::{RowKind, required};
 use fb_flat::Flat;
+use fbr_advice::put::{put, put_number};
 use std::alloc::{AllocError, Global};
 use std::io;
 use std::io::Write;

@@ -1,7 +1,7 @@
 //! The row that a certificate lacks.
 
-use crate::put::{put, put_number};
 use fb_cert::{Amount, Bounds, Certificate};
+use fbr_advice::put::{put, put_number};
 use fbr_places::Declared;
 use std::io;
 use std::io::Write;

@@ -1,19 +1,19 @@
 //! Texts of applications that are refused: what was found, and what could stand there.
 
-use crate::character::tell_character;
-use crate::ends::{tell_ends, tell_second};
-use crate::numbers::tell_service;
-use crate::put::put;
-use crate::spotted::{Named, tell_spot};
-use crate::syntax::tell_syntax;
-use crate::tokens::index_at;
-use crate::typing::tell_types;
-use crate::unknown::tell_unknown;
-use crate::wanted::Place;
 use fb_check::Refusal;
 use fb_lex::TextFault;
 use fb_tree::FileTree;
 use fb_types::TypeFault;
+use fbr_advice::character::tell_character;
+use fbr_advice::ends::{tell_ends, tell_second};
+use fbr_advice::numbers::tell_service;
+use fbr_advice::put::put;
+use fbr_advice::spotted::{Named, tell_spot};
+use fbr_advice::syntax::tell_syntax;
+use fbr_advice::tokens::index_at;
+use fbr_advice::typing::tell_types;
+use fbr_advice::unknown::tell_unknown;
+use fbr_advice::wanted::Place;
 use fbr_places::{FACES, Spot, Types, tokens_of, tree_of};
 use std::alloc::Global;
 use std::io;

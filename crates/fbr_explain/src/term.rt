@@ -1,8 +1,8 @@
 //! What a row of a certificate has to pay for, term by term.
 
-use crate::put::{put, put_number};
 use fb_cert::Certificate;
 use fb_check_columns::Column;
+use fbr_advice::put::{put, put_number};
 use std::alloc::Global;
 use std::io;
 use std::io::Write;

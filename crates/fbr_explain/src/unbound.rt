@@ -3,9 +3,7 @@
 use crate::again::flat_again;
 use crate::inner::tell_inner;
 use crate::meaning::{found_limit, meaning_of};
-use crate::put::put;
 use crate::seen::block_in;
-use crate::spotted::{Named, tell_spot};
 use crate::told::tell_meaning;
 use crate::walk::tell_walk;
 use fb_find_ranges::tables;
@@ -15,6 +13,8 @@ use fb_flat::{Flat, Leaf};
 use fb_ranges::Ranges;
 use fb_tree::FileTree;
 use fb_types::Typed;
+use fbr_advice::put::put;
+use fbr_advice::spotted::{Named, tell_spot};
 use fbr_places::{Declared, Spot, declared_at, tree_of};
 use std::alloc::Global;
 use std::io;

@@ -1,9 +1,9 @@
 //! Walks, told place by place.
 
-use crate::put::{put, put_number};
 use crate::seen::place_at;
 use fb_check::Place;
 use fb_flat::{Flat, Leaf};
+use fbr_advice::put::{put, put_number};
 use std::io;
 use std::io::Write;
 

@@ -1,9 +1,6 @@
 //! Notes on arithmetic that may wrap.
 
-use crate::noted::{Page, begin_note};
-use crate::put::{put, put_number};
 use crate::seen::block_in;
-use crate::tokens::{index_at, mark_of, put_spelled};
 use fb_check::Verified;
 use fb_check_ranges::block_rows;
 use fb_flat::{Leaf, joined};
@@ -11,6 +8,9 @@ use fb_ranges::Ranges;
 use fb_tree::{BodyTree, ChartTree};
 use fb_types_blocks::Block;
 use fb_words::Mark;
+use fbr_advice::noted::{Page, begin_note};
+use fbr_advice::put::{put, put_number};
+use fbr_advice::tokens::{index_at, mark_of, put_spelled};
 use fbr_faults::{Wrap, algorithm_wraps, guard_wraps};
 use fbr_places::{Declared, declared_at};
 use std::alloc::AllocError;
