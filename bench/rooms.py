@@ -4,7 +4,7 @@
     bench/rooms.py            prints the table of docs/ARCHITECTURE.md: room by room, each crate behind those that it stands on
     bench/rooms.py --write    writes it into that page, between its two marks
     bench/rooms.py --chain    prints the longest chain of crates, and below it those that no other crate stands on
-    bench/rooms.py --pages    says which crates, names in them, edits and clauses that the pages name are not there
+    bench/rooms.py --pages    says which crates, names in them, edits and clauses that the pages name are not there, and which edits of the gate none names
 
 The head of a crate is the comment with which src/lib.rt or src/main.rt begins. Its first line says the room, and what the crate is for:
 `//! Room: checker. The verdict: ..`."""
@@ -104,8 +104,19 @@ def tell_pages(crates):
                 wrong.append(f"{page}: the gate tries no edit {crate}/{name}")
         for block in re.findall(r"```clause\n(.*?)```", text, re.S):
             wrong += [f"{page}: no such clause: {line}" for line in block.splitlines() if line.strip() and plain(line) not in code]
+    wrong += unasked(crates, "\n".join((TOP / it).read_text() for it in PAGES))
     print("\n".join(wrong) or "what the pages name is there")
     return bool(wrong)
+
+
+def unasked(crates, pages):
+    """The edits of the gate that no page names, where the crate has another."""
+    wrong = []
+    for crate in crates:
+        edits = sorted(it.stem for it in TOP.glob(f"crates/{crate}/must-fail/*.edit"))
+        named = [it for it in edits if f"`{crate}/{it}`" in pages]
+        wrong += [f"the gate tries {crate}/{it}, which no page names" for it in edits if it not in named and len(edits) > 1]
+    return wrong
 
 
 def main(words):
