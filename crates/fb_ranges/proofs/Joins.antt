@@ -1,23 +1,20 @@
 -- Ranges that are copied and set, a name at a time.
 use Rattle.std.proofs.Common.{◌≡◌, ℕ, zero, suc, ◌+◌, ◌<◌, Bool, true, false, ◌||◌, List, [], ◌∷◌, ◌++◌, length, take, drop, get_or, Some, refl, sym, ap, ap₂, ◌∙◌, arith}
 use Rattle.std.proofs.Math.Path.{fun_ext}
-use Rattle.std.specs.Prelude.{if◌then◌else◌, string_bytes, slice_get}
-use Rattle.std.specs.List.{AllZip}
+use Rattle.std.specs.Prelude.{if◌then◌else◌, string_bytes, slice_get, ◌&&◌}
 use Rattle.std.specs.Str.{bytes_eq}
 use Rattle.std.specs.declared.string.String.{String}
 use Rattle.std.specs.declared.alloc.Global.{Global}
 use Rattle.std.proofs.lemmas.List.{map_push, take_more}
 use Rattle.fb_model.specs.Names.{Name, is_in}
 use Rattle.fb_model.proofs.Lists.{same_name}
-use Rattle.fb_model.specs.Spans.{Span}
-use Rattle.fb_model.specs.Clear.{Spans, changed, reset}
+use Rattle.fb_model.specs.Spans.{Span, within}
+use Rattle.fb_model.specs.Clear.{Spans, are_kept, changed, reset}
 use Rattle.fb_model.proofs.Names.{eq_turned}
 use Rattle.st_types.proofs.Gathering.{drop_step}
 use Rattle.fb_model_laws.specs.Asking.{asking, asking_all}
-use Rattle.fb_ranges_intervals.specs.declared.interval.Interval.{Interval}
 use Rattle.fb_ranges.specs.Meeting.{Besides}
-use Rattle.fb_ranges.specs.Views.{names_in, names_of, row_of, spans_in}
-use Rattle.fb_ranges.proofs.Tables.{shown}
+use Rattle.fb_ranges.specs.Views.{names_in, names_of}
 use Rattle.std.specs.Borrow.{Bor}
 use Rattle.st_types.specs.declared.term.VariableName.{VariableName}
 
@@ -71,22 +68,6 @@ iterations_leave xs rows spans x own left = fun_ext (λ y. by y (bytes_eq x y) (
   by y false true = refl
   by y false false = refl
 
--- ---- copies
-
--- entries of the same names and values
-abbrev pub Same : String Global × Interval → String Global × Interval → Type 0
-Same p q = (string_bytes q.0 ≡ string_bytes p.0) × (q.1 ≡ p.1)
-
-row_same : (es fs : List (String Global × Interval)) → AllZip Same es fs → (x : Name) → row_of fs x ≡ row_of es x
-row_same [] [] h x = refl
-row_same [] (f ∷ fs) h x = absurd h
-row_same (e ∷ es) [] h x = absurd h
-row_same (e ∷ es) (f ∷ fs) h x =
-    ap₂ (λ n i. if bytes_eq x n then Some i else row_of fs x) h.0.0 h.0.1 ∙ ap (λ o. if bytes_eq x (string_bytes e.0) then Some e.1 else o) (row_same es fs h.1 x)
-
-pub copy_spans : (es fs : List (String Global × Interval)) → AllZip Same es fs → spans_in fs ≡ spans_in es
-copy_spans es fs h = fun_ext (λ x. ap shown (row_same es fs h x))
-
 -- ---- a name at a time
 
 take_get : {X : Type 0} (xs : List X) (i : ℕ) (e : X) → Some e ≡ slice_get xs i → take (i + 1) xs ≡ take i xs ++ e ∷ []
@@ -124,4 +105,33 @@ pub next_ask : (names : List (Bor VariableName)) (i : ℕ) (n : Bor VariableName
 next_ask names i n spans before now all x r lt is name range h put =
     ap (asking_all (names_of (drop (i + 1) names)) spans) (put ∙ ap₂ (λ y z. asking y z before) name (range ∙ ap spans name))
     ∙ ap (λ (l : List (Bor VariableName)). asking_all (names_of l) spans before) (sym (drop_step names i n lt is))
+    ∙ h
+
+and_moved : (a b c : Bool) → ((a && b) && c) ≡ (a && (b && c))
+and_moved true b c = refl
+and_moved false b c = refl
+
+and_false : (a : Bool) → false ≡ (a && false)
+and_false true = refl
+and_false false = refl
+
+and_true : (a : Bool) → a ≡ (a && true)
+and_true true = refl
+and_true false = refl
+
+-- whether the variables up to here lie in their rows, and the next one
+pub kept_not : (kept before w : Bool) → kept ≡ false → w ≡ false → kept ≡ (before && w)
+kept_not kept before w k e = k ∙ and_false before ∙ ap (λ b. before && b) (sym e)
+
+pub kept_so : (kept before w : Bool) → kept ≡ before → w ≡ true → kept ≡ (before && w)
+kept_so kept before w k e = k ∙ and_true before ∙ ap (λ b. before && b) (sym e)
+
+pub next_kept : (names : List (Bor VariableName)) (i : ℕ) (n : Bor VariableName) (rows spans : Spans) (kept before w all : Bool) (x : Name)
+    → i < length names → n ≡ get_or names i n → x ≡ string_bytes n.now.name → w ≡ within (spans x) (rows x) → (before && are_kept (names_of (drop i names)) rows spans) ≡ all → kept ≡ (before && w)
+    → (kept && are_kept (names_of (drop (i + 1) names)) rows spans) ≡ all
+next_kept names i n rows spans kept before w all x lt is name lies h k =
+    let rest = are_kept (names_of (drop (i + 1) names)) rows spans in
+    ap (λ b. b && rest) (k ∙ ap (λ b. before && b) (lies ∙ ap (λ y. within (spans y) (rows y)) name))
+    ∙ and_moved before (within (spans (string_bytes n.now.name)) (rows (string_bytes n.now.name))) rest
+    ∙ ap (λ (l : List (Bor VariableName)). before && are_kept (names_of l) rows spans) (sym (drop_step names i n lt is))
     ∙ h

@@ -1,11 +1,12 @@
 -- What the code's ranges are in the book.
-use Rattle.std.specs.Prelude.{map, string_bytes, List, [], ◌∷◌, Option, None, Some, if◌then◌else◌}
+use Rattle.std.specs.Prelude.{ℕ, suc, map, string_bytes, List, [], ◌∷◌, Option, None, Some, if◌then◌else◌}
 use Rattle.std.specs.Option.{option_map, unwrap_or}
 use Rattle.std.specs.Map.{lookup}
 use Rattle.std.specs.Str.{bytes_eq}
 use Rattle.std.specs.declared.string.String.{String}
 use Rattle.std.specs.declared.alloc.Global.{Global}
 use Rattle.std.specs.Borrow.{Bor}
+use Rattle.indexmap.specs.IndexSet.{IndexSet}
 use Rattle.st_types.specs.declared.term.VariableName.{VariableName}
 use Rattle.fb_words.specs.declared.elem_type.ElemType.TheVariants as t
 use Rattle.fb_model.specs.Names.{Name}
@@ -22,16 +23,27 @@ use Rattle.fb_ranges.specs.declared.way.Reached.{Reached}
 use Rattle.fb_ranges.specs.declared.way.Ways.{Ways}
 use Rattle.fb_ranges.specs.Meeting.{Mark}
 
--- the range of the variable of a name
-abbrev pub row_of : List (String Global × Interval) → Name → Option Interval
-row_of rows x = lookup (λ y. bytes_eq x (string_bytes y)) rows
+-- the number of a name, in the order of the names
+abbrev pub number_of : List Name → Name → Option ℕ
+number_of [] x = None
+number_of (n ∷ ns) x = if bytes_eq x n then Some 0 else option_map suc (number_of ns x)
+
+-- the row of a name, in the order of the names
+abbrev pub row_of : List Name → List Interval → Name → Option Interval
+row_of [] rows x = None
+row_of (n ∷ ns) [] x = None
+row_of (n ∷ ns) (r ∷ rs) x = if bytes_eq x n then Some r else row_of ns rs x
 
 -- the ranges of all variables: all numbers of LINT for one without a row
-abbrev pub spans_in : List (String Global × Interval) → Spans
-spans_in rows = λ x. unwrap_or (option_map span_of (row_of rows x)) (whole t.Lint)
+abbrev pub spans_in : List Name → List Interval → Spans
+spans_in names rows = λ x. unwrap_or (option_map span_of (row_of names rows x)) (whole t.Lint)
+
+-- names in their order
+abbrev pub keys_of : {S : Type 0} → IndexSet (String Global) S → List Name
+keys_of names = map string_bytes names.keys
 
 abbrev pub spans_of : Ranges → Spans
-spans_of ranges = spans_in ranges.rows.entries
+spans_of ranges = spans_in (keys_of ranges.names.value) ranges.rows.items
 
 -- the range of what has one, behind which operations stand, each with its second operand
 abbrev pub linked : Spans → List Tail → Span → Option Span

@@ -19,7 +19,7 @@ ghost use Rattle.fb_ranges.specs.Views.{clear_range, mark_of, names_of, spans_of
 
 use crate::assigned::names_assigned;
 use crate::expression::{Ranged, is_between, range};
-use crate::join::{are_kept, ask, ask_all, reset};
+use crate::join::{ask, ask_all, reset};
 use crate::merge::{close, ended, merged, no_ways, noted};
 use crate::narrowed::narrow;
 use crate::rows::Ranges;
@@ -276,8 +276,7 @@ fn examine_iterations(
     let Count { first, last, step } = count;
     let iterations = most_iterations(first, last, step);
     let names = names_assigned(alloc, body)?;
-    let begins = are_kept(&names, rows, ranges);
-    ask_all(&names, ranges, asked)?;
+    let begins = ask_all(&names, rows, ranges, asked)?;
     reset(&names, rows, ranges)?;
     let before = ranges.find_at(name);
     ranges.insert_at(name, taken(first, last, step, iterations))?;
@@ -305,8 +304,8 @@ pub(crate) fn examine_keeping(
     ensures rest { OnOk result (spans_of ranges.new ≡ book.reset (names_of names.now) (spans_of rows.now) (spans_of ranges.old)) }
 {
     let told = examine(alloc, rows, body, ranges, asked)?;
-    ask_all(names, ranges, asked)?;
-    let all = keeping(are_kept(names, rows, ranges), told);
+    let are_kept = ask_all(names, rows, ranges, asked)?;
+    let all = keeping(are_kept, told);
     reset(names, rows, ranges)?;
     Ok(all)
 }

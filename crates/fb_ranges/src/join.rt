@@ -17,6 +17,7 @@ pub fn copied(ranges: &Ranges) -> Result<Ranges, AllocError>
 {
     Ok(Ranges {
         alloc: ranges.alloc,
+        names: ranges.names.clone()?,
         rows: ranges.rows.clone()?,
     })
 }
@@ -29,18 +30,6 @@ pub fn reset(names: &[&VariableName], rows: &Ranges, ranges: &mut Ranges) -> Res
         ranges.insert_at(name, rows.find_at(name))?;
     }
     Ok(())
-}
-
-/// Whether each of these variables lies in its row.
-pub(crate) fn are_kept(names: &[&VariableName], rows: &Ranges, ranges: &Ranges) -> bool
-    ensures { result ≡ book.are_kept (names_of names.now) (spans_of rows.now) (spans_of ranges.now) }
-{
-    for name in names {
-        if !is_within(ranges.find_at(name), rows.find_at(name)) {
-            return false;
-        }
-    }
-    true
 }
 
 /// The row of a variable is asked to hold a range too.
@@ -58,16 +47,23 @@ pub(crate) fn ask(
     asked.insert_at(name, joined(row, range))
 }
 
-/// The rows of these variables are asked to hold what the variables have.
+/// The rows of these variables are asked to hold what the variables have; and whether each lies in its row as it is.
 pub(crate) fn ask_all(
     names: &[&VariableName],
+    rows: &Ranges,
     ranges: &Ranges,
     asked: &mut Ranges,
-) -> Result<(), AllocError>
-    ensures { OnOk result (spans_of asked.new ≡ asking_all (names_of names.now) (spans_of ranges.now) (spans_of asked.old)) }
+) -> Result<bool, AllocError>
+    ensures asks { OnOk result (spans_of asked.new ≡ asking_all (names_of names.now) (spans_of ranges.now) (spans_of asked.old)) }
+    ensures kept { IfOk result (λ kept. kept ≡ book.are_kept (names_of names.now) (spans_of rows.now) (spans_of ranges.now)) }
 {
+    let mut are_kept = true;
     for name in names {
-        ask(name, ranges.find_at(name), asked)?;
+        let range = ranges.find_at(name);
+        ask(name, range, asked)?;
+        if !is_within(range, rows.find_at(name)) {
+            are_kept = false;
+        }
     }
-    Ok(())
+    Ok(are_kept)
 }

@@ -1,20 +1,21 @@
 //! The ranges of a block's variables, by their names.
 
-ghost use Rattle.std.specs.Prelude.{◌≡◌, true, ◌&&◌, Some, OnErr, OnOk, slice_get, string_bytes};
-ghost use Rattle.std.specs.Option.{option_map};
+ghost use Rattle.std.specs.Prelude.{◌≡◌, ◌<◌, ◌++◌, ◌∷◌, [], length, true, None, ◌&&◌, IfOk, Some, OnErr, OnOk, map, string_bytes};
+ghost use Rattle.std.specs.Str.{bytes_eq};
 ghost use Rattle.std.specs.Ordering.{int_eq};
 ghost use Rattle.fb_words.specs.declared.elem_type.ElemType.TheVariants as t;
 ghost use Rattle.fb_model.specs.Spans.{whole};
 ghost use Rattle.fb_model.specs.Clear.{changed};
 ghost use Rattle.fb_ranges_intervals.specs.Views.{span_of};
-ghost use Rattle.fb_ranges.specs.Views.{spans_of};
+ghost use Rattle.fb_ranges.specs.Views.{keys_of, number_of, spans_of};
 
 use crate::rows::Ranges;
 use fb_ranges_intervals::{Interval, whole};
 use fb_words::ElemType;
-use indexmap::IndexMap;
+use indexmap::IndexSet;
 use st_types::VariableName;
 use std::alloc::{AllocError, Global};
+use std::rc::Rc;
 
 /// Whether two ranges are the same.
 pub fn is_same(one: Interval, other: Interval) -> bool
@@ -23,24 +24,85 @@ pub fn is_same(one: Interval, other: Interval) -> bool
     one.low == other.low && one.high == other.high
 }
 
+// Whether rows are the same in their order. (Not said: that it ever says so.)
+fn are_same(rows: &[Interval], others: &[Interval]) -> bool
+    ensures { result ≡ true → map span_of rows.now ≡ map span_of others.now }
+{
+    if rows.len() != others.len() {
+        return false;
+    }
+    for at in 0..rows.len() {
+        if !is_same(rows[at], others[at]) {
+            return false;
+        }
+    }
+    true
+}
+
+/// How long a name is at most that is compared letter by letter: for the few of most names that is the fastest.
+const SHORT: usize = 8;
+
+// Whether two names are the same.
+fn is_name(one: &[u8], other: &[u8]) -> bool
+    ensures { result ≡ bytes_eq one.now other.now }
+{
+    if one.len() != other.len() {
+        return false;
+    }
+    if one.len() > SHORT {
+        return one == other;
+    }
+    for at in 0..one.len() {
+        if one[at] != other[at] {
+            return false;
+        }
+    }
+    true
+}
+
+// Adds a name that is not there yet.
+fn put(names: &mut Rc<IndexSet<String>>, name: String) -> Result<(), AllocError>
+    requires { number_of (keys_of names.old.value) (string_bytes name) ≡ None }
+    ensures set { OnOk result (keys_of names.new.value ≡ keys_of names.old.value ++ string_bytes name ∷ []) }
+    ensures unchanged { OnErr result (keys_of names.new.value ≡ keys_of names.old.value) }
+{
+    let names = Rc::make_mut(names)?;
+    names.insert(name)?;
+    Ok(())
+}
+
 impl Ranges {
     /// No ranges.
-    pub fn new(alloc: Global) -> Ranges
-        ensures { spans_of result ≡ (λ x. whole t.Lint) }
+    ///
+    /// Fails where memory runs out.
+    pub fn new(alloc: Global) -> Result<Ranges, AllocError>
+        ensures { IfOk result (λ r. spans_of r ≡ (λ x. whole t.Lint)) }
     {
-        Ranges {
+        Ok(Ranges {
             alloc,
-            rows: IndexMap::new(alloc),
-        }
+            names: Rc::new(alloc, IndexSet::new(alloc))?,
+            rows: Vec::new(alloc),
+        })
     }
 
     /// The range of the variable of a name: all numbers of LINT where it has no row.
     pub fn find(&self, name: &str) -> Interval
         ensures { span_of result ≡ spans_of self.now name.now }
     {
-        match self.rows.get(name) {
-            Some(row) => *row,
+        match self.names.get_index_of(name) {
+            Some(number) => self.rows[number],
             None => whole(ElemType::Lint),
+        }
+    }
+
+    // Whether the row with a number is that of the variable of this name.
+    fn is_at(&self, name: &str, number: usize) -> bool
+        ensures named { result ≡ true → number_of (keys_of self.now.names.value) name.now ≡ Some number }
+        ensures within { result ≡ true → number < length self.now.rows.items }
+    {
+        match self.names.as_slice().get(number) {
+            Some(key) => is_name(key.as_bytes(), name.as_bytes()),
+            None => false,
         }
     }
 
@@ -48,10 +110,10 @@ impl Ranges {
     pub fn find_near(&self, name: &str, number: usize) -> Interval
         ensures { span_of result ≡ spans_of self.now name.now }
     {
-        match self.rows.get_index(number) {
-            Some((key, row)) if key.as_str() == name => *row,
-            _ => self.find(name),
+        if self.is_at(name, number) {
+            return self.rows[number];
         }
+        self.find(name)
     }
 
     /// The range of a variable.
@@ -61,6 +123,21 @@ impl Ranges {
         self.find_near(variable.as_str(), variable.number)
     }
 
+    // Gives the variable of a name that has no row a range.
+    fn add(&mut self, name: &str, interval: Interval) -> Result<(), AllocError>
+        requires { number_of (keys_of self.old.names.value) name.now ≡ None }
+        ensures set { OnOk result (spans_of self.new ≡ changed name.now (λ _. span_of interval) (spans_of self.old)) }
+        ensures unchanged { OnErr result (spans_of self.new ≡ spans_of self.old) }
+    {
+        let key = String::from_str(self.alloc, name)?;
+        self.rows.reserve(1)?;
+        put(&mut self.names, key)?;
+        match self.rows.push(interval) {
+            Ok(()) => Ok(()),
+            Err(_) => unreachable!(),
+        }
+    }
+
     /// Gives the variable of a name a range, in place of any that it has.
     ///
     /// Fails where memory runs out; then the ranges are as before.
@@ -68,22 +145,12 @@ impl Ranges {
         ensures set { OnOk result (spans_of self.new ≡ changed name.now (λ _. span_of interval) (spans_of self.old)) }
         ensures unchanged { OnErr result (spans_of self.new ≡ spans_of self.old) }
     {
-        if let Some(row) = self.rows.get_mut(name) {
-            *row = interval;
-            return Ok(());
-        }
-        let key = String::from_str(self.alloc, name)?;
-        self.rows.insert(key, interval)?;
-        Ok(())
-    }
-
-    // Whether the row with a number is that of the variable of this name.
-    fn is_at(&self, name: &str, number: usize) -> bool
-        ensures { result ≡ true → option_map (λ p. string_bytes p.0) (slice_get self.now.rows.entries number) ≡ Some name.now }
-    {
-        match self.rows.get_index(number) {
-            Some((key, _)) => key.as_str() == name,
-            None => false,
+        match self.names.get_index_of(name) {
+            Some(number) => {
+                self.rows[number] = interval;
+                Ok(())
+            }
+            None => self.add(name, interval),
         }
     }
 
@@ -97,10 +164,8 @@ impl Ranges {
         ensures set { OnOk result (spans_of self.new ≡ changed name.now (λ _. span_of interval) (spans_of self.old)) }
         ensures unchanged { OnErr result (spans_of self.new ≡ spans_of self.old) }
     {
-        if self.is_at(name, number)
-            && let Some(row) = self.rows.get_index_mut(number)
-        {
-            *row = interval;
+        if self.is_at(name, number) {
+            self.rows[number] = interval;
             return Ok(());
         }
         self.insert(name, interval)
@@ -122,23 +187,6 @@ impl Ranges {
     pub fn is_like(&self, other: &Ranges) -> bool
         ensures { result ≡ true → spans_of self.now ≡ spans_of other.now }
     {
-        if self.rows.len() != other.rows.len() {
-            return false;
-        }
-        for at in 0..self.rows.len() {
-            let (Some((name, range)), Some((next, like))) = (
-                self.rows.get_index(at),
-                other.rows.get_index(at),
-            ) else {
-                return false;
-            };
-            if !is_same(*range, *like) {
-                return false;
-            }
-            if name != next {
-                return false;
-            }
-        }
-        true
+        are_same(&self.rows, &other.rows) && self.names.as_slice() == other.names.as_slice()
     }
 }

@@ -257,11 +257,11 @@ examine_iterations-returns-clause-asks t c =
     let k : to_z w64 (of_z w64 c.args.count.step) ≡ c.args.count.step = omega (arith, ints) in
     let iterations : n ≡ most_iterations r s c.args.count.step = c.most_iterations-iterations.ensures ∙ ap (most_iterations r s) k in
     let some : 0 < n = subst (λ m. 0 < m) (sym iterations) c.requires in
-    let begins : asked ≡ asking_all xs spans q = c.in_ok-ask_all.ensures ∙ ap (λ ys. asking_all ys spans q) (ap names_of c.deref-2.ensures.value ∙ c.in_ok-names.ensures) in
-    let same : base ≡ reset xs rows spans = c.in_ok-reset.ensures ∙ ap (λ ys. reset ys rows spans) (ap names_of c.deref-3.ensures.value ∙ c.in_ok-names.ensures) in
+    let begins : asked ≡ asking_all xs spans q = c.in_ok-begins.ensures.asks ∙ ap (λ ys. asking_all ys spans q) (ap names_of c.deref.ensures.value ∙ c.in_ok-names.ensures) in
+    let same : base ≡ reset xs rows spans = c.in_ok-reset.ensures ∙ ap (λ ys. reset ys rows spans) (ap names_of c.deref-2.ensures.value ∙ c.in_ok-names.ensures) in
     let o : own ≡ taken r s c.args.count.step n = c.taken.ensures ∙ ap (λ z. taken r s z n) k in
     let l : left ≡ left_with r s c.args.count.step n (base x) = c.left_with.ensures ∙ ap₂ (λ z b. left_with r s z n b) k c.find_at-before.ensures in
-    let names = ap names_of c.deref-4.ensures.value ∙ c.in_ok-names.ensures in
+    let names = ap names_of c.deref-3.ensures.value ∙ c.in_ok-names.ensures in
     let set : begin ≡ changed x (λ b. own) base = c.in_ok-insert_at.ensures.set in
     let put : after ≡ changed x (λ b. left) base =
     c.in_ok-insert_at-2.ensures.set
@@ -287,10 +287,10 @@ examine_iterations-returns-clause-tells t c =
     let k : to_z w64 (of_z w64 c.args.count.step) ≡ c.args.count.step = omega (arith, ints) in
     let iterations : n ≡ most_iterations r s c.args.count.step = c.most_iterations-iterations.ensures ∙ ap (most_iterations r s) k in
     let some : 0 < n = subst (λ m. 0 < m) (sym iterations) c.requires in
-    let begins : c.are_kept-begins.result ≡ are_kept xs rows spans = c.are_kept-begins.ensures ∙ ap (λ ys. are_kept ys rows spans) (ap names_of c.deref.ensures.value ∙ c.in_ok-names.ensures) in
-    let same : base ≡ reset xs rows spans = c.in_ok-reset.ensures ∙ ap (λ ys. reset ys rows spans) (ap names_of c.deref-3.ensures.value ∙ c.in_ok-names.ensures) in
+    let begins : c.in_ok-begins.begins ≡ are_kept xs rows spans = c.in_ok-begins.ensures.kept ∙ ap (λ ys. are_kept ys rows spans) (ap names_of c.deref.ensures.value ∙ c.in_ok-names.ensures) in
+    let same : base ≡ reset xs rows spans = c.in_ok-reset.ensures ∙ ap (λ ys. reset ys rows spans) (ap names_of c.deref-2.ensures.value ∙ c.in_ok-names.ensures) in
     let o : own ≡ taken r s c.args.count.step n = c.taken.ensures ∙ ap (λ z. taken r s z n) k in
-    let names = ap names_of c.deref-4.ensures.value ∙ c.in_ok-names.ensures in
+    let names = ap names_of c.deref-3.ensures.value ∙ c.in_ok-names.ensures in
     let set = c.in_ok-insert_at.ensures.set ∙ ap₂ (λ p (u : Spans). changed x (λ b. p) u) o same in
     let told = c.in_ok-told.ensures.tells ∙ ap₂ (λ (ys : List Name) (u : Spans). tell (kept rows ys (body u))) names set in
     c.iterated.ensures
@@ -299,7 +299,7 @@ examine_iterations-returns-clause-tells t c =
     ∙ ap (λ m. tell (looped m xs rows body x r s c.args.count.step spans)) iterations
 
 pub examine_keeping-returns-clause-asks : goal.examine_keeping-returns-clause-asks
-examine_keeping-returns-clause-asks t c = c.in_ok-ask_all.ensures ∙ ap (λ (p : Asked). asking_all (names_of c.args.names.now) p.spans p.rows) c.in_ok-told.ensures.asks
+examine_keeping-returns-clause-asks t c = c.in_ok-are_kept.ensures.asks ∙ ap (λ (p : Asked). asking_all (names_of c.args.names.now) p.spans p.rows) c.in_ok-told.ensures.asks
 
 pub examine_keeping-returns-clause-tells : goal.examine_keeping-returns-clause-tells
 examine_keeping-returns-clause-tells t c =
@@ -309,7 +309,7 @@ examine_keeping-returns-clause-tells t c =
     let after = spans_of c.examine.new.ranges in
     let found = examine rows a begin in
     let end = subst (Ends found) (sym (ap (λ (p : Asked). p.spans) c.in_ok-told.ensures.asks)) (ends rows a (point begin (spans_of c.args.asked.now))) in
-    told_kept rows (names_of c.args.names.now) found after c.in_ok-told.told c.keeping-all.result c.are_kept.result end c.in_ok-told.ensures.tells c.are_kept.ensures c.keeping-all.ensures
+    told_kept rows (names_of c.args.names.now) found after c.in_ok-told.told c.keeping-all.result c.in_ok-are_kept.are_kept end c.in_ok-told.ensures.tells c.in_ok-are_kept.ensures.kept c.keeping-all.ensures
 
 pub examine_keeping-returns-clause-rest : goal.examine_keeping-returns-clause-rest
 examine_keeping-returns-clause-rest t c =
