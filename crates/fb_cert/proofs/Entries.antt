@@ -8,7 +8,7 @@ use Rattle.fb_model.specs.Spans.{Span, span}
 use Rattle.fb_cert.specs.declared.certificate.Amount.{Amount}
 use denote.Ref.{Bor}
 use Rattle.fb_cert.specs.Views.{amount, texts}
-use Rattle.fb_cert.specs.Reading.{number_in, whole_in, between, bounds_in, with_bounds, is_path, both, amount_in, channel_in, row_of_two, row_at_path, row_of_three, with_amount, row_of_four, text_row_at, is_head}
+use Rattle.fb_cert.specs.Reading.{number_in, whole_in, between, interval_in, with_interval, is_path, both, amount_in, channel_in, row_of_two, row_at_path, row_of_three, with_amount, row_of_four, text_row_at, is_head}
 use Rattle.fb_cert.proofs.Deciding.{chosen, both_true, text_is}
 use Rattle.fb_cert.proofs.Numbers.{number_found, number_read, some_of, whole_found, whole_read}
 use Rattle.fb_cert.proofs.Paths.{dotted_found, dotted_read}
@@ -44,9 +44,9 @@ between_found (Some l) (Some h) s e =
       | inr p ↦ absurd (cc)
     ]
 
-bounds_found : (p : List ℕ) (o : Option Span) (e : TextRow) → with_bounds p o ≡ Some e → (s : Span) × (o ≡ Some s) × (range p s.low s.high ≡ e)
-bounds_found p None e h = absurd (cc)
-bounds_found p (Some s) e h = let same : range p s.low s.high ≡ e = cc in (s, refl, same)
+interval_found : (p : List ℕ) (o : Option Span) (e : TextRow) → with_interval p o ≡ Some e → (s : Span) × (o ≡ Some s) × (range p s.low s.high ≡ e)
+interval_found p None e h = absurd (cc)
+interval_found p (Some s) e h = let same : range p s.low s.high ≡ e = cc in (s, refl, same)
 
 abbrev IsAmountRow : List ℕ → List ℕ → Amount → TextRow → Type 0
 IsAmountRow w p a e = ((w ≡ codes "CHARGE") × (charge p a.steps a.places ≡ e)) ⊎ ((w ≡ codes "WEIGHT") × (weight p a.steps a.places ≡ e))
@@ -108,9 +108,9 @@ three_found w p n e h =
       ]
     ]
 
-range_found : (p l h : List ℕ) (e : TextRow) → is_path p ≡ true → with_bounds p (bounds_in l h) ≡ Some e → IsTextRow (codes "RANGE" ∷ p ∷ l ∷ h ∷ []) e
+range_found : (p l h : List ℕ) (e : TextRow) → is_path p ≡ true → with_interval p (interval_in l h) ≡ Some e → IsTextRow (codes "RANGE" ∷ p ∷ l ∷ h ∷ []) e
 range_found p l h e d k =
-    let f = bounds_found p (bounds_in l h) e k in
+    let f = interval_found p (interval_in l h) e k in
     let b = between_found (whole_in l) (whole_in h) f.0 f.1 in
     subst (IsTextRow (codes "RANGE" ∷ p ∷ l ∷ h ∷ [])) f.2 (a_range (dotted_found p d) (whole_found l f.0.low b.low) (whole_found h f.0.high b.high) b.ordered)
 
@@ -126,12 +126,12 @@ amounts_found w p s k e d h =
     ]
 
 abbrev numbered : List ℕ → List ℕ → List ℕ → List ℕ → Option TextRow
-numbered w p s k = cond (bytes_eq w (codes "RANGE")) (with_bounds p (bounds_in s k)) (with_amount w p (amount_in s k))
+numbered w p s k = cond (bytes_eq w (codes "RANGE")) (with_interval p (interval_in s k)) (with_amount w p (amount_in s k))
 
 four_found : (w p s k : List ℕ) (e : TextRow) → row_of_four w p s k ≡ Some e → IsTextRow (w ∷ p ∷ s ∷ k ∷ []) e
 four_found w p s k e h =
     elim (chosen (is_path p) (numbered w p s k) None (Some e) h) [
-      | inl q ↦ elim (chosen (bytes_eq w (codes "RANGE")) (with_bounds p (bounds_in s k)) (with_amount w p (amount_in s k)) (Some e) q.1) [
+      | inl q ↦ elim (chosen (bytes_eq w (codes "RANGE")) (with_interval p (interval_in s k)) (with_amount w p (amount_in s k)) (Some e) q.1) [
         | inl r ↦ subst (λ v. IsTextRow (v ∷ p ∷ s ∷ k ∷ []) e) (sym (text_is w (codes "RANGE") r.0)) (range_found p s k e q.0 r.1)
         | inr r ↦ amounts_found w p s k e q.0 r.1
       ]
@@ -159,15 +159,15 @@ path_read w p n d = ap (λ b. cond b (row_at_path w p n) None) (dotted_read p d)
 four_read : (w p s k : List ℕ) → IsDotted p → row_of_four w p s k ≡ numbered w p s k
 four_read w p s k d = ap (λ b. cond b (numbered w p s k) None) (dotted_read p d)
 
-bounds_read : (l h : List ℕ) (low high : ℤ) → IsWhole l low → IsWhole h high → int_le low high ≡ true → bounds_in l h ≡ Some (span low high)
-bounds_read l h low high a b k =
+interval_read : (l h : List ℕ) (low high : ℤ) → IsWhole l low → IsWhole h high → int_le low high ≡ true → interval_in l h ≡ Some (span low high)
+interval_read l h low high a b k =
     ap (λ r. between r (whole_in h)) (whole_read l low a)
     ∙ ap (between (Some low)) (whole_read h high b)
     ∙ ap (λ t. cond t (Some (span low high)) None) k
 
 pub entry_read : (ws : List (List ℕ)) (e : TextRow) → IsTextRow ws e → text_row_at ws ≡ Some e
 entry_read ws e (a_repeats {r} {n} h) = ap (option_map repeats) (number_read 1 most_repeats n r h)
-entry_read ws e (a_range {p} {l} {h} {low} {high} d a b k) = four_read (codes "RANGE") p l h d ∙ ap (with_bounds p) (bounds_read l h low high a b k)
+entry_read ws e (a_range {p} {l} {h} {low} {high} d a b k) = four_read (codes "RANGE") p l h d ∙ ap (with_interval p) (interval_read l h low high a b k)
 entry_read ws e (a_charge {p} {s} {k} {steps} {places} d h g) = four_read (codes "CHARGE") p s k d ∙ ap (with_amount (codes "CHARGE") p) (amount_read s k steps places h g)
 entry_read ws e (a_weight {p} {s} {k} {steps} {places} d h g) = four_read (codes "WEIGHT") p s k d ∙ ap (with_amount (codes "WEIGHT") p) (amount_read s k steps places h g)
 entry_read ws e (a_depth {p} {d = s} {n} d h) = path_read (codes "DEPTH") p s d ∙ ap (option_map (depth p)) (number_read 1 most_places n s h)

@@ -9,8 +9,9 @@ use Rattle.indexmap.specs.IndexMap.{insert_entry}
 use Rattle.fb_model.specs.Spans.{Span}
 use Rattle.fb_model.specs.CertificateText.{range}
 use Rattle.std.specs.Option.{option_map}
-use Rattle.fb_cert.specs.declared.bounds.Bounds.{Bounds}
-use Rattle.fb_cert.specs.Views.{Table, Rows, first_at, has_path, has_number, Adds, AddsNew, AddsRow, span_of, spans_of}
+use Rattle.fb_ranges_intervals.specs.declared.interval.Interval.{Interval}
+use Rattle.fb_ranges_intervals.specs.Views.{span_of}
+use Rattle.fb_cert.specs.Views.{Table, Rows, first_at, has_path, has_number, Adds, AddsNew, AddsRow, spans_of}
 
 abbrev pub entries_of : {V : Type 0} → List (String Global × V) → Table V
 entries_of es = map (λ e. (string_bytes e.0, e.1)) es
@@ -64,33 +65,33 @@ numbers_with {V} (e ∷ es) number v h = by (number == e.0) h (numbers_with es n
 pub adds_number : {V : Type 0} (es new : List (ℕ × V)) (number : ℕ) (v : V) → has_number number es ≡ false → new ≡ insert_entry nat_eq es number v → AddsNew (has_number number es) es (number, v) new true
 adds_number es new number v h n = (sym (ap not h), n ∙ numbers_with es number v h)
 
--- ---- bounds by their spans
+-- ---- intervals by their spans
 
-first_step : (b : Bool) (v : Bounds) (o : Option Bounds) (p : Option Span) → option_map span_of o ≡ p → option_map span_of (cond b (Some v) o) ≡ cond b (Some (span_of v)) p
+first_step : (b : Bool) (v : Interval) (o : Option Interval) (p : Option Span) → option_map span_of o ≡ p → option_map span_of (cond b (Some v) o) ≡ cond b (Some (span_of v)) p
 first_step true v o p h = refl
 first_step false v o p h = h
 
-pub first_span : (path : List ℕ) (rows : Table Bounds) → option_map span_of (first_at path rows) ≡ first_at path (spans_of rows)
+pub first_span : (path : List ℕ) (rows : Table Interval) → option_map span_of (first_at path rows) ≡ first_at path (spans_of rows)
 first_span path [] = refl
 first_span path (r ∷ rs) = first_step (bytes_eq path r.0) r.1 (first_at path rs) (first_at path (spans_of rs)) (first_span path rs)
 
-has_span : (path : List ℕ) (rows : Table Bounds) → has_path path (spans_of rows) ≡ has_path path rows
+has_span : (path : List ℕ) (rows : Table Interval) → has_path path (spans_of rows) ≡ has_path path rows
 has_span path [] = refl
 has_span path (r ∷ rs) = ap (λ b. bytes_eq path r.0 || b) (has_span path rs)
 
-with_span : (rows : Table Bounds) (path : List ℕ) (v : Bounds) → spans_of (rows ++ (path, v) ∷ []) ≡ spans_of rows ++ (path, span_of v) ∷ []
+with_span : (rows : Table Interval) (path : List ℕ) (v : Interval) → spans_of (rows ++ (path, v) ∷ []) ≡ spans_of rows ++ (path, span_of v) ∷ []
 with_span [] path v = refl
 with_span (r ∷ rs) path v = ap (λ x. (r.0, span_of r.1) ∷ x) (with_span rs path v)
 
-spans_step : (said : Bool) (rows : Table Bounds) (path : List ℕ) (v : Bounds) → spans_of (cond said (rows ++ (path, v) ∷ []) rows) ≡ cond said (spans_of rows ++ (path, span_of v) ∷ []) (spans_of rows)
+spans_step : (said : Bool) (rows : Table Interval) (path : List ℕ) (v : Interval) → spans_of (cond said (rows ++ (path, v) ∷ []) rows) ≡ cond said (spans_of rows ++ (path, span_of v) ∷ []) (spans_of rows)
 spans_step true rows path v = with_span rows path v
 spans_step false rows path v = refl
 
--- what is added to bounds is added to their spans
-pub adds_span : (old new : Table Bounds) (path : List ℕ) (v : Bounds) (said : Bool) → Adds old path v new said → Adds (spans_of old) path (span_of v) (spans_of new) said
+-- what is added to intervals is added to their spans
+pub adds_span : (old new : Table Interval) (path : List ℕ) (v : Interval) (said : Bool) → Adds old path v new said → Adds (spans_of old) path (span_of v) (spans_of new) said
 adds_span old new path v said h = (h.0 ∙ ap not (sym (has_span path old)), ap spans_of h.1 ∙ spans_step said old path v)
 
-pub range_added : (old : Rows) (path : List ℕ) (v : Bounds) (new : Table Span) (said : Bool) → Adds old.ranges path (span_of v) new said → AddsRow old (range path v.low v.high) (record old { ranges = new }) said
+pub range_added : (old : Rows) (path : List ℕ) (v : Interval) (new : Table Span) (said : Bool) → Adds old.ranges path (span_of v) new said → AddsRow old (range path v.low v.high) (record old { ranges = new }) said
 range_added old path v new true h = (h.0, ap (λ r. record old { ranges = r }) h.1)
 range_added old path v new false h = (h.0, ap (λ r. record old { ranges = r }) h.1)
 

@@ -56,12 +56,12 @@ between None h = None
 between (Some l) None = None
 between (Some l) (Some h) = if int_le l h then Some (span l h) else None
 
-abbrev pub bounds_in : List ℕ → List ℕ → Option Span
-bounds_in l h = between (whole_in l) (whole_in h)
+abbrev pub interval_in : List ℕ → List ℕ → Option Span
+interval_in l h = between (whole_in l) (whole_in h)
 
-abbrev pub with_bounds : List ℕ → Option Span → Option TextRow
-with_bounds p None = None
-with_bounds p (Some s) = Some (range p s.low s.high)
+abbrev pub with_interval : List ℕ → Option Span → Option TextRow
+with_interval p None = None
+with_interval p (Some s) = Some (range p s.low s.high)
 
 abbrev pub row_of_two : List ℕ → List ℕ → Option TextRow
 row_of_two w n = if bytes_eq w (codes "REPEATS") then option_map repeats (number_in 1 most_repeats n) else None
@@ -80,7 +80,7 @@ with_amount w p None = None
 with_amount w p (Some a) = if bytes_eq w (codes "CHARGE") then Some (charge p a.steps a.places) else (if bytes_eq w (codes "WEIGHT") then Some (weight p a.steps a.places) else None)
 
 abbrev pub row_of_four : List ℕ → List ℕ → List ℕ → List ℕ → Option TextRow
-row_of_four w p a b = if is_path p then (if bytes_eq w (codes "RANGE") then with_bounds p (bounds_in a b) else with_amount w p (amount_in a b)) else None
+row_of_four w p a b = if is_path p then (if bytes_eq w (codes "RANGE") then with_interval p (interval_in a b) else with_amount w p (amount_in a b)) else None
 
 abbrev pub text_row_at : List (List ℕ) → Option TextRow
 text_row_at (w ∷ n ∷ []) = row_of_two w n

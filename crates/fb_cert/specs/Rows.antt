@@ -7,9 +7,10 @@ use Rattle.std.specs.declared.alloc.Global.{Global}
 use Rattle.indexmap.specs.IndexMap.{IndexMap}
 use Rattle.fb_model.specs.Certificates as book
 use Rattle.fb_model.specs.Ranges.{Range}
-use Rattle.fb_model.specs.Spans.{Span, span}
+use Rattle.fb_model.specs.Spans.{Span}
 use Rattle.fb_model.specs.CertificateText.{range_row, row_of, depth_row, far_row, channel_row}
-use Rattle.fb_cert.specs.declared.bounds.Bounds.{Bounds}
+use Rattle.fb_ranges_intervals.specs.declared.interval.Interval.{Interval}
+use Rattle.fb_ranges_intervals.specs.Views.{span_of}
 use Rattle.fb_cert.specs.declared.certificate.Amount.{Amount}
 use Rattle.fb_cert.specs.declared.lists.Lists.{Lists}
 
@@ -20,11 +21,8 @@ Table V = List ((List ℕ) × V)
 abbrev pub texts_of : {V S : Type 0} → IndexMap (String Global) V S → Table V
 texts_of m = map (λ e. (string_bytes e.0, e.1)) m.entries
 
-abbrev pub span_of : Bounds → Span
-span_of b = span b.low b.high
-
--- the paths with the spans of their bounds
-abbrev pub spans_of : Table Bounds → Table Span
+-- the paths with the spans of their intervals
+abbrev pub spans_of : Table Interval → Table Span
 spans_of rows = map (λ r. (r.0, span_of r.1)) rows
 
 abbrev pub amount : ℕ → ℕ → Amount

@@ -2,10 +2,11 @@
 use Rattle.std.specs.Prelude.{◌≡◌, ℕ, Bool, not, List, [], ◌∷◌, ◌++◌, map, Option, Some, None, is_some, if◌then◌else◌}
 use Rattle.std.specs.Option.{option_map, unwrap_or}
 use Rattle.std.specs.Str.{bytes_eq}
-use Rattle.fb_cert.specs.declared.bounds.Bounds.{Bounds}
+use Rattle.fb_ranges_intervals.specs.declared.interval.Interval.{Interval}
+use Rattle.fb_ranges_intervals.specs.Views.{span_of}
 use Rattle.fb_cert.specs.declared.certificate.Amount.{Amount}
 use Rattle.fb_cert.specs.declared.certificate.Certificate.{Certificate}
-pub use Rattle.fb_cert.specs.Rows.{Table, texts_of, span_of, spans_of, has_path, has_number, amount, Rows, no_rows, rows_in, range_rows, amount_rows, depth_rows, far_rows, channel_rows, book_of}
+pub use Rattle.fb_cert.specs.Rows.{Table, texts_of, spans_of, has_path, has_number, amount, Rows, no_rows, rows_in, range_rows, amount_rows, depth_rows, far_rows, channel_rows, book_of}
 use denote.Ref.{Bor}
 use Rattle.fb_model.specs.Certificates as book
 use Rattle.fb_model.specs.Ranges.{Range}
@@ -44,7 +45,7 @@ texts words = map (λ w. w.now) words
 
 abbrev pub text_row_of : Row → TextRow
 text_row_of (kinds.Repeats n) = repeats n
-text_row_of (kinds.Range path b) = range path.now b.low b.high
+text_row_of (kinds.Range path i) = range path.now i.low i.high
 text_row_of (kinds.Charge path a) = charge path.now a.steps a.places
 text_row_of (kinds.Weight path a) = weight path.now a.steps a.places
 text_row_of (kinds.Depth path n) = depth path.now n
@@ -96,11 +97,11 @@ count_in None = 0
 count_in (Some n) = n
 
 -- where a variable has no row, all numbers of its type
-abbrev pub span_in : Variable → Option Bounds → Span
-span_in v b = unwrap_or (option_map span_of b) (whole v.type)
+abbrev pub span_in : Variable → Option Interval → Span
+span_in v i = unwrap_or (option_map span_of i) (whole v.type)
 
 -- a row of a range, by its span
-abbrev pub span_shown : (Bor (List ℕ)) × Bounds → (List ℕ) × Span
+abbrev pub span_shown : (Bor (List ℕ)) × Interval → (List ℕ) × Span
 span_shown p = (p.0.now, span_of p.1)
 
 -- a row in the book's form
@@ -116,5 +117,5 @@ far_shown p = far_row p.0.now p.1
 abbrev pub channel_shown : ℕ × ℕ → book.ChannelRow
 channel_shown p = channel_row p.0 p.1
 
-abbrev pub range_shown : (Bor (List ℕ)) × Bounds → Range
+abbrev pub range_shown : (Bor (List ℕ)) × Interval → Range
 range_shown p = range_row p.0.now p.1.low p.1.high

@@ -3,17 +3,18 @@
 ghost use Rattle.std.specs.Prelude.{◌≡◌, ◌==◌, ◌&&◌, not, length, slice_get, IfOk, IfErr, if◌then◌else◌};
 ghost use Rattle.std.specs.Map.{lookup};
 ghost use Rattle.std.specs.Option.{option_map};
-ghost use Rattle.fb_cert.specs.Views.{rows_of, no_rows, text_row_of, has_row, with_row, first_at, shown, span_of, span_shown, row_shown, depth_shown, far_shown, channel_shown, range_shown, certificate_of, steps_in, places_in, count_in, span_in};
+ghost use Rattle.fb_ranges_intervals.specs.Views.{span_of};
+ghost use Rattle.fb_cert.specs.Views.{rows_of, no_rows, text_row_of, has_row, with_row, first_at, shown, span_shown, row_shown, depth_shown, far_shown, channel_shown, range_shown, certificate_of, steps_in, places_in, count_in, span_in};
 ghost use Rattle.fb_cert.specs.Adding.{is_sayable};
 ghost use Rattle.fb_model.specs.Certificates as book;
 ghost use Rattle.fb_model.specs.CertificateText.{place_of, names_in, all_but_last, last_name, IsTold};
 ghost use Rattle.fb_model.specs.Ranges.{row_at};
 ghost use Rattle.fb_model.specs.System.{Variable};
 
-use crate::bounds::Bounds;
 use crate::lists::Lists;
 use crate::row::Row;
 use crate::sayable::is_sayable;
+use fb_ranges_intervals::Interval;
 use std::alloc::{AllocError, Global};
 use std::marker::Model;
 
@@ -84,7 +85,7 @@ impl Certificate {
     }
 
     /// The row `RANGE` of a variable.
-    pub fn range(&self, path: &str) -> Option<Bounds>
+    pub fn range(&self, path: &str) -> Option<Interval>
         ensures row { option_map span_of result ≡ first_at path.now (rows_of self.now).ranges }
         ensures span { (v : Variable) → v.name ≡ last_name (names_in path.now) → span_in v result ≡ row_at (certificate_of self.now).ranges (all_but_last (names_in path.now)) v }
     {
@@ -191,12 +192,12 @@ impl Certificate {
     }
 
     /// The row `RANGE` at an index in text order, with its path.
-    pub fn range_at(&self, index: usize) -> Option<(&str, Bounds)>
+    pub fn range_at(&self, index: usize) -> Option<(&str, Interval)>
         ensures row { option_map span_shown result ≡ slice_get (rows_of self.now).ranges index }
         ensures book { option_map range_shown result ≡ slice_get (certificate_of self.now).ranges index }
     {
-        let (path, bounds) = self.lists.ranges.get_index(index)?;
-        Some((path.as_str(), *bounds))
+        let (path, interval) = self.lists.ranges.get_index(index)?;
+        Some((path.as_str(), *interval))
     }
 
     /// The row `CHARGE` at an index in text order, with its path.

@@ -2,7 +2,6 @@
 //! `parse_cert` answers exactly the certificate that the text spells, and `print_cert` one text that spells it (`spelled_once`, `printed_spells`).
 #![tactic(auto)]
 
-mod bounds;
 mod certificate;
 mod fault;
 mod kind;
@@ -13,7 +12,6 @@ mod reading;
 mod row;
 mod sayable;
 
-pub use bounds::Bounds;
 pub use certificate::{Amount, Certificate};
 pub use fault::{CertFault, OutOfMemory};
 pub use law::{printed_spells, spelled_once};

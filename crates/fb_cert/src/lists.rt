@@ -4,9 +4,9 @@ ghost use Rattle.std.specs.Prelude.{◌≡◌, IfOk, IfErr};
 ghost use Rattle.fb_model.specs.CertificateText.{repeats};
 ghost use Rattle.fb_cert.specs.Views.{rows_in, no_rows, texts_of, has_number, Adds, AddsNew, AddsRow, text_row_of};
 
-use crate::bounds::Bounds;
 use crate::certificate::Amount;
 use crate::row::Row;
+use fb_ranges_intervals::Interval;
 use indexmap::IndexMap;
 use std::alloc::{AllocError, Global};
 
@@ -14,7 +14,7 @@ use std::alloc::{AllocError, Global};
 #[derive(Drop)]
 pub(crate) struct Lists {
     pub(crate) repeats: Option<u8>,
-    pub(crate) ranges: IndexMap<String, Bounds>,
+    pub(crate) ranges: IndexMap<String, Interval>,
     pub(crate) charges: IndexMap<String, Amount>,
     pub(crate) weights: IndexMap<String, Amount>,
     pub(crate) depths: IndexMap<String, u64>,
@@ -87,7 +87,7 @@ impl Lists {
     {
         match row {
             Row::Repeats(number) => Ok(self.repeat(number)),
-            Row::Range(path, bounds) => add(alloc, &mut self.ranges, path, bounds),
+            Row::Range(path, interval) => add(alloc, &mut self.ranges, path, interval),
             Row::Charge(path, amount) => add(alloc, &mut self.charges, path, amount),
             Row::Weight(path, amount) => add(alloc, &mut self.weights, path, amount),
             Row::Depth(path, depth) => add(alloc, &mut self.depths, path, depth),

@@ -24,9 +24,9 @@ impl<'a> fmt::Display for Row<'a> {
     fn fmt<W: fmt::Write>(&self, f: &mut fmt::Formatter<W>) -> fmt::Result {
         match self {
             Row::Repeats(number) => write!(f, "REPEATS {number}"),
-            Row::Range(path, bounds) => {
-                let low = bounds.low;
-                let high = bounds.high;
+            Row::Range(path, interval) => {
+                let low = interval.low;
+                let high = interval.high;
                 write!(f, "RANGE {path} {low} {high}")
             }
             Row::Charge(path, amount) => {
@@ -85,8 +85,8 @@ fn row_at<'a>(certificate: &'a Certificate, kind: Kind, index: usize) -> Option<
             Some(Row::Repeats(certificate.repeats()?))
         }
         Kind::Range => {
-            let (path, bounds) = certificate.range_at(index)?;
-            Some(Row::Range(path, bounds))
+            let (path, interval) = certificate.range_at(index)?;
+            Some(Row::Range(path, interval))
         }
         Kind::Charge => {
             let (path, amount) = certificate.charge_at(index)?;

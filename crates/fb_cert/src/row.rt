@@ -4,11 +4,12 @@ ghost use Rattle.std.specs.Prelude.{◌≡◌, ◌≤◌, ◌+◌, pos, neg_ℤ}
 ghost use Rattle.std.specs.Option.{option_map};
 ghost use Rattle.fb_model.specs.Spelling.{is_digit, is_start};
 ghost use Rattle.fb_model.specs.CertificateText.{most_lint, most_repeats, most_channel, begins_cert};
-ghost use Rattle.fb_cert.specs.Views.{span_of, texts, row_seen};
-ghost use Rattle.fb_cert.specs.Reading.{number_in, whole_in, bounds_in, path_from, is_path, amount_in, channel_in, row_of_two, row_at_path, row_of_three, row_of_four, text_row_at, is_head};
+ghost use Rattle.fb_ranges_intervals.specs.Views.{span_of};
+ghost use Rattle.fb_cert.specs.Views.{texts, row_seen};
+ghost use Rattle.fb_cert.specs.Reading.{number_in, whole_in, interval_in, path_from, is_path, amount_in, channel_in, row_of_two, row_at_path, row_of_three, row_of_four, text_row_at, is_head};
 
-use crate::bounds::Bounds;
 use crate::certificate::Amount;
+use fb_ranges_intervals::Interval;
 
 /// The most steps of a row.
 pub(crate) const MOST_STEPS: u64 = 1_000_000_000_000;
@@ -31,7 +32,7 @@ pub enum Row<'a> {
     /// How often a datagram comes at most.
     Repeats(u8),
     /// The numbers of a variable.
-    Range(&'a str, Bounds),
+    Range(&'a str, Interval),
     /// What a state costs.
     Charge(&'a str, Amount),
     /// What an event input or an arrival costs.
@@ -142,12 +143,12 @@ fn read_amount(steps: &str, places: &str) -> Option<Amount>
     Some(Amount { steps, places })
 }
 
-fn read_bounds(low: &str, high: &str) -> Option<Bounds>
-    ensures { option_map span_of result ≡ bounds_in low.now high.now }
+fn read_interval(low: &str, high: &str) -> Option<Interval>
+    ensures { option_map span_of result ≡ interval_in low.now high.now }
 {
     let low = read_whole(low)?;
     let high = read_whole(high)?;
-    Bounds::new(low, high)
+    Interval::new(low, high)
 }
 
 // The number of REPEATS that digits write.
@@ -221,7 +222,7 @@ fn row_of_four<'a>(word: &str, path: &'a str, first: &str, second: &str) -> Opti
         return None;
     }
     if word == "RANGE" {
-        return Some(Row::Range(path, read_bounds(first, second)?));
+        return Some(Row::Range(path, read_interval(first, second)?));
     }
     let amount = read_amount(first, second)?;
     if word == "CHARGE" {

@@ -48,8 +48,8 @@ pub(crate) fn is_sayable(row: &Row) -> bool
 {
     match row {
         Row::Repeats(number) => is_within(1, MOST_REPEATS, *number as u64),
-        Row::Range(path, bounds) => {
-            prove!(bounds.low <= bounds.high);
+        Row::Range(path, interval) => {
+            prove!(interval.low <= interval.high);
             is_upper_path(path)
         }
         Row::Charge(path, amount) => is_upper_path(path) && is_amount(*amount),

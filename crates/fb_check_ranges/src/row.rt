@@ -39,10 +39,7 @@ pub(crate) fn row(
 {
     let text = joined(alloc, path, name)?;
     match certificate.range(text.as_str()) {
-        Some(bounds) => Ok(Interval {
-            low: bounds.low,
-            high: bounds.high,
-        }),
+        Some(range) => Ok(range),
         None => Ok(whole(of)),
     }
 }

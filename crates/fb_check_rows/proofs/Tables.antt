@@ -15,8 +15,9 @@ use Rattle.fb_model.specs.Services.{service_events, service_event_inputs, arriva
 use Rattle.fb_model.specs.BlockTyping.{variable_of}
 use Rattle.fb_types_blocks.proofs.Lists.{any_map}
 use Rattle.std.specs.Option.{option_map}
-use Rattle.fb_cert.specs.declared.bounds.Bounds.{Bounds}
-use Rattle.fb_cert.specs.Views.{Table, first_at, Rows, span_of}
+use Rattle.fb_ranges_intervals.specs.declared.interval.Interval.{Interval}
+use Rattle.fb_ranges_intervals.specs.Views.{span_of}
+use Rattle.fb_cert.specs.Views.{Table, first_at, Rows}
 use Rattle.fb_check_rows.specs.declared.kind.PathRows.{PathRows}
 use Rattle.fb_check_rows.specs.declared.kind.PathRows.TheVariants.{Charges, Weights, Ranges, Depths, Fars, FarStates}
 use Rattle.fb_flat.specs.declared.flat.FlatDevice.{FlatDevice}
@@ -32,10 +33,10 @@ has_first path (r ∷ rows) = by (bytes_eq path r.0) r.1 (first_at path rows) (i
   by true v o u h = refl
   by false v o u h = h
 
--- bounds are there just where their span is
-pub some_spanned : (o : Option Bounds) → is_some o ≡ is_some (option_map span_of o)
+-- an interval is there just where its span is
+pub some_spanned : (o : Option Interval) → is_some o ≡ is_some (option_map span_of o)
 some_spanned None = refl
-some_spanned (Some b) = refl
+some_spanned (Some i) = refl
 
 -- whether a set of texts has a name
 pub known : (x : Name) (keys : List (String Global)) (t : Bool) → t ≡ list_any (λ k. bytes_eq x (string_bytes k)) keys → is_in x (map string_bytes keys) ≡ t

@@ -1,20 +1,21 @@
 //! Whether rows RANGE of a certificate stand in another.
 
 ghost use Rattle.std.specs.Prelude.{◌≡◌, ◌↔◌, true, IfErr, OnOk};
-ghost use Rattle.fb_cert.specs.Rows.{span_of};
 ghost use Rattle.fb_cert.specs.Views.{rows_of};
+ghost use Rattle.fb_ranges_intervals.specs.Views.{span_of};
 ghost use Rattle.fb_find.specs.Bounds.{IsStrayFault, RowsStand, Stands};
 
-use fb_cert::{Bounds, Certificate};
+use fb_cert::Certificate;
 use fb_find_rows::NoBound;
+use fb_ranges_intervals::Interval;
 use std::alloc::Global;
 
-// Whether a row RANGE with this path and these bounds does.
-fn row_stands(certificate: &Certificate, path: &str, bounds: Bounds) -> bool
-    ensures { result ≡ true ↔ Stands (rows_of certificate.now) (path.now, span_of bounds) }
+// Whether a row RANGE with this path and this interval does.
+fn row_stands(certificate: &Certificate, path: &str, interval: Interval) -> bool
+    ensures { result ≡ true ↔ Stands (rows_of certificate.now) (path.now, span_of interval) }
 {
     match certificate.range(path) {
-        Some(found) => found.low == bounds.low && found.high == bounds.high,
+        Some(found) => found.low == interval.low && found.high == interval.high,
         None => false,
     }
 }
@@ -31,10 +32,10 @@ pub fn rows_stand(
     ensures refused { IfErr result (IsStrayFault (rows_of rows.now) (rows_of certificate.now)) }
 {
     for index in 0..rows.range_count() {
-        let Some((path, bounds)) = rows.range_at(index) else {
+        let Some((path, interval)) = rows.range_at(index) else {
             return Ok(());
         };
-        if !row_stands(certificate, path, bounds) {
+        if !row_stands(certificate, path, interval) {
             return Err(NoBound::NoRange(String::from_str(alloc, path)?));
         }
     }

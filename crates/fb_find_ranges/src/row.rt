@@ -20,7 +20,7 @@ ghost use Rattle.fb_check_rows.specs.declared.kind.RowKind.TheVariants.{Range};
 ghost use Rattle.fb_check_rows.specs.Texts.{texts_of};
 ghost use Rattle.fb_find_ranges.specs.AddedRows.{added, adding, all_rows, flat_leaves, kind_rows, leaf_rows, variable_rows, AddsRanges};
 
-use fb_cert::{Bounds, Certificate, Row};
+use fb_cert::{Certificate, Row};
 use fb_check_ranges::leaves_of;
 use fb_flat::{Body, Flat, FlatDevice, Leaf, joined};
 use fb_ranges::Ranges;
@@ -39,11 +39,8 @@ fn add_row(
 ) -> Result<(), AllocError>
     ensures { OnOk result (rows_of certificate.new ≡ added (dotted path.now name.now, span_of range) (rows_of certificate.old)) }
 {
-    let Some(bounds) = Bounds::new(range.low, range.high) else {
-        return Ok(());
-    };
     let text = joined(alloc, path, name)?;
-    let _ = certificate.add(alloc, Row::Range(text.as_str(), bounds))?;
+    let _ = certificate.add(alloc, Row::Range(text.as_str(), range))?;
     Ok(())
 }
 

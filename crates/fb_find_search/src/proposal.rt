@@ -4,7 +4,7 @@ use crate::feed::numbers_of;
 use crate::landmark::landmarks;
 use crate::line::{LeafLines, Line, are_same};
 use crate::round::{Ground, Turn, next};
-use fb_cert::{Bounds, Certificate, Row};
+use fb_cert::{Certificate, Row};
 use fb_check_ranges::{first_range, leaves_of, source_named, start_range};
 use fb_flat::{Body, Flat, FlatDevice, Leaf, joined};
 use fb_ranges_intervals::{Interval, whole};
@@ -41,13 +41,7 @@ fn first_line<'a>(
 ) -> Result<Line<'a>, AllocError> {
     let text = joined(alloc, leaf.path.as_str(), name)?;
     let (range, is_given) = match given.range(text.as_str()) {
-        Some(bounds) => (
-            Interval {
-                low: bounds.low,
-                high: bounds.high,
-            },
-            true,
-        ),
+        Some(range) => (range, true),
         None => (first, false),
     };
     Ok(Line {
@@ -146,11 +140,8 @@ fn add_row(
     if line.of_type == ElemType::Bool {
         return Ok(());
     }
-    let Some(bounds) = Bounds::new(line.range.low, line.range.high) else {
-        return Ok(());
-    };
     let text = joined(alloc, path, line.name)?;
-    certificate.add(alloc, Row::Range(text.as_str(), bounds))?;
+    certificate.add(alloc, Row::Range(text.as_str(), line.range))?;
     Ok(())
 }
 

@@ -34,10 +34,10 @@ fn add_ranges(alloc: Global, more: &Certificate, rows: &mut Certificate) -> Resu
     ensures { AreFirstOf (rows_of rows.old) (rows_of rows.new) }
 {
     for index in 0..more.range_count() {
-        let Some((path, bounds)) = more.range_at(index) else {
+        let Some((path, interval)) = more.range_at(index) else {
             return Ok(());
         };
-        rows.add(alloc, Row::Range(path, bounds))?;
+        rows.add(alloc, Row::Range(path, interval))?;
     }
     Ok(())
 }

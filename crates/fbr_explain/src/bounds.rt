@@ -69,9 +69,9 @@ fn tell_ranges<W: Write>(
 ) -> io::Result<()> {
     for (name, variable) in variables {
         let path = joined(alloc, leaf, name.as_str())?;
-        if let Some(bounds) = certificate.range(path.as_str()) {
-            let low = bounds.low;
-            let high = bounds.high;
+        if let Some(range) = certificate.range(path.as_str()) {
+            let low = range.low;
+            let high = range.high;
             let of_type = variable.of_type;
             if low != of_type.lowest() || high != of_type.highest() {
                 writeln!(output, "    {path}: {low} to {high}")?;

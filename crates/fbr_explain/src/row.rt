@@ -1,6 +1,7 @@
 //! The row that a certificate lacks.
 
-use fb_cert::{Amount, Bounds, Certificate};
+use fb_cert::{Amount, Certificate};
+use fb_ranges::Interval;
 use fbr_advice::put::{put, put_number};
 use fbr_places::Declared;
 use std::io;
@@ -52,12 +53,12 @@ fn tell_number<W: Write>(
 }
 
 // Writes a row RANGE, where it is known.
-fn tell_range<W: Write>(path: &str, found: Option<Bounds>, output: &mut W) -> io::Result<()> {
+fn tell_range<W: Write>(path: &str, found: Option<Interval>, output: &mut W) -> io::Result<()> {
     begin("RANGE", path, output)?;
     match found {
-        Some(bounds) => {
-            let low = bounds.low;
-            let high = bounds.high;
+        Some(range) => {
+            let low = range.low;
+            let high = range.high;
             writeln!(output, " {low} {high}")
         }
         None => put(" LOWEST HIGHEST\n", output),

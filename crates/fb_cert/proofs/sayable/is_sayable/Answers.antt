@@ -4,7 +4,7 @@ use Rattle.fb_cert.proofs.Sayables.{int_le_true, path_said, amount_said, within_
 use Rattle.fb_cert.proofs.sayable.is_sayable.Goals as goal
 
 pub returns-in-Range-clause-said : goal.returns-in-Range-clause-said
-returns-in-Range-clause-said c = rw c.in-Range.is (λ t. (path_said c.in-Range.path.now (sym c.is_upper_path.ensures ∙ t), record { low_fits = search rules; high_fits = search rules; ordered = int_le_true c.in-Range.bounds.low c.in-Range.bounds.high c.in-Range.bounds.ordered }))
+returns-in-Range-clause-said c = rw c.in-Range.is (λ t. (path_said c.in-Range.path.now (sym c.is_upper_path.ensures ∙ t), record { low_fits = search rules; high_fits = search rules; ordered = int_le_true c.in-Range.interval.low c.in-Range.interval.high c.in-Range.interval.ordered }))
 
 pub returns-then-is_upper_path-clause-said : goal.returns-then-is_upper_path-clause-said
 returns-then-is_upper_path-clause-said c =

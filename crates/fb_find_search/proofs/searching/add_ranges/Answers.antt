@@ -10,5 +10,5 @@ returns-in_err-add c = first_kept (rows_of c.args.rows.now) (rows_of c.loop-inde
 
 pub loop-index-preserved : goal.loop-index-preserved
 loop-index-preserved c =
-    let bounds = c.in-Some.bounds in
-    first_added (rows_of c.args.rows.now) (rows_of c.loop-index.rows) (rows_of c.add.new.self) c.in-Some.path.now bounds.low bounds.high c.in_ok-add.field-0 c.loop-index.invariant c.in_ok-add.ensures.added
+    let interval = c.in-Some.interval in
+    first_added (rows_of c.args.rows.now) (rows_of c.loop-index.rows) (rows_of c.add.new.self) c.in-Some.path.now interval.low interval.high c.in_ok-add.field-0 c.loop-index.invariant c.in_ok-add.ensures.added

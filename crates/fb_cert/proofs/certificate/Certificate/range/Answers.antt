@@ -1,7 +1,8 @@
 use Rattle.std.proofs.Common.{◌≡◌, ◌∙◌, sym, ap}
 use Rattle.std.specs.Option.{option_map, unwrap_or}
 use Rattle.fb_model.specs.Spans.{whole}
-use Rattle.fb_cert.specs.Views.{first_at, texts_of, span_of, spans_of}
+use Rattle.fb_ranges_intervals.specs.Views.{span_of}
+use Rattle.fb_cert.specs.Views.{first_at, texts_of, spans_of}
 use Rattle.fb_cert.proofs.Tables.{first_from_lookup, first_span}
 use Rattle.fb_cert.proofs.Places.{span_same}
 use Rattle.fb_cert.proofs.certificate.Certificate.range.Goals as goal

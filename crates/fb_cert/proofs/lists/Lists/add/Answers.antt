@@ -7,8 +7,8 @@ returns-in-Range-clause-added c =
     let old = texts_of c.args.self.now.ranges in
     let new = texts_of c.add.new.rows in
     let path = c.in-Range.path.now in
-    let bounds = c.in-Range.bounds in
+    let interval = c.in-Range.interval in
     rw c.in-Range.is
     (ok_so
-    (λ said h. range_added (rows_in c.args.self.now) path bounds (spans_of new) said (adds_span old new path bounds said h))
+    (λ said h. range_added (rows_in c.args.self.now) path interval (spans_of new) said (adds_span old new path interval said h))
     c.add.result c.add.ensures.added)
