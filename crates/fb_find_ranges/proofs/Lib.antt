@@ -7,6 +7,7 @@ pub mod Ending
 pub mod Ranging
 pub mod Starting
 pub mod Entries
+pub mod Again
 pub mod Putting
 pub mod Sharing
 pub mod Capitals

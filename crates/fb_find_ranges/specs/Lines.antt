@@ -54,6 +54,9 @@ first_lined leaf = lined leaf (lines_by (first_from (inputs leaf.kind) leaf.sour
 
 -- ---- by names
 
+abbrev pub line_names : List Line → List Name
+line_names ls = map (λ (l : Line). l.name) ls
+
 -- the ranges of lines that are put one after another
 abbrev pub put : List Line → Spans → Spans
 put [] spans = spans

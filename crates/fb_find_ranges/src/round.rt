@@ -8,7 +8,7 @@ ghost use Rattle.fb_find_ranges.specs.Views.{AreKept, AreLinked, AreNear, IsKept
 use crate::near::{Near, fed};
 use crate::rows::{LeafRows, Row};
 use crate::same::same_rows;
-use crate::table::with_rows;
+use crate::table::with_next_rows;
 use crate::widen::stepped;
 use fb_check_ranges::source_named;
 use fb_ranges_intervals::joined;
@@ -83,7 +83,7 @@ fn next_leaf<'a>(
     if same_rows(leaf.rows.as_slice(), rows.as_slice()) {
         return leaf.clone();
     }
-    with_rows(alloc, before, leaf.like, leaf.leaf, rows)
+    with_next_rows(alloc, before, leaf, rows)
 }
 
 /// The rows of leaves after a round.

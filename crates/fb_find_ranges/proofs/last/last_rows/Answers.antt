@@ -29,6 +29,9 @@ next-requires-clause-links c = subst (λ (xs : List Shared). AreLinked (map link
 pub next-requires-clause-kept : goal.next-requires-clause-kept
 next-requires-clause-kept c = subst AreKept (sym c.as_slice.ensures.value) c.loop-rows.invariant.kept
 
+pub all_ranges-requires : goal.all_ranges-requires
+all_ranges-requires c = subst AreKept (sym c.as_slice-then-are_same.ensures.value) c.loop-rows.invariant.kept
+
 pub returns-then-are_same : goal.returns-then-are_same
 returns-then-are_same c =
     λ bs are apart feds.
