@@ -240,6 +240,11 @@ is_fit (mark k) = true
 
 -- ---- layout and comments
 
+-- whether a layout character stands at the front
+abbrev pub begins_layout : List ℕ → Bool
+begins_layout [] = false
+begins_layout (c ∷ cs) = is_layout c
+
 -- what is left behind the end of a comment
 unfoldable pub closes_at : List ℕ → Option (List ℕ)
 closes_at [] = None

@@ -1,6 +1,7 @@
 //! Layout and comments.
 
-ghost use Rattle.fb_lex.specs.Scanning.{closes_at, comment_at, gap_at};
+ghost use Rattle.std.specs.Prelude.{◌≡◌, false};
+ghost use Rattle.fb_lex.specs.Scanning.{closes_at, begins_layout, gap_at};
 ghost use Rattle.fb_lex.specs.Lexing.{Closing, Gaps, Skips};
 
 use crate::characters::is_layout;
@@ -21,8 +22,11 @@ fn closes_at(bytes: &[u8]) -> Option<&[u8]>
     None
 }
 
-fn comment_at(start: usize, bytes: &[u8]) -> Result<Option<&[u8]>, TextFault>
-    ensures { Skips start result (comment_at bytes.now) }
+/// What a comment leaves, where no layout stands.
+#[tactic(auto, unfolding(crate::specs::Scanning::gap_at))]
+pub(crate) fn comment_at(start: usize, bytes: &[u8]) -> Result<Option<&[u8]>, TextFault>
+    requires { begins_layout bytes.now ≡ false }
+    ensures { Skips start result (gap_at bytes.now) }
 {
     let [first, second, inside @ ..] = bytes else {
         return Ok(None);
@@ -36,20 +40,10 @@ fn comment_at(start: usize, bytes: &[u8]) -> Result<Option<&[u8]>, TextFault>
     }
 }
 
-/// What a layout character or a comment leaves.
-#[tactic(auto, unfolding(crate::specs::Scanning::gap_at))]
-pub(crate) fn gap_at(start: usize, bytes: &[u8]) -> Result<Option<&[u8]>, TextFault>
-    ensures { Skips start result (gap_at bytes.now) }
-{
-    match bytes {
-        [byte, behind @ ..] if is_layout(*byte) => Ok(Some(behind)),
-        _ => comment_at(start, bytes),
-    }
-}
-
 /// What is left behind the layout characters that stand there.
 pub(crate) fn behind_layout(bytes: &[u8]) -> &[u8]
-    ensures { Gaps bytes.now result.now }
+    ensures left { Gaps bytes.now result.now }
+    ensures bare { begins_layout result.now ≡ false }
 {
     let mut left = bytes;
     while let [byte, behind @ ..] = left

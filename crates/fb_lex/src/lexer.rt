@@ -1,14 +1,15 @@
 //! Whole texts.
 
-ghost use Rattle.std.specs.Prelude.{◌≡◌, ℕ, ◌≤◌, ◌<◌, List, length, IfOk, IfErr, Err};
+ghost use Rattle.std.specs.Prelude.{◌≡◌, ℕ, ◌≤◌, ◌<◌, List, length, false, IfOk, IfErr, Err};
 ghost use Rattle.fb_model.specs.Tokens as book;
 ghost use Rattle.fb_model.specs.Spelling.{Spells, FirstAt, IsBad, IsBig, text_limit};
 ghost use Rattle.fb_lex.specs.declared.fault.TextFault.TheVariants.{TooLong};
+ghost use Rattle.fb_lex.specs.Scanning.{begins_layout};
 ghost use Rattle.fb_lex.specs.Lexing.{Steps, Finds, Refuses};
 ghost use Rattle.fb_lex.specs.Views.{tokens_of};
 
 use crate::fault::TextFault;
-use crate::gap::{behind_layout, gap_at};
+use crate::gap::{behind_layout, comment_at};
 use crate::scan::scan;
 use crate::token::Token;
 use std::alloc::Global;
@@ -16,18 +17,19 @@ use std::alloc::Global;
 /// The most bytes of a text.
 const LONGEST_TEXT: usize = 1_048_576;
 
-/// Steps over a gap or a token, which is added to the tokens. What is left.
+/// Steps over a comment or a token, which is added to the tokens. What is left.
 fn step<'a>(
     alloc: Global,
     total: usize,
     rest: &'a [u8],
     tokens: &mut Vec<Token>,
 ) -> Result<&'a [u8], TextFault>
-    requires { length rest.now ≤ total }
+    requires within { length rest.now ≤ total }
+    requires bare { begins_layout rest.now ≡ false }
     ensures { Steps total rest.now (tokens_of tokens.old.items) (tokens_of tokens.new.items) result }
 {
     let start = total - rest.len();
-    if let Some(behind) = gap_at(start, rest)? {
+    if let Some(behind) = comment_at(start, rest)? {
         return Ok(behind);
     }
     let (kind, behind) = scan(alloc, start, rest)?;

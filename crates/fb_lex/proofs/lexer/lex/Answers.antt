@@ -13,20 +13,21 @@ pub loop-bytes-init : goal.loop-bytes-init
 loop-bytes-init c =
     let b = c.as_bytes-bytes.result.now in
     let r : Reached b (length b - length b) b (tokens_of c.new-tokens.result.items) = subst (λ n. Reached b n b (tokens_of c.new-tokens.result.items)) (omega arith) (subst (λ xs. Reached b 0 b (tokens_of xs)) (sym c.new-tokens.ensures.items) (at_start b)) in
-    gaps_on c.behind_layout-rest.ensures (length b) b _ (omega arith) r
+    let g = gaps_on c.behind_layout-rest.ensures.left (length b) b _ (omega arith) r in
+    (g.0, g.1, c.behind_layout-rest.ensures.bare)
 
 pub loop-bytes-smaller : goal.loop-bytes-smaller
 loop-bytes-smaller c =
     let s = passes_shorter _ c.loop-bytes.rest.now c.in_ok-step.field-0.now _ _ c.in_ok-step.ensures in
-    let g = gaps_shorter c.behind_layout-rest-in-loop-bytes.ensures in
+    let g = gaps_shorter c.behind_layout-rest-in-loop-bytes.ensures.left in
     omega arith
 
 pub loop-bytes-preserved : goal.loop-bytes-preserved
 loop-bytes-preserved c =
     let s = passes_shorter _ c.loop-bytes.rest.now c.in_ok-step.field-0.now _ _ c.in_ok-step.ensures in
-    let g = gaps_on c.behind_layout-rest-in-loop-bytes.ensures _ _ _ (omega arith) (steps_on _ _ c.loop-bytes.rest.now c.in_ok-step.field-0.now _ _ c.loop-bytes.invariant.0 c.loop-bytes.invariant.1 c.in_ok-step.ensures) in
+    let g = gaps_on c.behind_layout-rest-in-loop-bytes.ensures.left _ _ _ (omega arith) (steps_on _ _ c.loop-bytes.rest.now c.in_ok-step.field-0.now _ _ c.loop-bytes.invariant.0 c.loop-bytes.invariant.1 c.in_ok-step.ensures) in
     let l = g.0 in
-    (omega arith, g.1)
+    (omega arith, g.1, c.behind_layout-rest-in-loop-bytes.ensures.bare)
 
 pub returns-clause-found : goal.returns-clause-found
 returns-clause-found c =
