@@ -137,7 +137,7 @@ pub fn block_rows(
     ensures table { IfOk result (λ r. spans_of r ≡ rows_of_block certificate.now path.now block.now) }
     ensures rows { (leaf : wires.Leaf) → names_in path.now ≡ leaf.path → leaf.kind ≡ Charted (block_of block.now) → IsWordyLeaf leaf → IfOk result (λ r. spans_of r ≡ rows (certificate_of certificate.now).ranges leaf.path leaf.kind) }
 {
-    let mut rows = Ranges::new(alloc);
+    let mut rows = Ranges::new(alloc)?;
     add_rows(
         alloc,
         certificate,

@@ -18,7 +18,7 @@ fn leaf_table(alloc: Global, certificate: &Certificate, leaf: &Leaf) -> Result<R
 {
     match &leaf.body {
         Body::Basic(block) => block_rows(alloc, certificate, leaf.path.as_str(), block),
-        Body::Served(_) => Ok(Ranges::new(alloc)),
+        Body::Served(_) => Ranges::new(alloc),
     }
 }
 

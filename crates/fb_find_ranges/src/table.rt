@@ -28,7 +28,7 @@ fn put(rows: &[Row], ranges: &mut Ranges) -> Result<(), AllocError>
 fn ranges(alloc: Global, rows: &[Row]) -> Result<Ranges, AllocError>
     ensures { IfOk result (λ r. spans_of r ≡ spans_by (map line_of rows.now)) }
 {
-    let mut ranges = Ranges::new(alloc);
+    let mut ranges = Ranges::new(alloc)?;
     put(rows, &mut ranges)?;
     Ok(ranges)
 }

@@ -29,7 +29,7 @@ pub(crate) struct LeafLines<'a> {
 
 /// The ranges of lines by their names.
 pub(crate) fn table(alloc: Global, lines: &[Line]) -> Result<Ranges, AllocError> {
-    let mut ranges = Ranges::new(alloc);
+    let mut ranges = Ranges::new(alloc)?;
     for line in lines {
         ranges.insert(line.name, line.range)?;
     }
@@ -38,7 +38,7 @@ pub(crate) fn table(alloc: Global, lines: &[Line]) -> Result<Ranges, AllocError>
 
 /// What their variables have at first, by their names.
 pub(crate) fn first_table(alloc: Global, lines: &[Line]) -> Result<Ranges, AllocError> {
-    let mut ranges = Ranges::new(alloc);
+    let mut ranges = Ranges::new(alloc)?;
     for line in lines {
         ranges.insert(line.name, line.first)?;
     }

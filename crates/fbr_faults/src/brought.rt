@@ -38,7 +38,7 @@ pub(crate) fn brought_by_list(
     lines: Lines<'_>,
     ranges: &mut Ranges,
 ) -> Result<Option<Brought>, AllocError> {
-    let mut asked = Ranges::new(sought.alloc);
+    let mut asked = Ranges::new(sought.alloc)?;
     let mut found = None;
     for (i, statement) in list.iter().enumerate() {
         let mut before = copied(ranges)?;

@@ -95,7 +95,7 @@ fn list_fault(
     lines: Lines<'_>,
     ranges: &mut Ranges,
 ) -> Result<Option<Fault>, AllocError> {
-    let mut asked = Ranges::new(alloc);
+    let mut asked = Ranges::new(alloc)?;
     let start = copied(ranges)?;
     for (i, statement) in list.iter().enumerate() {
         let mut before = copied(ranges)?;

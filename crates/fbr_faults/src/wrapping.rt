@@ -26,7 +26,7 @@ fn list_wraps(
     ranges: &mut Ranges,
     found: &mut Vec<Wrap>,
 ) -> Result<(), AllocError> {
-    let mut asked = Ranges::new(all.alloc);
+    let mut asked = Ranges::new(all.alloc)?;
     for (i, statement) in list.iter().enumerate() {
         let mut before = copied(ranges)?;
         examine_one(all.alloc, all.rows, statement, ranges, &mut asked)?;
