@@ -2,7 +2,6 @@
 
 ghost use Rattle.std.specs.Prelude.{◌≡◌, ◌&&◌, ◌++◌, [], ◌∷◌, map, string_bytes, IfOk};
 ghost use Rattle.fb_tree.specs.Words.{word_of, optional};
-ghost use Rattle.fb_model.specs.Names.{is_in};
 ghost use Rattle.fb_model.specs.StructuredText as text;
 ghost use Rattle.fb_tree.specs.Algorithms as tree;
 ghost use Rattle.st_types.specs.Answers.{Gives};
@@ -39,17 +38,6 @@ struct Head<'a> {
     by: &'a Option<Constant>,
 }
 
-fn is_busy(busy: &[String], name: &str) -> bool
-    ensures { result ≡ is_in name.now (busy_of busy.now) }
-{
-    for counted in busy {
-        if name == counted.as_str() {
-            return true;
-        }
-    }
-    false
-}
-
 // The variables that count, with one more.
 fn with_name(alloc: Global, busy: &[String], name: &String) -> Result<Vec<String>, AllocError>
     ensures { IfOk result (λ v. busy_of v.items ≡ busy_of busy.now ++ string_bytes name.now ∷ []) }
@@ -70,7 +58,7 @@ fn assignable(scope: &Scope, busy: &[String], name: &Name) -> Result<Variable, T
     if !variable.writable {
         return Err(TypingFault::NotWritable(name.at));
     }
-    if is_busy(busy, name.text.as_str()) {
+    if busy.contains(&name.text) {
         return Err(TypingFault::NotWritable(name.at));
     }
     Ok(variable)
