@@ -1,6 +1,6 @@
 //! Words and names.
 
-ghost use Rattle.std.specs.Prelude.{◌≡◌, ℕ, List, ◌∷◌, false, None, IfOk, string_bytes};
+ghost use Rattle.std.specs.Prelude.{◌≡◌, ℕ, List, ◌∷◌, IfOk, string_bytes};
 ghost use Rattle.std.specs.Str.{IsAscii};
 ghost use Rattle.fb_words.specs.Writing.{word_text};
 ghost use Rattle.fb_model.specs.Spelling.{upper};
@@ -9,7 +9,7 @@ ghost use Rattle.fb_lex.specs.Views.{kind_of};
 
 use crate::characters::is_part;
 use crate::token::Kind;
-use fb_words::{Mark, WORDS};
+use fb_words::Mark;
 use std::alloc::{AllocError, Global};
 
 // What is left behind the letters, digits and `_` that stand there.
@@ -33,34 +33,6 @@ pub(crate) fn word_at(bytes: &[u8]) -> (&[u8], &[u8])
 {
     let behind = behind_word(bytes);
     (&bytes[..bytes.len() - behind.len()], behind)
-}
-
-// Whether a reserved word may begin so.
-#[tactic(auto, unfolding(crate::specs::Scanning::find_word))]
-fn begins(first: u8, second: u8) -> bool
-    ensures { (cs : List ℕ) → result ≡ false → find_word (first ∷ second ∷ cs) ≡ None }
-{
-    match first {
-        b'A' => second == b'L' || second == b'R' || second == b'N',
-        b'B' => second == b'Y' || second == b'O',
-        b'C' => second == b'A',
-        b'D' => second == b'A' || second == b'E' || second == b'O' || second == b'I',
-        b'E' => second == b'C' || second == b'L' || second == b'N' || second == b'V',
-        b'F' => second == b'A' || second == b'B' || second == b'O' || second == b'U',
-        b'I' => second == b'F' || second == b'N',
-        b'L' => second == b'I',
-        b'M' => second == b'O',
-        b'N' => second == b'O',
-        b'O' => second == b'F' || second == b'R',
-        b'R' => second == b'E',
-        b'S' => second == b'I' || second == b'Y',
-        b'T' => second == b'H' || second == b'I' || second == b'O' || second == b'R',
-        b'U' => second == b'S' || second == b'I' || second == b'D',
-        b'V' => second == b'A',
-        b'W' => second == b'I',
-        b'X' => second == b'O',
-        _ => false,
-    }
 }
 
 // The first of these reserved words that is written so, in letters of either case.
@@ -100,7 +72,7 @@ fn words_with_e(second: u8) -> &'static [Mark]
             Mark::EndFor,
         ],
         b'V' => &[Mark::EventInput, Mark::EventOutput, Mark::EventConnections],
-        _ => &WORDS,
+        _ => &[],
     }
 }
 
@@ -109,24 +81,29 @@ fn words_with_e(second: u8) -> &'static [Mark]
 fn words_with(first: u8, second: u8) -> &'static [Mark]
     ensures { (cs : List ℕ) → find word_text result.now (first ∷ second ∷ cs) ≡ find_word (first ∷ second ∷ cs) }
 {
-    if !begins(first, second) {
-        return &[];
-    }
-    match first {
-        b'A' => &[Mark::Algorithm, Mark::Array, Mark::And],
-        b'B' => &[Mark::By, Mark::Bool],
-        b'D' => &[Mark::DataConnections, Mark::Device, Mark::Do, Mark::Dint],
-        b'E' => words_with_e(second),
-        b'F' => &[Mark::FunctionBlock, Mark::Fbs, Mark::For, Mark::False],
-        b'I' => &[Mark::If, Mark::Int],
-        b'M' => &[Mark::Mod],
-        b'O' => &[Mark::Of, Mark::Or],
-        b'R' => &[Mark::Resource],
-        b'S' => &[Mark::System, Mark::Sint],
-        b'T' => &[Mark::To, Mark::Then, Mark::True, Mark::Time],
-        b'U' => &[Mark::Usint, Mark::Uint, Mark::Udint],
-        b'V' => &[Mark::VarInput, Mark::VarOutput, Mark::Var],
-        _ => &WORDS,
+    match (first, second) {
+        (b'A', b'L' | b'R' | b'N') => &[Mark::Algorithm, Mark::Array, Mark::And],
+        (b'B', b'Y' | b'O') => &[Mark::By, Mark::Bool],
+        (b'C', b'A') => &[Mark::Case],
+        (b'D', b'A' | b'E') => &[Mark::DataConnections, Mark::Device],
+        (b'D', b'O' | b'I') => &[Mark::Do, Mark::Dint],
+        (b'E', _) => words_with_e(second),
+        (b'F', b'A' | b'O') => &[Mark::For, Mark::False],
+        (b'F', b'B' | b'U') => &[Mark::FunctionBlock, Mark::Fbs],
+        (b'I', b'F' | b'N') => &[Mark::If, Mark::Int],
+        (b'L', b'I') => &[Mark::Lint],
+        (b'M', b'O') => &[Mark::Mod],
+        (b'N', b'O') => &[Mark::Not],
+        (b'O', b'F' | b'R') => &[Mark::Of, Mark::Or],
+        (b'R', b'E') => &[Mark::Resource],
+        (b'S', b'I' | b'Y') => &[Mark::System, Mark::Sint],
+        (b'T', b'H' | b'O') => &[Mark::To, Mark::Then],
+        (b'T', b'I' | b'R') => &[Mark::True, Mark::Time],
+        (b'U', b'S' | b'I' | b'D') => &[Mark::Usint, Mark::Uint, Mark::Udint],
+        (b'V', b'A') => &[Mark::VarInput, Mark::VarOutput, Mark::Var],
+        (b'W', b'I') => &[Mark::With],
+        (b'X', b'O') => &[Mark::Xor],
+        _ => &[],
     }
 }
 
