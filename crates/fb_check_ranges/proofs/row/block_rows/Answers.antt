@@ -18,7 +18,7 @@ returns-clause-table c =
     let k = block_of c.args.block.now in
     let r : Spans = rows_of_block c.args.certificate.now c.args.path.now c.args.block.now in
     c.in_ok-add_rows-3.ensures
-    ∙ ap (reset (variable_names k.internals) r) (c.in_ok-add_rows-2.ensures ∙ ap (reset (variable_names k.outputs) r) (c.in_ok-add_rows.ensures ∙ ap (reset (variable_names k.inputs) r) c.new-rows.ensures))
+    ∙ ap (reset (variable_names k.internals) r) (c.in_ok-add_rows-2.ensures ∙ ap (reset (variable_names k.outputs) r) (c.in_ok-add_rows.ensures ∙ ap (reset (variable_names k.inputs) r) c.in_ok-rows.ensures))
     ∙ all_set c.args.certificate.now c.args.path.now k.inputs k.outputs k.internals
 
 pub returns-clause-rows : goal.returns-clause-rows
