@@ -37,7 +37,8 @@ END_RESOURCE END_DEVICE END_SYSTEM
 # What the two E_RESTART cause: a BEGIN each, and three INITs.
 BEGINS = 5
 CHANNEL, INPUT, BOOL, DINT = 1, 2, 0, 3
-MEMORY = "VmRSS", "VmHWM"
+# What it has asked for. What it has of its own file grows with each part of the program that runs for the first time.
+MEMORY = "RssAnon", "VmData"
 
 
 def message(kind, number, *values, stamp=None, code=DINT):
