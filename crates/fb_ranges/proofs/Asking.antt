@@ -7,7 +7,10 @@ use Rattle.fb_model.specs.TypedText.{Term, Command, set, set_part, choose, match
 use Rattle.fb_model.specs.Spans.{Span, joined}
 use Rattle.fb_model.specs.Clear.{Spans, changed, narrowed, assigned, reset, most_iterations, taken, left_with}
 use Rattle.fb_model_laws.specs.Asking.{Asked, point, range_in, asking, asking_all, asked_loop, ask_one, ask, ask_choices, ask_cases, grown}
-use Rattle.fb_ranges.proofs.Covers.{joined_again, joined_turned}
+use Rattle.fb_model_laws.proofs.Growing.{grown_grows}
+use Rattle.fb_ranges.specs.Settling.{held}
+use Rattle.fb_ranges.proofs.Covers.{joined_again, joined_turned, joined_within}
+use Rattle.fb_ranges.proofs.Settling.{held_hold}
 
 -- one table has been enlarged from u by what another has been enlarged by from v
 abbrev pub Even : Spans → Spans → Spans → Spans → Type 0
@@ -92,3 +95,16 @@ mutual
 pub grown_alike : (rows asked : Spans) (c : Commands) → Even asked rows (let end = ask rows c (point rows asked) in asking_all (assigned c) end.spans end.rows) (grown rows c)
 grown_alike rows asked c =
     asked_even asked rows (assigned c) (ask rows c (point rows asked)) (ask rows c (point rows rows)) (all_alike asked rows rows c (point rows asked) (point rows rows) (refl, λ x. refl))
+
+-- so it is of rows and what is asked of them
+pub grown_held : (rows old new : Spans) (c : Commands) (x : Name) → held rows new ≡ (let end = ask rows c (point rows (held rows old)) in asking_all (assigned c) end.spans end.rows) → joined (new x) (rows x) ≡ joined (old x) (grown rows c x)
+grown_held rows old new c x h =
+    let g = grown rows c x in
+    let lies : joined g (rows x) ≡ g = joined_within (rows x) g (grown_grows rows c x) in
+    joined_turned (new x) (rows x)
+    ∙ sym (held_hold rows new x)
+    ∙ ap (λ (s : Spans). joined (s x) (rows x)) h
+    ∙ grown_alike rows (held rows old) c x
+    ∙ ap (λ r. joined r g) (joined_turned (rows x) (old x))
+    ∙ sym (joined_again (old x) (rows x) g)
+    ∙ ap (joined (old x)) (joined_turned (rows x) g ∙ lies)

@@ -1,17 +1,19 @@
 -- Examinations, a statement, a branch and an arm at a time.
-use Rattle.std.proofs.Common.{◌≡◌, ℕ, zero, suc, ◌+◌, ◌<◌, ℤ, List, length, drop, get_or, refl, sym, ap, ap₂, ◌∙◌, arith, rules, string_bytes}
+use Rattle.std.proofs.Common.{◌≡◌, ℕ, zero, suc, ◌+◌, ◌<◌, ℤ, List, length, drop, get_or, refl, sym, ap, ap₂, ◌∙◌, arith, rules, string_bytes, Vec}
 use Rattle.std.specs.Prelude.{OnOk, Result, Ok, Err}
 use Rattle.st_types.specs.declared.term.VariableName.{VariableName}
 use Rattle.fb_model.specs.Names.{Name}
-use Rattle.fb_model.specs.TypedText.{set, set_part}
+use Rattle.fb_model.specs.TypedText.{set, set_part, choose, match_on}
 use Rattle.fb_model.specs.Spans.{Span}
 use Rattle.fb_model.specs.Clear.{Spans, changed, reset, taken, left_with, examine, examine_one}
 use Rattle.st_types.specs.declared.command.TypedStmt.{TypedStmt, the_lemmas}
-use Rattle.st_types.specs.declared.command.TypedStmt.TheVariants.{Set, SetElement}
+use Rattle.st_types.specs.declared.command.TypedStmt.TheVariants.{Set, SetElement, If, Case}
 use Rattle.st_types.specs.declared.command.TypedBranch.{TypedBranch}
+use Rattle.st_types.specs.declared.command.TypedArm.{TypedArm}
+use Rattle.std.specs.declared.alloc.Global.{Global}
 use Rattle.st_types.specs.declared.term.TypedExpr.{TypedExpr}
 use Rattle.st_types.specs.Views.{term_of}
-use Rattle.st_types.specs.CommandViews.{command_of, commands_of, choice_of}
+use Rattle.st_types.specs.CommandViews.{command_of, commands_of, choice_of, choices_of, cases_of}
 use Rattle.st_types.proofs.Gathering.{drop_step}
 use Rattle.fb_model_laws.specs.Asking.{Asked, point, asking_all, asked_loop, ask, ask_one}
 use Rattle.fb_model_laws.proofs.Ending.{ends_one}
@@ -24,6 +26,10 @@ pub on_ok : {A E : Type 0} (r : Result A E) (P Q : Type 0) → (P → Q) → OnO
 on_ok (Ok x) P Q f h = f h
 on_ok (Err e) P Q f h = tt
 
+pub on_ok_both : {A E : Type 0} (r : Result A E) (P Q R : Type 0) → (P → Q → R) → OnOk r P → OnOk r Q → OnOk r R
+on_ok_both (Ok x) P Q R f h k = f h k
+on_ok_both (Err e) P Q R f h k = tt
+
 -- ---- statements
 
 pub command_set : (x : VariableName) (e : TypedExpr) → command_of (Set x e) ≡ set (string_bytes x.name) (term_of e)
@@ -31,6 +37,12 @@ command_set x e = search (rules, the_lemmas)
 
 pub command_element : (x : VariableName) (low high : ℤ) (i e : TypedExpr) → command_of (SetElement x low high i e) ≡ set_part (string_bytes x.name) low high (term_of i) (term_of e)
 command_element x low high i e = search (rules, the_lemmas)
+
+pub command_if : (bs : Vec TypedBranch Global) (other : Vec TypedStmt Global) → command_of (If bs other) ≡ choose (choices_of bs.items) (commands_of other.items)
+command_if bs other = search (rules, the_lemmas)
+
+pub command_case : (e : TypedExpr) (arms : Vec TypedArm Global) (other : Vec TypedStmt Global) → command_of (Case e arms other) ≡ match_on (term_of e) (cases_of arms.items) (commands_of other.items)
+command_case e arms other = search (rules, the_lemmas)
 
 -- one more statement
 pub next_asked : (rows : Spans) (list : List TypedStmt) (i : ℕ) (y : TypedStmt) (a b all : Asked) → i < length list → y ≡ get_or list i y

@@ -1,5 +1,5 @@
 -- Ranges that are copied and set, a name at a time.
-use Rattle.std.proofs.Common.{◌≡◌, ℕ, zero, suc, ◌+◌, ◌<◌, Bool, true, false, ◌||◌, List, [], ◌∷◌, ◌++◌, length, take, drop, get_or, Some, refl, sym, ap, ap₂, ◌∙◌, arith}
+use Rattle.std.proofs.Common.{◌≡◌, ℕ, zero, suc, ◌+◌, ◌<◌, Bool, true, false, ◌||◌, List, [], ◌∷◌, ◌++◌, length, take, get_or, Some, refl, sym, ap, ap₂, ◌∙◌, arith}
 use Rattle.std.proofs.Math.Path.{fun_ext}
 use Rattle.std.specs.Prelude.{if◌then◌else◌, string_bytes, slice_get, ◌&&◌}
 use Rattle.std.specs.Str.{bytes_eq}
@@ -8,11 +8,9 @@ use Rattle.std.specs.declared.alloc.Global.{Global}
 use Rattle.std.proofs.lemmas.List.{map_push, take_more}
 use Rattle.fb_model.specs.Names.{Name, is_in}
 use Rattle.fb_model.proofs.Lists.{same_name}
-use Rattle.fb_model.specs.Spans.{Span, within}
-use Rattle.fb_model.specs.Clear.{Spans, are_kept, changed, reset}
+use Rattle.fb_model.specs.Spans.{Span}
+use Rattle.fb_model.specs.Clear.{Spans, changed, reset}
 use Rattle.fb_model.proofs.Names.{eq_turned}
-use Rattle.st_types.proofs.Gathering.{drop_step}
-use Rattle.fb_model_laws.specs.Asking.{asking, asking_all}
 use Rattle.fb_ranges.specs.Meeting.{Besides}
 use Rattle.fb_ranges.specs.Views.{names_in, names_of}
 use Rattle.std.specs.Borrow.{Bor}
@@ -98,19 +96,6 @@ next_name names i n rows before now old x r lt is name range start put =
     ∙ sym (reset_push (names_of (take i names)) (string_bytes n.now.name) rows old)
     ∙ ap (λ ns. reset ns rows old) (sym (ap names_of (take_more names i n lt ∙ ap (λ m. take i names ++ m ∷ []) (sym is)) ∙ map_push (λ (v : Bor VariableName). string_bytes v.now.name) (take i names) n))
 
--- the row of the next of listed variables is asked to hold what it has
-pub next_ask : (names : List (Bor VariableName)) (i : ℕ) (n : Bor VariableName) (spans before now all : Spans) (x : Name) (r : Span)
-    → i < length names → n ≡ get_or names i n → x ≡ string_bytes n.now.name → r ≡ spans x → asking_all (names_of (drop i names)) spans before ≡ all → now ≡ asking x r before
-    → asking_all (names_of (drop (i + 1) names)) spans now ≡ all
-next_ask names i n spans before now all x r lt is name range h put =
-    ap (asking_all (names_of (drop (i + 1) names)) spans) (put ∙ ap₂ (λ y z. asking y z before) name (range ∙ ap spans name))
-    ∙ ap (λ (l : List (Bor VariableName)). asking_all (names_of l) spans before) (sym (drop_step names i n lt is))
-    ∙ h
-
-and_moved : (a b c : Bool) → ((a && b) && c) ≡ (a && (b && c))
-and_moved true b c = refl
-and_moved false b c = refl
-
 and_false : (a : Bool) → false ≡ (a && false)
 and_false true = refl
 and_false false = refl
@@ -125,13 +110,3 @@ kept_not kept before w k e = k ∙ and_false before ∙ ap (λ b. before && b) (
 
 pub kept_so : (kept before w : Bool) → kept ≡ before → w ≡ true → kept ≡ (before && w)
 kept_so kept before w k e = k ∙ and_true before ∙ ap (λ b. before && b) (sym e)
-
-pub next_kept : (names : List (Bor VariableName)) (i : ℕ) (n : Bor VariableName) (rows spans : Spans) (kept before w all : Bool) (x : Name)
-    → i < length names → n ≡ get_or names i n → x ≡ string_bytes n.now.name → w ≡ within (spans x) (rows x) → (before && are_kept (names_of (drop i names)) rows spans) ≡ all → kept ≡ (before && w)
-    → (kept && are_kept (names_of (drop (i + 1) names)) rows spans) ≡ all
-next_kept names i n rows spans kept before w all x lt is name lies h k =
-    let rest = are_kept (names_of (drop (i + 1) names)) rows spans in
-    ap (λ b. b && rest) (k ∙ ap (λ b. before && b) (lies ∙ ap (λ y. within (spans y) (rows y)) name))
-    ∙ and_moved before (within (spans (string_bytes n.now.name)) (rows (string_bytes n.now.name))) rest
-    ∙ ap (λ (l : List (Bor VariableName)). before && are_kept (names_of l) rows spans) (sym (drop_step names i n lt is))
-    ∙ h

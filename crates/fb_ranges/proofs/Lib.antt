@@ -13,3 +13,4 @@ pub mod Branches
 pub mod Laws
 pub mod Noted
 pub mod Likening
+pub mod Settling

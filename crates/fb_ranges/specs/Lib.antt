@@ -5,3 +5,4 @@ pub mod Faults
 pub mod Steps
 pub mod Meeting
 pub mod Finding
+pub mod Settling

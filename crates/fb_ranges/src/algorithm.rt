@@ -32,7 +32,7 @@ fn examined(
     ensures rest { OnOk result (spans_of work.new ≡ spans_of rows.now) }
 {
     let names = names_assigned(alloc, &algo.statements)?;
-    examine_keeping(alloc, rows, &names, &algo.statements, work, asked)
+    examine_keeping(alloc, rows, &names, &algo.statements, true, work, asked)
 }
 
 /// Whether an algorithm is clear under the rows of its variables: run from values in the rows, it neither traps nor leaves them.

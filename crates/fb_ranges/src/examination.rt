@@ -2,7 +2,7 @@
 //!
 //! It goes on behind a fault, so that all is asked; what is told is the first fault in the text.
 
-ghost use Rattle.std.specs.Prelude.{◌≡◌, ◌<◌, ◌^◌, ◌++◌, true, false, map, if◌then◌else◌, IfOk, OnOk, string_bytes};
+ghost use Rattle.std.specs.Prelude.{◌≡◌, ◌<◌, ◌^◌, ◌++◌, true, false, map, if◌then◌else◌, IfOk, OnOk, length, string_bytes};
 ghost use Rattle.fb_model.specs.Names.{Name};
 ghost use Rattle.fb_model.specs.Clear as book;
 ghost use Rattle.fb_model.specs.Clear.{Clear, Leaves, Traps, with_range};
@@ -14,12 +14,13 @@ ghost use Rattle.st_types.specs.CommandViews.{cases_of, choice_of, choices_of, c
 ghost use Rattle.fb_ranges.specs.Finding.{longer, tell};
 ghost use Rattle.fb_ranges.specs.Meeting.{Dated, joint, ranges_after};
 ghost use Rattle.fb_ranges.specs.Narrowing.{read_in};
+ghost use Rattle.fb_ranges.specs.Settling.{HaveRows, LastHaveRows, held};
 ghost use Rattle.fb_ranges_intervals.specs.Views.{span_of};
 ghost use Rattle.fb_ranges.specs.Views.{clear_range, mark_of, names_of, spans_of};
 
 use crate::assigned::names_assigned;
 use crate::expression::{Ranged, is_between, range};
-use crate::join::{ask, ask_all, reset};
+use crate::join::{ask, is_among, settle};
 use crate::merge::{close, ended, merged, no_ways, noted};
 use crate::narrowed::narrow;
 use crate::rows::Ranges;
@@ -30,12 +31,28 @@ use fb_ranges_intervals::{Interval, is_within, left_with, most_iterations, taken
 use st_types::{Counting, TypedArm, TypedBranch, TypedExpr, TypedStmt, VariableName};
 use std::alloc::{AllocError, Global};
 
-// The ranges of the numbers from which and to which a FOR counts, and its step.
+// The variable of a FOR, the ranges of the numbers from which and to which it counts, and its step.
 #[derive(Clone, Copy)]
-struct Count {
+struct Count<'a> {
+    variable: &'a VariableName,
     first: Interval,
     last: Interval,
     step: i64,
+}
+
+// What is told of statements, and how many of the variables that they assign surely have their rows afterwards: so many of the last.
+#[derive(Clone, Copy)]
+struct Ending {
+    told: Told,
+    settled: usize,
+}
+
+// The same, where nothing is known of the variables.
+fn unsettled(told: Told) -> Ending
+    ensures told { result.told ≡ told }
+    ensures settled { result.settled ≡ 0 }
+{
+    Ending { told, settled: 0 }
 }
 
 // A variable gets a value.
@@ -62,30 +79,9 @@ fn element_told(row: Interval, low: i64, high: i64, index: Ranged, value: Ranged
     trapping(index.is_clear, trapping(value.is_clear, told))
 }
 
-/// What statements make of ranges and ask of rows, under the rows of the variables; and what is told of them.
+/// What a statement makes of ranges and asks of rows, under the rows of the variables; and what is told of it.
 ///
 /// Fails where memory runs out; then nothing is said of the ranges.
-#[cycle(examining)]
-pub fn examine(
-    alloc: Global,
-    rows: &Ranges,
-    list: &[TypedStmt],
-    ranges: &mut Ranges,
-    asked: &mut Ranges,
-) -> Result<Told, AllocError>
-    ensures asks { OnOk result (point (spans_of ranges.new) (spans_of asked.new) ≡ asking.ask (spans_of rows.now) (commands_of list.now) (point (spans_of ranges.old) (spans_of asked.old))) }
-    ensures tells { IfOk result (λ told. told ≡ tell (book.examine (spans_of rows.now) (commands_of list.now) (spans_of ranges.old))) }
-{
-    let mut all = Told::Steps(0);
-    for statement in list {
-        let told = examine_one(alloc, rows, statement, ranges, asked)?;
-        all = in_sequence(all, told);
-    }
-    Ok(all)
-}
-
-/// The same of one statement.
-#[cycle(examining)]
 pub fn examine_one(
     alloc: Global,
     rows: &Ranges,
@@ -93,28 +89,77 @@ pub fn examine_one(
     ranges: &mut Ranges,
     asked: &mut Ranges,
 ) -> Result<Told, AllocError>
-    ensures asks { OnOk result (point (spans_of ranges.new) (spans_of asked.new) ≡ asking.ask_one (spans_of rows.now) (command_of statement.now) (point (spans_of ranges.old) (spans_of asked.old))) }
+    ensures asks { OnOk result (point (spans_of ranges.new) (held (spans_of rows.now) (spans_of asked.new)) ≡ asking.ask_one (spans_of rows.now) (command_of statement.now) (point (spans_of ranges.old) (held (spans_of rows.now) (spans_of asked.old)))) }
     ensures tells { IfOk result (λ told. told ≡ tell (book.examine_one (spans_of rows.now) (command_of statement.now) (spans_of ranges.old))) }
 {
+    let end = examine_statement(alloc, rows, statement, false, ranges, asked)?;
+    Ok(end.told)
+}
+
+// What statements make of ranges and ask of rows. `have_rows` tells that all variables that they assign have their rows.
+#[cycle(examining)]
+fn examine(
+    alloc: Global,
+    rows: &Ranges,
+    list: &[TypedStmt],
+    have_rows: bool,
+    ranges: &mut Ranges,
+    asked: &mut Ranges,
+) -> Result<Ending, AllocError>
+    requires { have_rows ≡ true → HaveRows (book.assigned (commands_of list.now)) (spans_of rows.now) (spans_of ranges.old) }
+    ensures asks { OnOk result (point (spans_of ranges.new) (held (spans_of rows.now) (spans_of asked.new)) ≡ asking.ask (spans_of rows.now) (commands_of list.now) (point (spans_of ranges.old) (held (spans_of rows.now) (spans_of asked.old)))) }
+    ensures tells { IfOk result (λ end. end.told ≡ tell (book.examine (spans_of rows.now) (commands_of list.now) (spans_of ranges.old))) }
+    ensures settled { IfOk result (λ end. LastHaveRows end.settled (book.assigned (commands_of list.now)) (spans_of rows.now) (spans_of ranges.new)) }
+{
+    let mut all = Told::Steps(0);
+    let mut settled = 0;
+    let mut have_rows = have_rows;
+    for statement in list {
+        let end = examine_statement(alloc, rows, statement, have_rows, ranges, asked)?;
+        all = in_sequence(all, end.told);
+        settled = end.settled;
+        have_rows = false;
+    }
+    Ok(Ending { told: all, settled })
+}
+
+// The same of one statement.
+#[cycle(examining)]
+fn examine_statement(
+    alloc: Global,
+    rows: &Ranges,
+    statement: &TypedStmt,
+    have_rows: bool,
+    ranges: &mut Ranges,
+    asked: &mut Ranges,
+) -> Result<Ending, AllocError>
+    requires { have_rows ≡ true → HaveRows (book.assigned_one (command_of statement.now)) (spans_of rows.now) (spans_of ranges.old) }
+    ensures asks { OnOk result (point (spans_of ranges.new) (held (spans_of rows.now) (spans_of asked.new)) ≡ asking.ask_one (spans_of rows.now) (command_of statement.now) (point (spans_of ranges.old) (held (spans_of rows.now) (spans_of asked.old)))) }
+    ensures tells { IfOk result (λ end. end.told ≡ tell (book.examine_one (spans_of rows.now) (command_of statement.now) (spans_of ranges.old))) }
+    ensures settled { IfOk result (λ end. LastHaveRows end.settled (book.assigned_one (command_of statement.now)) (spans_of rows.now) (spans_of ranges.new)) }
+{
     match statement {
-        TypedStmt::Set(name, value) => examine_set(name, value, ranges),
+        TypedStmt::Set(name, value) => Ok(unsettled(examine_set(name, value, ranges)?)),
         TypedStmt::SetElement(name, low, high, index, value) => {
             let index = range(index, ranges);
             let value = range(value, ranges);
             ask(name, value.range, asked)?;
             let row = rows.find_at(name);
-            Ok(element_told(row, *low, *high, index, value))
+            Ok(unsettled(element_told(row, *low, *high, index, value)))
         }
         TypedStmt::If(branches, other) => {
             let told = examine_branches(alloc, rows, branches, other, ranges, asked)?;
-            Ok(in_sequence(Told::Steps(1), told))
+            Ok(unsettled(in_sequence(Told::Steps(1), told)))
         }
         TypedStmt::Case(selector, arms, other) => {
             let is_clear = range(selector, ranges).is_clear;
             let told = examine_arms(alloc, rows, arms, other, ranges, asked)?;
-            Ok(trapping(is_clear, in_sequence(Told::Steps(1), told)))
+            let all = trapping(is_clear, in_sequence(Told::Steps(1), told));
+            Ok(unsettled(all))
         }
-        TypedStmt::For(counting, body) => examine_for(alloc, rows, counting, body, ranges, asked),
+        TypedStmt::For(counting, body) => {
+            examine_for(alloc, rows, counting, body, have_rows, ranges, asked)
+        }
     }
 }
 
@@ -128,7 +173,7 @@ fn examine_branches(
     ranges: &mut Ranges,
     asked: &mut Ranges,
 ) -> Result<Told, AllocError>
-    ensures asks { OnOk result (point (spans_of ranges.new) (spans_of asked.new) ≡ asking.ask_choices (spans_of rows.now) (choices_of branches.now) (asking.ask (spans_of rows.now) (commands_of other.now)) (point (spans_of ranges.old) (spans_of asked.old))) }
+    ensures asks { OnOk result (point (spans_of ranges.new) (held (spans_of rows.now) (spans_of asked.new)) ≡ asking.ask_choices (spans_of rows.now) (choices_of branches.now) (asking.ask (spans_of rows.now) (commands_of other.now)) (point (spans_of ranges.old) (held (spans_of rows.now) (spans_of asked.old)))) }
     ensures tells { IfOk result (λ told. told ≡ tell (book.examine_choices (spans_of rows.now) (choices_of branches.now) (book.examine (spans_of rows.now) (commands_of other.now)) (spans_of ranges.old))) }
 {
     let mut ways = no_ways(alloc);
@@ -149,8 +194,8 @@ fn examine_branch<'a>(
     ranges: &mut Ranges,
     asked: &mut Ranges,
 ) -> Result<Way<'a>, AllocError>
-    ensures ends { IfOk result (λ way. map span_of way.ends.items ≡ map (asking.ask (spans_of rows.now) (choice_of branch.now).1 (point (book.narrowed (choice_of branch.now).0 true (spans_of ranges.old)) (spans_of asked.old))).spans (names_of way.names.items)) }
-    ensures asks { OnOk result (spans_of asked.new ≡ (asking.ask (spans_of rows.now) (choice_of branch.now).1 (point (book.narrowed (choice_of branch.now).0 true (spans_of ranges.old)) (spans_of asked.old))).rows) }
+    ensures ends { IfOk result (λ way. map span_of way.ends.items ≡ map (asking.ask (spans_of rows.now) (choice_of branch.now).1 (point (book.narrowed (choice_of branch.now).0 true (spans_of ranges.old)) (held (spans_of rows.now) (spans_of asked.old)))).spans (names_of way.names.items)) }
+    ensures asks { OnOk result (held (spans_of rows.now) (spans_of asked.new) ≡ (asking.ask (spans_of rows.now) (choice_of branch.now).1 (point (book.narrowed (choice_of branch.now).0 true (spans_of ranges.old)) (held (spans_of rows.now) (spans_of asked.old)))).rows) }
     ensures tells { IfOk result (λ way. way.told ≡ tell (with_range (book.range_of (choice_of branch.now).0 (spans_of ranges.old)) (λ r. book.examine (spans_of rows.now) (choice_of branch.now).1 (book.narrowed (choice_of branch.now).0 true (spans_of ranges.old))))) }
     ensures touched { IfOk result (λ way. names_of way.names.items ≡ read_in (choice_of branch.now).0 ++ book.assigned (choice_of branch.now).1) }
     ensures unchanged { OnOk result (spans_of ranges.new ≡ spans_of ranges.old) }
@@ -159,8 +204,8 @@ fn examine_branch<'a>(
     let names = names_touched(alloc, &branch.condition, &branch.body)?;
     let before = noted(alloc, &names, ranges)?;
     narrow(&branch.condition, true, ranges)?;
-    let told = examine(alloc, rows, &branch.body, ranges, asked)?;
-    let all = trapping(is_clear, told);
+    let end = examine(alloc, rows, &branch.body, false, ranges, asked)?;
+    let all = trapping(is_clear, end.told);
     Ok(ended(alloc, names, all, &before, ranges)?)
 }
 
@@ -174,7 +219,7 @@ fn examine_arms(
     ranges: &mut Ranges,
     asked: &mut Ranges,
 ) -> Result<Told, AllocError>
-    ensures asks { OnOk result (point (spans_of ranges.new) (spans_of asked.new) ≡ asking.ask_cases (spans_of rows.now) (cases_of arms.now) (asking.ask (spans_of rows.now) (commands_of other.now)) (point (spans_of ranges.old) (spans_of asked.old))) }
+    ensures asks { OnOk result (point (spans_of ranges.new) (held (spans_of rows.now) (spans_of asked.new)) ≡ asking.ask_cases (spans_of rows.now) (cases_of arms.now) (asking.ask (spans_of rows.now) (commands_of other.now)) (point (spans_of ranges.old) (held (spans_of rows.now) (spans_of asked.old)))) }
     ensures tells { IfOk result (λ told. told ≡ tell (book.examine_cases (spans_of rows.now) (cases_of arms.now) (book.examine (spans_of rows.now) (commands_of other.now) (spans_of ranges.old)) (spans_of ranges.old))) }
 {
     let mut ways = no_ways(alloc);
@@ -194,16 +239,16 @@ fn examine_way<'a>(
     ranges: &mut Ranges,
     asked: &mut Ranges,
 ) -> Result<Way<'a>, AllocError>
-    ensures ends { IfOk result (λ way. map span_of way.ends.items ≡ map (asking.ask (spans_of rows.now) (commands_of body.now) (point (spans_of ranges.old) (spans_of asked.old))).spans (names_of way.names.items)) }
+    ensures ends { IfOk result (λ way. map span_of way.ends.items ≡ map (asking.ask (spans_of rows.now) (commands_of body.now) (point (spans_of ranges.old) (held (spans_of rows.now) (spans_of asked.old)))).spans (names_of way.names.items)) }
     ensures touched { IfOk result (λ way. names_of way.names.items ≡ book.assigned (commands_of body.now)) }
-    ensures asks { OnOk result (spans_of asked.new ≡ (asking.ask (spans_of rows.now) (commands_of body.now) (point (spans_of ranges.old) (spans_of asked.old))).rows) }
+    ensures asks { OnOk result (held (spans_of rows.now) (spans_of asked.new) ≡ (asking.ask (spans_of rows.now) (commands_of body.now) (point (spans_of ranges.old) (held (spans_of rows.now) (spans_of asked.old)))).rows) }
     ensures tells { IfOk result (λ way. way.told ≡ tell (book.examine (spans_of rows.now) (commands_of body.now) (spans_of ranges.old))) }
     ensures unchanged { OnOk result (spans_of ranges.new ≡ spans_of ranges.old) }
 {
     let names = names_assigned(alloc, body)?;
     let before = noted(alloc, &names, ranges)?;
-    let told = examine(alloc, rows, body, ranges, asked)?;
-    Ok(ended(alloc, names, told, &before, ranges)?)
+    let end = examine(alloc, rows, body, false, ranges, asked)?;
+    Ok(ended(alloc, names, end.told, &before, ranges)?)
 }
 
 // The last way, whose ranges become those of all.
@@ -218,8 +263,8 @@ fn examine_last(
 ) -> Result<Told, AllocError>
     requires room { ways.count < 2 ^ 63 }
     requires dated { (x : Name) → Dated ways.count (mark_of ways x) }
-    ensures ranges { OnOk result (spans_of ranges.new ≡ joint ways.count (ranges_after ways.count (mark_of ways) (spans_of ranges.old)) (asking.ask (spans_of rows.now) (commands_of body.now) (point (spans_of ranges.old) (spans_of asked.old))).spans) }
-    ensures asks { OnOk result (spans_of asked.new ≡ (asking.ask (spans_of rows.now) (commands_of body.now) (point (spans_of ranges.old) (spans_of asked.old))).rows) }
+    ensures ranges { OnOk result (spans_of ranges.new ≡ joint ways.count (ranges_after ways.count (mark_of ways) (spans_of ranges.old)) (asking.ask (spans_of rows.now) (commands_of body.now) (point (spans_of ranges.old) (held (spans_of rows.now) (spans_of asked.old)))).spans) }
+    ensures asks { OnOk result (held (spans_of rows.now) (spans_of asked.new) ≡ (asking.ask (spans_of rows.now) (commands_of body.now) (point (spans_of ranges.old) (held (spans_of rows.now) (spans_of asked.old)))).rows) }
     ensures tells { IfOk result (λ told. told ≡ longer ways.told (tell (book.examine (spans_of rows.now) (commands_of body.now) (spans_of ranges.old)))) }
 {
     let mut ways = ways;
@@ -236,57 +281,81 @@ fn examine_for(
     rows: &Ranges,
     counting: &Counting,
     body: &[TypedStmt],
+    have_rows: bool,
     ranges: &mut Ranges,
     asked: &mut Ranges,
-) -> Result<Told, AllocError>
-    ensures asks { OnOk result (point (spans_of ranges.new) (spans_of asked.new) ≡ asking.ask_one (spans_of rows.now) (counted_command (counting_of counting.now) (commands_of body.now)) (point (spans_of ranges.old) (spans_of asked.old))) }
-    ensures tells { IfOk result (λ told. told ≡ tell (book.examine_one (spans_of rows.now) (counted_command (counting_of counting.now) (commands_of body.now)) (spans_of ranges.old))) }
+) -> Result<Ending, AllocError>
+    requires { have_rows ≡ true → HaveRows (book.assigned_one (counted_command (counting_of counting.now) (commands_of body.now))) (spans_of rows.now) (spans_of ranges.old) }
+    ensures asks { OnOk result (point (spans_of ranges.new) (held (spans_of rows.now) (spans_of asked.new)) ≡ asking.ask_one (spans_of rows.now) (counted_command (counting_of counting.now) (commands_of body.now)) (point (spans_of ranges.old) (held (spans_of rows.now) (spans_of asked.old)))) }
+    ensures tells { IfOk result (λ end. end.told ≡ tell (book.examine_one (spans_of rows.now) (counted_command (counting_of counting.now) (commands_of body.now)) (spans_of ranges.old))) }
+    ensures settled { IfOk result (λ end. LastHaveRows end.settled (book.assigned_one (counted_command (counting_of counting.now) (commands_of body.now))) (spans_of rows.now) (spans_of ranges.new)) }
 {
     let first = range(&counting.first, ranges);
     let last = range(&counting.last, ranges);
     let are_clear = if first.is_clear { last.is_clear } else { false };
     if most_iterations(first.range, last.range, counting.step) == 0 {
-        return Ok(trapping(are_clear, Told::Steps(1)));
+        return Ok(unsettled(trapping(are_clear, Told::Steps(1))));
     }
     let count = Count {
+        variable: &counting.variable,
         first: first.range,
         last: last.range,
         step: counting.step,
     };
-    let name = &counting.variable;
-    let told = examine_iterations(alloc, rows, name, count, body, ranges, asked)?;
-    Ok(trapping(are_clear, told))
+    let end = examine_iterations(alloc, rows, count, body, have_rows, ranges, asked)?;
+    Ok(Ending {
+        told: trapping(are_clear, end.told),
+        settled: end.settled,
+    })
 }
 
-// The iterations of a FOR, of which there are some.
+// All of these variables, or none.
+fn all_or_none(all: bool, names: &[&VariableName]) -> usize
+    ensures { result ≡ (if all then length names.now else 0) }
+{
+    if all { names.len() } else { 0 }
+}
+
+// The iterations of a FOR, of which there are some. `have_rows` tells that all variables that its body assigns have their rows.
 #[cycle(examining)]
 fn examine_iterations(
     alloc: Global,
     rows: &Ranges,
-    name: &VariableName,
-    count: Count,
+    count: Count<'_>,
     body: &[TypedStmt],
+    have_rows: bool,
     ranges: &mut Ranges,
     asked: &mut Ranges,
-) -> Result<Told, AllocError>
-    requires { 0 < book.most_iterations (span_of count.first) (span_of count.last) count.step }
-    ensures asks { OnOk result (point (spans_of ranges.new) (spans_of asked.new) ≡ asking.asked_loop (book.most_iterations (span_of count.first) (span_of count.last) count.step) (book.assigned (commands_of body.now)) (spans_of rows.now) (asking.ask (spans_of rows.now) (commands_of body.now)) (string_bytes name.now.name) (span_of count.first) (span_of count.last) count.step (point (spans_of ranges.old) (spans_of asked.old))) }
-    ensures tells { IfOk result (λ told. told ≡ tell (book.looped (book.most_iterations (span_of count.first) (span_of count.last) count.step) (book.assigned (commands_of body.now)) (spans_of rows.now) (book.examine (spans_of rows.now) (commands_of body.now)) (string_bytes name.now.name) (span_of count.first) (span_of count.last) count.step (spans_of ranges.old))) }
+) -> Result<Ending, AllocError>
+    requires some { 0 < book.most_iterations (span_of count.first) (span_of count.last) count.step }
+    requires have { have_rows ≡ true → HaveRows (book.assigned (commands_of body.now)) (spans_of rows.now) (spans_of ranges.old) }
+    ensures asks { OnOk result (point (spans_of ranges.new) (held (spans_of rows.now) (spans_of asked.new)) ≡ asking.asked_loop (book.most_iterations (span_of count.entry.first) (span_of count.entry.last) count.entry.step) (book.assigned (commands_of body.now)) (spans_of rows.now) (asking.ask (spans_of rows.now) (commands_of body.now)) (string_bytes count.entry.variable.now.name) (span_of count.entry.first) (span_of count.entry.last) count.entry.step (point (spans_of ranges.old) (held (spans_of rows.now) (spans_of asked.old)))) }
+    ensures tells { IfOk result (λ end. end.told ≡ tell (book.looped (book.most_iterations (span_of count.entry.first) (span_of count.entry.last) count.entry.step) (book.assigned (commands_of body.now)) (spans_of rows.now) (book.examine (spans_of rows.now) (commands_of body.now)) (string_bytes count.entry.variable.now.name) (span_of count.entry.first) (span_of count.entry.last) count.entry.step (spans_of ranges.old))) }
+    ensures settled { IfOk result (λ end. LastHaveRows end.settled (book.assigned (commands_of body.now)) (spans_of rows.now) (spans_of ranges.new)) }
 {
-    let Count { first, last, step } = count;
+    let Count {
+        variable,
+        first,
+        last,
+        step,
+    } = count;
     let iterations = most_iterations(first, last, step);
     let names = names_assigned(alloc, body)?;
-    let begins = ask_all(&names, rows, ranges, asked)?;
-    reset(&names, rows, ranges)?;
-    let before = ranges.find_at(name);
-    ranges.insert_at(name, taken(first, last, step, iterations))?;
-    let told = examine_keeping(alloc, rows, &names, body, ranges, asked)?;
-    ranges.insert_at(name, left_with(first, last, step, iterations, before))?;
-    Ok(iterated(iterations, begins, told))
+    let settled = all_or_none(have_rows, &names);
+    let begins = settle(&names, settled, rows, ranges, asked)?;
+    let before = ranges.find_at(variable);
+    ranges.insert_at(variable, taken(first, last, step, iterations))?;
+    let is_apart = !is_among(variable, &names);
+    let told = examine_keeping(alloc, rows, &names, body, is_apart, ranges, asked)?;
+    ranges.insert_at(variable, left_with(first, last, step, iterations, before))?;
+    Ok(Ending {
+        told: iterated(iterations, begins, told),
+        settled: all_or_none(is_apart, &names),
+    })
 }
 
 /// Statements that have to keep the rows of the variables that they assign: an algorithm, or the body of a FOR, once for all iterations.
-/// Afterwards these variables have their rows.
+/// `have_rows` tells that these variables have their rows. Afterwards they do.
 ///
 /// Fails where memory runs out; then nothing is said of the ranges.
 #[cycle(examining)]
@@ -295,17 +364,17 @@ pub(crate) fn examine_keeping(
     rows: &Ranges,
     names: &[&VariableName],
     body: &[TypedStmt],
+    have_rows: bool,
     ranges: &mut Ranges,
     asked: &mut Ranges,
 ) -> Result<Told, AllocError>
     requires named { names_of names.now ≡ book.assigned (commands_of body.now) }
-    ensures asks { OnOk result (spans_of asked.new ≡ (let end = asking.ask (spans_of rows.now) (commands_of body.now) (point (spans_of ranges.old) (spans_of asked.old)) in asking.asking_all (names_of names.now) end.spans end.rows)) }
+    requires have { have_rows ≡ true → HaveRows (book.assigned (commands_of body.now)) (spans_of rows.now) (spans_of ranges.old) }
+    ensures asks { OnOk result (held (spans_of rows.now) (spans_of asked.new) ≡ (let end = asking.ask (spans_of rows.now) (commands_of body.now) (point (spans_of ranges.old) (held (spans_of rows.now) (spans_of asked.old))) in asking.asking_all (names_of names.now) end.spans end.rows)) }
     ensures tells { IfOk result (λ told. told ≡ tell (book.kept (spans_of rows.now) (names_of names.now) (book.examine (spans_of rows.now) (commands_of body.now) (spans_of ranges.old)))) }
     ensures rest { OnOk result (spans_of ranges.new ≡ book.reset (names_of names.now) (spans_of rows.now) (spans_of ranges.old)) }
 {
-    let told = examine(alloc, rows, body, ranges, asked)?;
-    let are_kept = ask_all(names, rows, ranges, asked)?;
-    let all = keeping(are_kept, told);
-    reset(names, rows, ranges)?;
-    Ok(all)
+    let end = examine(alloc, rows, body, have_rows, ranges, asked)?;
+    let are_kept = settle(names, end.settled, rows, ranges, asked)?;
+    Ok(keeping(are_kept, end.told))
 }

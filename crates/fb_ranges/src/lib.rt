@@ -23,7 +23,7 @@ mod way;
 
 pub use algorithm::{check_algorithm, grow, max_steps};
 pub use assigned::names_assigned;
-pub use examination::{examine, examine_one};
+pub use examination::examine_one;
 pub use expression::{Ranged, is_between, range};
 pub use fault::{OutOfMemory, RangeFault};
 pub use fb_ranges_intervals::Interval;
