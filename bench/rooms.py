@@ -100,8 +100,9 @@ def tell_pages(crates):
             if crate in crates and not re.search(rf"\b{name}\b", texts[crate]):
                 wrong.append(f"{page}: no {name} in {crate}")
         for crate, name in sorted(set(re.findall(r"`(\w+)/([a-z0-9_]+)`", text))):
-            if crate in crates and name not in ("src", "specs", "proofs") and not (TOP / f"crates/{crate}/must-fail/{name}.edit").exists():
-                wrong.append(f"{page}: the gate tries no edit {crate}/{name}")
+            places = (TOP / f"crates/{crate}/must-fail/{name}.edit", TOP / f"bench/edits/{crate}/{name}.edit")
+            if crate in crates and name not in ("src", "specs", "proofs") and not any(it.exists() for it in places):
+                wrong.append(f"{page}: no edit {crate}/{name}")
         for block in re.findall(r"```clause\n(.*?)```", text, re.S):
             wrong += [f"{page}: no such clause: {line}" for line in block.splitlines() if line.strip() and plain(line) not in code]
     wrong += unasked(crates, "\n".join((TOP / it).read_text() for it in PAGES))
@@ -110,12 +111,13 @@ def tell_pages(crates):
 
 
 def unasked(crates, pages):
-    """The edits of the gate that no page names, where the crate has another."""
+    """The edits of the gate that no page names, or that are alone in their crates."""
     wrong = []
     for crate in crates:
         edits = sorted(it.stem for it in TOP.glob(f"crates/{crate}/must-fail/*.edit"))
         named = [it for it in edits if f"`{crate}/{it}`" in pages]
-        wrong += [f"the gate tries {crate}/{it}, which no page names" for it in edits if it not in named and len(edits) > 1]
+        wrong += [f"the gate tries {crate}/{it}, which no page names" for it in edits if it not in named]
+        wrong += [f"the gate tries {crate}/{it} alone in its crate" for it in edits if len(edits) == 1]
     return wrong
 
 
