@@ -111,13 +111,14 @@ def tell_pages(crates):
 
 
 def unasked(crates, pages):
-    """The edits of the gate that no page names, or that are alone in their crates."""
+    """The edits of the gate that no page names, where the crate has another; and crates that have edits, but none in the gate."""
     wrong = []
     for crate in crates:
         edits = sorted(it.stem for it in TOP.glob(f"crates/{crate}/must-fail/*.edit"))
         named = [it for it in edits if f"`{crate}/{it}`" in pages]
-        wrong += [f"the gate tries {crate}/{it}, which no page names" for it in edits if it not in named]
-        wrong += [f"the gate tries {crate}/{it} alone in its crate" for it in edits if len(edits) == 1]
+        wrong += [f"the gate tries {crate}/{it}, which no page names" for it in edits if it not in named and len(edits) > 1]
+        if not edits and list(TOP.glob(f"bench/edits/{crate}/*.edit")):
+            wrong.append(f"the gate tries no edit of {crate}")
     return wrong
 
 
