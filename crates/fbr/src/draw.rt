@@ -16,8 +16,8 @@ use fb_flat::{Flat, flatten};
 use fb_types::Typed;
 use fbr_draw::{Picture, draw, draw_chart};
 use fbr_explain::fb_check::{Place, Refusal};
-use fbr_places::tree_of;
-use std::alloc::Global;
+use fbr_places::{Writing, tree_of};
+use std::alloc::{AllocError, Global};
 use std::io;
 use std::io::Write;
 
@@ -43,26 +43,26 @@ struct Drawn<'a> {
 }
 
 // Writes the picture of a system or of a chart in it, and says whether there is what is to be drawn.
-fn write_picture<W: Write>(
+fn write_picture(
     system: Drawn<'_>,
     picture: &Picture<'_>,
-    output: &mut W,
-) -> io::Result<bool> {
+    writing: &mut Writing,
+) -> Result<bool, AllocError> {
     match system.drawing.chart {
-        Some(name) => draw_chart(system.alloc, picture, name, output),
+        Some(name) => draw_chart(system.alloc, picture, name, writing),
         None => {
-            draw(system.alloc, system.flat, picture, output)?;
+            draw(system.alloc, system.flat, picture, writing)?;
             Ok(true)
         }
     }
 }
 
 // Writes the graph of a system with a certificate, or with a walk.
-fn draw_flat<W: Write>(
+fn draw_flat(
     system: Drawn<'_>,
     certificate: Option<&Certificate>,
     walk: &[Place],
-    output: &mut W,
+    writing: &mut Writing,
 ) -> io::Result<u8>
     ensures status { IfOk result (λ status. status ≤ 4) }
 {
@@ -76,15 +76,15 @@ fn draw_flat<W: Write>(
                 walk,
                 boxes: system.drawing.boxes,
             };
-            let drawn = write_picture(system, &picture, output);
+            let drawn = write_picture(system, &picture, writing);
             tree.let_go();
             if drawn? {
                 return Ok(0);
             }
-            print_outcome(Err(Fault::Usage), output)
+            print_outcome(Err(Fault::Usage), writing.bytes())
         }
         // A text of which there is a system has a tree, if memory does not run out.
-        Ok(None) | Err(_) => print_outcome(Err(Fault::Memory), output),
+        Ok(None) | Err(_) => print_outcome(Err(Fault::Memory), writing.bytes()),
     }
 }
 
@@ -104,33 +104,33 @@ fn named_certificate<'a, S: Sources>(
 }
 
 // Writes the graph of a system with what is known of its bounds.
-fn draw_bounds<W: Write>(
+fn draw_bounds(
     system: Drawn<'_>,
     bounds: Result<Certificate, Fault<'_>>,
-    output: &mut W,
+    writing: &mut Writing,
 ) -> io::Result<u8>
     ensures status { IfOk result (λ status. status ≤ 4) }
 {
     match bounds {
         Ok(certificate) => {
-            let drawn = draw_flat(system, Some(&certificate), &[], output);
+            let drawn = draw_flat(system, Some(&certificate), &[], writing);
             certificate.let_go();
             drawn
         }
-        Err(Fault::Unbound(NoBound::Cycle(walk))) => draw_flat(system, None, &walk, output),
-        Err(Fault::Unbound(_)) => draw_flat(system, None, &[], output),
-        Err(fault) => print_outcome(Err(fault), output),
+        Err(Fault::Unbound(NoBound::Cycle(walk))) => draw_flat(system, None, &walk, writing),
+        Err(Fault::Unbound(_)) => draw_flat(system, None, &[], writing),
+        Err(fault) => print_outcome(Err(fault), writing.bytes()),
     }
 }
 
 // Writes the graph of a typed system.
-fn draw_typed<'a, S: Sources, W: Write>(
+fn draw_typed<'a, S: Sources>(
     alloc: Global,
     files: &S,
     app: &str,
     typed: &Typed,
     drawing: Drawing<'a>,
-    output: &mut W,
+    writing: &mut Writing,
 ) -> io::Result<u8>
     requires { IfSome drawing.repeats (λ r. 1 ≤ r) }
     ensures status { IfOk result (λ status. status ≤ 4) }
@@ -147,22 +147,22 @@ fn draw_typed<'a, S: Sources, W: Write>(
                 flat: &flat,
                 drawing,
             };
-            let drawn = draw_bounds(system, bounds, output);
+            let drawn = draw_bounds(system, bounds, writing);
             flat.let_go();
             drawn
         }
-        Err(fault) => print_outcome(Err(Fault::Refused(Refusal::from(fault))), output),
+        Err(fault) => print_outcome(Err(Fault::Refused(Refusal::from(fault))), writing.bytes()),
     }
 }
 
 // Writes the system of the application in a file as a graph in DOT, with its bounds, or the chart of a block type; or the fault of a text, or of the words where
 // there is no such type.
-fn draw_named<'a, S: Sources, W: Write>(
+fn draw_named<'a, S: Sources>(
     alloc: Global,
     files: &S,
     app: &'a str,
     drawing: Drawing<'a>,
-    output: &mut W,
+    writing: &mut Writing,
 ) -> io::Result<u8>
     requires { IfSome drawing.repeats (λ r. 1 ≤ r) }
     ensures status { IfOk result (λ status. status ≤ 4) }
@@ -170,13 +170,13 @@ fn draw_named<'a, S: Sources, W: Write>(
     match read_text(alloc, files, app) {
         Ok(text) => match typed_in(alloc, text.as_str()) {
             Ok(typed) => {
-                let drawn = draw_typed(alloc, files, text.as_str(), &typed, drawing, output);
+                let drawn = draw_typed(alloc, files, text.as_str(), &typed, drawing, writing);
                 typed.let_go();
                 drawn
             }
-            Err(fault) => print_outcome(Err(fault), output),
+            Err(fault) => print_outcome(Err(fault), writing.bytes()),
         },
-        Err(fault) => print_outcome(Err(fault), output),
+        Err(fault) => print_outcome(Err(fault), writing.bytes()),
     }
 }
 
@@ -213,13 +213,16 @@ pub fn draw_file<'a, S: Sources, W: Write, E: Write>(
     requires { IfSome drawing.repeats (λ r. 1 ≤ r) }
     ensures status { IfOk result (λ status. status ≤ 4) }
 {
-    let mut page = Vec::new(alloc);
-    match draw_named(alloc, files, drawing.name, drawing, &mut page) {
-        Ok(status) => {
-            hint_drawing(alloc, files, drawing.name, status, errors);
-            hint_chart(alloc, files, drawing.name, drawing.chart, status, errors);
-            give_page(files, drawing.into, &page, status, output, errors)
-        }
+    let mut writing = Writing::new(alloc);
+    match draw_named(alloc, files, drawing.name, drawing, &mut writing) {
+        Ok(status) => match writing.end() {
+            Ok(page) => {
+                hint_drawing(alloc, files, drawing.name, status, errors);
+                hint_chart(alloc, files, drawing.name, drawing.chart, status, errors);
+                give_page(files, drawing.into, &page, status, output, errors)
+            }
+            Err(_) => print_outcome(Err(Fault::Memory), output),
+        },
         // A write into memory fails for want of it.
         Err(_) => print_outcome(Err(Fault::Memory), output),
     }

@@ -15,9 +15,10 @@ use fb_script::read_number;
 use fb_types::Typed;
 use fbr_explain::fb_check::{Refusal, Verified, check};
 use fbr_explain::{
-    Named, Refused, certificate_again, meaning_of, tell_bounds, tell_meaning, tell_no_bound,
-    tell_refusal,
+    Meaning, Named, Refused, certificate_again, meaning_of, meaning_parts, tell_bounds,
+    tell_no_bound, tell_refusal,
 };
+use fbr_places::Writing;
 use std::alloc::{AllocError, Global};
 use std::io;
 use std::io::Write;
@@ -32,13 +33,23 @@ pub struct Question<'a> {
     pub is_strict: bool,
 }
 
+// Writes what a number says and what to do, if it is one of those.
+fn write_meaning<W: Write>(meaning: Option<Meaning>, output: &mut W) -> io::Result<()> {
+    if let Some(meaning) = meaning {
+        for part in meaning_parts(meaning) {
+            output.write_all(part.as_bytes())?;
+        }
+    }
+    Ok(())
+}
+
 // Writes what a number says. One that no refusal and no denial has is a fault of the words.
 fn explain_number<W: Write>(number: u16, output: &mut W) -> io::Result<u8>
     ensures status { IfOk result (λ status. status ≤ 4) }
 {
     match u8::try_from(number).ok().and_then(meaning_of) {
         Some(said) => {
-            tell_meaning(Some(said), output)?;
+            write_meaning(Some(said), output)?;
             Ok(0)
         }
         None => print_outcome(Err(Fault::Usage), output),
@@ -50,7 +61,7 @@ fn explain_fault<W: Write>(fault: Fault<'_>, output: &mut W) -> io::Result<u8>
     ensures status { IfOk result (λ status. status ≤ 4) }
 {
     writeln!(output, "{fault}")?;
-    tell_meaning(meaning_of(fault.code()), output)?;
+    write_meaning(meaning_of(fault.code()), output)?;
     Ok(fault.status())
 }
 
@@ -69,7 +80,7 @@ fn explain_unread<'a, S: Sources, W: Write>(
         output.write_all(said.as_bytes())?;
         output.write_all(b"\n")?;
     }
-    tell_meaning(meaning_of(fault.code()), output)?;
+    write_meaning(meaning_of(fault.code()), output)?;
     Ok(fault.status())
 }
 
@@ -118,14 +129,14 @@ fn repeats_of(alloc: Global, cert: &str) -> Result<Option<u8>, AllocError>
 }
 
 /// Writes what there is to say of a refusal, with the rows that are found where they are known.
-pub fn tell_rows<W: Write>(
+pub fn tell_rows(
     alloc: Global,
     refusal: &Refusal,
     app: Named<'_>,
     cert: Named<'_>,
     found: Option<&Certificate>,
-    output: &mut W,
-) -> io::Result<()> {
+    writing: &mut Writing,
+) -> Result<(), AllocError> {
     let refused = Refused {
         alloc,
         refusal,
@@ -133,17 +144,17 @@ pub fn tell_rows<W: Write>(
         cert,
         found,
     };
-    tell_refusal(&refused, output)
+    tell_refusal(&refused, writing)
 }
 
 // The same, with the row that is missing as it is found, where one is.
-fn tell_with_rows<W: Write>(
+fn tell_with_rows(
     alloc: Global,
     refusal: &Refusal,
     app: Named<'_>,
     cert: Named<'_>,
-    output: &mut W,
-) -> io::Result<()> {
+    writing: &mut Writing,
+) -> Result<(), AllocError> {
     let found = match refusal {
         Refusal::MissingRow(_) | Refusal::MissingChannel(_) => {
             found_alone(alloc, app.text, repeats_of(alloc, cert.text)?)?
@@ -152,75 +163,79 @@ fn tell_with_rows<W: Write>(
     };
     match found {
         Some(certificate) => {
-            let told = tell_rows(alloc, refusal, app, cert, Some(&certificate), output);
+            let told = tell_rows(alloc, refusal, app, cert, Some(&certificate), writing);
             certificate.let_go();
             told
         }
-        None => tell_rows(alloc, refusal, app, cert, None, output),
+        None => tell_rows(alloc, refusal, app, cert, None, writing),
     }
 }
 
 // Writes the line of a refusal of two texts, and what there is to say of it.
-fn explain_refusal<W: Write>(
+fn explain_refusal(
     alloc: Global,
     refusal: Refusal,
     app: Named<'_>,
     cert: Named<'_>,
-    output: &mut W,
+    writing: &mut Writing,
 ) -> io::Result<u8>
     ensures status { IfOk result (λ status. status ≤ 4) }
 {
-    writeln!(output, "refused {refusal}")?;
-    tell_with_rows(alloc, &refusal, app, cert, output)?;
+    writing.put("refused ");
+    writing.show(&refusal);
+    writing.put("\n");
+    tell_with_rows(alloc, &refusal, app, cert, writing)?;
     Ok(Fault::Refused(refusal).status())
 }
 
 // Writes the line of why there is no certificate, and what there is to say of it.
-fn explain_unbound<W: Write>(
+fn explain_unbound(
     alloc: Global,
     reason: NoBound,
     typed: &Typed,
     app: Named<'_>,
-    output: &mut W,
+    writing: &mut Writing,
 ) -> io::Result<u8>
     ensures status { IfOk result (λ status. status ≤ 4) }
 {
-    writeln!(output, "refused {reason}")?;
-    tell_no_bound(alloc, &reason, typed, app, output)?;
+    writing.put("refused ");
+    writing.show(&reason);
+    writing.put("\n");
+    tell_no_bound(alloc, &reason, typed, app, writing)?;
     Ok(Fault::Unbound(reason).status())
 }
 
 // Writes the line of an acceptance, the bounds of what fits, and notes on the application's text, which count where one is strict.
-fn explain_bounds<W: Write>(
+fn explain_bounds(
     alloc: Global,
     verified: Verified,
     app: Named<'_>,
     is_strict: bool,
-    output: &mut W,
+    writing: &mut Writing,
 ) -> io::Result<u8>
     ensures status { IfOk result (λ status. status ≤ 4) }
 {
-    writeln!(output, "accepted")?;
-    let told = tell_bounds(alloc, &verified, app, output);
+    writing.put("accepted\n");
+    let told = tell_bounds(alloc, &verified, app, writing);
     verified.let_go();
     Ok(if told? && is_strict { 1 } else { 0 })
 }
 
 // Explains a verdict over two texts.
-fn explain_verdict<W: Write>(
+fn explain_verdict(
     alloc: Global,
     verdict: Result<Verified, Fault<'_>>,
     app: Named<'_>,
     cert: Named<'_>,
     is_strict: bool,
-    output: &mut W,
+    writing: &mut Writing,
 ) -> io::Result<u8>
     ensures status { IfOk result (λ status. status ≤ 4) }
 {
     match verdict {
-        Ok(verified) => explain_bounds(alloc, verified, app, is_strict, output),
-        Err(Fault::Refused(refusal)) => explain_refusal(alloc, refusal, app, cert, output),
-        Err(fault) => explain_fault(fault, output),
+        Ok(verified) => explain_bounds(alloc, verified, app, is_strict, writing),
+        Err(Fault::Refused(refusal)) => explain_refusal(alloc, refusal, app, cert, writing),
+        Err(fault) => explain_fault(fault, writing.bytes()),
     }
 }
 
@@ -238,12 +253,12 @@ fn verified_with<'a>(
 }
 
 // Explains a system by the certificate that is found of it, or why there is none.
-fn explain_system<W: Write>(
+fn explain_system(
     alloc: Global,
     typed: Typed,
     question: Question<'_>,
     app: Named<'_>,
-    output: &mut W,
+    writing: &mut Writing,
 ) -> io::Result<u8>
     requires { IfSome question.repeats (λ r. 1 ≤ r) }
     ensures status { IfOk result (λ status. status ≤ 4) }
@@ -251,44 +266,44 @@ fn explain_system<W: Write>(
     match found_for(alloc, &typed, question.repeats) {
         Ok(certificate) => {
             let verdict = verified_with(alloc, typed, certificate);
-            explain_verdict(alloc, verdict, app, app, question.is_strict, output)
+            explain_verdict(alloc, verdict, app, app, question.is_strict, writing)
         }
         Err(Fault::Unbound(reason)) => {
-            let explained = explain_unbound(alloc, reason, &typed, app, output);
+            let explained = explain_unbound(alloc, reason, &typed, app, writing);
             typed.let_go();
             explained
         }
         Err(fault) => {
             typed.let_go();
-            explain_fault(fault, output)
+            explain_fault(fault, writing.bytes())
         }
     }
 }
 
 // Explains an application's text by itself.
-fn explain_alone<W: Write>(
+fn explain_alone(
     alloc: Global,
     question: Question<'_>,
     app: Named<'_>,
-    output: &mut W,
+    writing: &mut Writing,
 ) -> io::Result<u8>
     requires { IfSome question.repeats (λ r. 1 ≤ r) }
     ensures status { IfOk result (λ status. status ≤ 4) }
 {
     match typed_in(alloc, app.text) {
-        Ok(typed) => explain_system(alloc, typed, question, app, output),
-        Err(fault) => explain_verdict(alloc, Err(fault), app, app, false, output),
+        Ok(typed) => explain_system(alloc, typed, question, app, writing),
+        Err(fault) => explain_verdict(alloc, Err(fault), app, app, false, writing),
     }
 }
 
 // Explains the verdict over an application's text, and a certificate's.
-fn explain_both<'a, S: Sources, W: Write>(
+fn explain_both<'a, S: Sources>(
     alloc: Global,
     files: &S,
     app: Named<'a>,
     name: &'a str,
     is_strict: bool,
-    output: &mut W,
+    writing: &mut Writing,
 ) -> io::Result<u8>
     ensures status { IfOk result (λ status. status ≤ 4) }
 {
@@ -299,18 +314,18 @@ fn explain_both<'a, S: Sources, W: Write>(
                 name,
                 text: text.as_str(),
             };
-            explain_verdict(alloc, verdict, app, cert, is_strict, output)
+            explain_verdict(alloc, verdict, app, cert, is_strict, writing)
         }
-        Err(fault) => explain_unread(alloc, files, fault, output),
+        Err(fault) => explain_unread(alloc, files, fault, writing.bytes()),
     }
 }
 
 // Explains the verdict over the files of an application and, where it is named, of a certificate.
-fn explain_files<'a, S: Sources, W: Write>(
+fn explain_files<'a, S: Sources>(
     alloc: Global,
     files: &S,
     question: Question<'a>,
-    output: &mut W,
+    writing: &mut Writing,
 ) -> io::Result<u8>
     requires { IfSome question.repeats (λ r. 1 ≤ r) }
     ensures status { IfOk result (λ status. status ≤ 4) }
@@ -322,11 +337,11 @@ fn explain_files<'a, S: Sources, W: Write>(
                 text: text.as_str(),
             };
             match question.cert {
-                Some(cert) => explain_both(alloc, files, app, cert, question.is_strict, output),
-                None => explain_alone(alloc, question, app, output),
+                Some(cert) => explain_both(alloc, files, app, cert, question.is_strict, writing),
+                None => explain_alone(alloc, question, app, writing),
             }
         }
-        Err(fault) => explain_unread(alloc, files, fault, output),
+        Err(fault) => explain_unread(alloc, files, fault, writing.bytes()),
     }
 }
 
@@ -340,12 +355,15 @@ fn explain_whole<'a, S: Sources, W: Write>(
     requires { IfSome question.repeats (λ r. 1 ≤ r) }
     ensures status { IfOk result (λ status. status ≤ 4) }
 {
-    let mut page = Vec::new(alloc);
-    match explain_files(alloc, files, question, &mut page) {
-        Ok(status) => {
-            output.write_all(&page)?;
-            Ok(status)
-        }
+    let mut writing = Writing::new(alloc);
+    match explain_files(alloc, files, question, &mut writing) {
+        Ok(status) => match writing.end() {
+            Ok(page) => {
+                output.write_all(&page)?;
+                Ok(status)
+            }
+            Err(_) => explain_fault(Fault::Memory, output),
+        },
         // A write into memory fails for want of it.
         Err(_) => explain_fault(Fault::Memory, output),
     }

@@ -11,6 +11,7 @@ use crate::stray::stray_in;
 use fb_find_rows::NoBound;
 use fbr_explain::fb_check::Refusal;
 use fbr_explain::{Named, found_limit, meaning_of};
+use fbr_places::Writing;
 use std::alloc::Global;
 use std::io;
 use std::io::Write;
@@ -46,9 +47,9 @@ fn explained<S: Sources>(
         name,
         text: cert_text.as_str(),
     };
-    let mut told = Vec::new(alloc);
+    let mut told = Writing::new(alloc);
     tell_rows(alloc, refusal, app, cert, None, &mut told).ok()?;
-    String::from_utf8(told).ok()
+    String::from_utf8(told.end().ok()?).ok()
 }
 
 // Whether a line says where in the file of this name.

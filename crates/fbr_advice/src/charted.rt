@@ -2,8 +2,7 @@
 
 use crate::noted::{Page, begin_note, put_note};
 use fb_tree::{BlockTree, ChartTree};
-use std::io;
-use std::io::Write;
+use fbr_places::Writing;
 
 // Whether an action of a chart runs an algorithm, or emits an event output.
 fn is_done(chart: &ChartTree, wanted: &str, is_event: bool) -> bool {
@@ -35,18 +34,13 @@ fn is_entered(chart: &ChartTree, wanted: &str) -> bool {
 }
 
 /// Writes the notes on the chart of a basic block type.
-pub fn note_chart<W: Write>(
-    page: Page<'_>,
-    block: &BlockTree,
-    chart: &ChartTree,
-    output: &mut W,
-) -> io::Result<()> {
+pub fn note_chart(page: Page<'_>, block: &BlockTree, chart: &ChartTree, writing: &mut Writing) {
     let owner = block.name.text.as_str();
     for event in &block.event_outputs {
         let name = event.name.text.as_str();
         if !is_done(chart, name, true) {
-            begin_note(page, event.name.at, output)?;
-            put_note("no state of ", owner, " emits ", name, output)?;
+            begin_note(page, event.name.at, writing);
+            put_note("no state of ", owner, " emits ", name, writing);
         }
     }
     let mut is_first = true;
@@ -55,16 +49,15 @@ pub fn note_chart<W: Write>(
         let is_begin = is_first;
         is_first = false;
         if !is_begin && !is_entered(chart, name) {
-            begin_note(page, state.name.at, output)?;
-            put_note("no transition of ", owner, " leads to ", name, output)?;
+            begin_note(page, state.name.at, writing);
+            put_note("no transition of ", owner, " leads to ", name, writing);
         }
     }
     for algorithm in &chart.algorithms {
         let name = algorithm.name.text.as_str();
         if !is_done(chart, name, false) {
-            begin_note(page, algorithm.name.at, output)?;
-            put_note("no state of ", owner, " runs ", name, output)?;
+            begin_note(page, algorithm.name.at, writing);
+            put_note("no state of ", owner, " runs ", name, writing);
         }
     }
-    Ok(())
 }

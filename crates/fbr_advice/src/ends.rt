@@ -1,14 +1,11 @@
 //! Ends of connections: what each is, and where another source stands.
 
-use crate::put::put;
 use crate::spotted::{Named, tell_where};
 use fb_tree::{BlockTree, NetworkTree, ParameterTree, PortTree};
 use fbr_places::{
-    Port, Types, block_around, connection_at, instance_around, instance_named, network_around,
-    port_in,
+    Port, Types, Writing, block_around, connection_at, instance_around, instance_named,
+    network_around, port_in,
 };
-use std::io;
-use std::io::Write;
 
 /// What an end of a connection is, in a network that may be that of a composite.
 pub fn port_of(
@@ -27,14 +24,11 @@ pub fn port_of(
 }
 
 /// Writes an end.
-pub fn put_end<W: Write>(end: &PortTree, output: &mut W) -> io::Result<()> {
-    put(end.first.text.as_str(), output)?;
-    match &end.second {
-        Some(name) => {
-            put(".", output)?;
-            put(name.text.as_str(), output)
-        }
-        None => Ok(()),
+pub fn put_end(end: &PortTree, writing: &mut Writing) {
+    writing.put(end.first.text.as_str());
+    if let Some(name) = &end.second {
+        writing.put(".");
+        writing.put(name.text.as_str());
     }
 }
 
@@ -50,40 +44,35 @@ fn said(port: Option<Port>) -> &'static str {
 }
 
 /// Writes what the ends are of the connection whose TO is a byte.
-pub fn tell_ends<W: Write>(types: Types<'_>, at: usize, output: &mut W) -> io::Result<()> {
+pub fn tell_ends(types: Types<'_>, at: usize, writing: &mut Writing) {
     let block = block_around(types.file, at);
     let Some(network) = network_around(types.file, at) else {
-        return Ok(());
+        return;
     };
     let Some((connection, is_event)) = connection_at(network, at) else {
-        return Ok(());
+        return;
     };
     let (source, target) = (&connection.source, &connection.target);
     let is_own = source.second.is_none() || target.second.is_none();
     if source.second.is_none() && target.second.is_none() {
-        return put(
-            "both ends are ports of the composite itself: lead them through an instance\n",
-            output,
-        );
+        writing.put("both ends are ports of the composite itself: lead them through an instance\n");
+        return;
     }
-    put_end(source, output)?;
-    put(said(port_of(types, network, block, source)), output)?;
-    put(", and ", output)?;
-    put_end(target, output)?;
-    put(said(port_of(types, network, block, target)), output)?;
+    put_end(source, writing);
+    writing.put(said(port_of(types, network, block, source)));
+    writing.put(", and ");
+    put_end(target, writing);
+    writing.put(said(port_of(types, network, block, target)));
     let rule = if is_event {
         ": EVENT_CONNECTIONS lead from an event output to an event input"
     } else {
         ": DATA_CONNECTIONS lead from a data output to a data input"
     };
-    put(rule, output)?;
+    writing.put(rule);
     if is_own {
-        put(
-            ", and within a composite from its own inputs and to its own outputs",
-            output,
-        )?;
+        writing.put(", and within a composite from its own inputs and to its own outputs");
     }
-    put("\n", output)
+    writing.put("\n");
 }
 
 // Where the parameter stands that gives an end of a connection its value, or else the first connection that does.
@@ -124,27 +113,22 @@ fn parameter_of(network: &NetworkTree, at: usize) -> Option<&ParameterTree> {
 }
 
 /// Writes where the value stands that is given again at a byte.
-pub fn tell_second<W: Write>(
-    types: Types<'_>,
-    app: Named<'_>,
-    at: usize,
-    output: &mut W,
-) -> io::Result<()> {
+pub fn tell_second(types: Types<'_>, app: Named<'_>, at: usize, writing: &mut Writing) {
     let Some(network) = network_around(types.file, at) else {
-        return Ok(());
+        return;
     };
     let other = match (connection_at(network, at), parameter_of(network, at)) {
         (Some((connection, _)), _) => {
-            put_end(&connection.target, output)?;
+            put_end(&connection.target, writing);
             source_of(network, &connection.target)
         }
         (None, Some(parameter)) => {
-            put(parameter.name.text.as_str(), output)?;
+            writing.put(parameter.name.text.as_str());
             Some(parameter.at)
         }
-        _ => return Ok(()),
+        _ => return,
     };
-    put(" has its value by ", output)?;
-    tell_where(app, other.unwrap_or(at), output)?;
-    put(" already\n", output)
+    writing.put(" has its value by ");
+    tell_where(app, other.unwrap_or(at), writing);
+    writing.put(" already\n");
 }

@@ -1,13 +1,11 @@
 //! What the grammar takes at a place: each token is tried there.
 
-use crate::put::put;
 use crate::stopped::Stopped;
 use crate::tokens::put_spelled;
 use fb_lex::Kind;
 use fb_words::{Mark, SIGNS, WORDS};
+use fbr_places::Writing;
 use std::alloc::AllocError;
-use std::io;
-use std::io::Write;
 
 // Whether a sign or a word is told as an operator, a type, or the beginning of an expression.
 fn is_grouped(mark: Mark, is_expression: bool) -> bool {
@@ -67,7 +65,7 @@ fn add_groups(stopped: &mut Stopped, items: &mut Vec<&'static str>) -> Result<bo
 }
 
 /// Writes what could stand at a place.
-pub fn tell_expected<W: Write>(stopped: &mut Stopped, output: &mut W) -> io::Result<()> {
+pub fn tell_expected(stopped: &mut Stopped, writing: &mut Writing) -> Result<(), AllocError> {
     let mut items = Vec::new(stopped.alloc);
     let is_expression = add_groups(stopped, &mut items)?;
     for mark in SIGNS {
@@ -82,11 +80,12 @@ pub fn tell_expected<W: Write>(stopped: &mut Stopped, output: &mut W) -> io::Res
     }
     for (number, item) in items.iter().enumerate() {
         let item = *item;
-        put(if number == 0 { "" } else { ", " }, output)?;
+        writing.put(if number == 0 { "" } else { ", " });
         match item.as_bytes().first() {
-            Some(byte) if byte.is_ascii_alphabetic() => put(item, output)?,
-            _ => put_spelled(item, output)?,
+            Some(byte) if byte.is_ascii_alphabetic() => writing.put(item),
+            _ => put_spelled(item, writing),
         }
     }
-    put("\n", output)
+    writing.put("\n");
+    Ok(())
 }

@@ -1,12 +1,9 @@
 //! Notes, each with its place.
 
-use crate::put::put;
 use crate::spotted::{Named, tell_where};
 use fb_lex::Token;
-use fbr_places::Types;
+use fbr_places::{Types, Writing};
 use std::alloc::Global;
-use std::io;
-use std::io::Write;
 
 /// A text that is accepted, with its tokens and its tree.
 #[derive(Clone, Copy)]
@@ -18,22 +15,16 @@ pub struct Page<'a> {
 }
 
 /// Begins a note on a byte.
-pub fn begin_note<W: Write>(page: Page<'_>, at: usize, output: &mut W) -> io::Result<()> {
-    tell_where(page.app, at, output)?;
-    put(": note: ", output)
+pub fn begin_note(page: Page<'_>, at: usize, writing: &mut Writing) {
+    tell_where(page.app, at, writing);
+    writing.put(": note: ");
 }
 
 /// Goes on with four texts, and ends the line.
-pub fn put_note<W: Write>(
-    one: &str,
-    two: &str,
-    three: &str,
-    four: &str,
-    output: &mut W,
-) -> io::Result<()> {
-    put(one, output)?;
-    put(two, output)?;
-    put(three, output)?;
-    put(four, output)?;
-    put("\n", output)
+pub fn put_note(one: &str, two: &str, three: &str, four: &str, writing: &mut Writing) {
+    writing.put(one);
+    writing.put(two);
+    writing.put(three);
+    writing.put(four);
+    writing.put("\n");
 }

@@ -1,11 +1,8 @@
 //! Services whose number is missing, wrong or taken.
 
-use crate::put::put;
 use crate::spotted::{Named, tell_where};
 use fb_tree::{FileTree, InstanceTree, Literal};
-use fbr_places::{device_around, instance_around, network_around};
-use std::io;
-use std::io::Write;
+use fbr_places::{Writing, device_around, instance_around, network_around};
 
 // The number that the ID of a service is, of more than 16 bits where it is none; nothing where there is no ID.
 fn number_of(instance: &InstanceTree) -> Option<u64> {
@@ -61,30 +58,23 @@ fn said(instance: &InstanceTree) -> Option<&'static str> {
 }
 
 /// Writes what is wrong with the number of the service whose name is a byte, or which other one has it.
-pub fn tell_service<W: Write>(
-    file: &FileTree,
-    app: Named<'_>,
-    at: usize,
-    output: &mut W,
-) -> io::Result<()> {
+pub fn tell_service(file: &FileTree, app: Named<'_>, at: usize, writing: &mut Writing) {
     let Some(network) = network_around(file, at) else {
-        return Ok(());
+        return;
     };
     let Some(instance) = instance_around(network, at) else {
-        return Ok(());
+        return;
     };
     if let Some(says) = said(instance) {
-        put(says, output)?;
-        return put("\n", output);
+        writing.put(says);
+        writing.put("\n");
+        return;
     }
-    match other_of(file, instance) {
-        Some(other) => {
-            put("the ID of ", output)?;
-            put(other.name.text.as_str(), output)?;
-            put(", ", output)?;
-            tell_where(app, other.name.at, output)?;
-            put(", is the same\n", output)
-        }
-        None => Ok(()),
+    if let Some(other) = other_of(file, instance) {
+        writing.put("the ID of ");
+        writing.put(other.name.text.as_str());
+        writing.put(", ");
+        tell_where(app, other.name.at, writing);
+        writing.put(", is the same\n");
     }
 }

@@ -1,8 +1,6 @@
 //! Texts of files, and places in them.
 
-use fbr_places::Spot;
-use std::io;
-use std::io::Write;
+use fbr_places::{Spot, Writing};
 
 /// A text, and the name of its file.
 #[derive(Clone, Copy)]
@@ -12,27 +10,30 @@ pub struct Named<'a> {
 }
 
 /// Writes where a file is at fault, and the line that is.
-pub fn tell_spot<W: Write>(name: &str, spot: Option<Spot<'_>>, output: &mut W) -> io::Result<()> {
-    match spot {
-        Some(spot) => {
-            let line = spot.line;
-            let column = spot.column;
-            writeln!(output, "{name}:{line}:{column}")?;
-            spot.mark(output)
-        }
-        None => Ok(()),
+pub fn tell_spot(name: &str, spot: Option<Spot<'_>>, writing: &mut Writing) {
+    if let Some(spot) = spot {
+        let line = spot.line;
+        let column = spot.column;
+        writing.put(name);
+        writing.put(":");
+        writing.show(&line);
+        writing.put(":");
+        writing.show(&column);
+        writing.put("\n");
+        spot.mark(writing);
     }
 }
 
 /// Writes the file, the line and the column of a byte of a text.
-pub fn tell_where<W: Write>(file: Named<'_>, byte: usize, output: &mut W) -> io::Result<()> {
-    match Spot::of_byte(file.text, byte) {
-        Some(spot) => {
-            let name = file.name;
-            let line = spot.line;
-            let column = spot.column;
-            write!(output, "{name}:{line}:{column}")
-        }
-        None => Ok(()),
+pub fn tell_where(file: Named<'_>, byte: usize, writing: &mut Writing) {
+    if let Some(spot) = Spot::of_byte(file.text, byte) {
+        let name = file.name;
+        let line = spot.line;
+        let column = spot.column;
+        writing.put(name);
+        writing.put(":");
+        writing.show(&line);
+        writing.put(":");
+        writing.show(&column);
     }
 }

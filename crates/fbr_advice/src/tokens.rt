@@ -1,10 +1,8 @@
 //! Tokens around a place of a text.
 
-use crate::put::put;
 use fb_lex::{Kind, Token};
 use fb_words::Mark;
-use std::io;
-use std::io::Write;
+use fbr_places::Writing;
 
 /// The sign or the reserved word that a token is.
 pub fn mark_of(token: Option<&Token>) -> Option<Mark> {
@@ -76,28 +74,30 @@ pub fn open_before(tokens: &[Token], index: usize) -> Option<usize> {
 }
 
 /// Writes how a sign or a word is written.
-pub fn put_mark<W: Write>(mark: Mark, output: &mut W) -> io::Result<()> {
+pub fn put_mark(mark: Mark, writing: &mut Writing) {
     let sign = mark.sign();
     if sign.is_empty() {
-        return put(mark.word(), output);
+        writing.put(mark.word());
+        return;
     }
-    put_spelled(sign, output)
+    put_spelled(sign, writing);
 }
 
 /// Writes a piece of a text.
-pub fn put_spelled<W: Write>(spelled: &str, output: &mut W) -> io::Result<()> {
-    put("`", output)?;
-    put(spelled, output)?;
-    put("`", output)
+pub fn put_spelled(spelled: &str, writing: &mut Writing) {
+    writing.put("`");
+    writing.put(spelled);
+    writing.put("`");
 }
 
 /// Writes a token of a text, or that the text ends.
-pub fn put_token<W: Write>(text: &str, token: Option<&Token>, output: &mut W) -> io::Result<()> {
+pub fn put_token(text: &str, token: Option<&Token>, writing: &mut Writing) {
     let Some(found) = token else {
-        return put("the end of the text", output);
+        writing.put("the end of the text");
+        return;
     };
     match mark_of(token) {
-        Some(mark) => put_mark(mark, output),
-        None => put_spelled(text.get(found.start..found.end).unwrap_or(""), output),
+        Some(mark) => put_mark(mark, writing),
+        None => put_spelled(text.get(found.start..found.end).unwrap_or(""), writing),
     }
 }

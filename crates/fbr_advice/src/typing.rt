@@ -2,15 +2,14 @@
 
 use crate::ends::{port_of, put_end};
 use crate::operand::{expression_type, operands, type_of};
-use crate::put::put;
 use crate::tokens::{mark_of, name_of, put_mark};
 use crate::wanted::Place;
 use fb_tree::BlockTree;
 use fb_words::{ElemType, Mark};
-use fbr_places::{Port, Types, block_around, connection_at, instance_around, network_around};
+use fbr_places::{
+    Port, Types, Writing, block_around, connection_at, instance_around, network_around,
+};
 use st_types::widens;
-use std::io;
-use std::io::Write;
 
 // What an expression is: of a type, or a number without one.
 fn said(of_type: Option<ElemType>) -> &'static str {
@@ -21,43 +20,38 @@ fn said(of_type: Option<ElemType>) -> &'static str {
 }
 
 // Writes the way from a type to another one.
-fn tell_way<W: Write>(
-    from: Option<ElemType>,
-    to: ElemType,
-    place: &str,
-    output: &mut W,
-) -> io::Result<()> {
+fn tell_way(from: Option<ElemType>, to: ElemType, place: &str, writing: &mut Writing) {
     match (from, to) {
-        (None, ElemType::Bool) => put("write TRUE or FALSE", output),
-        (None, _) => put("this one does not stand for it", output),
+        (None, ElemType::Bool) => writing.put("write TRUE or FALSE"),
+        (None, _) => writing.put("this one does not stand for it"),
         (Some(_), ElemType::Bool) => {
-            put("compare", output)?;
-            put(place, output)?;
-            put(", as `.. <> 0`", output)
+            writing.put("compare");
+            writing.put(place);
+            writing.put(", as `.. <> 0`");
         }
         (Some(ElemType::Bool), ElemType::Time) => {
-            put("choose", output)?;
-            put(place, output)?;
-            put(" by IF .. THEN .. ELSE", output)
+            writing.put("choose");
+            writing.put(place);
+            writing.put(" by IF .. THEN .. ELSE");
         }
         (Some(given), _) => {
-            put("write ", output)?;
-            put(given.name(), output)?;
-            put("_TO_", output)?;
-            put(to.name(), output)?;
-            put("(..)", output)?;
-            put(place, output)
+            writing.put("write ");
+            writing.put(given.name());
+            writing.put("_TO_");
+            writing.put(to.name());
+            writing.put("(..)");
+            writing.put(place);
         }
     }
 }
 
 // Writes the types of the two ends of a data connection.
-fn tell_connection<W: Write>(types: Types<'_>, at: usize, output: &mut W) -> io::Result<()> {
+fn tell_connection(types: Types<'_>, at: usize, writing: &mut Writing) {
     let Some(network) = network_around(types.file, at) else {
-        return Ok(());
+        return;
     };
     let Some((connection, _)) = connection_at(network, at) else {
-        return Ok(());
+        return;
     };
     let block = block_around(types.file, at);
     let given = port_of(types, network, block, &connection.source);
@@ -65,41 +59,41 @@ fn tell_connection<W: Write>(types: Types<'_>, at: usize, output: &mut W) -> io:
     let (Some(Port::Input(from) | Port::Output(from)), Some(Port::Input(to) | Port::Output(to))) = (
         given, taken,
     ) else {
-        return Ok(());
+        return;
     };
-    put_end(&connection.source, output)?;
-    put(" is ", output)?;
-    put(from.name(), output)?;
-    put(", and ", output)?;
-    put_end(&connection.target, output)?;
-    put(" is ", output)?;
-    put(to.name(), output)?;
-    put(": a connection converts nothing; ", output)?;
-    tell_way(Some(from), to, " in an algorithm", output)?;
-    put("\n", output)
+    put_end(&connection.source, writing);
+    writing.put(" is ");
+    writing.put(from.name());
+    writing.put(", and ");
+    put_end(&connection.target, writing);
+    writing.put(" is ");
+    writing.put(to.name());
+    writing.put(": a connection converts nothing; ");
+    tell_way(Some(from), to, " in an algorithm", writing);
+    writing.put("\n");
 }
 
 // Writes the type of what is given a value, and that of the value, which may have to be a constant.
-fn tell_given<W: Write>(
+fn tell_given(
     name: &str,
     taken: ElemType,
     given: Option<ElemType>,
     is_constant: bool,
-    output: &mut W,
-) -> io::Result<()> {
-    put(name, output)?;
-    put(" is ", output)?;
-    put(taken.name(), output)?;
-    put(", and what it is given is ", output)?;
-    put(said(given), output)?;
-    put(": ", output)?;
+    writing: &mut Writing,
+) {
+    writing.put(name);
+    writing.put(" is ");
+    writing.put(taken.name());
+    writing.put(", and what it is given is ");
+    writing.put(said(given));
+    writing.put(": ");
     match taken {
-        _ if !is_constant => tell_way(given, taken, "", output)?,
-        ElemType::Bool => put("write TRUE or FALSE", output)?,
-        ElemType::Time => put("write a time, as T#500ms", output)?,
-        _ => put("write a number without a type", output)?,
+        _ if !is_constant => tell_way(given, taken, "", writing),
+        ElemType::Bool => writing.put("write TRUE or FALSE"),
+        ElemType::Time => writing.put("write a time, as T#500ms"),
+        _ => writing.put("write a number without a type"),
     }
-    put("\n", output)
+    writing.put("\n");
 }
 
 // The name and the type of the variable or the parameter before a `:=`.
@@ -132,48 +126,39 @@ fn taken_before<'a>(
 }
 
 // Writes what stands on both sides of an operator, where these are single names or numbers.
-fn tell_operator<W: Write>(
-    block: Option<&BlockTree>,
-    place: Place<'_>,
-    output: &mut W,
-) -> io::Result<()> {
+fn tell_operator(block: Option<&BlockTree>, place: Place<'_>, writing: &mut Writing) {
     let (Some(mark), Some((one, other))) = (mark_of(place.before(0)), operands(block, place)) else {
-        return Ok(());
+        return;
     };
-    put_mark(mark, output)?;
-    put(" stands between ", output)?;
-    put(said(one), output)?;
-    put(" and ", output)?;
-    put(said(other), output)?;
+    put_mark(mark, writing);
+    writing.put(" stands between ");
+    writing.put(said(one));
+    writing.put(" and ");
+    writing.put(said(other));
     match (one, other) {
         (Some(ElemType::Bool), _) | (_, Some(ElemType::Bool)) => {}
         (Some(from), Some(to)) if !widens(from, to) && !widens(to, from) => {
-            put(", of which none holds the other: ", output)?;
-            tell_way(one, to, "", output)?;
+            writing.put(", of which none holds the other: ");
+            tell_way(one, to, "", writing);
         }
         _ => {}
     }
-    put("\n", output)
+    writing.put("\n");
 }
 
 /// Writes the types that do not go together at a byte, and the way from one to the other.
-pub fn tell_types<W: Write>(
-    types: Types<'_>,
-    place: Place<'_>,
-    at: usize,
-    output: &mut W,
-) -> io::Result<()> {
+pub fn tell_types(types: Types<'_>, place: Place<'_>, at: usize, writing: &mut Writing) {
     let block = block_around(types.file, at);
     let is_constant = !matches!(place.section(), (Some(Mark::Algorithm), _));
     match mark_of(place.before(0)) {
-        Some(Mark::To) => tell_connection(types, at, output),
+        Some(Mark::To) => tell_connection(types, at, writing),
         Some(Mark::If | Mark::Elsif | Mark::LBracket) => {
             let given = expression_type(block, place);
-            put("a condition is BOOL, and this is ", output)?;
-            put(said(given), output)?;
-            put(": ", output)?;
-            tell_way(given, ElemType::Bool, "", output)?;
-            put("\n", output)
+            writing.put("a condition is BOOL, and this is ");
+            writing.put(said(given));
+            writing.put(": ");
+            tell_way(given, ElemType::Bool, "", writing);
+            writing.put("\n");
         }
         Some(Mark::Assign) => match taken_before(types, block, place, at) {
             Some((name, taken)) => {
@@ -181,11 +166,11 @@ pub fn tell_types<W: Write>(
                     Some(token) if is_constant => type_of(None, token),
                     _ => expression_type(block, place),
                 };
-                tell_given(name, taken, given, is_constant, output)
+                tell_given(name, taken, given, is_constant, writing);
             }
-            None => Ok(()),
+            None => {}
         },
-        Some(_) => tell_operator(block, place, output),
-        None => Ok(()),
+        Some(_) => tell_operator(block, place, writing),
+        None => {}
     }
 }

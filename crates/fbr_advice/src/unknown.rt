@@ -2,17 +2,14 @@
 
 use crate::candidates::{add_name, add_of_block, add_values};
 use crate::foreign::foreign_word;
-use crate::put::put;
 use crate::tokens::{mark_of, name_of};
 use crate::wanted::{Place, Wanted};
 use fb_tree::{BlockTree, FileTree, InstanceTree};
 use fb_words::Mark;
 use fbr_places::{
-    Types, block_around, instance_around, instance_named, network_around, resource_around,
+    Types, Writing, block_around, instance_around, instance_named, network_around, resource_around,
 };
 use std::alloc::{AllocError, Global};
-use std::io;
-use std::io::Write;
 use strsim::osa_distance;
 
 // Functions of Structured Text.
@@ -132,57 +129,60 @@ fn nearest<'n>(
 }
 
 // Writes the nearest name, or else some that there are.
-fn tell_names<W: Write>(
+fn tell_names(
     alloc: Global,
     names: &[String],
     wanted: &str,
-    output: &mut W,
-) -> io::Result<()> {
+    writing: &mut Writing,
+) -> Result<(), AllocError> {
     if let Some(near) = nearest(alloc, names, wanted)? {
-        put("; did you mean ", output)?;
-        put(near, output)?;
-        return put("?\n", output);
+        writing.put("; did you mean ");
+        writing.put(near);
+        writing.put("?\n");
+        return Ok(());
     }
     let mut told: usize = 0;
     for name in names {
         if told < MOST_NAMES {
-            put(if told == 0 { "; there are " } else { ", " }, output)?;
-            put(name.as_str(), output)?;
+            writing.put(if told == 0 { "; there are " } else { ", " });
+            writing.put(name.as_str());
         }
         told = told.saturating_add(1);
     }
     if told > MOST_NAMES {
-        put(" and more", output)?;
+        writing.put(" and more");
     }
-    put("\n", output)
+    writing.put("\n");
+    Ok(())
 }
 
 /// Writes what the name at a place and a byte does not stand for, and the nearest that there is.
-pub fn tell_unknown<W: Write>(
+pub fn tell_unknown(
     alloc: Global,
     types: Types<'_>,
     place: Place<'_>,
     at: usize,
-    output: &mut W,
-) -> io::Result<()> {
+    writing: &mut Writing,
+) -> Result<(), AllocError> {
     let (Some(name), Some(wanted)) = (name_of(place.before(0)), place.wanted()) else {
         return Ok(());
     };
     if let Some(says) = foreign_word(name) {
-        put(says, output)?;
-        return put("\n", output);
+        writing.put(says);
+        writing.put("\n");
+        return Ok(());
     }
     let owner = owner_of(types, place, wanted, at);
     match wanted {
-        Wanted::Function => put("there is no ", output)?,
+        Wanted::Function => writing.put("there is no "),
         _ => {
-            put(owner.name, output)?;
-            put(" has no ", output)?;
+            writing.put(owner.name);
+            writing.put(" has no ");
         }
     }
-    put(wanted.says(), output)?;
-    put(" ", output)?;
-    put(name, output)?;
+    writing.put(wanted.says());
+    writing.put(" ");
+    writing.put(name);
     let names = names_of(alloc, types, owner, wanted, at)?;
-    tell_names(alloc, &names, name, output)
+    tell_names(alloc, &names, name, writing)
 }

@@ -1,15 +1,13 @@
 //! Notes on variables: those that are never written, or never read, and numbers without a unit for a TIME.
 
 use crate::noted::{Page, begin_note, put_note};
-use crate::put::put;
 use crate::tokens::{index_at, mark_of, name_of};
 use fb_lex::Token;
 use fb_tree::{BlockTree, ChartTree, Constant, Literal, Name, VariableTree};
 use fb_words::{ElemType, Mark};
+use fbr_places::Writing;
 use indexmap::IndexMap;
 use std::alloc::{AllocError, Global};
-use std::io;
-use std::io::Write;
 
 /// How a variable is used by the algorithms and guards of its block type.
 #[derive(Clone, Copy)]
@@ -76,12 +74,7 @@ fn uses_in(alloc: Global, tokens: &[Token]) -> Result<IndexMap<String, Use>, All
 }
 
 // Writes that a variable is never written or never read, where that is asked of it.
-fn note_variable<W: Write>(
-    page: Page<'_>,
-    asked: Asked<'_>,
-    name: &Name,
-    output: &mut W,
-) -> io::Result<()> {
+fn note_variable(page: Page<'_>, asked: Asked<'_>, name: &Name, writing: &mut Writing) {
     let found = asked
         .uses
         .get(name.text.as_str())
@@ -93,41 +86,33 @@ fn note_variable<W: Write>(
         (true, true) => " is never used",
         (true, false) => " is never read",
         (false, true) => " is never written",
-        (false, false) => return Ok(()),
+        (false, false) => return,
     };
-    begin_note(page, name.at, output)?;
-    put_note(name.text.as_str(), " of ", asked.block, says, output)
+    begin_note(page, name.at, writing);
+    put_note(name.text.as_str(), " of ", asked.block, says, writing);
 }
 
 /// Writes that a number without a unit stands for a TIME, where that is so and it is not 0.
-pub fn note_time<W: Write>(
-    page: Page<'_>,
-    of_type: ElemType,
-    value: &Constant,
-    output: &mut W,
-) -> io::Result<()> {
+pub fn note_time(page: Page<'_>, of_type: ElemType, value: &Constant, writing: &mut Writing) {
     match (of_type, value.value) {
         (ElemType::Time, Literal::Whole(_, number)) if number > 0 => {
-            begin_note(page, value.at, output)?;
-            put(
-                "a TIME of so many milliseconds: write its unit, as T#30s or T#30ms\n",
-                output,
-            )
+            begin_note(page, value.at, writing);
+            writing.put("a TIME of so many milliseconds: write its unit, as T#30s or T#30ms\n");
         }
-        _ => Ok(()),
+        _ => {}
     }
 }
 
 // Writes the notes on variables of one kind.
-fn note_declared<W: Write>(
+fn note_declared(
     page: Page<'_>,
     asked: Asked<'_>,
     declared: &[VariableTree],
-    output: &mut W,
-) -> io::Result<()> {
+    writing: &mut Writing,
+) {
     for variables in declared {
         if let Some(start) = &variables.start {
-            note_time(page, variables.of_type, &start.value, output)?;
+            note_time(page, variables.of_type, &start.value, writing);
         }
         let is_constant = asked.reads && variables.start.is_some();
         let each = Asked {
@@ -135,19 +120,18 @@ fn note_declared<W: Write>(
             ..asked
         };
         for name in &variables.names {
-            note_variable(page, each, name, output)?;
+            note_variable(page, each, name, writing);
         }
     }
-    Ok(())
 }
 
 /// Writes the notes on the variables of a basic block type.
-pub fn note_variables<W: Write>(
+pub fn note_variables(
     page: Page<'_>,
     block: &BlockTree,
     chart: &ChartTree,
-    output: &mut W,
-) -> io::Result<()> {
+    writing: &mut Writing,
+) -> Result<(), AllocError> {
     let first = index_at(page.tokens, block.name.at);
     let tokens = page.tokens.get(first..).unwrap_or(&[]);
     let uses = uses_in(page.alloc, tokens)?;
@@ -157,16 +141,17 @@ pub fn note_variables<W: Write>(
         reads: true,
         writes: false,
     };
-    note_declared(page, asked, &block.inputs, output)?;
+    note_declared(page, asked, &block.inputs, writing);
     let asked = Asked {
         reads: false,
         writes: true,
         ..asked
     };
-    note_declared(page, asked, &block.outputs, output)?;
+    note_declared(page, asked, &block.outputs, writing);
     let asked = Asked {
         reads: true,
         ..asked
     };
-    note_declared(page, asked, &chart.internals, output)
+    note_declared(page, asked, &chart.internals, writing);
+    Ok(())
 }

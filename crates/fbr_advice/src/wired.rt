@@ -1,12 +1,9 @@
 //! Notes on networks: instances that no event reaches, event outputs that lead nowhere, and values that no event is WITH.
 
 use crate::noted::{Page, begin_note, put_note};
-use crate::put::put;
 use crate::used::note_time;
 use fb_tree::{BlockTree, BodyTree, EventTree, InstanceTree, NetworkTree, PortTree};
-use fbr_places::{Port, instance_named};
-use std::io;
-use std::io::Write;
+use fbr_places::{Port, Writing, instance_named};
 
 // Whether an event connection leads to an instance.
 fn is_reached(network: &NetworkTree, instance: &str) -> bool {
@@ -44,41 +41,41 @@ fn is_carried(events: &[EventTree], name: &str) -> bool {
 }
 
 // Writes the notes on the events of an instance.
-fn note_events<W: Write>(
+fn note_events(
     page: Page<'_>,
     network: &NetworkTree,
     instance: &InstanceTree,
     block: &BlockTree,
-    output: &mut W,
-) -> io::Result<()> {
+    writing: &mut Writing,
+) {
     let name = instance.name.text.as_str();
     if !block.event_inputs.is_empty() && !is_reached(network, name) {
-        begin_note(page, instance.name.at, output)?;
-        return put_note("no event reaches ", name, "", "", output);
+        begin_note(page, instance.name.at, writing);
+        put_note("no event reaches ", name, "", "", writing);
+        return;
     }
     for event in &block.event_outputs {
         let own = event.name.text.as_str();
         if own != "INITO" && !is_led(network, name, own) {
-            begin_note(page, instance.name.at, output)?;
-            put_note(name, ".", own, " leads nowhere", output)?;
+            begin_note(page, instance.name.at, writing);
+            put_note(name, ".", own, " leads nowhere", writing);
         }
     }
-    Ok(())
 }
 
 // Writes that no event is WITH an end of a data connection, where it is a port of a basic block type of the text and that is so.
-fn note_end<W: Write>(
+fn note_end(
     page: Page<'_>,
     network: &NetworkTree,
     end: &PortTree,
     is_target: bool,
-    output: &mut W,
-) -> io::Result<()> {
+    writing: &mut Writing,
+) {
     let (Some(instance), Some(port)) = (
         instance_named(network, end.first.text.as_str()),
         &end.second,
     ) else {
-        return Ok(());
+        return;
     };
     for block in &page.types.file.blocks {
         let is_type = block.name.text.as_str() == instance.of_type.text.as_str();
@@ -89,35 +86,29 @@ fn note_end<W: Write>(
             (&block.event_outputs, ": this value is never given")
         };
         if is_type && is_basic && !is_carried(events, port.text.as_str()) {
-            begin_note(page, port.at, output)?;
-            put("no event of ", output)?;
-            put(block.name.text.as_str(), output)?;
-            put_note(" is WITH ", port.text.as_str(), says, "", output)?;
+            begin_note(page, port.at, writing);
+            writing.put("no event of ");
+            writing.put(block.name.text.as_str());
+            put_note(" is WITH ", port.text.as_str(), says, "", writing);
         }
     }
-    Ok(())
 }
 
 /// Writes the notes on a network.
-pub fn note_network<W: Write>(
-    page: Page<'_>,
-    network: &NetworkTree,
-    output: &mut W,
-) -> io::Result<()> {
+pub fn note_network(page: Page<'_>, network: &NetworkTree, writing: &mut Writing) {
     for instance in &network.instances {
         for parameter in &instance.parameters {
             let port = page.types.port(instance, parameter.name.text.as_str());
             if let Some(Port::Input(of_type)) = port {
-                note_time(page, of_type, &parameter.value, output)?;
+                note_time(page, of_type, &parameter.value, writing);
             }
         }
         if let Some(block) = page.types.block(instance.of_type.text.as_str()) {
-            note_events(page, network, instance, block, output)?;
+            note_events(page, network, instance, block, writing);
         }
     }
     for connection in &network.values {
-        note_end(page, network, &connection.source, false, output)?;
-        note_end(page, network, &connection.target, true, output)?;
+        note_end(page, network, &connection.source, false, writing);
+        note_end(page, network, &connection.target, true, writing);
     }
-    Ok(())
 }

@@ -1,16 +1,14 @@
 //! Channels, as nodes of their own outside all devices.
 
 use crate::edge::end_of_edge;
-use crate::margin::{put, put_number};
 use crate::picture::Sheet;
 use crate::walk::{comes_to_channel, goes_to_channel, leaves_channel};
 use fb_flat::{Body, Leaf};
 use fb_types_services::{Channel, Service};
 use fb_words::Format;
+use fbr_places::Writing;
 use indexmap::IndexSet;
 use std::alloc::{AllocError, Global};
-use std::io;
-use std::io::Write;
 
 // The channel that a leaf sends on.
 fn sent_on(body: &Body) -> Option<u16> {
@@ -48,33 +46,38 @@ fn channels(alloc: Global, leaves: &[&Leaf]) -> Result<IndexSet<u16>, AllocError
 }
 
 // Writes below the number of a channel what a datagram of it causes on all devices, where a certificate says it.
-fn write_steps<W: Write>(sheet: &Sheet<'_>, channel: u16, output: &mut W) -> io::Result<()> {
+fn write_steps(sheet: &Sheet<'_>, channel: u16, writing: &mut Writing) {
     let Some(certificate) = sheet.picture.certificate else {
-        return Ok(());
+        return;
     };
-    match certificate.channel(channel) {
-        Some(steps) => {
-            put("\\nfar ", output)?;
-            put_number(steps, output)
-        }
-        None => Ok(()),
+    if let Some(steps) = certificate.channel(channel) {
+        writing.put("\\nfar ");
+        writing.show(&steps);
     }
 }
 
 // Draws a channel.
-fn draw_channel<W: Write>(sheet: &Sheet<'_>, channel: u16, output: &mut W) -> io::Result<()> {
-    write!(output, "    channel_{channel} [label=\"channel {channel}")?;
-    write_steps(sheet, channel, output)?;
-    put("\", shape=ellipse", output)?;
+fn draw_channel(sheet: &Sheet<'_>, channel: u16, writing: &mut Writing) {
+    writing.put("    channel_");
+    writing.show(&channel);
+    writing.put(" [label=\"channel ");
+    writing.show(&channel);
+    write_steps(sheet, channel, writing);
+    writing.put("\", shape=ellipse");
     if comes_to_channel(sheet.picture.walk, channel) {
-        put(", color=red", output)?;
+        writing.put(", color=red");
     }
-    put("];\n", output)
+    writing.put("];\n");
 }
 
 // Draws what joins a leaf, which has a number, to the channel that it sends on.
-fn draw_sent<W: Write>(number: usize, channel: u16, end: &str, output: &mut W) -> io::Result<()> {
-    writeln!(output, "    n{number}:head:e -> channel_{channel}{end}")
+fn draw_sent(number: usize, channel: u16, end: &str, writing: &mut Writing) {
+    writing.put("    n");
+    writing.show(&number);
+    writing.put(":head:e -> channel_");
+    writing.show(&channel);
+    writing.put(end);
+    writing.put("\n");
 }
 
 // How often each datagram of a channel may be admitted, where a certificate says it.
@@ -86,67 +89,65 @@ fn times_of(sheet: &Sheet<'_>, channel: &Channel) -> Option<u8> {
 }
 
 // Ends an edge from a channel to where it is received, in red if a walk goes along it, with how often each datagram may be admitted.
-fn end_received<W: Write>(times: Option<u8>, is_walked: bool, output: &mut W) -> io::Result<()> {
+fn end_received(times: Option<u8>, is_walked: bool, writing: &mut Writing) {
     let Some(times) = times else {
-        put(end_of_edge(is_walked), output)?;
-        return put("\n", output);
+        writing.put(end_of_edge(is_walked));
+        writing.put("\n");
+        return;
     };
-    put(" [label=\"×", output)?;
-    put_number(u64::from(times), output)?;
-    put("\", fontname=\"Helvetica\", fontsize=8", output)?;
-    put(if is_walked { ", color=red];\n" } else { "];\n" }, output)
+    writing.put(" [label=\"×");
+    writing.show(&times);
+    writing.put("\", fontname=\"Helvetica\", fontsize=8");
+    writing.put(if is_walked { ", color=red];\n" } else { "];\n" });
 }
 
 // Draws what joins a channel to a leaf, which has a number, that receives from it.
-fn draw_received<W: Write>(
+fn draw_received(
     sheet: &Sheet<'_>,
     leaf: &Leaf,
     number: usize,
     channel: &Channel,
-    output: &mut W,
-) -> io::Result<()> {
+    writing: &mut Writing,
+) {
     let from = channel.number;
-    write!(output, "    channel_{from} -> n{number}:head")?;
+    writing.put("    channel_");
+    writing.show(&from);
+    writing.put(" -> n");
+    writing.show(&number);
+    writing.put(":head");
     let is_walked = leaves_channel(sheet.picture.walk, from, leaf.path.as_str());
-    end_received(times_of(sheet, channel), is_walked, output)
+    end_received(times_of(sheet, channel), is_walked, writing);
 }
 
 // Draws what joins a leaf, which has a number, to its channel.
-fn draw_end<W: Write>(
-    sheet: &Sheet<'_>,
-    leaf: &Leaf,
-    number: usize,
-    output: &mut W,
-) -> io::Result<()> {
+fn draw_end(sheet: &Sheet<'_>, leaf: &Leaf, number: usize, writing: &mut Writing) {
     if let Some(channel) = sent_on(&leaf.body) {
         let is_walked = goes_to_channel(sheet.picture.walk, leaf.path.as_str(), channel);
-        return draw_sent(number, channel, end_of_edge(is_walked), output);
+        draw_sent(number, channel, end_of_edge(is_walked), writing);
+        return;
     }
-    match received_from(&leaf.body) {
-        Some(channel) => draw_received(sheet, leaf, number, channel, output),
-        None => Ok(()),
+    if let Some(channel) = received_from(&leaf.body) {
+        draw_received(sheet, leaf, number, channel, writing);
     }
 }
 
 /// Draws the channels of leaves, which are numbered from 0 on.
-pub fn draw_channels<W: Write>(
+pub fn draw_channels(
     sheet: &Sheet<'_>,
     leaves: &[&Leaf],
-    output: &mut W,
-) -> io::Result<()> {
+    writing: &mut Writing,
+) -> Result<(), AllocError> {
     let numbers = channels(sheet.alloc, leaves)?;
     if numbers.is_empty() {
         return Ok(());
     }
-    put(
-        "  subgraph channels {\n    edge [style=dotted, penwidth=1.4];\n",
-        output,
-    )?;
+    writing.put("  subgraph channels {\n    edge [style=dotted, penwidth=1.4];\n");
     for channel in &numbers {
-        draw_channel(sheet, *channel, output)?;
+        draw_channel(sheet, *channel, writing);
     }
     for (number, leaf) in leaves.iter().enumerate() {
-        draw_end(sheet, *leaf, number, output)?;
+        draw_end(sheet, *leaf, number, writing);
     }
-    put("  }\n", output)
+    writing.put("  }\n");
+    Ok(())
 }

@@ -3,15 +3,13 @@
 use crate::charge::{Charges, charges_of};
 use crate::guard::spelled;
 use crate::legend::{close_title, open_title, write_note, write_walk};
-use crate::margin::put;
 use crate::picture::Picture;
 use crate::state::draw_state;
 use crate::transition::draw_transitions;
 use fb_cert::Certificate;
 use fb_tree::{BlockTree, BodyTree, ChartTree, FileTree};
-use std::alloc::Global;
-use std::io;
-use std::io::Write;
+use fbr_places::Writing;
+use std::alloc::{AllocError, Global};
 
 /// What each part of a chart is drawn with.
 #[derive(Clone, Copy)]
@@ -36,24 +34,15 @@ pub fn chart_named<'a>(file: &'a FileTree, name: &str) -> Option<(&'a BlockTree,
 }
 
 // Writes how everything is drawn of which nothing else is said.
-fn write_defaults<W: Write>(output: &mut W) -> io::Result<()> {
-    put("  ranksep=0.6;\n  nodesep=0.5;\n", output)?;
-    put(
-        "  graph [fontname=\"Helvetica\", fontsize=12, labeljust=l];\n",
-        output,
-    )?;
-    put(
-        "  node [shape=plain, fontname=\"Helvetica\", fontsize=10];\n",
-        output,
-    )?;
-    put(
-        "  edge [arrowsize=0.7, fontname=\"Helvetica\", fontsize=9];\n",
-        output,
-    )
+fn write_defaults(writing: &mut Writing) {
+    writing.put("  ranksep=0.6;\n  nodesep=0.5;\n");
+    writing.put("  graph [fontname=\"Helvetica\", fontsize=12, labeljust=l];\n");
+    writing.put("  node [shape=plain, fontname=\"Helvetica\", fontsize=10];\n");
+    writing.put("  edge [arrowsize=0.7, fontname=\"Helvetica\", fontsize=9];\n");
 }
 
 // Writes what the numbers of a certificate mean.
-fn write_charges<W: Write>(certificate: &Certificate, output: &mut W) -> io::Result<()> {
+fn write_charges(certificate: &Certificate, writing: &mut Writing) {
     let note = match certificate.repeats() {
         Some(_) => {
             "below a state: steps / places in the queue, the most that entering it costs in an instance; far: steps on all devices"
@@ -61,46 +50,48 @@ fn write_charges<W: Write>(certificate: &Certificate, output: &mut W) -> io::Res
         None =>
             "below a state: steps / places in the queue, the most that entering it costs in an instance",
     };
-    write_note("gray40", note, output)
+    write_note("gray40", note, writing);
 }
 
 // Writes the title of a chart, and what its signs mean.
-fn write_legend<W: Write>(chart: &Chart<'_>, output: &mut W) -> io::Result<()> {
+fn write_legend(chart: &Chart<'_>, writing: &mut Writing) -> Result<(), AllocError> {
     let name = spelled(chart.picture.text, &chart.block.name);
-    open_title(chart.alloc, name, chart.picture.name, output)?;
+    open_title(chart.alloc, name, chart.picture.name, writing)?;
     write_note(
         "gray40",
         "double border: the initial state; beside a state: its algorithms and event outputs; 1. 2.: the order in which its transitions are tried",
-        output,
-    )?;
+        writing,
+    );
     match chart.picture.certificate {
-        Some(certificate) => write_charges(certificate, output)?,
-        None => write_walk(chart.picture, output)?,
+        Some(certificate) => write_charges(certificate, writing),
+        None => write_walk(chart.picture, writing),
     }
-    close_title(output)
+    close_title(writing);
+    Ok(())
 }
 
 // Writes a chart as a graph.
-fn write_chart<W: Write>(chart: &Chart<'_>, output: &mut W) -> io::Result<()> {
-    put("digraph \"", output)?;
-    put(chart.block.name.text.as_str(), output)?;
-    put("\" {\n", output)?;
-    write_defaults(output)?;
-    write_legend(chart, output)?;
+fn write_chart(chart: &Chart<'_>, writing: &mut Writing) -> Result<(), AllocError> {
+    writing.put("digraph \"");
+    writing.put(chart.block.name.text.as_str());
+    writing.put("\" {\n");
+    write_defaults(writing);
+    write_legend(chart, writing)?;
     for (number, state) in chart.body.states.iter().enumerate() {
-        draw_state(chart, number, state, output)?;
+        draw_state(chart, number, state, writing);
     }
-    draw_transitions(chart, output)?;
-    put("}\n", output)
+    draw_transitions(chart, writing)?;
+    writing.put("}\n");
+    Ok(())
 }
 
 /// Writes the execution control chart of a basic block type as a graph in DOT, and says whether there is such a type: letter case has no meaning.
-pub fn draw_chart<W: Write>(
+pub fn draw_chart(
     alloc: Global,
     picture: &Picture<'_>,
     name: &str,
-    output: &mut W,
-) -> io::Result<bool> {
+    writing: &mut Writing,
+) -> Result<bool, AllocError> {
     let name = name.to_ascii_uppercase(alloc)?;
     let Some((block, body)) = chart_named(picture.file, name.as_str()) else {
         return Ok(false);
@@ -113,6 +104,6 @@ pub fn draw_chart<W: Write>(
         body,
         charges: &charges,
     };
-    write_chart(&chart, output)?;
+    write_chart(&chart, writing)?;
     Ok(true)
 }

@@ -1,36 +1,35 @@
 //! Boxes around what devices, resources and composites have in them.
 
-use crate::margin::{depth_of, indent, line, put};
+use crate::margin::{depth_of, indent, line};
 use crate::picture::Sheet;
-use fbr_places::instance_at;
-use std::io;
-use std::io::Write;
+use fbr_places::{Writing, instance_at};
+use std::alloc::AllocError;
 
 /// Begins a box in a style, at the depth of the names of its path, up to the text of its label.
-pub fn open_cluster<W: Write>(path: &str, style: &str, output: &mut W) -> io::Result<()> {
+pub fn open_cluster(path: &str, style: &str, writing: &mut Writing) {
     let depth = depth_of(path);
-    indent(depth, output)?;
-    put("subgraph \"cluster_", output)?;
-    put(path, output)?;
-    put("\" {\n", output)?;
+    indent(depth, writing);
+    writing.put("subgraph \"cluster_");
+    writing.put(path);
+    writing.put("\" {\n");
     let inside = depth.saturating_add(1);
-    indent(inside, output)?;
-    put("style=", output)?;
-    put(style, output)?;
-    put(";\n", output)?;
-    line(inside, "margin=14;", output)?;
-    indent(inside, output)?;
-    put("label=\"", output)
+    indent(inside, writing);
+    writing.put("style=");
+    writing.put(style);
+    writing.put(";\n");
+    line(inside, "margin=14;", writing);
+    indent(inside, writing);
+    writing.put("label=\"");
 }
 
 /// Ends the label of a box.
-pub fn end_label<W: Write>(output: &mut W) -> io::Result<()> {
-    put("\";\n", output)
+pub fn end_label(writing: &mut Writing) {
+    writing.put("\";\n");
 }
 
 /// Ends a box at a depth.
-pub fn close_cluster<W: Write>(depth: usize, output: &mut W) -> io::Result<()> {
-    line(depth, "}", output)
+pub fn close_cluster(depth: usize, writing: &mut Writing) {
+    line(depth, "}", writing);
 }
 
 // How many names two paths begin with in common.
@@ -46,36 +45,30 @@ fn shared(one: &str, other: &str) -> usize {
 }
 
 // Begins the box of a composite.
-fn open_composite<W: Write>(
-    sheet: &Sheet<'_>,
-    path: &str,
-    name: &str,
-    output: &mut W,
-) -> io::Result<()> {
-    open_cluster(path, "dashed", output)?;
-    put(name, output)?;
+fn open_composite(sheet: &Sheet<'_>, path: &str, name: &str, writing: &mut Writing) {
+    open_cluster(path, "dashed", writing);
+    writing.put(name);
     if let Some(instance) = instance_at(sheet.picture.file, path) {
-        put(" : ", output)?;
-        put(instance.of_type.text.as_str(), output)?;
+        writing.put(" : ");
+        writing.put(instance.of_type.text.as_str());
     }
-    end_label(output)
+    end_label(writing);
 }
 
 // Ends the boxes of composites that are around one path and not around another.
-fn close_composites<W: Write>(from: &str, to: &str, output: &mut W) -> io::Result<()> {
+fn close_composites(from: &str, to: &str, writing: &mut Writing) {
     for depth in (shared(from, to)..depth_of(from)).rev() {
-        close_cluster(depth.saturating_add(1), output)?;
+        close_cluster(depth.saturating_add(1), writing);
     }
-    Ok(())
 }
 
 // Begins the boxes of composites that are around one path and not around another.
-fn open_composites<W: Write>(
+fn open_composites(
     sheet: &Sheet<'_>,
     from: &str,
     to: &str,
-    output: &mut W,
-) -> io::Result<()> {
+    writing: &mut Writing,
+) -> Result<(), AllocError> {
     let kept = shared(from, to);
     let mut path = String::new(sheet.alloc);
     for (index, name) in to.split('.').enumerate() {
@@ -84,14 +77,19 @@ fn open_composites<W: Write>(
         }
         path.push_str(name)?;
         if index >= kept {
-            open_composite(sheet, path.as_str(), name, output)?;
+            open_composite(sheet, path.as_str(), name, writing);
         }
     }
     Ok(())
 }
 
 /// Goes on in another composite of a resource: ends the boxes that one is in alone, and begins those that the other is in alone.
-pub fn cross<W: Write>(sheet: &Sheet<'_>, from: &str, to: &str, output: &mut W) -> io::Result<()> {
-    close_composites(from, to, output)?;
-    open_composites(sheet, from, to, output)
+pub fn cross(
+    sheet: &Sheet<'_>,
+    from: &str,
+    to: &str,
+    writing: &mut Writing,
+) -> Result<(), AllocError> {
+    close_composites(from, to, writing);
+    open_composites(sheet, from, to, writing)
 }

@@ -1,10 +1,8 @@
 //! Types of data ports, and constants as the language writes them.
 
-use crate::margin::put;
 use fb_flat::Body;
 use fb_words::ElemType;
-use std::io;
-use std::io::Write;
+use fbr_places::Writing;
 
 /// The type of a data input of a leaf.
 pub fn input_type(body: &Body, name: &str) -> Option<ElemType> {
@@ -23,41 +21,34 @@ pub fn output_type(body: &Body, name: &str) -> Option<ElemType> {
 }
 
 /// Writes a type, small and grey, with what stands before it and behind it.
-pub fn write_type<W: Write>(
-    before: &str,
-    of_type: Option<ElemType>,
-    behind: &str,
-    output: &mut W,
-) -> io::Result<()> {
+pub fn write_type(before: &str, of_type: Option<ElemType>, behind: &str, writing: &mut Writing) {
     let Some(of_type) = of_type else {
-        return Ok(());
+        return;
     };
-    put(before, output)?;
-    put("<FONT POINT-SIZE=\"8\" COLOR=\"gray40\">", output)?;
-    put(of_type.name(), output)?;
-    put("</FONT>", output)?;
-    put(behind, output)
+    writing.put(before);
+    writing.put("<FONT POINT-SIZE=\"8\" COLOR=\"gray40\">");
+    writing.put(of_type.name());
+    writing.put("</FONT>");
+    writing.put(behind);
 }
 
 // Writes a TIME, in seconds where it is of whole ones.
-fn write_time<W: Write>(milliseconds: i64, output: &mut W) -> io::Result<()> {
+fn write_time(milliseconds: i64, writing: &mut Writing) {
     let (count, unit) = if milliseconds % 1000 == 0 {
         (milliseconds / 1000, "s")
     } else {
         (milliseconds, "ms")
     };
-    write!(output, "T#{count}{unit}")
+    writing.put("T#");
+    writing.show(&count);
+    writing.put(unit);
 }
 
 /// Writes a constant of a type.
-pub fn write_constant<W: Write>(
-    of_type: Option<ElemType>,
-    value: i64,
-    output: &mut W,
-) -> io::Result<()> {
+pub fn write_constant(of_type: Option<ElemType>, value: i64, writing: &mut Writing) {
     match of_type {
-        Some(ElemType::Bool) => put(if value == 0 { "FALSE" } else { "TRUE" }, output),
-        Some(ElemType::Time) => write_time(value, output),
-        _ => write!(output, "{value}"),
+        Some(ElemType::Bool) => writing.put(if value == 0 { "FALSE" } else { "TRUE" }),
+        Some(ElemType::Time) => write_time(value, writing),
+        _ => writing.show(&value),
     }
 }

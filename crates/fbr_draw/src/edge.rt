@@ -1,12 +1,10 @@
 //! Connections, as edges.
 
-use crate::margin::put;
 use crate::number::Numbers;
 use crate::picture::Sheet;
 use crate::walk::goes_to_event;
 use fb_flat::{Input, Leaf, Output, Source, Target};
-use std::io;
-use std::io::Write;
+use fbr_places::Writing;
 
 /// What ends an edge, in red if a walk goes along it.
 pub fn end_of_edge(is_walked: bool) -> &'static str {
@@ -14,88 +12,85 @@ pub fn end_of_edge(is_walked: bool) -> &'static str {
 }
 
 // Draws a connection of an event output of a leaf, which has a number.
-fn draw_event<W: Write>(
+fn draw_event(
     sheet: &Sheet<'_>,
     leaf: &str,
     number: usize,
     name: &str,
     target: &Target,
-    output: &mut W,
-) -> io::Result<()> {
+    writing: &mut Writing,
+) {
     let path = target.path.as_str();
     let event = target.event.as_str();
-    match sheet.numbers.get(path).copied() {
-        Some(to) => {
-            let end = end_of_edge(goes_to_event(sheet.picture.walk, leaf, path, event));
-            writeln!(output, "    n{number}:o_{name}:e -> n{to}:i_{event}:w{end}")
-        }
-        None => Ok(()),
+    if let Some(to) = sheet.numbers.get(path).copied() {
+        let end = end_of_edge(goes_to_event(sheet.picture.walk, leaf, path, event));
+        writing.put("    n");
+        writing.show(&number);
+        writing.put(":o_");
+        writing.put(name);
+        writing.put(":e -> n");
+        writing.show(&to);
+        writing.put(":i_");
+        writing.put(event);
+        writing.put(":w");
+        writing.put(end);
+        writing.put("\n");
     }
 }
 
 // Draws the connections of an event output of a leaf, which has a number.
-fn draw_targets<W: Write>(
+fn draw_targets(
     sheet: &Sheet<'_>,
     leaf: &str,
     number: usize,
     event: &Output,
-    output: &mut W,
-) -> io::Result<()> {
+    writing: &mut Writing,
+) {
     for target in &event.targets {
-        draw_event(sheet, leaf, number, event.name.as_str(), target, output)?;
+        draw_event(sheet, leaf, number, event.name.as_str(), target, writing);
     }
-    Ok(())
 }
 
 /// Draws the event connections of leaves, which are numbered from 0 on.
-pub fn draw_events<W: Write>(
-    sheet: &Sheet<'_>,
-    leaves: &[&Leaf],
-    output: &mut W,
-) -> io::Result<()> {
-    put(
-        "  subgraph events {\n    edge [penwidth=1.4, weight=2];\n",
-        output,
-    )?;
+pub fn draw_events(sheet: &Sheet<'_>, leaves: &[&Leaf], writing: &mut Writing) {
+    writing.put("  subgraph events {\n    edge [penwidth=1.4, weight=2];\n");
     for (number, leaf) in leaves.iter().enumerate() {
         for event in &leaf.outputs {
-            draw_targets(sheet, leaf.path.as_str(), number, event, output)?;
+            draw_targets(sheet, leaf.path.as_str(), number, event, writing);
         }
     }
-    put("  }\n", output)
+    writing.put("  }\n");
 }
 
 // Draws the connection of a data input of a leaf, which has a number.
-fn draw_value<W: Write>(
-    numbers: &Numbers,
-    number: usize,
-    input: &Input,
-    output: &mut W,
-) -> io::Result<()> {
+fn draw_value(numbers: &Numbers, number: usize, input: &Input, writing: &mut Writing) {
     let name = input.name.as_str();
     match &input.source {
         Source::Output(path, port) => match numbers.get(path.as_str()).copied() {
-            Some(from) => writeln!(output, "    n{from}:r_{port}:e -> n{number}:d_{name}:w;"),
-            None => Ok(()),
+            Some(from) => {
+                writing.put("    n");
+                writing.show(&from);
+                writing.put(":r_");
+                writing.put(port.as_str());
+                writing.put(":e -> n");
+                writing.show(&number);
+                writing.put(":d_");
+                writing.put(name);
+                writing.put(":w;\n");
+            }
+            None => {}
         },
-        Source::Number(_) | Source::Zeros(_, _) => Ok(()),
+        Source::Number(_) | Source::Zeros(_, _) => {}
     }
 }
 
 /// Draws the data connections of leaves, which are numbered from 0 on.
-pub fn draw_values<W: Write>(
-    sheet: &Sheet<'_>,
-    leaves: &[&Leaf],
-    output: &mut W,
-) -> io::Result<()> {
-    put(
-        "  subgraph data {\n    edge [style=dashed, color=gray50, arrowsize=0.5];\n",
-        output,
-    )?;
+pub fn draw_values(sheet: &Sheet<'_>, leaves: &[&Leaf], writing: &mut Writing) {
+    writing.put("  subgraph data {\n    edge [style=dashed, color=gray50, arrowsize=0.5];\n");
     for (number, leaf) in leaves.iter().enumerate() {
         for input in &leaf.inputs {
-            draw_value(sheet.numbers, number, input, output)?;
+            draw_value(sheet.numbers, number, input, writing);
         }
     }
-    put("  }\n", output)
+    writing.put("  }\n");
 }

@@ -1,14 +1,12 @@
 //! The heads of leaves: their names, what they are, and the states of a walk.
 
-use crate::margin::{indent, put, put_number};
+use crate::margin::indent;
 use crate::picture::Sheet;
 use crate::walk::state_of;
 use fb_find_rows::Place;
 use fb_flat::{Body, Leaf};
 use fb_types_services::Service;
-use fbr_places::instance_at;
-use std::io;
-use std::io::Write;
+use fbr_places::{Writing, instance_at};
 
 // The path of a leaf below its resource.
 fn below_resource(path: &str) -> &str {
@@ -46,24 +44,21 @@ fn number_of(body: &Body) -> Option<u16> {
 }
 
 // Draws what a leaf is called, and below that its type and the number of a service.
-fn draw_name<W: Write>(sheet: &Sheet<'_>, leaf: &Leaf, output: &mut W) -> io::Result<()> {
+fn draw_name(sheet: &Sheet<'_>, leaf: &Leaf, writing: &mut Writing) {
     let path = leaf.path.as_str();
     let name = name_of(sheet.picture.boxes, path);
-    put(
-        "<TR><TD COLSPAN=\"2\" PORT=\"head\" BGCOLOR=\"gray94\"><B>",
-        output,
-    )?;
-    put(name, output)?;
-    put("</B>", output)?;
+    writing.put("<TR><TD COLSPAN=\"2\" PORT=\"head\" BGCOLOR=\"gray94\"><B>");
+    writing.put(name);
+    writing.put("</B>");
     if let Some(instance) = instance_at(sheet.picture.file, path) {
-        put("<BR/>", output)?;
-        put(instance.of_type.text.as_str(), output)?;
+        writing.put("<BR/>");
+        writing.put(instance.of_type.text.as_str());
     }
     if let Some(number) = number_of(&leaf.body) {
-        put(" ", output)?;
-        put_number(u64::from(number), output)?;
+        writing.put(" ");
+        writing.show(&number);
     }
-    put("</TD></TR>\n", output)
+    writing.put("</TD></TR>\n");
 }
 
 // The places of a walk, each once: the last is the first again.
@@ -75,36 +70,26 @@ fn without_last(walk: &[Place]) -> &[Place] {
 }
 
 // Draws the states of a leaf that a walk comes to, in a row if there are some.
-fn draw_states<W: Write>(
-    walk: &[Place],
-    leaf: &str,
-    depth: usize,
-    output: &mut W,
-) -> io::Result<()> {
+fn draw_states(walk: &[Place], leaf: &str, depth: usize, writing: &mut Writing) {
     let mut begun = false;
     for place in without_last(walk) {
         if let Some(state) = state_of(place, leaf) {
             if begun {
-                put(" → ", output)?;
+                writing.put(" → ");
             } else {
-                indent(depth, output)?;
-                put("<TR><TD COLSPAN=\"2\"><FONT COLOR=\"red\">", output)?;
+                indent(depth, writing);
+                writing.put("<TR><TD COLSPAN=\"2\"><FONT COLOR=\"red\">");
                 begun = true;
             }
-            put(state, output)?;
+            writing.put(state);
         }
     }
-    put(if begun { "</FONT></TD></TR>\n" } else { "" }, output)
+    writing.put(if begun { "</FONT></TD></TR>\n" } else { "" });
 }
 
 /// Draws the head of a leaf.
-pub fn draw_head<W: Write>(
-    sheet: &Sheet<'_>,
-    leaf: &Leaf,
-    depth: usize,
-    output: &mut W,
-) -> io::Result<()> {
-    indent(depth, output)?;
-    draw_name(sheet, leaf, output)?;
-    draw_states(sheet.picture.walk, leaf.path.as_str(), depth, output)
+pub fn draw_head(sheet: &Sheet<'_>, leaf: &Leaf, depth: usize, writing: &mut Writing) {
+    indent(depth, writing);
+    draw_name(sheet, leaf, writing);
+    draw_states(sheet.picture.walk, leaf.path.as_str(), depth, writing);
 }

@@ -1,14 +1,13 @@
 //! Leaves, as tables: their heads, events and below these their data.
 
 use crate::head::draw_head;
-use crate::margin::{depth_of, indent, line, put};
+use crate::margin::{depth_of, indent, line};
 use crate::picture::Sheet;
 use crate::port::{draw_arrival, draw_event_input, draw_event_output, draw_input, draw_output};
 use crate::walk::comes_to;
 use fb_flat::{Body, Leaf};
+use fbr_places::Writing;
 use std::alloc::{AllocError, Global};
-use std::io;
-use std::io::Write;
 
 // The event inputs of a leaf.
 fn event_inputs<'a>(alloc: Global, body: &'a Body) -> Result<Vec<&'a str>, AllocError> {
@@ -51,102 +50,106 @@ fn arrival(body: &Body) -> Option<&'static str> {
 }
 
 // Draws a rule above so many rows, if there are some.
-fn draw_rule<W: Write>(rows: usize, depth: usize, output: &mut W) -> io::Result<()> {
+fn draw_rule(rows: usize, depth: usize, writing: &mut Writing) {
     if rows == 0 {
-        return Ok(());
+        return;
     }
-    line(depth, "<HR/>", output)
+    line(depth, "<HR/>", writing);
 }
 
 // Draws the rows of events.
-fn draw_events<W: Write>(
+fn draw_events(
     sheet: &Sheet<'_>,
     leaf: &Leaf,
     depth: usize,
-    output: &mut W,
-) -> io::Result<()> {
+    writing: &mut Writing,
+) -> Result<(), AllocError> {
     let names = event_inputs(sheet.alloc, &leaf.body)?;
     let rows = names.len().max(leaf.outputs.len());
-    draw_rule(rows, depth, output)?;
+    draw_rule(rows, depth, writing);
     for index in 0..rows {
-        indent(depth, output)?;
-        put("<TR>", output)?;
-        draw_event_input(sheet, leaf.path.as_str(), names.get(index).copied(), output)?;
-        draw_event_output(leaf.outputs.get(index), output)?;
-        put("</TR>\n", output)?;
+        indent(depth, writing);
+        writing.put("<TR>");
+        draw_event_input(
+            sheet,
+            leaf.path.as_str(),
+            names.get(index).copied(),
+            writing,
+        )?;
+        draw_event_output(leaf.outputs.get(index), writing);
+        writing.put("</TR>\n");
     }
     Ok(())
 }
 
 // Draws the row of what comes from outside.
-fn draw_outside<W: Write>(
+fn draw_outside(
     sheet: &Sheet<'_>,
     leaf: &Leaf,
     depth: usize,
-    output: &mut W,
-) -> io::Result<()> {
+    writing: &mut Writing,
+) -> Result<(), AllocError> {
     match arrival(&leaf.body) {
         Some(event) => {
             if sheet.picture.certificate.is_none() {
                 return Ok(());
             }
-            indent(depth, output)?;
-            put("<TR>", output)?;
-            draw_arrival(sheet, leaf.path.as_str(), event, output)?;
-            put("</TR>\n", output)
+            indent(depth, writing);
+            writing.put("<TR>");
+            draw_arrival(sheet, leaf.path.as_str(), event, writing)?;
+            writing.put("</TR>\n");
+            Ok(())
         }
         None => Ok(()),
     }
 }
 
 // Draws the rows of data.
-fn draw_data<W: Write>(
+fn draw_data(
     sheet: &Sheet<'_>,
     leaf: &Leaf,
     depth: usize,
-    output: &mut W,
-) -> io::Result<()> {
+    writing: &mut Writing,
+) -> Result<(), AllocError> {
     let names = outputs(sheet.alloc, &leaf.body)?;
     let rows = leaf.inputs.len().max(names.len());
-    draw_rule(rows, depth, output)?;
+    draw_rule(rows, depth, writing);
     for index in 0..rows {
-        indent(depth, output)?;
-        put("<TR>", output)?;
-        draw_input(&leaf.body, leaf.inputs.get(index), output)?;
-        draw_output(sheet, leaf, names.get(index), output)?;
-        put("</TR>\n", output)?;
+        indent(depth, writing);
+        writing.put("<TR>");
+        draw_input(&leaf.body, leaf.inputs.get(index), writing);
+        draw_output(sheet, leaf, names.get(index), writing)?;
+        writing.put("</TR>\n");
     }
     Ok(())
 }
 
 // Draws the table of a leaf.
-fn draw_table<W: Write>(
+fn draw_table(
     sheet: &Sheet<'_>,
     leaf: &Leaf,
     depth: usize,
-    output: &mut W,
-) -> io::Result<()> {
+    writing: &mut Writing,
+) -> Result<(), AllocError> {
     let border = if comes_to(sheet.picture.walk, leaf.path.as_str()) {
         "<TABLE BORDER=\"2\" COLOR=\"red\""
     } else {
         "<TABLE BORDER=\"1\""
     };
     let rows = depth.saturating_add(1);
-    indent(depth, output)?;
-    put(border, output)?;
-    put(
-        " CELLBORDER=\"0\" CELLSPACING=\"0\" CELLPADDING=\"3\">\n",
-        output,
-    )?;
-    draw_head(sheet, leaf, rows, output)?;
-    draw_events(sheet, leaf, rows, output)?;
-    draw_outside(sheet, leaf, rows, output)?;
-    draw_data(sheet, leaf, rows, output)?;
-    line(depth, "</TABLE>", output)
+    indent(depth, writing);
+    writing.put(border);
+    writing.put(" CELLBORDER=\"0\" CELLSPACING=\"0\" CELLPADDING=\"3\">\n");
+    draw_head(sheet, leaf, rows, writing);
+    draw_events(sheet, leaf, rows, writing)?;
+    draw_outside(sheet, leaf, rows, writing)?;
+    draw_data(sheet, leaf, rows, writing)?;
+    line(depth, "</TABLE>", writing);
+    Ok(())
 }
 
 /// Draws a leaf as a node.
-pub fn draw_leaf<W: Write>(sheet: &Sheet<'_>, leaf: &Leaf, output: &mut W) -> io::Result<()> {
+pub fn draw_leaf(sheet: &Sheet<'_>, leaf: &Leaf, writing: &mut Writing) -> Result<(), AllocError> {
     let path = leaf.path.as_str();
     let Some(number) = sheet.numbers.get(path).copied() else {
         return Ok(());
@@ -156,8 +159,11 @@ pub fn draw_leaf<W: Write>(sheet: &Sheet<'_>, leaf: &Leaf, output: &mut W) -> io
     } else {
         3
     };
-    indent(depth, output)?;
-    writeln!(output, "n{number} [label=<")?;
-    draw_table(sheet, leaf, depth.saturating_add(1), output)?;
-    line(depth, ">];", output)
+    indent(depth, writing);
+    writing.put("n");
+    writing.show(&number);
+    writing.put(" [label=<\n");
+    draw_table(sheet, leaf, depth.saturating_add(1), writing)?;
+    line(depth, ">];", writing);
+    Ok(())
 }

@@ -1,90 +1,87 @@
 //! What stands above a picture: its title, and what its signs mean.
 
-use crate::margin::put;
 use crate::picture::Picture;
 use crate::shown::{last_of, shown};
 use fb_cert::Certificate;
-use std::alloc::Global;
-use std::io;
-use std::io::Write;
+use fbr_places::Writing;
+use std::alloc::{AllocError, Global};
 
 /// Begins the label of a picture with its title: what it is of, and the name of the file.
-pub fn open_title<W: Write>(alloc: Global, of: &str, file: &str, output: &mut W) -> io::Result<()> {
+pub fn open_title(
+    alloc: Global,
+    of: &str,
+    file: &str,
+    writing: &mut Writing,
+) -> Result<(), AllocError> {
     let file = shown(alloc, last_of(file))?;
-    put(
+    writing.put(
         "  labelloc=t;\n  label=<\n    <TABLE BORDER=\"0\" CELLSPACING=\"0\" CELLPADDING=\"1\">\n",
-        output,
-    )?;
-    put(
-        "      <TR><TD ALIGN=\"LEFT\"><FONT POINT-SIZE=\"14\"><B>",
-        output,
-    )?;
-    put(of, output)?;
-    put("</B> · ", output)?;
-    put(file.as_str(), output)?;
-    put("</FONT></TD></TR>\n", output)
+    );
+    writing.put("      <TR><TD ALIGN=\"LEFT\"><FONT POINT-SIZE=\"14\"><B>");
+    writing.put(of);
+    writing.put("</B> · ");
+    writing.put(file.as_str());
+    writing.put("</FONT></TD></TR>\n");
+    Ok(())
 }
 
 /// Ends the label of a picture.
-pub fn close_title<W: Write>(output: &mut W) -> io::Result<()> {
-    put("    </TABLE>\n  >;\n", output)
+pub fn close_title(writing: &mut Writing) {
+    writing.put("    </TABLE>\n  >;\n");
 }
 
 /// Writes a line of a legend in a colour.
-pub fn write_note<W: Write>(color: &str, note: &str, output: &mut W) -> io::Result<()> {
-    put(
-        "      <TR><TD ALIGN=\"LEFT\"><FONT POINT-SIZE=\"9\" COLOR=\"",
-        output,
-    )?;
-    put(color, output)?;
-    put("\">", output)?;
-    put(note, output)?;
-    put("</FONT></TD></TR>\n", output)
+pub fn write_note(color: &str, note: &str, writing: &mut Writing) {
+    writing.put("      <TR><TD ALIGN=\"LEFT\"><FONT POINT-SIZE=\"9\" COLOR=\"");
+    writing.put(color);
+    writing.put("\">");
+    writing.put(note);
+    writing.put("</FONT></TD></TR>\n");
 }
 
 // Writes what the numbers of a certificate mean.
-fn write_numbers<W: Write>(certificate: &Certificate, output: &mut W) -> io::Result<()> {
+fn write_numbers(certificate: &Certificate, writing: &mut Writing) {
     write_note(
         "gray40",
         "at an event: steps / places in the queue, the most that it causes on its device with all that follows",
-        output,
-    )?;
-    match certificate.repeats() {
-        Some(_) => write_note(
+        writing,
+    );
+    if let Some(_) = certificate.repeats() {
+        write_note(
             "gray40",
             "far: the most steps on all devices; ×n: how often a device admits a datagram at most",
-            output,
-        ),
-        None => Ok(()),
+            writing,
+        );
     }
 }
 
 /// Writes that what is red is a walk, where there is one.
-pub fn write_walk<W: Write>(picture: &Picture<'_>, output: &mut W) -> io::Result<()> {
+pub fn write_walk(picture: &Picture<'_>, writing: &mut Writing) {
     if picture.walk.is_empty() {
-        return Ok(());
+        return;
     }
     let note =
         "red: each asks for the next, and one of them costs a step, so that no certificate fits";
-    write_note("red", note, output)
+    write_note("red", note, writing);
 }
 
 /// Writes the title of a system, and what its signs mean.
-pub fn write_legend<W: Write>(
+pub fn write_legend(
     alloc: Global,
     picture: &Picture<'_>,
-    output: &mut W,
-) -> io::Result<()> {
+    writing: &mut Writing,
+) -> Result<(), AllocError> {
     let system = picture.file.system.name.text.as_str();
-    open_title(alloc, system, picture.name, output)?;
+    open_title(alloc, system, picture.name, writing)?;
     write_note(
         "gray40",
         "solid: events; dashed: data; dotted: datagrams; grey: a port without a connection",
-        output,
-    )?;
+        writing,
+    );
     match picture.certificate {
-        Some(certificate) => write_numbers(certificate, output)?,
-        None => write_walk(picture, output)?,
+        Some(certificate) => write_numbers(certificate, writing),
+        None => write_walk(picture, writing),
     }
-    close_title(output)
+    close_title(writing);
+    Ok(())
 }

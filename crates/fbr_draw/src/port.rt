@@ -2,20 +2,19 @@
 
 use crate::constant::{input_type, output_type, write_constant, write_type};
 use crate::joined::is_joined;
-use crate::margin::{put, put_number};
 use crate::picture::Sheet;
 use crate::walk::comes_to_event;
 use fb_flat::{Body, Input, Leaf, Output, Source, joined};
-use std::io;
-use std::io::Write;
+use fbr_places::Writing;
+use std::alloc::AllocError;
 
 // Writes the weight of an event input or arrival, small and grey, where there is a certificate, and its FAR where that has one.
-fn write_weight<W: Write>(
+fn write_weight(
     sheet: &Sheet<'_>,
     leaf: &str,
     event: &str,
-    output: &mut W,
-) -> io::Result<()> {
+    writing: &mut Writing,
+) -> Result<(), AllocError> {
     let Some(certificate) = sheet.picture.certificate else {
         return Ok(());
     };
@@ -23,94 +22,103 @@ fn write_weight<W: Write>(
     let Some(weight) = certificate.weight(path.as_str()) else {
         return Ok(());
     };
-    put(" <FONT POINT-SIZE=\"8\" COLOR=\"gray40\">", output)?;
-    put_number(weight.steps, output)?;
+    writing.put(" <FONT POINT-SIZE=\"8\" COLOR=\"gray40\">");
+    writing.show(&weight.steps);
     if weight.places > 0 {
-        put(" / ", output)?;
-        put_number(weight.places, output)?;
+        writing.put(" / ");
+        writing.show(&weight.places);
     }
     if let Some(far) = certificate.far(path.as_str()) {
-        put(", far ", output)?;
-        put_number(far, output)?;
+        writing.put(", far ");
+        writing.show(&far);
     }
-    put("</FONT>", output)
+    writing.put("</FONT>");
+    Ok(())
 }
 
 // Writes the name of a port, in grey if no connection leads to it or from it.
-fn write_name<W: Write>(is_used: bool, name: &str, output: &mut W) -> io::Result<()> {
+fn write_name(is_used: bool, name: &str, writing: &mut Writing) {
     if is_used {
-        return put(name, output);
+        writing.put(name);
+        return;
     }
-    put("<FONT COLOR=\"gray60\">", output)?;
-    put(name, output)?;
-    put("</FONT>", output)
+    writing.put("<FONT COLOR=\"gray60\">");
+    writing.put(name);
+    writing.put("</FONT>");
 }
 
 // Writes an event input or arrival, in red if a walk comes to it, and its weight.
-fn write_event<W: Write>(
+fn write_event(
     sheet: &Sheet<'_>,
     leaf: &str,
     event: &str,
     is_used: bool,
-    output: &mut W,
-) -> io::Result<()> {
+    writing: &mut Writing,
+) -> Result<(), AllocError> {
     if comes_to_event(sheet.picture.walk, leaf, event) {
-        put("<FONT COLOR=\"red\">", output)?;
-        put(event, output)?;
-        put("</FONT>", output)?;
+        writing.put("<FONT COLOR=\"red\">");
+        writing.put(event);
+        writing.put("</FONT>");
     } else {
-        write_name(is_used, event, output)?;
+        write_name(is_used, event, writing);
     }
-    write_weight(sheet, leaf, event, output)
+    write_weight(sheet, leaf, event, writing)
 }
 
 // Draws a cell without a port.
-fn draw_blank<W: Write>(output: &mut W) -> io::Result<()> {
-    put("<TD></TD>", output)
+fn draw_blank(writing: &mut Writing) {
+    writing.put("<TD></TD>");
 }
 
 /// Draws an event input, if there is one.
-pub fn draw_event_input<W: Write>(
+pub fn draw_event_input(
     sheet: &Sheet<'_>,
     leaf: &str,
     event: Option<&str>,
-    output: &mut W,
-) -> io::Result<()> {
+    writing: &mut Writing,
+) -> Result<(), AllocError> {
     match event {
         Some(event) => {
-            put("<TD PORT=\"i_", output)?;
-            put(event, output)?;
-            put("\" ALIGN=\"LEFT\">", output)?;
+            writing.put("<TD PORT=\"i_");
+            writing.put(event);
+            writing.put("\" ALIGN=\"LEFT\">");
             let is_used = is_joined(sheet.alloc, sheet.joined, leaf, event)?;
-            write_event(sheet, leaf, event, is_used, output)?;
-            put("</TD>", output)
+            write_event(sheet, leaf, event, is_used, writing)?;
+            writing.put("</TD>");
+            Ok(())
         }
-        None => draw_blank(output),
+        None => {
+            draw_blank(writing);
+            Ok(())
+        }
     }
 }
 
 /// Draws an arrival, which is no port.
-pub fn draw_arrival<W: Write>(
+pub fn draw_arrival(
     sheet: &Sheet<'_>,
     leaf: &str,
     event: &str,
-    output: &mut W,
-) -> io::Result<()> {
-    put("<TD COLSPAN=\"2\" ALIGN=\"LEFT\"><I>", output)?;
-    write_event(sheet, leaf, event, true, output)?;
-    put("</I></TD>", output)
+    writing: &mut Writing,
+) -> Result<(), AllocError> {
+    writing.put("<TD COLSPAN=\"2\" ALIGN=\"LEFT\"><I>");
+    write_event(sheet, leaf, event, true, writing)?;
+    writing.put("</I></TD>");
+    Ok(())
 }
 
 /// Draws an event output, if there is one.
-pub fn draw_event_output<W: Write>(event: Option<&Output>, output: &mut W) -> io::Result<()> {
+pub fn draw_event_output(event: Option<&Output>, writing: &mut Writing) {
     match event {
         Some(event) => {
             let name = event.name.as_str();
-            write!(output, "<TD PORT=\"o_{name}\" ALIGN=\"RIGHT\">")?;
-            write_name(!event.targets.is_empty(), name, output)?;
-            put("</TD>", output)
+            writing.put("<TD PORT=\"o_");
+            writing.put(name);
+            writing.put("\" ALIGN=\"RIGHT\">");
+            write_name(!event.targets.is_empty(), name, writing);
+            writing.put("</TD>");
         }
-        None => draw_blank(output),
+        None => draw_blank(writing),
     }
 }
 
@@ -123,52 +131,55 @@ fn constant_of(source: &Source) -> Option<i64> {
 }
 
 // Writes a data input with its type, and its value if that is a constant other than 0.
-fn write_input<W: Write>(body: &Body, input: &Input, output: &mut W) -> io::Result<()> {
+fn write_input(body: &Body, input: &Input, writing: &mut Writing) {
     let name = input.name.as_str();
     let of_type = input_type(body, name);
     let constant = constant_of(&input.source);
     let is_led_to = matches!(input.source, Source::Output(_, _));
-    write_name(is_led_to || constant.is_some(), name, output)?;
-    write_type(" ", of_type, "", output)?;
-    match constant {
-        Some(value) => {
-            put(" = ", output)?;
-            write_constant(of_type, value, output)
-        }
-        None => Ok(()),
+    write_name(is_led_to || constant.is_some(), name, writing);
+    write_type(" ", of_type, "", writing);
+    if let Some(value) = constant {
+        writing.put(" = ");
+        write_constant(of_type, value, writing);
     }
 }
 
 /// Draws a data input of a leaf, if there is one.
-pub fn draw_input<W: Write>(body: &Body, input: Option<&Input>, output: &mut W) -> io::Result<()> {
+pub fn draw_input(body: &Body, input: Option<&Input>, writing: &mut Writing) {
     match input {
         Some(input) => {
-            put("<TD PORT=\"d_", output)?;
-            put(input.name.as_str(), output)?;
-            put("\" ALIGN=\"LEFT\">", output)?;
-            write_input(body, input, output)?;
-            put("</TD>", output)
+            writing.put("<TD PORT=\"d_");
+            writing.put(input.name.as_str());
+            writing.put("\" ALIGN=\"LEFT\">");
+            write_input(body, input, writing);
+            writing.put("</TD>");
         }
-        None => draw_blank(output),
+        None => draw_blank(writing),
     }
 }
 
 /// Draws a data output of a leaf with its type, if there is one.
-pub fn draw_output<W: Write>(
+pub fn draw_output(
     sheet: &Sheet<'_>,
     leaf: &Leaf,
     name: Option<&String>,
-    output: &mut W,
-) -> io::Result<()> {
+    writing: &mut Writing,
+) -> Result<(), AllocError> {
     match name {
         Some(name) => {
-            write!(output, "<TD PORT=\"r_{name}\" ALIGN=\"RIGHT\">")?;
-            write_type("", output_type(&leaf.body, name), " ", output)?;
+            writing.put("<TD PORT=\"r_");
+            writing.put(name.as_str());
+            writing.put("\" ALIGN=\"RIGHT\">");
+            write_type("", output_type(&leaf.body, name), " ", writing);
             let path = leaf.path.as_str();
             let is_used = is_joined(sheet.alloc, sheet.joined, path, name)?;
-            write_name(is_used, name, output)?;
-            put("</TD>", output)
+            write_name(is_used, name, writing);
+            writing.put("</TD>");
+            Ok(())
         }
-        None => draw_blank(output),
+        None => {
+            draw_blank(writing);
+            Ok(())
+        }
     }
 }

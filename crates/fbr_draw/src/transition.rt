@@ -2,11 +2,10 @@
 
 use crate::chart::Chart;
 use crate::guard::{guard_in, spelled};
-use crate::margin::{put, put_number};
 use crate::shown::shown;
 use fb_tree::{StateTree, TransitionTree};
-use std::io;
-use std::io::Write;
+use fbr_places::Writing;
+use std::alloc::AllocError;
 
 // The number of a state.
 fn number_of(states: &[StateTree], name: &str) -> Option<usize> {
@@ -30,61 +29,60 @@ fn leaving(transitions: &[TransitionTree], state: &str) -> usize {
 }
 
 // Writes when a transition is tried among those that leave its state, where there are others.
-fn write_order<W: Write>(
-    all: &[TransitionTree],
-    index: usize,
-    state: &str,
-    output: &mut W,
-) -> io::Result<()> {
+fn write_order(all: &[TransitionTree], index: usize, state: &str, writing: &mut Writing) {
     if leaving(all, state) < 2 {
-        return Ok(());
+        return;
     }
     let before = leaving(all.get(..index).unwrap_or(&[]), state);
-    put("<FONT POINT-SIZE=\"8\" COLOR=\"gray40\">", output)?;
-    put_number(before.saturating_add(1) as u64, output)?;
-    put(".</FONT> ", output)
+    writing.put("<FONT POINT-SIZE=\"8\" COLOR=\"gray40\">");
+    writing.show(&before.saturating_add(1));
+    writing.put(".</FONT> ");
 }
 
 // Writes when a transition is crossed: at an event, where a guard holds, or freely.
-fn write_condition<W: Write>(
+fn write_condition(
     chart: &Chart<'_>,
     transition: &TransitionTree,
-    output: &mut W,
-) -> io::Result<()> {
+    writing: &mut Writing,
+) -> Result<(), AllocError> {
     let text = chart.picture.text;
     if let Some(event) = &transition.event {
-        put(spelled(text, event), output)?;
+        writing.put(spelled(text, event));
     }
     match &transition.guard {
         Some(guard) => {
             let guard = guard_in(chart.alloc, text, guard.at)?;
             let guard = shown(chart.alloc, guard.as_str())?;
-            put(if transition.event.is_some() { " " } else { "" }, output)?;
-            put(guard.as_str(), output)
+            writing.put(if transition.event.is_some() { " " } else { "" });
+            writing.put(guard.as_str());
+            Ok(())
         }
-        None => put(if transition.event.is_some() { "" } else { "1" }, output),
+        None => {
+            writing.put(if transition.event.is_some() { "" } else { "1" });
+            Ok(())
+        }
     }
 }
 
 // Begins the edge of a transition, up to its label.
-fn open_edge<W: Write>(
-    states: &[StateTree],
-    transition: &TransitionTree,
-    output: &mut W,
-) -> io::Result<()> {
+fn open_edge(states: &[StateTree], transition: &TransitionTree, writing: &mut Writing) {
     let from = number_of(states, transition.source.text.as_str()).unwrap_or(0);
     let to = number_of(states, transition.target.text.as_str()).unwrap_or(0);
-    write!(output, "  s{from} -> s{to} [label=<&#160;")
+    writing.put("  s");
+    writing.show(&from);
+    writing.put(" -> s");
+    writing.show(&to);
+    writing.put(" [label=<&#160;");
 }
 
 /// Draws the transitions of a chart, in text order.
-pub fn draw_transitions<W: Write>(chart: &Chart<'_>, output: &mut W) -> io::Result<()> {
+pub fn draw_transitions(chart: &Chart<'_>, writing: &mut Writing) -> Result<(), AllocError> {
     let all = chart.body.transitions.as_slice();
     for (index, transition) in all.iter().enumerate() {
-        open_edge(&chart.body.states, transition, output)?;
-        write_order(all, index, transition.source.text.as_str(), output)?;
-        write_condition(chart, transition, output)?;
-        put(">];\n", output)?;
+        open_edge(&chart.body.states, transition, writing);
+        write_order(all, index, transition.source.text.as_str(), writing);
+        write_condition(chart, transition, writing)?;
+        writing.put(">];\n");
     }
     Ok(())
 }

@@ -3,10 +3,8 @@
 use crate::seen::resource_at;
 use fb_check::Verified;
 use fb_flat::{Body, FlatResource, joined};
-use fbr_advice::put::{put, put_number};
+use fbr_places::Writing;
 use std::alloc::{AllocError, Global};
-use std::io;
-use std::io::Write;
 
 // The most that a row DEPTH can say.
 const DEEPEST: u64 = 4096;
@@ -49,20 +47,20 @@ pub fn arrivals_of(
 }
 
 /// Writes how deep a resource's queue is, and which depth takes each arrival once where it does not.
-pub fn tell_depth<W: Write>(queue: Queue<'_>, output: &mut W) -> io::Result<()> {
-    put(queue.path, output)?;
-    put(": depth of the queue ", output)?;
-    put_number(queue.depth, output)?;
+pub fn tell_depth(queue: Queue<'_>, writing: &mut Writing) {
+    writing.put(queue.path);
+    writing.put(": depth of the queue ");
+    writing.show(&queue.depth);
     let mut places: u64 = 0;
     for arrival in queue.arrivals {
         places = places.saturating_add(arrival.places);
     }
     if places > queue.depth {
-        put(", and ", output)?;
-        put_number(places, output)?;
-        put(" takes each arrival once", output)?;
+        writing.put(", and ");
+        writing.show(&places);
+        writing.put(" takes each arrival once");
     }
-    put("\n", output)
+    writing.put("\n");
 }
 
 // The places of the largest arrival, and those of all.
@@ -129,35 +127,29 @@ fn count_crowded(queue: Queue<'_>, path: &str, room: u64) -> usize {
 }
 
 // Writes the first of the other arrivals that have no room.
-fn tell_crowded<W: Write>(
-    queue: Queue<'_>,
-    path: &str,
-    room: u64,
-    output: &mut W,
-) -> io::Result<()> {
+fn tell_crowded(queue: Queue<'_>, path: &str, room: u64, writing: &mut Writing) {
     let mut told: usize = 0;
     for arrival in queue.arrivals {
         if told < NAMED && is_crowded(arrival, path, room) {
-            put(if told == 0 { "; not beside " } else { ", " }, output)?;
-            put(within(queue.path, arrival.path.as_str()), output)?;
+            writing.put(if told == 0 { "; not beside " } else { ", " });
+            writing.put(within(queue.path, arrival.path.as_str()));
             told = told.saturating_add(1);
         }
     }
-    Ok(())
 }
 
 /// Goes on with the other arrivals of a queue beside which it has no room for one.
-pub fn tell_beside<W: Write>(queue: Queue<'_>, path: &str, output: &mut W) -> io::Result<()> {
+pub fn tell_beside(queue: Queue<'_>, path: &str, writing: &mut Writing) {
     let room = room_beside(queue, path);
     let others = count_crowded(queue, path, room);
     if others > 0 && others.saturating_add(1) == queue.arrivals.len() {
-        return put("; nothing else fits beside it", output);
+        writing.put("; nothing else fits beside it");
+        return;
     }
-    tell_crowded(queue, path, room, output)?;
+    tell_crowded(queue, path, room, writing);
     if others > NAMED {
-        put(" and ", output)?;
-        put_number(others.saturating_sub(NAMED) as u64, output)?;
-        put(" more", output)?;
+        writing.put(" and ");
+        writing.show(&others.saturating_sub(NAMED));
+        writing.put(" more");
     }
-    Ok(())
 }

@@ -7,11 +7,9 @@ use fb_cert::Certificate;
 use fb_check::Verified;
 use fb_flat::{Body, FlatResource, Leaf, joined};
 use fb_types_blocks::{Block, Variables};
-use fbr_advice::put::{put, put_number};
 use fbr_advice::spotted::Named;
-use std::alloc::Global;
-use std::io;
-use std::io::Write;
+use fbr_places::Writing;
+use std::alloc::{AllocError, Global};
 
 // A resource whose bounds are told.
 #[derive(Clone, Copy)]
@@ -23,50 +21,58 @@ struct View<'a> {
 }
 
 // Writes the channels on which an arrival of a leaf can be sent on.
-fn tell_ways<W: Write>(view: View<'_>, leaf: &Leaf, event: &str, output: &mut W) -> io::Result<()> {
+fn tell_ways(
+    view: View<'_>,
+    leaf: &Leaf,
+    event: &str,
+    writing: &mut Writing,
+) -> Result<(), AllocError> {
     let channels = channels_behind(view.alloc, view.ways, leaf, event)?;
     for (number, channel) in channels.iter().enumerate() {
-        put(if number == 0 { ", by channel " } else { ", " }, output)?;
-        put_number(u64::from(*channel), output)?;
+        writing.put(if number == 0 { ", by channel " } else { ", " });
+        writing.show(channel);
     }
     Ok(())
 }
 
 // Writes what one event at an arrival of a leaf causes at most: on its device, and where it is known on all, and through which channels; and beside which other
 // arrivals there is no room for it.
-fn tell_arrival<W: Write>(
+fn tell_arrival(
     view: View<'_>,
     leaf: &Leaf,
     event: &str,
-    output: &mut W,
-) -> io::Result<()> {
+    writing: &mut Writing,
+) -> Result<(), AllocError> {
     let path = joined(view.alloc, leaf.path.as_str(), event)?;
     let path = path.as_str();
     let Some(steps) = view.verified.steps_of(path) else {
         return Ok(());
     };
     let places = view.verified.places_of(path).unwrap_or(0);
-    write!(
-        output,
-        "    {path}: steps at most {steps}, places at most {places}"
-    )?;
+    writing.put("    ");
+    writing.put(path);
+    writing.put(": steps at most ");
+    writing.show(&steps);
+    writing.put(", places at most ");
+    writing.show(&places);
     if let Some(far) = view.verified.far_of(path) {
-        put(", steps on all devices at most ", output)?;
-        put_number(far, output)?;
-        tell_ways(view, leaf, event, output)?;
+        writing.put(", steps on all devices at most ");
+        writing.show(&far);
+        tell_ways(view, leaf, event, writing)?;
     }
-    tell_beside(view.queue, path, output)?;
-    put("\n", output)
+    tell_beside(view.queue, path, writing);
+    writing.put("\n");
+    Ok(())
 }
 
 // Writes the range of each variable of a leaf that is not its whole type.
-fn tell_ranges<W: Write>(
+fn tell_ranges(
     alloc: Global,
     certificate: &Certificate,
     leaf: &str,
     variables: &Variables,
-    output: &mut W,
-) -> io::Result<()> {
+    writing: &mut Writing,
+) -> Result<(), AllocError> {
     for (name, variable) in variables {
         let path = joined(alloc, leaf, name.as_str())?;
         if let Some(range) = certificate.range(path.as_str()) {
@@ -74,7 +80,13 @@ fn tell_ranges<W: Write>(
             let high = range.high;
             let of_type = variable.of_type;
             if low != of_type.lowest() || high != of_type.highest() {
-                writeln!(output, "    {path}: {low} to {high}")?;
+                writing.put("    ");
+                writing.put(path.as_str());
+                writing.put(": ");
+                writing.show(&low);
+                writing.put(" to ");
+                writing.show(&high);
+                writing.put("\n");
             }
         }
     }
@@ -82,39 +94,39 @@ fn tell_ranges<W: Write>(
 }
 
 // Writes the ranges of a basic block.
-fn tell_block<W: Write>(
+fn tell_block(
     alloc: Global,
     certificate: &Certificate,
     leaf: &str,
     block: &Block,
-    output: &mut W,
-) -> io::Result<()> {
-    tell_ranges(alloc, certificate, leaf, &block.face.inputs, output)?;
-    tell_ranges(alloc, certificate, leaf, &block.face.outputs, output)?;
-    tell_ranges(alloc, certificate, leaf, &block.internals, output)
+    writing: &mut Writing,
+) -> Result<(), AllocError> {
+    tell_ranges(alloc, certificate, leaf, &block.face.inputs, writing)?;
+    tell_ranges(alloc, certificate, leaf, &block.face.outputs, writing)?;
+    tell_ranges(alloc, certificate, leaf, &block.internals, writing)
 }
 
 // Writes the bounds of a leaf.
-fn tell_leaf<W: Write>(view: View<'_>, leaf: &Leaf, output: &mut W) -> io::Result<()> {
+fn tell_leaf(view: View<'_>, leaf: &Leaf, writing: &mut Writing) -> Result<(), AllocError> {
     match &leaf.body {
         Body::Basic(block) => {
             let certificate = view.verified.certificate();
-            tell_block(view.alloc, certificate, leaf.path.as_str(), block, output)
+            tell_block(view.alloc, certificate, leaf.path.as_str(), block, writing)
         }
         Body::Served(service) => match service.arrival() {
-            Some(event) => tell_arrival(view, leaf, event, output),
+            Some(event) => tell_arrival(view, leaf, event, writing),
             None => Ok(()),
         },
     }
 }
 
 // Writes the bounds of a resource.
-fn tell_resource<'a, W: Write>(
+fn tell_resource<'a>(
     alloc: Global,
     verified: &'a Verified,
     resource: &'a FlatResource,
-    output: &mut W,
-) -> io::Result<()> {
+    writing: &mut Writing,
+) -> Result<(), AllocError> {
     let path = resource.path.as_str();
     let arrivals = arrivals_of(alloc, verified, resource)?;
     let queue = Queue {
@@ -122,7 +134,7 @@ fn tell_resource<'a, W: Write>(
         depth: verified.depth(path).unwrap_or(0),
         arrivals: &arrivals,
     };
-    tell_depth(queue, output)?;
+    tell_depth(queue, writing);
     let numbers = numbered(alloc, resource)?;
     let view = View {
         alloc,
@@ -134,27 +146,26 @@ fn tell_resource<'a, W: Write>(
         queue,
     };
     for leaf in &resource.leaves {
-        tell_leaf(view, leaf, output)?;
+        tell_leaf(view, leaf, writing)?;
     }
     Ok(())
 }
 
 /// Writes the bounds of what fits: how deep each queue is, what each arrival causes at most and beside which others it has no room, the range of each
 /// variable that is not its whole type, and the channels; and notes on the text. Says whether there are notes.
-pub fn tell_bounds<W: Write>(
+pub fn tell_bounds(
     alloc: Global,
     verified: &Verified,
     app: Named<'_>,
-    output: &mut W,
-) -> io::Result<bool> {
+    writing: &mut Writing,
+) -> Result<bool, AllocError> {
     for device in &verified.flat().devices {
         for resource in &device.resources {
-            tell_resource(alloc, verified, resource, output)?;
+            tell_resource(alloc, verified, resource, writing)?;
         }
     }
-    tell_channels(alloc, verified, output)?;
-    let mut notes = Vec::new(alloc);
-    tell_notes(alloc, verified, app, &mut notes)?;
-    output.write_all(&notes)?;
-    Ok(!notes.is_empty())
+    tell_channels(alloc, verified, writing)?;
+    let before = writing.bytes().len();
+    tell_notes(alloc, verified, app, writing)?;
+    Ok(writing.bytes().len() > before)
 }

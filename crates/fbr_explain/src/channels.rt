@@ -4,11 +4,9 @@ use crate::service::admitted;
 use fb_check::Verified;
 use fb_flat::{Body, Flat, FlatResource, Leaf, joined};
 use fb_types_services::{Channel, Service};
-use fbr_advice::put::{put, put_number};
+use fbr_places::Writing;
 use indexmap::{IndexMap, IndexSet};
 use std::alloc::{AllocError, Global};
-use std::io;
-use std::io::Write;
 
 /// The numbers of the leaves of a resource, by their paths.
 pub type Numbers = IndexMap<String, usize>;
@@ -163,102 +161,100 @@ fn leaves_by_channel<'a>(
 }
 
 // Writes what each datagram of a channel may cause where it arrives: there, and on all devices if they are known.
-fn tell_steps<W: Write>(verified: &Verified, path: &str, output: &mut W) -> io::Result<()> {
-    put("at most ", output)?;
-    put_number(verified.steps_of(path).unwrap_or(0), output)?;
-    put(" steps there", output)?;
+fn tell_steps(verified: &Verified, path: &str, writing: &mut Writing) {
+    writing.put("at most ");
+    writing.show(&verified.steps_of(path).unwrap_or(0));
+    writing.put(" steps there");
     if let Some(far) = verified.far_of(path) {
-        put(", ", output)?;
-        put_number(far, output)?;
-        put(" on all devices", output)?;
+        writing.put(", ");
+        writing.show(&far);
+        writing.put(" on all devices");
     }
-    put("\n", output)
+    writing.put("\n");
 }
 
 // Writes how often a datagram may be admitted, if a certificate says it.
-fn tell_times<W: Write>(repeats: Option<u8>, channel: &Channel, output: &mut W) -> io::Result<()> {
+fn tell_times(repeats: Option<u8>, channel: &Channel, writing: &mut Writing) {
     match repeats {
         Some(repeats) => match admitted(repeats, channel) {
-            1 => put("once, ", output),
+            1 => writing.put("once, "),
             times => {
-                put("at most ", output)?;
-                put_number(u64::from(times), output)?;
-                put(" times, each ", output)
+                writing.put("at most ");
+                writing.show(&times);
+                writing.put(" times, each ");
             }
         },
-        None => Ok(()),
+        None => {}
     }
 }
 
 // Writes a leaf that sends or receives.
-fn tell_end<W: Write>(
+fn tell_end(
     alloc: Global,
     verified: &Verified,
     leaf: &Leaf,
-    output: &mut W,
-) -> io::Result<()> {
+    writing: &mut Writing,
+) -> Result<(), AllocError> {
     match &leaf.body {
         Body::Served(Service::Subscribe(channel, _)) => {
             let path = joined(alloc, leaf.path.as_str(), "ARRIVE")?;
-            put("        to ", output)?;
-            put(path.as_str(), output)?;
-            put(": ", output)?;
-            tell_times(verified.certificate().repeats(), channel, output)?;
-            tell_steps(verified, path.as_str(), output)
+            writing.put("        to ");
+            writing.put(path.as_str());
+            writing.put(": ");
+            tell_times(verified.certificate().repeats(), channel, writing);
+            tell_steps(verified, path.as_str(), writing);
+            Ok(())
         }
         _ => {
-            put("        from ", output)?;
-            put(leaf.path.as_str(), output)?;
-            put("\n", output)
+            writing.put("        from ");
+            writing.put(leaf.path.as_str());
+            writing.put("\n");
+            Ok(())
         }
     }
 }
 
 // Writes the number of a channel, and what a datagram of it causes on all devices if that is known.
-fn tell_channel<W: Write>(verified: &Verified, number: u16, output: &mut W) -> io::Result<()> {
-    put("    channel ", output)?;
-    put_number(u64::from(number), output)?;
+fn tell_channel(verified: &Verified, number: u16, writing: &mut Writing) {
+    writing.put("    channel ");
+    writing.show(&number);
     if let Some(steps) = verified.certificate().channel(number) {
-        put(": a datagram causes at most ", output)?;
-        put_number(steps, output)?;
-        put(" steps on all devices", output)?;
+        writing.put(": a datagram causes at most ");
+        writing.show(&steps);
+        writing.put(" steps on all devices");
     }
-    put("\n", output)
+    writing.put("\n");
 }
 
 // Writes what is supposed of the network.
-fn tell_title<W: Write>(repeats: Option<u8>, output: &mut W) -> io::Result<()> {
+fn tell_title(repeats: Option<u8>, writing: &mut Writing) {
     match repeats {
         Some(repeats) => {
-            put(
-                "channels, where the network brings no datagram more than ",
-                output,
-            )?;
-            put_number(u64::from(repeats), output)?;
-            put(" times to a device:\n", output)
+            writing.put("channels, where the network brings no datagram more than ");
+            writing.show(&repeats);
+            writing.put(" times to a device:\n");
         }
-        None => put(
+        None => writing.put(
             "channels, whose datagrams are followed with 'fbr bound --repeats N':\n",
-            output,
         ),
     }
 }
 
 /// Writes the channels of what fits, if there are some: from where to where, and with a row REPEATS how often and what a datagram causes.
-pub fn tell_channels<W: Write>(
+pub fn tell_channels(
     alloc: Global,
     verified: &Verified,
-    output: &mut W,
-) -> io::Result<()> {
+    writing: &mut Writing,
+) -> Result<(), AllocError> {
     let found = leaves_by_channel(alloc, verified.flat())?;
     if found.is_empty() {
         return Ok(());
     }
-    tell_title(verified.certificate().repeats(), output)?;
+    tell_title(verified.certificate().repeats(), writing);
     for (number, leaves) in &found {
-        tell_channel(verified, *number, output)?;
+        tell_channel(verified, *number, writing);
         for leaf in leaves {
-            tell_end(alloc, verified, *leaf, output)?;
+            tell_end(alloc, verified, *leaf, writing)?;
         }
     }
     Ok(())

@@ -3,13 +3,10 @@
 use fb_ranges::Ranges;
 use fb_tree::{BodyTree, ChartTree};
 use fb_types_blocks::Block;
-use fbr_advice::put::put;
 use fbr_advice::spotted::{Named, tell_spot};
 use fbr_faults::{Fault, algorithm_fault, guard_fault, tell_fault};
-use fbr_places::{Declared, Spot};
+use fbr_places::{Declared, Spot, Writing};
 use std::alloc::{AllocError, Global};
-use std::io;
-use std::io::Write;
 
 // The first fault of the guards of a chart's transitions that leave a state.
 fn state_fault(
@@ -58,19 +55,19 @@ fn declared_fault(
 
 /// Writes where in the text the statement or operation at fault stands of a declared algorithm or of guards that leave a declared state, and what is wrong
 /// there under the rows of variables; and whether it is found.
-pub fn tell_inner<W: Write>(
+pub fn tell_inner(
     alloc: Global,
     declared: Declared<'_>,
     block: &Block,
     rows: &Ranges,
     app: Named<'_>,
-    output: &mut W,
-) -> io::Result<bool> {
+    writing: &mut Writing,
+) -> Result<bool, AllocError> {
     match declared_fault(alloc, declared, block, rows)? {
         Some(fault) => {
-            tell_spot(app.name, Spot::of_byte(app.text, fault.at), output)?;
-            tell_fault(&fault, output)?;
-            put("\n", output)?;
+            tell_spot(app.name, Spot::of_byte(app.text, fault.at), writing);
+            tell_fault(&fault, writing);
+            writing.put("\n");
             Ok(true)
         }
         None => Ok(false),

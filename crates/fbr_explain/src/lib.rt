@@ -31,5 +31,5 @@ pub use bounds::tell_bounds;
 pub use fb_check;
 pub use fbr_advice::spotted::Named;
 pub use meaning::{Meaning, found_limit, meaning_of};
-pub use told::{Refused, tell_meaning, tell_refusal};
+pub use told::{Refused, meaning_parts, tell_refusal};
 pub use unbound::tell_no_bound;

@@ -9,45 +9,43 @@ use fbr_advice::noted::Page;
 use fbr_advice::spotted::Named;
 use fbr_advice::used::note_variables;
 use fbr_advice::wired::note_network;
-use fbr_places::{FACES, Types, tokens_of, tree_of};
-use std::alloc::Global;
-use std::io;
-use std::io::Write;
+use fbr_places::{FACES, Types, Writing, tokens_of, tree_of};
+use std::alloc::{AllocError, Global};
 
 // Writes the notes on a text in its order: its block types, and then its resources.
-fn note_all<W: Write>(page: Page<'_>, output: &mut W) -> io::Result<()> {
+fn note_all(page: Page<'_>, writing: &mut Writing) -> Result<(), AllocError> {
     for block in &page.types.file.blocks {
         match &block.body {
             BodyTree::Chart(chart) => {
-                note_variables(page, block, chart, output)?;
-                note_chart(page, block, chart, output)?;
+                note_variables(page, block, chart, writing)?;
+                note_chart(page, block, chart, writing);
             }
-            BodyTree::Network(network) => note_network(page, network, output)?,
+            BodyTree::Network(network) => note_network(page, network, writing),
         }
     }
     for device in &page.types.file.system.devices {
         for resource in &device.resources {
-            note_network(page, &resource.network, output)?;
+            note_network(page, &resource.network, writing);
         }
     }
     Ok(())
 }
 
 // The same, and behind them those on its arithmetic.
-fn note_both<W: Write>(page: Page<'_>, verified: &Verified, output: &mut W) -> io::Result<()> {
-    note_all(page, output)?;
-    note_wraps(page, verified, output)
+fn note_both(page: Page<'_>, verified: &Verified, writing: &mut Writing) -> Result<(), AllocError> {
+    note_all(page, writing)?;
+    note_wraps(page, verified, writing)
 }
 
 // The same of its tokens and its source tree, beside the types that are there beforehand.
-fn note_file<W: Write>(
+fn note_file(
     alloc: Global,
     verified: &Verified,
     app: Named<'_>,
     tokens: &[Token],
     file: &FileTree,
-    output: &mut W,
-) -> io::Result<()> {
+    writing: &mut Writing,
+) -> Result<(), AllocError> {
     match tree_of(alloc, FACES)? {
         Some(library) => {
             let types = Types {
@@ -60,7 +58,7 @@ fn note_file<W: Write>(
                 tokens,
                 types,
             };
-            let told = note_both(page, verified, output);
+            let told = note_both(page, verified, writing);
             library.let_go();
             told
         }
@@ -70,18 +68,18 @@ fn note_file<W: Write>(
 
 /// Writes notes on the text of an application that is accepted: what it has and does not use, what leads nowhere, numbers without a unit, and arithmetic that may
 /// wrap under the ranges of its certificate.
-pub fn tell_notes<W: Write>(
+pub fn tell_notes(
     alloc: Global,
     verified: &Verified,
     app: Named<'_>,
-    output: &mut W,
-) -> io::Result<()> {
+    writing: &mut Writing,
+) -> Result<(), AllocError> {
     let Some(tokens) = tokens_of(alloc, app.text)? else {
         return Ok(());
     };
     match tree_of(alloc, app.text)? {
         Some(file) => {
-            let told = note_file(alloc, verified, app, &tokens, &file, output);
+            let told = note_file(alloc, verified, app, &tokens, &file, writing);
             file.let_go();
             told
         }

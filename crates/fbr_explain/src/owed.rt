@@ -7,9 +7,8 @@ use crate::term::{Cause, Page, Term, sum_of};
 use fb_cert::Certificate;
 use fb_check_columns::Column;
 use fb_flat::{Body, Flat, Leaf};
+use fbr_places::Writing;
 use std::alloc::{AllocError, Global};
-use std::io;
-use std::io::Write;
 
 // The terms of the first of these demands that are more than a row says.
 fn unpaid<'a>(demands: &'a [Vec<Term>], says: u64) -> Option<&'a Vec<Term>> {
@@ -22,24 +21,30 @@ fn unpaid<'a>(demands: &'a [Vec<Term>], says: u64) -> Option<&'a Vec<Term>> {
 }
 
 // Writes what a row says and needs, and the terms of what it needs, where one of these demands is more than it says; and whether one is.
-fn tell_row<W: Write>(
+fn tell_row(
     page: &Page<'_>,
     row: &str,
     path: &str,
     says: u64,
     demands: &[Vec<Term>],
-    output: &mut W,
-) -> io::Result<bool> {
+    writing: &mut Writing,
+) -> Result<bool, AllocError> {
     let Some(terms) = unpaid(demands, says) else {
         return Ok(false);
     };
     let needs = sum_of(terms);
     let unit = page.unit();
-    writeln!(
-        output,
-        "{row} {path} says {says} {unit}, and needs {needs}:"
-    )?;
-    page.tell_terms(terms, output)?;
+    writing.put(row);
+    writing.put(" ");
+    writing.put(path);
+    writing.put(" says ");
+    writing.show(&says);
+    writing.put(" ");
+    writing.put(unit);
+    writing.put(", and needs ");
+    writing.show(&needs);
+    writing.put(":\n");
+    page.tell_terms(terms, writing);
     Ok(true)
 }
 
@@ -63,12 +68,12 @@ fn event_demands(page: &Page<'_>, leaf: &Leaf, event: &str) -> Result<Vec<Vec<Te
 }
 
 // Writes what the row of a state says and needs in a column, where it needs more than it says; and whether it does.
-fn tell_state<W: Write>(
+fn tell_state(
     page: &Page<'_>,
     flat: &Flat,
     path: &str,
-    output: &mut W,
-) -> io::Result<bool> {
+    writing: &mut Writing,
+) -> Result<bool, AllocError> {
     let Some((leaf, name)) = place_at(flat, path) else {
         return Ok(false);
     };
@@ -77,39 +82,39 @@ fn tell_state<W: Write>(
     };
     let demands = state_demands(page, leaf, block, name)?;
     let says = page.column.charge(page.certificate, path);
-    tell_row(page, page.state_row(), path, says, &demands, output)
+    tell_row(page, page.state_row(), path, says, &demands, writing)
 }
 
 // The same of an event input or arrival.
-fn tell_event<W: Write>(
+fn tell_event(
     page: &Page<'_>,
     flat: &Flat,
     path: &str,
-    output: &mut W,
-) -> io::Result<bool> {
+    writing: &mut Writing,
+) -> Result<bool, AllocError> {
     let Some((leaf, name)) = place_at(flat, path) else {
         return Ok(false);
     };
     let demands = event_demands(page, leaf, name)?;
     let says = page.column.weight(page.certificate, path);
-    tell_row(page, page.event_row(), path, says, &demands, output)
+    tell_row(page, page.event_row(), path, says, &demands, writing)
 }
 
 /// Writes what the row of a state says and what it needs, term by term: in steps, or where these suffice in places.
-pub fn tell_charge<W: Write>(
+pub fn tell_charge(
     alloc: Global,
     flat: &Flat,
     certificate: &Certificate,
     path: &str,
-    output: &mut W,
-) -> io::Result<()> {
+    writing: &mut Writing,
+) -> Result<(), AllocError> {
     for column in [Column::Steps, Column::Places] {
         let page = Page {
             alloc,
             certificate,
             column,
         };
-        if tell_state(&page, flat, path, output)? {
+        if tell_state(&page, flat, path, writing)? {
             return Ok(());
         }
     }
@@ -117,20 +122,20 @@ pub fn tell_charge<W: Write>(
 }
 
 /// The same of the row of an event input or arrival.
-pub fn tell_weight<W: Write>(
+pub fn tell_weight(
     alloc: Global,
     flat: &Flat,
     certificate: &Certificate,
     path: &str,
-    output: &mut W,
-) -> io::Result<()> {
+    writing: &mut Writing,
+) -> Result<(), AllocError> {
     for column in [Column::Steps, Column::Places] {
         let page = Page {
             alloc,
             certificate,
             column,
         };
-        if tell_event(&page, flat, path, output)? {
+        if tell_event(&page, flat, path, writing)? {
             return Ok(());
         }
     }
@@ -138,33 +143,33 @@ pub fn tell_weight<W: Write>(
 }
 
 /// The same in steps on all devices, of the row of a state, an event input or an arrival.
-pub fn tell_far<W: Write>(
+pub fn tell_far(
     alloc: Global,
     flat: &Flat,
     certificate: &Certificate,
     path: &str,
-    output: &mut W,
-) -> io::Result<()> {
+    writing: &mut Writing,
+) -> Result<(), AllocError> {
     let page = Page {
         alloc,
         certificate,
         column: Column::Far,
     };
-    if tell_state(&page, flat, path, output)? {
+    if tell_state(&page, flat, path, writing)? {
         return Ok(());
     }
-    tell_event(&page, flat, path, output)?;
+    tell_event(&page, flat, path, writing)?;
     Ok(())
 }
 
 /// The same of the row of a channel.
-pub fn tell_channel<W: Write>(
+pub fn tell_channel(
     alloc: Global,
     flat: &Flat,
     certificate: &Certificate,
     number: u16,
-    output: &mut W,
-) -> io::Result<()> {
+    writing: &mut Writing,
+) -> Result<(), AllocError> {
     let page = Page {
         alloc,
         certificate,
@@ -175,9 +180,15 @@ pub fn tell_channel<W: Write>(
     let says = page.column.sending(certificate, number);
     let needs = sum_of(&terms);
     let unit = page.unit();
-    writeln!(
-        output,
-        "CHANNEL {number} says {says} {unit}, and needs {needs}:"
-    )?;
-    page.tell_terms(&terms, output)
+    writing.put("CHANNEL ");
+    writing.show(&number);
+    writing.put(" says ");
+    writing.show(&says);
+    writing.put(" ");
+    writing.put(unit);
+    writing.put(", and needs ");
+    writing.show(&needs);
+    writing.put(":\n");
+    page.tell_terms(&terms, writing);
+    Ok(())
 }

@@ -4,10 +4,8 @@ use crate::seen::resource_at;
 use fb_cert::Certificate;
 use fb_flat::{Body, Flat, Leaf, joined};
 use fb_types_services::Service;
-use fbr_advice::put::{put, put_number};
-use std::alloc::Global;
-use std::io;
-use std::io::Write;
+use fbr_places::Writing;
+use std::alloc::{AllocError, Global};
 
 // The places of an arrival, 0 where it has no row.
 fn places(certificate: &Certificate, path: &str) -> u64 {
@@ -18,12 +16,12 @@ fn places(certificate: &Certificate, path: &str) -> u64 {
 }
 
 // Writes what the arrival of a leaf takes, and tells what its BEGIN takes.
-fn tell_arrival<W: Write>(
+fn tell_arrival(
     alloc: Global,
     certificate: &Certificate,
     leaf: &Leaf,
-    output: &mut W,
-) -> io::Result<u64> {
+    writing: &mut Writing,
+) -> Result<u64, AllocError> {
     let Body::Served(service) = &leaf.body else {
         return Ok(0);
     };
@@ -32,7 +30,11 @@ fn tell_arrival<W: Write>(
     };
     let path = joined(alloc, leaf.path.as_str(), event)?;
     let places = places(certificate, path.as_str());
-    writeln!(output, "    {places} places for {path}")?;
+    writing.put("    ");
+    writing.show(&places);
+    writing.put(" places for ");
+    writing.put(path.as_str());
+    writing.put("\n");
     match service {
         Service::Restart => Ok(places),
         _ => Ok(0),
@@ -40,33 +42,31 @@ fn tell_arrival<W: Write>(
 }
 
 /// Writes how deep a resource's queue is by its row, and what its arrivals take.
-pub fn tell_depth<W: Write>(
+pub fn tell_depth(
     alloc: Global,
     flat: &Flat,
     certificate: &Certificate,
     path: &str,
-    output: &mut W,
-) -> io::Result<()> {
+    writing: &mut Writing,
+) -> Result<(), AllocError> {
     let Some(resource) = resource_at(flat, path) else {
         return Ok(());
     };
     let depth = certificate.depth(path).unwrap_or(0);
-    put("DEPTH ", output)?;
-    put(path, output)?;
-    put(" says ", output)?;
-    put_number(depth, output)?;
-    put(
-        ", and has to hold each of these, and all BEGIN together:\n",
-        output,
-    )?;
+    writing.put("DEPTH ");
+    writing.put(path);
+    writing.put(" says ");
+    writing.show(&depth);
+    writing.put(", and has to hold each of these, and all BEGIN together:\n");
     let mut begins: u64 = 0;
     for leaf in &resource.leaves {
-        begins = begins.saturating_add(tell_arrival(alloc, certificate, leaf, output)?);
+        begins = begins.saturating_add(tell_arrival(alloc, certificate, leaf, writing)?);
     }
     if begins == 0 {
         return Ok(());
     }
-    put("    ", output)?;
-    put_number(begins, output)?;
-    put(" places for all BEGIN together\n", output)
+    writing.put("    ");
+    writing.show(&begins);
+    writing.put(" places for all BEGIN together\n");
+    Ok(())
 }

@@ -6,11 +6,9 @@ use fb_check_ranges::{first_range, leaf_row, source_named, start_range};
 use fb_flat::{Flat, Leaf, Source};
 use fb_ranges::Interval;
 use fb_types_blocks::{Block, Variable};
-use fbr_advice::put::put;
 use fbr_faults::tell_numbers;
-use std::alloc::Global;
-use std::io;
-use std::io::Write;
+use fbr_places::Writing;
+use std::alloc::{AllocError, Global};
 
 // The variable of a block of this name.
 fn variable_named<'a>(block: &'a Block, name: &str) -> Option<&'a Variable> {
@@ -32,21 +30,21 @@ fn begins_with(leaf: &Leaf, block: &Block, name: &str, variable: &Variable) -> I
 }
 
 // Writes the row of a variable.
-fn tell_row<W: Write>(path: &str, row: Interval, output: &mut W) -> io::Result<()> {
-    put("RANGE ", output)?;
-    put(path, output)?;
-    put(" says ", output)?;
-    tell_numbers(row.low, row.high, output)
+fn tell_row(path: &str, row: Interval, writing: &mut Writing) {
+    writing.put("RANGE ");
+    writing.put(path);
+    writing.put(" says ");
+    tell_numbers(row.low, row.high, writing);
 }
 
 /// Writes the row of a variable, the numbers of its type, and what it begins with.
-pub fn tell_start<W: Write>(
+pub fn tell_start(
     alloc: Global,
     flat: &Flat,
     certificate: &Certificate,
     path: &str,
-    output: &mut W,
-) -> io::Result<()> {
+    writing: &mut Writing,
+) -> Result<(), AllocError> {
     let Some((leaf, name)) = place_at(flat, path) else {
         return Ok(());
     };
@@ -56,51 +54,54 @@ pub fn tell_start<W: Write>(
     let Some(variable) = variable_named(block, name) else {
         return Ok(());
     };
-    tell_row(path, leaf_row(alloc, certificate, leaf, name)?, output)?;
+    tell_row(path, leaf_row(alloc, certificate, leaf, name)?, writing);
     let low = variable.of_type.lowest();
     let high = variable.of_type.highest();
-    write!(
-        output,
-        "; its type has {low} to {high}, and it begins with "
-    )?;
+    writing.put("; its type has ");
+    writing.show(&low);
+    writing.put(" to ");
+    writing.show(&high);
+    writing.put(", and it begins with ");
     let first = begins_with(leaf, block, name, variable);
-    tell_numbers(first.low, first.high, output)?;
-    put("\n", output)
+    tell_numbers(first.low, first.high, writing);
+    writing.put("\n");
+    Ok(())
 }
 
 // Writes what a data output of a leaf may have.
-fn tell_output<W: Write>(
+fn tell_output(
     alloc: Global,
     flat: &Flat,
     certificate: &Certificate,
     path: &str,
     name: &str,
-    output: &mut W,
-) -> io::Result<()> {
+    writing: &mut Writing,
+) -> Result<(), AllocError> {
     let Some(leaf) = leaf_at(flat, path) else {
         return Ok(());
     };
-    put("; ", output)?;
-    put(path, output)?;
-    put(".", output)?;
-    put(name, output)?;
-    put(", which is connected to it, may be ", output)?;
+    writing.put("; ");
+    writing.put(path);
+    writing.put(".");
+    writing.put(name);
+    writing.put(", which is connected to it, may be ");
     let row = leaf_row(alloc, certificate, leaf, name)?;
-    tell_numbers(row.low, row.high, output)
+    tell_numbers(row.low, row.high, writing);
+    Ok(())
 }
 
 /// Writes the row of a data input, and what is connected to it may have.
-pub fn tell_link<W: Write>(
+pub fn tell_link(
     alloc: Global,
     flat: &Flat,
     certificate: &Certificate,
     path: &str,
-    output: &mut W,
-) -> io::Result<()> {
+    writing: &mut Writing,
+) -> Result<(), AllocError> {
     let Some((leaf, name)) = place_at(flat, path) else {
         return Ok(());
     };
-    tell_row(path, leaf_row(alloc, certificate, leaf, name)?, output)?;
+    tell_row(path, leaf_row(alloc, certificate, leaf, name)?, writing);
     match source_named(leaf.inputs.as_slice(), name) {
         Some(Source::Output(from, port)) => {
             tell_output(
@@ -109,10 +110,11 @@ pub fn tell_link<W: Write>(
                 certificate,
                 from.as_str(),
                 port.as_str(),
-                output,
+                writing,
             )?
         }
         _ => {}
     }
-    put("\n", output)
+    writing.put("\n");
+    Ok(())
 }

@@ -3,10 +3,8 @@
 use fb_cert::Certificate;
 use fb_check_rows::{RowKind, required};
 use fb_flat::Flat;
-use fbr_advice::put::{put, put_number};
+use fbr_places::Writing;
 use std::alloc::{AllocError, Global};
-use std::io;
-use std::io::Write;
 
 // Whether a certificate has a row of a kind and a path.
 fn has(certificate: &Certificate, kind: RowKind, path: &str) -> bool {
@@ -29,12 +27,12 @@ fn count(certificate: &Certificate, kind: RowKind) -> usize {
 }
 
 /// Writes how many rows are missing and how many are too many, where these are more than one.
-pub fn tell_counts<W: Write>(
+pub fn tell_counts(
     alloc: Global,
     flat: &Flat,
     certificate: &Certificate,
-    output: &mut W,
-) -> io::Result<()> {
+    writing: &mut Writing,
+) -> Result<(), AllocError> {
     let mut missing: usize = 0;
     let mut many: usize = 0;
     for kind in [
@@ -57,9 +55,10 @@ pub fn tell_counts<W: Write>(
     if missing.saturating_add(many) < 2 {
         return Ok(());
     }
-    put("rows that are missing: ", output)?;
-    put_number(missing as u64, output)?;
-    put(", rows that are too many: ", output)?;
-    put_number(many as u64, output)?;
-    put("; find them anew by `fbr bound APP > CERT`\n", output)
+    writing.put("rows that are missing: ");
+    writing.show(&missing);
+    writing.put(", rows that are too many: ");
+    writing.show(&many);
+    writing.put("; find them anew by `fbr bound APP > CERT`\n");
+    Ok(())
 }

@@ -2,163 +2,156 @@
 
 use fb_cert::{Amount, Certificate};
 use fb_ranges::Interval;
-use fbr_advice::put::{put, put_number};
-use fbr_places::Declared;
-use std::io;
-use std::io::Write;
+use fbr_places::{Declared, Writing};
 
 // Begins the line of a row.
-fn begin<W: Write>(kind: &str, path: &str, output: &mut W) -> io::Result<()> {
-    put("The row to add: ", output)?;
-    put(kind, output)?;
-    put(" ", output)?;
-    put(path, output)
+fn begin(kind: &str, path: &str, writing: &mut Writing) {
+    writing.put("The row to add: ");
+    writing.put(kind);
+    writing.put(" ");
+    writing.put(path);
 }
 
 // Writes a row of two numbers, where it is known.
-fn tell_amount<W: Write>(
-    kind: &str,
-    path: &str,
-    found: Option<Amount>,
-    output: &mut W,
-) -> io::Result<()> {
-    begin(kind, path, output)?;
+fn tell_amount(kind: &str, path: &str, found: Option<Amount>, writing: &mut Writing) {
+    begin(kind, path, writing);
     match found {
         Some(amount) => {
             let steps = amount.steps;
             let places = amount.places;
-            writeln!(output, " {steps} {places}")
+            writing.put(" ");
+            writing.show(&steps);
+            writing.put(" ");
+            writing.show(&places);
+            writing.put("\n");
         }
-        None => put(" STEPS PLACES\n", output),
+        None => writing.put(" STEPS PLACES\n"),
     }
 }
 
 // Ends a row of one number, where it is known.
-fn end<W: Write>(found: Option<u64>, output: &mut W) -> io::Result<()> {
+fn end(found: Option<u64>, writing: &mut Writing) {
     match found {
-        Some(number) => writeln!(output, " {number}"),
-        None => put(" NUMBER\n", output),
+        Some(number) => {
+            writing.put(" ");
+            writing.show(&number);
+            writing.put("\n");
+        }
+        None => writing.put(" NUMBER\n"),
     }
 }
 
 // Writes a row of one number, where it is known.
-fn tell_number<W: Write>(
-    kind: &str,
-    path: &str,
-    found: Option<u64>,
-    output: &mut W,
-) -> io::Result<()> {
-    begin(kind, path, output)?;
-    end(found, output)
+fn tell_number(kind: &str, path: &str, found: Option<u64>, writing: &mut Writing) {
+    begin(kind, path, writing);
+    end(found, writing);
 }
 
 // Writes a row RANGE, where it is known.
-fn tell_range<W: Write>(path: &str, found: Option<Interval>, output: &mut W) -> io::Result<()> {
-    begin("RANGE", path, output)?;
+fn tell_range(path: &str, found: Option<Interval>, writing: &mut Writing) {
+    begin("RANGE", path, writing);
     match found {
         Some(range) => {
             let low = range.low;
             let high = range.high;
-            writeln!(output, " {low} {high}")
+            writing.put(" ");
+            writing.show(&low);
+            writing.put(" ");
+            writing.show(&high);
+            writing.put("\n");
         }
-        None => put(" LOWEST HIGHEST\n", output),
+        None => writing.put(" LOWEST HIGHEST\n"),
     }
 }
 
 // Writes the row of a state that a certificate lacks.
-fn tell_state<W: Write>(
+fn tell_state(
     certificate: &Certificate,
     found: Option<&Certificate>,
     path: &str,
-    output: &mut W,
-) -> io::Result<()> {
+    writing: &mut Writing,
+) {
     if certificate.charge(path).is_none() {
         let row = match found {
             Some(all) => all.charge(path),
             None => None,
         };
-        return tell_amount("CHARGE", path, row, output);
+        tell_amount("CHARGE", path, row, writing);
+        return;
     }
     let row = match found {
         Some(all) => all.far_state(path),
         None => None,
     };
-    tell_number("FARSTATE", path, row, output)
+    tell_number("FARSTATE", path, row, writing);
 }
 
 // The same of an event input or arrival.
-fn tell_event<W: Write>(
+fn tell_event(
     certificate: &Certificate,
     found: Option<&Certificate>,
     path: &str,
-    output: &mut W,
-) -> io::Result<()> {
+    writing: &mut Writing,
+) {
     if certificate.weight(path).is_none() {
         let row = match found {
             Some(all) => all.weight(path),
             None => None,
         };
-        return tell_amount("WEIGHT", path, row, output);
+        tell_amount("WEIGHT", path, row, writing);
+        return;
     }
     let row = match found {
         Some(all) => all.far(path),
         None => None,
     };
-    tell_number("FAR", path, row, output)
+    tell_number("FAR", path, row, writing);
 }
 
 // The same of a resource.
-fn tell_depth<W: Write>(found: Option<&Certificate>, path: &str, output: &mut W) -> io::Result<()> {
+fn tell_depth(found: Option<&Certificate>, path: &str, writing: &mut Writing) {
     let row = match found {
         Some(all) => all.depth(path),
         None => None,
     };
-    tell_number("DEPTH", path, row, output)
+    tell_number("DEPTH", path, row, writing);
 }
 
 // The same of a variable.
-fn tell_variable<W: Write>(
-    found: Option<&Certificate>,
-    path: &str,
-    output: &mut W,
-) -> io::Result<()> {
+fn tell_variable(found: Option<&Certificate>, path: &str, writing: &mut Writing) {
     let row = match found {
         Some(all) => all.range(path),
         None => None,
     };
-    tell_range(path, row, output)
+    tell_range(path, row, writing);
 }
 
 /// Writes the row of a declared place that a certificate lacks, with the numbers that another one has there.
-pub fn tell_missing<W: Write>(
+pub fn tell_missing(
     declared: Option<Declared<'_>>,
     certificate: &Certificate,
     found: Option<&Certificate>,
     path: &str,
-    output: &mut W,
-) -> io::Result<()> {
+    writing: &mut Writing,
+) {
     match declared {
-        Some(Declared::Resource(_)) => tell_depth(found, path, output),
-        Some(Declared::State(_, _)) => tell_state(certificate, found, path, output),
+        Some(Declared::Resource(_)) => tell_depth(found, path, writing),
+        Some(Declared::State(_, _)) => tell_state(certificate, found, path, writing),
         Some(Declared::Event(_) | Declared::Port(_)) => {
-            tell_event(certificate, found, path, output)
+            tell_event(certificate, found, path, writing);
         }
-        Some(Declared::Variable(_, _)) => tell_variable(found, path, output),
-        _ => Ok(()),
+        Some(Declared::Variable(_, _)) => tell_variable(found, path, writing),
+        _ => {}
     }
 }
 
 /// The same of a channel.
-pub fn tell_missing_channel<W: Write>(
-    found: Option<&Certificate>,
-    number: u16,
-    output: &mut W,
-) -> io::Result<()> {
+pub fn tell_missing_channel(found: Option<&Certificate>, number: u16, writing: &mut Writing) {
     let row = match found {
         Some(all) => all.channel(number),
         None => None,
     };
-    put("The row to add: CHANNEL ", output)?;
-    put_number(u64::from(number), output)?;
-    end(row, output)
+    writing.put("The row to add: CHANNEL ");
+    writing.show(&number);
+    end(row, writing);
 }

@@ -2,10 +2,8 @@
 
 use fb_cert::Certificate;
 use fb_check_columns::Column;
-use fbr_advice::put::{put, put_number};
+use fbr_places::Writing;
 use std::alloc::Global;
-use std::io;
-use std::io::Write;
 
 /// What a term is there for.
 #[derive(Drop)]
@@ -68,49 +66,49 @@ impl Page<'_> {
     }
 
     // Writes what a term is there for.
-    fn tell_cause<W: Write>(&self, cause: &Cause, output: &mut W) -> io::Result<()> {
+    fn tell_cause(&self, cause: &Cause, writing: &mut Writing) {
         match cause {
-            Cause::Own => put("the event itself", output),
-            Cause::Dispatch => put("the dispatch of the event", output),
-            Cause::Crossing => put("the crossing of the transition", output),
-            Cause::Algorithm(name) => put_row("algorithm", name.as_str(), output),
-            Cause::State(path) => put_row(self.state_row(), path.as_str(), output),
-            Cause::Event(path) => put_row(self.event_row(), path.as_str(), output),
+            Cause::Own => writing.put("the event itself"),
+            Cause::Dispatch => writing.put("the dispatch of the event"),
+            Cause::Crossing => writing.put("the crossing of the transition"),
+            Cause::Algorithm(name) => put_row("algorithm", name.as_str(), writing),
+            Cause::State(path) => put_row(self.state_row(), path.as_str(), writing),
+            Cause::Event(path) => put_row(self.event_row(), path.as_str(), writing),
             Cause::Channel(number) => {
-                put("CHANNEL ", output)?;
-                put_number(u64::from(*number), output)
+                writing.put("CHANNEL ");
+                writing.show(number);
             }
-            Cause::Delivery(times, path) => tell_delivery(*times, path.as_str(), output),
+            Cause::Delivery(times, path) => tell_delivery(*times, path.as_str(), writing),
         }
     }
 
     /// Writes terms, one a line.
-    pub fn tell_terms<W: Write>(&self, terms: &[Term], output: &mut W) -> io::Result<()> {
+    pub fn tell_terms(&self, terms: &[Term], writing: &mut Writing) {
         for term in terms {
-            put("    ", output)?;
-            put_number(term.amount, output)?;
-            put(" for ", output)?;
-            self.tell_cause(&term.cause, output)?;
-            put("\n", output)?;
+            writing.put("    ");
+            writing.show(&term.amount);
+            writing.put(" for ");
+            self.tell_cause(&term.cause, writing);
+            writing.put("\n");
         }
-        Ok(())
     }
 }
 
 // Writes a kind of row, or of what has a name, and the name.
-fn put_row<W: Write>(kind: &str, name: &str, output: &mut W) -> io::Result<()> {
-    put(kind, output)?;
-    put(" ", output)?;
-    put(name, output)
+fn put_row(kind: &str, name: &str, writing: &mut Writing) {
+    writing.put(kind);
+    writing.put(" ");
+    writing.put(name);
 }
 
 // Writes so many deliveries to the SUBSCRIBE whose arrival has this path.
-fn tell_delivery<W: Write>(times: u8, path: &str, output: &mut W) -> io::Result<()> {
+fn tell_delivery(times: u8, path: &str, writing: &mut Writing) {
     if times == 1 {
-        return put_row("one delivery: FAR", path, output);
+        put_row("one delivery: FAR", path, writing);
+        return;
     }
-    put_number(u64::from(times), output)?;
-    put_row(" deliveries, each FAR", path, output)
+    writing.show(&times);
+    put_row(" deliveries, each FAR", path, writing);
 }
 
 /// What terms are together.

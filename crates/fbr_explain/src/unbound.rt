@@ -13,12 +13,9 @@ use fb_flat::{Flat, Leaf};
 use fb_ranges::Ranges;
 use fb_tree::FileTree;
 use fb_types::Typed;
-use fbr_advice::put::put;
 use fbr_advice::spotted::{Named, tell_spot};
-use fbr_places::{Declared, Spot, declared_at, tree_of};
-use std::alloc::Global;
-use std::io;
-use std::io::Write;
+use fbr_places::{Declared, Spot, Writing, declared_at, tree_of};
+use std::alloc::{AllocError, Global};
 
 // Whether a leaf has the place of a path.
 fn has(leaf: &Leaf, path: &str) -> bool {
@@ -29,21 +26,21 @@ fn has(leaf: &Leaf, path: &str) -> bool {
 }
 
 // Writes where a statement at fault stands of the algorithm or the state of a path, under the ranges that are found of its leaf; and whether there is one.
-fn tell_found<W: Write>(
+fn tell_found(
     alloc: Global,
     flat: &Flat,
     declared: Declared<'_>,
     path: &str,
     app: Named<'_>,
-    output: &mut W,
-) -> io::Result<bool> {
+    writing: &mut Writing,
+) -> Result<bool, AllocError> {
     let tables = tables(alloc, flat)?;
     let mut index: usize = 0;
     for device in &flat.devices {
         for resource in &device.resources {
             for leaf in &resource.leaves {
                 if has(leaf, path) {
-                    return tell_leaf(alloc, leaf, tables.get(index), declared, app, output);
+                    return tell_leaf(alloc, leaf, tables.get(index), declared, app, writing);
                 }
                 index = index.saturating_add(1);
             }
@@ -53,128 +50,140 @@ fn tell_found<W: Write>(
 }
 
 // The same of a leaf.
-fn tell_leaf<W: Write>(
+fn tell_leaf(
     alloc: Global,
     leaf: &Leaf,
     rows: Option<&Ranges>,
     declared: Declared<'_>,
     app: Named<'_>,
-    output: &mut W,
-) -> io::Result<bool> {
+    writing: &mut Writing,
+) -> Result<bool, AllocError> {
     match (block_in(leaf), rows) {
-        (Some(block), Some(rows)) => tell_inner(alloc, declared, block, rows, app, output),
+        (Some(block), Some(rows)) => tell_inner(alloc, declared, block, rows, app, writing),
         _ => Ok(false),
     }
 }
 
 // Writes where a fault stands of what is declared at a path.
-fn tell_range<W: Write>(
+fn tell_range(
     alloc: Global,
     flat: &Flat,
     tree: &FileTree,
     path: &str,
     app: Named<'_>,
-    output: &mut W,
-) -> io::Result<()> {
+    writing: &mut Writing,
+) -> Result<(), AllocError> {
     let Some(declared) = declared_at(tree, path) else {
         return Ok(());
     };
-    if tell_found(alloc, flat, declared, path, app, output)? {
+    if tell_found(alloc, flat, declared, path, app, writing)? {
         return Ok(());
     }
-    tell_spot(app.name, Spot::of_byte(app.text, declared.at()), output)
+    tell_spot(app.name, Spot::of_byte(app.text, declared.at()), writing);
+    Ok(())
 }
 
 // Writes where a resource is declared.
-fn tell_resource<W: Write>(
-    tree: &FileTree,
-    path: &str,
-    app: Named<'_>,
-    output: &mut W,
-) -> io::Result<()> {
-    match declared_at(tree, path) {
-        Some(declared) => tell_spot(app.name, Spot::of_byte(app.text, declared.at()), output),
-        None => Ok(()),
+fn tell_resource(tree: &FileTree, path: &str, app: Named<'_>, writing: &mut Writing) {
+    if let Some(declared) = declared_at(tree, path) {
+        tell_spot(app.name, Spot::of_byte(app.text, declared.at()), writing);
     }
 }
 
 // Writes where why there is no certificate stands.
-fn tell_in_tree<W: Write>(
+fn tell_in_tree(
     alloc: Global,
     fault: &NoBound,
     flat: &Flat,
     tree: &FileTree,
     app: Named<'_>,
-    output: &mut W,
-) -> io::Result<()> {
+    writing: &mut Writing,
+) -> Result<(), AllocError> {
     match fault {
-        NoBound::Cycle(places) => tell_walk(flat, places, output),
-        NoBound::Limit(path) => tell_resource(tree, path.as_str(), app, output),
-        NoBound::NoRange(path) => tell_range(alloc, flat, tree, path.as_str(), app, output),
+        NoBound::Cycle(places) => {
+            tell_walk(flat, places, writing);
+            Ok(())
+        }
+        NoBound::Limit(path) => {
+            tell_resource(tree, path.as_str(), app, writing);
+            Ok(())
+        }
+        NoBound::NoRange(path) => tell_range(alloc, flat, tree, path.as_str(), app, writing),
         NoBound::OutOfMemory => Ok(()),
     }
 }
 
 // The same where a system is read again.
-fn tell_in_flat<W: Write>(
+fn tell_in_flat(
     alloc: Global,
     fault: &NoBound,
     typed: &Typed,
     tree: &FileTree,
     app: Named<'_>,
-    output: &mut W,
-) -> io::Result<()> {
+    writing: &mut Writing,
+) -> Result<(), AllocError> {
     match flat_again(alloc, typed)? {
         Some(flat) => {
-            let told = tell_in_tree(alloc, fault, &flat, tree, app, output);
+            let told = tell_in_tree(alloc, fault, &flat, tree, app, writing);
             flat.let_go();
             told
         }
         None => match fault {
-            NoBound::Limit(path) => tell_resource(tree, path.as_str(), app, output),
+            NoBound::Limit(path) => {
+                tell_resource(tree, path.as_str(), app, writing);
+                Ok(())
+            }
             _ => Ok(()),
         },
     }
 }
 
 // Writes whether there are other ranges under which all is clear.
-fn tell_search<W: Write>(alloc: Global, typed: &Typed, output: &mut W) -> io::Result<()> {
+fn tell_search(alloc: Global, typed: &Typed, writing: &mut Writing) -> Result<(), AllocError> {
     match search(alloc, typed, None) {
         Ok(certificate) => {
             certificate.let_go();
-            put(
+            writing.put(
                 "There is a certificate with narrower ranges: `fbr bound APP --search` finds it.\n",
-                output,
-            )
+            );
+            Ok(())
         }
-        Err(NoBound::NoRange(_)) => put(
-            "Narrower ranges were looked for, and under none of them it is clear: let a test of the plain variable against a number stand right before it (LANGUAGE.md has a table of spellings).\n",
-            output,
-        ),
-        Err(NoBound::OutOfMemory) => Err(io::Error::from(io::ErrorKind::OutOfMemory)),
+        Err(NoBound::NoRange(_)) => {
+            writing.put(
+                "Narrower ranges were looked for, and under none of them it is clear: let a test of the plain variable against a number stand right before it (LANGUAGE.md has a table of spellings).\n",
+            );
+            Ok(())
+        }
+        Err(NoBound::OutOfMemory) => Err(AllocError),
         Err(_) => Ok(()),
     }
 }
 
 /// Writes why there is no certificate of a system, where that stands in the application's text, what it says and what to do.
-pub fn tell_no_bound<W: Write>(
+pub fn tell_no_bound(
     alloc: Global,
     fault: &NoBound,
     typed: &Typed,
     app: Named<'_>,
-    output: &mut W,
-) -> io::Result<()> {
+    writing: &mut Writing,
+) -> Result<(), AllocError> {
     if let Some(tree) = tree_of(alloc, app.text)? {
-        let told = tell_in_flat(alloc, fault, typed, &tree, app, output);
+        let told = tell_in_flat(alloc, fault, typed, &tree, app, writing);
         tree.let_go();
         told?;
     }
     match fault {
-        NoBound::Limit(_) => tell_meaning(Some(found_limit()), output),
-        NoBound::NoRange(_) => {
-            tell_meaning(meaning_of(fault.code()), output)?;
-            tell_search(alloc, typed, output)
+        NoBound::Limit(_) => {
+            tell_meaning(Some(found_limit()), writing);
+            Ok(())
         }
-        _ => tell_meaning(meaning_of(fault.code()), output),
+        NoBound::NoRange(_) => {
+            tell_meaning(meaning_of(fault.code()), writing);
+            tell_search(alloc, typed, writing)
+        }
+        _ => {
+            tell_meaning(meaning_of(fault.code()), writing);
+            Ok(())
+        }
     }
 }

@@ -9,13 +9,10 @@ use fb_tree::{BodyTree, ChartTree};
 use fb_types_blocks::Block;
 use fb_words::Mark;
 use fbr_advice::noted::{Page, begin_note};
-use fbr_advice::put::{put, put_number};
 use fbr_advice::tokens::{index_at, mark_of, put_spelled};
 use fbr_faults::{Wrap, algorithm_wraps, guard_wraps};
-use fbr_places::{Declared, declared_at};
+use fbr_places::{Declared, Writing, declared_at};
 use std::alloc::AllocError;
-use std::io;
-use std::io::Write;
 
 // So many are told, and so many of those whose operands have all numbers of a type.
 const TOLD: usize = 15;
@@ -113,18 +110,25 @@ fn spelled<'a>(page: Page<'a>, wrap: Wrap) -> &'a str {
 }
 
 // Writes the note on an operation.
-fn note_wrap<W: Write>(page: Page<'_>, wrap: Wrap, output: &mut W) -> io::Result<()> {
-    begin_note(page, wrap.at, output)?;
-    put_spelled(spelled(page, wrap), output)?;
+fn note_wrap(page: Page<'_>, wrap: Wrap, writing: &mut Writing) {
+    begin_note(page, wrap.at, writing);
+    put_spelled(spelled(page, wrap), writing);
     let low = wrap.low;
     let high = wrap.high;
     let name = wrap.of_type.name();
     let lowest = wrap.of_type.lowest();
     let highest = wrap.of_type.highest();
-    writeln!(
-        output,
-        " is {low} to {high}, {name} holds {lowest} to {highest}"
-    )
+    writing.put(" is ");
+    writing.show(&low);
+    writing.put(" to ");
+    writing.show(&high);
+    writing.put(", ");
+    writing.put(name);
+    writing.put(" holds ");
+    writing.show(&lowest);
+    writing.put(" to ");
+    writing.show(&highest);
+    writing.put("\n");
 }
 
 // The first of these operations in the text, from a byte on.
@@ -142,37 +146,41 @@ fn next_of(found: &[Wrap], is_vague: bool, from: usize) -> Option<Wrap> {
 }
 
 // Writes the notes on these operations in their order, at most so many, and says how many these are.
-fn note_some<W: Write>(
+fn note_some(
     page: Page<'_>,
     found: &[Wrap],
     is_vague: bool,
     most: usize,
-    output: &mut W,
-) -> io::Result<usize> {
+    writing: &mut Writing,
+) -> usize {
     let mut from: usize = 0;
     for told in 0..most {
         match next_of(found, is_vague, from) {
             Some(wrap) => {
-                note_wrap(page, wrap, output)?;
+                note_wrap(page, wrap, writing);
                 from = wrap.at.saturating_add(1);
             }
-            None => return Ok(told),
+            None => return told,
         }
     }
-    Ok(most)
+    most
 }
 
 /// Writes the notes on arithmetic that may wrap: last on operations of which an operand has all numbers of its type, and how many more there are where they are many.
-pub fn note_wraps<W: Write>(page: Page<'_>, verified: &Verified, output: &mut W) -> io::Result<()> {
+pub fn note_wraps(
+    page: Page<'_>,
+    verified: &Verified,
+    writing: &mut Writing,
+) -> Result<(), AllocError> {
     let found = wraps_in(page, verified)?;
-    let told = note_some(page, &found, false, TOLD, output)?;
-    let vague = note_some(page, &found, true, VAGUE, output)?;
+    let told = note_some(page, &found, false, TOLD, writing);
+    let vague = note_some(page, &found, true, VAGUE, writing);
     let rest = found.len().saturating_sub(told).saturating_sub(vague);
     if rest > 0 {
-        put(page.app.name, output)?;
-        put(": note: arithmetic may wrap at ", output)?;
-        put_number(rest as u64, output)?;
-        put(" more places\n", output)?;
+        writing.put(page.app.name);
+        writing.put(": note: arithmetic may wrap at ");
+        writing.show(&rest);
+        writing.put(" more places\n");
     }
     Ok(())
 }

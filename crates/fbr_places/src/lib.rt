@@ -1,4 +1,4 @@
-//! Room: program. Where in a text the places of its system stand: what paths name, and bytes by line and column.
+//! Room: program. Where in a text the places of its system stand: what paths name, and bytes by line and column; and texts for people, put together in memory.
 //! No contracts: what it finds is tested.
 #![tactic(auto)]
 
@@ -8,6 +8,7 @@ mod library;
 mod ports;
 mod spot;
 mod tree;
+mod writing;
 
 pub use around::{
     block_around, connection_at, device_around, instance_around, network_around, resource_around,
@@ -17,3 +18,4 @@ pub use library::FACES;
 pub use ports::{Port, Types, port_in, type_named};
 pub use spot::Spot;
 pub use tree::{tokens_of, tree_of};
+pub use writing::Writing;

@@ -1,7 +1,6 @@
 //! Places in a text, as people count.
 
-use std::io;
-use std::io::Write;
+use crate::writing::Writing;
 
 /// A character of a text: its line, and its place there.
 #[derive(Clone, Copy)]
@@ -58,14 +57,16 @@ impl<'a> Spot<'a> {
     }
 
     /// Writes the line, and a mark below the character.
-    pub fn mark<W: Write>(&self, output: &mut W) -> io::Result<()> {
+    pub fn mark(&self, writing: &mut Writing) {
         let text = self.text;
-        writeln!(output, "    {text}")?;
-        write!(output, "    ")?;
+        writing.put("    ");
+        writing.put(text);
+        writing.put("\n");
+        writing.put("    ");
         for character in text.chars().take(self.column.saturating_sub(1)) {
             let blank = if character == '\t' { "\t" } else { " " };
-            write!(output, "{blank}")?;
+            writing.put(blank);
         }
-        writeln!(output, "^")
+        writing.put("^\n");
     }
 }
