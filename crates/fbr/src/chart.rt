@@ -2,12 +2,12 @@
 
 use crate::bound::typed_in;
 use crate::check::read_text;
+use crate::hint::hand_out;
 use crate::sources::Sources;
 use fb_tree::{BodyTree, FileTree};
 use fbr_draw::chart_named;
-use fbr_places::tree_of;
+use fbr_places::{Writing, tree_of};
 use std::alloc::Global;
-use std::io;
 use std::io::Write;
 
 // The most names that are told.
@@ -24,43 +24,31 @@ fn is_typed(alloc: Global, text: &str) -> bool {
     }
 }
 
-// Writes a text.
-fn put<E: Write>(text: &str, errors: &mut E) -> io::Result<()> {
-    errors.write_all(text.as_bytes())
-}
-
 // Writes the names of the basic block types of a text, the first of them where they are many.
-fn write_types<E: Write>(file: &FileTree, errors: &mut E) -> io::Result<()> {
+fn write_types(file: &FileTree, writing: &mut Writing) {
     let mut count: usize = 0;
     for block in &file.blocks {
         if let BodyTree::Chart(_) = &block.body {
             if count == MOST_TOLD {
-                return put(" ..", errors);
+                writing.put(" ..");
+                return;
             }
-            put(if count == 0 { ": " } else { ", " }, errors)?;
-            put(block.name.text.as_str(), errors)?;
+            writing.put(if count == 0 { ": " } else { ", " });
+            writing.put(block.name.text.as_str());
             count = count.saturating_add(1);
         }
     }
-    put(
-        if count == 0 {
-            ", and there is none"
-        } else {
-            ""
-        },
-        errors,
-    )
+    if count == 0 {
+        writing.put(", and there is none");
+    }
 }
 
-// Tells that a name is no basic block type of a file, and which there are.
-fn tell<E: Write>(app: &str, file: &FileTree, errors: &mut E) -> io::Result<()> {
-    put(
-        "fbr: `--chart` takes the name of a basic block type of ",
-        errors,
-    )?;
-    put(app, errors)?;
-    write_types(file, errors)?;
-    put("\n", errors)
+// Writes that a name is no basic block type of a file, and which there are.
+fn tell(app: &str, file: &FileTree, writing: &mut Writing) {
+    writing.put("fbr: `--chart` takes the name of a basic block type of ");
+    writing.put(app);
+    write_types(file, writing);
+    writing.put("\n");
 }
 
 // The same, where it is so.
@@ -68,7 +56,9 @@ fn hint_type<E: Write>(alloc: Global, app: &str, text: &str, name: &str, errors:
     if let Ok(Some(tree)) = tree_of(alloc, text) {
         if let Ok(upper) = name.to_ascii_uppercase(alloc) {
             if chart_named(&tree, upper.as_str()).is_none() {
-                let _ = tell(app, &tree, errors);
+                let mut writing = Writing::new(alloc);
+                tell(app, &tree, &mut writing);
+                hand_out(writing, errors);
             }
         }
         tree.let_go();

@@ -24,9 +24,11 @@ pub struct Given<'a> {
     pub repeats: Option<u8>,
 }
 
-// Writes a text.
-fn put<E: Write>(text: &str, errors: &mut E) -> io::Result<()> {
-    errors.write_all(text.as_bytes())
+/// Hands out what people are told, whole or not at all.
+pub fn hand_out<E: Write>(writing: Writing, errors: &mut E) {
+    if let Ok(told) = writing.end() {
+        let _ = errors.write_all(&told);
+    }
 }
 
 // What there is to say of a refusal of two texts, where they can be read.
@@ -86,23 +88,20 @@ fn taught_in(told: &str) -> Option<&str> {
 }
 
 // Writes which words say more of a fault.
-fn write_more<E: Write>(fault: &Fault<'_>, given: Given<'_>, errors: &mut E) -> io::Result<()> {
+fn write_more(fault: &Fault<'_>, given: Given<'_>, writing: &mut Writing) {
     match fault {
         Fault::Refused(_) | Fault::Unbound(_) => {
-            put(given.app, errors)?;
+            writing.put(given.app);
             if let Some(cert) = given.cert {
-                put(" ", errors)?;
-                put(cert, errors)?;
+                writing.put(" ");
+                writing.put(cert);
             }
-            match given.repeats {
-                Some(repeats) => write!(errors, " --repeats {repeats}"),
-                None => Ok(()),
+            if let Some(repeats) = given.repeats {
+                writing.put(" --repeats ");
+                writing.show(&repeats);
             }
         }
-        _ => {
-            let code = fault.code();
-            write!(errors, "{code}")
-        }
+        _ => writing.show(&fault.code()),
     }
 }
 
@@ -116,65 +115,57 @@ fn said(fault: &Fault<'_>) -> &'static str {
 }
 
 // Writes the line of a fault behind its place: its outcome, what is said of it, and which words say more.
-fn write_rest<E: Write>(
-    fault: &Fault<'_>,
-    said: &str,
-    given: Given<'_>,
-    errors: &mut E,
-) -> io::Result<()> {
-    write!(errors, "{fault}: ")?;
-    put(said, errors)?;
-    put("; 'fbr explain ", errors)?;
-    write_more(fault, given, errors)?;
-    put("' says more\n", errors)
+fn write_rest(fault: &Fault<'_>, said: &str, given: Given<'_>, writing: &mut Writing) {
+    writing.show(fault);
+    writing.put(": ");
+    writing.put(said);
+    writing.put("; 'fbr explain ");
+    write_more(fault, given, writing);
+    writing.put("' says more\n");
 }
 
 // Writes the line of a fault that stands at no place of a text.
-fn write_line<E: Write>(fault: &Fault<'_>, given: Given<'_>, errors: &mut E) -> io::Result<()> {
-    put("fbr: ", errors)?;
-    write_rest(fault, said(fault), given, errors)
+fn write_line(fault: &Fault<'_>, given: Given<'_>, writing: &mut Writing) {
+    writing.put("fbr: ");
+    write_rest(fault, said(fault), given, writing);
 }
 
 // The same where an explanation may say at which place.
-fn write_taught<E: Write>(
-    told: &str,
-    fault: &Fault<'_>,
-    given: Given<'_>,
-    errors: &mut E,
-) -> io::Result<()> {
+fn write_taught(told: &str, fault: &Fault<'_>, given: Given<'_>, writing: &mut Writing) {
     let Some(spot) = spot_in(told, given) else {
-        return write_line(fault, given, errors);
+        write_line(fault, given, writing);
+        return;
     };
-    put("fbr: ", errors)?;
-    put(spot, errors)?;
-    put(": ", errors)?;
+    writing.put("fbr: ");
+    writing.put(spot);
+    writing.put(": ");
     let said = match (fault, taught_in(told)) {
         (Fault::Refused(Refusal::Depth(_)), _) | (_, None) => said(fault),
         (_, Some(taught)) => taught,
     };
-    write_rest(fault, said, given, errors)
+    write_rest(fault, said, given, writing);
 }
 
 // Writes the line of a fault, if it is more than want of memory.
-fn tell<S: Sources, E: Write>(
+fn tell<S: Sources>(
     alloc: Global,
     files: &S,
     fault: &Fault<'_>,
     given: Given<'_>,
-    errors: &mut E,
-) -> io::Result<()> {
+    writing: &mut Writing,
+) {
     match fault {
-        Fault::Memory | Fault::Refused(Refusal::OutOfMemory) => Ok(()),
+        Fault::Memory | Fault::Refused(Refusal::OutOfMemory) => {}
         Fault::Refused(refusal) => match explained(alloc, files, refusal, given) {
-            Some(told) => write_taught(told.as_str(), fault, given, errors),
-            None => write_line(fault, given, errors),
+            Some(told) => write_taught(told.as_str(), fault, given, writing),
+            None => write_line(fault, given, writing),
         },
         _ => match stray_in(alloc, files, fault) {
             Some(said) => {
-                put("fbr: ", errors)?;
-                write_rest(fault, said.as_str(), given, errors)
+                writing.put("fbr: ");
+                write_rest(fault, said.as_str(), given, writing);
             }
-            None => write_line(fault, given, errors),
+            None => write_line(fault, given, writing),
         },
     }
 }
@@ -187,21 +178,23 @@ pub fn hint<S: Sources, E: Write>(
     given: Given<'_>,
     errors: &mut E,
 ) {
-    let _ = tell(alloc, files, fault, given, errors);
+    let mut writing = Writing::new(alloc);
+    tell(alloc, files, fault, given, &mut writing);
+    hand_out(writing, errors);
 }
 
-// Tells people of a fault of a script, by the status that it has.
-fn hint_script<E: Write>(status: u8, errors: &mut E) -> io::Result<()> {
-    let (outcome, code) = if status == 2 {
-        ("fbr: standard input: refused 60: ", 60)
-    } else {
-        ("fbr: standard input: refused 61: ", 61)
-    };
-    put(outcome, errors)?;
+// Writes the line of a fault of a script, by the status that it has.
+fn write_script(status: u8, writing: &mut Writing) {
+    let code: u8 = if status == 2 { 60 } else { 61 };
+    writing.put("fbr: standard input: refused ");
+    writing.show(&code);
+    writing.put(": ");
     if let Some(meaning) = meaning_of(code) {
-        put(meaning.says, errors)?;
+        writing.put(meaning.says);
     }
-    writeln!(errors, "; 'fbr explain {code}' says more")
+    writing.put("; 'fbr explain ");
+    writing.show(&code);
+    writing.put("' says more\n");
 }
 
 // The status of what was refused, other than for want of memory.
@@ -237,7 +230,9 @@ pub fn hint_sim<S: Sources, E: Write>(
 ) {
     if let Some(status) = refused(told) {
         if fits(alloc, files, given, errors) {
-            let _ = hint_script(status, errors);
+            let mut writing = Writing::new(alloc);
+            write_script(status, &mut writing);
+            hand_out(writing, errors);
         }
     }
 }

@@ -5,167 +5,160 @@ use fb_tree::{
     ActionTree, BlockTree, BodyTree, ChartTree, ConnectionTree, EventTree, FileTree, InstanceTree,
     Name, NetworkTree, PortTree, TransitionTree, VariableTree,
 };
-use std::alloc::AllocError;
+use fbr_places::Writing;
 
 // Names, each behind a space.
-fn names(out: &mut String, list: &[Name]) -> Result<(), AllocError> {
+fn names(out: &mut Writing, list: &[Name]) {
     for item in list {
-        out.push(' ')?;
-        name(out, item)?;
+        out.put(" ");
+        name(out, item);
     }
-    Ok(())
 }
 
 // A name where there is one, else a dot.
-fn optional(out: &mut String, item: &Option<Name>) -> Result<(), AllocError> {
+fn optional(out: &mut Writing, item: &Option<Name>) {
     match item {
         Some(item) => name(out, item),
-        None => out.push('.'),
+        None => out.put("."),
     }
 }
 
-fn events(out: &mut String, word: &str, list: &[EventTree]) -> Result<(), AllocError> {
+fn events(out: &mut Writing, word: &str, list: &[EventTree]) {
     for event in list {
-        out.push_str(word)?;
-        out.push(' ')?;
-        name(out, &event.name)?;
+        out.put(word);
+        out.put(" ");
+        name(out, &event.name);
         if !event.carries.is_empty() {
-            out.push_str(" WITH")?;
-            names(out, &event.carries)?;
+            out.put(" WITH");
+            names(out, &event.carries);
         }
-        out.push('\n')?;
+        out.put("\n");
     }
-    Ok(())
 }
 
-fn variables(out: &mut String, word: &str, list: &[VariableTree]) -> Result<(), AllocError> {
+fn variables(out: &mut Writing, word: &str, list: &[VariableTree]) {
     for variable in list {
-        out.push_str(word)?;
-        names(out, &variable.names)?;
-        out.push_str(" : ")?;
+        out.put(word);
+        names(out, &variable.names);
+        out.put(" : ");
         if let Some(bounds) = variable.bounds {
-            out.push('[')?;
-            constant(out, bounds.low)?;
-            out.push_str("..")?;
-            constant(out, bounds.high)?;
-            out.push_str("] ")?;
+            out.put("[");
+            constant(out, bounds.low);
+            out.put("..");
+            constant(out, bounds.high);
+            out.put("] ");
         }
-        out.push_str(variable.of_type.name())?;
+        out.put(variable.of_type.name());
         if let Some(start) = variable.start {
-            spot(out, " :=", start.at)?;
-            constant(out, start.value)?;
+            spot(out, " :=", start.at);
+            constant(out, start.value);
         }
-        out.push('\n')?;
+        out.put("\n");
     }
-    Ok(())
 }
 
 // An action: its algorithm and its event output.
-fn actions(out: &mut String, list: &[ActionTree]) -> Result<(), AllocError> {
+fn actions(out: &mut Writing, list: &[ActionTree]) {
     for action in list {
-        out.push(' ')?;
-        optional(out, &action.algorithm)?;
-        out.push_str("->")?;
-        optional(out, &action.output)?;
+        out.put(" ");
+        optional(out, &action.algorithm);
+        out.put("->");
+        optional(out, &action.output);
     }
-    Ok(())
 }
 
-fn transition(out: &mut String, transition: &TransitionTree) -> Result<(), AllocError> {
-    out.push_str("TRANSITION ")?;
-    name(out, &transition.source)?;
-    out.push_str(" TO ")?;
-    name(out, &transition.target)?;
-    out.push_str(" := ")?;
-    optional(out, &transition.event)?;
+fn transition(out: &mut Writing, transition: &TransitionTree) {
+    out.put("TRANSITION ");
+    name(out, &transition.source);
+    out.put(" TO ");
+    name(out, &transition.target);
+    out.put(" := ");
+    optional(out, &transition.event);
     if let Some(guard) = &transition.guard {
-        spot(out, " [", guard.at)?;
-        expression(out, &guard.condition)?;
-        out.push(']')?;
+        spot(out, " [", guard.at);
+        expression(out, &guard.condition);
+        out.put("]");
     }
-    out.push('\n')
+    out.put("\n");
 }
 
-fn chart(out: &mut String, chart: &ChartTree) -> Result<(), AllocError> {
-    variables(out, "VAR", &chart.internals)?;
+fn chart(out: &mut Writing, chart: &ChartTree) {
+    variables(out, "VAR", &chart.internals);
     for state in &chart.states {
-        out.push_str("STATE ")?;
-        name(out, &state.name)?;
-        actions(out, &state.actions)?;
-        out.push('\n')?;
+        out.put("STATE ");
+        name(out, &state.name);
+        actions(out, &state.actions);
+        out.put("\n");
     }
     for item in &chart.transitions {
-        transition(out, item)?;
+        transition(out, item);
     }
     for algorithm in &chart.algorithms {
-        out.push_str("ALGORITHM ")?;
-        name(out, &algorithm.name)?;
-        out.push(' ')?;
-        statements(out, &algorithm.body)?;
-        out.push('\n')?;
+        out.put("ALGORITHM ");
+        name(out, &algorithm.name);
+        out.put(" ");
+        statements(out, &algorithm.body);
+        out.put("\n");
     }
-    Ok(())
 }
 
-fn instance(out: &mut String, instance: &InstanceTree) -> Result<(), AllocError> {
-    out.push_str("INSTANCE ")?;
-    name(out, &instance.name)?;
-    out.push_str(" : ")?;
-    name(out, &instance.of_type)?;
+fn instance(out: &mut Writing, instance: &InstanceTree) {
+    out.put("INSTANCE ");
+    name(out, &instance.name);
+    out.put(" : ");
+    name(out, &instance.of_type);
     if let Some(types) = &instance.types {
-        out.push_str(" [")?;
+        out.put(" [");
         for of in types {
-            out.push(' ')?;
-            out.push_str(of.name())?;
+            out.put(" ");
+            out.put(of.name());
         }
-        out.push_str(" ]")?;
+        out.put(" ]");
     }
     for parameter in &instance.parameters {
-        out.push(' ')?;
-        name(out, &parameter.name)?;
-        spot(out, " :=", parameter.at)?;
-        constant(out, parameter.value)?;
+        out.put(" ");
+        name(out, &parameter.name);
+        spot(out, " :=", parameter.at);
+        constant(out, parameter.value);
     }
-    out.push('\n')
+    out.put("\n");
 }
 
-fn port(out: &mut String, port: &PortTree) -> Result<(), AllocError> {
-    name(out, &port.first)?;
+fn port(out: &mut Writing, port: &PortTree) {
+    name(out, &port.first);
     if let Some(second) = &port.second {
-        out.push('.')?;
-        name(out, second)?;
+        out.put(".");
+        name(out, second);
     }
-    Ok(())
 }
 
-fn connections(out: &mut String, word: &str, list: &[ConnectionTree]) -> Result<(), AllocError> {
+fn connections(out: &mut Writing, word: &str, list: &[ConnectionTree]) {
     for connection in list {
-        out.push_str(word)?;
-        out.push(' ')?;
-        port(out, &connection.source)?;
-        spot(out, " TO", connection.at)?;
-        port(out, &connection.target)?;
-        out.push('\n')?;
+        out.put(word);
+        out.put(" ");
+        port(out, &connection.source);
+        spot(out, " TO", connection.at);
+        port(out, &connection.target);
+        out.put("\n");
     }
-    Ok(())
 }
 
-fn network(out: &mut String, network: &NetworkTree) -> Result<(), AllocError> {
+fn network(out: &mut Writing, network: &NetworkTree) {
     for item in &network.instances {
-        instance(out, item)?;
+        instance(out, item);
     }
-    connections(out, "EVENT", &network.events)?;
-    connections(out, "DATA", &network.values)
+    connections(out, "EVENT", &network.events);
+    connections(out, "DATA", &network.values);
 }
 
-fn block(out: &mut String, block: &BlockTree) -> Result<(), AllocError> {
-    out.push_str("FUNCTION_BLOCK ")?;
-    name(out, &block.name)?;
-    out.push('\n')?;
-    events(out, "EVENT_INPUT", &block.event_inputs)?;
-    events(out, "EVENT_OUTPUT", &block.event_outputs)?;
-    variables(out, "VAR_INPUT", &block.inputs)?;
-    variables(out, "VAR_OUTPUT", &block.outputs)?;
+fn block(out: &mut Writing, block: &BlockTree) {
+    out.put("FUNCTION_BLOCK ");
+    name(out, &block.name);
+    out.put("\n");
+    events(out, "EVENT_INPUT", &block.event_inputs);
+    events(out, "EVENT_OUTPUT", &block.event_outputs);
+    variables(out, "VAR_INPUT", &block.inputs);
+    variables(out, "VAR_OUTPUT", &block.outputs);
     match &block.body {
         BodyTree::Chart(body) => chart(out, body),
         BodyTree::Network(body) => network(out, body),
@@ -173,23 +166,22 @@ fn block(out: &mut String, block: &BlockTree) -> Result<(), AllocError> {
 }
 
 /// A whole text.
-pub fn source(out: &mut String, source: &FileTree) -> Result<(), AllocError> {
+pub fn source(out: &mut Writing, source: &FileTree) {
     for item in &source.blocks {
-        block(out, item)?;
+        block(out, item);
     }
-    out.push_str("SYSTEM ")?;
-    name(out, &source.system.name)?;
-    out.push('\n')?;
+    out.put("SYSTEM ");
+    name(out, &source.system.name);
+    out.put("\n");
     for device in &source.system.devices {
-        out.push_str("DEVICE ")?;
-        name(out, &device.name)?;
-        out.push('\n')?;
+        out.put("DEVICE ");
+        name(out, &device.name);
+        out.put("\n");
         for resource in &device.resources {
-            out.push_str("RESOURCE ")?;
-            name(out, &resource.name)?;
-            out.push('\n')?;
-            network(out, &resource.network)?;
+            out.put("RESOURCE ");
+            name(out, &resource.name);
+            out.put("\n");
+            network(out, &resource.network);
         }
     }
-    Ok(())
 }

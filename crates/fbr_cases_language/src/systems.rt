@@ -1,16 +1,16 @@
 //! Whether whole texts are well typed, and what their leaves are.
 
 use crate::case::Case;
-use crate::text::{ended, refused, text_of};
+use crate::text::{refused, text_of, written};
 use fb_flat::{Body, Flat, Input, Leaf, Source, flatten};
 use fb_text::parse;
 use fb_types::Typed;
 use fb_types_events::resolve;
 use fb_types_services::{Channel, Service};
 use fb_words::{ElemType, Format};
+use fbr_places::Writing;
 use std::alloc::{AllocError, Global};
 use std::convert::AsStr;
-use std::fmt::Write;
 
 /// `typed`, or the refusal.
 pub fn systems(alloc: Global, case: &Case<'_>) -> Result<String, AllocError> {
@@ -54,67 +54,63 @@ pub fn flat(alloc: Global, case: &Case<'_>) -> Result<Result<Flat, String>, Allo
     }
 }
 
-fn whole(out: &mut String, number: i64) -> Result<(), AllocError> {
-    write!(out, "{number}")
-}
-
 // Where the value of a data input comes from.
-fn taken(out: &mut String, input: &Input) -> Result<(), AllocError> {
-    out.push(' ')?;
-    out.push_str(input.name.as_str())?;
+fn taken(out: &mut Writing, input: &Input) {
+    out.put(" ");
+    out.put(input.name.as_str());
     match &input.source {
         Source::Output(path, name) => {
-            out.push_str(" < ")?;
-            out.push_str(path.as_str())?;
-            out.push('.')?;
-            out.push_str(name.as_str())
+            out.put(" < ");
+            out.put(path.as_str());
+            out.put(".");
+            out.put(name.as_str())
         }
         Source::Number(number) => {
-            out.push_str(" = ")?;
-            whole(out, *number)
+            out.put(" = ");
+            out.show(number)
         }
         Source::Zeros(low, high) => {
-            out.push_str(" = 0 at ")?;
-            whole(out, *low)?;
-            out.push_str("..")?;
-            whole(out, *high)
+            out.put(" = 0 at ");
+            out.show(low);
+            out.put("..");
+            out.show(high)
         }
     }
 }
 
 // The event outputs of a leaf with what they lead to, and its data inputs with what they come from.
-fn wires(out: &mut String, leaf: &Leaf) -> Result<(), AllocError> {
-    out.push_str(leaf.path.as_str())?;
+fn wires(out: &mut Writing, leaf: &Leaf) {
+    out.put(leaf.path.as_str());
     for output in &leaf.outputs {
-        out.push(' ')?;
-        out.push_str(output.name.as_str())?;
+        out.put(" ");
+        out.put(output.name.as_str());
         for target in &output.targets {
-            out.push_str(" > ")?;
-            out.push_str(target.path.as_str())?;
-            out.push('.')?;
-            out.push_str(target.event.as_str())?;
+            out.put(" > ");
+            out.put(target.path.as_str());
+            out.put(".");
+            out.put(target.event.as_str());
         }
     }
     for input in &leaf.inputs {
-        taken(out, input)?;
+        taken(out, input);
     }
-    out.push('\n')
+    out.put("\n");
 }
 
 // The wires of all leaves.
 fn leaves_of(alloc: Global, flat: &Flat) -> Result<String, AllocError> {
-    let mut out = String::new(alloc);
+    let mut out = Writing::new(alloc);
     for device in &flat.devices {
         for resource in &device.resources {
-            out.push_str("resource ")?;
-            out.push_str(resource.path.as_str())?;
-            out.push('\n')?;
+            out.put("resource ");
+            out.put(resource.path.as_str());
+            out.put("\n");
             for leaf in &resource.leaves {
-                wires(&mut out, leaf)?;
+                wires(&mut out, leaf);
             }
         }
     }
-    Ok(ended(out))
+    written(alloc, out)
 }
 
 /// The leaves of each resource with their wires.
@@ -130,14 +126,14 @@ pub fn leaves(alloc: Global, case: &Case<'_>) -> Result<String, AllocError> {
 }
 
 // Names in a line behind a word.
-fn listed<T: AsStr>(out: &mut String, word: &str, names: &[T]) -> Result<(), AllocError> {
-    out.push_str("  ")?;
-    out.push_str(word)?;
+fn listed<T: AsStr>(out: &mut Writing, word: &str, names: &[T]) {
+    out.put("  ");
+    out.put(word);
     for name in names {
-        out.push(' ')?;
-        out.push_str(name.as_str())?;
+        out.put(" ");
+        out.put(name.as_str());
     }
-    out.push('\n')
+    out.put("\n");
 }
 
 // A format, where it is not the first.
@@ -149,23 +145,20 @@ fn format_of(channel: &Channel) -> &'static str {
 }
 
 // The word of a service with its number, its format and the types of its values.
-fn headed(
-    out: &mut String,
-    word: &str,
-    number: u16,
-    format: &str,
-    types: &[ElemType],
-) -> Result<(), AllocError> {
-    write!(out, "{word} {number}{format}")?;
+fn headed(out: &mut Writing, word: &str, number: u16, format: &str, types: &[ElemType]) {
+    out.put(word);
+    out.put(" ");
+    out.show(&number);
+    out.put(format);
     for of in types {
-        out.push(' ')?;
-        out.push_str(of.name())?;
+        out.put(" ");
+        out.put(of.name());
     }
-    out.push('\n')
+    out.put("\n");
 }
 
 // What a service is.
-fn head(out: &mut String, service: &Service) -> Result<(), AllocError> {
+fn head(out: &mut Writing, service: &Service) {
     match service {
         Service::Input(number, types) => headed(out, "INPUT", *number, "", types),
         Service::Output(number, types) => headed(out, "OUTPUT", *number, "", types),
@@ -175,42 +168,43 @@ fn head(out: &mut String, service: &Service) -> Result<(), AllocError> {
         Service::Subscribe(channel, types) => {
             headed(out, "SUBSCRIBE", channel.number, format_of(channel), types)
         }
-        Service::Delay => out.push_str("E_DELAY\n"),
-        Service::Cycle => out.push_str("E_CYCLE\n"),
-        Service::Restart => out.push_str("E_RESTART\n"),
+        Service::Delay => out.put("E_DELAY\n"),
+        Service::Cycle => out.put("E_CYCLE\n"),
+        Service::Restart => out.put("E_RESTART\n"),
     }
 }
 
 // A service with its ports, and what each of its event inputs and its arrival can emit.
-fn ports(alloc: Global, out: &mut String, service: &Service) -> Result<(), AllocError> {
-    head(out, service)?;
-    listed(out, "event outputs", service.event_outputs())?;
+fn ports(alloc: Global, out: &mut Writing, service: &Service) -> Result<(), AllocError> {
+    head(out, service);
+    listed(out, "event outputs", service.event_outputs());
     for event in service.event_inputs() {
-        listed(out, *event, service.emitted(*event))?;
+        listed(out, *event, service.emitted(*event));
     }
     if let Some(arrival) = service.arrival() {
-        listed(out, arrival, service.emitted(arrival))?;
+        listed(out, arrival, service.emitted(arrival));
     }
-    listed(out, "inputs", service.inputs(alloc)?.as_slice())?;
-    listed(out, "outputs", service.outputs(alloc)?.as_slice())
+    listed(out, "inputs", service.inputs(alloc)?.as_slice());
+    listed(out, "outputs", service.outputs(alloc)?.as_slice());
+    Ok(())
 }
 
 // What all leaves are.
 fn services_of(alloc: Global, flat: &Flat) -> Result<String, AllocError> {
-    let mut out = String::new(alloc);
+    let mut out = Writing::new(alloc);
     for device in &flat.devices {
         for resource in &device.resources {
             for leaf in &resource.leaves {
-                out.push_str(leaf.path.as_str())?;
-                out.push(' ')?;
+                out.put(leaf.path.as_str());
+                out.put(" ");
                 match &leaf.body {
-                    Body::Basic(_) => out.push_str("block\n")?,
+                    Body::Basic(_) => out.put("block\n"),
                     Body::Served(service) => ports(alloc, &mut out, service)?,
                 }
             }
         }
     }
-    Ok(ended(out))
+    written(alloc, out)
 }
 
 /// What each leaf is: a block, or a service with its ports.

@@ -1,6 +1,7 @@
 //! The texts of cases, and the form of answers.
 
 use crate::case::Case;
+use fbr_places::Writing;
 use std::alloc::{AllocError, Global};
 use std::fmt::{Display, Write};
 
@@ -47,6 +48,12 @@ pub fn ended(mut out: String) -> String {
         let _ = out.pop();
     }
     out
+}
+
+/// An answer that was written, without the line feed at its end.
+pub fn written(alloc: Global, out: Writing) -> Result<String, AllocError> {
+    let bytes = out.end()?;
+    Ok(ended(String::from_utf8_lossy(alloc, bytes.as_slice())?))
 }
 
 /// A refusal.

@@ -1,11 +1,12 @@
 //! What is read from texts and certificates.
 
 use crate::case::Case;
-use crate::text::{ended, refused, text_of};
+use crate::text::{ended, refused, text_of, written};
 use crate::{declared, trees};
 use fb_cert::{parse_cert, print_cert};
 use fb_lex::lex;
 use fb_text::parse;
+use fbr_places::Writing;
 use std::alloc::{AllocError, Global};
 
 /// The tokens of a text.
@@ -13,11 +14,11 @@ pub fn tokens(alloc: Global, case: &Case<'_>) -> Result<String, AllocError> {
     let text = text_of(alloc, case)?;
     match lex(alloc, text.as_str()) {
         Ok(tokens) => {
-            let mut out = String::new(alloc);
+            let mut out = Writing::new(alloc);
             for token in &tokens {
-                trees::token(&mut out, token)?;
+                trees::token(&mut out, token);
             }
-            Ok(ended(out))
+            written(alloc, out)
         }
         Err(fault) => refused(alloc, &fault),
     }
@@ -28,11 +29,10 @@ pub fn texts(alloc: Global, case: &Case<'_>) -> Result<String, AllocError> {
     let text = text_of(alloc, case)?;
     match parse(alloc, text.as_str()) {
         Ok(source) => {
-            let mut out = String::new(alloc);
-            let told = declared::source(&mut out, source.tree());
+            let mut out = Writing::new(alloc);
+            declared::source(&mut out, source.tree());
             source.let_go();
-            told?;
-            Ok(ended(out))
+            written(alloc, out)
         }
         Err(fault) => refused(alloc, &fault),
     }
