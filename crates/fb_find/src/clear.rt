@@ -1,9 +1,9 @@
 //! The rows RANGE of a certificate, under which all is clear.
 
-ghost use Rattle.std.specs.Prelude.{◌≡◌, ℕ, Option, map, IfErr, IfOk};
+ghost use Rattle.std.specs.Prelude.{◌≡◌, ℕ, Option, map, IfErr, IfOk, OnOk};
 ghost use Rattle.fb_model.specs.System.{System};
 ghost use Rattle.fb_model.specs.Certificates.{all_leaves};
-ghost use Rattle.fb_cert.specs.Views.{rows_of};
+ghost use Rattle.fb_cert.specs.Views.{no_rows, rows_of};
 ghost use Rattle.fb_ranges.specs.Views.{spans_of};
 ghost use Rattle.fb_find_ranges.specs.Found.{spelled};
 ghost use Rattle.fb_find.specs.Bounds.{IsNoBoundAt};
@@ -30,6 +30,23 @@ fn no_range(fault: Unclear) -> NoBound
     }
 }
 
+// Adds the rows RANGE that these tables spell, leaf by leaf, under which all is clear.
+fn add_clear(
+    alloc: Global,
+    flat: &Flat,
+    tables: &[Ranges],
+    certificate: &mut Certificate,
+) -> Result<(), NoBound>
+    ensures ranged { (s : System) → HaveTables flat.now.devices.items (map spans_of tables.now) s → rows_of certificate.old ≡ no_rows → OnOk result (HasRanges s (spelled (map spans_of tables.now) (all_leaves s.devices)) (rows_of certificate.new)) }
+    ensures refused { (repeats : Option ℕ) (s : System) → HaveTables flat.now.devices.items (map spans_of tables.now) s → rows_of certificate.old ≡ no_rows → IfErr result (IsNoBoundAt (spelled (map spans_of tables.now) (all_leaves s.devices)) repeats s) }
+{
+    add_ranges(alloc, flat, tables, certificate)?;
+    match rows_clear(alloc, flat, certificate) {
+        Ok(()) => Ok(()),
+        Err(fault) => Err(no_range(fault)),
+    }
+}
+
 /// A certificate with the rows RANGE that these tables spell, leaf by leaf, under which all is clear.
 pub(crate) fn with_ranges(
     alloc: Global,
@@ -40,12 +57,11 @@ pub(crate) fn with_ranges(
     ensures refused { (repeats : Option ℕ) (s : System) → HaveTables flat.now.devices.items (map spans_of tables.now) s → IfErr result (IsNoBoundAt (spelled (map spans_of tables.now) (all_leaves s.devices)) repeats s) }
 {
     let mut certificate = Certificate::new(alloc);
-    add_ranges(alloc, flat, tables, &mut certificate)?;
-    match rows_clear(alloc, flat, &certificate) {
+    match add_clear(alloc, flat, tables, &mut certificate) {
         Ok(()) => Ok(certificate),
         Err(fault) => {
             certificate.let_go();
-            Err(no_range(fault))
+            Err(fault)
         }
     }
 }

@@ -7,10 +7,10 @@ ghost use Rattle.fb_model.specs.Certificates.{all_leaves, Fits};
 ghost use Rattle.fb_cert.specs.Views.{certificate_of};
 ghost use Rattle.fb_types.specs.Views.{system_of};
 ghost use Rattle.fb_ranges.specs.Views.{spans_of};
-ghost use Rattle.fb_find_laws.specs.Finding.{IsFound, IsFoundWith};
+ghost use Rattle.fb_find_laws.specs.Finding.{IsFound, IsFoundWith, IsMadeWith};
 ghost use Rattle.fb_find_ranges.specs.Found.{spelled};
 ghost use Rattle.fb_find.specs.Given.{IsGiven};
-ghost use Rattle.fb_find.specs.Parts.{HasNumbering, HaveTables};
+ghost use Rattle.fb_find.specs.Parts.{events_in, states_in, HasNumbering, HaveTables, IsReady};
 ghost use Rattle.fb_find.specs.Bounds.{IsNoBound, IsNoBoundAt, IsWalk, IsDenied};
 
 use crate::clear::with_ranges;
@@ -37,6 +37,38 @@ fn numbered(alloc: Global, repeats: Option<u8>, flat: &Flat) -> Result<Numbering
     Ok(numbering)
 }
 
+// The certificate of a system whose ranges are those of tables, over an order of its nodes that serves all columns.
+fn with_order(
+    alloc: Global,
+    flat: &Flat,
+    repeats: Option<u8>,
+    tables: &[Ranges],
+    numbering: &Numbering,
+    order: &[usize],
+) -> Result<Certificate, NoBound>
+    requires some { IfSome repeats (λ r. 1 ≤ r) }
+    requires ready { (s : System) × HaveTables flat.now.devices.items (map spans_of tables.now) s × IsReady repeats flat.now.devices.items numbering.now order.now s }
+    ensures made { (s : System) → HaveTables flat.now.devices.items (map spans_of tables.now) s → IsReady repeats flat.now.devices.items numbering.now order.now s → IfOk result (λ c. IsMadeWith (λ rs. rs ≡ spelled (map spans_of tables.now) (all_leaves s.devices)) repeats s (states_in numbering.now) (events_in numbering.now) numbering.now.channels.items (certificate_of c)) }
+    ensures refused { (s : System) → HaveTables flat.now.devices.items (map spans_of tables.now) s → IsReady repeats flat.now.devices.items numbering.now order.now s → IfErr result (IsNoBoundAt (spelled (map spans_of tables.now) (all_leaves s.devices)) repeats s) }
+{
+    let certificate = with_ranges(alloc, flat, tables)?;
+    match tables_in(alloc, flat, &certificate) {
+        Ok(own) => with_numbers(
+            alloc,
+            flat,
+            repeats,
+            numbering,
+            order,
+            own.as_slice(),
+            certificate,
+        ),
+        Err(fault) => {
+            certificate.let_go();
+            Err(NoBound::from(fault))
+        }
+    }
+}
+
 /// The certificate of a system whose ranges are those of tables, leaf by leaf.
 pub(crate) fn with_tables(
     alloc: Global,
@@ -51,17 +83,7 @@ pub(crate) fn with_tables(
 {
     let numbering = numbered(alloc, repeats, flat)?;
     let order = order(alloc, flat, &numbering, repeats)?;
-    let certificate = with_ranges(alloc, flat, tables)?;
-    let own = tables_in(alloc, flat, &certificate)?;
-    with_numbers(
-        alloc,
-        flat,
-        repeats,
-        &numbering,
-        order.as_slice(),
-        own.as_slice(),
-        certificate,
-    )
+    with_order(alloc, flat, repeats, tables, &numbering, order.as_slice())
 }
 
 // The certificate of a system's leaves.

@@ -92,6 +92,36 @@ fn add_numbers(
     )
 }
 
+// Adds the rows CHARGE, WEIGHT and DEPTH, each number the least, and those of the network where datagrams are followed.
+fn add_all(
+    alloc: Global,
+    flat: &Flat,
+    repeats: Option<u8>,
+    numbering: &Numbering,
+    order: &[usize],
+    tables: &[Ranges],
+    certificate: &mut Certificate,
+) -> Result<(), NoBound>
+    requires some { IfSome repeats (λ r. 1 ≤ r) }
+    requires ready { (s : System) × (ranges : List Range) × IsReady repeats flat.now.devices.items numbering.now order.now s × HasTables s ranges (map spans_of tables.now) }
+    ensures made { (s : System) (ranges : List Range) → IsReady repeats flat.now.devices.items numbering.now order.now s → HasTables s ranges (map spans_of tables.now) → HasRanges s ranges (rows_of certificate.old) → OnOk result (IsMadeWith (λ rs. rs ≡ ranges) repeats s (states_in numbering.now) (events_in numbering.now) numbering.now.channels.items (certificate_of certificate.new)) }
+    ensures refused { (s : System) (ranges : List Range) → IsReady repeats flat.now.devices.items numbering.now order.now s → HasTables s ranges (map spans_of tables.now) → HasRanges s ranges (rows_of certificate.old) → IfErr result (IsNoBoundAt ranges repeats s) }
+{
+    let steps = steps(alloc, flat, numbering, order, tables)?;
+    let places = places(alloc, flat, numbering, order)?;
+    add_numbers(
+        alloc,
+        numbering,
+        steps.as_slice(),
+        places.as_slice(),
+        certificate,
+    )?;
+    add_depths(alloc, flat, certificate)?;
+    add_network(alloc, flat, repeats, numbering, order, tables, certificate)?;
+    certificate.stands_in_text();
+    Ok(())
+}
+
 /// A certificate with the rows CHARGE, WEIGHT and DEPTH, each number the least, and with those of the network where datagrams are followed.
 pub(crate) fn with_numbers(
     alloc: Global,
@@ -108,17 +138,7 @@ pub(crate) fn with_numbers(
     ensures refused { (s : System) (ranges : List Range) → IsReady repeats flat.now.devices.items numbering.now order.now s → HasTables s ranges (map spans_of tables.now) → HasRanges s ranges (rows_of certificate) → IfErr result (IsNoBoundAt ranges repeats s) }
 {
     let mut certificate = certificate;
-    let steps = steps(alloc, flat, numbering, order, tables)?;
-    let places = places(alloc, flat, numbering, order)?;
-    add_numbers(
-        alloc,
-        numbering,
-        steps.as_slice(),
-        places.as_slice(),
-        &mut certificate,
-    )?;
-    add_depths(alloc, flat, &mut certificate)?;
-    add_network(
+    match add_all(
         alloc,
         flat,
         repeats,
@@ -126,7 +146,11 @@ pub(crate) fn with_numbers(
         order,
         tables,
         &mut certificate,
-    )?;
-    certificate.stands_in_text();
-    Ok(certificate)
+    ) {
+        Ok(()) => Ok(certificate),
+        Err(fault) => {
+            certificate.let_go();
+            Err(fault)
+        }
+    }
 }

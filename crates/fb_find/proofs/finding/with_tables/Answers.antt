@@ -8,7 +8,7 @@ use Rattle.fb_find_laws.proofs.Laws.{made_with}
 use Rattle.fb_find_ranges.specs.Found.{spelled}
 use Rattle.fb_ranges.specs.Views.{spans_of}
 use Rattle.fb_find.specs.Parts.{events_in, states_in}
-use Rattle.fb_find.proofs.Given.{cycle_told, has_tables, ready_is}
+use Rattle.fb_find.proofs.Given.{cycle_told, ready_is}
 use Rattle.fb_find.proofs.finding.with_tables.Goals as goal
 
 pub order-requires : goal.order-requires
@@ -19,18 +19,12 @@ returns-in_err-order-clause-refused c = λ s have.
     let p = err_from_is_err_and c.from_residual-in_err-order.result c.from_residual-in_err-order.ensures.1 in
     rw (p.1, p.2) (cycle_told (spelled (map spans_of c.args.tables.now) (all_leaves s.devices)) c.args.repeats s c.in_err-order.field-0.0 (c.in_err-order.ensures.cycle s (c.in_ok-numbering.ensures s have.given).numbered))
 
-pub with_numbers-requires-clause-ready : goal.with_numbers-requires-clause-ready
-with_numbers-requires-clause-ready c =
+pub with_order-requires-clause-ready : goal.with_order-requires-clause-ready
+with_order-requires-clause-ready c =
     let s = c.requires.tables.0 in
     let have = c.requires.tables.1 in
-    let fs = c.args.flat.now.devices.items in
-    let ranges = spelled (map spans_of c.args.tables.now) (all_leaves s.devices) in
-    let h = c.in_ok-numbering.ensures s have.given in (
-      s,
-      ranges,
-      ready_is c.args.repeats fs c.in_ok-numbering.numbering s c.in_ok-order.order.items c.as_slice.result.now h c.as_slice.ensures.value (c.in_ok-order.ensures.ordered s h.numbered),
-      has_tables s fs ranges c.in_ok-certificate.certificate c.in_ok-own.own.items c.as_slice-2.result.now have.given (c.in_ok-certificate.ensures.ranged s have) c.in_ok-own.ensures c.as_slice-2.ensures.value,
-    )
+    let h = c.in_ok-numbering.ensures s have.given in
+    (s, have, ready_is c.args.repeats c.args.flat.now.devices.items c.in_ok-numbering.numbering s c.in_ok-order.order.items c.as_slice.result.now h c.as_slice.ensures.value (c.in_ok-order.ensures.ordered s h.numbered))
 
 pub returns-clause-found : goal.returns-clause-found
 returns-clause-found c = λ s have.
@@ -38,28 +32,11 @@ returns-clause-found c = λ s have.
     let fs = c.args.flat.now.devices.items in
     let ranges = spelled (map spans_of c.args.tables.now) (all_leaves s.devices) in
     let h = c.in_ok-numbering.ensures s have.given in
-    let has = c.in_ok-certificate.ensures.ranged s have in
     ok_weaker (λ x. IsMadeWith (λ rs. rs ≡ ranges) c.args.repeats s (states_in n) (events_in n) n.channels.items (certificate_of x)) (λ x. IsFoundWith (λ rs. rs ≡ ranges) c.args.repeats s (certificate_of x))
-    (λ x m. made_with (λ rs. rs ≡ ranges) c.args.repeats s (states_in n) (events_in n) n.channels.items (certificate_of x) h.numbered.rows m) c.with_numbers.result
-    (c.with_numbers.ensures.made s ranges (ready_is c.args.repeats fs n s c.in_ok-order.order.items c.as_slice.result.now h c.as_slice.ensures.value (c.in_ok-order.ensures.ordered s h.numbered))
-    (has_tables s fs ranges c.in_ok-certificate.certificate c.in_ok-own.own.items c.as_slice-2.result.now have.given has c.in_ok-own.ensures c.as_slice-2.ensures.value) has)
+    (λ x m. made_with (λ rs. rs ≡ ranges) c.args.repeats s (states_in n) (events_in n) n.channels.items (certificate_of x) h.numbered.rows m) c.with_order.result
+    (c.with_order.ensures.made s have (ready_is c.args.repeats fs n s c.in_ok-order.order.items c.as_slice.result.now h c.as_slice.ensures.value (c.in_ok-order.ensures.ordered s h.numbered)))
 
 pub returns-clause-refused : goal.returns-clause-refused
 returns-clause-refused c = λ s have.
-    let n = c.in_ok-numbering.numbering in
-    let fs = c.args.flat.now.devices.items in
-    let ranges = spelled (map spans_of c.args.tables.now) (all_leaves s.devices) in
     let h = c.in_ok-numbering.ensures s have.given in
-    let has = c.in_ok-certificate.ensures.ranged s have in
-    c.with_numbers.ensures.refused s ranges (ready_is c.args.repeats fs n s c.in_ok-order.order.items c.as_slice.result.now h c.as_slice.ensures.value (c.in_ok-order.ensures.ordered s h.numbered))
-    (has_tables s fs ranges c.in_ok-certificate.certificate c.in_ok-own.own.items c.as_slice-2.result.now have.given has c.in_ok-own.ensures c.as_slice-2.ensures.value) has
-
-pub returns-in_err-certificate-clause-refused : goal.returns-in_err-certificate-clause-refused
-returns-in_err-certificate-clause-refused c = λ s have.
-    let p = err_from_is_err_and c.from_residual-in_err-certificate.result c.from_residual-in_err-certificate.ensures.1 in
-    rw (p.1, p.2) (c.in_err-certificate.ensures.refused c.args.repeats s have)
-
-pub returns-in_err-own-clause-refused : goal.returns-in_err-own-clause-refused
-returns-in_err-own-clause-refused c = λ s have.
-    let p = err_from_is_err_and c.from_residual-in_err-own.result c.from_residual-in_err-own.ensures.1 in
-    rw (p.1, p.2) tt
+    c.with_order.ensures.refused s have (ready_is c.args.repeats c.args.flat.now.devices.items c.in_ok-numbering.numbering s c.in_ok-order.order.items c.as_slice.result.now h c.as_slice.ensures.value (c.in_ok-order.ensures.ordered s h.numbered))
