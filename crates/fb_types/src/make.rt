@@ -126,6 +126,29 @@ fn make<'a>(
     }
 }
 
+// The instances of a composite, with how deep composites nest in them: at most `room`.
+#[cycle(making)]
+fn inside<'a>(
+    alloc: Global,
+    types: &Types<'a>,
+    memo: &mut Memo,
+    path: &[&'a BlockTree],
+    room: usize,
+    source: &'a BlockTree,
+    network: &'a NetworkTree,
+) -> Result<(Vec<Instance>, usize), Unmade<'a>>
+    ensures bounded { IfOk result (λ p. p.1 ≤ room) }
+    ensures made { (bs : List decl.BlockTree) → IsTable bs types.now → IsMemo bs memo.old → IfOk result (λ p. AreParts bs room (trees_of.network_of network.now).instances p.0.items p.1) }
+    ensures kept { (bs : List decl.BlockTree) → IsTable bs types.now → IsMemo bs memo.old → OnOk result (IsMemo bs memo.new) }
+    ensures refused { (bs : List decl.BlockTree) → IsTable bs types.now → IsMemo bs memo.old → (trees_of.block_of source.now).body ≡ decl.Network (trees_of.network_of network.now) → IsOpen bs (map tree_of path.now) (trees_of.block_of source.now) → IfErr result (IsUnmade bs (suc room) (trees_of.block_of source.now)) }
+{
+    let path = extended(alloc, path, source)?;
+    match parts(alloc, types, memo, &path, room, &network.instances) {
+        Ok((instances, deep)) => Ok((instances, deep)),
+        Err(unmade) => Err(outer(unmade, source)),
+    }
+}
+
 // A composite, with composites nested at most `room` deep.
 #[cycle(making)]
 fn make_composite<'a>(
@@ -146,10 +169,9 @@ fn make_composite<'a>(
         return Err(Unmade::TooDeep(source));
     }
     let face = face(alloc, source)?;
-    let path = extended(alloc, path, source)?;
-    match parts(alloc, types, memo, &path, room - 1, &network.instances) {
+    match inside(alloc, types, memo, path, room - 1, source, network) {
         Ok((instances, deep)) => Ok(composite(alloc, face, instances, deep + 1, network)?),
-        Err(unmade) => Err(outer(unmade, source)),
+        Err(unmade) => Err(unmade),
     }
 }
 

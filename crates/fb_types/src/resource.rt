@@ -1,14 +1,19 @@
 //! Resources.
 
-ghost use Rattle.std.specs.Prelude.{◌≡◌, ◌++◌, [], List, map, OnOk, IfOk, IfErr};
+ghost use Rattle.std.specs.Prelude.{◌≡◌, ◌≤◌, ◌⊎◌, ◌++◌, [], List, map, OnOk, IfOk, IfErr};
 ghost use Rattle.std.specs.List.{Contains};
 ghost use Rattle.fb_model.specs.Declarations as decl;
-ghost use Rattle.fb_model.specs.NetworkTyping.{IsResource, AreResources, no_face};
+ghost use Rattle.fb_model.specs.Typing.{most_instances};
+ghost use Rattle.fb_model.specs.NetworkTyping.{IsResource, AreResources, instance_count, no_face};
 ghost use Rattle.fb_tree.specs.Files as trees_of;
 ghost use Rattle.fb_types_blocks.specs.Views.{face_of};
+ghost use Rattle.fb_types_networks.specs.declared.typed.Network.{out-Network};
+ghost use Rattle.fb_types_networks.specs.Views.{instances_of, placed_of, wired_of};
+ghost use Rattle.fb_types_networks.specs.Answers.{AreNamed, IsWired};
+ghost use Rattle.fb_types_networks.specs.Refusals.{IsNetworkFault};
 ghost use Rattle.fb_types.specs.Views.{resource_of, resource_offsets, offsets_in, resource_uses, device_uses};
 ghost use Rattle.fb_types.specs.Nesting.{AllProvide, ResourcesProvide};
-ghost use Rattle.fb_types.specs.Refusals.{IsResourceFault};
+ghost use Rattle.fb_types.specs.Refusals.{IsCrowd, IsResourceFault};
 ghost use Rattle.fb_types.specs.Made.{IsTable, IsMemo, IsNamed, IsDeeper, IsUnmade, IsHalted, IsRefusedType, IsRefusedInstance, AreMade};
 
 use crate::count::few;
@@ -17,9 +22,9 @@ use crate::make::parts;
 use crate::rings::ring;
 use crate::table::Types;
 use crate::typed::Resource;
-use fb_tree::{BlockTree, InstanceTree, ResourceTree};
+use fb_tree::{BlockTree, InstanceTree, NetworkTree, ResourceTree};
 use fb_types_blocks::{Face, TypeFault};
-use fb_types_networks::{Instance, wire};
+use fb_types_networks::{Instance, Network, wire};
 use indexmap::IndexMap;
 use std::alloc::Global;
 
@@ -60,7 +65,7 @@ fn without_ports(alloc: Global) -> Face
     }
 }
 
-// The instances of a resource.
+// The instances of a resource, no more than may be.
 fn instances<'a>(
     alloc: Global,
     types: &Types<'a>,
@@ -68,13 +73,30 @@ fn instances<'a>(
     sources: &'a [InstanceTree],
 ) -> Result<Vec<Instance>, TypeFault>
     ensures made { (bs : List decl.BlockTree) → IsTable bs types.now → IsMemo bs memo.old → IfOk result (λ v. AreMade bs (map trees_of.instance_of sources.now) v.items) }
+    ensures few { IfOk result (λ v. instance_count (instances_of v.items) ≤ most_instances) }
     ensures kept { (bs : List decl.BlockTree) → IsTable bs types.now → IsMemo bs memo.old → OnOk result (IsMemo bs memo.new) }
-    ensures refused { (bs : List decl.BlockTree) → IsTable bs types.now → IsMemo bs memo.old → IfErr result (λ f. (i : decl.InstanceTree) × Contains (map trees_of.instance_of sources.now) i × IsRefusedInstance bs i f) }
+    ensures refused { (bs : List decl.BlockTree) → IsTable bs types.now → IsMemo bs memo.old → IfErr result (λ f. ((i : decl.InstanceTree) × Contains (map trees_of.instance_of sources.now) i × IsRefusedInstance bs i f) ⊎ IsCrowd bs most_instances (map trees_of.instance_of sources.now) f) }
 {
     match parts(alloc, types, memo, &[], DEEP, sources) {
-        Ok((instances, _)) => Ok(instances),
+        Ok((instances, _)) => {
+            few(&instances)?;
+            Ok(instances)
+        }
         Err(unmade) => Err(refusal(alloc, types, unmade)),
     }
+}
+
+// The network of a resource, over these instances.
+fn network(
+    alloc: Global,
+    instances: Vec<Instance>,
+    source: &NetworkTree,
+) -> Result<Network, TypeFault>
+    ensures instances { IfOk result (λ n. (out-Network n).instances ≡ instances) }
+    ensures typed { AreNamed (trees_of.network_of source.now) (map placed_of instances.items) → IfOk result (λ n. IsWired no_face (trees_of.network_of source.now) (map placed_of instances.items) (wired_of n)) }
+    ensures refused { AreNamed (trees_of.network_of source.now) (map placed_of instances.items) → IfErr result (IsNetworkFault no_face (trees_of.network_of source.now) (map placed_of instances.items)) }
+{
+    wire(alloc, &without_ports(alloc), instances, source)
 }
 
 // A resource.
@@ -91,8 +113,7 @@ fn resource<'a>(
     ensures refused { (bs : List decl.BlockTree) → IsTable bs types.now → IsMemo bs memo.old → IfErr result (IsResourceFault bs (trees_of.resource_of source.now)) }
 {
     let instances = instances(alloc, types, memo, &source.network.instances)?;
-    few(&instances)?;
-    let network = wire(alloc, &without_ports(alloc), instances, &source.network)?;
+    let network = network(alloc, instances, &source.network)?;
     let name = source.name.text.clone()?;
     Ok(Resource {
         name,

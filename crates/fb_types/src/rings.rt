@@ -137,6 +137,24 @@ fn copied<'a>(alloc: Global, types: &Types<'a>) -> Result<Types<'a>, AllocError>
     Ok(copy)
 }
 
+// The offset of the ring that closes where the search goes on below a type, among those that are left.
+fn searched<'a>(
+    alloc: Global,
+    left: &mut Types<'a>,
+    block: &'a BlockTree,
+) -> Result<Option<usize>, AllocError>
+    ensures { (bs : List decl.BlockTree) → IsSearching bs (trees_of.block_of block.now) (found_in left.old) (trees_of.block_of block.now ∷ []) → IfOk result (IsSearched bs (trees_of.block_of block.now)) }
+{
+    let mut path = Vec::new(alloc);
+    path.push(block)?;
+    while let Some(top) = path.pop() {
+        if let Some(at) = advance(left, &mut path, top)? {
+            return Ok(Some(at));
+        }
+    }
+    Ok(None)
+}
+
 /// The offset of a ring of composites to which a type leads: that of the type's name in the instance by which it closes.
 ///
 /// Types are searched depth first in text order, each once. The path is on the heap, however long it is.
@@ -149,12 +167,5 @@ pub(crate) fn ring<'a>(
 {
     let mut left = copied(alloc, types)?;
     left.swap_remove(block.name.text.as_str());
-    let mut path = Vec::new(alloc);
-    path.push(block)?;
-    while let Some(top) = path.pop() {
-        if let Some(at) = advance(&mut left, &mut path, top)? {
-            return Ok(Some(at));
-        }
-    }
-    Ok(None)
+    searched(alloc, &mut left, block)
 }

@@ -4,6 +4,7 @@ ghost use Rattle.std.specs.Prelude.{◌≡◌, ◌++◌, [], List, map, true, On
 ghost use Rattle.std.specs.List.{AllByRecursion};
 ghost use Rattle.fb_model.specs.Declarations as decl;
 ghost use Rattle.fb_model.specs.System as book;
+ghost use Rattle.fb_model.specs.Typing.{AreDistinct};
 ghost use Rattle.fb_model.specs.NetworkTyping.{IsProper, ElaboratesWith};
 ghost use Rattle.fb_tree.specs.Files as trees_of;
 ghost use Rattle.fb_types_blocks.specs.Answers.{Finds};
@@ -63,6 +64,25 @@ fn all_declared<'a>(
     Ok(())
 }
 
+// The system of a source, over the table of its types and of those of a library, of which none has been made yet.
+fn resolved_over<'a>(
+    alloc: Global,
+    types: &Types<'a>,
+    memo: &mut Memo,
+    source: &'a FileTree,
+) -> Result<Configuration, TypeFault>
+    ensures typed { (bs : List decl.BlockTree) → IsTable (map trees_of.block_of source.now.blocks.items ++ bs) types.now → IsMemo (map trees_of.block_of source.now.blocks.items ++ bs) memo.old → AreDistinct (map (λ b. b.name.text) (map trees_of.block_of source.now.blocks.items)) → IfOk result (λ t. ElaboratesWith bs (trees_of.source_of source.now) (system_of t)) }
+    ensures offsets { IfOk result (λ t. system_offsets t.devices.items ≡ all_offsets (trees_of.source_of source.now).system.devices) }
+    ensures refused { (bs : List decl.BlockTree) → IsTable (map trees_of.block_of source.now.blocks.items ++ bs) types.now → IsMemo (map trees_of.block_of source.now.blocks.items ++ bs) memo.old → AreDistinct (map (λ b. b.name.text) (map trees_of.block_of source.now.blocks.items)) → IfErr result (IsSourceFault bs (trees_of.source_of source.now)) }
+{
+    all_declared(alloc, types, memo, &source.blocks)?;
+    at_most(&source.system.devices, DEVICES)?;
+    table(alloc, &source.system.devices)?;
+    let devices = devices(alloc, types, memo, &source.system.devices)?;
+    channels_alike(alloc, &devices)?;
+    Ok(Configuration { devices })
+}
+
 // The system of a source, by its parts.
 fn resolved(
     alloc: Global,
@@ -76,12 +96,7 @@ fn resolved(
     table(alloc, &source.blocks)?;
     let types = table_of(alloc, &source.blocks, library)?;
     let mut memo = IndexMap::new(alloc);
-    all_declared(alloc, &types, &mut memo, &source.blocks)?;
-    at_most(&source.system.devices, DEVICES)?;
-    table(alloc, &source.system.devices)?;
-    let devices = devices(alloc, &types, &mut memo, &source.system.devices)?;
-    channels_alike(alloc, &devices)?;
-    Ok(Configuration { devices })
+    resolved_over(alloc, &types, &mut memo, source)
 }
 
 /// The system that a source is with these event blocks. Types of the source come before event blocks of the same name, and each is made

@@ -1,4 +1,4 @@
-use Rattle.std.proofs.Common.{◌≡◌, ◌≤◌, max, None, Some, inl, inr, ◌+◌, ◌-◌, ◌++◌, ◌∷◌, [], map, take, refl, sym, ap, subst, ◌∙◌, arith}
+use Rattle.std.proofs.Common.{◌≡◌, ◌≤◌, suc, max, None, Some, inl, inr, ◌+◌, ◌-◌, ◌++◌, ◌∷◌, [], map, take, refl, sym, ap, subst, ◌∙◌, arith}
 use Rattle.std.specs.Option.{option_map}
 use Rattle.std.specs.List.{Any}
 use Rattle.std.proofs.Math.Nat.{max-le}
@@ -11,7 +11,7 @@ use Rattle.fb_types_blocks.specs.Views.{declared_in}
 use Rattle.fb_types_blocks.proofs.Lists.{mapped_more}
 use Rattle.fb_types.specs.Nesting.{IsOf, innermost}
 use Rattle.fb_types.specs.Refusals.{no_memory_for_type, faulty_basic, faulty_interface, no_memory_for_instance, unknown_type, faulty_plain, faulty_service}
-use Rattle.fb_types.specs.Made.{tree_of, IsTyped, AreParts, HaltsAt, LeadsTo}
+use Rattle.fb_types.specs.Made.{tree_of, IsTyped, AreParts, HaltsAt, LeadsTo, IsUnmade}
 use Rattle.fb_types.proofs.Nested.{among_at}
 use Rattle.fb_types.proofs.Making.{deeper_again, typed_again, typed_body, done_now, leads_more, halted, named_self, on_path, typed_part, served_part, halted_type, parts_begun, parts_more}
 use Rattle.fb_types.proofs.make.+making.Goals as goal
@@ -70,37 +70,44 @@ make_composite-returns-in_err-face-clause-refused t c = λ bs table memo e opene
     let p = err_from_is_err_and c.from_residual.result c.from_residual.ensures.1 in
     rw (p.1, p.2) (faulty_interface e c.in_err-face.ensures.refused)
 
-pub make_composite-returns-in_err-path-clause-refused : goal.make_composite-returns-in_err-path-clause-refused
-make_composite-returns-in_err-path-clause-refused t c = λ bs table memo e opened.
-    let p = err_from_is_err_and c.from_residual-in_err-path.result c.from_residual-in_err-path.ensures.1 in
-    rw (p.1, p.2) (no_memory_for_type refl)
-
 pub make_composite-returns-in_err-composite-in-Ok-clause-refused : goal.make_composite-returns-in_err-composite-in-Ok-clause-refused
 make_composite-returns-in_err-composite-in-Ok-clause-refused t c = λ bs table memo e opened.
     let p = err_from_is_err_and c.from_residual-in_err-composite-in-Ok.result c.from_residual-in_err-composite-in-Ok.ensures.1 in
     let f = c.in_ok-face.face in
     rw (p.1, p.2)
     (c.in_err-composite-in-Ok.ensures.refused bs (trees_of.block_of c.args.source.now) (declared_in f.inputs) (declared_in f.outputs) (c.args.room - 1) c.in-Ok.deep
-    (record { composite = e; face = c.in_ok-face.ensures.found; distinct = c.in_ok-face.ensures.distinct; parts = subst (λ l. AreParts bs (c.args.room - 1) (map trees_of.instance_of l) c.in-Ok.instances.items c.in-Ok.deep) c.deref-2.ensures.value (c.in-Ok.ensures.made bs table memo) }))
+    (record { composite = e; face = c.in_ok-face.ensures.found; distinct = c.in_ok-face.ensures.distinct; parts = c.in-Ok.ensures.made bs table memo }))
 
-pub make_composite-returns-in-Ok-clause-made : goal.make_composite-returns-in-Ok-clause-made
-make_composite-returns-in-Ok-clause-made t c = λ bs table memo e.
+pub make_composite-returns-in_ok-composite-in-Ok-clause-made : goal.make_composite-returns-in_ok-composite-in-Ok-clause-made
+make_composite-returns-in_ok-composite-in-Ok-clause-made t c = λ bs table memo e.
     let f = c.in_ok-face.face in
     let b = trees_of.block_of c.args.source.now in
     let one = c.in_ok-composite-in-Ok.ensures.made bs b (declared_in f.inputs) (declared_in f.outputs) (c.args.room - 1) c.in-Ok.deep
-    (record { composite = e; face = c.in_ok-face.ensures.found; distinct = c.in_ok-face.ensures.distinct; parts = subst (λ l. AreParts bs (c.args.room - 1) (map trees_of.instance_of l) c.in-Ok.instances.items c.in-Ok.deep) c.deref-2.ensures.value (c.in-Ok.ensures.made bs table memo) }) (omega arith) in
+    (record { composite = e; face = c.in_ok-face.ensures.found; distinct = c.in_ok-face.ensures.distinct; parts = c.in-Ok.ensures.made bs table memo }) (omega arith) in
     subst (λ d. IsTyped bs d b c.in_ok-composite-in-Ok.field-0) (omega (arith, c.if-room-eq0.false)) one
 
-pub make_composite-returns-clause-refused : goal.make_composite-returns-clause-refused
-make_composite-returns-clause-refused t c = λ bs table memo e opened.
+pub make_composite-returns-in-Err-clause-refused : goal.make_composite-returns-in-Err-clause-refused
+make_composite-returns-in-Err-clause-refused t c = λ bs table memo e opened.
+    subst (λ d. IsUnmade bs d (trees_of.block_of c.args.source.now) c.in-Err.unmade) (omega (arith, c.if-room-eq0.false)) (c.in-Err.ensures.refused bs table memo e opened)
+
+pub inside-returns-in_err-path-clause-refused : goal.inside-returns-in_err-path-clause-refused
+inside-returns-in_err-path-clause-refused t c = λ bs table memo e opened.
+    let p = err_from_is_err_and c.from_residual.result c.from_residual.ensures.1 in
+    rw (p.1, p.2) (no_memory_for_type refl)
+
+pub inside-returns-in-Ok-clause-made : goal.inside-returns-in-Ok-clause-made
+inside-returns-in-Ok-clause-made t c = λ bs table memo. subst (λ l. AreParts bs c.args.room (map trees_of.instance_of l) c.in-Ok.instances.items c.in-Ok.deep) c.deref-2.ensures.value (c.in-Ok.ensures.made bs table memo)
+
+pub inside-returns-clause-refused : goal.inside-returns-clause-refused
+inside-returns-clause-refused t c = λ bs table memo e opened.
     let b = trees_of.block_of c.args.source.now in
     let w = trees_of.network_of c.args.network.now in
     let path = map tree_of c.args.path.now in
     let same : map tree_of c.deref.result.now ≡ path ++ b ∷ [] = ap (map tree_of) c.deref.ensures.value ∙ c.in_ok-path.ensures in
     let leads = subst (λ l. LeadsTo bs l w.instances) (sym same) (leads_more bs path b w opened e) in
-    halted bs path c.args.room (c.args.room - 1) b w c.args.source c.in-Err.unmade c.outer.result opened e (omega (arith, c.if-room-eq0.false)) refl
-    (subst (λ l. HaltsAt bs l (c.args.room - 1) w.instances c.in-Err.unmade) same
-    (subst (λ l. HaltsAt bs (map tree_of c.deref.result.now) (c.args.room - 1) (map trees_of.instance_of l) c.in-Err.unmade) c.deref-2.ensures.value (c.in-Err.ensures.refused bs table memo (subst (λ l. LeadsTo bs (map tree_of c.deref.result.now) (map trees_of.instance_of l)) (sym c.deref-2.ensures.value) leads)))) c.outer.ensures.fault c.outer.ensures.deep
+    halted bs path (suc c.args.room) c.args.room b w c.args.source c.in-Err.unmade c.outer.result opened e refl refl
+    (subst (λ l. HaltsAt bs l c.args.room w.instances c.in-Err.unmade) same
+    (subst (λ l. HaltsAt bs (map tree_of c.deref.result.now) c.args.room (map trees_of.instance_of l) c.in-Err.unmade) c.deref-2.ensures.value (c.in-Err.ensures.refused bs table memo (subst (λ l. LeadsTo bs (map tree_of c.deref.result.now) (map trees_of.instance_of l)) (sym c.deref-2.ensures.value) leads)))) c.outer.ensures.fault c.outer.ensures.deep
 
 -- ---- instances
 

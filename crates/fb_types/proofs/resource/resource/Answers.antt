@@ -1,33 +1,22 @@
-use Rattle.std.proofs.Common.{◌≤◌, map, ap, subst}
+use Rattle.std.proofs.Common.{map, ap, refl, subst}
 use Rattle.std.specs.List.{Contains}
 use Rattle.std.proofs.lemmas.Result.{err_from_is_err_and}
 use Rattle.fb_model.specs.Typing.{most_instances}
-use Rattle.fb_model.specs.NetworkTyping.{most_deep, instance_count}
+use Rattle.fb_model.specs.NetworkTyping.{no_face}
 use Rattle.fb_tree.specs.Files as trees_of
-use Rattle.fb_types_blocks.specs.Views.{face_of}
-use Rattle.fb_types_networks.specs.Views.{placed_of, instances_of}
-use Rattle.fb_types_networks.specs.Refusals.{IsNetworkFault}
 use Rattle.fb_types_blocks.proofs.Refused.{either_of}
-use Rattle.fb_types.specs.Counts.{IsCrowded}
-use Rattle.fb_types.specs.Refusals.{faulty_instance, too_deep_inside, too_many, faulty_wires}
+use Rattle.fb_types.specs.Refusals.{IsCrowd, faulty_instance, too_deep_inside, too_many, faulty_wires}
 use Rattle.fb_types.specs.Made.{AreMade}
-use Rattle.fb_types.proofs.Systems.{crowd, resource_typed, named_resource, resource_provides}
+use Rattle.fb_types.proofs.Systems.{resource_typed, named_resource, resource_provides}
 use Rattle.fb_types.proofs.resource.resource.Goals as goal
 
 pub returns-in_err-instances-clause-refused : goal.returns-in_err-instances-clause-refused
 returns-in_err-instances-clause-refused c = λ bs table memo.
     let p = err_from_is_err_and c.from_residual.result c.from_residual.ensures.1 in
-    let h = c.in_err-instances.ensures.refused bs table memo in
-    let among = subst (λ l. Contains (map trees_of.instance_of l) h.0) c.deref.ensures.value h.1 in
-    rw (p.1, p.2) (either_of (λ k. faulty_instance among k) (λ k. too_deep_inside among k.1 k.2) h.2)
-
-pub returns-in_err-few-clause-refused : goal.returns-in_err-few-clause-refused
-returns-in_err-few-clause-refused c = λ bs table memo.
-    let p = err_from_is_err_and c.from_residual-in_err-few.result c.from_residual-in_err-few.ensures.1 in
-    let xs = c.in_ok-instances.instances.items in
-    let made = subst (λ l. AreMade bs (map trees_of.instance_of l) xs) c.deref.ensures.value (c.in_ok-instances.ensures.made bs table memo) in
-    let f = c.in_err-few.field-0.0 in
-    rw (p.1, p.2) (too_many (crowd bs most_instances most_deep (trees_of.resource_of c.args.source.now).network.instances xs made.n f made.parts (subst (λ l. IsCrowded most_instances l f) c.deref-2.ensures.value c.in_err-few.ensures.refused)))
+    let f = c.in_err-instances.field-0.0 in
+    rw (p.1, p.2)
+    (either_of (λ h. let among = subst (λ l. Contains (map trees_of.instance_of l) h.0) c.deref.ensures.value h.1 in either_of (λ k. faulty_instance among k) (λ k. too_deep_inside among k.1 k.2) h.2)
+    (λ k. too_many (subst (λ l. IsCrowd bs most_instances (map trees_of.instance_of l) f) c.deref.ensures.value k)) (c.in_err-instances.ensures.refused bs table memo))
 
 pub returns-in_err-network-clause-refused : goal.returns-in_err-network-clause-refused
 returns-in_err-network-clause-refused c = λ bs table memo.
@@ -35,16 +24,15 @@ returns-in_err-network-clause-refused c = λ bs table memo.
     let xs = c.in_ok-instances.instances.items in
     let w = (trees_of.resource_of c.args.source.now).network in
     let made = subst (λ l. AreMade bs (map trees_of.instance_of l) xs) c.deref.ensures.value (c.in_ok-instances.ensures.made bs table memo) in
-    let f = c.in_err-network.field-0.0 in
-    rw (p.1, p.2) (faulty_wires made.parts.typed (subst (λ g. IsNetworkFault g w (map placed_of xs) f) c.without_ports.ensures (c.in_err-network.ensures.refused (named_resource bs w xs made))))
+    rw (p.1, p.2) (faulty_wires made.parts.typed (c.in_err-network.ensures.refused (named_resource bs w xs made)))
 
 pub returns-clause-typed : goal.returns-clause-typed
 returns-clause-typed c = λ bs table memo.
     let xs = c.in_ok-instances.instances.items in
     let r = trees_of.resource_of c.args.source.now in
     let made = subst (λ l. AreMade bs (map trees_of.instance_of l) xs) c.deref.ensures.value (c.in_ok-instances.ensures.made bs table memo) in
-    resource_typed bs r (record { name = c.in_ok-name.name; at = c.args.source.now.name.at; network = c.in_ok-network.network }) xs (face_of c.without_ports.result) c.without_ports.ensures made
-    (c.in_ok-network.ensures.typed (named_resource bs r.network xs made)) (subst (λ l. instance_count (instances_of l) ≤ most_instances) c.deref-2.ensures.value c.in_ok-few.ensures.few) c.in_ok-name.ensures.cases
+    resource_typed bs r (record { name = c.in_ok-name.name; at = c.args.source.now.name.at; network = c.in_ok-network.network }) xs no_face refl made
+    (c.in_ok-network.ensures.typed (named_resource bs r.network xs made)) c.in_ok-instances.ensures.few c.in_ok-name.ensures.cases
 
 pub returns-clause-uses : goal.returns-clause-uses
 returns-clause-uses c = λ bs table memo.

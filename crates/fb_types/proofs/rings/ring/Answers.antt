@@ -1,39 +1,16 @@
-use Rattle.std.proofs.Common.{◌≡◌, ◌++◌, ◌∷◌, [], ◌+◌, cond, map, Some, None, sym, ap, subst, ◌∙◌}
+use Rattle.std.proofs.Common.{◌≡◌, cond, None, ap, subst, ◌∙◌}
 use Rattle.std.specs.Str.{bytes_eq}
-use Rattle.std.specs.Option.{MatchOption, option_to_list}
-use Rattle.std.proofs.lemmas.List.{map_push}
 use Rattle.fb_tree.specs.Files as trees_of
-use Rattle.fb_types.specs.Made.{tree_of}
-use Rattle.fb_types.specs.Rings.{found_in, IsSearching, IsRingBelow}
+use Rattle.fb_types.specs.Rings.{found_in}
 use Rattle.fb_types.proofs.Tabled.{found_without}
 use Rattle.fb_types.proofs.Ringed.{search_begun}
 use Rattle.fb_types.proofs.rings.ring.Goals as goal
 
-pub loop-top-init : goal.loop-top-init
-loop-top-init c = λ bs table named.
+pub returns : goal.returns
+returns c = λ bs table named.
     let b = trees_of.block_of c.args.block.now in
     let old = c.in_ok-left.left in
     let new = c.swap_remove.new.self in
-    let items = c.in_ok-push.ensures.items ∙ ap (λ l. l ++ c.args.block ∷ []) c.new-path.ensures.items in
-    subst (λ l. IsSearching bs b (found_in new) (map tree_of l)) (sym items)
-    (search_begun bs b (found_in new) named (λ x.
+    c.searched.ensures bs (search_begun bs b (found_in new) named (λ x.
     subst (λ n. found_in new x ≡ cond (bytes_eq n x) None (found_in old x)) c.as_str.ensures.value (found_without c.as_str.result.now old new c.swap_remove.ensures.updates x)
     ∙ ap (cond (bytes_eq b.name.text x) None) (c.in_ok-left.ensures x ∙ table x)))
-
-pub returns-in-Some-2 : goal.returns-in-Some-2
-returns-in-Some-2 c = λ bs table named.
-    let b = trees_of.block_of c.args.block.now in
-    let top = c.in-Some.top in
-    let xs = c.pop.new.self.items in
-    let popped : c.loop-top.path.items ≡ xs ++ top ∷ [] = c.pop.ensures.items ∙ ap (λ o. xs ++ option_to_list o) c.in-Some.is in
-    let h = subst (IsSearching bs b (found_in c.loop-top.left)) (ap (map tree_of) popped ∙ map_push tree_of xs top) (c.loop-top.invariant bs table named) in
-    subst (λ o. MatchOption o (IsSearching bs b (found_in c.advance.new.left) (map tree_of c.advance.new.path.items)) (λ at. IsRingBelow bs b at)) c.in-Some-2.is (c.in_ok-at.ensures.search bs b h)
-
-pub loop-top-preserved : goal.loop-top-preserved
-loop-top-preserved c = λ bs table named.
-    let b = trees_of.block_of c.args.block.now in
-    let top = c.in-Some.top in
-    let xs = c.pop.new.self.items in
-    let popped : c.loop-top.path.items ≡ xs ++ top ∷ [] = c.pop.ensures.items ∙ ap (λ o. xs ++ option_to_list o) c.in-Some.is in
-    let h = subst (IsSearching bs b (found_in c.loop-top.left)) (ap (map tree_of) popped ∙ map_push tree_of xs top) (c.loop-top.invariant bs table named) in
-    subst (λ o. MatchOption o (IsSearching bs b (found_in c.advance.new.left) (map tree_of c.advance.new.path.items)) (λ at. IsRingBelow bs b at)) c.in_default-2.is (c.in_ok-at.ensures.search bs b h)

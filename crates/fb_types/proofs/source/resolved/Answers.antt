@@ -1,18 +1,11 @@
-use Rattle.std.proofs.Common.{◌≡◌, ◌≤◌, ◌++◌, [], map, length, sym, ap, subst, ◌∙◌}
-use Rattle.std.specs.List.{AllByRecursion, Contains}
-use Rattle.std.proofs.lemmas.List.{length-map}
+use Rattle.std.proofs.Common.{◌++◌, [], map, subst}
 use Rattle.std.proofs.lemmas.Result.{err_from_is_err_and}
-use Rattle.fb_model.specs.Typing.{AreDistinct, AreNewNumbers}
-use Rattle.fb_model.specs.NetworkTyping.{most_devices, IsProper, AreDevices, AreAlike, senders, all_services}
+use Rattle.fb_model.specs.Typing.{AreDistinct}
 use Rattle.fb_tree.specs.Files as trees_of
-use Rattle.fb_types_blocks.specs.Refusals.{IsRepetition, IsExcess}
-use Rattle.fb_types.specs.Ends.{IsChannelFault}
-use Rattle.fb_types.specs.Nesting.{DevicesProvide}
-use Rattle.fb_types.specs.Refusals.{IsFirstFault, repeated_type, faulty_declaration, repeated_device, excess_device, faulty_device, faulty_channels}
-use Rattle.fb_types.specs.Made.{IsTable, IsMemo, IsNamed}
-use Rattle.fb_types.specs.Views.{device_of, system_offsets, all_offsets, system_uses}
-use Rattle.fb_types.proofs.Systems.{block_words, block_names, device_words, device_names, nothing_made}
-use Rattle.fb_types.proofs.Whole.{all_named}
+use Rattle.fb_types_blocks.specs.Refusals.{IsRepetition}
+use Rattle.fb_types.specs.Refusals.{repeated_type}
+use Rattle.fb_types.specs.Made.{IsTable}
+use Rattle.fb_types.proofs.Systems.{block_words, block_names, nothing_made}
 use Rattle.fb_types.proofs.source.resolved.Goals as goal
 
 pub returns-in_err-table-clause-refused : goal.returns-in_err-table-clause-refused
@@ -21,78 +14,20 @@ returns-in_err-table-clause-refused c =
     let f = c.in_err-table.field-0.0 in
     rw (p.1, p.2) (repeated_type (block_words (λ ws. IsRepetition [] ws f) c.args.source.now.blocks.items c.deref.result.now c.deref.ensures.value c.in_err-table.ensures.refused))
 
-pub returns-in_err-all_declared-clause-refused : goal.returns-in_err-all_declared-clause-refused
-returns-in_err-all_declared-clause-refused c =
-    let p = err_from_is_err_and c.from_residual-in_err-all_declared.result c.from_residual-in_err-all_declared.ensures.1 in
-    let xs = c.args.source.now.blocks.items in
-    let bs = map trees_of.block_of xs ++ map trees_of.block_of c.args.library.now in
-    let table : IsTable bs c.in_ok-types.types = subst (λ l. IsTable (map trees_of.block_of l ++ map trees_of.block_of c.args.library.now) c.in_ok-types.types) c.deref-2.ensures.value c.in_ok-types.ensures in
-    let memo : IsMemo bs c.new-memo.result = nothing_made bs c.new-memo.result c.new-memo.ensures.empty in
-    let distinct : AreDistinct (map (λ b. b.name.text) (map trees_of.block_of xs)) = block_names AreDistinct xs c.deref.result.now c.deref.ensures.value c.in_ok-table.ensures.distinct in
-    let named = subst (λ l. AllByRecursion (IsNamed bs) (map trees_of.block_of l)) (sym c.deref-3.ensures.value) (all_named (map trees_of.block_of xs) (map trees_of.block_of c.args.library.now) distinct) in
-    let h = c.in_err-all_declared.ensures.refused bs table memo named in
-    let f = c.in_err-all_declared.field-0.0 in
-    rw (p.1, p.2) (faulty_declaration (subst (λ l. IsFirstFault bs (map trees_of.block_of l) f) c.deref-3.ensures.value h))
-
-pub returns-in_err-at_most-clause-refused : goal.returns-in_err-at_most-clause-refused
-returns-in_err-at_most-clause-refused c =
-    let p = err_from_is_err_and c.from_residual-in_err-at_most.result c.from_residual-in_err-at_most.ensures.1 in
-    let f = c.in_err-at_most.field-0.0 in
-    rw (p.1, p.2) (excess_device (device_words (λ ws. IsExcess most_devices ws f) c.args.source.now.system.devices.items c.deref-4.result.now c.deref-4.ensures.value c.in_err-at_most.ensures.refused))
-
-pub returns-in_err-table-2-clause-refused : goal.returns-in_err-table-2-clause-refused
-returns-in_err-table-2-clause-refused c =
-    let p = err_from_is_err_and c.from_residual-in_err-table-2.result c.from_residual-in_err-table-2.ensures.1 in
-    let f = c.in_err-table-2.field-0.0 in
-    rw (p.1, p.2) (repeated_device (device_words (λ ws. IsRepetition [] ws f) c.args.source.now.system.devices.items c.deref-5.result.now c.deref-5.ensures.value c.in_err-table-2.ensures.refused))
-
-pub returns-in_err-devices-clause-refused : goal.returns-in_err-devices-clause-refused
-returns-in_err-devices-clause-refused c =
-    let p = err_from_is_err_and c.from_residual-in_err-devices.result c.from_residual-in_err-devices.ensures.1 in
-    let xs = c.args.source.now.blocks.items in
-    let bs = map trees_of.block_of xs ++ map trees_of.block_of c.args.library.now in
-    let table : IsTable bs c.in_ok-types.types = subst (λ l. IsTable (map trees_of.block_of l ++ map trees_of.block_of c.args.library.now) c.in_ok-types.types) c.deref-2.ensures.value c.in_ok-types.ensures in
-    let memo : IsMemo bs c.new-memo.result = nothing_made bs c.new-memo.result c.new-memo.ensures.empty in
-    let distinct : AreDistinct (map (λ b. b.name.text) (map trees_of.block_of xs)) = block_names AreDistinct xs c.deref.result.now c.deref.ensures.value c.in_ok-table.ensures.distinct in
-    let named = subst (λ l. AllByRecursion (IsNamed bs) (map trees_of.block_of l)) (sym c.deref-3.ensures.value) (all_named (map trees_of.block_of xs) (map trees_of.block_of c.args.library.now) distinct) in
-    let kept = c.in_ok-all_declared.ensures.kept bs table memo named in
-    let h = c.in_err-devices.ensures.refused bs table kept in
-    let proper = subst (λ l. AllByRecursion (IsProper bs) (map trees_of.block_of l)) c.deref-3.ensures.value (c.in_ok-all_declared.ensures.proper bs table memo named) in
-    rw (p.1, p.2) (faulty_device proper (subst (λ l. Contains (map trees_of.device_of l) h.0) c.deref-6.ensures.value h.1) h.2)
-
-pub returns-in_err-channels_alike-clause-refused : goal.returns-in_err-channels_alike-clause-refused
-returns-in_err-channels_alike-clause-refused c =
-    let p = err_from_is_err_and c.from_residual-in_err-channels_alike.result c.from_residual-in_err-channels_alike.ensures.1 in
-    let xs = c.args.source.now.blocks.items in
-    let bs = map trees_of.block_of xs ++ map trees_of.block_of c.args.library.now in
-    let table : IsTable bs c.in_ok-types.types = subst (λ l. IsTable (map trees_of.block_of l ++ map trees_of.block_of c.args.library.now) c.in_ok-types.types) c.deref-2.ensures.value c.in_ok-types.ensures in
-    let memo : IsMemo bs c.new-memo.result = nothing_made bs c.new-memo.result c.new-memo.ensures.empty in
-    let distinct : AreDistinct (map (λ b. b.name.text) (map trees_of.block_of xs)) = block_names AreDistinct xs c.deref.result.now c.deref.ensures.value c.in_ok-table.ensures.distinct in
-    let named = subst (λ l. AllByRecursion (IsNamed bs) (map trees_of.block_of l)) (sym c.deref-3.ensures.value) (all_named (map trees_of.block_of xs) (map trees_of.block_of c.args.library.now) distinct) in
-    let kept = c.in_ok-all_declared.ensures.kept bs table memo named in
-    let f = c.in_err-channels_alike.field-0.0 in
-    let uses = subst (λ l. DevicesProvide bs (map trees_of.device_of l) (system_uses c.in_ok-devices.devices.items)) c.deref-6.ensures.value (c.in_ok-devices.ensures.uses bs table kept) in
-    rw (p.1, p.2) (faulty_channels uses (subst (λ l. IsChannelFault (system_uses l) f) c.deref-7.ensures.value c.in_err-channels_alike.ensures.refused))
-
-pub returns-clause-offsets : goal.returns-clause-offsets
-returns-clause-offsets c = subst (λ l. system_offsets c.in_ok-devices.devices.items ≡ all_offsets (map trees_of.device_of l)) c.deref-6.ensures.value c.in_ok-devices.ensures.offsets
-
 pub returns-clause-typed : goal.returns-clause-typed
 returns-clause-typed c =
     let xs = c.args.source.now.blocks.items in
     let bs = map trees_of.block_of xs ++ map trees_of.block_of c.args.library.now in
-    let table : IsTable bs c.in_ok-types.types = subst (λ l. IsTable (map trees_of.block_of l ++ map trees_of.block_of c.args.library.now) c.in_ok-types.types) c.deref-2.ensures.value c.in_ok-types.ensures in
-    let memo : IsMemo bs c.new-memo.result = nothing_made bs c.new-memo.result c.new-memo.ensures.empty in
-    let distinct : AreDistinct (map (λ b. b.name.text) (map trees_of.block_of xs)) = block_names AreDistinct xs c.deref.result.now c.deref.ensures.value c.in_ok-table.ensures.distinct in
-    let named = subst (λ l. AllByRecursion (IsNamed bs) (map trees_of.block_of l)) (sym c.deref-3.ensures.value) (all_named (map trees_of.block_of xs) (map trees_of.block_of c.args.library.now) distinct) in
-    let kept = c.in_ok-all_declared.ensures.kept bs table memo named in
-    let ds = c.args.source.now.system.devices.items in
-    record {
-      names = distinct;
-      blocks = subst (λ l. AllByRecursion (IsProper bs) (map trees_of.block_of l)) c.deref-3.ensures.value (c.in_ok-all_declared.ensures.proper bs table memo named);
-      device_names = device_names AreDistinct ds c.deref-5.result.now c.deref-5.ensures.value c.in_ok-table-2.ensures.distinct;
-      few = subst (λ n. n ≤ most_devices) (ap length c.deref-4.ensures.value ∙ sym (length-map ds trees_of.device_of)) c.in_ok-at_most.ensures.few;
-      devices = subst (λ l. AreDevices bs (map trees_of.device_of l) (map device_of c.in_ok-devices.devices.items)) c.deref-6.ensures.value (c.in_ok-devices.ensures.typed bs table kept);
-      channels = subst (λ l. AreAlike (all_services (map device_of l))) c.deref-7.ensures.value c.in_ok-channels_alike.ensures.alike;
-      senders_differ = subst (λ l. AreNewNumbers [] (senders (all_services (map device_of l)))) c.deref-7.ensures.value c.in_ok-channels_alike.ensures.senders;
-    }
+    c.resolved_over.ensures.typed (map trees_of.block_of c.args.library.now)
+    (subst (λ l. IsTable (map trees_of.block_of l ++ map trees_of.block_of c.args.library.now) c.in_ok-types.types) c.deref-2.ensures.value c.in_ok-types.ensures)
+    (nothing_made bs c.new-memo.result c.new-memo.ensures.empty)
+    (block_names AreDistinct xs c.deref.result.now c.deref.ensures.value c.in_ok-table.ensures.distinct)
+
+pub returns-clause-refused : goal.returns-clause-refused
+returns-clause-refused c =
+    let xs = c.args.source.now.blocks.items in
+    let bs = map trees_of.block_of xs ++ map trees_of.block_of c.args.library.now in
+    c.resolved_over.ensures.refused (map trees_of.block_of c.args.library.now)
+    (subst (λ l. IsTable (map trees_of.block_of l ++ map trees_of.block_of c.args.library.now) c.in_ok-types.types) c.deref-2.ensures.value c.in_ok-types.ensures)
+    (nothing_made bs c.new-memo.result c.new-memo.ensures.empty)
+    (block_names AreDistinct xs c.deref.result.now c.deref.ensures.value c.in_ok-table.ensures.distinct)
