@@ -10,7 +10,7 @@ use Rattle.std.proofs.lemmas.List.Sums.{count_by-le-length}
 use Rattle.fb_model.specs.CertificateText.{words}
 use Rattle.fb_cert.specs.declared.fault.CertFault.{CertFault}
 use Rattle.fb_cert.specs.declared.fault.CertFault.TheVariants.{OutOfMemory, TooLong, Row, DuplicateRow}
-use Rattle.fb_cert.specs.Reading.{Read, chain, lines_at, words_at, whole}
+use Rattle.fb_cert.specs.Reading.{Read, chain, lines_at, words_at}
 use Rattle.fb_cert.specs.Answers.{Fails}
 
 -- what is left to read, and where reading stands
@@ -59,10 +59,10 @@ pub next : {t : Lines} {x : List ℕ} {number : ℕ} {now later : Read} {text : 
 next {t} {x} {number} {now} {later} {text} {first} a h =
     record { rest = a.rest; yields = a.yields; same = sym (line_at_ok (number + 1) x a.rest now later h) ∙ a.same; counted = a.counted }
 
-stopped : {t : Lines} {x : List ℕ} {number : ℕ} {now : Read} {text : List ℕ} {first : Read} (e : CertFault) → Turn t x number now text first → words_at (number + 1) (words x) now ≡ Err e → whole (lines_at 1 (lines text) first) ≡ Err e
-stopped {t} {x} {number} {now} {text} {first} e a h = ap whole (sym a.same ∙ line_at_err (number + 1) x a.rest now e h)
+stopped : {t : Lines} {x : List ℕ} {number : ℕ} {now : Read} {text : List ℕ} {first : Read} (e : CertFault) → Turn t x number now text first → words_at (number + 1) (words x) now ≡ Err e → lines_at 1 (lines text) first ≡ Err e
+stopped {t} {x} {number} {now} {text} {first} e a h = sym a.same ∙ line_at_err (number + 1) x a.rest now e h
 
-pub failed : {t : Lines} {x : List ℕ} {number : ℕ} {now : Read} {text : List ℕ} {first : Read} (e : CertFault) → Turn t x number now text first → Fails e (words_at (number + 1) (words x) now) → Fails e (whole (lines_at 1 (lines text) first))
+pub failed : {t : Lines} {x : List ℕ} {number : ℕ} {now : Read} {text : List ℕ} {first : Read} (e : CertFault) → Turn t x number now text first → Fails e (words_at (number + 1) (words x) now) → Fails e (lines_at 1 (lines text) first)
 failed OutOfMemory a h = tt
 failed TooLong a h = stopped TooLong a h
 failed (Row n) a h = stopped (Row n) a h

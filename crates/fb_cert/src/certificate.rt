@@ -67,7 +67,9 @@ impl Certificate {
     }
 
     /// Lets the certificate go. (A crate that lets it go by itself proves the end of each of its parts anew; this call is proved once.)
-    pub fn let_go(self) {}
+    pub fn let_go(self) {
+        self.lists.let_go()
+    }
 
     /// That it stands in a text, for proofs: nothing is done.
     pub fn stands_in_text(&self)

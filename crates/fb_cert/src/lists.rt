@@ -40,6 +40,9 @@ fn add<V: Drop>(
     Ok(true)
 }
 
+// Ends rows of one kind.
+fn end_of<V: Drop>(rows: IndexMap<String, V>) {}
+
 // Adds a row at the end, unless its number stands in an earlier one; says whether it is new.
 fn add_channel(rows: &mut IndexMap<u16, u64>, number: u16, steps: u64) -> Result<bool, AllocError>
     ensures added { IfOk result (λ new. AddsNew (has_number number rows.old.entries) rows.old.entries (number, steps) rows.new.entries new) }
@@ -67,6 +70,16 @@ impl Lists {
             far_states: IndexMap::new(alloc),
             channels: IndexMap::new(alloc),
         }
+    }
+
+    /// Lets the rows go.
+    pub(crate) fn let_go(self) {
+        end_of(self.ranges);
+        end_of(self.charges);
+        end_of(self.weights);
+        end_of(self.depths);
+        end_of(self.fars);
+        end_of(self.far_states);
     }
 
     // Takes the number of REPEATS, unless there is one; says whether it is new.

@@ -1,10 +1,11 @@
 //! Certificate texts, line by line.
 
-ghost use Rattle.std.specs.Prelude.{◌≡◌, ◌≤◌, ◌<◌, length, IfOk, IfErr, Err, false};
+ghost use Rattle.std.specs.Prelude.{◌≡◌, ◌≤◌, ◌<◌, length, IfOk, IfErr, Ok, Err, false};
 ghost use Rattle.std.specs.Str.Lines.{lines};
 ghost use Rattle.fb_model.specs.CertificateText.{words, most_characters, Spells};
 ghost use Rattle.fb_model.specs.Certificates as book;
 ghost use Rattle.fb_cert.specs.Views.{rows_in, book_of, no_rows, texts, certificate_of};
+ghost use Rattle.fb_cert.specs.Progress.{read_of};
 ghost use Rattle.fb_cert.specs.Reading.{read, row_at, words_at, lines_at, whole, text_at};
 ghost use Rattle.fb_cert.specs.Sayable.{AreSayable};
 ghost use Rattle.fb_cert.specs.declared.fault.CertFault.{CertFault};
@@ -55,8 +56,6 @@ fn enter(alloc: Global, lists: &mut Lists, words: &[&str], line: usize) -> Resul
 }
 
 impl Reader {
-    ghost use Rattle.fb_cert.specs.Progress.{read_of};
-
     // Takes the words of the line with this number.
     fn take(&mut self, alloc: Global, words: &[&str], line: usize) -> Result<(), CertFault>
         ensures { Makes (read_of self.new) result (words_at line (texts words.now) (read_of self.old)) }
@@ -75,6 +74,38 @@ impl Reader {
     }
 }
 
+// Takes a line with its number.
+fn take_line(alloc: Global, reader: &mut Reader, line: &str, number: usize) -> Result<(), CertFault>
+    ensures { Makes (read_of reader.new) result (words_at number (words line.now) (read_of reader.old)) }
+{
+    let words = words_of(alloc, line)?;
+    reader.take(alloc, words.as_slice(), number)
+}
+
+// Takes the lines of a text in upper case.
+fn take_lines(alloc: Global, reader: &mut Reader, text: &str) -> Result<(), CertFault>
+    requires { length text.now ≤ most_characters }
+    ensures { Makes (read_of reader.new) result (lines_at 1 (lines text.now) (read_of reader.old)) }
+{
+    let mut number = 0;
+    for line in text.lines() {
+        number += 1;
+        take_line(alloc, reader, line, number)?;
+    }
+    Ok(())
+}
+
+// The rows of a text that is read to its end.
+fn rows_read(reader: Reader) -> Result<Lists, CertFault>
+    ensures { Gives rows_in result (whole (Ok (read_of reader))) }
+{
+    if !reader.headed {
+        reader.lists.let_go();
+        return Err(CertFault::Row(1));
+    }
+    Ok(reader.lists)
+}
+
 // Reads a text in upper case.
 fn read_lines(alloc: Global, text: &str) -> Result<Lists, CertFault>
     requires { length text.now ≤ most_characters }
@@ -84,16 +115,13 @@ fn read_lines(alloc: Global, text: &str) -> Result<Lists, CertFault>
         headed: false,
         lists: Lists::new(alloc),
     };
-    let mut number = 0;
-    for line in text.lines() {
-        number += 1;
-        let words = words_of(alloc, line)?;
-        reader.take(alloc, words.as_slice(), number)?;
+    match take_lines(alloc, &mut reader, text) {
+        Ok(()) => rows_read(reader),
+        Err(fault) => {
+            reader.lists.let_go();
+            Err(fault)
+        }
     }
-    if !reader.headed {
-        return Err(CertFault::Row(1));
-    }
-    Ok(reader.lists)
 }
 
 fn read_text(alloc: Global, text: &str) -> Result<Lists, CertFault>
