@@ -1,18 +1,19 @@
 //! Interfaces of blocks.
 
 ghost use Rattle.std.specs.Prelude.{◌≡◌, ◌≤◌, ◌++◌, [], List, map, length, IfOk, IfErr, OnOk};
+ghost use Rattle.std.specs.List.{AllByRecursion};
 ghost use Rattle.fb_model.specs.System as book;
-ghost use Rattle.fb_model.specs.BlockTyping.{Declared, IsFace, face_names, words_in};
+ghost use Rattle.fb_model.specs.BlockTyping.{Declared, IsFace, AreDeclared, AreKnown, typed_event, face_names, words_in};
 ghost use Rattle.fb_model.specs.Typing.{texts, AreNew, AreDistinct};
 ghost use Rattle.fb_tree.specs.Files as tree;
-ghost use Rattle.fb_types_blocks.specs.Answers.{Finds, event_words, own_words};
-ghost use Rattle.fb_types_blocks.specs.Views.{names_of, declared_in, face_of};
+ghost use Rattle.fb_types_blocks.specs.Answers.{Finds, names_in_map, event_words, own_words};
+ghost use Rattle.fb_types_blocks.specs.Views.{names_of, declared_in, events_of, face_of};
 ghost use Rattle.fb_types_blocks.specs.Refusals.{IsRepetition, IsFaceFault};
 
 use crate::event::events;
 use crate::fault::TypeFault;
 use crate::names::{at_most, declare};
-use crate::typed::Face;
+use crate::typed::{Events, Face, Variables};
 use crate::variable::{declare_variables, few_variables, variables};
 use fb_tree::{BlockTree, EventTree, VariableTree};
 use indexmap::IndexSet;
@@ -75,6 +76,39 @@ pub(crate) fn own_names(alloc: Global, source: &BlockTree) -> Result<IndexSet<St
     Ok(names)
 }
 
+// The inputs and the outputs of a block whose names are all different.
+fn data_ports(alloc: Global, source: &BlockTree) -> Result<(Variables, Variables), TypeFault>
+    requires { AreDistinct (texts (own_words (tree.block_of source.now))) }
+    ensures inputs { IfOk result (λ r. AreDeclared (tree.block_of source.now).inputs (declared_in r.0)) }
+    ensures outputs { IfOk result (λ r. AreDeclared (tree.block_of source.now).outputs (declared_in r.1)) }
+    ensures refused { IfErr result (IsFaceFault (tree.block_of source.now)) }
+{
+    let inputs = variables(alloc, &source.inputs)?;
+    let outputs = variables(alloc, &source.outputs)?;
+    Ok((inputs, outputs))
+}
+
+// The event inputs and the event outputs of a block with these inputs and outputs, whose names are all different.
+fn event_ports(
+    alloc: Global,
+    source: &BlockTree,
+    inputs: &Variables,
+    outputs: &Variables,
+) -> Result<(Events, Events), TypeFault>
+    requires distinct { AreDistinct (texts (own_words (tree.block_of source.now))) }
+    requires inputs { AreDeclared (tree.block_of source.now).inputs (declared_in inputs.now) }
+    requires outputs { AreDeclared (tree.block_of source.now).outputs (declared_in outputs.now) }
+    ensures takes { OnOk result (AllByRecursion (λ e. AreKnown (names_in_map inputs.now) e.carries) (tree.block_of source.now).event_inputs) }
+    ensures gives { OnOk result (AllByRecursion (λ e. AreKnown (names_in_map outputs.now) e.carries) (tree.block_of source.now).event_outputs) }
+    ensures event_inputs { IfOk result (λ r. events_of r.0 ≡ map typed_event (tree.block_of source.now).event_inputs) }
+    ensures event_outputs { IfOk result (λ r. events_of r.1 ≡ map typed_event (tree.block_of source.now).event_outputs) }
+    ensures refused { IfErr result (IsFaceFault (tree.block_of source.now)) }
+{
+    let event_inputs = events(alloc, inputs, &source.event_inputs)?;
+    let event_outputs = events(alloc, outputs, &source.event_outputs)?;
+    Ok((event_inputs, event_outputs))
+}
+
 /// The interface of a block whose names are all different.
 pub(crate) fn ports(alloc: Global, source: &BlockTree) -> Result<Face, TypeFault>
     requires { AreDistinct (texts (own_words (tree.block_of source.now))) }
@@ -82,10 +116,8 @@ pub(crate) fn ports(alloc: Global, source: &BlockTree) -> Result<Face, TypeFault
     ensures refused { IfErr result (IsFaceFault (tree.block_of source.now)) }
 {
     limits(source)?;
-    let inputs = variables(alloc, &source.inputs)?;
-    let outputs = variables(alloc, &source.outputs)?;
-    let event_inputs = events(alloc, &inputs, &source.event_inputs)?;
-    let event_outputs = events(alloc, &outputs, &source.event_outputs)?;
+    let (inputs, outputs) = data_ports(alloc, source)?;
+    let (event_inputs, event_outputs) = event_ports(alloc, source, &inputs, &outputs)?;
     Ok(Face {
         event_inputs,
         event_outputs,
