@@ -53,20 +53,48 @@ fn put<'a>(
     Ok(())
 }
 
+// Puts connections into an empty table, by the texts of their sources.
+fn add_sources<'a>(
+    alloc: Global,
+    connections: &'a [Connection],
+    bundles: &mut Bundles<'a>,
+) -> Result<(), AllocError>
+    requires { IsBundled source_of [] bundles.old }
+    ensures { OnOk result (IsBundled source_of (map connection_of connections.now) bundles.new) }
+{
+    for connection in connections {
+        put(alloc, bundles, text(alloc, &connection.source)?, connection)?;
+    }
+    Ok(())
+}
+
 /// Connections by the texts of their sources.
 pub fn by_source(alloc: Global, connections: &[Connection]) -> Result<Bundles, AllocError>
     ensures { IfOk result (IsBundled source_of (map connection_of connections.now)) }
 {
     let mut bundles = IndexMap::new(alloc);
-    for connection in connections {
-        put(
-            alloc,
-            &mut bundles,
-            text(alloc, &connection.source)?,
-            connection,
-        )?;
+    match add_sources(alloc, connections, &mut bundles) {
+        Ok(()) => Ok(bundles),
+        Err(fault) => {
+            drop(bundles);
+            Err(fault)
+        }
     }
-    Ok(bundles)
+}
+
+// Puts connections into an empty table, by the texts of their targets.
+fn add_targets<'a>(
+    alloc: Global,
+    connections: &'a [Connection],
+    bundles: &mut Bundles<'a>,
+) -> Result<(), AllocError>
+    requires { IsBundled target_of [] bundles.old }
+    ensures { OnOk result (IsBundled target_of (map connection_of connections.now) bundles.new) }
+{
+    for connection in connections {
+        put(alloc, bundles, text(alloc, &connection.target)?, connection)?;
+    }
+    Ok(())
 }
 
 /// Connections by the texts of their targets.
@@ -74,15 +102,13 @@ pub fn by_target(alloc: Global, connections: &[Connection]) -> Result<Bundles, A
     ensures { IfOk result (IsBundled target_of (map connection_of connections.now)) }
 {
     let mut bundles = IndexMap::new(alloc);
-    for connection in connections {
-        put(
-            alloc,
-            &mut bundles,
-            text(alloc, &connection.target)?,
-            connection,
-        )?;
+    match add_targets(alloc, connections, &mut bundles) {
+        Ok(()) => Ok(bundles),
+        Err(fault) => {
+            drop(bundles);
+            Err(fault)
+        }
     }
-    Ok(bundles)
 }
 
 /// The connections under a text, if there are any.

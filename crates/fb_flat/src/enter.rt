@@ -8,8 +8,7 @@ ghost use Rattle.fb_flat.specs.Indexes.{IsInside};
 ghost use Rattle.fb_flat.specs.Sites.{path_of, inner_of, events_in};
 ghost use Rattle.fb_flat.specs.Walks.{reached, spots_of, IsStop};
 
-use crate::bundle::key;
-use crate::lookup::{Indexed, Inside};
+use crate::lookup::{Indexed, Inside, leaving};
 use crate::site::Trail;
 use crate::walk::{Stop, Walk, is_own, reach, step};
 use fb_types_networks::Instance;
@@ -49,8 +48,7 @@ fn pass(
     ensures counted { OnOk result (walk.new.left + follow_count (events_in indexed.now) None port.now (enter_count_in (inner_of indexed.now)) (λ o. 0) ≡ walk.old.left) }
     ensures refused { IfErr result (IsStop (walk.old.left < follow_count (events_in indexed.now) None port.now (enter_count_in (inner_of indexed.now)) (λ o. 0))) }
 {
-    let key = key(alloc, None, port)?;
-    match indexed.events(key.as_str()) {
+    match leaving(alloc, indexed, None, port)? {
         None => Ok(()),
         Some(connections) => {
             for connection in connections {

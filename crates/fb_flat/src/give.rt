@@ -11,10 +11,9 @@ ghost use Rattle.fb_flat.specs.Sites.{path_of, inner_of};
 ghost use Rattle.fb_flat.specs.Sources.{written_source, source_of};
 ghost use Rattle.fb_flat.specs.Leaves.{values_in};
 
-use crate::bundle::key;
 use crate::constant::start;
 use crate::flat::Source;
-use crate::lookup::{Indexed, Inside};
+use crate::lookup::{Indexed, Inside, arriving};
 use crate::site::{Trail, text};
 use crate::walk::is_own;
 use fb_types_blocks::Face;
@@ -59,8 +58,7 @@ fn pass(
 ) -> Result<Source, AllocError>
     ensures { IfOk result (λ s. source_of s ≡ written_source (fed (values_in indexed.now) None port.now (given_in (inner_of indexed.now) (path_of trail.now)) (λ i. Constant (constant [] (variables_of face.now.inputs) i)) (Constant (constant [] (variables_of face.now.outputs) port.now)))) }
 {
-    let key = key(alloc, None, port)?;
-    match indexed.values(key.as_str()) {
+    match arriving(alloc, indexed, None, port)? {
         None => Ok(start(&face.outputs, port)),
         Some(connections) => {
             for connection in connections {

@@ -4,10 +4,10 @@ ghost use Rattle.std.specs.Prelude.{◌≡◌, IfOk};
 ghost use Rattle.fb_flat.specs.Sources.{written_source, source_of};
 ghost use Rattle.fb_flat.specs.Leaves.{held_by};
 
-use crate::bundle::key;
 use crate::constant::given;
 use crate::flat::Source;
 use crate::give::give_named;
+use crate::lookup::arriving;
 use crate::site::Around;
 use crate::walk::is_port;
 use std::alloc::{AllocError, Global};
@@ -19,8 +19,7 @@ pub fn hold(around: &Around, port: &str, alloc: Global) -> Result<Source, AllocE
     match around {
         Around::Nothing => Ok(Source::Number(0)),
         Around::Level(indexed, instance, trail, outer) => {
-            let key = key(alloc, Some(instance.name.as_str()), port)?;
-            match indexed.values(key.as_str()) {
+            match arriving(alloc, *indexed, Some(instance.name.as_str()), port)? {
                 None => Ok(given(*instance, port)),
                 Some(connections) => {
                     for connection in connections {

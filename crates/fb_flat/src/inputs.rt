@@ -1,6 +1,6 @@
 //! The data inputs of leaves.
 
-ghost use Rattle.std.specs.Prelude.{◌≡◌, map, length, slice_get, string_bytes, IfOk};
+ghost use Rattle.std.specs.Prelude.{◌≡◌, [], map, length, slice_get, string_bytes, IfOk, OnOk};
 ghost use Rattle.std.specs.Option.{option_map};
 ghost use Rattle.fb_model.specs.Store as store;
 ghost use Rattle.fb_model.specs.Wires.{Serviced};
@@ -74,13 +74,32 @@ fn input(name: &str, around: &Around, alloc: Global) -> Result<Input, AllocError
     Ok(Input { name, source })
 }
 
+// Puts data inputs of a leaf into an empty list.
+fn add_inputs(
+    names: &[String],
+    around: &Around,
+    inputs: &mut Vec<Input>,
+    alloc: Global,
+) -> Result<(), AllocError>
+    requires { inputs.old.items ≡ [] }
+    ensures { OnOk result (map input_of inputs.new.items ≡ fed_by (held_by around.now) (map string_bytes names.now)) }
+{
+    for name in names {
+        inputs.push(input(name.as_str(), around, alloc)?)?;
+    }
+    Ok(())
+}
+
 /// Data inputs of a leaf.
 pub fn inputs(names: &[String], around: &Around, alloc: Global) -> Result<Vec<Input>, AllocError>
     ensures { IfOk result (λ v. map input_of v.items ≡ fed_by (held_by around.now) (map string_bytes names.now)) }
 {
     let mut inputs = Vec::new(alloc);
-    for name in names {
-        inputs.push(input(name.as_str(), around, alloc)?)?;
+    match add_inputs(names, around, &mut inputs, alloc) {
+        Ok(()) => Ok(inputs),
+        Err(fault) => {
+            drop(inputs);
+            Err(fault)
+        }
     }
-    Ok(inputs)
 }

@@ -4,8 +4,8 @@ ghost use Rattle.std.specs.Prelude.{◌≡◌, ◌+◌, ◌<◌, ◌++◌, OnOk,
 ghost use Rattle.fb_flat.specs.Sites.{left_by, left_count};
 ghost use Rattle.fb_flat.specs.Walks.{reached, spots_of, IsStop};
 
-use crate::bundle::key;
 use crate::enter::enter_named;
+use crate::lookup::leaving;
 use crate::site::Around;
 use crate::walk::{Stop, Walk, is_port, step};
 use std::alloc::Global;
@@ -19,8 +19,7 @@ pub fn leave(around: &Around, port: &str, walk: &mut Walk, alloc: Global) -> Res
     match around {
         Around::Nothing => Ok(()),
         Around::Level(indexed, instance, trail, outer) => {
-            let key = key(alloc, Some(instance.name.as_str()), port)?;
-            match indexed.events(key.as_str()) {
+            match leaving(alloc, *indexed, Some(instance.name.as_str()), port)? {
                 None => Ok(()),
                 Some(connections) => {
                     for connection in connections {

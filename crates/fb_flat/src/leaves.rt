@@ -112,6 +112,25 @@ fn output(name: &str, around: &Around, left: &mut usize, alloc: Global) -> Resul
     })
 }
 
+// Puts event outputs of a leaf, with all that they lead to, into an empty list.
+fn add_outputs(
+    names: &[&str],
+    around: &Around,
+    left: &mut usize,
+    outputs: &mut Vec<Output>,
+    alloc: Global,
+) -> Result<(), Stop>
+    requires { outputs.old.items ≡ [] }
+    ensures gives { OnOk result (map output_of outputs.new.items ≡ led (left_by around.now) (map (λ s. s.now) names.now)) }
+    ensures counted { OnOk result (left.new + sum_by (left_count around.now) (map (λ s. s.now) names.now) ≡ left.old) }
+    ensures refused { IfErr result (IsStop (left.old < sum_by (left_count around.now) (map (λ s. s.now) names.now))) }
+{
+    for name in names {
+        outputs.push(output(*name, around, left, alloc)?)?;
+    }
+    Ok(())
+}
+
 // Event outputs of a leaf, with all that they lead to.
 fn outputs(
     names: &[&str],
@@ -124,10 +143,13 @@ fn outputs(
     ensures refused { IfErr result (IsStop (left.old < sum_by (left_count around.now) (map (λ s. s.now) names.now))) }
 {
     let mut outputs = Vec::new(alloc);
-    for name in names {
-        outputs.push(output(*name, around, left, alloc)?)?;
+    match add_outputs(names, around, left, &mut outputs, alloc) {
+        Ok(()) => Ok(outputs),
+        Err(stop) => {
+            drop(outputs);
+            Err(stop)
+        }
     }
-    Ok(outputs)
 }
 
 // Adds a leaf.
@@ -276,6 +298,23 @@ fn collect_all<'a, 'n>(
     Ok(())
 }
 
+// Adds the leaves of a network in a resource.
+fn add_network(
+    network: &Network,
+    trail: &Trail,
+    table: &mut Table,
+    alloc: Global,
+) -> Result<(), Stop>
+    ensures added { OnOk result (map leaf_of table.new.leaves.items ≡ map leaf_of table.old.leaves.items ++ leaves_at (composed network.now) trail.now Nothing) }
+    ensures counted { OnOk result (table.new.left + count_of (composed network.now) (λ o. 0) ≡ table.old.left) }
+    ensures refused { IfErr result (IsStop (table.old.left < count_of (composed network.now) (λ o. 0))) }
+{
+    let indexed = index(alloc, network)?;
+    let added = collect_all(&indexed, trail, &Around::Nothing, table, alloc);
+    drop(indexed);
+    added
+}
+
 // The leaves of a network in a resource.
 fn leaves(network: &Network, trail: &Trail, alloc: Global) -> Result<Vec<Leaf>, Stop>
     ensures gives { IfOk result (λ v. map leaf_of v.items ≡ leaves_at (composed network.now) trail.now Nothing) }
@@ -286,9 +325,13 @@ fn leaves(network: &Network, trail: &Trail, alloc: Global) -> Result<Vec<Leaf>, 
         leaves: Vec::new(alloc),
         left: FOLLOWED,
     };
-    let indexed = index(alloc, network)?;
-    collect_all(&indexed, trail, &Around::Nothing, &mut table, alloc)?;
-    Ok(table.leaves)
+    match add_network(network, trail, &mut table, alloc) {
+        Ok(()) => Ok(table.leaves),
+        Err(stop) => {
+            drop(table);
+            Err(stop)
+        }
+    }
 }
 
 /// The leaves of a resource and their wires, in text order, on the path of its device.
@@ -314,19 +357,39 @@ pub fn flatten_resource(
     }
 }
 
+// Puts the resources of a device, in order, into an empty list.
+fn add_resources(
+    alloc: Global,
+    source: &Device,
+    resources: &mut Vec<FlatResource>,
+) -> Result<(), TypeFault>
+    requires { resources.old.items ≡ [] }
+    ensures written { OnOk result (map flat_resource resources.new.items ≡ map (written_resource (string_bytes source.now.name)) (map resource_of source.now.resources.items)) }
+    ensures few { OnOk result (AllByRecursion (λ r. resource_count r ≤ most_followed) (map resource_of source.now.resources.items)) }
+    ensures refused { IfErr result (IsLimitAt (λ at. Any (λ r. IsFull r at) source.now.resources.items)) }
+{
+    for resource_source in &source.resources {
+        let resource = flatten_resource(alloc, source.name.as_str(), resource_source)?;
+        resources.push(resource)?;
+    }
+    Ok(())
+}
+
 // A device: its resources in order.
 fn device(alloc: Global, source: &Device) -> Result<FlatDevice, TypeFault>
     ensures written { IfOk result (λ f. flat_device f ≡ written_device (device_of source.now)) }
     ensures few { OnOk result (AllByRecursion (λ r. resource_count r ≤ most_followed) (device_of source.now).resources) }
     ensures refused { IfErr result (IsLimitAt (λ at. Any (λ r. IsFull r at) source.now.resources.items)) }
 {
-    let mut resources = Vec::new(alloc);
-    for resource_source in &source.resources {
-        let resource = flatten_resource(alloc, source.name.as_str(), resource_source)?;
-        resources.push(resource)?;
-    }
     let name = source.name.clone()?;
-    Ok(FlatDevice { name, resources })
+    let mut resources = Vec::new(alloc);
+    match add_resources(alloc, source, &mut resources) {
+        Ok(()) => Ok(FlatDevice { name, resources }),
+        Err(fault) => {
+            drop(resources);
+            Err(fault)
+        }
+    }
 }
 
 // The devices of a system, in order.

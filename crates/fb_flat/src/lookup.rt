@@ -1,18 +1,19 @@
 //! Networks with indexes.
 
 ghost use Rattle.std.specs.Prelude.{◌≡◌, ◌<◌, [], Some, Option, length, map, slice_get, None, IfOk, IfSome, MatchOption};
-ghost use Rattle.std.specs.Option.{option_map_or};
+ghost use Rattle.std.specs.Option.{option_map, option_map_or};
 ghost use Rattle.fb_model.specs.Names.{Name};
 ghost use Rattle.fb_types_networks.specs.declared.typed.Body.{out-Body};
 ghost use Rattle.fb_types_networks.specs.declared.typed.Instance.{Instance};
 ghost use Rattle.fb_types_networks.specs.declared.typed.Network.{out-Network};
+ghost use Rattle.fb_types_networks.specs.Views.{connection_of};
 ghost use Rattle.fb_flat.specs.Sites.{events_in};
 ghost use Rattle.fb_flat.specs.Leaves.{values_in};
-ghost use Rattle.fb_flat.specs.Placed.{first_named};
-ghost use Rattle.fb_flat.specs.Bundled.{key_of, seen, ending, source_of, target_of};
-ghost use Rattle.fb_flat.specs.Indexes.{IsInside};
+ghost use Rattle.fb_flat.specs.Placed.{AreNames, first_named};
+ghost use Rattle.fb_flat.specs.Bundled.{IsBundled, key_of, seen, ending, source_of, target_of};
+ghost use Rattle.fb_flat.specs.Indexes.{IsInside, AreInside};
 
-use crate::bundle::{Bundles, at, by_source, by_target};
+use crate::bundle::{Bundles, at, by_source, by_target, key};
 use crate::position::{Positions, positions};
 use fb_types_blocks::Face;
 use fb_types_networks::{Body, Connection, Instance, Network};
@@ -72,6 +73,67 @@ fn within<'a>(alloc: Global, instance: &'a Instance) -> Result<Inside<'a>, Alloc
     }
 }
 
+// The event and data connections of a network, by their ends.
+fn bundles<'a>(
+    alloc: Global,
+    network: &'a Network,
+) -> Result<(Bundles<'a>, Bundles<'a>), AllocError>
+    ensures events_are { IfOk result (λ t. IsBundled source_of (map connection_of (out-Network network.now).events.items) t.0) }
+    ensures values_are { IfOk result (λ t. IsBundled target_of (map connection_of (out-Network network.now).values.items) t.1) }
+{
+    let events = by_source(alloc, &network.events)?;
+    match by_target(alloc, &network.values) {
+        Ok(values) => Ok((events, values)),
+        Err(fault) => {
+            drop(events);
+            Err(fault)
+        }
+    }
+}
+
+// The positions of a network's instances by name, and its event and data connections by their ends.
+fn tables<'a>(
+    alloc: Global,
+    network: &'a Network,
+) -> Result<(Positions, Bundles<'a>, Bundles<'a>), AllocError>
+    ensures positions_are { IfOk result (λ t. AreNames (out-Network network.now).instances.items t.0) }
+    ensures events_are { IfOk result (λ t. IsBundled source_of (map connection_of (out-Network network.now).events.items) t.1) }
+    ensures values_are { IfOk result (λ t. IsBundled target_of (map connection_of (out-Network network.now).values.items) t.2) }
+{
+    let positions = positions(alloc, &network.instances)?;
+    match bundles(alloc, network) {
+        Ok((events, values)) => Ok((positions, events, values)),
+        Err(fault) => {
+            drop(positions);
+            Err(fault)
+        }
+    }
+}
+
+// A network with its indexes, by what is inside its instances.
+fn with_inside<'a>(
+    alloc: Global,
+    network: &'a Network,
+    inside: Vec<Inside<'a>>,
+) -> Result<Indexed<'a>, AllocError>
+    requires { AreInside (out-Network network.now).instances.items inside.items }
+    ensures { IfOk result (λ i. i ≡ network.now) }
+{
+    match tables(alloc, network) {
+        Ok((positions, events, values)) => Ok(Indexed {
+            network,
+            positions,
+            events,
+            values,
+            inside,
+        }),
+        Err(fault) => {
+            drop(inside);
+            Err(fault)
+        }
+    }
+}
+
 /// A network with its indexes.
 #[cycle(indexing)]
 pub fn index<'a>(alloc: Global, network: &'a Network) -> Result<Indexed<'a>, AllocError>
@@ -79,15 +141,15 @@ pub fn index<'a>(alloc: Global, network: &'a Network) -> Result<Indexed<'a>, All
 {
     let mut inside = Vec::new(alloc);
     for instance in &network.instances {
-        inside.push(within(alloc, instance)?)?;
+        match within(alloc, instance) {
+            Ok(one) => inside.push(one)?,
+            Err(fault) => {
+                drop(inside);
+                return Err(fault);
+            }
+        }
     }
-    Ok(Indexed {
-        network,
-        positions: positions(alloc, &network.instances)?,
-        events: by_source(alloc, &network.events)?,
-        values: by_target(alloc, &network.values)?,
-        inside,
-    })
+    with_inside(alloc, network, inside)
 }
 
 impl<'a> Indexed<'a> {
@@ -127,4 +189,30 @@ impl<'a> Indexed<'a> {
     {
         at(&self.values, key)
     }
+}
+
+/// Event connections, in text order, among which are all whose source is this port of an instance, or of the composite itself.
+pub fn leaving<'t, 'a>(
+    alloc: Global,
+    indexed: &'t Indexed<'a>,
+    instance: Option<&str>,
+    port: &str,
+) -> Result<Option<&'t Vec<&'a Connection>>, AllocError>
+    ensures { IfOk result (λ o. ending source_of (option_map (λ n. n.now) instance.entry) port.now (map seen (option_map_or (λ v. v.now.items) o [])) ≡ ending source_of (option_map (λ n. n.now) instance.entry) port.now (events_in indexed.now)) }
+{
+    let key = key(alloc, instance, port)?;
+    Ok(indexed.events(key.as_str()))
+}
+
+/// Data connections, in text order, among which are all whose target is this port of an instance, or of the composite itself.
+pub fn arriving<'t, 'a>(
+    alloc: Global,
+    indexed: &'t Indexed<'a>,
+    instance: Option<&str>,
+    port: &str,
+) -> Result<Option<&'t Vec<&'a Connection>>, AllocError>
+    ensures { IfOk result (λ o. ending target_of (option_map (λ n. n.now) instance.entry) port.now (map seen (option_map_or (λ v. v.now.items) o [])) ≡ ending target_of (option_map (λ n. n.now) instance.entry) port.now (values_in indexed.now)) }
+{
+    let key = key(alloc, instance, port)?;
+    Ok(indexed.values(key.as_str()))
 }

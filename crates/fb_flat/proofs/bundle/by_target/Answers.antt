@@ -1,17 +1,5 @@
-use Rattle.std.proofs.Common.{map, take, refl, sym, subst}
-use Rattle.fb_flat.proofs.Systems.{mapped_more}
-use Rattle.fb_types_networks.specs.Views.{connection_of}
-use Rattle.fb_flat.specs.Bundled.{IsBundled, target_of}
-use Rattle.fb_flat.proofs.Bundling.{bundled_more}
+use Rattle.std.proofs.Common.{refl}
 use Rattle.fb_flat.proofs.bundle.by_target.Goals as goal
 
-pub loop-connection-init : goal.loop-connection-init
-loop-connection-init c = λ i port. rw c.new-bundles.ensures.empty refl
-
-pub loop-connection-preserved : goal.loop-connection-preserved
-loop-connection-preserved c =
-    let xs = c.args.connections.now in
-    let i = c.loop-connection.connection-index in
-    let x = c.connection-item.result in
-    subst (λ l. IsBundled target_of l c.put.new.bundles) (sym (mapped_more connection_of xs i x c.loop-connection-test.true c.connection-item.is))
-    (bundled_more target_of (map connection_of (take i xs)) _ c.loop-connection.bundles c.put.new.bundles _ c.in_ok-text.ensures c.loop-connection.invariant c.in_ok-put.ensures)
+pub add_targets-requires : goal.add_targets-requires
+add_targets-requires c = λ i port. rw c.new-bundles.ensures.empty refl

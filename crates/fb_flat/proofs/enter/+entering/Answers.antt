@@ -79,14 +79,14 @@ pass-returns-in-None-clause-reached t c =
     let n = c.args.indexed.now in
     let port = c.args.port.now in
     let w = reached c.args.walk.now in
-    let none = when_none source_of None port (events_in n) c.events.result c.in-None.is (c.events.ensures None port (c.as_str.ensures.value ∙ c.in_ok-key.ensures)) in
+    let none = when_none source_of None port (events_in n) c.in_ok-leaving.field-0 c.in-None.is c.in_ok-leaving.ensures in
     sym (append-nil w) ∙ ap (λ ps. w ++ spots_of ps) (same_followed None port (entered_in (inner_of n) (path_of c.args.trail.now)) (λ o. []) [] (events_in n) none)
 
 pub pass-returns-in-None-clause-counted : goal.pass-returns-in-None-clause-counted
 pass-returns-in-None-clause-counted t c =
     let n = c.args.indexed.now in
     let port = c.args.port.now in
-    let none = when_none source_of None port (events_in n) c.events.result c.in-None.is (c.events.ensures None port (c.as_str.ensures.value ∙ c.in_ok-key.ensures)) in
+    let none = when_none source_of None port (events_in n) c.in_ok-leaving.field-0 c.in-None.is c.in_ok-leaving.ensures in
     let e : 0 ≡ follow_count (events_in n) None port (enter_count_in (inner_of n)) (λ o. 0) = same_count None port (enter_count_in (inner_of n)) (λ o. 0) [] (events_in n) none in
     omega (arith, e)
 
@@ -96,8 +96,7 @@ pass-loop-connection-init t c =
     let port = c.args.port.now in
     let items = c.deref-connection-items.result.now in
     let same =
-    when_some source_of None port (events_in n) c.events.result c.in-Some.connections items c.in-Some.is c.deref-connection-items.ensures.value
-    (c.events.ensures None port (c.as_str.ensures.value ∙ c.in_ok-key.ensures)) in
+    when_some source_of None port (events_in n) c.in_ok-leaving.field-0 c.in-Some.connections items c.in-Some.is c.deref-connection-items.ensures.value c.in_ok-leaving.ensures in
     record {
       reached = ap (λ ps. reached c.args.walk.now ++ spots_of ps) (same_followed None port (entered_in (inner_of n) (path_of c.args.trail.now)) (λ o. []) (map seen items) (events_in n) same);
       left = ap (λ m. c.args.walk.now.left + m) (sym (same_count None port (enter_count_in (inner_of n)) (λ o. 0) (map seen items) (events_in n) same));

@@ -53,7 +53,7 @@ pass-returns-in-None t c =
     let port = c.args.port.now in
     let outer : Name → Source = λ i. Constant (constant [] (variables_of c.args.face.now.inputs) i) in
     let other : Source = Constant (constant [] (variables_of c.args.face.now.outputs) port) in
-    let none = when_none target_of None port (values_in n) c.values.result c.in-None.is (c.values.ensures None port (c.as_str.ensures.value ∙ c.in_ok-key.ensures)) in
+    let none = when_none target_of None port (values_in n) c.in_ok-arriving.field-0 c.in-None.is c.in_ok-arriving.ensures in
     c.start.ensures ∙ ap written_source (same_fed None port (given_in (inner_of n) (path_of c.args.trail.now)) outer other [] (values_in n) none)
 
 pub pass-loop-connection-init : goal.pass-loop-connection-init
@@ -64,6 +64,5 @@ pass-loop-connection-init t c =
     let other : Source = Constant (constant [] (variables_of c.args.face.now.outputs) port) in
     let items = c.deref-connection-items.result.now in
     let same =
-    when_some target_of None port (values_in n) c.values.result c.in-Some.connections items c.in-Some.is c.deref-connection-items.ensures.value
-    (c.values.ensures None port (c.as_str.ensures.value ∙ c.in_ok-key.ensures)) in
+    when_some target_of None port (values_in n) c.in_ok-arriving.field-0 c.in-Some.connections items c.in-Some.is c.deref-connection-items.ensures.value c.in_ok-arriving.ensures in
     same_fed None port (given_in (inner_of n) (path_of c.args.trail.now)) outer other (map seen items) (values_in n) same

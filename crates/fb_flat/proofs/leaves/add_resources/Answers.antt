@@ -2,7 +2,7 @@ use Rattle.std.proofs.Common.{arith}
 use Rattle.std.proofs.lemmas.Result.{err_from_is_err_and}
 use Rattle.fb_flat.specs.Leaves.{IsFull}
 use Rattle.fb_flat.proofs.Systems.{any_here, limit_weaker}
-use Rattle.fb_flat.proofs.leaves.device.Goals as goal
+use Rattle.fb_flat.proofs.leaves.add_resources.Goals as goal
 
 pub returns-in_err-resource-clause-refused : goal.returns-in_err-resource-clause-refused
 returns-in_err-resource-clause-refused c =

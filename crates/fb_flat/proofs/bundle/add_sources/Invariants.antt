@@ -1,7 +1,7 @@
 use Rattle.std.proofs.Common.{map, take}
 use Rattle.fb_types_networks.specs.Views.{connection_of}
 use Rattle.fb_flat.specs.Bundled.{IsBundled, source_of}
-use Rattle.fb_flat.proofs.bundle.by_source.Given as goal
+use Rattle.fb_flat.proofs.bundle.add_sources.Given as goal
 
 -- the table has those so far
 abbrev pub invariant-loop-connection : goal.invariant-loop-connection

@@ -1,7 +1,7 @@
 use Rattle.std.proofs.Common.{◌≡◌, ◌++◌, map, drop, string_bytes}
 use Rattle.fb_flat.specs.Sources.{input_of, fed_by}
 use Rattle.fb_flat.specs.Leaves.{held_by}
-use Rattle.fb_flat.proofs.inputs.inputs.Given as goal
+use Rattle.fb_flat.proofs.inputs.add_inputs.Given as goal
 
 -- the inputs so far, with those left, are all
 abbrev pub invariant-loop-name : goal.invariant-loop-name

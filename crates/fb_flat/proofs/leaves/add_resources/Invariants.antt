@@ -4,7 +4,7 @@ use Rattle.fb_model.specs.System.{Resource}
 use Rattle.fb_types.specs.Views.{resource_of}
 use Rattle.fb_model.specs.Wires.{resource_count, most_followed}
 use Rattle.fb_flat.specs.Leaves.{flat_resource, written_resource}
-use Rattle.fb_flat.proofs.leaves.device.Given as goal
+use Rattle.fb_flat.proofs.leaves.add_resources.Given as goal
 
 -- the tables so far are the resources so far
 abbrev pub invariant-loop-resource_source : goal.invariant-loop-resource_source

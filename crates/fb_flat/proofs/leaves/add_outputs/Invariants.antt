@@ -2,7 +2,7 @@ use Rattle.std.proofs.Common.{◌≡◌, ◌+◌, ◌++◌, map, drop}
 use Rattle.fb_model.specs.Wires.{sum_by}
 use Rattle.fb_flat.specs.Sites.{left_by, left_count}
 use Rattle.fb_flat.specs.Leaves.{output_of, led}
-use Rattle.fb_flat.proofs.leaves.outputs.Given as goal
+use Rattle.fb_flat.proofs.leaves.add_outputs.Given as goal
 
 -- the outputs so far, with those left, are all; and the budget pays for those so far
 abbrev pub invariant-loop-name : goal.invariant-loop-name
