@@ -8,9 +8,9 @@ ghost use Rattle.fb_types.specs.Views.{system_of};
 ghost use Rattle.fb_find.specs.Bounds.{IsDenied, IsNoBound, IsWalk, RowsStand};
 ghost use Rattle.fb_find_search.specs.Searching.{AreFirstOf, IsFoundSomehow, IsNoBoundKeeping, IsStill};
 
-use crate::proposal::candidate;
 use fb_cert::{Certificate, Row};
 use fb_find::{find, find_within};
+use fb_find_candidate::candidate;
 use fb_find_rows::NoBound;
 use fb_flat::flatten;
 use fb_types::{TypeFault, Typed};

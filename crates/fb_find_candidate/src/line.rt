@@ -44,34 +44,3 @@ pub(crate) fn first_table(alloc: Global, lines: &[Line]) -> Result<Ranges, Alloc
     }
     Ok(ranges)
 }
-
-// Two ranges are the same.
-fn is_same(r: Interval, s: Interval) -> bool {
-    r.low == s.low && r.high == s.high
-}
-
-// The ranges of two leaves' lines are.
-fn same_lines(some: &[Line], others: &[Line]) -> bool {
-    if some.len() != others.len() {
-        return false;
-    }
-    for index in 0..some.len() {
-        if !is_same(some[index].range, others[index].range) {
-            return false;
-        }
-    }
-    true
-}
-
-/// So it is at all leaves.
-pub(crate) fn are_same(some: &[LeafLines], others: &[LeafLines]) -> bool {
-    if some.len() != others.len() {
-        return false;
-    }
-    for index in 0..some.len() {
-        if !same_lines(some[index].lines.as_slice(), others[index].lines.as_slice()) {
-            return false;
-        }
-    }
-    true
-}

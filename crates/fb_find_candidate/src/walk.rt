@@ -1,12 +1,12 @@
 //! The walk through statements: what each of them gives variables, and asks of their ranges. Where a scene skips, arms that cannot run ask nothing.
 
-use crate::ask::{ask, settle};
+use crate::ask::{ask, settle_and_give};
 use crate::case::{always_has, may_have};
 use crate::value::{may_fail, may_hold, value};
-use crate::way::{Scene, Way, give, join_ways, narrow_way, only_ways, same_way};
+use crate::way::{Scene, Way, add_part, add_way, give, join_ways, narrow_way, only_ways};
 use fb_ranges::{Ranges, names_assigned};
-use fb_ranges_intervals::{left_with, most_iterations, taken};
-use st_types::{Counting, TypedArm, TypedBranch, TypedExpr, TypedStmt};
+use fb_ranges_intervals::{Interval, left_with, most_iterations, taken};
+use st_types::{Counting, TypedArm, TypedBranch, TypedStmt};
 use std::alloc::AllocError;
 
 /// The walk through a list of statements.
@@ -38,58 +38,73 @@ fn walk_one(
         TypedStmt::SetElement(name, _, _, _, expr) => {
             ask(name.as_str(), value(expr, &way.ranges), asked)
         }
-        TypedStmt::If(branches, other) => walk_branches(scene, branches, other, way, asked),
+        TypedStmt::If(branches, other) => {
+            let mut ways = Vec::new(scene.alloc);
+            walk_branches(scene, branches, other, &mut ways, way, asked)
+        }
         TypedStmt::Case(selector, arms, other) => {
-            walk_arms(scene, selector, arms, other, way, asked)
+            let selected = value(selector, &way.ranges);
+            let mut ways = Vec::new(scene.alloc);
+            walk_arms(scene, selected, arms, other, &mut ways, way, asked)
         }
         TypedStmt::For(counting, body) => walk_for(scene, counting, body, way, asked),
     }
 }
 
-// IF: each condition where the earlier ones fail.
+// The walk through a list on the last of ways.
+#[cycle(walking)]
+fn walk_last(
+    scene: Scene<'_>,
+    list: &[TypedStmt],
+    ways: &mut Vec<Way>,
+    asked: &mut Ranges,
+) -> Result<(), AllocError> {
+    match ways.last_mut() {
+        Some(way) => walk(scene, list, way, asked),
+        None => Ok(()),
+    }
+}
+
+// IF: each condition where the earlier ones fail. The ways through branches are added.
 #[cycle(walking)]
 fn walk_branches(
     scene: Scene<'_>,
     branches: &[TypedBranch],
     other: &[TypedStmt],
+    ways: &mut Vec<Way>,
     way: &mut Way,
     asked: &mut Ranges,
 ) -> Result<(), AllocError> {
-    let mut ways = Vec::new(scene.alloc);
     for branch in branches {
         let condition = value(&branch.condition, &way.ranges);
         if !scene.skips || may_hold(condition) {
-            let mut inside = same_way(way)?;
-            narrow_way(scene.alloc, &branch.condition, true, &mut inside)?;
-            walk(scene, &branch.body, &mut inside, asked)?;
-            ways.push(inside)?;
+            add_part(&branch.condition, way, ways)?;
+            walk_last(scene, &branch.body, ways, asked)?;
         }
         if scene.skips && !may_fail(condition) {
             return only_ways(scene.names, ways, way);
         }
-        narrow_way(scene.alloc, &branch.condition, false, way)?;
+        narrow_way(&branch.condition, false, way)?;
     }
     walk(scene, other, way, asked)?;
     join_ways(scene.names, ways.as_slice(), way)
 }
 
-// CASE: an arm where the selector may have one of its labels.
+// CASE: an arm where the selector may have one of its labels. The ways through arms are added.
 #[cycle(walking)]
 fn walk_arms(
     scene: Scene<'_>,
-    selector: &TypedExpr,
+    selected: Interval,
     arms: &[TypedArm],
     other: &[TypedStmt],
+    ways: &mut Vec<Way>,
     way: &mut Way,
     asked: &mut Ranges,
 ) -> Result<(), AllocError> {
-    let selected = value(selector, &way.ranges);
-    let mut ways = Vec::new(scene.alloc);
     for arm in arms {
         if !scene.skips || may_have(&arm.labels, selected) {
-            let mut inside = same_way(way)?;
-            walk(scene, &arm.body, &mut inside, asked)?;
-            ways.push(inside)?;
+            add_way(way, ways)?;
+            walk_last(scene, &arm.body, ways, asked)?;
         }
         if scene.skips && always_has(&arm.labels, selected) {
             return only_ways(scene.names, ways, way);
@@ -114,13 +129,11 @@ fn walk_for(
     if iterations == 0 {
         return Ok(());
     }
-    let names = names_assigned(scene.alloc, body)?;
-    settle(scene, &names, way, asked)?;
-    let before = way.ranges.find_at(&counting.variable);
     let own = taken(first, last, counting.step, iterations);
-    give(&counting.variable, own, way)?;
+    let names = names_assigned(scene.alloc, body)?;
+    let before = settle_and_give(scene, &names, &counting.variable, own, way, asked)?;
     walk(scene, body, way, asked)?;
-    settle(scene, &names, way, asked)?;
     let left = left_with(first, last, counting.step, iterations, before);
-    give(&counting.variable, left, way)
+    settle_and_give(scene, &names, &counting.variable, left, way, asked)?;
+    Ok(())
 }

@@ -3,7 +3,7 @@ use denote.Param.Weighed.{most}
 use Rattle.st_types.proofs.command.TypedStmt.TheLaws.{the_size as stmt_size}
 use Rattle.st_types.proofs.command.TypedBranch.TheLaws.{the_size as branch_size}
 use Rattle.st_types.proofs.command.TypedArm.TheLaws.{the_size as arm_size}
-use Rattle.fb_find_search.proofs.number.+listing.Given as goal
+use Rattle.fb_find_candidate.proofs.number.+listing.Given as goal
 
 abbrev pub decreases-add_list : goal.decreases-add_list
 decreases-add_list l = 5 * most stmt_size l.list.now + 1

@@ -1,15 +1,16 @@
 //! Rows RANGE of all variables that may be clear.
 
-use crate::feed::numbers_of;
+use crate::feed::{Numbers, add_numbers};
 use crate::landmark::landmarks;
-use crate::line::{LeafLines, Line, are_same};
-use crate::round::{Ground, Turn, next};
+use crate::line::{LeafLines, Line};
+use crate::round::{Ground, Turn, change};
 use fb_cert::{Certificate, Row};
 use fb_check_ranges::{first_range, leaves_of, source_named, start_range};
 use fb_flat::{Body, Flat, FlatDevice, Leaf, joined};
 use fb_ranges_intervals::{Interval, whole};
 use fb_types_blocks::{Block, Variable, Variables};
 use fb_words::ElemType;
+use indexmap::IndexMap;
 use std::alloc::{AllocError, Global};
 
 /// The most rounds in which ranges grow.
@@ -55,7 +56,22 @@ fn first_line<'a>(
     })
 }
 
-// Adds the lines of variables.
+// Adds the line of a variable.
+fn add_line<'a>(
+    alloc: Global,
+    leaf: &Leaf,
+    block: &Block,
+    name: &'a str,
+    variable: &Variable,
+    given: &Certificate,
+    lines: &mut Vec<Line<'a>>,
+) -> Result<(), AllocError> {
+    let first = range_first(leaf, block, name, variable);
+    lines.push(first_line(alloc, leaf, given, name, variable.of_type, first)?)?;
+    Ok(())
+}
+
+// Adds those of variables.
 fn add_lines<'a>(
     alloc: Global,
     leaf: &Leaf,
@@ -68,11 +84,22 @@ fn add_lines<'a>(
         let Some((name, variable)) = variables.get_index(index) else {
             return Ok(());
         };
-        let name = name.as_str();
-        let first = range_first(leaf, block, name, variable);
-        lines.push(first_line(alloc, leaf, given, name, variable.of_type, first)?)?;
+        add_line(alloc, leaf, block, name.as_str(), variable, given, lines)?;
     }
     Ok(())
+}
+
+// Adds those of a block.
+fn add_block<'a>(
+    alloc: Global,
+    leaf: &Leaf,
+    block: &'a Block,
+    given: &Certificate,
+    lines: &mut Vec<Line<'a>>,
+) -> Result<(), AllocError> {
+    add_lines(alloc, leaf, block, &block.face.inputs, given, lines)?;
+    add_lines(alloc, leaf, block, &block.face.outputs, given, lines)?;
+    add_lines(alloc, leaf, block, &block.internals, given, lines)
 }
 
 // The lines of a leaf at first.
@@ -83,24 +110,22 @@ fn first_lines<'a>(
 ) -> Result<LeafLines<'a>, AllocError> {
     let mut lines = Vec::new(alloc);
     if let Body::Basic(block) = &leaf.body {
-        add_lines(alloc, leaf, block, &block.face.inputs, given, &mut lines)?;
-        add_lines(alloc, leaf, block, &block.face.outputs, given, &mut lines)?;
-        add_lines(alloc, leaf, block, &block.internals, given, &mut lines)?;
+        add_block(alloc, leaf, block, given, &mut lines)?;
     }
     Ok(LeafLines { leaf, lines })
 }
 
-// Those of leaves.
-fn all_first<'a>(
+// Adds those of leaves.
+fn add_first<'a>(
     alloc: Global,
     leaves: &[&'a Leaf],
     given: &Certificate,
-) -> Result<Vec<LeafLines<'a>>, AllocError> {
-    let mut all = Vec::new(alloc);
+    all: &mut Vec<LeafLines<'a>>,
+) -> Result<(), AllocError> {
     for leaf in leaves {
         all.push(first_lines(alloc, *leaf, given)?)?;
     }
-    Ok(all)
+    Ok(())
 }
 
 // The landmarks of leaves.
@@ -112,22 +137,19 @@ fn all_landmarks(alloc: Global, leaves: &[&Leaf]) -> Result<Vec<Vec<i64>>, Alloc
     Ok(all)
 }
 
-// The lines after rounds of a kind, until nothing changes, but at most so many.
-fn after<'a>(
+// The lines change by rounds of a kind, until their ranges stay, but at most so many.
+fn change_often(
     ground: Ground<'_>,
     turn: Turn,
     most: usize,
-    first: Vec<LeafLines<'a>>,
-) -> Result<Vec<LeafLines<'a>>, AllocError> {
-    let mut all = first;
+    all: &mut Vec<LeafLines>,
+) -> Result<(), AllocError> {
     for _ in 0..most {
-        let changed = next(ground, turn, all.as_slice())?;
-        if are_same(all.as_slice(), changed.as_slice()) {
-            return Ok(changed);
+        if change(ground, turn, all)? {
+            return Ok(());
         }
-        all = changed;
     }
-    Ok(all)
+    Ok(())
 }
 
 // Adds the row of a variable.
@@ -159,6 +181,51 @@ fn add_rows(
     Ok(())
 }
 
+// Adds the lines of leaves at first, and the rows of these after all rounds.
+fn add_changed<'a>(
+    ground: Ground<'a>,
+    given: &Certificate,
+    all: &mut Vec<LeafLines<'a>>,
+    certificate: &mut Certificate,
+) -> Result<(), AllocError> {
+    add_first(ground.alloc, ground.leaves, given, all)?;
+    change_often(ground, Turn::Grow, GROWING, all)?;
+    change_often(ground, Turn::Shrink, SHRINKING, all)?;
+    change_often(ground, Turn::Last, GROWING, all)?;
+    add_rows(ground.alloc, all.as_slice(), certificate)
+}
+
+// Adds those of a device with these leaves, of which these are the numbers.
+fn add_leaves<'a>(
+    alloc: Global,
+    leaves: &'a [&'a Leaf],
+    numbers: &'a Numbers,
+    given: &Certificate,
+    certificate: &mut Certificate,
+) -> Result<(), AllocError> {
+    let landmarks = all_landmarks(alloc, leaves)?;
+    let ground = Ground {
+        alloc,
+        leaves,
+        numbers,
+        landmarks: landmarks.as_slice(),
+    };
+    let mut all = Vec::new(alloc);
+    add_changed(ground, given, &mut all, certificate)
+}
+
+// Adds those of a device with these leaves, whose numbers are added to none.
+fn add_numbered(
+    alloc: Global,
+    leaves: &[&Leaf],
+    numbers: &mut Numbers,
+    given: &Certificate,
+    certificate: &mut Certificate,
+) -> Result<(), AllocError> {
+    add_numbers(alloc, leaves, numbers)?;
+    add_leaves(alloc, leaves, numbers, given, certificate)
+}
+
 // Adds those of a device.
 fn add_device(
     alloc: Global,
@@ -167,19 +234,21 @@ fn add_device(
     certificate: &mut Certificate,
 ) -> Result<(), AllocError> {
     let leaves = leaves_of(alloc, device.resources.as_slice())?;
-    let numbers = numbers_of(alloc, leaves.as_slice())?;
-    let landmarks = all_landmarks(alloc, leaves.as_slice())?;
-    let ground = Ground {
-        alloc,
-        leaves: leaves.as_slice(),
-        numbers: &numbers,
-        landmarks: landmarks.as_slice(),
-    };
-    let first = all_first(alloc, leaves.as_slice(), given)?;
-    let wide = after(ground, Turn::Grow, GROWING, first)?;
-    let narrow = after(ground, Turn::Shrink, SHRINKING, wide)?;
-    let last = after(ground, Turn::Last, GROWING, narrow)?;
-    add_rows(alloc, last.as_slice(), certificate)
+    let mut numbers = IndexMap::new(alloc);
+    add_numbered(alloc, leaves.as_slice(), &mut numbers, given, certificate)
+}
+
+// Adds those of devices.
+fn add_devices(
+    alloc: Global,
+    flat: &Flat,
+    given: &Certificate,
+    certificate: &mut Certificate,
+) -> Result<(), AllocError> {
+    for device in &flat.devices {
+        add_device(alloc, device, given, certificate)?;
+    }
+    Ok(())
 }
 
 /// Rows RANGE of all variables that are not BOOL, under which all may be clear; variables that have a row in `given` keep it.
@@ -189,8 +258,11 @@ pub fn candidate(
     given: &Certificate,
 ) -> Result<Certificate, AllocError> {
     let mut certificate = Certificate::new(alloc);
-    for device in &flat.devices {
-        add_device(alloc, device, given, &mut certificate)?;
+    match add_devices(alloc, flat, given, &mut certificate) {
+        Ok(()) => Ok(certificate),
+        Err(error) => {
+            certificate.let_go();
+            Err(error)
+        }
     }
-    Ok(certificate)
 }

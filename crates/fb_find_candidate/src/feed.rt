@@ -19,16 +19,29 @@ pub(crate) struct Near<'a> {
     pub numbers: &'a Numbers,
 }
 
-/// The number of each leaf; of leaves of one path that of the first.
-pub(crate) fn numbers_of(alloc: Global, leaves: &[&Leaf]) -> Result<Numbers, AllocError> {
-    let mut numbers = IndexMap::new(alloc);
-    for index in 0..leaves.len() {
-        let path = leaves[index].path.as_str();
-        if !numbers.contains_key(path) {
-            numbers.insert(String::from_str(alloc, path)?, index)?;
-        }
+// Adds the number of a path that has none.
+fn add_number(
+    alloc: Global,
+    path: &str,
+    index: usize,
+    numbers: &mut Numbers,
+) -> Result<(), AllocError> {
+    if !numbers.contains_key(path) {
+        numbers.insert(String::from_str(alloc, path)?, index)?;
     }
-    Ok(numbers)
+    Ok(())
+}
+
+/// Adds the number of each leaf to none; of leaves of one path that of the first.
+pub(crate) fn add_numbers(
+    alloc: Global,
+    leaves: &[&Leaf],
+    numbers: &mut Numbers,
+) -> Result<(), AllocError> {
+    for index in 0..leaves.len() {
+        add_number(alloc, leaves[index].path.as_str(), index, numbers)?;
+    }
+    Ok(())
 }
 
 // All numbers of the type of a data port of a service.

@@ -29,6 +29,12 @@ fn add_links(links: &[TypedLink], numbers: &mut Vec<i64>) -> Result<(), AllocErr
     Ok(())
 }
 
+// Adds those of two.
+fn add_terms(one: &TypedExpr, other: &TypedExpr, numbers: &mut Vec<i64>) -> Result<(), AllocError> {
+    add_term(one, numbers)?;
+    add_term(other, numbers)
+}
+
 /// Adds those of statements.
 #[cycle(listing)]
 pub(crate) fn add_list(list: &[TypedStmt], numbers: &mut Vec<i64>) -> Result<(), AllocError> {
@@ -42,10 +48,7 @@ pub(crate) fn add_list(list: &[TypedStmt], numbers: &mut Vec<i64>) -> Result<(),
 fn add_statement(statement: &TypedStmt, numbers: &mut Vec<i64>) -> Result<(), AllocError> {
     match statement {
         TypedStmt::Set(_, value) => add_term(value, numbers),
-        TypedStmt::SetElement(_, _, _, index, value) => {
-            add_term(index, numbers)?;
-            add_term(value, numbers)
-        }
+        TypedStmt::SetElement(_, _, _, index, value) => { add_terms(index, value, numbers) }
         TypedStmt::If(branches, other) => {
             add_branches(branches, numbers)?;
             add_list(other, numbers)
@@ -56,8 +59,7 @@ fn add_statement(statement: &TypedStmt, numbers: &mut Vec<i64>) -> Result<(), Al
             add_list(other, numbers)
         }
         TypedStmt::For(counting, body) => {
-            add_term(&counting.first, numbers)?;
-            add_term(&counting.last, numbers)?;
+            add_terms(&counting.first, &counting.last, numbers)?;
             add_list(body, numbers)
         }
     }

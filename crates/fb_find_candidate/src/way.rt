@@ -30,12 +30,22 @@ pub(crate) fn first_way(scene: Scene<'_>) -> Result<Way, AllocError> {
     })
 }
 
-/// The same way once more.
-pub(crate) fn same_way(way: &Way) -> Result<Way, AllocError> {
+// The same way once more.
+fn same_way(way: &Way) -> Result<Way, AllocError> {
     Ok(Way {
         ranges: copied(&way.ranges)?,
         given: way.given.clone()?,
     })
+}
+
+// Notes what a variable was given.
+fn note(
+    name: &String,
+    value: Interval,
+    given: &mut IndexMap<String, Interval>,
+) -> Result<(), AllocError> {
+    given.insert(name.clone()?, value)?;
+    Ok(())
 }
 
 /// A variable gets a value.
@@ -45,8 +55,7 @@ pub(crate) fn give(
     way: &mut Way,
 ) -> Result<(), AllocError> {
     way.ranges.insert_at(variable, value)?;
-    way.given.insert(variable.name.clone()?, value)?;
-    Ok(())
+    note(&variable.name, value, &mut way.given)
 }
 
 // What two ranges have in common; the first, where that is nothing.
@@ -60,29 +69,57 @@ fn cut(r: Interval, s: Interval) -> Interval {
     }
 }
 
-// What variables were given is no more than they have.
-fn trim(alloc: Global, way: &mut Way) -> Result<(), AllocError> {
-    let mut given = IndexMap::new(alloc);
-    for index in 0..way.given.len() {
-        let Some((name, value)) = way.given.get_index(index) else {
-            return Ok(());
-        };
-        let now = cut(*value, way.ranges.find(name.as_str()));
-        given.insert(name.clone()?, now)?;
+// What a variable was given is no more than it has.
+fn trim_one(index: usize, ranges: &Ranges, given: &mut IndexMap<String, Interval>) {
+    let Some((name, value)) = given.get_index(index) else {
+        return;
+    };
+    let now = cut(*value, ranges.find(name.as_str()));
+    if let Some(value) = given.get_index_mut(index) {
+        *value = now;
     }
-    way.given = given;
-    Ok(())
+}
+
+// So it is for all variables.
+fn trim(ranges: &Ranges, given: &mut IndexMap<String, Interval>) {
+    for index in 0..given.len() {
+        trim_one(index, ranges, given);
+    }
 }
 
 /// The part of a way where a condition holds, or fails.
 pub(crate) fn narrow_way(
-    alloc: Global,
     condition: &TypedExpr,
     holds: bool,
     way: &mut Way,
 ) -> Result<(), AllocError> {
     narrow(condition, holds, &mut way.ranges)?;
-    trim(alloc, way)
+    trim(&way.ranges, &mut way.given);
+    Ok(())
+}
+
+/// Adds a copy of a way to others.
+pub(crate) fn add_way(way: &Way, ways: &mut Vec<Way>) -> Result<(), AllocError> {
+    ways.push(same_way(way)?)?;
+    Ok(())
+}
+
+// The part of the last of ways where a condition holds.
+fn narrow_last(condition: &TypedExpr, ways: &mut Vec<Way>) -> Result<(), AllocError> {
+    match ways.last_mut() {
+        Some(way) => narrow_way(condition, true, way),
+        None => Ok(()),
+    }
+}
+
+/// Adds the part of a way where a condition holds to others.
+pub(crate) fn add_part(
+    condition: &TypedExpr,
+    way: &Way,
+    ways: &mut Vec<Way>,
+) -> Result<(), AllocError> {
+    add_way(way, ways)?;
+    narrow_last(condition, ways)
 }
 
 // What was given on another way too.
@@ -95,7 +132,7 @@ fn join_given(other: &Way, way: &mut Way) -> Result<(), AllocError> {
             Some(own) => joined(*own, *value),
             None => *value,
         };
-        way.given.insert(name.clone()?, all)?;
+        note(name, all, &mut way.given)?;
     }
     Ok(())
 }
@@ -120,7 +157,7 @@ pub(crate) fn join_ways(names: &[&str], others: &[Way], way: &mut Way) -> Result
 /// One of these ways alone.
 pub(crate) fn only_ways(
     names: &[&str],
-    mut others: Vec<Way>,
+    others: &mut Vec<Way>,
     way: &mut Way,
 ) -> Result<(), AllocError> {
     match others.pop() {
