@@ -82,7 +82,10 @@ pub fn check_texts<'a>(alloc: Global, app: &str, cert: &str) -> Result<(), Fault
     ensures { IsVerdict app.now cert.now result }
 {
     match check_text(alloc, app, cert) {
-        Ok(_) => Ok(()),
+        Ok(verified) => {
+            verified.let_go();
+            Ok(())
+        }
         Err(Refusal::OutOfMemory) => Err(Fault::Memory),
         Err(refusal) => Err(Fault::Refused(refusal)),
     }

@@ -57,10 +57,28 @@ fn explain_number<W: Write>(number: u16, output: &mut W) -> io::Result<u8>
 }
 
 // Writes the line of a fault that stands in no text, and what there is to say of it.
-fn explain_fault<W: Write>(fault: Fault<'_>, output: &mut W) -> io::Result<u8>
+fn write_fault<W: Write>(fault: &Fault<'_>, output: &mut W) -> io::Result<u8>
     ensures status { IfOk result (λ status. status ≤ 4) }
 {
     writeln!(output, "{fault}")?;
+    write_meaning(meaning_of(fault.code()), output)?;
+    Ok(fault.status())
+}
+
+// The same of a fault that is let go.
+fn explain_fault<W: Write>(fault: Fault<'_>, output: &mut W) -> io::Result<u8>
+    ensures status { IfOk result (λ status. status ≤ 4) }
+{
+    write_fault(&fault, output)
+}
+
+// The same, with a line of its own between the two.
+fn write_stray<W: Write>(fault: &Fault<'_>, said: &str, output: &mut W) -> io::Result<u8>
+    ensures status { IfOk result (λ status. status ≤ 4) }
+{
+    writeln!(output, "{fault}")?;
+    output.write_all(said.as_bytes())?;
+    output.write_all(b"\n")?;
     write_meaning(meaning_of(fault.code()), output)?;
     Ok(fault.status())
 }
@@ -74,14 +92,10 @@ fn explain_unread<'a, S: Sources, W: Write>(
 ) -> io::Result<u8>
     ensures status { IfOk result (λ status. status ≤ 4) }
 {
-    let said = stray_in(alloc, files, &fault);
-    writeln!(output, "{fault}")?;
-    if let Some(said) = said {
-        output.write_all(said.as_bytes())?;
-        output.write_all(b"\n")?;
+    match stray_in(alloc, files, &fault) {
+        Some(said) => write_stray(&fault, said.as_str(), output),
+        None => write_fault(&fault, output),
     }
-    write_meaning(meaning_of(fault.code()), output)?;
-    Ok(fault.status())
 }
 
 // What is there unless there is a fault. Want of memory is not such a fault.
@@ -172,6 +186,20 @@ fn tell_with_rows(
 }
 
 // Writes the line of a refusal of two texts, and what there is to say of it.
+fn write_refusal(
+    alloc: Global,
+    refusal: &Refusal,
+    app: Named<'_>,
+    cert: Named<'_>,
+    writing: &mut Writing,
+) -> Result<(), AllocError> {
+    writing.put("refused ");
+    writing.show(refusal);
+    writing.put("\n");
+    tell_with_rows(alloc, refusal, app, cert, writing)
+}
+
+// The same of one that is let go, with the status that it has.
 fn explain_refusal(
     alloc: Global,
     refusal: Refusal,
@@ -181,14 +209,27 @@ fn explain_refusal(
 ) -> io::Result<u8>
     ensures status { IfOk result (λ status. status ≤ 4) }
 {
-    writing.put("refused ");
-    writing.show(&refusal);
-    writing.put("\n");
-    tell_with_rows(alloc, &refusal, app, cert, writing)?;
-    Ok(Fault::Refused(refusal).status())
+    let told = write_refusal(alloc, &refusal, app, cert, writing);
+    let status = Fault::Refused(refusal).status();
+    told?;
+    Ok(status)
 }
 
 // Writes the line of why there is no certificate, and what there is to say of it.
+fn write_unbound(
+    alloc: Global,
+    reason: &NoBound,
+    typed: &Typed,
+    app: Named<'_>,
+    writing: &mut Writing,
+) -> Result<(), AllocError> {
+    writing.put("refused ");
+    writing.show(reason);
+    writing.put("\n");
+    tell_no_bound(alloc, reason, typed, app, writing)
+}
+
+// The same of one that is let go, with the status that it has.
 fn explain_unbound(
     alloc: Global,
     reason: NoBound,
@@ -198,11 +239,10 @@ fn explain_unbound(
 ) -> io::Result<u8>
     ensures status { IfOk result (λ status. status ≤ 4) }
 {
-    writing.put("refused ");
-    writing.show(&reason);
-    writing.put("\n");
-    tell_no_bound(alloc, &reason, typed, app, writing)?;
-    Ok(Fault::Unbound(reason).status())
+    let told = write_unbound(alloc, &reason, typed, app, writing);
+    let status = Fault::Unbound(reason).status();
+    told?;
+    Ok(status)
 }
 
 // Writes the line of an acceptance, the bounds of what fits, and notes on the application's text, which count where one is strict.

@@ -31,27 +31,66 @@ pub fn hand_out<E: Write>(writing: Writing, errors: &mut E) {
     }
 }
 
-// What there is to say of a refusal of two texts, where they can be read.
+// A text that was written, where memory held all of it.
+fn written_text(writing: Writing) -> Option<String> {
+    match writing.end() {
+        Ok(bytes) => String::from_utf8(bytes).ok(),
+        Err(_) => None,
+    }
+}
+
+// What there is to say of a refusal of two texts.
+fn explained_texts(
+    alloc: Global,
+    refusal: &Refusal,
+    app: Named<'_>,
+    cert: Named<'_>,
+) -> Option<String> {
+    let mut told = Writing::new(alloc);
+    match tell_rows(alloc, refusal, app, cert, None, &mut told) {
+        Ok(()) => written_text(told),
+        Err(_) => None,
+    }
+}
+
+// The same, where the second text can be read.
+fn explained_beside<S: Sources>(
+    alloc: Global,
+    files: &S,
+    refusal: &Refusal,
+    app: Named<'_>,
+    name: &str,
+) -> Option<String> {
+    match read_text(alloc, files, name) {
+        Ok(text) => {
+            let cert = Named {
+                name,
+                text: text.as_str(),
+            };
+            explained_texts(alloc, refusal, app, cert)
+        }
+        Err(_) => None,
+    }
+}
+
+// The same, where both can be read.
 fn explained<S: Sources>(
     alloc: Global,
     files: &S,
     refusal: &Refusal,
     given: Given<'_>,
 ) -> Option<String> {
-    let name = given.cert.unwrap_or(given.app);
-    let app_text = read_text(alloc, files, given.app).ok()?;
-    let cert_text = read_text(alloc, files, name).ok()?;
-    let app = Named {
-        name: given.app,
-        text: app_text.as_str(),
-    };
-    let cert = Named {
-        name,
-        text: cert_text.as_str(),
-    };
-    let mut told = Writing::new(alloc);
-    tell_rows(alloc, refusal, app, cert, None, &mut told).ok()?;
-    String::from_utf8(told.end().ok()?).ok()
+    match read_text(alloc, files, given.app) {
+        Ok(text) => {
+            let app = Named {
+                name: given.app,
+                text: text.as_str(),
+            };
+            let name = given.cert.unwrap_or(given.app);
+            explained_beside(alloc, files, refusal, app, name)
+        }
+        Err(_) => None,
+    }
 }
 
 // Whether a line says where in the file of this name.
@@ -250,7 +289,21 @@ pub fn hint_serve<S: Sources, E: Write>(
     }
 }
 
-// Tells people what is at fault with the text of an application, if something is.
+// Tells people what is at fault with a text, if something is.
+fn hint_typed<S: Sources, E: Write>(
+    alloc: Global,
+    files: &S,
+    given: Given<'_>,
+    text: &str,
+    errors: &mut E,
+) {
+    match typed_in(alloc, text) {
+        Ok(typed) => typed.let_go(),
+        Err(fault) => hint(alloc, files, &fault, given, errors),
+    }
+}
+
+// The same of the text of an application.
 fn hint_text<S: Sources, E: Write>(alloc: Global, files: &S, app: &str, errors: &mut E) {
     let given = Given {
         app,
@@ -258,10 +311,7 @@ fn hint_text<S: Sources, E: Write>(alloc: Global, files: &S, app: &str, errors: 
         repeats: None,
     };
     match read_text(alloc, files, app) {
-        Ok(text) => match typed_in(alloc, text.as_str()) {
-            Ok(typed) => typed.let_go(),
-            Err(fault) => hint(alloc, files, &fault, given, errors),
-        },
+        Ok(text) => hint_typed(alloc, files, given, text.as_str(), errors),
         Err(fault) => hint(alloc, files, &fault, given, errors),
     }
 }

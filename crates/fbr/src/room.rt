@@ -28,18 +28,28 @@ fn add_depth(text: &mut String, path: &str, depth: u64) -> Result<(), AllocError
     writeln!(text, "DEPTH {path} {depth}")
 }
 
+// Adds a line of a certificate, with room for so many of the largest arrivals where it says a DEPTH.
+fn add_roomy(
+    alloc: Global,
+    verified: &Verified,
+    line: &str,
+    times: u8,
+    text: &mut String,
+) -> Result<(), AllocError> {
+    let Some(path) = deep_path(line) else {
+        return add_line(text, line);
+    };
+    match depth_with_room(alloc, verified, path, times)? {
+        Some(depth) => add_depth(text, path, depth),
+        None => add_line(text, line),
+    }
+}
+
 // The text of a certificate, with room for so many of the largest arrivals in each queue.
 fn roomy(alloc: Global, verified: &Verified, text: &str, times: u8) -> Result<String, AllocError> {
     let mut deeper = String::new(alloc);
     for line in text.lines() {
-        let depth = match deep_path(line) {
-            Some(path) => depth_with_room(alloc, verified, path, times)?,
-            None => None,
-        };
-        match (deep_path(line), depth) {
-            (Some(path), Some(depth)) => add_depth(&mut deeper, path, depth)?,
-            _ => add_line(&mut deeper, line)?,
-        }
+        add_roomy(alloc, verified, line, times, &mut deeper)?;
     }
     Ok(deeper)
 }

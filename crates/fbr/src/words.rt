@@ -1,7 +1,7 @@
 //! The words of the program.
 
-ghost use Rattle.std.specs.Prelude.{◌≡◌, ◌≢◌, ◌⊎◌, ◌<◌, ◌≤◌, ℕ, Option, None, Some, length, map, option_map, option_and_then, codes, false, IfOk, IfSome};
-ghost use Rattle.clap.specs.Words.{Text, app_of, rule_of, subcommand_rows_of, rows_of, found_of, first_of};
+ghost use Rattle.std.specs.Prelude.{◌≡◌, ◌≢◌, ◌⊎◌, ◌<◌, ◌≤◌, ℕ, Option, None, Some, length, map, option_map, option_and_then, codes, true, false, IfOk, IfSome};
+ghost use Rattle.clap.specs.Words.{App, Rule, Text, app_of, rule_of, with_rule, with_subcommand, subcommand_rows_of, rows_of, found_of, first_of};
 ghost use Rattle.clap.specs.Values.{kind_of};
 ghost use Rattle.fbr.specs.Outcomes.{Tells, TellsInput, TellsFiles, TellsUsage, refusal};
 ghost use Rattle.fbr.specs.Simulation.{TellsSim};
@@ -58,6 +58,35 @@ fn maybe_file<'a>(alloc: Global, id: &'a str, help: &'a str) -> Arg<'a>
     Arg::new(alloc, id).help(help)
 }
 
+// A command with one argument more, where there is one.
+fn with<'a>(
+    command: Result<Command<'a>, AllocError>,
+    arg: Arg<'a>,
+) -> Result<Command<'a>, AllocError>
+    ensures { (app : App) (rule : Rule) → IfOk command.entry (λ c. app_of c ≡ app) → rule_of arg.entry ≡ rule → arg.entry.global ≡ false → IfOk result (λ c. app_of c ≡ with_rule app rule) }
+{
+    match command {
+        Ok(command) => command.arg(arg),
+        Err(fault) => Err(fault),
+    }
+}
+
+// A command with one subcommand more, where there are both.
+fn with_command<'a>(
+    command: Result<Command<'a>, AllocError>,
+    sub: Result<Command<'a>, AllocError>,
+) -> Result<Command<'a>, AllocError>
+    ensures { (app own : App) → IfOk command.entry (λ c. app_of c ≡ app) → IfOk sub.entry (λ c. app_of c ≡ own) → own.top.is_plain ≡ true → IfOk result (λ c. app_of c ≡ with_subcommand app own.top) }
+{
+    match command {
+        Ok(command) => match sub {
+            Ok(sub) => command.subcommand(sub),
+            Err(fault) => Err(fault),
+        },
+        Err(fault) => Err(fault),
+    }
+}
+
 // A subcommand that wants a file.
 fn over_file<'a>(alloc: Global, name: &'a str, about: &'a str) -> Result<Command<'a>, AllocError>
     ensures { IfOk result (λ c. app_of c ≡ program.over_file name.now) }
@@ -71,7 +100,10 @@ fn over_file<'a>(alloc: Global, name: &'a str, about: &'a str) -> Result<Command
 fn over_files<'a>(alloc: Global, name: &'a str, about: &'a str) -> Result<Command<'a>, AllocError>
     ensures { IfOk result (λ c. app_of c ≡ program.over_files name.now) }
 {
-    over_file(alloc, name, about)?.arg(file(alloc, "CERT", "The certificate's text"))
+    with(
+        over_file(alloc, name, about),
+        file(alloc, "CERT", "The certificate's text"),
+    )
 }
 
 // The option `--repeats`.
@@ -147,12 +179,11 @@ fn bound<'a>(alloc: Global) -> Result<Command<'a>, AllocError>
     ensures { IfOk result (λ c. app_of c ≡ program.bound) }
 {
     let about = "Finds a certificate whose numbers are the least, and prints it";
-    over_file(alloc, "bound", about)?
-        .arg(repeats(alloc))?
-        .arg(output(alloc))?
-        .arg(ranges(alloc))?
-        .arg(search(alloc))?
-        .arg(room(alloc))
+    let counted = with(over_file(alloc, "bound", about), repeats(alloc));
+    let written = with(counted, output(alloc));
+    let ranged = with(written, ranges(alloc));
+    let searched = with(ranged, search(alloc));
+    with(searched, room(alloc))
 }
 
 // The option `--strict`.
@@ -173,12 +204,12 @@ fn explained<'a>(alloc: Global) -> Result<Command<'a>, AllocError>
     let about = "Explains the verdict over an application, or the number of a refusal";
     let help_app = "The application's text, or a number";
     let help_cert = "The certificate's text; without it the one that is found";
-    Command::new(alloc, "explain")
+    let alone = Command::new(alloc, "explain")
         .about(about)
-        .arg(file(alloc, "APP", help_app))?
-        .arg(maybe_file(alloc, "CERT", help_cert))?
-        .arg(repeats(alloc))?
-        .arg(strict(alloc))
+        .arg(file(alloc, "APP", help_app));
+    let both = with(alone, maybe_file(alloc, "CERT", help_cert));
+    let counted = with(both, repeats(alloc));
+    with(counted, strict(alloc))
 }
 
 // The option `--flat`.
@@ -210,12 +241,12 @@ fn drawn<'a>(alloc: Global) -> Result<Command<'a>, AllocError>
 {
     let about = "Draws the system and its bounds, or a chart, as a graph in DOT for graphviz";
     let help_cert = "The certificate's text; without it the one that is found";
-    over_file(alloc, "draw", about)?
-        .arg(maybe_file(alloc, "CERT", help_cert))?
-        .arg(repeats(alloc))?
-        .arg(flat(alloc))?
-        .arg(chart(alloc))?
-        .arg(output(alloc))
+    let alone = over_file(alloc, "draw", about);
+    let both = with(alone, maybe_file(alloc, "CERT", help_cert));
+    let counted = with(both, repeats(alloc));
+    let flattened = with(counted, flat(alloc));
+    let charted = with(flattened, chart(alloc));
+    with(charted, output(alloc))
 }
 
 // An option that takes a number, which help calls so.
@@ -260,36 +291,32 @@ fn served<'a>(alloc: Global) -> Result<Command<'a>, AllocError>
         "How many turns it takes: 16 datagrams are received at most, and each resource is dispatched once";
     let help_boot =
         "The boot that its messages of format 2 are stamped with, 0 where none is given; let it grow with each start";
-    over_files(alloc, "serve", about)?
-        .arg(file(alloc, "DEVICE", help_device))?
-        .arg(needed_number(alloc, "bind", "PORT", help_bind))?
-        .arg(needed_number(alloc, "turns", "N", help_turns))?
-        .arg(number(alloc, "boot", "B", help_boot))?
-        .arg(peers(alloc))
+    let both = over_files(alloc, "serve", about);
+    let device = with(both, file(alloc, "DEVICE", help_device));
+    let port = with(device, needed_number(alloc, "bind", "PORT", help_bind));
+    let turns = with(port, needed_number(alloc, "turns", "N", help_turns));
+    let boot = with(turns, number(alloc, "boot", "B", help_boot));
+    with(boot, peers(alloc))
 }
 
 // The words that the program knows.
 fn commands<'a>(alloc: Global) -> Result<Command<'a>, AllocError>
     ensures { IfOk result (λ c. app_of c ≡ program.program) }
 {
-    let bound = bound(alloc)?;
     let about_check = "Checks that a certificate fits an application";
     let check = over_files(alloc, "check", about_check)?;
     let about_sim = "Checks two texts, and runs the script on standard input";
-    let sim = over_files(alloc, "sim", about_sim)?;
-    let explain = explained(alloc)?;
-    let draw = drawn(alloc)?;
-    let serve = served(alloc)?;
-    Command::new(alloc, "fbr")
+    let sim = over_files(alloc, "sim", about_sim);
+    let top = Command::new(alloc, "fbr")
         .about("Proves bounds of function block applications before they run")
         .version(VERSION)
-        .subcommand_required(true)
-        .subcommand(bound)?
-        .subcommand(check)?
-        .subcommand(sim)?
-        .subcommand(explain)?
-        .subcommand(draw)?
-        .subcommand(serve)
+        .subcommand_required(true);
+    let finds = with_command(Ok(top), bound(alloc));
+    let checks = with_command(finds, Ok(check));
+    let runs = with_command(checks, sim);
+    let explains = with_command(runs, explained(alloc));
+    let draws = with_command(explains, drawn(alloc));
+    with_command(draws, served(alloc))
 }
 
 // The subcommand that the words name, with what they give to it.
@@ -579,6 +606,50 @@ fn refused<W: Write, E: Write>(error: &Error, output: &mut W, errors: &mut E) ->
     }
 }
 
+// Runs the command of words that are matched.
+fn run_matches<'a, R: Clock + Net, S: Sources, I: Read, W: Write, E: Write>(
+    rt: &R,
+    alloc: Global,
+    matches: &ArgMatches<'a>,
+    files: &mut S,
+    input: &mut I,
+    output: &mut W,
+    errors: &mut E,
+) -> io::Result<u8>
+    ensures bounds { (repeats : Option ℕ) (app : Text) → option_and_then program.bound_in (subcommand_rows_of matches.now) ≡ Some (Some (record { app = app; repeats = repeats; into = None; ranges = None; room = None }))
+        → IfOk result (λ status. TellsBound repeats app (S.contents files.old app) (W.contents output.old) (W.contents output.new) status) }
+    ensures writes { (repeats : Option ℕ) (app name : Text) → option_and_then program.bound_in (subcommand_rows_of matches.now) ≡ Some (Some (record { app = app; repeats = repeats; into = Some name; ranges = None; room = None }))
+        → IfOk result (λ status. WritesBound repeats app name (S.contents files.old) (S.contents files.new) (W.contents output.old) (W.contents output.new) status) }
+    ensures asked { (q : program.Sought) → option_and_then program.bound_in (subcommand_rows_of matches.now) ≡ Some (Some q) → program.is_plain q ≡ false
+        → IfOk result (λ status. TellsSought q (S.contents files.old) (S.contents files.new) (W.contents output.old) (W.contents output.new) status) }
+    ensures checks { (app cert : Text) → option_and_then (program.files_in (codes "check")) (subcommand_rows_of matches.now) ≡ Some (app, cert)
+        → IfOk result (λ status. TellsFiles app cert (S.contents files.old app) (S.contents files.old cert) (W.contents output.old) (W.contents output.new) status) }
+    ensures sims { (app cert : Text) → option_and_then (program.files_in (codes "sim")) (subcommand_rows_of matches.now) ≡ Some (app, cert)
+        → IfOk result (λ status. TellsSim app cert (S.contents files.old app) (S.contents files.old cert) (I.remaining input.old) (W.contents output.old) (W.contents output.new) status) }
+    ensures uncounted { option_and_then program.bound_in (subcommand_rows_of matches.now) ≡ Some None
+        → IfOk result (λ status. TellsUsage (W.contents output.old) (W.contents output.new) status) }
+    ensures serves { (q : program.Asked) → option_and_then program.serve_in (subcommand_rows_of matches.now) ≡ Some (Some q)
+        → IfOk result (λ status. TellsServe q (S.contents files.old q.app) (S.contents files.old q.cert) (W.contents output.old) (W.contents output.new) status) }
+    ensures misnumbered { option_and_then program.serve_in (subcommand_rows_of matches.now) ≡ Some None
+        → IfOk result (λ status. TellsUsage (W.contents output.old) (W.contents output.new) status) }
+    ensures status { IfOk result (λ status. status ≤ 4) }
+{
+    if let Some(wanted) = bound_wanted(matches) {
+        return run_bound(alloc, files, wanted, output, errors);
+    }
+    match files_named(matches, "check") {
+        Some((app, cert)) => check_files(alloc, files, app, cert, output, errors),
+        None => match files_named(matches, "sim") {
+            Some((app, cert)) => {
+                let told = sim_files(alloc, files, app, cert, input, output);
+                hint_sim(alloc, files, given_two(app, cert), &told, errors);
+                told
+            }
+            None => run_rest(rt, alloc, files, matches, output, errors),
+        },
+    }
+}
+
 // Runs the command that the words name.
 fn run_words<R: Clock + Net, S: Sources, I: Read, W: Write, E: Write>(
     rt: &R,
@@ -613,23 +684,9 @@ fn run_words<R: Clock + Net, S: Sources, I: Read, W: Write, E: Write>(
         Ok(command) => command,
         Err(_) => return print_outcome(Err(Fault::Memory), output),
     };
-    let matches = match command.try_get_matches_from(words) {
-        Ok(matches) => matches,
-        Err(error) => return refused(&error, output, errors),
-    };
-    if let Some(wanted) = bound_wanted(&matches) {
-        return run_bound(alloc, files, wanted, output, errors);
-    }
-    match files_named(&matches, "check") {
-        Some((app, cert)) => check_files(alloc, files, app, cert, output, errors),
-        None => match files_named(&matches, "sim") {
-            Some((app, cert)) => {
-                let told = sim_files(alloc, files, app, cert, input, output);
-                hint_sim(alloc, files, given_two(app, cert), &told, errors);
-                told
-            }
-            None => run_rest(rt, alloc, files, &matches, output, errors),
-        },
+    match command.try_get_matches_from(words) {
+        Ok(matches) => run_matches(rt, alloc, &matches, files, input, output, errors),
+        Err(error) => refused(&error, output, errors),
     }
 }
 

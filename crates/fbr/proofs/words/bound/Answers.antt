@@ -1,18 +1,18 @@
-use Rattle.std.proofs.Common.{◌≡◌, ◌∙◌, ap₂, codes, rules}
-use Rattle.std.proofs.lemmas.Result.{IfOk-weaker}
-use Rattle.clap.specs.Words.{App, app_of, with_rule}
+use Rattle.std.proofs.Common.{codes}
+use Rattle.clap.specs.Words.{App, with_rule}
 use Rattle.fbr.specs.Program.{over_file, repeats, output, ranges}
 use Rattle.fbr.specs.Program as program
 use Rattle.fbr.proofs.words.bound.Goals as goal
 
 pub returns : goal.returns
 returns c =
-    let one : App = with_rule (over_file (codes "bound")) repeats in
+    let none : App = over_file (codes "bound") in
+    let one : App = with_rule none repeats in
     let two : App = with_rule one output in
     let three : App = with_rule two ranges in
     let four : App = with_rule three program.search in
-    let first : app_of c.in_ok-arg.field-0 ≡ one = c.in_ok-arg.ensures.shape (search rules) ∙ ap₂ with_rule c.in_ok-over_file.ensures (search rules) in
-    let second : app_of c.in_ok-arg-2.field-0 ≡ two = c.in_ok-arg-2.ensures.shape (search rules) ∙ ap₂ with_rule first (search rules) in
-    let third : app_of c.in_ok-arg-3.field-0 ≡ three = c.in_ok-arg-3.ensures.shape (search rules) ∙ ap₂ with_rule second (search rules) in
-    let fourth : app_of c.in_ok-arg-4.field-0 ≡ four = c.in_ok-arg-4.ensures.shape (search rules) ∙ ap₂ with_rule third (search rules) in
-    IfOk-weaker c.arg-5.result _ _ (λ r h. h.shape (search rules) ∙ ap₂ with_rule fourth (search rules)) c.arg-5.ensures
+    let first = c.with-counted.ensures none repeats c.over_file.ensures c.repeats.ensures.rule c.repeats.ensures.local in
+    let second = c.with-written.ensures one output first c.output.ensures.rule c.output.ensures.local in
+    let third = c.with-ranged.ensures two ranges second c.ranges-2.ensures.rule c.ranges-2.ensures.local in
+    let fourth = c.with-searched.ensures three program.search third c.search.ensures.rule c.search.ensures.local in
+    c.with.ensures four program.room fourth c.room.ensures.rule c.room.ensures.local

@@ -1,17 +1,17 @@
-use Rattle.std.proofs.Common.{◌≡◌, ◌∙◌, ap₂, codes, rules}
-use Rattle.std.proofs.lemmas.Result.{IfOk-weaker}
-use Rattle.clap.specs.Words.{App, app_of, with_rule}
-use Rattle.fbr.specs.Program.{over_file, maybe_file, repeats, flat, chart}
+use Rattle.std.proofs.Common.{codes}
+use Rattle.clap.specs.Words.{App, with_rule}
+use Rattle.fbr.specs.Program.{over_file, maybe_file, repeats, flat, chart, output}
 use Rattle.fbr.proofs.words.drawn.Goals as goal
 
 pub returns : goal.returns
 returns c =
-    let one : App = with_rule (over_file (codes "draw")) (maybe_file (codes "CERT")) in
+    let none : App = over_file (codes "draw") in
+    let one : App = with_rule none (maybe_file (codes "CERT")) in
     let two : App = with_rule one repeats in
     let three : App = with_rule two flat in
     let four : App = with_rule three chart in
-    let first : app_of c.in_ok-arg.field-0 ≡ one = c.in_ok-arg.ensures.shape (search rules) ∙ ap₂ with_rule c.in_ok-over_file.ensures (search rules) in
-    let second : app_of c.in_ok-arg-2.field-0 ≡ two = c.in_ok-arg-2.ensures.shape (search rules) ∙ ap₂ with_rule first (search rules) in
-    let third : app_of c.in_ok-arg-3.field-0 ≡ three = c.in_ok-arg-3.ensures.shape (search rules) ∙ ap₂ with_rule second (search rules) in
-    let fourth : app_of c.in_ok-arg-4.field-0 ≡ four = c.in_ok-arg-4.ensures.shape (search rules) ∙ ap₂ with_rule third (search rules) in
-    IfOk-weaker c.arg-5.result _ _ (λ r h. h.shape (search rules) ∙ ap₂ with_rule fourth (search rules)) c.arg-5.ensures
+    let first = c.with-both.ensures none (maybe_file (codes "CERT")) c.over_file-alone.ensures c.maybe_file.ensures.rule c.maybe_file.ensures.local in
+    let second = c.with-counted.ensures one repeats first c.repeats.ensures.rule c.repeats.ensures.local in
+    let third = c.with-flattened.ensures two flat second c.flat.ensures.rule c.flat.ensures.local in
+    let fourth = c.with-charted.ensures three chart third c.chart.ensures.rule c.chart.ensures.local in
+    c.with.ensures four output fourth c.output.ensures.rule c.output.ensures.local

@@ -1,9 +1,6 @@
-use Rattle.std.proofs.Common.{◌∙◌, ap₂, rules}
-use Rattle.std.proofs.lemmas.Result.{IfOk-weaker}
-use Rattle.clap.specs.Words.{with_rule}
+use Rattle.std.proofs.Common.{codes}
+use Rattle.fbr.specs.Program.{file, over_file}
 use Rattle.fbr.proofs.words.over_files.Goals as goal
 
 pub returns : goal.returns
-returns c =
-    IfOk-weaker c.arg.result _ _
-    (λ r h. h.shape (search rules) ∙ ap₂ with_rule c.in_ok-over_file.ensures (search rules)) c.arg.ensures
+returns c = c.with.ensures (over_file c.args.name.now) (file (codes "CERT")) c.over_file.ensures c.file.ensures.rule c.file.ensures.local

@@ -1,17 +1,17 @@
-use Rattle.std.proofs.Common.{◌≡◌, ◌∙◌, ap₂, codes, rules}
-use Rattle.std.proofs.lemmas.Result.{IfOk-weaker}
-use Rattle.clap.specs.Words.{App, app_of, with_rule}
-use Rattle.fbr.specs.Program.{file, over_files, number, needed_number}
+use Rattle.std.proofs.Common.{codes}
+use Rattle.clap.specs.Words.{App, with_rule}
+use Rattle.fbr.specs.Program.{file, over_files, number, needed_number, peers}
 use Rattle.fbr.proofs.words.served.Goals as goal
 
 pub returns : goal.returns
 returns c =
-    let one : App = with_rule (over_files (codes "serve")) (file (codes "DEVICE")) in
+    let none : App = over_files (codes "serve") in
+    let one : App = with_rule none (file (codes "DEVICE")) in
     let two : App = with_rule one (needed_number (codes "bind")) in
     let three : App = with_rule two (needed_number (codes "turns")) in
     let four : App = with_rule three (number (codes "boot")) in
-    let first : app_of c.in_ok-arg.field-0 ≡ one = c.in_ok-arg.ensures.shape (search rules) ∙ ap₂ with_rule c.in_ok-over_files.ensures (search rules) in
-    let second : app_of c.in_ok-arg-2.field-0 ≡ two = c.in_ok-arg-2.ensures.shape (search rules) ∙ ap₂ with_rule first (search rules) in
-    let third : app_of c.in_ok-arg-3.field-0 ≡ three = c.in_ok-arg-3.ensures.shape (search rules) ∙ ap₂ with_rule second (search rules) in
-    let fourth : app_of c.in_ok-arg-4.field-0 ≡ four = c.in_ok-arg-4.ensures.shape (search rules) ∙ ap₂ with_rule third (search rules) in
-    IfOk-weaker c.arg-5.result _ _ (λ r h. h.shape (search rules) ∙ ap₂ with_rule fourth (search rules)) c.arg-5.ensures
+    let first = c.with-device.ensures none (file (codes "DEVICE")) c.over_files-both.ensures c.file.ensures.rule c.file.ensures.local in
+    let second = c.with-port.ensures one (needed_number (codes "bind")) first c.needed_number.ensures.rule c.needed_number.ensures.local in
+    let third = c.with-turns.ensures two (needed_number (codes "turns")) second c.needed_number-2.ensures.rule c.needed_number-2.ensures.local in
+    let fourth = c.with-boot.ensures three (number (codes "boot")) third c.number.ensures.rule c.number.ensures.local in
+    c.with.ensures four peers fourth c.peers.ensures.rule c.peers.ensures.local
