@@ -5,7 +5,8 @@
 
 OUT gets every crate of FOLDER (a checkout; without it, this one) with its types, contracts, ghost items, specs/ and those lemma files that other crates name;
 for each body of a function stands one that promises all. The crates after --real stay as they are, and only what these stand on is built then. N libraries are
-built at a time (without it, 2), each in 5 to 60 processor seconds, of which lemma files take the most. A second run leaves what is unchanged, and builds the rest.
+built at a time (without it, 2), each in 5 to 60 processor seconds, of which lemma files take the most, and a check takes as many jobs. A second run leaves what is
+unchanged, and builds the rest.
 
   cp -r OUT MINE                                  a tree of your own: while a crate is checked, the folders of all crates below are locked
   bench/stubs.py MINE --of FOLDER --real NAME --check [--only PATH]     puts the real crate there, builds what it stands on, and checks it
@@ -15,6 +16,8 @@ Traps:
 - What is checked over stand-ins is not proved: it is, where all below it is, which only the gate says.
 - A stand-in is as old as its sources. Where a contract, a type or a definition changes, or a proof names another lemma file of a crate below, run this script
   again before crates above are checked.
+- A change in a crate makes the stand-ins of all above it stale, also where no contract changed: while several work at crates of one checkout, give FOLDER as
+  a copy of it in which the real crate alone is changed.
 - Where an enum or a struct gets another case or field, check each crate above that matches or makes it, though its own files are unchanged.
 - A function with a promise that no body keeps is let through in the crates that stand in.
 - `rt must-fail` and `rt ci` do not run over stand-ins, and a program over them stops at the first call.
@@ -330,7 +333,7 @@ def main():
         if given.check:
             locks = rtlib.lock([*known[name].below(), known[name]])
             os.makedirs(f"{known[name].folder}/out", exist_ok=True)
-            status = known[name].check(flags) or status
+            status = known[name].check([*flags, "--jobs", str(given.jobs)]) or status
             for it in locks:
                 os.close(it)
     return status
