@@ -33,7 +33,8 @@ use Rattle.fb_chart.specs.Tables.{Each, IsOptional, IsProcedure, IsAlgorithm, Is
 use Rattle.fb_chart.specs.Sending.{targets_of, sent_to}
 use Rattle.fb_chart.specs.Sampling.{AreStores, IsPlacedGive, CanGive, CanGiveAll}
 use Rattle.fb_chart.specs.Charting.{block_in, IsReady, CanWork, numbered, targets_at, sent_by, given_at, issued_by, CanGoOn, FineFrom, most_steps}
-use Rattle.fb_chart.proofs.Lists.{all_got, all_mapped, within_got, each_length, each_other}
+use Rattle.fb_lists.proofs.Lists.{all_got, within_got}
+use Rattle.fb_chart.proofs.Lists.{all_mapped, each_length, each_other}
 use Rattle.fb_chart.proofs.Naming.{named_stands}
 use Rattle.fb_chart.proofs.Choosing.{names_length}
 

@@ -23,7 +23,8 @@ use Rattle.fb_chart.specs.declared.table.Chart.{Chart}
 use Rattle.fb_chart.specs.Views.{named}
 use Rattle.fb_chart.specs.Tables.{Each, IsOptional, IsTransition, IsState, IsChart, leaving}
 use Rattle.fb_chart.specs.Charting.{block_in, states_in, events_in, outputs_in, IsStateNumber, is_open_to, chosen, phase_of}
-use Rattle.fb_chart.proofs.Lists.{Both, all_got, within_got, each_length, each_at, drop_at}
+use Rattle.fb_lists.proofs.Lists.{all_got, within_got, drop_at}
+use Rattle.fb_chart.proofs.Lists.{Both, each_length, each_at}
 use Rattle.fb_chart.proofs.Naming.{named_is, names_eq, turned}
 
 pub names_length : (xs : List book.State) → length (names xs) ≡ length xs

@@ -1,35 +1,13 @@
 -- Elements of lists, by their places, and of two lists one by one.
-use Rattle.std.proofs.Common.{◌≡◌, ℕ, zero, suc, ◌+◌, ◌<◌, List, [], ◌∷◌, ◌++◌, map, drop, length, get_or, slice_get, Some, refl, sym, ap, subst, ◌∙◌, arith}
+use Rattle.std.proofs.Common.{◌≡◌, ℕ, zero, suc, ◌+◌, List, [], ◌∷◌, ◌++◌, map, length, slice_get, Some, refl, ap, subst, ◌∙◌}
 use Rattle.std.specs.List.{AllByRecursion}
-use Rattle.std.proofs.lemmas.Option.{slice_get-get_or}
 use Rattle.std.proofs.lemmas.List.{append_assoc}
 use Rattle.fb_chart.specs.Tables.{Each}
-
--- what is so of all is so of the one at an index
-pub all_got : {X : Type 0} (P : X → Type 0) (xs : List X) (n : ℕ) (x : X) → AllByRecursion P xs → slice_get xs n ≡ Some x → P x
-all_got P [] n x h e = absurd cc
-all_got P (y ∷ xs) zero x h e = let s : y ≡ x = cc in subst P s h.0
-all_got P (y ∷ xs) (suc n) x h e = all_got P xs n x h.1 e
-
-pub stands_at : {X : Type 0} (xs : List X) (i : ℕ) (x d : X) → i < length xs → x ≡ get_or xs i d → slice_get xs i ≡ Some x
-stands_at xs i x d l h = slice_get-get_or xs i d l ∙ ap Some (sym h)
 
 -- what is so of all images
 pub all_mapped : {X Y : Type 0} (P : Y → Type 0) (f : X → Y) (xs : List X) → AllByRecursion P (map f xs) → AllByRecursion (λ x. P (f x)) xs
 all_mapped P f [] h = tt
 all_mapped P f (x ∷ xs) h = (h.0, all_mapped P f xs h.1)
-
-pub drop_at : {X : Type 0} (xs : List X) (i : ℕ) (x : X) → slice_get xs i ≡ Some x → drop i xs ≡ x ∷ drop (i + 1) xs
-drop_at [] i x h = absurd cc
-drop_at (y ∷ xs) zero x h = let e : y ≡ x = cc in ap (λ z. z ∷ xs) e
-drop_at (y ∷ xs) (suc i) x h =
-    let e : suc (i + 1) ≡ suc i + 1 = omega arith in
-    drop_at xs i x h ∙ ap (λ k. x ∷ drop k (y ∷ xs)) e
-
-pub within_got : {X : Type 0} (xs : List X) (i : ℕ) (x : X) → slice_get xs i ≡ Some x → i < length xs
-within_got [] i x h = absurd cc
-within_got (y ∷ xs) zero x h = omega arith
-within_got (y ∷ xs) (suc i) x h = omega (arith, within_got xs i x h)
 
 -- ---- two lists
 

@@ -20,7 +20,7 @@ use Rattle.fb_chart.specs.declared.table.Source.TheVariants as s
 use Rattle.fb_chart.specs.declared.table.Take.{Take}
 use Rattle.fb_chart.specs.declared.table.Give.{Give}
 use Rattle.fb_chart.specs.Sampling.{length_among, count_among, IsLike, IsSource, CanTake, CanGive, sampled_by, given_to, output_in}
-use Rattle.fb_chart.proofs.Lists.{within_got}
+use Rattle.fb_lists.proofs.Lists.{within_got}
 
 -- one value, and then those of the others
 pub where_next : (n : Name) (ns : List Name) (these those : Values) → where_in ns these (setting those n (these n)) ≡ where_in (n ∷ ns) these those

@@ -7,7 +7,7 @@ use Rattle.fb_model.specs.Typing.{AreDistinct}
 use Rattle.fb_model.proofs.Lists.{same_name}
 use Rattle.fb_model.proofs.Placed.{Apart, apart, name_same}
 use Rattle.fb_chart.specs.Views.{named}
-use Rattle.fb_chart.proofs.Lists.{all_got}
+use Rattle.fb_lists.proofs.Lists.{all_got}
 
 -- a number within the names stands for one of them
 pub named_stands : (xs : List Name) (a : ℕ) → a < length xs → slice_get xs a ≡ Some (named xs a)

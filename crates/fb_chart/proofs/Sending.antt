@@ -11,7 +11,7 @@ use Rattle.fb_model.specs.Services.{sent, numbered}
 use Rattle.fb_model.specs.Messages.{Message, Stamp, Typed, To_channel}
 use Rattle.fb_model.specs.Serving.{typed_values}
 use Rattle.st_exec.specs.Forms.{Form, plain_slot}
-use Rattle.fb_chart.proofs.Lists.{drop_at}
+use Rattle.fb_lists.proofs.Lists.{drop_at}
 use Rattle.fb_chart.specs.Ports.{slots_of}
 
 -- the slot of a value that is sent, by its place

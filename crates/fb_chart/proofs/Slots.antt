@@ -3,7 +3,7 @@ use Rattle.std.proofs.Common.{◌≡◌, ℕ, zero, suc, ◌<◌, List, [], ◌�
 use Rattle.fb_model.specs.Names.{Name}
 use Rattle.fb_model.specs.Values.{Values}
 use Rattle.st_exec.specs.Forms.{Form, plain_slot}
-use Rattle.fb_chart.proofs.Lists.{stands_at}
+use Rattle.fb_lists.proofs.Lists.{stands_at}
 use Rattle.fb_chart.specs.Ports.{slots_of, received_in}
 
 -- a name at an index, and its slot

@@ -1,6 +1,6 @@
 -- What stands at a place of a list, and what was set there.
 use Rattle.std.proofs.Common.{◌≡◌, ℕ, zero, suc, List, [], ◌∷◌, get_or, set, slice_get, Some, refl, sym, ◌∙◌, ap}
-use Rattle.fb_chart.proofs.Lists.{stands_at, within_got}
+use Rattle.fb_lists.proofs.Lists.{stands_at, within_got}
 
 same_at : {X : Type 0} (xs : List X) (i : ℕ) (x y : X) → slice_get xs i ≡ Some x → slice_get xs i ≡ Some y → x ≡ y
 same_at xs i x y a b = let e : Some x ≡ Some y = sym a ∙ b in cc

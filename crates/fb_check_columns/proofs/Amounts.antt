@@ -8,6 +8,8 @@ use Rattle.fb_model.specs.Spelling.{IsWord}
 use Rattle.fb_model.specs.CertificateText.{names_in, place_of, all_but_last, last_name, most_steps, most_places}
 use Rattle.fb_model.specs.Certificates as book
 use Rattle.fb_model.proofs.Lists.{all_weaker}
+use Rattle.fb_model_texts.specs.Small.{IsSmall, IsSmallFar, IsSmallChannel, AreSmall}
+use Rattle.fb_model_texts.proofs.Small.{amount_small}
 use Rattle.fb_cert.specs.declared.certificate.Amount.{Amount}
 use Rattle.fb_cert.specs.declared.certificate.Certificate.{Certificate}
 use Rattle.fb_cert.specs.Views.{Table, amount_rows, far_rows, first_at, rows_of, certificate_of, steps_in, places_in, count_in}
@@ -19,7 +21,6 @@ use Rattle.fb_flat.proofs.Dotted.{names_dotted}
 use Rattle.fb_check_columns.specs.declared.column.Column.{Column}
 use Rattle.fb_check_columns.specs.declared.column.Column.TheVariants.{Steps, Places, Far}
 use Rattle.fb_check_columns.specs.Columns.{unit_of, column_of}
-use Rattle.fb_check_columns.specs.Fitting.{IsSmall, IsSmallFar, IsSmallChannel, AreSmall}
 use Rattle.fb_check_columns.specs.Reckoning.{weight_of, charge_of, target_weight, load_of}
 
 front : (ns : Path) (n : Name) → all_but_last (ns ++ n ∷ []) ≡ ns
@@ -40,15 +41,7 @@ place_dotted path x h =
 least : (n m : ℕ) → n ≤ m → n ≡ min n m
 least n m h = omega (arith, h)
 
--- what is said of the first row of a place is no more than what is said of all
-pub amount_small : (f : book.Row → ℕ) (most : ℕ) (rows : List book.Row) (p : Place) → AllByRecursion (λ (r : book.Row). f r ≤ most) rows → book.amount f rows p ≤ most
-amount_small f most [] p h = omega arith
-amount_small f most (r ∷ rs) p h = by (place_eq r.place p) (amount_small f most rs p h.1) where
-  by : (b : Bool) → book.amount f rs p ≤ most → cond b (f r) (book.amount f rs p) ≤ most
-  by true others = h.0
-  by false others = others
-
--- the same of the rows of states and events on all devices
+-- what is said on all devices of the first row of a place is no more than what is said of all
 pub far_small : (rows : List book.FarRow) (p : Place) → AllByRecursion IsSmallFar rows → book.far_amount rows p ≤ most_steps
 far_small [] p h = omega arith
 far_small (r ∷ rs) p h = by (place_eq r.place p) (far_small rs p h.1) where

@@ -17,7 +17,8 @@ use Rattle.fb_flat.specs.Tables.{AreLeaves, AreResources, AreDevices}
 use Rattle.fb_check_columns.specs.declared.column.Column.{Column}
 use Rattle.fb_check_columns.specs.declared.fault.Shortfall.{Shortfall}
 use Rattle.fb_check_columns.specs.Columns.{column_of}
-use Rattle.fb_check_columns.specs.Fitting.{Some, AreSmall, IsLeafFault, IsKnownLeaf, IsUnpaid, AllPay, AreKnown}
+use Rattle.fb_model_texts.specs.Small.{AreSmall}
+use Rattle.fb_check_columns.specs.Fitting.{Some, IsLeafFault, IsKnownLeaf, IsUnpaid, AllPay, AreKnown}
 use Rattle.fb_check_columns.specs.Tables.{LeafPays, LeafFails, ResourcePays, ResourceFails, DevicePays, DeviceFails}
 use Rattle.fb_check_columns.proofs.Lists.{some_of, some_left, some_right}
 

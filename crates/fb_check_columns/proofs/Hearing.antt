@@ -25,7 +25,8 @@ use Rattle.fb_check_columns.specs.declared.channel.Heard.{Heard}
 use Rattle.fb_check_columns.specs.declared.column.Column.TheVariants.{Far}
 use Rattle.fb_check_columns.specs.declared.fault.Shortfall.{Shortfall}
 use Rattle.fb_check_columns.specs.declared.fault.Shortfall.TheVariants.{OutOfMemory, Charge, Weight, Channel}
-use Rattle.fb_check_columns.specs.Fitting.{AreSmall, ChannelsPay, IsShortChannel}
+use Rattle.fb_model_texts.specs.Small.{AreSmall}
+use Rattle.fb_check_columns.specs.Fitting.{ChannelsPay, IsShortChannel}
 use Rattle.fb_check_columns.specs.Sums.{IsSum}
 use Rattle.fb_check_columns.specs.Channels.{Cost, heard_by, heard_at, heard_under, cost_of, cost_in, AreCosts, ChannelPays, IsOwingChannel}
 use Rattle.fb_check_columns.proofs.Amounts.{weight_is}

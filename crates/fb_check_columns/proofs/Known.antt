@@ -14,7 +14,7 @@ use Rattle.fb_types_blocks.specs.Views.{event_of, action_of, transition_of, bloc
 use Rattle.fb_model_laws.specs.Leaves.{IsListed, IsClosedBlock}
 use Rattle.fb_check_columns.specs.Reckoning.{NamedActions, table_names}
 use Rattle.fb_check_columns.specs.Paying.{outputs_in, inputs_in}
-use Rattle.fb_check_columns.proofs.Lists.{all_source}
+use Rattle.fb_lists.proofs.Lists.{all_source}
 
 -- ---- names
 

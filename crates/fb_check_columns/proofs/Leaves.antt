@@ -32,7 +32,8 @@ use Rattle.fb_check_columns.specs.declared.fault.Shortfall.TheVariants.{OutOfMem
 use Rattle.fb_check_columns.specs.Columns.{unit_of, column_of}
 use Rattle.fb_check_columns.specs.Reckoning.{load_of, load_at, value_at, table_names, Costs}
 use Rattle.fb_check_columns.specs.Paying.{IsWeight, outputs_in, ChartPays, IsOwing, DispatchPays, OneOwes}
-use Rattle.fb_check_columns.specs.Fitting.{ChargeFails, WeightFails, AreSmall, IsKnownLeaf, IsLeafFault}
+use Rattle.fb_model_texts.specs.Small.{AreSmall}
+use Rattle.fb_check_columns.specs.Fitting.{ChargeFails, WeightFails, IsKnownLeaf, IsLeafFault}
 use Rattle.fb_check_columns.proofs.Lists.{each_in}
 use Rattle.fb_check_columns.proofs.Amounts.{charge_is, weight_is, unit_is, load_is}
 use Rattle.fb_check_columns.proofs.Known.{IsTabled, tabled, typed_names_are}

@@ -11,7 +11,6 @@ pub mod Serving
 pub mod Leaves
 pub mod Composed
 pub mod Denied
-pub mod Small
 pub mod Costing
 pub mod Sharing
 pub mod Hearing

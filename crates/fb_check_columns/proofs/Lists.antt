@@ -1,9 +1,10 @@
 -- Lists, names in them, and what is so of each element.
-use Rattle.std.proofs.Common.{◌≡◌, ℕ, zero, suc, ◌+◌, ◌<◌, Bool, true, false, List, [], ◌∷◌, ◌++◌, map, length, get_or, refl, sym, ap, subst, ◌∙◌, arith, inl, inr}
+use Rattle.std.proofs.Common.{◌≡◌, ℕ, zero, suc, ◌+◌, ◌<◌, Bool, true, false, List, [], ◌∷◌, ◌++◌, map, length, get_or, refl, sym, subst, arith, inl, inr}
 use Rattle.std.specs.List.{AllByRecursion, Any}
 use Rattle.std.specs.Str.{bytes_eq}
 use Rattle.std.proofs.lemmas.List.Folds.{list_any_at}
 use Rattle.std.proofs.lemmas.Slice.Eq.{bytes_eq-Decides}
+use Rattle.fb_lists.proofs.Lists.{default_free, there}
 use Rattle.fb_model.specs.Names.{Name, is_in}
 use Rattle.fb_model.proofs.Lists.{same_name}
 use Rattle.fb_check_columns.specs.Fitting.{Some}
@@ -39,50 +40,21 @@ each_in P xs f = each_at P xs (λ i x l e. f x (in_at xs i x l e))
 
 -- ---- images
 
-pub all_image : {X Y : Type 0} (Q : X → Type 0) (P : Y → Type 0) (f : X → Y) (xs : List X) → ((x : X) → Q x → P (f x)) → AllByRecursion Q xs → AllByRecursion P (map f xs)
-all_image Q P f [] g h = tt
-all_image Q P f (x ∷ xs) g h = (g x h.0, all_image Q P f xs g h.1)
-
-pub all_source : {X Y : Type 0} (Q : X → Type 0) (P : Y → Type 0) (f : X → Y) (xs : List X) → ((x : X) → P (f x) → Q x) → AllByRecursion P (map f xs) → AllByRecursion Q xs
-all_source Q P f [] g h = tt
-all_source Q P f (x ∷ xs) g h = (g x h.0, all_source Q P f xs g h.1)
-
-pub all_here : {X : Type 0} (P : X → Type 0) (xs : List X) (i : ℕ) (x : X) → AllByRecursion P xs → i < length xs → get_or xs i x ≡ x → P x
-all_here P [] i x h l e = absurd (omega arith)
-all_here P (y ∷ xs) zero x h l e = subst P e h.0
-all_here P (y ∷ xs) (suc i) x h l e = all_here P xs i x h.1 (omega arith) e
-
 -- what is so of all is so of the one at an index
-pub all_at : {X Y : Type 0} (P : Y → Type 0) (f : X → Y) (xs : List X) (i : ℕ) (x : X) → AllByRecursion P (map f xs) → i < length xs → x ≡ get_or xs i x → P (f x)
-all_at P f [] i x h l e = absurd (omega arith)
-all_at P f (y ∷ xs) zero x h l e = let s : y ≡ x = cc in subst (λ z. P (f z)) s h.0
-all_at P f (y ∷ xs) (suc i) x h l e = all_at P f xs i x h.1 (omega arith) e
-
-there : {X Y : Type 0} (f : X → Y) (xs : List X) (i : ℕ) (x : X) → i < length xs → get_or xs i x ≡ x → (i < length (map f xs)) × (get_or (map f xs) i (f x) ≡ f x)
-there f [] i x l e = absurd (omega arith)
-there f (y ∷ xs) zero x l e = (omega arith, ap f e)
-there f (y ∷ xs) (suc i) x l e = let k = there f xs i x (omega arith) e in (omega (arith, k.0), k.1)
-
-any_default : {X : Type 0} (xs : List X) (i : ℕ) (x y : X) → i < length xs → get_or xs i x ≡ get_or xs i y
-any_default [] i x y l = absurd (omega arith)
-any_default (z ∷ xs) zero x y l = refl
-any_default (z ∷ xs) (suc i) x y l = any_default xs i x y (omega arith)
+pub all_image_at : {X Y : Type 0} (P : Y → Type 0) (f : X → Y) (xs : List X) (i : ℕ) (x : X) → AllByRecursion P (map f xs) → i < length xs → x ≡ get_or xs i x → P (f x)
+all_image_at P f [] i x h l e = absurd (omega arith)
+all_image_at P f (y ∷ xs) zero x h l e = let s : y ≡ x = cc in subst (λ z. P (f z)) s h.0
+all_image_at P f (y ∷ xs) (suc i) x h l e = all_image_at P f xs i x h.1 (omega arith) e
 
 -- the image of the item at an index is the item there among images
 pub image_at : {X Y : Type 0} (f : X → Y) (xs : List X) (i : ℕ) (x : X) → i < length xs → (i < length (map f xs)) × (get_or (map f xs) i (f (get_or xs i x)) ≡ f (get_or xs i x))
-image_at f xs i x l = there f xs i (get_or xs i x) l (any_default xs i (get_or xs i x) x l)
+image_at f xs i x l = there f xs i (get_or xs i x) l (default_free xs i (get_or xs i x) x l)
 
 -- so it is one of them
 pub in_images : {X : Type 0} (f : X → Name) (xs : List X) (i : ℕ) (x : X) → i < length xs → is_in (f (get_or xs i x)) (map f xs) ≡ true
 in_images f xs i x l =
     let k = image_at f xs i x l in
     in_at (map f xs) i (f (get_or xs i x)) k.0 k.1
-
--- what one of the tables has, one of the book has
-pub any_image : {X Y : Type 0} (T P : X → Type 0) (Q : Y → Type 0) (f : X → Y) (xs : List X) → AllByRecursion T xs → ((x : X) → T x → P x → Q (f x)) → Any P xs → Any Q (map f xs)
-any_image T P Q f xs t g h =
-    let k = there f xs h.0 h.1 h.2 h.3 in
-    (h.0, f h.1, k.0, k.1, g h.1 (all_here T xs h.0 h.1 t h.2 h.3) h.4)
 
 -- ---- one of a list
 

@@ -28,7 +28,8 @@ use Rattle.fb_check_columns.specs.Columns.{unit_of, crossing_need}
 use Rattle.fb_check_columns.specs.Reckoning.{weight_of, charge_of, value_at, table_names, Costs, NamedActions, acted, own_of, cost_at}
 use Rattle.fb_check_columns.specs.Paying.{StatePays, SourcePays, Pays, InputPays, EventPays, outputs_in, inputs_in, costs_in, most_in, ChartPays, StateOwes, EventOwes}
 use Rattle.fb_check_columns.specs.Fitting.{ChargeFails, WeightFails}
-use Rattle.fb_check_columns.proofs.Lists.{is_text, bytes_turned, in_at, each_in, all_image, all_source, all_here, all_at, any_image}
+use Rattle.fb_lists.proofs.Lists.{all_image, all_source, all_here, any_image}
+use Rattle.fb_check_columns.proofs.Lists.{is_text, bytes_turned, in_at, each_in, all_image_at}
 use Rattle.fb_check_columns.proofs.Known.{state_of, event_names_are, states_in, IsEmitting, IsCrossing, IsTabled}
 use Rattle.fb_check_columns.proofs.Crossings.{IsWithin, each_within, most_within}
 
@@ -244,7 +245,7 @@ module _ (c : Column) (rows : Certificate) (path : Name) (col : cert.Column) (sp
   fails e (inl a) = subst Fails a.4.0 (in_at (inputs_in k) a.0 a.1 a.2 a.3, λ f. a.4.1 (input_pays a.1 (in_at (inputs_in k) a.0 a.1 a.2 a.3) f))
   fails e (inr a) =
       subst Fails a.4.0
-      (named_fails a.1 (all_here Crossing k.transitions.items a.0 a.1 tables.transitions a.2 a.3) (λ x f. all_at (CrossingFits col (names_in path) x) transition_of k.transitions.items a.0 a.1 f.crossings a.2 (sym a.3)) a.1.event refl a.4.1)
+      (named_fails a.1 (all_here Crossing k.transitions.items a.0 a.1 tables.transitions a.2 a.3) (λ x f. all_image_at (CrossingFits col (names_in path) x) transition_of k.transitions.items a.0 a.1 f.crossings a.2 (sym a.3)) a.1.event refl a.4.1)
 
   pub event_owing : (e : Name) → EventOwes c rows path k e → IsWord e
   event_owing e h = input_word e (fails e h).0

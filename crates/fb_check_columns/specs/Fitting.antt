@@ -8,8 +8,8 @@ use Rattle.fb_model.specs.Wires as wires
 use Rattle.fb_model.specs.Wires.{Kind, Charted, Serviced, Leaf, leaves}
 use Rattle.fb_model.specs.Ranges.{Range, rows, IsClearAlgorithm}
 use Rattle.fb_model.specs.Clear.{Spans}
-use Rattle.fb_model.specs.Certificates.{Certificate, Row, FarRow, ChannelRow, Column, ColumnFits, StateFits, FreeFits, InputFits, EventFits, event_names, far_of, all_leaves, channel_load}
-use Rattle.fb_model.specs.CertificateText.{most_steps, most_places, names_in}
+use Rattle.fb_model.specs.Certificates.{Certificate, Column, ColumnFits, StateFits, FreeFits, InputFits, EventFits, event_names, far_of, all_leaves, channel_load}
+use Rattle.fb_model.specs.CertificateText.{names_in}
 use Rattle.fb_model_laws.specs.Words.{IsWordyLeaf}
 use Rattle.fb_model_laws.specs.Leaves.{IsClosed}
 use Rattle.fb_check_columns.specs.declared.fault.Shortfall.{Shortfall}
@@ -46,25 +46,6 @@ IsLeafFault col ranges leaf OutOfMemory = Unit {0}
 IsLeafFault col ranges leaf (Charge path) = (x : Name) × (names_in (string_bytes path) ≡ leaf.path ++ x ∷ []) × ChargeFails col (rows ranges leaf.path leaf.kind) leaf.targets leaf.path leaf.kind x
 IsLeafFault col ranges leaf (Weight path) = (e : Name) × (names_in (string_bytes path) ≡ leaf.path ++ e ∷ []) × WeightFails col leaf.targets leaf.path leaf.kind e
 IsLeafFault col ranges leaf (Channel number) = ⊥
-
--- ---- certificates
-
-abbrev pub IsSmall : Row → Type 0
-IsSmall r = (r.steps ≤ most_steps) × (r.places ≤ most_places)
-
-abbrev pub IsSmallFar : FarRow → Type 0
-IsSmallFar r = r.steps ≤ most_steps
-
-abbrev pub IsSmallChannel : ChannelRow → Type 0
-IsSmallChannel r = r.steps ≤ most_steps
-
--- no row of states, events and channels says more than a text of certificates can
-pub record AreSmall (cert : Certificate) : Type 0 where
-  pub charges : AllByRecursion IsSmall cert.charges
-  pub weights : AllByRecursion IsSmall cert.weights
-  pub fars : AllByRecursion IsSmallFar cert.fars
-  pub far_states : AllByRecursion IsSmallFar cert.far_states
-  pub channels : AllByRecursion IsSmallChannel cert.channels
 
 -- ---- systems
 

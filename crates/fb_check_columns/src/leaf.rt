@@ -8,7 +8,8 @@ ghost use Rattle.fb_model.specs.Certificates.{KindWeighs};
 ghost use Rattle.fb_cert.specs.Views.{certificate_of};
 ghost use Rattle.fb_flat.specs.Tables.{IsLeaf};
 ghost use Rattle.fb_check_columns.specs.Columns.{column_of};
-ghost use Rattle.fb_check_columns.specs.Fitting.{AreSmall, IsKnownLeaf, IsLeafFault};
+ghost use Rattle.fb_model_texts.specs.Small.{AreSmall};
+ghost use Rattle.fb_check_columns.specs.Fitting.{IsKnownLeaf, IsLeafFault};
 ghost use Rattle.fb_check_columns.specs.Sharing.{IsCosted};
 
 use crate::chart::chart_pays;

@@ -1,9 +1,9 @@
 -- Rows of a block's tables that are clear are clear in the book, and what fails there fails in the book.
-use Rattle.std.proofs.Common.{◌≡◌, ◌↔◌, true, false, Bool, ◌||◌, ◌⊎◌, inl, inr, List, [], ◌∷◌, ◌++◌, map, Option, None, Some, refl, sym, ap, subst, ◌∙◌, string_bytes, Global}
+use Rattle.std.proofs.Common.{◌≡◌, ◌↔◌, true, false, Bool, ◌||◌, inl, inr, List, [], ◌∷◌, ◌++◌, map, Option, None, Some, refl, sym, ap, subst, ◌∙◌, string_bytes}
 use Rattle.std.specs.List.{AllByRecursion, Any}
 use Rattle.std.specs.Str.{bytes_eq}
 use Rattle.fb_model.specs.Names.{Name, Path, is_in}
-use Rattle.fb_model.specs.Language.{Guard, Algorithm}
+use Rattle.fb_model.specs.Language.{Guard}
 use Rattle.fb_model.specs.Spelling.{IsWord, AreWords}
 use Rattle.fb_model.specs.System as book
 use Rattle.fb_model.specs.System.{start_of}
@@ -13,7 +13,7 @@ use Rattle.fb_model.specs.Wires as wires
 use Rattle.fb_model.specs.Wires.{Kind, Charted}
 use Rattle.fb_model.specs.Spans.{Span, within, whole}
 use Rattle.fb_model.specs.Clear.{Spans, Leaves, Traps, examined}
-use Rattle.fb_model.specs.Ranges.{Range, variables, rows, row_at, SourceFits, IsClearGuard, IsClearAlgorithm, ChartClears, KindClears, LeafClears}
+use Rattle.fb_model.specs.Ranges.{Range, variables, rows, row_at, SourceFits, IsClearGuard, IsClearAlgorithm, ChartClears}
 use Rattle.fb_model.specs.Certificates.{names}
 use Rattle.fb_model.specs.CertificateText.{names_in}
 use Rattle.fb_model.proofs.Lists.{all_append, at_listed}
@@ -30,13 +30,14 @@ use Rattle.fb_types_blocks.specs.declared.typed.Block.{Block}
 use Rattle.fb_types_blocks.specs.Views.{declared_of, transition_of, block_of}
 use Rattle.st_types.specs.CommandViews.{commands_of}
 use Rattle.fb_check_ranges.specs.Rows.{row_for}
-use Rattle.fb_check_ranges.specs.Reasons.{Reason, Starts, Links, Keeps, Divides, Lacks, OneFails}
+use Rattle.fb_check_ranges.specs.Reasons.{Reason, Starts, Links, Keeps, Divides, OneFails}
 use Rattle.fb_check_ranges.specs.Beginning.{NamedVariable, entry_name, shown, Begins, InputBegins, OtherBegins, LinkLies}
 use Rattle.fb_check_ranges.specs.Places.{SourceLies}
-use Rattle.fb_check_ranges.specs.Clearing.{Procedure, procedure_name, procedure_text, guard_in, rows_of_block, AlgorithmFails, GuardFails, InputFails, OtherFails, LinkFails, VariablesBegin, VariableFails, RunsClear, RunFails, ChartLies, BlockFails}
-use Rattle.fb_check_ranges.specs.Fitting.{IsKnownLeaf, ChartFails, KindFails}
+use Rattle.fb_check_ranges.specs.Clearing.{Procedure, procedure_name, procedure_text, guard_in, rows_of_block, AlgorithmFails, GuardFails, InputFails, OtherFails, LinkFails, ChartLies, BlockFails}
+use Rattle.fb_check_ranges.specs.Fitting.{IsKnownLeaf, ChartFails}
 use Rattle.fb_check_ranges.specs.Tables.{AreKnownLeaves}
-use Rattle.fb_check_ranges.proofs.Lists.{any_with, any_image, all_image, all_source, all_both, all_parts, same}
+use Rattle.fb_lists.proofs.Lists.{any_image, all_source}
+use Rattle.fb_check_ranges.proofs.Lists.{any_with, all_image_where, all_both, all_parts, same}
 use Rattle.fb_check_ranges.proofs.Rowing.{row_is, rows_are}
 use Rattle.fb_check_ranges.proofs.Matching.{source_both}
 
@@ -181,10 +182,10 @@ module _ (cert : Certificate) (path : Name) (ls : List Leaf) (is : List Input) (
             all_booked IsInput (λ (e : NamedVariable). LinkLies cert path ls (source_at is) (shown e)) (λ (v : book.Variable). SourceFits ranges bs (row_at ranges here v) (b.source v.name)) k.face.inputs.entries inputs_known
             (λ e t h. (link_both e t).0 h) c.links;
         algorithms =
-            all_image (λ (p : Procedure). IsWord (procedure_name p)) (λ (p : Procedure). IsClearAlgorithm (rows_of_block cert path k) (procedure_text p)) (λ (p : book.Procedure). IsClearAlgorithm (rows ranges here (Charted (block_of k))) p.algorithm) _ k.procedures.entries algorithms_known
+            all_image_where (λ (p : Procedure). IsWord (procedure_name p)) (λ (p : Procedure). IsClearAlgorithm (rows_of_block cert path k) (procedure_text p)) (λ (p : book.Procedure). IsClearAlgorithm (rows ranges here (Charted (block_of k))) p.algorithm) _ k.procedures.entries algorithms_known
             (λ p t h. subst (λ (r : Spans). IsClearAlgorithm r (procedure_text p)) rows_same h) c.runs.algorithms;
         guards =
-            all_image (λ (t : Transition). IsWord (string_bytes t.source)) (λ (t : Transition). IsClearGuard (rows_of_block cert path k) (guard_in t)) (λ (t : book.Transition). IsClearGuard (rows ranges here (Charted (block_of k))) t.guard) transition_of k.transitions.items sources_known
+            all_image_where (λ (t : Transition). IsWord (string_bytes t.source)) (λ (t : Transition). IsClearGuard (rows_of_block cert path k) (guard_in t)) (λ (t : book.Transition). IsClearGuard (rows ranges here (Charted (block_of k))) t.guard) transition_of k.transitions.items sources_known
             (λ t w h. subst (λ (r : Spans). IsClearGuard r (guard_in t)) rows_same h) c.runs.guards;
       }
 

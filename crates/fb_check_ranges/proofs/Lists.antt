@@ -1,10 +1,10 @@
 -- Lists, and what is so of their elements.
-use Rattle.std.proofs.Common.{◌≡◌, ◌↔◌, ℕ, zero, suc, ◌+◌, ◌<◌, ◌≤◌, ◌++◌, List, [], ◌∷◌, map, take, drop, length, get_or, Some, sym, ap, subst, ◌∙◌, arith}
-use Rattle.std.specs.Prelude.{slice_get}
+use Rattle.std.proofs.Common.{◌≡◌, ◌↔◌, ℕ, zero, suc, ◌+◌, ◌<◌, ◌≤◌, ◌++◌, List, [], ◌∷◌, map, take, drop, length, get_or, sym, ap, subst, ◌∙◌, arith}
 use Rattle.std.specs.List.{AllByRecursion, Any}
 use Rattle.std.proofs.lemmas.List.{take_more}
 use Rattle.std.proofs.Math.Seq.{drop-cons}
-use Rattle.fb_model.proofs.Lists.{got, all_append}
+use Rattle.fb_lists.proofs.Lists.{all_here}
+use Rattle.fb_model.proofs.Lists.{all_append}
 
 -- ---- in order
 
@@ -18,18 +18,10 @@ all_on P xs i x l e p before rest =
     let next : i + 1 ≡ suc i = omega arith in
     before (subst (AllByRecursion P) (sym here) (p, subst (λ n. AllByRecursion P (drop n xs)) next rest))
 
-pub take_get : {X : Type 0} (xs : List X) (i : ℕ) (x : X) → Some x ≡ slice_get xs i → take (i + 1) xs ≡ take i xs ++ x ∷ []
-take_get xs i x h = let g = got xs i x h in take_more xs i x g.0 ∙ ap (λ y. take i xs ++ y ∷ []) (sym g.1)
-
 -- ---- one of them
 
 pub any_at : {X : Type 0} (P : X → Type 0) (xs : List X) (i : ℕ) (x : X) → i < length xs → x ≡ get_or xs i x → P x → Any P xs
 any_at P xs i x l e p = (i, x, l, sym e, p)
-
-pub all_here : {X : Type 0} (P : X → Type 0) (xs : List X) (i : ℕ) (x : X) → AllByRecursion P xs → i < length xs → get_or xs i x ≡ x → P x
-all_here P [] i x h l e = absurd (omega arith)
-all_here P (y ∷ xs) zero x h l e = subst P e h.0
-all_here P (y ∷ xs) (suc i) x h l e = all_here P xs i x h.1 (omega arith) e
 
 -- one of which P is so, with what is so of all
 pub any_with : {X : Type 0} (T P : X → Type 0) (xs : List X) → AllByRecursion T xs → Any P xs → (x : X) × T x × P x
@@ -38,30 +30,15 @@ any_with T P xs t h = (h.1, all_here T xs h.0 h.1 t h.2 h.3, h.4)
 pub any_weaker : {X : Type 0} (T P Q : X → Type 0) (xs : List X) → AllByRecursion T xs → ((x : X) → T x → P x → Q x) → Any P xs → Any Q xs
 any_weaker T P Q xs t f h = (h.0, h.1, h.2, h.3, f h.1 (all_here T xs h.0 h.1 t h.2 h.3) h.4)
 
-pub there : {X Y : Type 0} (f : X → Y) (xs : List X) (i : ℕ) (x : X) → i < length xs → get_or xs i x ≡ x → (i < length (map f xs)) × (get_or (map f xs) i (f x) ≡ f x)
-there f [] i x l e = absurd (omega arith)
-there f (y ∷ xs) zero x l e = (omega arith, ap f e)
-there f (y ∷ xs) (suc i) x l e = let k = there f xs i x (omega arith) e in (omega (arith, k.0), k.1)
-
 -- ---- images
 
--- what one of the tables has, one of the book has
-pub any_image : {X Y : Type 0} (T P : X → Type 0) (Q : Y → Type 0) (f : X → Y) (xs : List X) → AllByRecursion T xs → ((x : X) → T x → P x → Q (f x)) → Any P xs → Any Q (map f xs)
-any_image T P Q f xs t g h =
-    let k = there f xs h.0 h.1 h.2 h.3 in
-    (h.0, f h.1, k.0, k.1, g h.1 (all_here T xs h.0 h.1 t h.2 h.3) h.4)
-
-pub all_image : {X Y : Type 0} (T P : X → Type 0) (Q : Y → Type 0) (f : X → Y) (xs : List X) → AllByRecursion T xs → ((x : X) → T x → P x → Q (f x)) → AllByRecursion P xs → AllByRecursion Q (map f xs)
-all_image T P Q f [] t g h = tt
-all_image T P Q f (x ∷ xs) t g h = (g x t.0 h.0, all_image T P Q f xs t.1 g h.1)
+pub all_image_where : {X Y : Type 0} (T P : X → Type 0) (Q : Y → Type 0) (f : X → Y) (xs : List X) → AllByRecursion T xs → ((x : X) → T x → P x → Q (f x)) → AllByRecursion P xs → AllByRecursion Q (map f xs)
+all_image_where T P Q f [] t g h = tt
+all_image_where T P Q f (x ∷ xs) t g h = (g x t.0 h.0, all_image_where T P Q f xs t.1 g h.1)
 
 pub all_over : {X Y : Type 0} (Q : Y → Type 0) (f : X → Y) (xs : List X) → AllByRecursion (λ x. Q (f x)) xs → AllByRecursion Q (map f xs)
 all_over Q f [] h = tt
 all_over Q f (x ∷ xs) h = (h.0, all_over Q f xs h.1)
-
-pub all_source : {X Y : Type 0} (Q : X → Type 0) (P : Y → Type 0) (f : X → Y) (xs : List X) → ((x : X) → P (f x) → Q x) → AllByRecursion P (map f xs) → AllByRecursion Q xs
-all_source Q P f [] g h = tt
-all_source Q P f (x ∷ xs) g h = (g x h.0, all_source Q P f xs g h.1)
 
 pub all_both : {X : Type 0} (P Q : X → Type 0) (xs : List X) → AllByRecursion P xs → AllByRecursion Q xs → AllByRecursion (λ x. P x × Q x) xs
 all_both P Q [] p q = tt
@@ -81,7 +58,3 @@ all_dropped P f [] zero h = tt
 all_dropped P f [] (suc i) h = tt
 all_dropped P f (x ∷ xs) zero h = absurd (omega (arith, h))
 all_dropped P f (x ∷ xs) (suc i) h = all_dropped P f xs i (omega (arith, h))
-
--- the image of the item at an index
-pub there_at : {X Y : Type 0} (f : X → Y) (xs : List X) (i : ℕ) (x : X) → i < length xs → x ≡ get_or xs i x → (i < length (map f xs)) × (f x ≡ get_or (map f xs) i (f x))
-there_at f xs i x l e = let k = there f xs i x l (sym e) in (k.0, sym k.1)

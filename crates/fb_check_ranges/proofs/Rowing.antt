@@ -1,9 +1,8 @@
 -- The rows of the tables and those of the book.
-use Rattle.std.proofs.Common.{◌≡◌, ℕ, ◌+◌, ◌≤◌, Bool, true, false, ◌||◌, List, [], ◌∷◌, ◌++◌, map, take, length, Option, None, Some, refl, sym, ap, ap₂, subst, ◌∙◌, string_bytes, Global}
+use Rattle.std.proofs.Common.{◌≡◌, ℕ, ◌+◌, ◌≤◌, Bool, true, false, ◌||◌, List, [], ◌∷◌, ◌++◌, map, take, length, Option, None, Some, refl, sym, ap, ap₂, subst, ◌∙◌, string_bytes}
 use Rattle.std.proofs.Math.Path.{fun_ext}
 use Rattle.std.specs.Prelude.{slice_get, if◌then◌else◌}
-use Rattle.std.specs.Option.{option_map, unwrap_or}
-use Rattle.std.specs.List.{AllByRecursion}
+use Rattle.std.specs.Option.{option_map}
 use Rattle.std.specs.Str.{bytes_eq}
 use Rattle.std.proofs.lemmas.List.{map_push, take_all}
 use Rattle.fb_words.specs.declared.elem_type.ElemType.{ElemType}
@@ -22,7 +21,7 @@ use Rattle.fb_model.specs.CertificateText.{names_in, all_but_last, last_name}
 use Rattle.fb_model.proofs.Lists.{same_name}
 use Rattle.fb_model_laws.specs.Words.{declared_names}
 use Rattle.fb_cert.specs.declared.certificate.Certificate.{Certificate}
-use Rattle.fb_cert.specs.Views.{first_at, rows_of, certificate_of}
+use Rattle.fb_cert.specs.Views.{rows_of, certificate_of}
 use Rattle.fb_cert.proofs.Places.{span_same}
 use Rattle.fb_flat.specs.Sites.{dotted}
 use Rattle.fb_types_blocks.specs.Views.{declared_of}
@@ -31,7 +30,7 @@ use Rattle.fb_ranges.proofs.Joins.{reset_push}
 use Rattle.fb_check_ranges.specs.Rows.{row_in, row_for, type_in, typed_row, numbers_in, rows_in}
 use Rattle.fb_check_ranges.specs.Places.{or_else}
 use Rattle.fb_check_ranges.specs.Beginning.{NamedVariable, entry_name}
-use Rattle.fb_check_ranges.proofs.Lists.{take_get}
+use Rattle.fb_lists.proofs.Lists.{take_at}
 
 -- ---- types by names
 
@@ -126,7 +125,7 @@ next_entry es i e r before now old x y s is name other row start put =
     ∙ ap₂ (λ n z. changed n (λ b. z) before) name (row ∙ ap r other)
     ∙ ap (λ z. changed (string_bytes e.0) (λ b. r (string_bytes e.0)) z) start
     ∙ sym (reset_push (map entry_name (take i es)) (string_bytes e.0) r old)
-    ∙ ap (λ ns. reset ns r old) (sym (ap (map entry_name) (take_get es i e is) ∙ map_push entry_name (take i es) e))
+    ∙ ap (λ ns. reset ns r old) (sym (ap (map entry_name) (take_at es i e (sym is)) ∙ map_push entry_name (take i es) e))
 
 entries_named : (es : List NamedVariable) → map entry_name es ≡ variable_names (map variable_of (map (λ p. declared_of (string_bytes p.0) p.1) es))
 entries_named [] = refl

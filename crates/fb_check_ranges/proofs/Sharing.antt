@@ -12,7 +12,8 @@ use Rattle.fb_types_blocks.specs.Views.{transition_of, block_of}
 use Rattle.st_types.specs.CommandViews.{commands_of}
 use Rattle.fb_check_ranges.specs.Clearing.{Procedure, procedure_text, guard_in, rows_of_block, RunsClear}
 use Rattle.fb_check_ranges.specs.Examining.{AreClear}
-use Rattle.fb_check_ranges.proofs.Lists.{all_over, all_source}
+use Rattle.fb_lists.proofs.Lists.{all_source}
+use Rattle.fb_check_ranges.proofs.Lists.{all_over}
 
 -- an algorithm as a table has it, in the book
 abbrev procedure_of : Procedure → book.Procedure

@@ -15,36 +15,36 @@ use Rattle.fb_model.specs.Certificates.{Certificate, DeviceHolds, names, depth_o
 use Rattle.fb_model.specs.Devices as machines
 use Rattle.fb_model.specs.Devices.{silent}
 use Rattle.fb_model.specs.Headline.{IsSound}
-use Rattle.fb_device_dispatch.proofs.of_fb_verdict.Composed.{devices_hold}
+use Rattle.fb_verified.proofs.Written.{devices_hold}
 use Rattle.fb_model_laws.proofs.Few.{devices_few}
-use Rattle.fb_device_dispatch.specs.fb_verdict.declared.verified.Verified.{Verified}
-use Rattle.fb_device_dispatch.specs.fb_verdict.Verdicts.{system_in, certificate_in, IsChecked}
+use Rattle.fb_verified.specs.declared.verified.Verified.{Verified}
+use Rattle.fb_verified.specs.Checked.{system_in, certificate_in, IsChecked}
 use Rattle.fb_types.specs.Views.{device_of}
 use Rattle.st_exec.specs.Cells.{Cell, values_of, forms_of}
 use Rattle.fb_chart.specs.declared.table.Block.{Block}
 use Rattle.fb_chart.specs.Views.{named, kind_of}
 use Rattle.fb_chart.specs.Sampling.{AreStores}
-use Rattle.fb_chart.proofs.Lists.{all_got}
-use Rattle.fb_device_dispatch.specs.fb_device_tables.declared.table.Resource.{Resource}
-use Rattle.fb_device_dispatch.specs.fb_device_tables.declared.table.Tables.{Tables}
-use Rattle.fb_device_dispatch.specs.fb_device_tables.Tables.{AreTables, AreResources}
+use Rattle.fb_lists.proofs.Lists.{all_got}
+use Rattle.fb_device_tables.specs.declared.table.Resource.{Resource}
+use Rattle.fb_device_tables.specs.declared.table.Tables.{Tables}
+use Rattle.fb_device_tables.specs.Tables.{AreTables, AreResources}
 use Rattle.fb_chart.specs.declared.memory.Condition.{Condition}
 use Rattle.fb_chart.specs.Conditions.{condition_at, leaf_state, IsConditionOf}
 use Rattle.fb_sched.specs.declared.reaction.Reaction.{Reaction}
 use Rattle.fb_sched.specs.Agenda.{Agenda, IsAgenda, slot_at}
 use Rattle.fb_sched.specs.Steps.{spent}
 use Rattle.fb_sched.specs.Expiry.{AreArmed}
-use Rattle.fb_device_dispatch.specs.fb_device_values.First.{HaveFirstCells}
-use Rattle.fb_device_dispatch.specs.fb_device_values.declared.first.FirstValues.{FirstValues}
-use Rattle.fb_device_dispatch.specs.fb_device_state.declared.program.Program.{Program}
-use Rattle.fb_device_dispatch.specs.fb_device_state.declared.program.Running.{Running}
-use Rattle.fb_device_dispatch.specs.fb_device_state.Sessions.{session_of, next_of}
-use Rattle.fb_device_dispatch.specs.fb_device_state.Machines.{device_at, queue_at, entries_in, standing, store_from, spent_in, machine_of}
-use Rattle.fb_device_dispatch.specs.fb_device_state.Keeping.{IsStanding, ArePlaced, IsQueue, IsProgram, IsGood}
-use Rattle.fb_device_dispatch.proofs.of_fb_device_state.Devices.{device_stands}
-use Rattle.fb_device_dispatch.proofs.of_fb_device_state.Storing.{standing_at}
-use Rattle.fb_device_dispatch.proofs.of_fb_device_state.Blocks.{Pair, block_of, block_count, mapped}
-use Rattle.fb_device_dispatch.proofs.of_fb_device_state.Arriving.{resource_count}
+use Rattle.fb_device_values.specs.First.{HaveFirstCells}
+use Rattle.fb_device_values.specs.declared.first.FirstValues.{FirstValues}
+use Rattle.fb_device_state.specs.declared.program.Program.{Program}
+use Rattle.fb_device_state.specs.declared.program.Running.{Running}
+use Rattle.fb_device_state.specs.Sessions.{session_of, next_of}
+use Rattle.fb_device_state.specs.Machines.{device_at, queue_at, entries_in, standing, store_from, spent_in, machine_of}
+use Rattle.fb_device_state.specs.Keeping.{IsStanding, ArePlaced, IsQueue, IsProgram, IsGood}
+use Rattle.fb_device_state.proofs.Devices.{device_stands}
+use Rattle.fb_device_state.proofs.Storing.{standing_at}
+use Rattle.fb_device_state.proofs.Blocks.{Pair, block_of, block_count, mapped}
+use Rattle.fb_device_state.proofs.Arriving.{resource_count}
 use Rattle.fb_words.specs.declared.format.Format.{Format}
 use Rattle.fb_words.specs.declared.format.Format.TheVariants.{First, Second}
 use Rattle.fb_wire.specs.declared.message.Stamp.{Stamp}

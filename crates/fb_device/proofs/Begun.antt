@@ -6,16 +6,16 @@ use Rattle.fb_model.specs.Messages.{Stamp, IsStamp}
 use Rattle.fb_model.specs.Wires.{leaves}
 use Rattle.fb_model.specs.Devices.{Machine, silent}
 use Rattle.fb_model_laws.proofs.Few.{devices_few}
-use Rattle.fb_device_dispatch.specs.fb_verdict.declared.verified.Verified.{Verified}
-use Rattle.fb_device_dispatch.specs.fb_verdict.Verdicts.{system_in, IsChecked}
+use Rattle.fb_verified.specs.declared.verified.Verified.{Verified}
+use Rattle.fb_verified.specs.Checked.{system_in, IsChecked}
 use Rattle.fb_types.specs.Views.{device_of}
-use Rattle.fb_chart.proofs.Lists.{all_got}
-use Rattle.fb_device_dispatch.specs.fb_device_state.declared.program.Program.{Program}
-use Rattle.fb_device_dispatch.specs.fb_device_state.declared.program.Running.{Running}
-use Rattle.fb_device_dispatch.specs.fb_device_state.Sessions.{session_of, next_of}
-use Rattle.fb_device_dispatch.specs.fb_device_state.Machines.{device_at, device_in, machine_of}
-use Rattle.fb_device_dispatch.specs.fb_device_state.Keeping.{IsGood}
-use Rattle.fb_device_dispatch.proofs.of_fb_device_state.Devices.{device_stands}
+use Rattle.fb_lists.proofs.Lists.{all_got}
+use Rattle.fb_device_state.specs.declared.program.Program.{Program}
+use Rattle.fb_device_state.specs.declared.program.Running.{Running}
+use Rattle.fb_device_state.specs.Sessions.{session_of, next_of}
+use Rattle.fb_device_state.specs.Machines.{device_at, device_in, machine_of}
+use Rattle.fb_device_state.specs.Keeping.{IsGood}
+use Rattle.fb_device_state.proofs.Devices.{device_stands}
 use Rattle.fb_device.specs.Silence.{IsSilent}
 
 -- a device of what was checked has few leaves

@@ -8,17 +8,17 @@ use Rattle.fb_model.specs.System.{Device}
 use Rattle.fb_model.specs.Wires.{Leaf}
 use Rattle.fb_model.specs.Certificates.{Certificate, events_of}
 use Rattle.fb_model.specs.CertificateText.{names_in}
-use Rattle.fb_device_dispatch.specs.fb_verdict.Lookups.{is_same_path}
+use Rattle.fb_verified.specs.Lookups.{is_same_path}
 use Rattle.fb_chart.specs.declared.table.Block.{Block}
 use Rattle.fb_chart.specs.declared.table.Event.{Event}
-use Rattle.fb_device_dispatch.specs.fb_device_tables.declared.table.Resource.{Resource}
+use Rattle.fb_device_tables.specs.declared.table.Resource.{Resource}
 use Rattle.fb_chart.specs.declared.standing.Ports.{Ports}
 use Rattle.st_exec.specs.Cells.{Form}
-use Rattle.fb_device_dispatch.specs.fb_device_tables.Tables.{IsBlock, AreBlocks, AreResources, later}
+use Rattle.fb_device_tables.specs.Tables.{IsBlock, AreBlocks, AreResources, later}
 use Rattle.fb_device.specs.Answers.{IsNamed, IsNoPoint, IsNumberOf, IsNoNumber}
 use Rattle.fb_device.specs.Finding.{first_named}
-use Rattle.fb_device_dispatch.proofs.of_fb_device_state.Lists.{same_at}
-use Rattle.fb_device_dispatch.proofs.of_fb_device_state.Blocks.{Pair, block_of, block_count, leaf_of, within, mapped, events_same}
+use Rattle.fb_lists.proofs.Lists.{same_at}
+use Rattle.fb_device_state.proofs.Blocks.{Pair, block_of, block_count, leaf_of, within, mapped, events_same}
 
 -- none has the name
 pub none_named : (xs : List (List ℕ)) (name : List ℕ) → first_named xs name ≡ None → AllByRecursion (λ x. is_same_path x name ≡ false) xs

@@ -5,17 +5,18 @@ use Rattle.fb_model.specs.System.{Device}
 use Rattle.fb_model.specs.Messages.{Stamp}
 use Rattle.fb_types.specs.declared.typed.Device.{Device as RustDevice}
 use Rattle.fb_types.specs.Views.{device_of}
-use Rattle.fb_device_dispatch.specs.fb_verdict.declared.verified.Verified.{Verified}
-use Rattle.fb_device_dispatch.specs.fb_verdict.declared.refusal.Refusal.TheVariants as checks
-use Rattle.fb_device_dispatch.specs.fb_verdict.Lookups.{is_same_path}
-use Rattle.fb_device_dispatch.specs.fb_verdict.Verdicts.{system_in, IsOfTexts, of_application}
+use Rattle.fb_verified.specs.declared.verified.Verified.{Verified}
+use Rattle.fb_verdict.specs.declared.refusal.Refusal.TheVariants as checks
+use Rattle.fb_verified.specs.Lookups.{is_same_path}
+use Rattle.fb_verified.specs.Checked.{system_in}
+use Rattle.fb_verdict.specs.Verdicts.{IsOfTexts, of_application}
 use Rattle.fb_device.specs.declared.refusal.Refusal.{Refusal}
 use Rattle.fb_device.specs.declared.refusal.Refusal.TheVariants.{Checked, NoDevice, Limit}
-use Rattle.fb_device_dispatch.specs.fb_device_state.Sessions.{Session}
+use Rattle.fb_device_state.specs.Sessions.{Session}
 use Rattle.fb_device.specs.Refusals.{no_memory}
 use Rattle.fb_device.specs.Loads.{IsLoaded, IsLoadFault, IsBeginFault, IsThere, IsReadyOf, IsUnnamed, IsMissing}
 use Rattle.fb_device.specs.Finding.{first_named}
-use Rattle.fb_chart.proofs.Lists.{all_got}
+use Rattle.fb_lists.proofs.Lists.{all_got}
 use Rattle.fb_device.proofs.Finding.{none_named, one_named, unmapped, all_unmapped}
 
 -- names of devices, in the code and in the book

@@ -11,23 +11,23 @@ use Rattle.fb_model.specs.Headline as headline
 use Rattle.st_exec.specs.Cells.{Form, forms_of}
 use Rattle.fb_chart.specs.declared.table.Point.{Point}
 use Rattle.fb_chart.specs.declared.table.Block.{Block}
-use Rattle.fb_device_dispatch.specs.fb_device_tables.Views.{place_at}
-use Rattle.fb_device_dispatch.specs.fb_device_tables.Tables.{IsPoint, far_at}
+use Rattle.fb_device_tables.specs.Views.{place_at}
+use Rattle.fb_device_tables.specs.Tables.{IsPoint, far_at}
 use Rattle.fb_sched.specs.declared.ticket.Ticket.{Ticket}
 use Rattle.fb_sched.specs.declared.reaction.Reaction.{Reaction}
 use Rattle.fb_sched.specs.Agenda.{Agenda, IsNew, IsOpen, slot_at, tickets_for}
 use Rattle.fb_sched.specs.Entries.{entry_by, booked}
 use Rattle.fb_sched.proofs.Slots.{reaction_there}
 use Rattle.fb_sched.proofs.Kept.{for_other}
-use Rattle.fb_device_dispatch.specs.fb_device_state.declared.program.Program.{Program}
-use Rattle.fb_device_dispatch.specs.fb_device_state.declared.program.Running.{Running}
-use Rattle.fb_device_dispatch.specs.fb_device_state.Sessions.{session_of}
-use Rattle.fb_device_dispatch.specs.fb_device_state.Machines.{device_in, cert_in, queue_at, entries_in, machine_of}
-use Rattle.fb_device_dispatch.specs.fb_device_state.Numbers.{event_at, steps_in, IsKnown}
-use Rattle.fb_device_dispatch.specs.fb_device_state.Keeping.{IsQueue, IsGood}
-use Rattle.fb_device_dispatch.proofs.of_fb_device_state.Blocks.{Known, known, is_known, steps_are, weighs}
-use Rattle.fb_device_dispatch.proofs.of_fb_device_state.Lists.{same_at}
-use Rattle.fb_device_dispatch.proofs.of_fb_device_state.Queued.{queue_here}
+use Rattle.fb_device_state.specs.declared.program.Program.{Program}
+use Rattle.fb_device_state.specs.declared.program.Running.{Running}
+use Rattle.fb_device_state.specs.Sessions.{session_of}
+use Rattle.fb_device_state.specs.Machines.{device_in, cert_in, queue_at, entries_in, machine_of}
+use Rattle.fb_device_state.specs.Numbers.{event_at, steps_in, IsKnown}
+use Rattle.fb_device_state.specs.Keeping.{IsQueue, IsGood}
+use Rattle.fb_device_state.proofs.Blocks.{Known, known, is_known, steps_are, weighs}
+use Rattle.fb_lists.proofs.Lists.{same_at}
+use Rattle.fb_device_state.proofs.Queued.{queue_here}
 use Rattle.fb_device.specs.declared.answer.Opening.{Opening}
 use Rattle.fb_device.specs.Openings.{far_in, IsOpeningIn}
 use Rattle.fb_device.specs.Answers.{IsOpening}

@@ -11,16 +11,16 @@ use Rattle.fb_model.proofs.Ending.{run_more, drains}
 use Rattle.fb_model.proofs.InTime.{ends_in_time}
 use Rattle.fb_model.proofs.Progress.{runs_so}
 use Rattle.fb_model.proofs.Starting.{stays_within}
-use Rattle.fb_device_dispatch.specs.fb_device_state.declared.program.Program.{Program}
-use Rattle.fb_device_dispatch.specs.fb_device_state.declared.program.Running.{Running}
-use Rattle.fb_device_dispatch.specs.fb_device_state.Sessions.{Session, session_of}
+use Rattle.fb_device_state.specs.declared.program.Program.{Program}
+use Rattle.fb_device_state.specs.declared.program.Running.{Running}
+use Rattle.fb_device_state.specs.Sessions.{Session, session_of}
 use Rattle.fb_model.specs.Wires.{leaves}
-use Rattle.fb_device_dispatch.specs.fb_verdict.declared.verified.Verified.{Verified}
-use Rattle.fb_device_dispatch.specs.fb_verdict.Verdicts.{system_in, certificate_in}
+use Rattle.fb_verified.specs.declared.verified.Verified.{Verified}
+use Rattle.fb_verified.specs.Checked.{system_in, certificate_in}
 use Rattle.fb_device.specs.Answers.{answer_of, HasPlace}
 use Rattle.fb_device.specs.declared.answer.Answer.{Answer as Reply}
-use Rattle.fb_device_dispatch.specs.fb_device_state.Machines.{device_at, device_in, cert_in, machine_of}
-use Rattle.fb_device_dispatch.specs.fb_device_state.Keeping.{IsGood}
+use Rattle.fb_device_state.specs.Machines.{device_at, device_in, cert_in, machine_of}
+use Rattle.fb_device_state.specs.Keeping.{IsGood}
 use Rattle.fb_device.specs.Promises.{IsBounded}
 
 pub promised : (cert : Certificate) (device : Device) (m : Machine) → DeviceHolds cert device → IsSound cert device m → IsBounded cert device m

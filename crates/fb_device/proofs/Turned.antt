@@ -12,10 +12,10 @@ use Rattle.fb_model.proofs.Ending.{run_more}
 use Rattle.fb_link.specs.Link.{LinkCall, Handed, Silent, Broken, Written}
 use Rattle.fb_device_arrivals.specs.Answers.{admission_of}
 use Rattle.fb_device_arrivals.specs.declared.denied.Denied.{Denied}
-use Rattle.fb_device_dispatch.specs.fb_verdict.declared.verified.Verified.{Verified}
-use Rattle.fb_device_dispatch.specs.fb_verdict.Verdicts.{system_in, certificate_in}
-use Rattle.fb_device_dispatch.specs.fb_device_state.Sessions.{Session}
-use Rattle.fb_device_dispatch.specs.fb_device_state.Machines.{device_at, device_in, cert_in}
+use Rattle.fb_verified.specs.declared.verified.Verified.{Verified}
+use Rattle.fb_verified.specs.Checked.{system_in, certificate_in}
+use Rattle.fb_device_state.specs.Sessions.{Session}
+use Rattle.fb_device_state.specs.Machines.{device_at, device_in, cert_in}
 use Rattle.fb_device.specs.Turns.{Chain, Receipt, Close, Sixteenth, Quiet, Cut, delivery, handing, close_calls, ClosesAt, is_cut, denials_of, Service, sends, writes, losses, effect_of, each_once, Turn, IsTurn, Receives, Serves, GoesOut}
 
 -- two sessions of one program have one certificate and one device

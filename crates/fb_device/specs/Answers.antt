@@ -8,9 +8,9 @@ use Rattle.fb_model.specs.CertificateText.{names_in}
 use Rattle.fb_model.specs.Devices as book
 use Rattle.fb_model.specs.Devices.{Machine, steps_row, is_pending}
 use Rattle.fb_model.specs.Headline.{IsOpen}
-use Rattle.fb_device_dispatch.specs.fb_verdict.Lookups.{is_same_path}
-use Rattle.fb_device_dispatch.specs.fb_device_tables.Views.{place_at}
-use Rattle.fb_device_dispatch.specs.fb_device_tables.Tables.{far_at}
+use Rattle.fb_verified.specs.Lookups.{is_same_path}
+use Rattle.fb_device_tables.specs.Views.{place_at}
+use Rattle.fb_device_tables.specs.Tables.{far_at}
 use Rattle.fb_device_arrivals.specs.Answers.{admission_of}
 use Rattle.fb_device_dispatch.specs.Answers.{dispatched_of, HasPoint}
 use Rattle.fb_device.specs.declared.answer.Opening.{Opening}

@@ -5,7 +5,7 @@ use Rattle.fb_chart.specs.declared.table.Block.{Block}
 use Rattle.fb_chart.specs.declared.table.Event.{Event}
 use Rattle.fb_sched.specs.declared.reaction.Reaction.{Reaction}
 use Rattle.fb_sched.specs.Agenda.{Agenda, IsNew, IsReactionOf}
-use Rattle.fb_device_dispatch.specs.fb_device_state.Numbers.{event_at, steps_in}
+use Rattle.fb_device_state.specs.Numbers.{event_at, steps_in}
 use Rattle.fb_device.specs.declared.answer.Opening.{Opening}
 
 -- the steps of the FAR row of an event

@@ -2,8 +2,8 @@
 use Rattle.std.specs.Prelude.{ℕ, ◌≡◌, ◌<◌, ◌≤◌}
 use Rattle.fb_model.specs.Messages.{Stamp, IsStamp}
 use Rattle.fb_model.specs.Devices.{silent}
-use Rattle.fb_device_dispatch.specs.fb_device_state.Sessions.{Session}
-use Rattle.fb_device_dispatch.specs.fb_device_state.Machines.{device_in, machine_of}
+use Rattle.fb_device_state.specs.Sessions.{Session}
+use Rattle.fb_device_state.specs.Machines.{device_in, machine_of}
 
 -- no device begins with a later cause, so that there are numbers for all that begin
 abbrev pub last_first : ℕ

@@ -3,8 +3,8 @@ use Rattle.std.specs.Prelude.{ℕ, ◌≡◌, ◌≤◌, List, [], ◌∷◌, ma
 use Rattle.std.specs.List.{AllByRecursion}
 use Rattle.fb_model.specs.System.{Device, Input, Output, Publish, Subscribe, Delay, Cycle, Restart}
 use Rattle.fb_model.specs.Wires.{Kind, Charted, Serviced, leaves}
-use Rattle.fb_device_dispatch.specs.fb_verdict.Verdicts.{system_in}
-use Rattle.fb_device_dispatch.specs.fb_verdict.declared.verified.Verified.{Verified}
+use Rattle.fb_verified.specs.Checked.{system_in}
+use Rattle.fb_verified.specs.declared.verified.Verified.{Verified}
 use Rattle.fb_chart.specs.declared.table.Block.{Block}
 use Rattle.fb_chart.specs.Views.{kind_of}
 use Rattle.fb_words.specs.declared.format.Format.{Format}
@@ -13,14 +13,14 @@ use Rattle.fb_wire.specs.declared.message.Stamp.{Stamp}
 use Rattle.fb_chart.specs.declared.standing.Stamps.{Stamps}
 use Rattle.fb_chart.specs.declared.standing.Stamps.TheVariants.{Unstamped, Upcoming, Latest}
 use Rattle.fb_chart.specs.declared.standing.Standing.TheVariants.{Closed, Quiet, Plain}
-use Rattle.fb_device_dispatch.specs.fb_device_values.First.{HaveFirstCells}
-use Rattle.fb_device_dispatch.specs.fb_device_values.declared.first.FirstValues.{FirstValues}
-use Rattle.fb_device_dispatch.specs.fb_device_tables.declared.table.Resource.{Resource}
-use Rattle.fb_device_dispatch.specs.fb_device_tables.declared.table.Tables.{Tables}
+use Rattle.fb_device_values.specs.First.{HaveFirstCells}
+use Rattle.fb_device_values.specs.declared.first.FirstValues.{FirstValues}
+use Rattle.fb_device_tables.specs.declared.table.Resource.{Resource}
+use Rattle.fb_device_tables.specs.declared.table.Tables.{Tables}
 use Rattle.fb_chart.specs.declared.memory.Condition.{Condition}
 use Rattle.fb_chart.specs.declared.memory.Condition.TheVariants.{State, Service}
 use Rattle.fb_sched.specs.Agenda.{Agenda, IsAgenda}
-use Rattle.fb_device_dispatch.specs.fb_device_state.declared.program.Running.{Running}
+use Rattle.fb_device_state.specs.declared.program.Running.{Running}
 
 -- what a PUBLISH and a SUBSCRIBE of a format keep at first
 abbrev pub upcoming_of : Stamp → Format → Stamps

@@ -7,7 +7,7 @@ ghost use Rattle.fb_model.specs.Headline.{KeepsBounds, StaysWithinAll};
 ghost use Rattle.fb_model.specs.Wires.{leaves};
 ghost use Rattle.fb_device_arrivals.specs.Answers.{admission_of};
 ghost use Rattle.fb_device_dispatch.specs.Answers.{dispatched_of, HasPoint};
-ghost use Rattle.fb_device_dispatch.specs.fb_device_state.Machines.{device_in, cert_in, machine_of};
+ghost use Rattle.fb_device_state.specs.Machines.{device_in, cert_in, machine_of};
 ghost use Rattle.fb_device.specs.Answers.{answer_of, event_of, HasPlace, IsOpening, IsNamed, IsNoPoint, IsNumberOf, IsNoNumber};
 ghost use Rattle.fb_device.specs.Promises.{IsBounded};
 ghost use Rattle.fb_device.specs.Silence.{IsSilent};
@@ -16,8 +16,8 @@ use crate::answer::{Answer, Opening, Step};
 use crate::names::{name, opening, path, resource};
 use crate::sharing::release;
 use fb_device_arrivals::{Denied, begin, deliver, offer, tick};
-use fb_device_dispatch::fb_device_state::{Program, Running};
 use fb_device_dispatch::{Dispatched, dispatch};
+use fb_device_state::{Program, Running};
 use std::marker::Model;
 
 /// A device that runs a checked application. Its calls are written to take no memory, which no clause says.
@@ -30,9 +30,9 @@ pub struct Device {
 }
 
 impl Model for Device {
-    ghost use Rattle.fb_device_dispatch.specs.fb_device_state.Sessions.{Session, session_of};
-    ghost use Rattle.fb_device_dispatch.specs.fb_device_state.Keeping.{IsGood};
-    ghost use Rattle.fb_device_dispatch.specs.fb_verdict.contracts.verified.Verified as checked;
+    ghost use Rattle.fb_device_state.specs.Sessions.{Session, session_of};
+    ghost use Rattle.fb_device_state.specs.Keeping.{IsGood};
+    ghost use Rattle.fb_verified.specs.contracts.verified.Verified as checked;
     ghost use Rattle.std.specs.Coded.{codes};
 
     ghost Value = { Session };

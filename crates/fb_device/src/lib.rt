@@ -17,7 +17,6 @@ pub use device::Device;
 pub use fb_chart::{Effect, Values};
 pub use fb_device_arrivals::Denied;
 pub use fb_device_dispatch::{Dispatched, Ended, Ran};
-pub use fb_link;
 pub use law::long_datagrams_are_denied;
 pub use loading::{Ready, load, load_boot, load_checked, load_from};
 pub use refusal::Refusal;

@@ -14,11 +14,12 @@ ghost use Rattle.fb_model.specs.Devices.{at_first, begun, first_stamp, silent};
 ghost use Rattle.fb_wire.specs.Views.{stamped_of};
 ghost use Rattle.st_exec.specs.Cells.{Form, forms_of};
 ghost use Rattle.fb_chart.specs.Views.{body_kind, kind_of};
-ghost use Rattle.fb_device_dispatch.specs.fb_device_values.First.{HaveFirstCells};
-ghost use Rattle.fb_device_dispatch.specs.fb_verdict.Verdicts.{system_in, certificate_in, IsChecked, IsSystemOf};
+ghost use Rattle.fb_device_values.specs.First.{HaveFirstCells};
+ghost use Rattle.fb_verified.specs.Checked.{system_in, certificate_in, IsChecked};
+ghost use Rattle.fb_types.specs.Written.{IsSystemOf};
 ghost use Rattle.fb_tree.specs.Sources.{IsSource};
-ghost use Rattle.fb_device_dispatch.specs.fb_device_tables.Tables.{AreTables};
-ghost use Rattle.fb_device_dispatch.specs.fb_device_state.Machines.{device_in, cert_in, machine_of};
+ghost use Rattle.fb_device_tables.specs.Tables.{AreTables};
+ghost use Rattle.fb_device_state.specs.Machines.{device_in, cert_in, machine_of};
 ghost use Rattle.fb_device.specs.Promises.{IsBounded};
 ghost use Rattle.fb_device.specs.Refusals.{no_memory};
 ghost use Rattle.fb_device.specs.Silence.{last_first, IsWithin};
@@ -32,12 +33,13 @@ use crate::names::is_same;
 use crate::refusal::Refusal;
 use crate::sharing::{release, share};
 use fb_chart::{Block, Body, Condition, Memory, Stamps, Standing};
-use fb_device_dispatch::fb_device_state::{Program, Running};
-use fb_device_dispatch::fb_device_tables::{Resource, Tables, tables};
-use fb_device_dispatch::fb_device_values::{FirstValues, first_values};
-use fb_device_dispatch::fb_verdict::{Verified, check_text};
+use fb_device_state::{Program, Running};
+use fb_device_tables::{Resource, Tables, tables};
+use fb_device_values::{FirstValues, first_values};
 use fb_sched::{Outbox, Queue, Timers};
 use fb_types_services::Service;
+use fb_verdict::check_text;
+use fb_verified::Verified;
 use fb_wire::Stamp;
 use fb_words::Format;
 use std::alloc::{AllocError, Global};
@@ -61,8 +63,8 @@ pub struct Ready {
 
 impl Model for Ready {
     ghost use Rattle.std.specs.Coded.{codes};
-    ghost use Rattle.fb_device_dispatch.specs.fb_verdict.contracts.verified.Verified as checked;
-    ghost use Rattle.fb_device_dispatch.specs.fb_device_state.Sessions.{Session};
+    ghost use Rattle.fb_verified.specs.contracts.verified.Verified as checked;
+    ghost use Rattle.fb_device_state.specs.Sessions.{Session};
     ghost use Rattle.fb_device.specs.Silence.{IsSilent};
 
     ghost Value = { Session };
@@ -254,7 +256,7 @@ fn numbered_ready(
         }
         Err(_) => {
             release(verified);
-            Err(Refusal::Checked(fb_device_dispatch::fb_verdict::Refusal::OutOfMemory))
+            Err(Refusal::Checked(fb_verdict::Refusal::OutOfMemory))
         }
     }
 }
@@ -299,7 +301,7 @@ fn no_device(alloc: Global, device: &str) -> Refusal
             name.make_ascii_uppercase();
             Refusal::NoDevice(name)
         }
-        Err(_) => Refusal::Checked(fb_device_dispatch::fb_verdict::Refusal::OutOfMemory),
+        Err(_) => Refusal::Checked(fb_verdict::Refusal::OutOfMemory),
     }
 }
 
@@ -358,7 +360,7 @@ fn loaded(
 /// Loads the device of a name. Its first cause is 1, and its first messages are stamped with the boot 0 and the sequence number 1. Letter case has no meaning
 /// in the name.
 ///
-/// Refused as [`check_text`](fb_device_dispatch::fb_verdict::check_text) refuses, and with `NoDevice` where the text has no such device.
+/// Refused as [`check_text`](fb_verdict::check_text) refuses, and with `NoDevice` where the text has no such device.
 pub fn load(alloc: Global, text: &str, certificate: &str, device: &str) -> Result<Ready, Refusal>
     ensures loaded { IfOk result (IsLoaded text.now certificate.now device.now 1 first_stamp) }
     ensures within { IfOk result (λ d. (length text.now ≤ text_limit) × (length certificate.now ≤ most_characters)) }

@@ -6,21 +6,21 @@ ghost use Rattle.fb_model.specs.Wires.{Leaf};
 ghost use Rattle.fb_model.specs.Certificates.{Certificate};
 ghost use Rattle.st_exec.specs.Cells.{Form};
 ghost use Rattle.fb_chart.specs.declared.standing.Ports.{Ports};
-ghost use Rattle.fb_device_dispatch.specs.fb_verdict.Verdicts.{system_in};
-ghost use Rattle.fb_device_dispatch.specs.fb_verdict.Lookups.{is_same_path};
-ghost use Rattle.fb_device_dispatch.specs.fb_device_tables.Tables.{AreBlocks};
+ghost use Rattle.fb_verified.specs.Checked.{system_in};
+ghost use Rattle.fb_verified.specs.Lookups.{is_same_path};
+ghost use Rattle.fb_device_tables.specs.Tables.{AreBlocks};
 ghost use Rattle.fb_sched.specs.declared.reaction.Reaction.{Reaction};
 ghost use Rattle.fb_sched.specs.Agenda.{Agenda, slot_at};
-ghost use Rattle.fb_device_dispatch.specs.fb_device_state.Machines.{device_at};
-ghost use Rattle.fb_device_dispatch.specs.fb_device_state.Numbers.{IsKnown};
+ghost use Rattle.fb_device_state.specs.Machines.{device_at};
+ghost use Rattle.fb_device_state.specs.Numbers.{IsKnown};
 ghost use Rattle.fb_device.specs.Answers.{IsNamed, IsNoPoint};
 ghost use Rattle.fb_device.specs.Finding.{first_named};
 ghost use Rattle.fb_device.specs.Openings.{opening_at, IsOpeningIn};
 
 use crate::answer::Opening;
 use fb_chart::{Block, Point};
-use fb_device_dispatch::fb_device_state::Program;
-use fb_device_dispatch::fb_device_tables::Resource;
+use fb_device_state::Program;
+use fb_device_tables::Resource;
 use fb_sched::Queue;
 
 /// The name of the device.

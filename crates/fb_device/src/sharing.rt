@@ -4,7 +4,7 @@ ghost use Rattle.std.specs.Prelude.{◌≡◌, IfOk, IfErr};
 ghost use Rattle.fb_device.specs.Refusals.{no_memory};
 
 use crate::refusal::Refusal;
-use fb_device_dispatch::fb_verdict::Verified;
+use fb_verified::Verified;
 use std::alloc::Global;
 use std::rc::Rc;
 
@@ -17,7 +17,7 @@ pub fn share(alloc: Global, verified: Verified) -> Result<Rc<Verified>, Refusal>
         Ok(shared) => Ok(shared),
         Err(refused) => {
             refused.value.let_go();
-            Err(Refusal::Checked(fb_device_dispatch::fb_verdict::Refusal::OutOfMemory))
+            Err(Refusal::Checked(fb_verdict::Refusal::OutOfMemory))
         }
     }
 }

@@ -7,7 +7,7 @@ ghost use Rattle.fb_model.specs.Devices.{Happens, Dispatch};
 ghost use Rattle.fb_model.specs.Headline.{KeepsBounds, StaysWithinAll};
 ghost use Rattle.fb_link.specs.Link.{Sent};
 ghost use Rattle.fb_chart.specs.Responses as responses;
-ghost use Rattle.fb_device_dispatch.specs.fb_device_state.Machines.{device_in, cert_in, machine_of};
+ghost use Rattle.fb_device_state.specs.Machines.{device_in, cert_in, machine_of};
 ghost use Rattle.fb_device.specs.Promises.{IsBounded};
 ghost use Rattle.fb_device.specs.Turns as turns;
 ghost use Rattle.fb_device.specs.Turns.{Turn, Receipt, Close, Service, IsTurn, IsTold, Receives, Serves, GoesOut};

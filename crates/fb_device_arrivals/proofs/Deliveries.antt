@@ -44,9 +44,8 @@ use Rattle.fb_device_state.specs.Sessions.{session_of}
 use Rattle.fb_device_state.specs.Machines.{device_in, cert_in, machine_of}
 use Rattle.fb_device_state.specs.Keeping.{IsGood, IsStanding}
 use Rattle.fb_device_state.specs.Arrivals.{IsArrival, Admits}
-use Rattle.fb_device_state.specs.fb_device_tables.Tables.{first_at}
-use Rattle.fb_chart.proofs.Lists.{all_got}
-use Rattle.fb_device_state.proofs.Lists.{same_at}
+use Rattle.fb_device_tables.specs.Tables.{first_at}
+use Rattle.fb_lists.proofs.Lists.{all_got, same_at}
 use Rattle.fb_device_state.proofs.Blocks.{within}
 use Rattle.fb_device_arrivals.specs.Delivering.{is_meant, types_taken, numbers_taken, IsReceived, arrival_number, is_shut}
 use Rattle.fb_device_arrivals.specs.Stamping.{is_later_than, unless_later, stale_in, CanKeep}

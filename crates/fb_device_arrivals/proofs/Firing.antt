@@ -15,10 +15,10 @@ use Rattle.fb_model.proofs.Running.{at_leaf, with_leaf_lies}
 use Rattle.fb_model.proofs.Stamping.{with_leaf_keeps, timer_stamps}
 use Rattle.fb_model.proofs.Admitting.{sound_but}
 use Rattle.fb_model_laws.specs.Leaves.{AreApart}
-use Rattle.fb_chart.proofs.Lists.{all_got}
+use Rattle.fb_lists.proofs.Lists.{all_got, get_other, set_stands, same_at}
 use Rattle.st_exec.specs.Cells.{Cell, forms_of}
 use Rattle.fb_chart.specs.declared.standing.Standing.TheVariants as s
-use Rattle.fb_device_state.specs.fb_device_tables.declared.table.Resource.{Resource}
+use Rattle.fb_device_tables.specs.declared.table.Resource.{Resource}
 use Rattle.fb_chart.specs.declared.memory.Condition.{Condition}
 use Rattle.fb_chart.specs.declared.memory.Condition.TheVariants.{Service}
 use Rattle.fb_chart.specs.Conditions.{leaf_state, IsConditionOf}
@@ -32,7 +32,6 @@ use Rattle.fb_device_state.specs.declared.program.Running.{Running}
 use Rattle.fb_device_state.specs.Sessions.{session_of, next_of}
 use Rattle.fb_device_state.specs.Machines.{device_in, cert_in, standing, store_from, machine, machine_of}
 use Rattle.fb_device_state.specs.Keeping.{IsStanding, AllStand, IsGood}
-use Rattle.fb_device_state.proofs.Lists.{get_other, set_stands, same_at}
 use Rattle.fb_device_state.proofs.Storing.{store_set, stored_at}
 use Rattle.fb_device_state.proofs.Moved.{program_moved}
 use Rattle.fb_device_arrivals.specs.Ticking.{IsTimer}

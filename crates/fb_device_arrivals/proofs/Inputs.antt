@@ -7,7 +7,7 @@ use Rattle.fb_model.specs.Services.{arrive}
 use Rattle.fb_model.specs.Ranges.{types_of}
 use Rattle.fb_model.specs.Wires.{Kind, Charted, Serviced, Leaf, leaves}
 use Rattle.fb_model.specs.Certificates.{events_of}
-use Rattle.fb_model.specs.Devices.{Machine, Offer, Happens, HasRoom, arriving, admitted, is_input_numbered, IsBad, IsDenied}
+use Rattle.fb_model.specs.Devices.{Machine, Offer, arriving, is_input_numbered, IsDenied}
 use Rattle.fb_chart.specs.declared.table.Block.{Block}
 use Rattle.fb_chart.specs.declared.table.Body.{Body}
 use Rattle.fb_chart.specs.declared.table.Body.TheVariants as b
@@ -23,11 +23,11 @@ use Rattle.fb_device_state.specs.Sessions.{session_of}
 use Rattle.fb_device_state.specs.Machines.{device_in, cert_in, machine_of}
 use Rattle.fb_device_state.specs.Keeping.{IsGood}
 use Rattle.fb_device_state.specs.Arrivals.{IsArrival, Admits, IsShort}
-use Rattle.fb_device_state.proofs.Lists.{same_at}
+use Rattle.fb_lists.proofs.Lists.{same_at}
 use Rattle.fb_device_state.proofs.Blocks.{within, block_of}
 use Rattle.fb_device_arrivals.specs.declared.denied.Denied.{Denied}
 use Rattle.fb_device_arrivals.specs.declared.denied.Denied.TheVariants.{UnknownInput, BadCount, BadValue, NoCredit, Spent, Wire, NoSubscriber, Shape, Closed, Stale}
-use Rattle.fb_device_state.specs.fb_device_tables.Tables.{first_at}
+use Rattle.fb_device_tables.specs.Tables.{first_at}
 use Rattle.fb_device_arrivals.specs.Offering.{IsOutside}
 use Rattle.fb_device_arrivals.specs.Answers.{denial_of}
 use Rattle.fb_device_arrivals.proofs.SameKinds.{FirstAt, found_at, same_kinds}

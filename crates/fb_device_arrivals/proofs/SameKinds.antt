@@ -7,7 +7,7 @@ use Rattle.st_exec.specs.Cells.{Form}
 use Rattle.fb_chart.specs.declared.standing.Ports.{Ports}
 use Rattle.fb_chart.specs.declared.table.Block.{Block}
 use Rattle.fb_chart.specs.Views.{kind_of}
-use Rattle.fb_device_state.specs.fb_device_tables.Tables.{AreBlocks, first_at, later}
+use Rattle.fb_device_tables.specs.Tables.{AreBlocks, first_at, later}
 use Rattle.fb_device_state.specs.declared.program.Program.{Program}
 use Rattle.fb_device_state.specs.declared.program.Running.{Running}
 use Rattle.fb_device_state.specs.Sessions.{session_of}

@@ -4,7 +4,7 @@ ghost use Rattle.std.specs.Prelude.{◌≡◌, ◌≤◌, length, MatchOption};
 ghost use Rattle.fb_model.specs.Devices.{Deliver, IsShaped, format_in as format_sent, format_of as format_taken, is_input_numbered, is_subscriber};
 ghost use Rattle.fb_wire.specs.Views.{stamp_of};
 ghost use Rattle.fb_chart.specs.Views.{body_kind};
-ghost use Rattle.fb_device_state.specs.fb_device_tables.Tables.{AreNumbered, first_at};
+ghost use Rattle.fb_device_tables.specs.Tables.{AreNumbered, first_at};
 ghost use Rattle.fb_device_state.specs.Machines.{Steps};
 ghost use Rattle.fb_device_state.specs.Keeping.{IsGood};
 ghost use Rattle.fb_device_arrivals.specs.Answers.{admission_of};

@@ -16,7 +16,7 @@ use Rattle.fb_chart.specs.declared.memory.Condition.TheVariants as c
 use Rattle.fb_chart.specs.Conditions.{condition_at, IsConditionOf}
 use Rattle.fb_sched.specs.Order.{Timing, due_of}
 use Rattle.fb_sched.specs.Expiry.{AreArmed, moment_of}
-use Rattle.fb_chart.proofs.Lists.{all_got}
+use Rattle.fb_lists.proofs.Lists.{all_got}
 use Rattle.fb_device_state.proofs.Blocks.{within}
 use Rattle.fb_device_dispatch.specs.Rearming.{moment_in, CanRetime, HasRetimed}
 

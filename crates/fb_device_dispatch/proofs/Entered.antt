@@ -8,8 +8,8 @@ use Rattle.fb_model.specs.Certificates.{Certificate}
 use Rattle.fb_model.specs.Devices as book
 use Rattle.fb_model.specs.Devices.{Entry, put, is_pending, follow_ups}
 use Rattle.fb_chart.specs.declared.table.Point.{Point}
-use Rattle.fb_device_state.specs.fb_device_tables.Views.{place_at}
-use Rattle.fb_device_state.specs.fb_device_tables.Tables.{IsPoint}
+use Rattle.fb_device_tables.specs.Views.{place_at}
+use Rattle.fb_device_tables.specs.Tables.{IsPoint}
 use Rattle.fb_sched.specs.declared.ticket.Ticket.{Ticket}
 use Rattle.fb_sched.specs.declared.reaction.Reaction.{Reaction}
 use Rattle.fb_sched.specs.Agenda.{Agenda, IsAgenda, slot_at}

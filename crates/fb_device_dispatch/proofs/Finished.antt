@@ -14,8 +14,8 @@ use Rattle.fb_chart.specs.declared.standing.Ports.{Ports}
 use Rattle.fb_chart.specs.declared.memory.Condition.{Condition}
 use Rattle.fb_chart.specs.declared.memory.Memory.{Memory}
 use Rattle.fb_chart.specs.Dispatching.{CanDispatch, HasDispatched}
-use Rattle.fb_device_state.specs.fb_device_tables.declared.table.Resource.{Resource}
-use Rattle.fb_device_state.specs.fb_device_tables.Views.{place_at}
+use Rattle.fb_device_tables.specs.declared.table.Resource.{Resource}
+use Rattle.fb_device_tables.specs.Views.{place_at}
 use Rattle.fb_sched.specs.declared.ticket.Ticket.{Ticket}
 use Rattle.fb_sched.specs.declared.reaction.Reaction.{Reaction}
 use Rattle.fb_sched.specs.Agenda.{Agenda}
@@ -28,7 +28,7 @@ use Rattle.fb_device_state.specs.Machines.{device_in, cert_in, machine_of}
 use Rattle.fb_device_state.specs.Numbers.{event_at, steps_in, IsKnown}
 use Rattle.fb_device_state.specs.Keeping.{AllStand, IsGood}
 use Rattle.fb_chart.proofs.Stood.{read}
-use Rattle.fb_device_state.proofs.Lists.{same_at, set_stands}
+use Rattle.fb_lists.proofs.Lists.{same_at, set_stands}
 use Rattle.fb_device_state.proofs.Blocks.{steps_are, is_known, within}
 use Rattle.fb_device_state.proofs.Moved.{program_moved}
 use Rattle.fb_device_dispatch.specs.Rearming.{CanRetime, HasRetimed}

@@ -27,11 +27,11 @@ use Rattle.fb_chart.specs.Ports.{ServesPorts}
 use Rattle.fb_chart.specs.declared.memory.Condition.{Condition}
 use Rattle.fb_chart.specs.Conditions.{IsConditionOf, leaf_state}
 use Rattle.fb_chart.specs.Dispatching.{HasRoom, SendsWell, CanRun, Stand, CanDispatch}
-use Rattle.fb_device_state.specs.fb_verdict.Verdicts.{system_in}
-use Rattle.fb_check_columns.proofs.Small.{weights_at_most}
-use Rattle.fb_device_state.specs.fb_device_tables.declared.table.Resource.{Resource}
-use Rattle.fb_device_state.specs.fb_device_tables.Views.{place_at}
-use Rattle.fb_device_state.specs.fb_device_tables.Tables.{IsPoint, IsBlock, AreResources}
+use Rattle.fb_verified.specs.Checked.{system_in}
+use Rattle.fb_model_texts.proofs.Small.{weights_at_most}
+use Rattle.fb_device_tables.specs.declared.table.Resource.{Resource}
+use Rattle.fb_device_tables.specs.Views.{place_at}
+use Rattle.fb_device_tables.specs.Tables.{IsPoint, IsBlock, AreResources}
 use Rattle.fb_sched.specs.declared.ticket.Ticket.{Ticket}
 use Rattle.fb_sched.specs.declared.reaction.Reaction.{Reaction}
 use Rattle.fb_sched.specs.Agenda.{Agenda}
@@ -43,8 +43,7 @@ use Rattle.fb_device_state.specs.Sessions.{session_of}
 use Rattle.fb_device_state.specs.Machines.{device_in, cert_in, entries_in, machine_of}
 use Rattle.fb_device_state.specs.Keeping.{IsStanding, IsQueue, ArePlaced, IsGood}
 use Rattle.fb_device_dispatch.specs.Taking.{HasTaken}
-use Rattle.fb_chart.proofs.Lists.{all_got}
-use Rattle.fb_device_state.proofs.Lists.{same_at}
+use Rattle.fb_lists.proofs.Lists.{all_got, same_at}
 use Rattle.fb_device_state.proofs.Devices.{device_here}
 use Rattle.fb_device_state.proofs.Blocks.{Known, known, found, steps_are, within, standing, mapped}
 use Rattle.fb_device_state.proofs.Queued.{queue_here}

@@ -19,8 +19,8 @@ use Rattle.fb_chart.specs.declared.memory.Memory.{Memory}
 use Rattle.fb_chart.specs.Conditions.{IsConditionOf}
 use Rattle.fb_chart.specs.Dispatching.{HasDispatched}
 use Rattle.fb_chart.proofs.Stood.{set_twice}
-use Rattle.fb_device_state.specs.fb_device_tables.declared.table.Resource.{Resource}
-use Rattle.fb_device_state.specs.fb_device_tables.Views.{place_at}
+use Rattle.fb_device_tables.specs.declared.table.Resource.{Resource}
+use Rattle.fb_device_tables.specs.Views.{place_at}
 use Rattle.fb_sched.specs.declared.ticket.Ticket.{Ticket}
 use Rattle.fb_sched.specs.declared.reaction.Reaction.{Reaction}
 use Rattle.fb_sched.specs.Agenda.{Agenda}
@@ -32,7 +32,7 @@ use Rattle.fb_device_state.specs.declared.program.Running.{Running}
 use Rattle.fb_device_state.specs.Sessions.{session_of, next_of}
 use Rattle.fb_device_state.specs.Machines.{device_in, cert_in, entries_in, spent_in, standing, store_from, machine, machine_of}
 use Rattle.fb_device_state.specs.Keeping.{IsStanding, AllStand, IsQueue, IsGood}
-use Rattle.fb_device_state.proofs.Lists.{same_at, set_stands, get_other}
+use Rattle.fb_lists.proofs.Lists.{same_at, set_stands, get_other, map_set}
 use Rattle.fb_device_state.proofs.Storing.{store_set}
 use Rattle.fb_device_state.proofs.Queued.{queues_is, spent_put}
 use Rattle.fb_device_state.proofs.Kept.{set_cases, set_count}
@@ -40,7 +40,6 @@ use Rattle.fb_device_state.proofs.Moved.{program_moved}
 use Rattle.fb_device_dispatch.specs.Answers.{end_of, end_by}
 use Rattle.fb_device_dispatch.specs.Rearming.{HasRetimed}
 use Rattle.fb_device_dispatch.specs.Taking.{HasTaken, HasEntered}
-use Rattle.fb_device_dispatch.proofs.Lists.{map_set}
 use Rattle.fb_device_dispatch.proofs.Happening as at
 use Rattle.fb_device_dispatch.proofs.Outcomes as out
 use Rattle.fb_device_dispatch.proofs.Entered.{Passes, mid_holds, one_reaction, pending_kept, placed_kept, entries_end, spent_end, ended_is}

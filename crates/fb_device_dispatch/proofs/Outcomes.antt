@@ -23,8 +23,8 @@ use Rattle.fb_chart.specs.declared.memory.Memory.{Memory}
 use Rattle.fb_chart.specs.Responses.{effect_of}
 use Rattle.fb_chart.specs.Conditions.{leaf_state}
 use Rattle.fb_chart.specs.Dispatching.{HasDispatched}
-use Rattle.fb_device_state.specs.fb_device_tables.Views.{place_at}
-use Rattle.fb_device_state.specs.fb_device_tables.Tables.{IsPoint}
+use Rattle.fb_device_tables.specs.Views.{place_at}
+use Rattle.fb_device_tables.specs.Tables.{IsPoint}
 use Rattle.fb_sched.specs.declared.ticket.Ticket.{Ticket}
 use Rattle.fb_sched.specs.Agenda.{Agenda, slot_at}
 use Rattle.fb_sched.specs.Entries.{entries, entry_by, booked}

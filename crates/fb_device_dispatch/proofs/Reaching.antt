@@ -24,8 +24,8 @@ use Rattle.fb_model.proofs.Starting.{fine}
 use Rattle.fb_chart.specs.declared.table.Output.{Output}
 use Rattle.fb_chart.specs.Sending.{targets_of, sent_to}
 use Rattle.fb_chart.specs.Charting.{steps_at, CanGoOn}
-use Rattle.fb_device_state.specs.fb_device_tables.Views.{place_at}
-use Rattle.fb_device_state.specs.fb_device_tables.Tables.{IsPoint, LeadsTo}
+use Rattle.fb_device_tables.specs.Views.{place_at}
+use Rattle.fb_device_tables.specs.Tables.{IsPoint, LeadsTo}
 
 -- ---- what outputs reach, by the table and by the leaf
 

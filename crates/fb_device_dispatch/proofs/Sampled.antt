@@ -30,10 +30,10 @@ use Rattle.fb_chart.specs.Sampling.{length_among, IsSource, CanTake, output_in, 
 use Rattle.fb_chart.specs.declared.standing.Ports.{Ports}
 use Rattle.fb_chart.specs.declared.memory.Condition.{Condition}
 use Rattle.fb_chart.specs.Conditions.{leaf_state}
-use Rattle.fb_device_state.specs.fb_device_tables.Tables.{IsFilled, IsOrigin, IsTaken, IsBlock}
+use Rattle.fb_device_tables.specs.Tables.{IsFilled, IsOrigin, IsTaken, IsBlock}
 use Rattle.fb_device_state.specs.Machines.{standing, store_from}
 use Rattle.fb_device_state.specs.Keeping.{IsStanding, AllStand}
-use Rattle.fb_chart.proofs.Lists.{all_got}
+use Rattle.fb_lists.proofs.Lists.{all_got}
 use Rattle.fb_device_state.proofs.Storing.{stored_at}
 use Rattle.fb_device_state.proofs.Blocks.{mapped}
 

@@ -5,8 +5,7 @@ use Rattle.fb_sched.specs.declared.ticket.Ticket.{Ticket}
 use Rattle.fb_sched.specs.Agenda.{Agenda, IsAgenda}
 use Rattle.fb_sched.specs.Changes.{Takes}
 use Rattle.fb_device_dispatch.specs.Taking.{IsIdle, HasTaken}
-use Rattle.fb_device_state.proofs.Lists.{same_at}
-use Rattle.fb_device_dispatch.proofs.Lists.{set_same}
+use Rattle.fb_lists.proofs.Lists.{same_at, set_same}
 
 pub taken : (old : List Agenda) (q : ℕ) (was new : Agenda) → slice_get old q ≡ Some was → (o : Option Ticket) → IfNone o ((was.tickets ≡ []) × (new ≡ was)) → IfSome o (λ first. Takes was first new) → IsAgenda new
     → MatchOption o (IsIdle old q (set old q new)) (λ first. HasTaken old q first (set old q new))

@@ -5,8 +5,8 @@ use Rattle.fb_model.specs.Wires.{Leaf}
 use Rattle.fb_model.specs.Devices as book
 use Rattle.fb_sched.specs.declared.reaction.Reaction.{Reaction}
 use Rattle.fb_chart.specs.Responses.{effect_of}
-use Rattle.fb_device_state.specs.fb_device_tables.Views.{place_at}
-use Rattle.fb_device_state.specs.fb_device_tables.Tables.{IsPoint}
+use Rattle.fb_device_tables.specs.Views.{place_at}
+use Rattle.fb_device_tables.specs.Tables.{IsPoint}
 use Rattle.fb_device_dispatch.specs.declared.answer.Ended.{Ended}
 use Rattle.fb_device_dispatch.specs.declared.answer.Dispatched.{Dispatched}
 use Rattle.fb_device_dispatch.specs.declared.answer.Dispatched.TheVariants.{Idle, Ran}

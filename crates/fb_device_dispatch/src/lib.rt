@@ -9,5 +9,3 @@ mod timing;
 
 pub use answer::{Dispatched, Ended, Ran};
 pub use dispatching::dispatch;
-pub use fb_device_state;
-pub use fb_device_state::{fb_device_tables, fb_device_values, fb_verdict};

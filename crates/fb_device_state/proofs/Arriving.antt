@@ -19,7 +19,7 @@ use Rattle.fb_model.specs.Headline.{IsSound}
 use Rattle.fb_model.proofs.Homes.{homes}
 use Rattle.fb_model.proofs.Admitting.{sound_admitted}
 use Rattle.fb_model.proofs.Ending.{depth_le}
-use Rattle.fb_chart.proofs.Lists.{all_got}
+use Rattle.fb_lists.proofs.Lists.{all_got, same_at}
 use Rattle.st_exec.specs.Cells.{Form, forms_of}
 use Rattle.fb_chart.specs.declared.table.Point.{Point}
 use Rattle.fb_chart.specs.declared.table.Event.{Event}
@@ -44,7 +44,6 @@ use Rattle.fb_device_state.specs.Sessions.{session_of, next_of}
 use Rattle.fb_device_state.specs.Machines.{device_in, cert_in, entries_in, standing, store_from, spent_in, machine, machine_of}
 use Rattle.fb_device_state.specs.Keeping.{AllStand, IsQueue, IsGood}
 use Rattle.fb_device_state.specs.Arrivals.{IsArrival, IsShort}
-use Rattle.fb_device_state.proofs.Lists.{same_at}
 use Rattle.fb_device_state.proofs.Blocks.{Known, known, places_are, within, is_in_at}
 use Rattle.fb_device_state.proofs.Queued.{queue_here, queues_is, spent_put, not_here, no_steps}
 use Rattle.fb_device_state.proofs.Kept.{set_cases, set_count, opens_placed}

@@ -17,7 +17,7 @@ use Rattle.st_exec.specs.Cells.{Form}
 use Rattle.fb_device_tables.specs.Views.{place_in, place_at}
 use Rattle.fb_device_tables.specs.Tables.{IsPoint, IsWeighed, IsBlock, AreBlocks}
 use Rattle.fb_device_state.specs.Numbers.{IsKnown}
-use Rattle.fb_chart.proofs.Lists.{all_got}
+use Rattle.fb_lists.proofs.Lists.{all_got}
 
 -- a block, its ports and the forms of its stores have the number of its leaf
 pub record Pair (cert : Certificate) (all : List Leaf) (issues owns rest : List (List Form)) (xs : List Block) (ps : List Ports) (i : ℕ) (leaf : Leaf) : Type 0 where

@@ -2,7 +2,7 @@
 use Rattle.std.proofs.Common.{◌≡◌, ℕ, zero, suc, ◌<◌, List, [], ◌∷◌, length, slice_get, Some, refl, arith}
 use Rattle.std.proofs.lemmas.List.{length-map}
 use Rattle.fb_model.specs.System.{Device}
-use Rattle.fb_device_tables.specs.fb_verdict.Verdicts.{system_in}
+use Rattle.fb_verified.specs.Checked.{system_in}
 use Rattle.fb_types.specs.Views.{device_of}
 use Rattle.fb_device_state.specs.declared.program.Program.{Program}
 use Rattle.fb_device_state.specs.declared.program.Running.{Running}

@@ -13,8 +13,7 @@ use Rattle.fb_chart.specs.declared.memory.Condition.{Condition}
 use Rattle.fb_chart.specs.declared.memory.Condition.TheVariants as c
 use Rattle.fb_chart.specs.Conditions.{leaf_state}
 use Rattle.fb_device_state.specs.Machines.{cells_at, remembered, standing, store_from}
-use Rattle.fb_chart.proofs.Lists.{all_got}
-use Rattle.fb_device_state.proofs.Lists.{get_other, set_stands}
+use Rattle.fb_lists.proofs.Lists.{all_got, get_other, set_stands}
 
 -- a leaf is in the state of its number
 pub stored : (k : ℕ) (all : List Leaf) (f : ℕ → Kind → LeafState) (i : ℕ) (leaf : Leaf) → AreApart all → slice_get all i ≡ Some leaf → store_from k all f leaf.path ≡ f (k + i) leaf.kind

@@ -8,7 +8,7 @@ use Rattle.fb_model.specs.Devices.{places_row}
 use Rattle.fb_model.specs.Headline.{IsSound}
 use Rattle.st_exec.specs.Cells.{Cell, forms_of}
 use Rattle.fb_chart.specs.Sampling.{AreStores}
-use Rattle.fb_device_tables.specs.fb_verdict.Verdicts.{IsChecked}
+use Rattle.fb_verified.specs.Checked.{IsChecked}
 use Rattle.fb_device_tables.specs.declared.table.Resource.{Resource}
 use Rattle.fb_device_tables.specs.Views.{place_at}
 use Rattle.fb_device_tables.specs.Tables.{IsPoint, AreTables}

@@ -8,7 +8,7 @@ use Rattle.fb_model.specs.Certificates.{Certificate}
 use Rattle.fb_model.specs.Devices as book
 use Rattle.fb_model.specs.Devices.{Machine, first_stamp}
 use Rattle.st_exec.specs.Cells.{Cell}
-use Rattle.fb_device_tables.specs.fb_verdict.Verdicts.{system_in, certificate_in}
+use Rattle.fb_verified.specs.Checked.{system_in, certificate_in}
 use Rattle.fb_device_tables.specs.Views.{place_at}
 use Rattle.fb_chart.specs.declared.memory.Condition.{Condition}
 use Rattle.fb_chart.specs.declared.memory.Condition.TheVariants as c

@@ -1,7 +1,7 @@
 -- What contracts see of a device: what was checked, and how far the device has come, in lists.
 use Rattle.std.specs.Prelude.{ℕ, ◌^◌, List, Option, None, Some}
 use Rattle.st_exec.specs.Cells.{Cell}
-use Rattle.fb_device_tables.specs.fb_verdict.declared.verified.Verified.{Verified}
+use Rattle.fb_verified.specs.declared.verified.Verified.{Verified}
 use Rattle.fb_chart.specs.declared.memory.Condition.{Condition}
 use Rattle.fb_sched.specs.Agenda.{Agenda}
 use Rattle.fb_device_state.specs.declared.program.Program.{Program}

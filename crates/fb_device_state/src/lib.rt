@@ -6,6 +6,4 @@ mod admission;
 mod program;
 
 pub use admission::{Shortage, admit};
-pub use fb_device_tables;
-pub use fb_device_tables::{fb_device_values, fb_verdict};
 pub use program::{Program, Running};

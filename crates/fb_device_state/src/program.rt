@@ -2,8 +2,8 @@
 
 use fb_chart::Memory;
 use fb_device_tables::Tables;
-use fb_device_tables::fb_verdict::Verified;
 use fb_sched::{Outbox, Queue, Timers};
+use fb_verified::Verified;
 use std::rc::Rc;
 
 /// What was checked, which devices share, the number of the device in it, and its tables.

@@ -23,7 +23,8 @@ use Rattle.st_exec.specs.Forms.{Form}
 use Rattle.fb_chart.specs.Tables.{Each, IsOptional, IsProcedure, IsAction, IsState, IsTransition, leaving}
 use Rattle.fb_device_tables.specs.declared.chart.Shared.{Shared}
 use Rattle.fb_device_tables.specs.Filling.{NamedActions, Routine, IsOptionalNumber, IsActionMade, IsStateMade, IsTransitionMade, IsProcedureMade, IsCodeMade, IsCodeOf, IsShared, leaving_from, most_numbers}
-use Rattle.fb_device_tables.proofs.Lists.{each_map, each_weaker, each_image, all_source}
+use Rattle.fb_lists.proofs.Lists.{all_source}
+use Rattle.fb_device_tables.proofs.Lists.{each_map, each_weaker, each_image}
 use Rattle.fb_device_tables.proofs.Routines.{routine_of}
 use Rattle.fb_device_tables.proofs.Leaving.{leaving_map, all_leaving}
 use Rattle.fb_device_tables.proofs.Numbers.{entry_state, event_names_are, state_names_are}

@@ -18,7 +18,7 @@ use Rattle.fb_device_values.specs.First.{HaveFirstCells}
 use Rattle.fb_model.specs.Certificates.{DeviceHolds, IsWired, name_at, depth_at}
 use Rattle.fb_model.specs.CertificateText.{names_in}
 use Rattle.fb_model_laws.specs.Words.{IsWordyLeaf, IsWordyDevice}
-use Rattle.fb_device_values.proofs.of_fb_verdict.Composed.{devices_hold}
+use Rattle.fb_verified.proofs.Written.{devices_hold, words}
 use Rattle.fb_model_laws.specs.Leaves.{AreApart, IsClosed, OnChart}
 use Rattle.fb_model_laws.proofs.Charts.{on_charts}
 use Rattle.fb_model_laws.proofs.Taking.{TakesInputs, all_take_inputs}
@@ -36,17 +36,17 @@ use Rattle.fb_flat.specs.declared.flat.FlatDevice.{FlatDevice}
 use Rattle.fb_flat.specs.Tables.{IsDevice, AreDevices}
 use Rattle.fb_flat.specs.Sites.{dotted}
 use Rattle.fb_flat.proofs.Dotted.{names_dotted, word_alone}
-use Rattle.fb_device_values.specs.fb_verdict.declared.verified.Verified.{Verified}
-use Rattle.fb_device_values.specs.fb_verdict.Verdicts.{system_in, certificate_in, IsChecked}
-use Rattle.fb_device_values.proofs.of_fb_verdict.Reading.{words}
-use Rattle.fb_device_values.proofs.of_fb_verdict.Composed as composed
+use Rattle.fb_verified.specs.declared.verified.Verified.{Verified}
+use Rattle.fb_verified.specs.Checked.{system_in, certificate_in, IsChecked}
+use Rattle.fb_verified.proofs.Written as written
 use Rattle.fb_model.specs.Devices.{is_input_numbered, is_subscriber}
 use Rattle.fb_device_tables.specs.declared.table.Resource.{Resource}
 use Rattle.fb_device_tables.specs.declared.table.Tables.{Tables}
 use Rattle.fb_device_tables.specs.Tables.{AreBlocks, AreResources, AreNumbered, AreTables}
 use Rattle.fb_chart.specs.Tables.{Each}
 use Rattle.fb_device_tables.specs.Filling.{Numbered, numbered_from, Seated, AreSeats, paths_of, IsBlockMade, IsPortsMade, IsResourceMade, most_numbers}
-use Rattle.fb_chart.proofs.Lists.{all_got, each_length}
+use Rattle.fb_lists.proofs.Lists.{all_got}
+use Rattle.fb_chart.proofs.Lists.{each_length}
 use Rattle.fb_device_tables.proofs.Leaves.{IsNumbered, IsSeated, seats_from, all_numbered, as_many_resources, paths_apart}
 use Rattle.fb_device_tables.proofs.Points.{HasFew, IsKnownLeaf, AreKnown}
 use Rattle.fb_device_tables.proofs.Blocks.{blocks_are}
@@ -73,7 +73,7 @@ as_many (f ∷ fs) (d ∷ ds) a = ap suc (as_many fs ds a.1)
 
 -- what was checked has tables of as many devices
 pub as_many_devices : (v : Verified) → IsChecked v → length v.flat.devices.items ≡ length (system_in v).devices
-as_many_devices v checked = as_many v.flat.devices.items (system_in v).devices (composed.tables_are (system_in v) v.flat.devices.items checked.written checked.tables)
+as_many_devices v checked = as_many v.flat.devices.items (system_in v).devices (written.tables_are (system_in v) v.flat.devices.items checked.written checked.tables)
 
 typed_at : (ts : List from_device.Device) (n : ℕ) (t : from_device.Device) (d : book.Device) → slice_get (map device_of ts) n ≡ Some d → t ≡ get_or ts n t → device_of t ≡ d
 typed_at [] n t d e g = absurd cc
@@ -110,7 +110,7 @@ known_at v n f d checked e g =
     let s = system_in v in
     let w = checked.written in
     let elaborated = w.1.typed.typed in
-    let flat = flat_at v.flat.devices.items s.devices n d f (composed.tables_are s v.flat.devices.items w checked.tables) e g in
+    let flat = flat_at v.flat.devices.items s.devices n d f (written.tables_are s v.flat.devices.items w checked.tables) e g in
     let few = all_got (λ (x : book.Device). (length (leaves x) ≤ 16384) × (length x.resources ≤ 16)) s.devices n d (devices_few _ _ s elaborated) e in
     let holds = all_got (DeviceHolds (certificate_in v)) s.devices n d (devices_hold s (certificate_in v) w checked.fits) e in
     record {

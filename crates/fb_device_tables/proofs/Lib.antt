@@ -1,4 +1,3 @@
-pub use Rattle.fb_device_values.proofs.of_fb_verdict as of_fb_verdict
 pub mod Lists
 pub mod Numbers
 pub mod Slots

@@ -2,6 +2,7 @@
 use Rattle.std.proofs.Common.{◌≡◌, ℕ, zero, suc, ◌+◌, ◌<◌, List, [], ◌∷◌, ◌++◌, map, take, length, get_or, slice_get, Some, refl, sym, ap, subst, ◌∙◌, arith}
 use Rattle.std.specs.List.{AllByRecursion}
 use Rattle.std.proofs.lemmas.List.{take_more}
+use Rattle.fb_lists.proofs.Lists.{default_free, there_at}
 use Rattle.fb_model.proofs.Lists.{got}
 use Rattle.fb_chart.specs.Tables.{Each}
 
@@ -52,11 +53,6 @@ each_at R (x ∷ xs) [] n h l = absurd h
 each_at R (x ∷ xs) (y ∷ ys) zero h l = (x, y, refl, refl, h.0)
 each_at R (x ∷ xs) (y ∷ ys) (suc n) h l = each_at R xs ys n h.1 (omega arith)
 
-pub there : {X Y : Type 0} (f : X → Y) (xs : List X) (i : ℕ) (x : X) → i < length xs → x ≡ get_or xs i x → (i < length (map f xs)) × (f x ≡ get_or (map f xs) i (f x))
-there f [] i x l e = absurd (omega arith)
-there f (y ∷ xs) zero x l e = (omega arith, ap f e)
-there f (y ∷ xs) (suc i) x l e = let k = there f xs i x (omega arith) e in (omega (arith, k.0), k.1)
-
 pub each_map : {X Y : Type 0} (R S : X → Y → Type 0) (xs : List X) (ys : List Y) → ((x : X) (y : Y) → R x y → S x y) → Each R xs ys → Each S xs ys
 each_map R S [] [] f h = tt
 each_map R S [] (y ∷ ys) f h = absurd h
@@ -78,21 +74,11 @@ image_at f (y ∷ xs) zero x h = let e : y ≡ x = cc in ap (λ z. Some (f z)) e
 image_at f (y ∷ xs) (suc n) x h = image_at f xs n x h
 
 pub got_at : {X Y : Type 0} (f : X → Y) (xs : List X) (i : ℕ) (x : X) → Some x ≡ slice_get xs i → (i < length (map f xs)) × (f x ≡ get_or (map f xs) i (f x))
-got_at f xs i x h = let k = got xs i x h in there f xs i x k.0 k.1
-
-pub all_source : {X Y : Type 0} (Q : X → Type 0) (P : Y → Type 0) (f : X → Y) (xs : List X) → ((x : X) → P (f x) → Q x) → AllByRecursion P (map f xs) → AllByRecursion Q xs
-all_source Q P f [] g h = tt
-all_source Q P f (x ∷ xs) g h = (g x h.0, all_source Q P f xs g h.1)
-
--- what stands at an index does not hang on what else there might be
-got_either : {X : Type 0} (xs : List X) (i : ℕ) (d e : X) → i < length xs → get_or xs i d ≡ get_or xs i e
-got_either [] i d e l = absurd (omega arith)
-got_either (x ∷ xs) zero d e l = refl
-got_either (x ∷ xs) (suc i) d e l = got_either xs i d e (omega arith)
+got_at f xs i x h = let k = got xs i x h in there_at f xs i x k.0 k.1
 
 -- one more of images and of what is made of them
 pub each_image_more : {X Y Z : Type 0} (R : Z → Y → Type 0) (f : X → Z) (xs : List X) (i : ℕ) (d : X) (ys new : List Y) (y : Y) → i < length xs → new ≡ ys ++ y ∷ [] → Each R (take i (map f xs)) ys → R (f (get_or xs i d)) y → Each R (take (i + 1) (map f xs)) new
 each_image_more R f xs i d ys new y l n h r =
     let x = get_or xs i d in
-    let g = there f xs i x l (got_either xs i d x l) in
+    let g = there_at f xs i x l (default_free xs i d x l) in
     each_more R (map f xs) i (f x) ys new y g.0 g.1 n h r

@@ -35,8 +35,9 @@ use Rattle.fb_chart.specs.Tables.{Each}
 use Rattle.fb_device_tables.specs.Views.{place_in, place_at}
 use Rattle.fb_device_tables.specs.Tables.{IsPoint, LeadsTo}
 use Rattle.fb_device_tables.specs.Filling.{Seated, paths_of, IsNumber, IsPointMade, IsOutputMade, most_numbers}
-use Rattle.fb_chart.proofs.Lists.{all_got, each_length}
-use Rattle.fb_device_tables.proofs.Lists.{image_at, each_at, each_map, each_weaker, each_same, each_second, all_source}
+use Rattle.fb_lists.proofs.Lists.{all_got, all_source}
+use Rattle.fb_chart.proofs.Lists.{each_length}
+use Rattle.fb_device_tables.proofs.Lists.{image_at, each_at, each_map, each_weaker, each_same, each_second}
 use Rattle.fb_device_tables.proofs.Leaves.{IsSeated}
 
 -- ---- the events and outputs of a leaf

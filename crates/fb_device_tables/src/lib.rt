@@ -18,7 +18,5 @@ mod take;
 mod taker;
 mod target;
 
-pub use fb_device_values;
-pub use fb_device_values::fb_verdict;
 pub use number::tables;
 pub use table::{Resource, Tables};

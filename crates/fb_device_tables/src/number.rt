@@ -5,7 +5,7 @@ ghost use Rattle.fb_model.specs.System.{Device};
 ghost use Rattle.fb_model.specs.Wires.{leaves};
 ghost use Rattle.st_exec.specs.Cells.{forms_of};
 ghost use Rattle.fb_cert.specs.Views.{count_in};
-ghost use Rattle.fb_device_values.specs.fb_verdict.Verdicts.{system_in, certificate_in};
+ghost use Rattle.fb_verified.specs.Checked.{system_in, certificate_in};
 ghost use Rattle.fb_device_values.specs.First.{HaveFirstCells};
 ghost use Rattle.fb_device_tables.specs.Tables.{AreTables};
 ghost use Rattle.fb_chart.specs.Tables.{Each};
@@ -18,8 +18,8 @@ use crate::table::{Resource, Tables};
 use crate::taker::{Taker, numbered};
 use fb_cert::Certificate;
 use fb_device_values::FirstValues;
-use fb_device_values::fb_verdict::Verified;
 use fb_flat::joined;
+use fb_verified::Verified;
 use std::alloc::{AllocError, Global};
 
 // The depth of a row, 0 where there is none.

@@ -10,20 +10,20 @@ use Rattle.fb_model.specs.Wires.{leaves, resource_leaves, leaves_from}
 use Rattle.fb_model.specs.Store.{variable_names, inputs}
 use Rattle.fb_model.specs.Ranges.{Range, LeafLies}
 use Rattle.fb_model.specs.Certificates.{DeviceHolds}
-use Rattle.fb_verdict.proofs.Composed.{devices_hold}
+use Rattle.fb_verified.proofs.Written.{devices_hold}
 use Rattle.fb_model_laws.specs.Leaves.{IsFed}
 use Rattle.fb_model_laws.proofs.Values.{all_fed}
 use Rattle.st_exec.specs.Cells.{Cell}
-use Rattle.fb_chart.proofs.Lists.{all_got}
+use Rattle.fb_lists.proofs.Lists.{all_got}
 use Rattle.fb_flat.specs.declared.flat.Leaf.{Leaf}
 use Rattle.fb_flat.specs.declared.flat.FlatResource.{FlatResource}
 use Rattle.fb_flat.specs.declared.flat.FlatDevice.{FlatDevice}
 use Rattle.fb_flat.specs.Sources.{written_inputs}
 use Rattle.fb_flat.specs.Tables.{AreLeaves, AreResources, IsDevice, AreDevices}
 use Rattle.fb_flat.proofs.Few.{IsSmallKind, services_small, inputs_written}
-use Rattle.fb_verdict.specs.declared.verified.Verified.{Verified}
-use Rattle.fb_verdict.specs.Verdicts.{system_in, certificate_in, IsChecked}
-use Rattle.fb_verdict.proofs.Composed as composed
+use Rattle.fb_verified.specs.declared.verified.Verified.{Verified}
+use Rattle.fb_verified.specs.Checked.{system_in, certificate_in, IsChecked}
+use Rattle.fb_verified.proofs.Written as written
 use Rattle.fb_device_values.specs.First.{HaveFirstCells}
 use Rattle.fb_device_values.specs.Filling.{AreFilled, leaves_in}
 use Rattle.fb_device_values.specs.declared.first.FirstValues.{FirstValues}
@@ -46,7 +46,7 @@ as_many (f ∷ fs) (d ∷ ds) a = ap suc (as_many fs ds a.1)
 
 -- what was checked has tables of as many devices
 pub as_many_devices : (v : Verified) → IsChecked v → length v.flat.devices.items ≡ length (system_in v).devices
-as_many_devices v checked = as_many v.flat.devices.items (system_in v).devices (composed.tables_are (system_in v) v.flat.devices.items checked.written checked.tables)
+as_many_devices v checked = as_many v.flat.devices.items (system_in v).devices (written.tables_are (system_in v) v.flat.devices.items checked.written checked.tables)
 
 -- ---- leaves of all resources
 
@@ -95,6 +95,6 @@ known_at v n d checked e =
 pub firsts_are : (v : Verified) (n : ℕ) (f : FlatDevice) (d : book.Device) (r : Result FirstValues AllocError) → IsChecked v → slice_get (system_in v).devices n ≡ Some d → f ≡ get_or v.flat.devices.items n f
     → IfOk r (λ x. AreFilled (leaves_in f.resources.items) x.own.items x.issued.items) → IfOk r (λ x. HaveFirstCells (leaves d) x.own.items x.issued.items)
 firsts_are v n f d (Ok x) checked e g h =
-    let flat = flat_at v.flat.devices.items (system_in v).devices n d f (composed.tables_are (system_in v) v.flat.devices.items checked.written checked.tables) e g in
+    let flat = flat_at v.flat.devices.items (system_in v).devices n d f (written.tables_are (system_in v) v.flat.devices.items checked.written checked.tables) e g in
     all_first (certificate_in v).ranges (leaves_in f.resources.items) (leaves d) x.own.items x.issued.items (leaves_are 0 (d.name ∷ []) f.resources.items d.resources flat.resources) (known_at v n d checked e) h
 firsts_are v n f d (Err x) checked e g h = tt

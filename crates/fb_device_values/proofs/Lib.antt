@@ -1,4 +1,3 @@
-pub use Rattle.fb_verdict.proofs as of_fb_verdict
 pub mod Drafting
 pub mod Adding
 pub mod Starts

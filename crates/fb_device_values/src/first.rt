@@ -3,14 +3,14 @@
 ghost use Rattle.std.specs.Prelude.{◌≡◌, ◌<◌, ◌++◌, List, Some, length, slice_get, IfOk, OnOk};
 ghost use Rattle.fb_model.specs.System.{Device};
 ghost use Rattle.fb_model.specs.Wires.{leaves};
-ghost use Rattle.fb_verdict.specs.Verdicts.{system_in};
+ghost use Rattle.fb_verified.specs.Checked.{system_in};
 ghost use Rattle.fb_flat.specs.declared.flat.Leaf as flat;
 ghost use Rattle.fb_device_values.specs.First.{HaveFirstCells};
 ghost use Rattle.fb_device_values.specs.Filling.{AreFilled, leaves_in};
 
 use crate::leaf::{issued_values, own_values};
 use fb_flat::{FlatResource, Leaf};
-use fb_verdict::Verified;
+use fb_verified::Verified;
 use st_exec::{Layout, Store};
 use std::alloc::{AllocError, Global};
 use std::rc::Rc;

@@ -10,5 +10,4 @@ mod making;
 mod number;
 mod port;
 
-pub use fb_verdict;
 pub use first::{FirstValues, first_values};

@@ -6,8 +6,8 @@ use Rattle.fb_model.specs.Spelling.{IsWord}
 use Rattle.fb_model.specs.System as book
 use Rattle.fb_model.specs.CertificateText.{names_in}
 use Rattle.fb_model_laws.specs.Words.{IsWordyDevice}
-use Rattle.fb_verdict.specs.Verdicts.{IsWritten}
-use Rattle.fb_verdict.proofs.Reading.{words}
+use Rattle.fb_types.specs.Written.{IsWritten}
+use Rattle.fb_verified.proofs.Written.{words}
 use Rattle.fb_flat.proofs.Dotted.{names_back}
 use Rattle.fb_types.specs.declared.typed.Configuration.{Configuration}
 use Rattle.fb_types.specs.declared.typed.Device.{Device}
@@ -19,7 +19,8 @@ use Rattle.fb_find_rows.specs.declared.fault.NoBound.TheVariants.{OutOfMemory, C
 use Rattle.fb_find_rows.specs.Needs.{IsPastFault}
 use Rattle.fb_find.specs.Bounds.{follows_many, IsNeverBound}
 use Rattle.fb_find.specs.Crowds.{IsCrowded}
-use Rattle.fb_find.proofs.Lists.{all_at, in_image}
+use Rattle.fb_lists.proofs.Lists.{all_here}
+use Rattle.fb_find.proofs.Lists.{in_image}
 
 pub past_any : {X : Type 0} (P : Name → X → Type 0) (xs ys : List X) (i : ℕ) (x : X) → ys ≡ xs → i < length ys → x ≡ get_or ys i x → (fault : NoBound) → IsPastFault (λ t. P t x) fault → IsPastFault (λ t. Any (P t) xs) fault
 past_any P xs ys i x same l e OutOfMemory h = tt
@@ -47,7 +48,7 @@ above repeats t (Limit resource) w h =
     follows_many (device_of d) (resource_of r) at_device at_resource (ap names_in k.4.0 ∙ names_back (string_bytes d.name) (string_bytes r.name ∷ []) wordy.name (name, tt)) k.4.1
   where
     one_of : (ds : List book.Device) (d : book.Device) → AllByRecursion IsWordyDevice ds → Contains ds d → IsWordyDevice d
-    one_of ds d a c = all_at IsWordyDevice ds c.0 d a c.1 c.2
+    one_of ds d a c = all_here IsWordyDevice ds c.0 d a c.1 c.2
 
     one_word : (rs : List book.Resource) (r : book.Resource) → AllByRecursion (λ (r : book.Resource). IsWord r.name) rs → Contains rs r → IsWord r.name
-    one_word rs r a c = all_at (λ (r : book.Resource). IsWord r.name) rs c.0 r a c.1 c.2
+    one_word rs r a c = all_here (λ (r : book.Resource). IsWord r.name) rs c.0 r a c.1 c.2

@@ -17,11 +17,10 @@ use Rattle.fb_model_laws.specs.Demands.{Node, IsClosedWalk}
 use Rattle.fb_model_laws.proofs.Walks.{walks_exclude}
 use Rattle.fb_model_laws.proofs.Networks.{networks_exclude}
 use Rattle.fb_find_rows.specs.Places.{node_of}
-use Rattle.fb_verdict.specs.Verdicts.{IsWritten}
+use Rattle.fb_types.specs.Written.{IsWritten}
 use Rattle.fb_flat.specs.declared.flat.FlatDevice.{FlatDevice}
 use Rattle.fb_flat.specs.Leaves.{flat_device, written_device}
-use Rattle.fb_verdict.proofs.Reading.{with_event_trees, words}
-use Rattle.fb_verdict.proofs.Composed.{tables_are as written_tables}
+use Rattle.fb_verified.proofs.Written.{with_event_trees, words, tables_are as written_tables}
 use Rattle.std.specs.declared.string.String.{String}
 use Rattle.std.specs.declared.alloc.Global.{Global}
 use Rattle.fb_cert.specs.declared.certificate.Certificate.{Certificate}

@@ -1,18 +1,13 @@
 -- Lists.
-use Rattle.std.proofs.Common.{◌≡◌, ◌<◌, ℕ, zero, suc, refl, ap, subst, arith, List, [], ◌∷◌, length, map, slice_index_or, Contains, Some}
+use Rattle.std.proofs.Common.{◌≡◌, ◌<◌, ℕ, zero, suc, refl, ap, arith, List, [], ◌∷◌, length, map, slice_index_or, Contains, Some}
 use Rattle.std.specs.Prelude.{slice_get}
 use Rattle.std.specs.List.{AllByRecursion, AllZip, Any}
 use Rattle.std.proofs.lemmas.List.Elements.{Contains-append_right}
-
--- what holds of all holds at each place
-pub all_at : {X : Type 0} (P : X → Type 0) (xs : List X) (k : ℕ) (x : X) → AllByRecursion P xs → k < length xs → slice_index_or xs k x ≡ x → P x
-all_at P [] k x a l e = absurd (omega (arith, l))
-all_at P (y ∷ ys) zero x a l e = subst P e a.0
-all_at P (y ∷ ys) (suc k) x a l e = all_at P ys k x a.1 (omega (arith, l)) e
+use Rattle.fb_lists.proofs.Lists.{all_here}
 
 -- so none lacks it
 pub none_lacks : {X : Type 0} (P Q : X → Type 0) (xs : List X) → ((x : X) → P x → Q x → ⊥) → AllByRecursion P xs → Any Q xs → ⊥
-none_lacks P Q xs f a h = f h.1 (all_at P xs h.0 h.1 a h.2 h.3) h.4
+none_lacks P Q xs f a h = f h.1 (all_here P xs h.0 h.1 a h.2 h.3) h.4
 
 pub zip_length : {A B : Type 0} (R : A → B → Type 0) (xs : List A) (ys : List B) → AllZip R xs ys → length xs ≡ length ys
 zip_length R [] [] h = refl

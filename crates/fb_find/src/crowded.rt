@@ -4,7 +4,7 @@ ghost use Rattle.std.specs.Prelude.{◌≡◌, ◌≤◌, ℕ, Option, map, stri
 ghost use Rattle.std.specs.List.{AllByRecursion, Any};
 ghost use Rattle.fb_model.specs.Certificates.{FollowsFew};
 ghost use Rattle.fb_model.specs.Wires.{most_followed, resource_count};
-ghost use Rattle.fb_verdict.specs.Verdicts.{IsWritten};
+ghost use Rattle.fb_types.specs.Written.{IsWritten};
 ghost use Rattle.fb_flat.specs.Leaves.{flat_device, written_device};
 ghost use Rattle.fb_types.specs.Views.{system_of, resource_of, device_of};
 ghost use Rattle.fb_find_rows.specs.Needs.{IsPastFault};

@@ -1,36 +1,12 @@
 //! The channels of a system.
 
 ghost use Rattle.std.specs.Prelude.{◌≡◌, ◌==◌, ◌<◌, ◌+◌, ◌-◌, ◌∷◌, ◌++◌, nat_lt, map, drop, slice_index, string_bytes, length, IfOk, OnOk};
-ghost use Rattle.fb_model.specs.Wires.{Serviced};
-ghost use Rattle.fb_model.specs.Certificates.{channel_in, with_number, with_repeats};
-ghost use Rattle.fb_types_services.specs.Views.{service_of};
-ghost use Rattle.fb_flat.specs.Leaves.{kind_of};
+ghost use Rattle.fb_model.specs.Certificates.{with_number, with_repeats};
 ghost use Rattle.fb_find_demands.specs.Ends.{channels_in, end_in, names_channel, with_channel};
 
-use fb_flat::{Body, Leaf};
-use fb_types_services::Service;
+use fb_check_rows::channel_of;
+use fb_flat::Leaf;
 use std::alloc::{AllocError, Global};
-
-// The channel of a PUBLISH or SUBSCRIBE.
-fn served_channel(service: &Service) -> Option<u16>
-    ensures { result ≡ channel_in (Serviced (service_of service.now)) }
-{
-    match service {
-        Service::Publish(channel, _) | Service::Subscribe(channel, _) => Some(channel.number),
-        Service::Input(_, _) | Service::Output(_, _) => None,
-        Service::Delay | Service::Cycle | Service::Restart => None,
-    }
-}
-
-// The channel of a leaf, if it is a PUBLISH or SUBSCRIBE.
-fn leaf_channel(leaf: &Leaf) -> Option<u16>
-    ensures { result ≡ channel_in (kind_of leaf.now.body) }
-{
-    match &leaf.body {
-        Body::Basic(_) => None,
-        Body::Served(service) => served_channel(service),
-    }
-}
 
 // Whether a channel is this one.
 fn is_of(channel: Option<u16>, number: u16) -> bool
@@ -133,7 +109,7 @@ fn all_channels(alloc: Global, leaves: &[&Leaf]) -> Result<Vec<u16>, AllocError>
 {
     let mut numbers = Vec::new(alloc);
     for back in 0..leaves.len() {
-        add_channel(alloc, leaf_channel(from_end(leaves, back)), &mut numbers)?;
+        add_channel(alloc, channel_of(from_end(leaves, back)), &mut numbers)?;
     }
     Ok(numbers)
 }
@@ -159,7 +135,7 @@ fn end<'a>(leaves: &[&'a Leaf], number: u16) -> &'a str
     ensures { result.now ≡ end_in (map (λ l. l.now) leaves.now) number }
 {
     for leaf in leaves {
-        if is_of(leaf_channel(*leaf), number) {
+        if is_of(channel_of(*leaf), number) {
             return leaf.path.as_str();
         }
     }

@@ -13,7 +13,8 @@ use Rattle.fb_model_laws.specs.Demands.{Node, Demand, Ground, work, of_state, fr
 use Rattle.fb_find_graph.specs.Systems.{System}
 use Rattle.fb_find_laws.specs.Numbered.{AreNumbers, SaysSame, AreOf}
 use Rattle.fb_find_laws.specs.Nodes.{by_number, capped, capped_demand, AreGrouped}
-use Rattle.fb_find_laws.proofs.Lists.{each_flat, each_map, units}
+use Rattle.fb_lists.proofs.Lists.{all_image}
+use Rattle.fb_find_laws.proofs.Lists.{each_flat, units}
 use Rattle.fb_find_laws.proofs.Same.{says_same}
 
 abbrev IsSmall : Demand → Type 0
@@ -38,7 +39,7 @@ module _ (g : Ground) (one : g.unit ≡ 1) (free : (actions : List Action) → w
       let xs = map (of_state g) block.states in
       let ys = flat_map (of_free g block) block.transitions in
       let zs = flat_map (of_input g block) (event_names block.event_inputs) in
-      all_append IsSmall xs (ys ++ zs) (each_map IsSmall (λ (s : State). Unit {0}) (of_state g) block.states (λ s u. omega (arith, free s.actions)) (units block.states))
+      all_append IsSmall xs (ys ++ zs) (all_image (λ (s : State). Unit {0}) IsSmall (of_state g) block.states (λ s u. omega (arith, free s.actions)) (units block.states))
       (
       all_append IsSmall ys zs (each_flat IsSmall (λ (t : Transition). Unit {0}) (of_free g block) block.transitions (λ t u. free_small (actions_of block.states t.source) t.source t.target t.event) (units block.transitions))
       (
@@ -55,7 +56,7 @@ network_small : (all : List Leaf) → AllByRecursion IsSmall (bare_network all)
 network_small all =
     all_append IsSmall (flat_map (λ (leaf : Leaf). of_kind (linked (bare leaf)) leaf.kind) all) (channel_demands 1 all)
     (each_flat IsSmall (λ (leaf : Leaf). Unit {0}) (λ (leaf : Leaf). of_kind (linked (bare leaf)) leaf.kind) all (λ leaf u. kind_small (linked (bare leaf)) refl (nothing_worked leaf) leaf.kind) (units all))
-    (each_map IsSmall (λ (c : ℕ). Unit {0}) (of_channel 1 all) (channels_of all) (λ c u. omega arith) (units (channels_of all)))
+    (all_image (λ (c : ℕ). Unit {0}) IsSmall (of_channel 1 all) (channels_of all) (λ c u. omega arith) (units (channels_of all)))
 
 capped_same : (n : ℕ) → n ≤ 2 → capped n ≡ n
 capped_same n h = grind arith

@@ -1,9 +1,10 @@
 -- Lists of names that are apart, and their places.
 use Rattle.std.specs.Prelude.{◌||◌}
-use Rattle.std.proofs.Common.{ℕ, zero, suc, ◌≡◌, ◌<◌, ◌==◌, Bool, true, false, List, [], ◌∷◌, ◌++◌, length, map, slice_index_or, refl, ◌∙◌, arith}
+use Rattle.std.proofs.Common.{ℕ, zero, suc, ◌≡◌, ◌<◌, ◌==◌, Bool, true, false, List, [], ◌∷◌, ◌++◌, length, slice_index_or, refl, ◌∙◌, arith}
 use Rattle.std.specs.List.{flat_map, IsDistinct, AllByRecursion}
 use Rattle.std.specs.Str.{bytes_eq}
 use Rattle.std.proofs.lemmas.List.Sums.{position_or_len_is}
+use Rattle.fb_lists.proofs.Lists.{all_at}
 use Rattle.fb_model.specs.Names.{Name, is_in}
 use Rattle.fb_model.specs.System.{State}
 use Rattle.fb_model.specs.Certificates.{names}
@@ -11,16 +12,6 @@ use Rattle.fb_model.proofs.Names.{eq_turned}
 use Rattle.fb_model.proofs.Placed.{name_same}
 use Rattle.fb_model.proofs.Networks.{AreRising, number_same}
 use Rattle.fb_find_laws.specs.Nodes.{index_in, rank_in}
-
-pub default_free : {X : Type 0} (xs : List X) (k : ℕ) (d e : X) → k < length xs → slice_index_or xs k d ≡ slice_index_or xs k e
-default_free [] k d e h = absurd (omega (arith, h))
-default_free (x ∷ xs) zero d e h = refl
-default_free (x ∷ xs) (suc k) d e h = default_free xs k d e (omega (arith, h))
-
-all_at : {X : Type 0} (P : X → Type 0) (xs : List X) (k : ℕ) (d : X) → k < length xs → AllByRecursion P xs → P (slice_index_or xs k d)
-all_at P [] k d h a = absurd (omega (arith, h))
-all_at P (x ∷ xs) zero d h a = a.0
-all_at P (x ∷ xs) (suc k) d h a = all_at P xs k d (omega (arith, h)) a.1
 
 -- two that are apart differ
 pub differ : (xs : List Name) (j k : ℕ) → IsDistinct bytes_eq xs → j < k → k < length xs → bytes_eq (slice_index_or xs j []) (slice_index_or xs k []) ≡ false
@@ -62,10 +53,6 @@ each_flat P Q f (x ∷ xs) h a = joined (f x) (flat_map f xs) (h x a.0) (each_fl
   joined : (ys zs : List _) → AllByRecursion P ys → AllByRecursion P zs → AllByRecursion P (ys ++ zs)
   joined [] zs g k = k
   joined (y ∷ ys) zs g k = (g.0, joined ys zs g.1 k)
-
-pub each_map : {X Y : Type 0} (P : Y → Type 0) (Q : X → Type 0) (f : X → Y) (xs : List X) → ((x : X) → Q x → P (f x)) → AllByRecursion Q xs → AllByRecursion P (map f xs)
-each_map P Q f [] h a = tt
-each_map P Q f (x ∷ xs) h a = (h x a.0, each_map P Q f xs h a.1)
 
 pub or_more : (a b : Bool) → b ≡ true → (a || b) ≡ true
 or_more true b h = refl

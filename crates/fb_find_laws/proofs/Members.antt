@@ -19,7 +19,8 @@ use Rattle.fb_model_laws.specs.Leaves.{IsClosedBlock, IsClosed}
 use Rattle.fb_model_laws.specs.Demands.{Node, state, event, channel, Demand, Ground, emitted, of_state, free_demand, of_free, crossing_demand, of_crossing, of_input, of_chart, sent, of_dispatch, of_kind, linked, heard, of_channel, channel_demands}
 use Rattle.fb_find_laws.specs.Numbered.{AreOf}
 use Rattle.fb_find_laws.specs.Nodes.{nodes_of, AreRowsOf}
-use Rattle.fb_find_laws.proofs.Lists.{each_flat, each_map, all_self, on_names, or_more, or_here, units}
+use Rattle.fb_lists.proofs.Lists.{all_image}
+use Rattle.fb_find_laws.proofs.Lists.{each_flat, all_self, on_names, or_more, or_here, units}
 
 -- ---- the demands of a leaf
 
@@ -34,7 +35,7 @@ pub record AreNodes (P : Node → Type 0) (g : Ground) (states events : List Nam
 
 module _ (P : Node → Type 0) (g : Ground) where
   reached_on : ((o : Name) → AllByRecursion (λ (p : Place). P (event p)) (g.targets o)) → (os : List Name) → AllByRecursion P (map event (reached g.targets os))
-  reached_on h os = each_map P (λ p. P (event p)) event (reached g.targets os) (λ p q. q) (all os) where
+  reached_on h os = all_image (λ p. P (event p)) P event (reached g.targets os) (λ p q. q) (all os) where
     all : (ns : List Name) → AllByRecursion (λ (p : Place). P (event p)) (reached g.targets ns)
     all [] = tt
     all (o ∷ ns) = all_append (λ (p : Place). P (event p)) (g.targets o) (reached g.targets ns) (h o) (all ns)
@@ -62,7 +63,7 @@ module _ (P : Node → Type 0) (g : Ground) where
       let targets : AllByRecursion (λ (t : Transition). P (state (g.own t.target))) block.transitions = all_weaker (λ (t : Transition). is_in t.target (names block.states) ≡ true) (λ (t : Transition). P (state (g.own t.target))) block.transitions (λ t h. a.state_is t.target h) c.targets in
       let ends : AllByRecursion (λ (t : Transition). P (state (g.own t.source)) × P (state (g.own t.target))) block.transitions =
       all_both (λ (t : Transition). is_in t.source (names block.states) ≡ true) (λ (t : Transition). P (state (g.own t.target))) (λ (t : Transition). P (state (g.own t.source)) × P (state (g.own t.target))) block.transitions (λ t h k. (a.state_is t.source h, k)) c.sources targets in
-      let first = each_map (OnNodes P) (λ (s : State). is_in s.name (names block.states) ≡ true) (of_state g) block.states (λ s h. (a.state_is s.name h, emitted_on a.lead s.actions)) (on_names (λ n. is_in n (names block.states) ≡ true) block.states (all_self (names block.states))) in
+      let first = all_image (λ (s : State). is_in s.name (names block.states) ≡ true) (OnNodes P) (of_state g) block.states (λ s h. (a.state_is s.name h, emitted_on a.lead s.actions)) (on_names (λ n. is_in n (names block.states) ≡ true) block.states (all_self (names block.states))) in
       let second =
       each_flat (OnNodes P) (λ (t : Transition). P (state (g.own t.source)) × P (state (g.own t.target))) (of_free g block) block.transitions (λ t h. free_on a.lead (actions_of block.states t.source) t.source t.target h.0 h.1 t.event) ends in
       let third =
@@ -283,7 +284,7 @@ module _ (repeats : Option ℕ) (all : List Leaf) (states events : List Name) (c
 
   channels_on : (r q : ℕ) → repeats ≡ Some q → (cs : List ℕ) → AllByRecursion (λ c. is_one c (channels_of all) ≡ true) cs → AllByRecursion (OnNodes IsNode) (map (of_channel r all) cs)
   channels_on r q e cs h =
-      each_map (OnNodes IsNode) (λ c. is_one c (channels_of all) ≡ true) (of_channel r all) cs
+      all_image (λ c. is_one c (channels_of all) ≡ true) (OnNodes IsNode) (of_channel r all) cs
       (λ c i. (channel_node q c e i, each_flat IsNode HasNodes (heard r c) all (λ leaf k. arrivals_on r c leaf k) leaves_have)) h
 
   pub network_of : (g : Leaf → Ground) → IsPlaced g → (r q : ℕ) → repeats ≡ Some q → (ds : List Device) → all ≡ all_leaves ds → AreWired ds → AreClosed ds

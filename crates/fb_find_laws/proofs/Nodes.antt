@@ -12,7 +12,8 @@ use Rattle.fb_model.specs.CertificateText.{names_in, place_of, all_but_last, las
 use Rattle.fb_model_laws.specs.Demands.{Node, state, event, channel, node_in}
 use Rattle.fb_find_laws.specs.Numbered.{AreNumbers}
 use Rattle.fb_find_laws.specs.Nodes.{written, index_in, number, nodes_of, AreRowsOf}
-use Rattle.fb_find_laws.proofs.Lists.{default_free, first_at, first_rank}
+use Rattle.fb_lists.proofs.Lists.{default_free}
+use Rattle.fb_find_laws.proofs.Lists.{first_at, first_rank}
 
 -- the names before the last, and the last
 ends : (n : Name) (ns : Path) → all_but_last (n ∷ ns) ++ last_name (n ∷ ns) ∷ [] ≡ n ∷ ns

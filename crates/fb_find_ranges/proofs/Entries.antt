@@ -20,7 +20,7 @@ use Rattle.fb_model.specs.Spans.{Span, span, joined}
 use Rattle.fb_model.specs.Clear.{Spans, changed}
 use Rattle.fb_model_laws.specs.Asking.{grown}
 use Rattle.fb_ranges_intervals.specs.Views.{span_of}
-use Rattle.fb_check_ranges.proofs.Lists.{take_get}
+use Rattle.fb_lists.proofs.Lists.{take_at}
 use Rattle.fb_find_ranges.specs.declared.rows.Row.{Row}
 use Rattle.fb_find_ranges.specs.Lines.{Line, line_by, all_grown, joined_all, IsAsked, put}
 use Rattle.fb_find_ranges.specs.Sameness.{same_span, same_lines, same_all}
@@ -59,7 +59,7 @@ next_row f es i e rows now old row x is name put line before =
     ∙ map_push line_of rows row
     ∙ ap₂ (λ ls l. ls ++ l ∷ []) before (line ∙ ap (λ n. line_by f (variable_of (declared_of n e.1))) name)
     ∙ append_assoc old (map (line_by f) (booked (take i es))) (line_by f (shown e) ∷ [])
-    ∙ ap (λ ls. old ++ ls) (sym (map_push (line_by f) (booked (take i es)) (shown e)) ∙ ap (map (line_by f)) (sym (ap booked (take_get es i e is) ∙ booked_push (take i es) e)))
+    ∙ ap (λ ls. old ++ ls) (sym (map_push (line_by f) (booked (take i es)) (shown e)) ∙ ap (map (line_by f)) (sym (ap booked (take_at es i e (sym is)) ∙ booked_push (take i es) e)))
 
 abbrev procedure : String Global × Algo → book.Procedure
 procedure p = record { name = string_bytes p.0; algorithm = commands_of p.1.statements.items }
@@ -98,7 +98,7 @@ next_asks spans es i e asked now is more before x =
     ∙ ap (λ s. joined s r) (more x)
     ∙ joined_swap (asked x) g r
     ∙ ap (λ s. joined s g) (before x)
-    ∙ sym (ap (λ ps. joined_all (all_grown spans ps) x r) (ap procedures_in (take_get es i e is) ∙ procedures_push (take i es) e) ∙ one_more spans (procedures_in (take i es)) (procedure e) x r)
+    ∙ sym (ap (λ ps. joined_all (all_grown spans ps) x r) (ap procedures_in (take_at es i e (sym is)) ∙ procedures_push (take i es) e) ∙ one_more spans (procedures_in (take i es)) (procedure e) x r)
 
 -- the next row is put
 pub next_put : (rows : List Row) (i : ℕ) (row : Row) (before now all : Spans) → i < length rows → row ≡ get_or rows i row → put (map line_of (drop i rows)) before ≡ all → now ≡ changed row.name.now (λ r. span_of row.range) before

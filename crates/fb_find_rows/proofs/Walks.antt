@@ -1,7 +1,7 @@
 -- The nodes of a closed walk of places.
 use Rattle.std.proofs.Common.{ℕ, zero, suc, ◌≡◌, ◌+◌, ◌-◌, ◌<◌, ◌≤◌, ◌⊎◌, inl, inr, List, [], ◌∷◌, length, slice_index, slice_index_or, refl, subst, arith, Contains}
 use Rattle.std.specs.List.{All}
-use Rattle.fb_find_laws.proofs.Lists.{default_free}
+use Rattle.fb_lists.proofs.Lists.{default_free}
 use Rattle.fb_find_graph.specs.Graphs.{row, HasEdge, IsClosed}
 
 split : (m n : ℕ) → (m < n) ⊎ (n ≤ m)

@@ -1,5 +1,5 @@
 -- Where nothing that was proposed is clear, the path that was told before is told.
-use Rattle.std.proofs.Common.{ℕ, sym, subst, Option, Result, Ok, Err, IfOk}
+use Rattle.std.proofs.Common.{ℕ, sym, subst, inr, Option, Result, Ok, Err, IfOk}
 use Rattle.std.specs.declared.string.String.{String}
 use Rattle.std.specs.declared.alloc.Global.{Global}
 use Rattle.fb_model.specs.System.{System}
@@ -7,7 +7,7 @@ use Rattle.fb_model.specs.Certificates.{Certificate, Fits}
 use Rattle.fb_find_rows.specs.declared.fault.NoBound.{NoBound}
 use Rattle.fb_find_rows.specs.declared.fault.NoBound.TheVariants.{OutOfMemory, Cycle, NoRange, Limit}
 use Rattle.fb_find.specs.Bounds.{IsDenied, IsNoBound, IsWalk}
-use Rattle.fb_find_search.specs.Searching.{IsStill}
+use Rattle.fb_find_search.specs.Searching.{IsSearched, IsStill}
 
 pub still_told : (repeats : Option ℕ) (s : System) (path : String Global) → IsNoBound repeats s (NoRange path) → (fault : NoBound) → IsStill path fault → IsNoBound repeats s fault
 still_told repeats s path before OutOfMemory h = tt
@@ -24,3 +24,8 @@ still_denies repeats s path (Limit resource) h w cert d fits = absurd w
 pub ok_weaker : {X E : Type 0} (P Q : X → Type 0) → ((x : X) → P x → Q x) → (r : Result X E) → IfOk r P → IfOk r Q
 ok_weaker P Q g (Ok x) h = g x h
 ok_weaker P Q g (Err e) h = tt
+
+-- where something is not clear under the finder's ranges, what is found is found by searching
+pub unclear_told : {X E : Type 0} (view : X → Certificate) (path : String Global) (repeats : Option ℕ) (s : System) (r : Result X E) → IsNoBound repeats s (NoRange path) → IfOk r (λ c. IsSearched repeats s (view c))
+unclear_told view path repeats s (Ok c) h = inr (path, h)
+unclear_told view path repeats s (Err e) h = tt

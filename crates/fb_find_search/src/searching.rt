@@ -6,7 +6,7 @@ ghost use Rattle.fb_model.specs.Certificates.{Fits};
 ghost use Rattle.fb_cert.specs.Views.{certificate_of, rows_of};
 ghost use Rattle.fb_types.specs.Views.{system_of};
 ghost use Rattle.fb_find.specs.Bounds.{IsDenied, IsNoBound, IsWalk, RowsStand};
-ghost use Rattle.fb_find_search.specs.Searching.{AreFirstOf, IsFoundSomehow, IsNoBoundKeeping, IsStill};
+ghost use Rattle.fb_find_search.specs.Searching.{AreFirstOf, IsFoundSomehow, IsNoBoundKeeping, IsSearched, IsStill};
 
 use fb_cert::{Certificate, Row};
 use fb_find::{find, find_within};
@@ -131,6 +131,7 @@ fn tried(
 pub fn search(alloc: Global, typed: &Typed, repeats: Option<u8>) -> Result<Certificate, NoBound>
     requires { IfSome repeats (λ r. 1 ≤ r) }
     ensures found { IfOk result (λ c. IsFoundSomehow repeats (system_of typed.now) (certificate_of c)) }
+    ensures own { IfOk result (λ c. IsSearched repeats (system_of typed.now) (certificate_of c)) }
     ensures refused { IfErr result (IsNoBound repeats (system_of typed.now)) }
     ensures denies { IfErr result (λ f. IsWalk f → (cert : book.Certificate) → IsDenied repeats cert → Fits (system_of typed.now) cert → ⊥) }
 {

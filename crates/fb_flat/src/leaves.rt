@@ -29,7 +29,6 @@ use fb_types::{Configuration, Device, Resource, Typed};
 use fb_types_blocks::{Block, Events, TypeFault};
 use fb_types_networks::{Instance, Network};
 use fb_types_services::Service;
-use fb_words::ElemType;
 use std::alloc::{AllocError, Global};
 use std::rc::Rc;
 
@@ -43,27 +42,23 @@ struct Table {
     left: usize,
 }
 
-// The same types again.
-fn copied(alloc: Global, types: &Vec<ElemType>) -> Result<Vec<ElemType>, AllocError>
-    ensures { IfOk result (λ v. v.items ≡ types.now.items) }
-{
-    let mut copy = Vec::new(alloc);
-    for of in types {
-        copy.push(*of)?;
-    }
-    Ok(copy)
-}
-
-// The same service again.
-fn again(alloc: Global, service: &Service) -> Result<Service, AllocError>
+/// The same service again.
+pub fn service_again(alloc: Global, service: &Service) -> Result<Service, AllocError>
     ensures { IfOk result (λ s. service_of s ≡ service_of service.now) }
 {
     match service {
-        Service::Input(number, types) => Ok(Service::Input(*number, copied(alloc, types)?)),
-        Service::Output(number, types) => Ok(Service::Output(*number, copied(alloc, types)?)),
-        Service::Publish(channel, types) => Ok(Service::Publish(*channel, copied(alloc, types)?)),
+        Service::Input(number, types) => Ok(Service::Input(
+            *number,
+            Vec::from_slice(alloc, types)?,
+        )),
+        Service::Output(number, types) => {
+            Ok(Service::Output(*number, Vec::from_slice(alloc, types)?))
+        }
+        Service::Publish(channel, types) => {
+            Ok(Service::Publish(*channel, Vec::from_slice(alloc, types)?))
+        }
         Service::Subscribe(channel, types) => {
-            Ok(Service::Subscribe(*channel, copied(alloc, types)?))
+            Ok(Service::Subscribe(*channel, Vec::from_slice(alloc, types)?))
         }
         Service::Delay => Ok(Service::Delay),
         Service::Cycle => Ok(Service::Cycle),
@@ -218,7 +213,7 @@ fn add_service(
     let taken = service_names(alloc, service)?;
     add(
         table,
-        Body::Served(again(alloc, service)?),
+        Body::Served(service_again(alloc, service)?),
         service.event_outputs(),
         &taken,
         trail,

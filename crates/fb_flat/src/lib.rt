@@ -21,5 +21,5 @@ pub use flat::{Body, Flat, FlatDevice, FlatResource, Input, Leaf, Output, Source
 pub use laws::{
     all_inputs_are_written, limits_are_at_resources, paths_are_read_back, tables_are_leaves,
 };
-pub use leaves::{FOLLOWED, flatten, flatten_resource};
+pub use leaves::{FOLLOWED, flatten, flatten_resource, service_again};
 pub use site::joined;

@@ -1,4 +1,3 @@
-pub mod Numbers
 pub mod Names
 pub mod Commands
 pub mod Lines

@@ -9,7 +9,7 @@ use Rattle.std.specs.declared.str.Lines.{Lines}
 use Rattle.std.proofs.lemmas.List.Splits.{length-slice_split}
 use Rattle.std.proofs.lemmas.List.Sums.{count_by-le-length}
 use Rattle.fb_model.specs.World.{World}
-use Rattle.fb_world.specs.fb_device.fb_verdict.Verdicts.{system_in, certificate_in}
+use Rattle.fb_verified.specs.Checked.{system_in, certificate_in}
 use Rattle.fb_world.specs.Scenes.{Scene, system_of, cert_of, world_of}
 use Rattle.fb_script.specs.Playing.{Answers, IsBad}
 use Rattle.fb_script.specs.Runs.{Runs, done, memory, bad, blank, answered, IsRun}

@@ -8,16 +8,16 @@ use Rattle.std.proofs.lemmas.List.Splits.{join_with_byte-slice_split}
 use Rattle.fb_model.specs.Names.{Name}
 use Rattle.fb_model.specs.Wires.{Leaf}
 use Rattle.fb_model.specs.Certificates.{events_of}
-use Rattle.fb_world.specs.fb_device.fb_device_tables.Views.{place_at, place_in}
-use Rattle.fb_world.specs.fb_device.Answers.{IsNamed, IsNoPoint}
-use Rattle.fb_world.specs.fb_device.fb_device_dispatch.Answers.{dispatched_of, end_of}
+use Rattle.fb_device_tables.specs.Views.{place_at, place_in}
+use Rattle.fb_device.specs.Answers.{IsNamed, IsNoPoint}
+use Rattle.fb_device_dispatch.specs.Answers.{dispatched_of, end_of}
 use Rattle.fb_chart.specs.Responses.{effect_of}
-use Rattle.fb_world.specs.fb_device.fb_device_dispatch.declared.answer.Ended.{Ended}
+use Rattle.fb_device_dispatch.specs.declared.answer.Ended.{Ended}
 use Rattle.fb_chart.specs.declared.standing.Effect.{Effect as Outside}
 use Rattle.fb_chart.specs.declared.standing.Effect.TheVariants as outside
-use Rattle.fb_world.specs.fb_device.fb_device_tables.Tables.{IsPoint}
-use Rattle.fb_world.specs.fb_device.fb_device_dispatch.declared.answer.Ran.{Ran as RanRecord}
-use Rattle.fb_world.specs.fb_device.fb_device_dispatch.declared.answer.Dispatched.TheVariants as dispatched
+use Rattle.fb_device_tables.specs.Tables.{IsPoint}
+use Rattle.fb_device_dispatch.specs.declared.answer.Ran.{Ran as RanRecord}
+use Rattle.fb_device_dispatch.specs.declared.answer.Dispatched.TheVariants as dispatched
 use Rattle.fb_script.specs.Texts.{place_text, effect_text, end_text, outside_text, done_text, ended_text, told_text, answer_text}
 use Rattle.fb_script.specs.declared.told.Told.TheVariants as told
 

@@ -1,8 +1,7 @@
 -- What a line of a script says: this project's profile.
-use Rattle.std.specs.Prelude.{ℕ, ◌+◌, ◌^◌, ◌==◌, nat_lt, ℤ, pos, neg_ℤ, not, ◌&&◌, List, [], ◌∷◌, length, drop, slice_index, codes, Option, Some, None, if◌then◌else◌}
-use Rattle.std.specs.Option.{option_map}
-use Rattle.std.specs.Str.{bytes_eq, all_ascii_digits}
-use Rattle.fb_model.specs.CertificateText.{decimal_from}
+use Rattle.std.specs.Prelude.{ℕ, ◌==◌, ℤ, ◌&&◌, List, [], ◌∷◌, length, codes, Option, Some, None, if◌then◌else◌}
+use Rattle.std.specs.Str.{bytes_eq}
+use Rattle.fb_numbers.specs.Numbers.{number_in, wide_number_in, value_in}
 
 pub data Command : Type 0 where
   Offer : (device : List ℕ) (number : ℕ) (values : List ℤ) → Command
@@ -13,29 +12,7 @@ pub data Command : Type 0 where
   -- the steps of a root so far
   Root : (number : ℕ) → Command
 
--- ---- numbers
-
--- the number that one digit or more write, the first ones perhaps zeros, where it is less than the limit
-abbrev pub number_below : ℕ → List ℕ → Option ℕ
-number_below limit cs =
-    if all_ascii_digits cs && not (length cs == 0) && nat_lt (decimal_from 0 cs) limit then Some (decimal_from 0 cs) else None
-
--- a number of 16 bits
-abbrev pub number_in : List ℕ → Option ℕ
-number_in cs = number_below (2 ^ 16) cs
-
--- a number of 32 bits
-abbrev pub long_number_in : List ℕ → Option ℕ
-long_number_in cs = number_below (2 ^ 32) cs
-
--- a number of 64 bits
-abbrev pub wide_number_in : List ℕ → Option ℕ
-wide_number_in cs = number_below (2 ^ 64) cs
-
--- a number of 64 bits with a sign: a minus may stand before it, and no plus
-abbrev pub value_in : List ℕ → Option ℤ
-value_in cs =
-    if slice_index cs 0 == 45 then option_map (λ n. neg_ℤ (pos n)) (number_below (2 ^ 63 + 1) (drop 1 cs)) else option_map pos (number_below (2 ^ 63) cs)
+-- ---- values
 
 abbrev pub before : Option ℤ → Option (List ℤ) → Option (List ℤ)
 before (Some v) (Some vs) = Some (v ∷ vs)

@@ -6,8 +6,8 @@ use Rattle.fb_model.specs.Certificates.{Certificate}
 use Rattle.fb_model.specs.Devices.{Answer}
 use Rattle.fb_model.specs.World.{World, WorldEvent, At_device, Deliver_datagram, An_offer, A_tick, A_dispatch, Answered, WorldHappens, datagram_numbered, RootSteps, root_steps}
 use Rattle.fb_model.specs.CertificateText.{words}
-use Rattle.fb_world.specs.fb_device.fb_verdict.Lookups.{is_same_path}
-use Rattle.fb_world.specs.fb_device.Answers.{IsNumberOf, IsNoNumber}
+use Rattle.fb_verified.specs.Lookups.{is_same_path}
+use Rattle.fb_device.specs.Answers.{IsNumberOf, IsNoNumber}
 use Rattle.fb_script.specs.Lines.{Command, Offer, Deliver, Tick, Dispatch, Root, command_in}
 use Rattle.fb_script.specs.Texts.{answer_text, root_text}
 

@@ -9,9 +9,9 @@ use Rattle.fb_model.specs.Devices.{Ended as End, Denial, UnknownInput, BadCount,
 use Rattle.fb_model.specs.World.{RootSteps}
 use Rattle.fb_model.specs.Fields.{Fault, Short, Magic, Version, Kind, Count, TypeCode, Value, Trailing}
 use Rattle.fb_wire.specs.Faults.{line_of}
-use Rattle.fb_world.specs.fb_device.fb_device_arrivals.declared.denied.Denied.{Denied as RustDenied}
-use Rattle.fb_world.specs.fb_device.fb_device_arrivals.declared.denied.Denied.TheVariants as d
-use Rattle.fb_world.specs.fb_device.fb_device_dispatch.declared.answer.Ended.{Ended}
+use Rattle.fb_device_arrivals.specs.declared.denied.Denied.{Denied as RustDenied}
+use Rattle.fb_device_arrivals.specs.declared.denied.Denied.TheVariants as d
+use Rattle.fb_device_dispatch.specs.declared.answer.Ended.{Ended}
 use Rattle.fb_chart.specs.declared.standing.Effect.{Effect as Outside}
 use Rattle.fb_chart.specs.declared.standing.Effect.TheVariants as outside
 use Rattle.fb_script.specs.declared.told.Told.{Told}

@@ -3,15 +3,11 @@
 #![tactic(auto)]
 
 mod line;
-mod number;
 mod playing;
 mod run;
 mod told;
 
-pub use fb_world;
-pub use fb_world::fb_device;
 pub use line::{Line, LineFault, read_line};
-pub use number::{read_long_number, read_number};
 pub use playing::tell;
 pub use run::{End, simulate};
 pub use told::{Told, Written};

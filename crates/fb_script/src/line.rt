@@ -5,7 +5,7 @@ ghost use Rattle.fb_model.specs.CertificateText.{words};
 ghost use Rattle.fb_script.specs.Views.{texts, AreValues, IsRead, IsLine};
 ghost use Rattle.fb_script.specs.declared.line.LineFault.TheVariants.{OutOfMemory};
 
-use crate::number::{read_number, read_value, read_wide_number};
+use fb_numbers::{read_number, read_value, read_wide_number};
 use std::alloc::{AllocError, AllocFailed, Global};
 
 /// A line that has words.

@@ -3,10 +3,10 @@
 ghost use Rattle.std.specs.Prelude.{◌≡◌, Some, MatchOption, slice_get};
 ghost use Rattle.fb_model.specs.System.{Device as book_device};
 ghost use Rattle.fb_model.specs.Wires.{leaves};
-ghost use Rattle.fb_world.specs.fb_device.fb_device_state.Machines.{device_in};
-ghost use Rattle.fb_world.specs.fb_device.Answers.{answer_of, HasPlace, IsNumberOf, IsNoNumber};
-ghost use Rattle.fb_world.specs.fb_device.fb_device_dispatch.Answers.{dispatched_of, HasPoint};
-ghost use Rattle.fb_world.specs.fb_device.fb_device_dispatch.declared.answer.Dispatched.TheVariants as dispatched;
+ghost use Rattle.fb_device_state.specs.Machines.{device_in};
+ghost use Rattle.fb_device.specs.Answers.{answer_of, HasPlace, IsNumberOf, IsNoNumber};
+ghost use Rattle.fb_device_dispatch.specs.Answers.{dispatched_of, HasPoint};
+ghost use Rattle.fb_device_dispatch.specs.declared.answer.Dispatched.TheVariants as dispatched;
 ghost use Rattle.fb_world.specs.Scenes.{system_of};
 ghost use Rattle.fb_script.specs.Lines as book;
 ghost use Rattle.fb_script.specs.Views.{command_of};
@@ -15,7 +15,7 @@ ghost use Rattle.fb_script.specs.Texts.{told_text, answer_text};
 
 use crate::line::Line;
 use crate::told::Told;
-use fb_world::fb_device::{Answer, Device, Dispatched, Ran};
+use fb_device::{Answer, Device, Dispatched, Ran};
 use fb_world::{RootSteps, World, WorldEvent};
 
 /// What a line asks of a world.

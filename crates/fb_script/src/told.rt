@@ -1,6 +1,6 @@
 //! How answers are printed.
 
-use fb_world::fb_device::{Denied, Effect, Ended};
+use fb_device::{Denied, Effect, Ended};
 use std::fmt;
 
 /// The answer to a line, with names in the place of numbers.

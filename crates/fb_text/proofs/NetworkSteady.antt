@@ -1,57 +1,32 @@
 -- Each production stops at the same token whatever stands behind it: constants, events, variables and networks.
-use Rattle.std.proofs.Common.{◌≡◌, ℕ, ◌⊎◌, Bool, true, false, cond, List, [], ◌∷◌, Option, None, Some, Ok, Err, refl, ap, arith, inl, inr}
+use Rattle.std.proofs.Common.{◌≡◌, ℕ, ◌⊎◌, Bool, true, false, cond, List, [], ◌∷◌, Option, None, Some, Ok, refl, ap, arith, inl, inr}
 use Rattle.std.specs.Prelude.{codes}
 use Rattle.std.specs.Str.{bytes_eq}
-use Rattle.fb_words.specs.declared.mark.Mark.{Mark}
 use Rattle.fb_words.specs.declared.mark.Mark.TheVariants as m
 use Rattle.fb_words.specs.declared.elem_type.ElemType.{ElemType}
 use Rattle.fb_words.specs.Writing.{type_of}
 use Rattle.fb_model.specs.Tokens.{Token, token, name, number, typed, duration, mark}
 use Rattle.fb_model.specs.Productions.{Word, IsName}
-use Rattle.fb_model.specs.Trees.{Whole, Typed, Duration, Truth}
 use Rattle.fb_model.specs.Grammar.{IsParameter, IsConnection}
 use Rattle.fb_model.specs.DeclarationGrammar.{IsTypeName, IsInstance}
-use Rattle.fb_read.specs.Reading.{syntax, stuck, Read, ◌>>=◌, next_is, after, expect, name_at, type_step, type_at, list_at, section_at}
+use Rattle.fb_read.specs.Reading.{stuck, Read, ◌>>=◌, next_is, after, expect, name_at, type_step, type_at, list_at, section_at}
 use Rattle.fb_read.proofs.Readers.{name_sound}
 use Rattle.fb_read.proofs.Steady.{Steady, Takes, Stops, steady_then, steady_as, steady_done, steady_head, steady_name, steady_choice, steady_if, cond_then, steady_expect, steady_place}
 use Rattle.fb_read.proofs.SteadyLists.{shrinks_of, steady_list, steady_section}
 use Rattle.st_parse.specs.Reading.{integer_at}
 use Rattle.st_parse.proofs.Labels.{integer_steady}
-use Rattle.fb_text.specs.Reading.{negative_at, constant_at, word_at, kind_at, with_at, event_at, start_at, plain_at, names_at, variable_at, bounds_at, array_at, internal_at, parameter_at, parameters_at, type_list_at, types_at, instance_at, second_at, port_at, connection_at, network_at}
+use Rattle.st_parse.specs.ConstantReading.{number_at, literal_at}
+use Rattle.st_parse.proofs.Literals.{number_steady, literal_steady}
+use Rattle.fb_text.specs.Reading.{constant_at, word_at, kind_at, with_at, event_at, start_at, plain_at, names_at, variable_at, bounds_at, array_at, internal_at, parameter_at, parameters_at, type_list_at, types_at, instance_at, second_at, port_at, connection_at, network_at}
 use Rattle.fb_text.proofs.VariableSound.{type_sound}
 use Rattle.fb_text.proofs.NetworkSound.{parameter_sound, instance_sound, connection_sound}
 use Rattle.fb_text.proofs.Shorter.{name_shorter, type_shorter, parameter_shorter, instance_shorter, connection_shorter}
 
 -- ---- constants
 
-negative_begins : (u : Token) → Takes negative_at u ⊎ Stops negative_at u
-negative_begins (token (name x) s e) = inr (λ ts. refl)
-negative_begins (token (number n) s e) = inl ((λ ts. Ok (record { value = Whole true n; at = s }, ts)), steady_done (record { value = Whole true n; at = s }), λ ts. refl)
-negative_begins (token (typed t b n) s e) = inr (λ ts. refl)
-negative_begins (token (duration b n) s e) = inr (λ ts. refl)
-negative_begins (token (mark k) s e) = inr (λ ts. refl)
-
-negative_steady : Steady negative_at
-negative_steady = steady_head negative_at (omega arith) negative_begins
-
-marked_begins : (k : Mark) (s e : ℕ) → Takes constant_at (token (mark k) s e) ⊎ Stops constant_at (token (mark k) s e)
-unfolding constant_at
-marked_begins m.Minus s e = inl (negative_at, negative_steady, λ ts. refl)
-marked_begins m.True s e = inl ((λ ts. Ok (record { value = Truth true; at = s }, ts)), steady_done (record { value = Truth true; at = s }), λ ts. refl)
-marked_begins m.False s e = inl ((λ ts. Ok (record { value = Truth false; at = s }, ts)), steady_done (record { value = Truth false; at = s }), λ ts. refl)
-marked_begins other s e = inr (λ ts. ap (λ n. Err (syntax n)) (omega arith))
-
-constant_begins : (u : Token) → Takes constant_at u ⊎ Stops constant_at u
-unfolding constant_at
-constant_begins (token (name x) s e) = inr (λ ts. refl)
-constant_begins (token (number n) s e) = inl ((λ ts. Ok (record { value = Whole false n; at = s }, ts)), steady_done (record { value = Whole false n; at = s }), λ ts. refl)
-constant_begins (token (typed t b n) s e) = inl ((λ ts. Ok (record { value = Typed t b n; at = s }, ts)), steady_done (record { value = Typed t b n; at = s }), λ ts. refl)
-constant_begins (token (duration b n) s e) = inl ((λ ts. Ok (record { value = Duration b n; at = s }, ts)), steady_done (record { value = Duration b n; at = s }), λ ts. refl)
-constant_begins (token (mark k) s e) = marked_begins k s e
-
 constant_steady : Steady constant_at
 unfolding constant_at
-constant_steady = steady_head constant_at (omega arith) constant_begins
+constant_steady = steady_if m.Minus (number_at true) literal_at (number_steady true) literal_steady
 
 -- ---- events
 

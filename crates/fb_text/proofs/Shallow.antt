@@ -1,5 +1,5 @@
 -- What holds neither expressions nor statements is never too deep.
-use Rattle.std.proofs.Common.{ℕ, List, [], ◌∷◌, length, Option, None, Some, Result, Ok}
+use Rattle.std.proofs.Common.{ℕ, true, List, [], ◌∷◌, length, Option, None, Some, Result, Ok}
 use Rattle.std.specs.Prelude.{codes}
 use Rattle.std.specs.Str.{bytes_eq}
 use Rattle.fb_words.specs.declared.mark.Mark.{Mark}
@@ -13,7 +13,9 @@ use Rattle.fb_read.proofs.Readers.{NotDeep, Shallow, shallow_then, shallow_if, s
 use Rattle.fb_read.proofs.Repetitions.{closed_shallow, section_shallow, separated_shallow}
 use Rattle.st_parse.specs.Reading.{integer_at}
 use Rattle.st_parse.proofs.Shallow.{integer_shallow}
-use Rattle.fb_text.specs.Reading.{negative_at, marked_at, constant_at, word_at, kind_at, with_at, event_at, start_at, plain_at, names_at, variable_at, bounds_at, array_at, internal_at, parameter_at, parameters_at, type_list_at, types_at, instance_at, second_at, port_at, connection_at, network_at, output_at, emitting_at, running_at, action_at, actions_at, state_at, states_at, resource_at, device_at, system_at}
+use Rattle.st_parse.specs.ConstantReading.{number_at, literal_at}
+use Rattle.st_parse.proofs.Literals.{number_shallow, literal_shallow}
+use Rattle.fb_text.specs.Reading.{constant_at, word_at, kind_at, with_at, event_at, start_at, plain_at, names_at, variable_at, bounds_at, array_at, internal_at, parameter_at, parameters_at, type_list_at, types_at, instance_at, second_at, port_at, connection_at, network_at, output_at, emitting_at, running_at, action_at, actions_at, state_at, states_at, resource_at, device_at, system_at}
 
 -- a mark, and what is done behind it
 at_mark : {B : Type 0} (f : List Token → Result B Wrong) (k : Mark) (ts : List Token) → ((rest : List Token) → NotDeep (f rest)) → NotDeep (expect k ts >>= f)
@@ -21,28 +23,9 @@ at_mark f k ts g = shallow_then f (expect k ts) (shallow_expect k ts) g
 
 -- ---- constants
 
-negative_shallow : Shallow negative_at
-negative_shallow [] = tt
-negative_shallow (token (name x) s e ∷ ts) = tt
-negative_shallow (token (number n) s e ∷ ts) = tt
-negative_shallow (token (typed t b n) s e ∷ ts) = tt
-negative_shallow (token (duration b n) s e ∷ ts) = tt
-negative_shallow (token (mark k) s e ∷ ts) = tt
-
-marked_shallow : (k : Mark) (s : ℕ) → Shallow (marked_at k s)
-marked_shallow m.Minus s ts = negative_shallow ts
-marked_shallow m.True s ts = tt
-marked_shallow m.False s ts = tt
-marked_shallow other s ts = tt
-
 constant_shallow : Shallow constant_at
 unfolding constant_at
-constant_shallow [] = tt
-constant_shallow (token (name x) s e ∷ ts) = tt
-constant_shallow (token (number n) s e ∷ ts) = tt
-constant_shallow (token (typed t b n) s e ∷ ts) = tt
-constant_shallow (token (duration b n) s e ∷ ts) = tt
-constant_shallow (token (mark k) s e ∷ ts) = marked_shallow k s ts
+constant_shallow ts = shallow_if (next_is m.Minus ts) (number_at true (after ts)) (literal_at ts) (number_shallow true (after ts)) (literal_shallow ts)
 
 -- ---- events
 

@@ -13,6 +13,7 @@ use Rattle.fb_read.specs.Reading.{next_is, after, name_at, type_at, list_at}
 use Rattle.fb_read.proofs.Readers.{Gets, Complete, never, Avoids, gets_then}
 use Rattle.fb_read.proofs.Repetitions.{separated_complete}
 use Rattle.st_parse.specs.Reading.{integer_at}
+use Rattle.st_parse.specs.ConstantReading.{literal_at}
 use Rattle.fb_text.specs.Reading.{constant_at, with_at, event_at, start_at, plain_at, names_at, variable_at, bounds_at, array_at, internal_at}
 use Rattle.fb_text.proofs.Shorter.{name_shorter}
 
@@ -42,7 +43,7 @@ no_bracket ts x rest (a_type g.time) = refl
 
 module _ (Deep : Type 0) where
   pub constant_complete : Complete Deep never IsConstant constant_at
-  unfolding constant_at
+  unfolding constant_at literal_at
   constant_complete ts x rest negative st = inl refl
   constant_complete ts x rest plain st = inl refl
   constant_complete ts x rest with_type st = inl refl

@@ -13,16 +13,17 @@ use Rattle.fb_model.specs.StructuredTextGrammar.{IsInteger}
 use Rattle.fb_model.specs.Declarations.{BoundsTree, StartTree, VariableTree}
 use Rattle.fb_model.specs.DeclarationGrammar.{IsKind, unsaid, said, IsWith, alone, along, IsEvent, an_event, IsType, IsTypeName, a_type, IsStart, no_start, a_start, IsVariable, of_type, IsBounds, some_bounds, IsInternal, a_variable, an_array}
 use Rattle.fb_model.specs.DeclarationGrammar as g
-use Rattle.fb_read.specs.Reading.{stuck, Answer, ◌>>=◌, next_is, after, offset_at, name_at, type_step, type_at, list_at}
+use Rattle.fb_read.specs.Reading.{stuck, Answer, ◌>>=◌, is, next_is, after, offset_at, name_at, type_step, type_at, list_at}
 use Rattle.fb_read.proofs.Readers.{Meets, Sound, meets_then, meets_as, seen, expect_then, opens, may_open, name_sound}
 use Rattle.fb_read.proofs.Repetitions.{separated_sound}
 use Rattle.st_parse.specs.Reading.{integer_at}
 use Rattle.st_parse.proofs.Labels.{integer_sound}
-use Rattle.fb_text.specs.Reading.{negative_at, marked_at, constant_at, word_at, kind_at, with_at, event_at, start_at, plain_at, names_at, variable_at, bounds_at, array_at, internal_at}
+use Rattle.st_parse.specs.ConstantReading.{number_at, marked_at, literal_at}
+use Rattle.fb_text.specs.Reading.{constant_at, word_at, kind_at, with_at, event_at, start_at, plain_at, names_at, variable_at, bounds_at, array_at, internal_at}
 
 -- ---- constants
 
-negative_sound : (s e : ℕ) (ts : List Token) → Meets (IsConstant (token (mark m.Minus) s e ∷ ts)) (negative_at ts)
+negative_sound : (s e : ℕ) (ts : List Token) → Meets (IsConstant (token (mark m.Minus) s e ∷ ts)) (number_at true ts)
 negative_sound s e [] = tt
 negative_sound s e (token (name x) s' e' ∷ ts) = tt
 negative_sound s e (token (number n) s' e' ∷ ts) = negative
@@ -30,14 +31,14 @@ negative_sound s e (token (typed t b n) s' e' ∷ ts) = tt
 negative_sound s e (token (duration b n) s' e' ∷ ts) = tt
 negative_sound s e (token (mark k) s' e' ∷ ts) = tt
 
-marked_sound : (k : Mark) (s e : ℕ) (ts : List Token) → Meets (IsConstant (token (mark k) s e ∷ ts)) (marked_at k s ts)
+marked_sound : (k : Mark) (s e : ℕ) (ts : List Token) → Meets (IsConstant (token (mark k) s e ∷ ts)) (cond (is k m.Minus) (number_at true ts) (marked_at k s ts))
 marked_sound m.Minus s e ts = negative_sound s e ts
 marked_sound m.True s e ts = yes
 marked_sound m.False s e ts = no
 marked_sound other s e ts = tt
 
 pub constant_sound : Sound IsConstant constant_at
-unfolding constant_at
+unfolding constant_at literal_at
 constant_sound [] = tt
 constant_sound (token (name x) s e ∷ ts) = tt
 constant_sound (token (number n) s e ∷ ts) = plain

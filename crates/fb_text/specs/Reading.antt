@@ -1,40 +1,24 @@
 -- Reading texts from left to right, production by production.
-use Rattle.std.specs.Prelude.{ℕ, ◌+◌, List, [], ◌∷◌, length, Bool, true, false, ◌==◌, Option, None, Some, Result, Ok, Err, if◌then◌else◌, codes}
+use Rattle.std.specs.Prelude.{ℕ, List, [], ◌∷◌, Bool, true, false, ◌==◌, Option, None, Some, Result, Ok, if◌then◌else◌, codes}
 use Rattle.std.specs.Str.{bytes_eq}
-use Rattle.fb_words.specs.declared.mark.Mark.{Mark}
 use Rattle.fb_words.specs.declared.mark.Mark.TheVariants as m
 use Rattle.fb_words.specs.declared.elem_type.ElemType.{ElemType}
-use Rattle.fb_model.specs.Tokens.{Token, token, name, number, typed, duration, mark}
+use Rattle.fb_model.specs.Tokens.{Token, token, name, number}
 use Rattle.fb_model.specs.Productions.{Word}
-use Rattle.fb_model.specs.Trees.{Whole, Typed, Duration, Truth, Constant, ActionTree, StateTree, ParameterTree, PortTree, ConnectionTree}
+use Rattle.fb_model.specs.Trees.{Constant, ActionTree, StateTree, ParameterTree, PortTree, ConnectionTree}
 use Rattle.fb_model.specs.StructuredText.{Expression, Statements}
 use Rattle.fb_model.specs.StructuredTextGrammar.{most_nested, most_nested_statements}
 use Rattle.fb_model.specs.Declarations.{EventTree, BoundsTree, StartTree, VariableTree, GuardTree, TransitionTree, AlgorithmTree, ChartTree, InstanceTree, NetworkTree, BodyTree, Chart, Network, BlockTree, ResourceTree, DeviceTree, SystemTree, SourceTree}
-use Rattle.fb_read.specs.Reading.{Wrong, syntax, stuck, Read, ◌>>=◌, next_is, after, expect, offset_at, name_at, type_at, begins_name, items_at, list_at, closed_at, section_at, whole_of}
+use Rattle.fb_read.specs.Reading.{Wrong, stuck, Read, ◌>>=◌, next_is, after, expect, offset_at, name_at, type_at, begins_name, items_at, list_at, closed_at, section_at, whole_of}
+use Rattle.st_parse.specs.ConstantReading.{number_at, literal_at}
 use Rattle.st_parse.specs.ExpressionReading.{expression_at}
 use Rattle.st_parse.specs.Reading.{integer_at, algorithm_at}
 
 -- ---- constants
 
--- the number behind a `-`
-abbrev pub negative_at : Read Constant
-negative_at [] = stuck []
-negative_at (token (number n) s e ∷ ts) = Ok (record { value = Whole true n; at = s }, ts)
-negative_at (token other s e ∷ ts) = stuck (token other s e ∷ ts)
-
-abbrev pub marked_at : Mark → ℕ → Read Constant
-marked_at m.Minus s ts = negative_at ts
-marked_at m.True s ts = Ok (record { value = Truth true; at = s }, ts)
-marked_at m.False s ts = Ok (record { value = Truth false; at = s }, ts)
-marked_at other s ts = Err (syntax (length ts + 1))
-
+-- a literal, or a `-` and a number without a type
 unfoldable pub constant_at : Read Constant
-constant_at [] = stuck []
-constant_at (token (name x) s e ∷ ts) = stuck (token (name x) s e ∷ ts)
-constant_at (token (number n) s e ∷ ts) = Ok (record { value = Whole false n; at = s }, ts)
-constant_at (token (typed t b n) s e ∷ ts) = Ok (record { value = Typed t b n; at = s }, ts)
-constant_at (token (duration b n) s e ∷ ts) = Ok (record { value = Duration b n; at = s }, ts)
-constant_at (token (mark k) s e ∷ ts) = marked_at k s ts
+constant_at ts = if next_is m.Minus ts then number_at true (after ts) else literal_at ts
 
 -- ---- events
 

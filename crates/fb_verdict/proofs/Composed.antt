@@ -1,37 +1,25 @@
 -- The parts of a verdict make a certificate that fits.
-use Rattle.std.proofs.Common.{◌≡◌, ℕ, List, [], ◌∷◌, Some, map}
+use Rattle.std.proofs.Common.{◌≡◌, ℕ, List, [], ◌∷◌, Some}
 use Rattle.std.specs.List.{AllByRecursion}
 use Rattle.fb_model.specs.System.{Device, System}
-use Rattle.fb_model.specs.StructuredTextGrammar.{most_nested, most_nested_statements}
 use Rattle.fb_model.specs.Wires.{Kind, Charted, Serviced, Leaf, leaves}
 use Rattle.fb_model.specs.Ranges.{Range, LeafClears, KindClears}
 use Rattle.fb_model.specs.Certificates as book
-use Rattle.fb_model.specs.Certificates.{ColumnFits, DeviceFits, DeviceHolds, AllRows, steps_of, places_of, FollowsFew, FarFits, Fits}
-use Rattle.fb_model.proofs.Lists.{all_both, all_weaker}
+use Rattle.fb_model.specs.Certificates.{ColumnFits, DeviceFits, AllRows, steps_of, places_of, FollowsFew, FarFits, Fits}
+use Rattle.fb_model.proofs.Lists.{all_both}
 use Rattle.fb_model_laws.specs.Words.{IsWordyLeaf, IsWordyDevice}
 use Rattle.fb_model_laws.specs.Leaves.{IsClosed}
-use Rattle.fb_model_laws.proofs.Holding.{fitting_devices_hold}
 use Rattle.fb_model_laws.proofs.Closed.{all_charts_closed}
 use Rattle.fb_cert.specs.declared.certificate.Certificate.{Certificate}
 use Rattle.fb_cert.specs.Views.{certificate_of}
-use Rattle.fb_flat.specs.declared.flat.FlatDevice.{FlatDevice}
-use Rattle.fb_flat.specs.Leaves.{flat_device, written_device}
-use Rattle.fb_flat.specs.Tables.{AreDevices}
-use Rattle.fb_flat.proofs.Read.{devices_are}
 use Rattle.fb_check_columns.specs.Columns.{column_of}
 use Rattle.fb_check_columns.specs.declared.column.Column.TheVariants.{Steps, Places}
 use Rattle.fb_check_ranges.specs.Fitting.{AllClear, IsKnownLeaf as IsPlainLeaf, AreKnown as ArePlain}
 use Rattle.fb_check_columns.specs.Fitting.{AlgorithmsClear, IsKnownLeaf, AreKnown, AllPay}
 use Rattle.fb_check_rows.specs.Depths.{IsDeep}
-use Rattle.fb_verdict.specs.Verdicts.{IsWritten}
+use Rattle.fb_types.specs.Written.{IsWritten}
 use Rattle.fb_verdict.specs.Fitting.{FitsAlone}
-use Rattle.fb_types_events.proofs.EventTrees.{event_source}
-use Rattle.fb_types_events.proofs.Spelled.{event_source_spelled}
-use Rattle.fb_verdict.proofs.Reading.{with_event_trees, words}
-
--- the tables of a system that stands in texts
-pub tables_are : (s : System) (fs : List FlatDevice) → IsWritten s → map flat_device fs ≡ map written_device s.devices → AreDevices fs s.devices
-tables_are s fs w e = devices_are fs s.devices e (words s w)
+use Rattle.fb_verified.proofs.Written.{words}
 
 algorithms : (ranges : List Range) (all : List Leaf) (leaf : Leaf) (kind : Kind) → KindClears ranges all leaf.path leaf.source kind → AlgorithmsClear ranges leaf.path kind
 algorithms ranges all leaf (Charted block) h = h.algorithms
@@ -79,10 +67,3 @@ alone_by s cert few rows clear steps places deep =
 -- and the network too, so the certificate fits
 pub fits_with : (s : System) (cert : book.Certificate) → FitsAlone s cert → ((r : ℕ) → cert.repeats ≡ Some r → FarFits cert r s) → Fits s cert
 fits_with s cert a far = record { followed = a.followed; rows = a.rows; clear = a.clear; devices = a.devices; far = far }
-
--- where a certificate fits a system that stands in texts, each device holds
-pub devices_hold : (system : System) (cert : book.Certificate) → IsWritten system → Fits system cert → AllByRecursion (DeviceHolds cert) system.devices
-devices_hold system cert (text, is) fits =
-    let l = event_source_spelled in
-    let x = is.source_is in
-    fitting_devices_hold l.0 x.0 most_nested most_nested_statements most_nested most_nested_statements event_source is.source system l.2 x.2 (with_event_trees is.source system is.typed) cert fits

@@ -1,4 +1,3 @@
-pub mod Lookups
 pub mod Reading
 pub mod Composed
 pub mod Denied

@@ -1,21 +1,11 @@
 -- Faults of texts as refusals, and what stands in texts.
-use Rattle.std.proofs.Common.{◌≡◌, ℕ, List, map, subst, sym, refl, Result, Ok, Err}
+use Rattle.std.proofs.Common.{◌≡◌, ℕ, List, subst, sym, refl, Result, Ok, Err}
 use Rattle.std.specs.Prelude.{IfOk, OnOk}
-use Rattle.std.specs.List.{AllByRecursion}
 use Rattle.fb_model.specs.Certificates as book
 use Rattle.fb_model.specs.CertificateText.{Spells}
 use Rattle.fb_model.specs.Declarations.{SourceTree}
-use Rattle.fb_model.specs.StructuredTextGrammar.{most_nested, most_nested_statements}
 use Rattle.fb_model.specs.System.{System}
 use Rattle.fb_model.specs.EventBlocks.{Elaborates}
-use Rattle.fb_model.specs.NetworkTyping.{ElaboratesWith}
-use Rattle.fb_types_events.specs.declared.library.TheConstants.{EVENT_BLOCKS}
-use Rattle.fb_types_events.proofs.EventTrees.{event_trees, event_source}
-use Rattle.fb_types_events.proofs.Declared.{trees_declare}
-use Rattle.fb_types_events.proofs.Spelled.{event_source_spelled}
-use Rattle.fb_types.proofs.Beforehand.{elaborated_with}
-use Rattle.fb_model_laws.specs.Words.{IsWordyDevice}
-use Rattle.fb_model_laws.proofs.Systems.{wordy}
 use Rattle.fb_lex.specs.declared.fault.TextFault.{TextFault}
 use Rattle.fb_lex.specs.declared.fault.TextFault.TheVariants as texts
 use Rattle.fb_types_blocks.specs.declared.fault.TypeFault.{TypeFault}
@@ -27,14 +17,15 @@ use Rattle.fb_cert.specs.declared.fault.CertFault.TheVariants as certs
 use Rattle.fb_cert.specs.Answers.{Refuses, Finds}
 use Rattle.fb_tree.specs.Sources.{IsSource}
 use Rattle.fb_text.specs.Answers.{ReadsText, FindsTree}
-use Rattle.fb_verdict.specs.Checked.{Checked}
+use Rattle.fb_verified.specs.Checked.{Checked, system_in, certificate_in}
 use Rattle.fb_verdict.specs.declared.refusal.Refusal.{Refusal}
 use Rattle.fb_verdict.specs.declared.refusal.Refusal.TheVariants.{OutOfMemory, Text, Typing, Certificate as Spelling, UnknownRow, MissingRow, UnknownChannel, MissingChannel, RangeStart, RangeLink, RangeKept, IndexOrDivisor, Charge, Weight, Depth, Far, Channel}
 use Rattle.fb_verdict.specs.Refusals.{of_text, of_type, of_certificate}
 use Rattle.fb_model.specs.Certificates.{Fits}
 use Rattle.fb_types.specs.declared.typed.Configuration.{Configuration}
 use Rattle.fb_types.specs.Views.{system_of, system_offsets, all_offsets}
-use Rattle.fb_verdict.specs.Verdicts.{IsSystemOf, IsTypedOf, IsWritten, IsTypingFault, IsTextFault, IsCertificateFault, IsOfTexts, system_in, certificate_in}
+use Rattle.fb_types.specs.Written.{IsSystemOf}
+use Rattle.fb_verdict.specs.Verdicts.{IsTypedOf, IsTypingFault, IsTextFault, IsCertificateFault, IsOfTexts}
 
 pub typing_fault : (source : SourceTree) (f : TypeFault) → IsRefused source f → IsTypingFault source (of_type f)
 typing_fault source faults.OutOfMemory h = tt
@@ -114,17 +105,6 @@ no_room view certs.OutOfMemory y h = refl
 no_room view certs.TooLong y h = absurd h
 no_room view (certs.Row line) y h = absurd h
 no_room view (certs.DuplicateRow line) y h = absurd h
-
--- a source is well typed with the event blocks as their text has them
-pub with_event_trees : (source : SourceTree) (s : System) → Elaborates source s → ElaboratesWith event_trees source s
-with_event_trees source s h = elaborated_with event_trees source s trees_declare h
-
--- the names of what stands in texts are words
-pub words : (s : System) → IsWritten s → AllByRecursion IsWordyDevice s.devices
-words s (text, is) =
-    let l = event_source_spelled in
-    let x = is.source_is in
-    wordy EVENT_BLOCKS.now text l.0 x.0 most_nested most_nested_statements most_nested most_nested_statements event_source is.source s l.1 l.2 x.1 x.2 (with_event_trees is.source s is.typed)
 
 -- a source that is the same is well typed alike
 pub along : (x y : SourceTree) (system : System) → x ≡ y → Elaborates y system → Elaborates x system

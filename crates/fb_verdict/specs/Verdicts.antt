@@ -1,35 +1,20 @@
 -- What a verdict says of the two texts.
-use Rattle.std.specs.Prelude.{ℕ, ◌≡◌, List, Err, map}
+use Rattle.std.specs.Prelude.{ℕ, ◌≡◌, List, Err}
 use Rattle.fb_model.specs.Declarations.{SourceTree}
-use Rattle.fb_model.specs.System.{System}
 use Rattle.fb_model.specs.Certificates as book
 use Rattle.fb_model.specs.CertificateText.{Spells}
-pub use Rattle.fb_model.specs.CertificateText.{IsTold}
 use Rattle.fb_tree.specs.Sources.{IsSource}
 use Rattle.fb_text.specs.Answers.{ReadsText}
 use Rattle.fb_types.specs.declared.typed.Configuration.{Configuration}
 use Rattle.fb_types.specs.Views.{system_of, system_offsets, all_offsets}
 use Rattle.fb_types.specs.Beforehand.{IsRefused}
-pub use Rattle.fb_types.specs.Written.{IsSystemOf, IsWritten}
-use Rattle.fb_flat.specs.Leaves.{flat_device, written_device}
-use Rattle.fb_cert.specs.Views.{certificate_of}
+use Rattle.fb_types.specs.Written.{IsSystemOf}
 use Rattle.fb_cert.specs.Answers.{Refuses}
-use Rattle.fb_verdict.specs.Checked.{Checked}
+use Rattle.fb_verified.specs.Checked.{Checked, system_in, certificate_in}
 use Rattle.fb_verdict.specs.declared.refusal.Refusal.{Refusal}
 use Rattle.fb_verdict.specs.declared.refusal.Refusal.TheVariants.{OutOfMemory, Text, Typing, Certificate}
 use Rattle.fb_model.specs.Certificates.{Fits}
 use Rattle.fb_verdict.specs.Faults.{IsFitFault}
-
--- the system and the certificate that were verified
-abbrev pub system_in : Checked → System
-system_in v = system_of v.typed
-
-abbrev pub certificate_in : Checked → book.Certificate
-certificate_in v = certificate_of v.certificate
-
--- the tables of a system are its leaves
-abbrev pub AreTables : Checked → Type 0
-AreTables v = map flat_device v.flat.devices.items ≡ map written_device (system_in v).devices
 
 -- this is its typed system, whose resources have the offsets of their names in the text
 pub record IsTypedOf (text : List ℕ) (typed : Configuration) : Type 0 where
@@ -41,13 +26,6 @@ pub record IsOfTexts (text certificate : List ℕ) (v : Checked) : Type 0 where
   pub system_is : IsSystemOf text (system_in v)
   pub certificate_is : Spells certificate (certificate_in v)
   pub fits : Fits (system_in v) (certificate_in v)
-
--- what holds of all that was checked: the system stands in a text and the certificate in another, this fits, and the tables are the system's own
-pub record IsChecked (v : Checked) : Type 0 where
-  pub written : IsWritten (system_in v)
-  pub told : IsTold (certificate_in v)
-  pub fits : Fits (system_in v) (certificate_in v)
-  pub tables : AreTables v
 
 -- what is at fault in a source tree
 abbrev pub IsTypingFault : SourceTree → Refusal → Type 0

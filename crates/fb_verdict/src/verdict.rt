@@ -21,20 +21,22 @@ ghost use Rattle.fb_check_columns.specs.Fitting.{AllPay, AreKnown, IsUnpaid};
 ghost use Rattle.fb_verdict.specs.Fitting.{FitsAlone};
 ghost use Rattle.fb_verdict.specs.Refusals.{of_far};
 ghost use Rattle.fb_verdict.specs.Faults.{IsFitFault};
-ghost use Rattle.fb_verdict.specs.Verdicts.{system_in, certificate_in, IsWritten, IsOfTexts, IsFaultOf};
+ghost use Rattle.fb_verified.specs.Checked.{system_in, certificate_in};
+ghost use Rattle.fb_types.specs.Written.{IsWritten};
+ghost use Rattle.fb_verdict.specs.Verdicts.{IsOfTexts, IsFaultOf};
 ghost use Rattle.fb_lex.specs.declared.fault.TextFault.TheVariants as texts;
 ghost use Rattle.fb_verdict.specs.declared.refusal.Refusal.TheVariants.{OutOfMemory};
 ghost use Rattle.fb_verdict.specs.declared.refusal.Refusal.TheVariants as refusals;
 
 use crate::refusal::Refusal;
 use crate::texts::{read_certificate, read_system};
-use crate::verified::Verified;
 use fb_cert::Certificate;
 use fb_check_columns::{Column, Shortfall, channels_pay, column_pays};
 use fb_check_ranges::rows_clear;
 use fb_check_rows::{depths_fit, rows_match};
 use fb_flat::{Flat, flatten};
 use fb_types::Typed;
+use fb_verified::Verified;
 use std::alloc::Global;
 
 // The rows are those that the system must have, all is clear under them, and they pay in both columns and at each queue.
@@ -134,11 +136,7 @@ fn verified(alloc: Global, typed: Typed, certificate: Certificate) -> Result<Ver
     typed.stands_in_text();
     certificate.stands_in_text();
     match fitting_leaves(alloc, &typed, &certificate) {
-        Ok(flat) => Ok(Verified {
-            typed,
-            flat,
-            certificate,
-        }),
+        Ok(flat) => Ok(Verified::new(typed, flat, certificate)),
         Err(refusal) => {
             typed.let_go();
             certificate.let_go();

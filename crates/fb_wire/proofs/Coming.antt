@@ -7,9 +7,10 @@ use Rattle.fb_model.specs.Messages as book
 use Rattle.fb_model.specs.Messages.{Message, Spells, IsStamped}
 use Rattle.fb_wire.specs.declared.message.Typed.{Typed}
 use Rattle.fb_model.specs.Fields.{Fault, Trailing, first_fault, values_in, fault_in}
+use Rattle.fb_model_texts.proofs.Messages.{in_64}
 use Rattle.fb_wire.specs.Views.{typed_of, value_bytes, all_bytes, head_bytes, IsBegun}
 use Rattle.fb_wire.proofs.Reading.{head_right, value_right}
-use Rattle.fb_wire.proofs.Spelled.{in_64, spelled}
+use Rattle.fb_wire.proofs.Spelled.{spelled}
 
 abbrev pub AreFitting : List Typed → Type 0
 AreFitting vs = AllByRecursion (λ (v : Typed). in_type v.elem v.value ≡ true) vs

@@ -1,4 +1,3 @@
 pub mod Reading
 pub mod Spelled
 pub mod Coming
-pub mod Unique

@@ -1,18 +1,17 @@
 -- Fields that are right, that are not, and that are not whole.
 use Rattle.std.proofs.Common.{ℕ, suc, ◌≡◌, ◌<◌, ◌≤◌, ◌++◌, ◌/◌, ◌%◌, Bool, true, false, List, [], ◌∷◌, length, take, drop, None, Some, Option, refl, sym, ◌∙◌, ap, subst, arith}
 use Rattle.std.specs.Prelude.{nat_lt, ℤ, slice_index_or, ◌^◌, FitsSigned}
-use Rattle.std.specs.Int.{w64, cast_signed, cast_unsigned, from_be_bytes, to_be_bytes}
+use Rattle.std.specs.Int.{w64, cast_unsigned, from_be_bytes, to_be_bytes}
 use Rattle.std.proofs.lemmas.Bool.{cond-true, cond-false, le-ltb, le-leb}
 use Rattle.std.proofs.lemmas.List.{length-append}
-use Rattle.std.proofs.lemmas.Int.{of_z-to_z, to_z-of_z}
-use Rattle.std.proofs.Math.Facts.{Fits-of_z}
-use Rattle.std.proofs.lemmas.Nat.{be_bytes_8, from_be_bytes-to_be_bytes_8}
+use Rattle.std.proofs.lemmas.Int.{of_z-to_z}
+use Rattle.std.proofs.lemmas.Nat.{be_bytes_8}
 use Rattle.std.proofs.Math.Seq.{take-append_seam, drop-append_seam}
 use Rattle.fb_words.specs.declared.elem_type.ElemType.{ElemType}
-use Rattle.fb_words.specs.declared.elem_type.ElemType.TheVariants as t
 use Rattle.fb_words.specs.Numbers.{in_type}
 use Rattle.fb_wire.specs.declared.message.Typed.{Typed}
 use Rattle.fb_model.specs.Fields.{Value, Field, first_fault, fault_in, type_of, is_in, is_type, number_in, mark, version, kind, number, stamping, count, code, value, values_in}
+use Rattle.fb_model_texts.proofs.Messages.{type_of_code, read_again}
 use Rattle.fb_wire.specs.Views.{code_of, value_bytes, head_bytes}
 use Rattle.fb_model.specs.Messages.{Message, Purpose, To_channel, To_input, Stamp, IsStamped, purpose_code, big_endian}
 
@@ -38,18 +37,6 @@ wrong f fs p rest h r =
     cond-false (nat_lt (length (p ++ rest)) f.width) _ _ (long p rest f.width h)
     ∙ cond-false (f.is_right (take f.width (p ++ rest))) _ _ (ap f.is_right (taken p rest f.width h) ∙ r)
 
--- the type of a code, and the code of a type
-pub type_of_code : (e : ElemType) → type_of (code_of e) ≡ Some e
-type_of_code t.Bool = refl
-type_of_code t.Sint = refl
-type_of_code t.Int = refl
-type_of_code t.Dint = refl
-type_of_code t.Lint = refl
-type_of_code t.Usint = refl
-type_of_code t.Uint = refl
-type_of_code t.Udint = refl
-type_of_code t.Time = refl
-
 -- eight bytes, read and written again
 below : (bs : List ℕ) → ((i : ℕ) → slice_index_or bs i 0 < 256) → from_be_bytes w64 bs < 2 ^ 64
 below bs h = omega (arith, h 0, h 1, h 2, h 3, h 4, h 5, h 6, h 7)
@@ -58,10 +45,6 @@ pub written_again : (bs : List ℕ) (x : ℤ) → length bs ≡ 8 → ((i : ℕ)
 written_again bs x l h e =
     let n : cast_unsigned w64 x ≡ from_be_bytes w64 bs = ap (cast_unsigned w64) e ∙ of_z-to_z w64 (from_be_bytes w64 bs) (below bs h) in
     be_bytes_8 bs (cast_unsigned w64 x) l h n
-
--- a number of 64 bits, written and read again
-pub read_again : (x : ℤ) → FitsSigned w64 x → number_in (to_be_bytes w64 (cast_unsigned w64 x)) ≡ x
-read_again x f = ap (cast_signed w64) (from_be_bytes-to_be_bytes_8 (cast_unsigned w64 x) (omega (arith, Fits-of_z f))) ∙ to_z-of_z w64 x f
 
 -- a value that is whole and in its type, and one that is not in its type
 module _ (e : ElemType) (x : ℤ) (n : ℕ) (rest : List ℕ) (f : FitsSigned w64 x) where

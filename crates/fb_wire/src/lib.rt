@@ -11,5 +11,5 @@ mod message;
 pub use decoding::decode;
 pub use encoding::{Datagram, encode};
 pub use fault::WireFault;
-pub use law::{bytes_spell_one_message, faulty_bytes_spell_nothing};
+pub use law::faulty_bytes_spell_nothing;
 pub use message::{Message, Purpose, Stamp, Typed};

@@ -11,11 +11,11 @@ use Rattle.fb_model.proofs.Lists.{all_weaker}
 use Rattle.fb_model_worlds.specs.Worlds.{IsWorldSound}
 use Rattle.fb_model_worlds.proofs.Cases.{device_holds}
 use Rattle.fb_model_worlds.proofs.Growing.{offer_grows, tick_grows}
-use Rattle.fb_verdict.specs.declared.verified.Verified.{Verified}
-use Rattle.fb_verdict.specs.Verdicts.{system_in, certificate_in}
-use Rattle.fb_device.specs.fb_device_arrivals.declared.denied.Denied.{Denied}
-use Rattle.fb_device.specs.fb_device_arrivals.Answers.{admission_of}
-use Rattle.fb_device.specs.fb_device_state.Machines.{device_in, cert_in, machine_of}
+use Rattle.fb_verified.specs.declared.verified.Verified.{Verified}
+use Rattle.fb_verified.specs.Checked.{system_in, certificate_in}
+use Rattle.fb_device_arrivals.specs.declared.denied.Denied.{Denied}
+use Rattle.fb_device_arrivals.specs.Answers.{admission_of}
+use Rattle.fb_device_state.specs.Machines.{device_in, cert_in, machine_of}
 use Rattle.fb_world.specs.declared.station.Root.{Root}
 use Rattle.fb_world.specs.declared.station.Station.{Station}
 use Rattle.fb_world.specs.declared.course.Course.{Course}

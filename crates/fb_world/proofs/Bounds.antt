@@ -10,17 +10,18 @@ use Rattle.fb_model.specs.World as book
 use Rattle.fb_model.specs.World.{World, AreWithin}
 use Rattle.fb_model.proofs.Networks.{fits_pays}
 use Rattle.fb_model_worlds.proofs.Running.{bounds_roots}
-use Rattle.fb_verdict.specs.declared.verified.Verified.{Verified}
-use Rattle.fb_verdict.specs.Verdicts as verdicts
-use Rattle.fb_verdict.specs.Verdicts.{system_in, IsChecked}
-use Rattle.fb_verdict.specs.Lookups.{is_same_path}
-use Rattle.fb_device.specs.fb_device_state.Machines.{device_in}
+use Rattle.fb_verified.specs.declared.verified.Verified.{Verified}
+use Rattle.fb_verified.specs.Checked as checks
+use Rattle.fb_verified.specs.Checked.{system_in, IsChecked}
+use Rattle.fb_verified.specs.Lookups.{is_same_path}
+use Rattle.fb_device_state.specs.Machines.{device_in}
 use Rattle.fb_world.specs.declared.station.Root.{Root}
 use Rattle.fb_world.specs.declared.station.Station.{Station}
 use Rattle.fb_world.specs.declared.course.Course.{Course}
 use Rattle.fb_world.specs.Scenes.{root_in, opening_place, world_in}
 use Rattle.fb_world.specs.Keeping.{IsReached, IsRoot, IsKept}
-use Rattle.fb_world.proofs.Lists.{some_same, some_none, all_at, all_by, got_there, got_within, same_got}
+use Rattle.fb_lists.proofs.Lists.{all_got, within_got, same_at}
+use Rattle.fb_world.proofs.Lists.{some_same, some_none, all_by, got_there}
 use Rattle.fb_world.proofs.Kept.{all_hold, device_stands}
 
 few_row : (words : List (List ℕ)) (n : ℕ) → IsTextRow words (repeats n) → n ≤ 255
@@ -44,27 +45,27 @@ few_repeats : (cert : Certificate) (r : ℕ) → IsTold cert → cert.repeats �
 few_repeats cert r t e = (let s = t.1 in few_in s.others s.entries r s.others_are (ap (λ (c : Certificate). c.repeats) (sym s.certificate_is) ∙ e))
 
 -- the steps of a root that was opened are at most the FAR of its opening, where its datagrams without a stamp were admitted at most so often
-pub root_bounded : (v : Verified) (w : World) → IsChecked v → IsReached (system_in v) (verdicts.certificate_in v) w → (r n : ℕ) → (verdicts.certificate_in v).repeats ≡ Some r → 0 < n → n < w.next → AreWithin r n w.datagrams
-    → (w.roots n).steps ≤ (far_of (verdicts.certificate_in v)).weight (w.roots n).opening
+pub root_bounded : (v : Verified) (w : World) → IsChecked v → IsReached (system_in v) (checks.certificate_in v) w → (r n : ℕ) → (checks.certificate_in v).repeats ≡ Some r → 0 < n → n < w.next → AreWithin r n w.datagrams
+    → (w.roots n).steps ≤ (far_of (checks.certificate_in v)).weight (w.roots n).opening
 root_bounded v w c reached r n e low high within =
-    bounds_roots (system_in v) (verdicts.certificate_in v) (all_hold v c) (λ m i. fits_pays (system_in v) (verdicts.certificate_in v) m (c.fits.far m i)) reached.first reached.is_first reached.events reached.answers w r n e
-    (few_repeats (verdicts.certificate_in v) r c.told e) reached.run low high within
+    bounds_roots (system_in v) (checks.certificate_in v) (all_hold v c) (λ m i. fits_pays (system_in v) (checks.certificate_in v) m (c.fits.far m i)) reached.first reached.is_first reached.events reached.answers w r n e
+    (few_repeats (checks.certificate_in v) r c.told e) reached.run low high within
 
 pub if_some : (o : Option ℕ) (P Q : ℕ → Type 0) → ((x : ℕ) → P x → Q x) → IfSome o P → IfSome o Q
 if_some None P Q f h = tt
 if_some (Some x) P Q f h = f x h
 
 -- what is told of a root is bounded by what is told of its FAR
-pub root_told : (v : Verified) (c : Course) → IsKept v c → (n : ℕ) (r : Root) → slice_get c.roots.items (n - 1) ≡ Some r → 0 < n → (m : ℕ) → (verdicts.certificate_in v).repeats ≡ Some m → AreWithin m n (world_in v c).datagrams → IfSome r.opening.far (λ most. r.steps ≤ most)
+pub root_told : (v : Verified) (c : Course) → IsKept v c → (n : ℕ) (r : Root) → slice_get c.roots.items (n - 1) ≡ Some r → 0 < n → (m : ℕ) → (checks.certificate_in v).repeats ≡ Some m → AreWithin m n (world_in v c).datagrams → IfSome r.opening.far (λ most. r.steps ≤ most)
 root_told v c k zero r at low m e within = absurd (omega (arith, low))
 root_told v c k (suc n) r at low m e within =
     let here : slice_get c.roots.items n ≡ Some r = ap (slice_get c.roots.items) (let i : n ≡ suc n - 1 = omega arith in i) ∙ at in
     let root_is : (world_in v c).roots (suc n) ≡ root_in (system_in v) (Some r) = ap (root_in (system_in v)) here in
-    let bound = root_bounded v (world_in v c) k.checked k.reached m (suc n) e low (omega (arith, got_within c.roots.items n r here)) within in
-    let told = (all_at (IsRoot v c.dispatches) c.roots.items n r here k.steady.roots).far in
-    let far_is : r.opening.far ≡ Some ((far_of (verdicts.certificate_in v)).weight (opening_place (system_in v) r.device r.opening)) =
-    told ∙ ap (option_map (λ (x : ℕ). (far_of (verdicts.certificate_in v)).weight (opening_place (system_in v) r.device r.opening))) e in
-    subst (λ o. IfSome o (λ most. r.steps ≤ most)) (sym far_is) (omega (arith, bound, ap (λ (x : book.Root). x.steps) root_is, ap (λ (x : book.Root). (far_of (verdicts.certificate_in v)).weight x.opening) root_is))
+    let bound = root_bounded v (world_in v c) k.checked k.reached m (suc n) e low (omega (arith, within_got c.roots.items n r here)) within in
+    let told = (all_got (IsRoot v c.dispatches) c.roots.items n r k.steady.roots here).far in
+    let far_is : r.opening.far ≡ Some ((far_of (checks.certificate_in v)).weight (opening_place (system_in v) r.device r.opening)) =
+    told ∙ ap (option_map (λ (x : ℕ). (far_of (checks.certificate_in v)).weight (opening_place (system_in v) r.device r.opening))) e in
+    subst (λ o. IfSome o (λ most. r.steps ≤ most)) (sym far_is) (omega (arith, bound, ap (λ (x : book.Root). x.steps) root_is, ap (λ (x : book.Root). (far_of (checks.certificate_in v)).weight x.opening) root_is))
 
 -- ---- devices by their names
 
@@ -74,7 +75,7 @@ pub named_so : (v : Verified) (c : Course) → IsKept v c → (name : List ℕ) 
 named_so v c k name None h =
     all_by (λ (d : Device). is_same_path d.name name ≡ false) (system_in v).devices
     (λ i d at.
-    let (s, stands) = got_there c.stations.items i (omega (arith, got_within (system_in v).devices i d at, k.steady.count)) in
-    let is = same_got (system_in v).devices i (device_in s.device) d (device_stands v c k.steady.count i s stands (k.steady.stations i s stands)) at in
-    subst (λ (x : Device). is_same_path x.name name ≡ false) is (all_at (λ (x : Station). is_same_path (device_in x.device).name name ≡ false) c.stations.items i s stands h))
+    let (s, stands) = got_there c.stations.items i (omega (arith, within_got (system_in v).devices i d at, k.steady.count)) in
+    let is = same_at (system_in v).devices i (device_in s.device) d (device_stands v c k.steady.count i s stands (k.steady.stations i s stands)) at in
+    subst (λ (x : Device). is_same_path x.name name ≡ false) is (all_got (λ (x : Station). is_same_path (device_in x.device).name name ≡ false) c.stations.items i s h stands))
 named_so v c k name (Some n) h = (device_in h.0.device, device_stands v c k.steady.count n h.0 h.1 (k.steady.stations n h.0 h.1), h.2)

@@ -9,18 +9,19 @@ use Rattle.fb_model.specs.Messages.{Spells}
 use Rattle.fb_model.specs.Devices as book
 use Rattle.fb_model.specs.Devices.{Machine, put, Deliver, Happens}
 use Rattle.fb_model.specs.World.{Datagram, Deliver_datagram, Answered, IsDelivered, admitted_at}
-use Rattle.fb_verdict.specs.declared.verified.Verified.{Verified}
-use Rattle.fb_verdict.specs.Verdicts.{system_in, certificate_in}
-use Rattle.fb_device.specs.fb_device_arrivals.declared.denied.Denied.{Denied}
-use Rattle.fb_device.specs.fb_device_arrivals.Answers.{admission_of}
-use Rattle.fb_device.specs.fb_device_state.Machines.{device_in, cert_in, machine_of}
+use Rattle.fb_verified.specs.declared.verified.Verified.{Verified}
+use Rattle.fb_verified.specs.Checked.{system_in, certificate_in}
+use Rattle.fb_device_arrivals.specs.declared.denied.Denied.{Denied}
+use Rattle.fb_device_arrivals.specs.Answers.{admission_of}
+use Rattle.fb_device_state.specs.Machines.{device_in, cert_in, machine_of}
 use Rattle.fb_world.specs.declared.sent.Sent.{Sent}
 use Rattle.fb_world.specs.declared.station.Station.{Station}
 use Rattle.fb_world.specs.declared.course.Course.{Course}
 use Rattle.fb_world.specs.Scenes.{root_for, root_in, numbered, datagram_of, world_in}
 use Rattle.fb_world.specs.Roots.{EntersRoot}
 use Rattle.fb_world.specs.Keeping.{IsStation, IsRoot, IsSteady, IsKept, Goes}
-use Rattle.fb_world.proofs.Lists.{eqb_suc, got_within}
+use Rattle.fb_lists.proofs.Lists.{within_got}
+use Rattle.fb_world.proofs.Lists.{eqb_suc}
 use Rattle.fb_world.proofs.Worlds.{machines_put, roots_put, machine_here, roots_here}
 use Rattle.fb_world.proofs.Kept.{device_stands, cert_same, steady_set, worlds_same}
 
@@ -95,7 +96,7 @@ module _ (v : Verified) (old new : Course) (k : IsKept v old) (n at : ℕ) (s t 
           delivered (book.Admitted cause) h,
           record {
             machines = machines_put v old new n s t stands set_is;
-            datagrams = ap (map datagram_of) grams ∙ admitted_so old.datagrams.items at n g g' got (one_admitted g g' n (omega (arith, k.steady.few, got_within old.stations.items n s stands)) is);
+            datagrams = ap (map datagram_of) grams ∙ admitted_so old.datagrams.items at n g g' got (one_admitted g g' n (omega (arith, k.steady.few, within_got old.stations.items n s stands)) is);
             root_of = roots_put v old new n s t stands set_is ∙ ap (put (world_in v old).root_of n) table;
             next = ap (λ xs. length xs + 1) roots;
             roots = ap (λ xs m. root_in (system_in v) (numbered xs m)) roots;

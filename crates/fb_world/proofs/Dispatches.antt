@@ -10,21 +10,21 @@ use Rattle.std.proofs.lemmas.Bool.{ne_eqb}
 use Rattle.fb_model.specs.System.{System, Device}
 use Rattle.fb_model.specs.Wires.{leaves}
 use Rattle.fb_model.specs.Devices as book
-use Rattle.fb_model.specs.Devices.{Machine, Entry, put, Happens, Runs}
+use Rattle.fb_model.specs.Devices.{Machine, put, Happens}
 use Rattle.fb_model.specs.World as worlds
-use Rattle.fb_model.specs.World.{World, Datagram, A_dispatch, At_device, Answered, AddsSteps, posted, number_sent, stepped, forgotten}
+use Rattle.fb_model.specs.World.{A_dispatch, At_device, Answered, AddsSteps, posted, number_sent, stepped, forgotten}
 use Rattle.fb_model_worlds.specs.Worlds.{IsOpened, IsWorldSound}
-use Rattle.fb_verdict.specs.declared.verified.Verified.{Verified}
-use Rattle.fb_verdict.specs.Verdicts.{system_in, certificate_in}
+use Rattle.fb_verified.specs.declared.verified.Verified.{Verified}
+use Rattle.fb_verified.specs.Checked.{system_in, certificate_in}
 use Rattle.fb_chart.specs.declared.standing.Effect.{Effect}
 use Rattle.fb_chart.specs.declared.standing.Effect.TheVariants as e
 use Rattle.fb_chart.specs.Responses.{effect_of}
-use Rattle.fb_device.specs.fb_device_dispatch.declared.answer.Ended.{Ended}
-use Rattle.fb_device.specs.fb_device_dispatch.declared.answer.Ran.{Ran}
-use Rattle.fb_device.specs.fb_device_dispatch.declared.answer.Dispatched.TheVariants as d
-use Rattle.fb_device.specs.fb_device_dispatch.Answers.{dispatched_of, end_of}
-use Rattle.fb_device.specs.fb_device_state.Sessions.{Session}
-use Rattle.fb_device.specs.fb_device_state.Machines.{device_in, cert_in, machine_of}
+use Rattle.fb_device_dispatch.specs.declared.answer.Ended.{Ended}
+use Rattle.fb_device_dispatch.specs.declared.answer.Ran.{Ran}
+use Rattle.fb_device_dispatch.specs.declared.answer.Dispatched.TheVariants as d
+use Rattle.fb_device_dispatch.specs.Answers.{dispatched_of, end_of}
+use Rattle.fb_device_state.specs.Sessions.{Session}
+use Rattle.fb_device_state.specs.Machines.{device_in, cert_in, machine_of}
 use Rattle.fb_world.specs.declared.sent.Sent.{Sent}
 use Rattle.fb_world.specs.declared.station.Root.{Root}
 use Rattle.fb_world.specs.declared.station.Station.{Station}
@@ -35,7 +35,8 @@ use Rattle.fb_world.specs.Roots.{with_device}
 use Rattle.fb_world.specs.Booking.{fresh, posted_in, number_in, with_steps, IsBookable, IsBooked}
 use Rattle.fb_world.specs.Keeping.{IsStation, IsRoot, IsKept, Goes}
 use Rattle.fb_world.specs.Room.{Uses}
-use Rattle.fb_world.proofs.Lists.{eqb_suc, set_got, set_here, set_twice, got_there, got_within, same_got, all_set, all_at}
+use Rattle.fb_lists.proofs.Lists.{set_stands, within_got, same_at, all_got}
+use Rattle.fb_world.proofs.Lists.{eqb_suc, set_got, set_twice, got_there, all_set}
 use Rattle.fb_world.proofs.Worlds.{cond_ap, put_same, machines_put, roots_put, machine_here, roots_here}
 use Rattle.fb_world.proofs.Openings.{device_same}
 use Rattle.fb_world.proofs.Kept.{reached_sound, device_stands, cert_same, steady_set, worlds_same}
@@ -84,7 +85,7 @@ stepped_so system roots r steps root h = λ i n. at n i
     at : (n : ℕ) → root_in system (numbered (set roots r (with_steps root steps)) n) ≡ stepped (λ m. root_in system (numbered roots m)) (suc r) steps n
     at zero = sym (ap (λ b. cond b (record { opening = (f (suc r)).opening; steps = (f (suc r)).steps + steps }) (f zero)) (ne_eqb (suc r) zero (λ e. omega (arith, e))))
     at (suc k) =
-        ap (root_in system) (set_got roots r k (with_steps root steps) (got_within roots r root h))
+        ap (root_in system) (set_got roots r k (with_steps root steps) (within_got roots r root h))
         ∙ cond_ap (root_in system) (eqb r k) (Some (with_steps root steps)) (slice_get roots k)
         ∙ ap (λ x. cond (eqb r k) x (f (suc k))) (sym here)
         ∙ ap (λ b. cond b (record { opening = (f (suc r)).opening; steps = (f (suc r)).steps + steps }) (f (suc k))) (sym (eqb_suc r k))
@@ -115,7 +116,7 @@ module _ (v : Verified) (old mid : Course) (k : IsKept v old) (n q : ℕ) (s : S
   at = device_stands v old k.steady.count n s stands was
 
   mid_stands : slice_get mid.stations.items n ≡ Some (with_device s device)
-  mid_stands = ap (λ xs. slice_get xs n) set_is ∙ set_here old.stations.items n s (with_device s device) stands
+  mid_stands = ap (λ xs. slice_get xs n) set_is ∙ set_stands old.stations.items n s (with_device s device) stands
 
   sound : IsWorldSound (system_in v) (certificate_in v) (world_in v old)
   sound = reached_sound v (world_in v old) k.checked k.reached
@@ -154,7 +155,7 @@ module _ (v : Verified) (old mid : Course) (k : IsKept v old) (n q : ℕ) (s : S
 
     pub bookable : mid.dispatches + 1 < 2 ^ 64 → IsBookable mid n ran
     bookable l =
-        let r = all_at (IsRoot v old.dispatches) old.roots.items (root_for s.roots.entries ran.cause - 1) found.0 found.1 k.steady.roots in
+        let r = all_got (IsRoot v old.dispatches) old.roots.items (root_for s.roots.entries ran.cause - 1) found.0 k.steady.roots found.1 in
         record {
           station = with_device s device;
           root = found.0;
@@ -166,7 +167,7 @@ module _ (v : Verified) (old mid : Course) (k : IsKept v old) (n q : ℕ) (s : S
 
     module _ (sent : Option ℕ) (new : Course) (b : IsBooked mid n ran sent new) where
       station_is : b.station ≡ with_device s device
-      station_is = same_got mid.stations.items n b.station (with_device s device) b.stands mid_stands
+      station_is = same_at mid.stations.items n b.station (with_device s device) b.stands mid_stands
 
       left_is : b.left.device ≡ device
       left_is = b.device ∙ ap (λ (x : Station). x.device) station_is
@@ -223,7 +224,7 @@ module _ (v : Verified) (old mid : Course) (k : IsKept v old) (n q : ℕ) (s : S
                 (subst (λ x. AllByRecursion (IsRoot v x) new.roots.items) (sym (b.dispatches ∙ ap (λ x. x + 1) dispatches))
                 (subst (AllByRecursion (IsRoot v (old.dispatches + 1))) (sym roots_are)
                 (all_set (IsRoot v (old.dispatches + 1)) old.roots.items (root_for s.roots.entries ran.cause - 1) (with_steps b.root ran.steps)
-                (more_steps v old.dispatches ran.steps b.root b.few (all_at (IsRoot v old.dispatches) old.roots.items (root_for s.roots.entries ran.cause - 1) b.root root_stands k.steady.roots))
+                (more_steps v old.dispatches ran.steps b.root b.few (all_got (IsRoot v old.dispatches) old.roots.items (root_for s.roots.entries ran.cause - 1) b.root k.steady.roots root_stands))
                 (all_weaker (IsRoot v old.dispatches) (IsRoot v (old.dispatches + 1)) old.roots.items (weaker_root v old.dispatches) k.steady.roots))));
           }
 
@@ -232,7 +233,7 @@ pub booked_uses : (old mid new : Course) (n : ℕ) (s : Station) (device : Sessi
     → (device.verified ≡ s.device.verified) × (device.number ≡ s.device.number) → mid.datagrams.items ≡ old.datagrams.items → mid.roots.items ≡ old.roots.items → mid.dispatches ≡ old.dispatches
     → IsBooked mid n ran sent new → vec_capacity new.datagrams ≡ vec_capacity old.datagrams → vec_capacity new.roots ≡ vec_capacity old.roots → Uses old new n 0 1
 booked_uses old mid new n s device ran sent stands set_is same grams roots dispatches b grams_room roots_room =
-    let is = same_got mid.stations.items n b.station (with_device s device) b.stands (ap (λ xs. slice_get xs n) set_is ∙ set_here old.stations.items n s (with_device s device) stands) in
+    let is = same_at mid.stations.items n b.station (with_device s device) b.stands (ap (λ xs. slice_get xs n) set_is ∙ set_stands old.stations.items n s (with_device s device) stands) in
     let left_is : b.left.device ≡ device = b.device ∙ ap (λ (x : Station). x.device) is in
     let spare_same : spare b.station.roots ≡ spare s.roots = ap (λ (x : Station). spare x.roots) is in
     uses_set old new n 0 1 s b.left stands (b.stations ∙ ap (λ xs. set xs n b.left) set_is ∙ set_twice old.stations.items n (with_device s device) b.left)

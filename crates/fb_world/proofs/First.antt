@@ -3,7 +3,7 @@ use Rattle.std.proofs.Common.{◌≡◌, ℕ, zero, suc, ◌+◌, ◌-◌, ◌<�
 use Rattle.std.specs.Prelude.{nat_lt, ◌⊎◌, is_some}
 use Rattle.std.specs.List.{AllByRecursion}
 use Rattle.std.specs.Option.{option_map}
-use Rattle.std.proofs.lemmas.List.{length-append, append-nil}
+use Rattle.std.proofs.lemmas.List.{length-append, append-nil, append_assoc}
 use Rattle.std.proofs.lemmas.Option.{slice_get-map, slice_get_past}
 use Rattle.std.proofs.lemmas.Bool.{lt-ltb, le-ltb, cases_lt, cond_both}
 use Rattle.fb_model.specs.System.{Device}
@@ -19,12 +19,12 @@ use Rattle.fb_model.proofs.Lists.{all_weaker, all_append, all_both}
 use Rattle.fb_model.proofs.Running.{put_all}
 use Rattle.fb_model.proofs.Starting.{first_sound}
 use Rattle.fb_model_worlds.proofs.Beginning.{numbered_first}
-use Rattle.fb_verdict.specs.declared.verified.Verified.{Verified}
-use Rattle.fb_verdict.specs.Verdicts.{system_in, certificate_in, IsChecked}
-use Rattle.fb_device.specs.fb_device_state.Sessions.{Session}
-use Rattle.fb_device.specs.fb_device_state.Machines.{device_in, cert_in, machine_of}
-use Rattle.fb_device.specs.fb_device_tables.Tables.{far_at}
-use Rattle.fb_device.specs.fb_device_tables.Views.{place_at}
+use Rattle.fb_verified.specs.declared.verified.Verified.{Verified}
+use Rattle.fb_verified.specs.Checked.{system_in, certificate_in, IsChecked}
+use Rattle.fb_device_state.specs.Sessions.{Session}
+use Rattle.fb_device_state.specs.Machines.{device_in, cert_in, machine_of}
+use Rattle.fb_device_tables.specs.Tables.{far_at}
+use Rattle.fb_device_tables.specs.Views.{place_at}
 use Rattle.fb_device.specs.Answers.{IsOpening}
 use Rattle.fb_device.specs.declared.answer.Opening.{Opening}
 use Rattle.fb_world.specs.declared.station.Root.{Root}
@@ -34,7 +34,8 @@ use Rattle.fb_world.specs.Scenes.{site_of, site_machine, site_roots, root_for, r
 use Rattle.fb_world.specs.Roots.{OpensRoots, IsPending}
 use Rattle.fb_world.specs.Keeping.{IsRoot, IsSteady, IsKept}
 use Rattle.fb_world.specs.Beginning.{IsAtFirst, Begins, HasBegun, HaveBegun}
-use Rattle.fb_world.proofs.Lists.{left_got, right_got, got_there, got_within, all_by, all_at, again, some_same}
+use Rattle.fb_lists.proofs.Lists.{within_got, all_got}
+use Rattle.fb_world.proofs.Lists.{left_got, right_got, got_there, all_by, some_same}
 use Rattle.fb_world.proofs.Openings.{device_same, opens_so, open_is}
 use Rattle.fb_world.proofs.Stations.{from_low, from_here, from_high, first_pending, begun_few}
 use Rattle.fb_world.proofs.Kept.{all_hold}
@@ -92,7 +93,7 @@ module _ (v : Verified) (checked : IsChecked v) where
     machine_is = f.machine ∙ ap (λ d. at_first d 1 first_stamp) device_is
 
     sound : IsSound (certificate_in v) device (at_first device 1 first_stamp)
-    sound = first_sound (certificate_in v) device (all_at (DeviceHolds (certificate_in v)) (system_in v).devices k device at (all_hold v checked)) 1 first_stamp (record { boot = omega arith; sequence = omega arith })
+    sound = first_sound (certificate_in v) device (all_got (DeviceHolds (certificate_in v)) (system_in v).devices k device (all_hold v checked) at) 1 first_stamp (record { boot = omega arith; sequence = omega arith })
 
   -- the roots of one more device
   pub roots_told : (k : ℕ) (roots roots' : List Root) (s : Station) → Begins v k roots s roots' → AllByRecursion (IsRoot v 0) roots → AllByRecursion (IsRoot v 0) roots'
@@ -124,10 +125,10 @@ module _ (v : Verified) (checked : IsChecked v) where
             after = g.after ++ b.opens.more;
             counted = g.counted;
             begins = g.begins;
-            roots_are = b.opens.roots_are ∙ ap (λ xs. xs ++ b.opens.more) g.roots_are ∙ again g.middle g.after b.opens.more;
+            roots_are = b.opens.roots_are ∙ ap (λ xs. xs ++ b.opens.more) g.roots_are ∙ append_assoc g.middle g.after b.opens.more;
           }
       by k t is (inr m) =
-          let last : k ≡ length stations = omega (arith, m, h.count, got_within (stations ++ s ∷ []) k t is, length-append stations (s ∷ [])) in
+          let last : k ≡ length stations = omega (arith, m, h.count, within_got (stations ++ s ∷ []) k t is, length-append stations (s ∷ [])) in
           let here : slice_get (stations ++ s ∷ []) (length stations + 0) ≡ Some s = right_got stations (s ∷ []) 0 in
           let same : s ≡ t = some_same s t (sym here ∙ ap (slice_get (stations ++ s ∷ [])) (let e : length stations + 0 ≡ k = omega (arith, last) in e) ∙ is) in
           let number : n ≡ k = omega (arith, last, h.count) in
@@ -212,7 +213,7 @@ module _ (v : Verified) (checked : IsChecked v) where
         ∙ ap (λ t. cond (t && nat_lt e.cause (at_first device 1 first_stamp).next) (roots_before (system_in v).devices d + e.cause) 0) (lt-ltb 0 e.cause low)
         ∙ ap (λ t. cond t (roots_before (system_in v).devices d + e.cause) 0) (lt-ltb e.cause (at_first device 1 first_stamp).next high)
         ∙ (let i : roots_before (system_in v).devices d + e.cause ≡ suc (length g.before + (e.cause - 1)) = omega (arith, g.counted, low) in i) in
-        let within : length g.before + (e.cause - 1) < length g.middle = omega (arith, ap length b.opens.roots_are, length-append g.before b.opens.more, got_within b.opens.more (e.cause - 1) r is) in
+        let within : length g.before + (e.cause - 1) < length g.middle = omega (arith, ap length b.opens.roots_are, length-append g.before b.opens.more, within_got b.opens.more (e.cause - 1) r is) in
         let there : slice_get c.roots.items (length g.before + (e.cause - 1)) ≡ Some r =
         ap (λ xs. slice_get xs (length g.before + (e.cause - 1))) g.roots_are ∙ left_got g.middle g.after (length g.before + (e.cause - 1)) within ∙ ap (λ xs. slice_get xs (length g.before + (e.cause - 1))) b.opens.roots_are ∙ right_got g.before b.opens.more (e.cause - 1) ∙ is in
         ap (world_in v c).roots root_is
@@ -312,7 +313,7 @@ begun_nothing v stations roots e r =
     record {
       count = ap length e;
       counted = ap length r ∙ before_none (system_in v).devices;
-      begun = λ k s at. absurd (omega (arith, got_within stations k s at, ap length e));
+      begun = λ k s at. absurd (omega (arith, within_got stations k s at, ap length e));
       told = subst (AllByRecursion (IsRoot v 0)) (sym r) tt;
     }
 

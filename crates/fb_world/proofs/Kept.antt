@@ -12,11 +12,11 @@ use Rattle.fb_model.specs.World.{World, Datagram, Local, WorldEvent, At_device, 
 use Rattle.fb_model_worlds.specs.Worlds.{AllHold, IsWorldSound}
 use Rattle.fb_model_worlds.proofs.Beginning.{first_is_sound}
 use Rattle.fb_model_worlds.proofs.Running.{sound_run}
-use Rattle.fb_verdict.specs.declared.verified.Verified.{Verified}
-use Rattle.fb_verdict.specs.Verdicts.{system_in, certificate_in, IsChecked}
-use Rattle.fb_verdict.proofs.Composed.{devices_hold}
-use Rattle.fb_device.specs.fb_device_state.Sessions.{Session}
-use Rattle.fb_device.specs.fb_device_state.Machines.{device_at, device_in, cert_in, machine_of}
+use Rattle.fb_verified.specs.declared.verified.Verified.{Verified}
+use Rattle.fb_verified.specs.Checked.{system_in, certificate_in, IsChecked}
+use Rattle.fb_verified.proofs.Written.{devices_hold}
+use Rattle.fb_device_state.specs.Sessions.{Session}
+use Rattle.fb_device_state.specs.Machines.{device_at, device_in, cert_in, machine_of}
 use Rattle.fb_world.specs.declared.station.Station.{Station}
 use Rattle.fb_world.specs.declared.course.Course.{Course}
 use Rattle.fb_world.specs.Scenes.{Site, Scene, site_of, scene_of, world_of, root_for, root_in, numbered, datagram_of, world_in}
@@ -25,7 +25,8 @@ use Rattle.fb_world.specs.declared.answer.WorldAnswer.{WorldAnswer as Told}
 use Rattle.fb_world.specs.Answers.{event_of, device_of, leaves_at, answer_of, answers_of, HasWorldPlace, HaveWorldPlaces}
 use Rattle.fb_world.specs.Room.{Face, face_of, IsSame}
 use Rattle.fb_world.specs.Keeping.{IsReached, IsStation, IsRoot, IsSteady, IsKept, Goes}
-use Rattle.fb_world.proofs.Lists.{got_there, got_within, set_got, some_same, some_none}
+use Rattle.fb_lists.proofs.Lists.{within_got}
+use Rattle.fb_world.proofs.Lists.{got_there, set_got, some_same, some_none}
 use Rattle.fb_world.proofs.Worlds.{put_same, machines_put, roots_put, machine_here, roots_here}
 use Rattle.fb_world.proofs.Openings.{device_same}
 
@@ -78,7 +79,7 @@ reached_sound v w c r =
 
 pub device_stands : (v : Verified) (c : Course) → length c.stations.items ≡ length (system_in v).devices → (d : ℕ) (s : Station) → slice_get c.stations.items d ≡ Some s → IsStation v d s → slice_get (system_in v).devices d ≡ Some (device_in s.device)
 device_stands v c count d s stands g =
-    let (x, is) = got_there (system_in v).devices d (omega (arith, count, got_within c.stations.items d s stands)) in
+    let (x, is) = got_there (system_in v).devices d (omega (arith, count, within_got c.stations.items d s stands)) in
     let at : device_at (system_in v).devices d ≡ x = ap (λ (o : Option Device). elim o [ None ↦ record { name = []; resources = [] } | Some y ↦ y ]) is in
     is ∙ ap Some (sym (device_same v d s.device g.verified g.number ∙ at))
 
@@ -91,7 +92,7 @@ steady_set v old new d s t stands e g h roots =
     record {
       count = ap length e ∙ length-set old.stations.items d t ∙ g.count;
       few = omega (arith, ap length e, length-set old.stations.items d t, g.few);
-      stations = λ k u at. by k u (eqb d k) refl (sym (set_got old.stations.items d k t (got_within old.stations.items d s stands)) ∙ ap (λ xs. slice_get xs k) (sym e) ∙ at);
+      stations = λ k u at. by k u (eqb d k) refl (sym (set_got old.stations.items d k t (within_got old.stations.items d s stands)) ∙ ap (λ xs. slice_get xs k) (sym e) ∙ at);
       roots = roots;
     }
   where

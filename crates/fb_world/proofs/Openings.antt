@@ -11,12 +11,12 @@ use Rattle.fb_model.specs.Devices.{Machine, Entry, put}
 use Rattle.fb_model.specs.Headline.{IsOpen}
 use Rattle.fb_model.specs.World.{roots_from, OpensCauses}
 use Rattle.fb_model.proofs.Lists.{all_weaker, all_append}
-use Rattle.fb_verdict.specs.declared.verified.Verified.{Verified}
-use Rattle.fb_verdict.specs.Verdicts.{system_in, certificate_in}
-use Rattle.fb_device.specs.fb_device_state.Sessions.{Session}
-use Rattle.fb_device.specs.fb_device_state.Machines.{device_at, device_in, machine_of}
-use Rattle.fb_device.specs.fb_device_tables.Views.{place_at}
-use Rattle.fb_device.specs.fb_device_tables.Tables.{far_at}
+use Rattle.fb_verified.specs.declared.verified.Verified.{Verified}
+use Rattle.fb_verified.specs.Checked.{system_in, certificate_in}
+use Rattle.fb_device_state.specs.Sessions.{Session}
+use Rattle.fb_device_state.specs.Machines.{device_at, device_in, machine_of}
+use Rattle.fb_device_tables.specs.Views.{place_at}
+use Rattle.fb_device_tables.specs.Tables.{far_at}
 use Rattle.fb_device.specs.declared.answer.Opening.{Opening}
 use Rattle.fb_world.specs.declared.station.Root.{Root}
 use Rattle.fb_world.specs.declared.station.Station.{Station}

@@ -10,10 +10,10 @@ use Rattle.std.proofs.lemmas.Option.{slice_get-map, slice_get_past}
 use Rattle.std.proofs.lemmas.Bool.{eqb-true, eq-eqb, cases_lt}
 use Rattle.fb_model.specs.System.{Device}
 use Rattle.fb_model.specs.Wires.{leaves}
-use Rattle.fb_verdict.specs.declared.verified.Verified.{Verified}
-use Rattle.fb_verdict.specs.Verdicts.{system_in}
-use Rattle.fb_device.specs.fb_device_state.Sessions.{Session}
-use Rattle.fb_device.specs.fb_device_state.Machines.{device_at, device_in}
+use Rattle.fb_verified.specs.declared.verified.Verified.{Verified}
+use Rattle.fb_verified.specs.Checked.{system_in}
+use Rattle.fb_device_state.specs.Sessions.{Session}
+use Rattle.fb_device_state.specs.Machines.{device_at, device_in}
 use Rattle.fb_world.specs.declared.answer.WorldEvent.{WorldEvent}
 use Rattle.fb_world.specs.declared.answer.WorldEvent.TheVariants.{Offer, Tick, Dispatch, Deliver}
 use Rattle.fb_world.specs.declared.station.Root.{Root}
@@ -22,7 +22,8 @@ use Rattle.fb_world.specs.declared.course.Course.{Course}
 use Rattle.fb_world.specs.Answers.{device_of}
 use Rattle.fb_world.specs.Roots.{OpensRoots}
 use Rattle.fb_world.specs.Room.{Face, face_of, blocks_of, opens_at_most, opens_there, dispatches_in, HasRoom, HasPlaces, UsesTable, Uses}
-use Rattle.fb_world.proofs.Lists.{set_got, got_there, got_within, some_same}
+use Rattle.fb_lists.proofs.Lists.{within_got}
+use Rattle.fb_world.proofs.Lists.{set_got, got_there, some_same}
 
 pub device_kept : (s t : Session) → t.verified ≡ s.verified → t.number ≡ s.number → device_in t ≡ device_in s
 device_kept s t e n = ap (λ (w : Verified). device_at (system_in w).devices t.number) e ∙ ap (device_at (system_in s.verified).devices) n
@@ -41,7 +42,7 @@ uses_set old new d opened sent s t stands e table roots roots_room grams grams_r
       datagrams = grams;
       datagrams_room = grams_room;
       count = ap length e ∙ length-set old.stations.items d t;
-      stations = λ k u at. by k u (eqb d k) refl (sym (set_got old.stations.items d k t (got_within old.stations.items d s stands)) ∙ ap (λ xs. slice_get xs k) (sym e) ∙ at);
+      stations = λ k u at. by k u (eqb d k) refl (sym (set_got old.stations.items d k t (within_got old.stations.items d s stands)) ∙ ap (λ xs. slice_get xs k) (sym e) ∙ at);
       dispatches = dispatches;
     }
   where

@@ -12,9 +12,9 @@ use Rattle.fb_model.specs.Devices.{Machine, Entry, is_pending, admitted, beginni
 use Rattle.fb_model.specs.Headline.{IsOpen}
 use Rattle.fb_model.specs.World.{roots_from}
 use Rattle.fb_model_worlds.proofs.Opening.{Admits, admits_offer, admits_tick, admits_begun}
-use Rattle.fb_device.specs.fb_device_arrivals.declared.denied.Denied.{Denied}
-use Rattle.fb_device.specs.fb_device_arrivals.Answers.{admission_of}
-use Rattle.fb_device.specs.fb_device_state.Sessions.{Session}
+use Rattle.fb_device_arrivals.specs.declared.denied.Denied.{Denied}
+use Rattle.fb_device_arrivals.specs.Answers.{admission_of}
+use Rattle.fb_device_state.specs.Sessions.{Session}
 use Rattle.fb_world.specs.declared.station.Root.{Root}
 use Rattle.fb_world.specs.declared.station.Station.{Station}
 use Rattle.fb_world.specs.Scenes.{root_for}

@@ -5,12 +5,13 @@ use Rattle.std.proofs.lemmas.Option.{slice_get-map}
 use Rattle.std.specs.Option.{option_map}
 use Rattle.std.proofs.lemmas.Bool.{eq-eqb, eqb-true}
 use Rattle.fb_model.specs.Devices.{put}
-use Rattle.fb_verdict.specs.declared.verified.Verified.{Verified}
-use Rattle.fb_device.specs.fb_device_state.Machines.{machine_of}
+use Rattle.fb_verified.specs.declared.verified.Verified.{Verified}
+use Rattle.fb_device_state.specs.Machines.{machine_of}
 use Rattle.fb_world.specs.declared.station.Station.{Station}
 use Rattle.fb_world.specs.declared.course.Course.{Course}
 use Rattle.fb_world.specs.Scenes.{site_of, site_machine, site_roots, root_for, world_in}
-use Rattle.fb_world.proofs.Lists.{set_got, got_within}
+use Rattle.fb_lists.proofs.Lists.{within_got}
+use Rattle.fb_world.proofs.Lists.{set_got}
 
 pub cond_ap : {A B : Type 0} (f : A → B) (b : Bool) (x y : A) → f (cond b x y) ≡ cond b (f x) (f y)
 cond_ap f true x y = refl
@@ -35,7 +36,7 @@ module _ (v : Verified) (old new : Course) (d : ℕ) (s t : Station) (stands : s
   site_at j =
       ap (λ xs. slice_get (map site_of xs) j) set_is
       ∙ slice_get-map site_of (set old.stations.items d t) j
-      ∙ ap (option_map site_of) (set_got old.stations.items d j t (got_within old.stations.items d s stands))
+      ∙ ap (option_map site_of) (set_got old.stations.items d j t (within_got old.stations.items d s stands))
       ∙ cond_ap (option_map site_of) (eqb d j) (Some t) (slice_get old.stations.items j)
       ∙ ap (λ o. cond (eqb d j) (Some (site_of t)) o) (sym (slice_get-map site_of old.stations.items j))
 

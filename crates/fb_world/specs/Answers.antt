@@ -5,7 +5,7 @@ use Rattle.fb_model.specs.Wires.{Leaf, leaves}
 use Rattle.fb_model.specs.World as book
 use Rattle.fb_model.specs.World.{An_offer, A_tick, A_dispatch, At_device, Deliver_datagram}
 use Rattle.fb_device.specs.Answers as devices
-use Rattle.fb_device.specs.fb_device_state.Machines.{device_at}
+use Rattle.fb_device_state.specs.Machines.{device_at}
 use Rattle.fb_world.specs.declared.answer.WorldEvent.{WorldEvent}
 use Rattle.fb_world.specs.declared.answer.WorldEvent.TheVariants.{Offer, Tick, Dispatch, Deliver}
 use Rattle.fb_world.specs.declared.answer.WorldAnswer.{WorldAnswer}

@@ -3,9 +3,9 @@ use Rattle.std.specs.Prelude.{ℕ, ◌≡◌, ◌+◌, List, [], ◌++◌, lengt
 use Rattle.std.specs.List.{AllByRecursion}
 use Rattle.fb_model.specs.Devices.{first_stamp, at_first}
 use Rattle.fb_model.specs.World.{roots_before}
-use Rattle.fb_verdict.specs.declared.verified.Verified.{Verified}
-use Rattle.fb_verdict.specs.Verdicts.{system_in}
-use Rattle.fb_device.specs.fb_device_state.Machines.{device_in, machine_of}
+use Rattle.fb_verified.specs.declared.verified.Verified.{Verified}
+use Rattle.fb_verified.specs.Checked.{system_in}
+use Rattle.fb_device_state.specs.Machines.{device_in, machine_of}
 use Rattle.fb_world.specs.declared.station.Root.{Root}
 use Rattle.fb_world.specs.declared.station.Station.{Station}
 use Rattle.fb_world.specs.Roots.{OpensRoots}

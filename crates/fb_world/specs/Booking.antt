@@ -5,7 +5,7 @@ use Rattle.fb_model.specs.Devices.{put}
 use Rattle.fb_model.specs.Messages.{Message}
 use Rattle.fb_chart.specs.declared.standing.Effect.{Effect}
 use Rattle.fb_chart.specs.declared.standing.Effect.TheVariants.{Send, Write}
-use Rattle.fb_device.specs.fb_device_dispatch.declared.answer.Ran.{Ran}
+use Rattle.fb_device_dispatch.specs.declared.answer.Ran.{Ran}
 use Rattle.fb_world.specs.declared.sent.Sent.{Sent}
 use Rattle.fb_world.specs.declared.station.Root.{Root}
 use Rattle.fb_world.specs.declared.station.Station.{Station}

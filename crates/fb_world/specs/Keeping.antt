@@ -4,9 +4,9 @@ use Rattle.std.specs.List.{AllByRecursion}
 use Rattle.fb_model.specs.System.{System}
 use Rattle.fb_model.specs.Certificates.{Certificate}
 use Rattle.fb_model.specs.World.{World, WorldEvent, WorldAnswer, WorldHappens, WorldRun, IsFirst}
-use Rattle.fb_verdict.specs.declared.verified.Verified.{Verified}
-use Rattle.fb_verdict.specs.Verdicts.{system_in, certificate_in, IsChecked}
-use Rattle.fb_device.specs.fb_device_tables.Tables.{far_at}
+use Rattle.fb_verified.specs.declared.verified.Verified.{Verified}
+use Rattle.fb_verified.specs.Checked.{system_in, certificate_in, IsChecked}
+use Rattle.fb_device_tables.specs.Tables.{far_at}
 use Rattle.fb_world.specs.declared.station.Root.{Root}
 use Rattle.fb_world.specs.declared.station.Station.{Station}
 use Rattle.fb_world.specs.declared.course.Course.{Course}

@@ -1,4 +1,3 @@
-pub use Rattle.fb_device.specs as fb_device
 pub mod Scenes
 pub mod Answers
 pub mod Roots

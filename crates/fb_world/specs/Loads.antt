@@ -4,8 +4,8 @@ use Rattle.fb_model.specs.World.{IsFirst}
 use Rattle.fb_verdict.specs.Verdicts.{IsOfTexts, IsFaultOf}
 use Rattle.fb_device.specs.declared.refusal.Refusal.{Refusal}
 use Rattle.fb_device.specs.declared.refusal.Refusal.TheVariants.{Checked, NoDevice, Limit}
-use Rattle.fb_device.specs.fb_device_state.Sessions.{Session}
-use Rattle.fb_device.specs.fb_device_state.Machines.{machine_of}
+use Rattle.fb_device_state.specs.Sessions.{Session}
+use Rattle.fb_device_state.specs.Machines.{machine_of}
 use Rattle.fb_world.specs.Scenes.{Scene, system_of, world_of}
 
 -- the texts are spelled, well typed and fit, and the world is the first one of their system

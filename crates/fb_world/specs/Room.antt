@@ -4,8 +4,8 @@ use Rattle.std.specs.List.{sum_by}
 use Rattle.std.specs.Vec.{vec_capacity}
 use Rattle.indexmap.specs.IndexMap.{spare}
 use Rattle.fb_model.specs.Wires.{leaves}
-use Rattle.fb_device.specs.fb_device_state.Sessions.{Session}
-use Rattle.fb_device.specs.fb_device_state.Machines.{device_in}
+use Rattle.fb_device_state.specs.Sessions.{Session}
+use Rattle.fb_device_state.specs.Machines.{device_in}
 use Rattle.fb_world.specs.declared.answer.WorldEvent.{WorldEvent}
 use Rattle.fb_world.specs.declared.answer.WorldEvent.TheVariants.{Offer, Tick, Dispatch, Deliver}
 use Rattle.fb_world.specs.declared.station.Station.{Station}

@@ -4,8 +4,8 @@ use Rattle.fb_model.specs.Wires.{leaves}
 use Rattle.fb_model.specs.Devices.{is_pending, put}
 use Rattle.fb_model.specs.World.{roots_from}
 use Rattle.fb_device.specs.Answers.{IsOpening}
-use Rattle.fb_device.specs.fb_device_state.Sessions.{Session}
-use Rattle.fb_device.specs.fb_device_state.Machines.{device_in, cert_in, machine_of}
+use Rattle.fb_device_state.specs.Sessions.{Session}
+use Rattle.fb_device_state.specs.Machines.{device_in, cert_in, machine_of}
 use Rattle.fb_device.specs.declared.answer.Opening.{Opening}
 use Rattle.fb_world.specs.declared.station.Root.{Root}
 use Rattle.fb_world.specs.declared.station.Station.{Station}

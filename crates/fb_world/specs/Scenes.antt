@@ -8,11 +8,11 @@ use Rattle.fb_model.specs.Certificates.{Certificate}
 use Rattle.fb_model.specs.Devices.{Machine}
 use Rattle.fb_model.specs.World as book
 use Rattle.fb_model.specs.World.{World, Datagram, machine_at}
-use Rattle.fb_verdict.specs.declared.verified.Verified.{Verified}
-use Rattle.fb_verdict.specs.Verdicts.{system_in, certificate_in}
-use Rattle.fb_device.specs.fb_device_state.Sessions.{Session}
-use Rattle.fb_device.specs.fb_device_state.Machines.{device_at, machine_of}
-use Rattle.fb_device.specs.fb_device_tables.Views.{place_at}
+use Rattle.fb_verified.specs.declared.verified.Verified.{Verified}
+use Rattle.fb_verified.specs.Checked.{system_in, certificate_in}
+use Rattle.fb_device_state.specs.Sessions.{Session}
+use Rattle.fb_device_state.specs.Machines.{device_at, machine_of}
+use Rattle.fb_device_tables.specs.Views.{place_at}
 use Rattle.fb_device.specs.declared.answer.Opening.{Opening}
 use Rattle.fb_world.specs.declared.sent.Sent.{Sent}
 use Rattle.fb_world.specs.declared.station.Root.{Root}

@@ -3,9 +3,9 @@
 ghost use Rattle.std.specs.Prelude.{ℕ, suc, ◌≡◌, ◌+◌, ◌<◌, ◌≤◌, ◌^◌, [], ◌∷◌, ◌++◌, List, map, length, Some, slice_get};
 ghost use Rattle.std.specs.Vec.{vec_len, vec_capacity};
 ghost use Rattle.fb_model.specs.World.{WorldRun, An_offer, A_tick, A_dispatch, At_device, Deliver_datagram, Answered};
-ghost use Rattle.fb_device.specs.fb_device_dispatch.Answers.{dispatched_of, HasPoint};
-ghost use Rattle.fb_verdict.specs.declared.verified.Verified.{Verified};
-ghost use Rattle.fb_verdict.specs.Verdicts.{system_in, certificate_in};
+ghost use Rattle.fb_device_dispatch.specs.Answers.{dispatched_of, HasPoint};
+ghost use Rattle.fb_verified.specs.declared.verified.Verified.{Verified};
+ghost use Rattle.fb_verified.specs.Checked.{system_in, certificate_in};
 ghost use Rattle.fb_world.specs.declared.answer.WorldAnswer.{WorldAnswer};
 ghost use Rattle.fb_world.specs.Answers.{event_of, device_of, leaves_at, answer_of, answers_of, HasWorldPlace, HaveWorldPlaces};
 ghost use Rattle.fb_world.specs.Scenes.{world_in};

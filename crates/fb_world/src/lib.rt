@@ -12,7 +12,6 @@ mod station;
 mod world;
 
 pub use answer::{Missed, OutOfMemory, RootSteps, WorldAnswer, WorldEvent};
-pub use fb_device;
 pub use world::World;
 
 // A crate can name a world in a contract only if the types of its fields are exported.

@@ -2,13 +2,13 @@
 
 ghost use Rattle.std.specs.Prelude.{ℕ, ◌≡◌, ◌+◌, ◌<◌, ◌≤◌, ◌^◌, length, is_ok, is_some, true, false, Some, MatchOption, slice_get, if◌then◌else◌};
 ghost use Rattle.std.specs.List.{AllByRecursion};
-ghost use Rattle.fb_verdict.specs.Lookups.{is_same_path};
+ghost use Rattle.fb_verified.specs.Lookups.{is_same_path};
 ghost use Rattle.std.specs.Vec.{vec_capacity};
 ghost use Rattle.indexmap.specs.IndexMap.{spare};
 ghost use Rattle.fb_model.specs.Devices.{put, Happens, Offer, Deliver, Tick, Expired};
 ghost use Rattle.fb_model.specs.Wires.{leaves};
-ghost use Rattle.fb_device.specs.fb_device_arrivals.Answers.{admission_of};
-ghost use Rattle.fb_device.specs.fb_device_state.Machines.{device_in, cert_in, machine_of};
+ghost use Rattle.fb_device_arrivals.specs.Answers.{admission_of};
+ghost use Rattle.fb_device_state.specs.Machines.{device_in, cert_in, machine_of};
 ghost use Rattle.fb_world.specs.Scenes.{root_for};
 ghost use Rattle.fb_world.specs.Roots.{with_device, IsPending, IsCounted, OpensRoots, EntersRoot};
 

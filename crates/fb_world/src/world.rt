@@ -10,10 +10,10 @@ ghost use Rattle.fb_model.specs.Certificates as certs;
 ghost use Rattle.fb_model.specs.CertificateText.{Spells, most_characters};
 ghost use Rattle.fb_model.specs.EventBlocks.{Elaborates};
 ghost use Rattle.fb_model.specs.World.{IsFirst, WorldHappens, WorldRun, AreWithin, root_steps, At_device, A_dispatch, Answered};
-ghost use Rattle.fb_device.specs.fb_device_dispatch.Answers.{dispatched_of, HasPoint};
+ghost use Rattle.fb_device_dispatch.specs.Answers.{dispatched_of, HasPoint};
 ghost use Rattle.fb_model_worlds.specs.Worlds.{IsWorldSound};
 ghost use Rattle.fb_tree.specs.Sources.{IsSource};
-ghost use Rattle.fb_verdict.specs.Lookups.{is_same_path};
+ghost use Rattle.fb_verified.specs.Lookups.{is_same_path};
 ghost use Rattle.fb_device.specs.Refusals.{no_memory};
 ghost use Rattle.fb_world.specs.Scenes.{system_of, cert_of, world_of};
 ghost use Rattle.fb_world.specs.Answers.{event_of, device_of, leaves_at, answer_of, answers_of, steps_of, HasWorldPlace, HaveWorldPlaces, HasMissed};
@@ -25,7 +25,8 @@ use crate::beginning::first_course;
 use crate::course::Course;
 use crate::station::numbered;
 use fb_device::{Device, Dispatched, Refusal, share};
-use fb_verdict::{Verified, check_text};
+use fb_verdict::check_text;
+use fb_verified::Verified;
 use std::alloc::Global;
 use std::marker::Model;
 use std::rc::Rc;
@@ -42,7 +43,7 @@ pub struct World {
 
 impl Model for World {
     ghost use Rattle.std.specs.Coded.{codes};
-    ghost use Rattle.fb_verdict.specs.contracts.verified.Verified as checked;
+    ghost use Rattle.fb_verified.specs.contracts.verified.Verified as checked;
     ghost use Rattle.fb_world.specs.Scenes.{Scene, scene_of};
     ghost use Rattle.fb_world.specs.Keeping.{IsKept};
 

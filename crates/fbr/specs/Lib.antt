@@ -1,9 +1,1 @@
-pub mod Statuses
-pub mod Halves
-pub mod Outcomes
-pub mod Program
-pub mod Simulation
-pub mod Bounding
-pub mod Codes
-pub mod Serving
-pub mod Seeking
+pub mod Answers

@@ -1,229 +1,108 @@
-//! Draws systems. What is written is tested, and no contract says it. A graph is written into memory first: it is whole, or memory ran out and 9 is told
-//! instead.
+//! `fbr draw`. The graph is tested, and no contract says it.
 
-ghost use Rattle.std.specs.Prelude.{◌≤◌, IfOk, IfSome};
+ghost use Rattle.std.specs.Prelude.{◌≡◌, ◌≤◌, Some, IfOk, IfSome, option_map};
+ghost use Rattle.fbr_files.specs.Writing.{LeavesAllBut};
+ghost use Rattle.fbr_words.specs.Requests.{drawing_of};
+ghost use Rattle.fbr.specs.Answers.{TellsDraw};
 
-use crate::bound::{found_for, typed_in};
-use crate::chart::hint_chart;
-use crate::check::{print_outcome, read_text};
-use crate::fault::Fault;
-use crate::hint::hint_drawing;
-use crate::into::write_into;
-use crate::sources::Sources;
-use fb_cert::{Certificate, parse_cert};
-use fb_find_rows::NoBound;
-use fb_flat::{Flat, flatten};
-use fb_types::Typed;
-use fbr_draw::{Picture, draw, draw_chart};
-use fbr_explain::fb_check::{Place, Refusal};
-use fbr_places::{Writing, tree_of};
-use std::alloc::{AllocError, Global};
+use crate::bound::CLASH;
+use crate::given::{maybe_named, named};
+use crate::misread::misused;
+use fbr_files::{FileText, Sources, into_another, print_outcome, read_file, write_into};
+use fbr_tell::{Drawing, picture};
+use fbr_words::Draw;
+use std::alloc::Global;
 use std::io;
 use std::io::Write;
 
-/// What is drawn of a system, which a file of this name has: the weights of a certificate in this file, or else of the one that is found, or the walk for which
-/// there is none; whether composites are boxes; the block type whose chart is drawn, where it is one; and the file that is written, where one is named.
-#[derive(Clone, Copy)]
-pub struct Drawing<'a> {
-    pub name: &'a str,
-    pub cert: Option<&'a str>,
-    pub repeats: Option<u8>,
-    pub boxes: bool,
-    pub chart: Option<&'a str>,
-    pub into: Option<&'a str>,
-}
-
-// A system that is drawn, with its text.
-#[derive(Clone, Copy)]
-struct Drawn<'a> {
-    alloc: Global,
-    app: &'a str,
-    flat: &'a Flat,
-    drawing: Drawing<'a>,
-}
-
-// Writes the picture of a system or of a chart in it, and says whether there is what is to be drawn.
-fn write_picture(
-    system: Drawn<'_>,
-    picture: &Picture<'_>,
-    writing: &mut Writing,
-) -> Result<bool, AllocError> {
-    match system.drawing.chart {
-        Some(name) => draw_chart(system.alloc, picture, name, writing),
-        None => {
-            draw(system.alloc, system.flat, picture, writing)?;
-            Ok(true)
-        }
-    }
-}
-
-// Writes the graph of a system with a certificate, or with a walk.
-fn draw_flat(
-    system: Drawn<'_>,
-    certificate: Option<&Certificate>,
-    walk: &[Place],
-    writing: &mut Writing,
-) -> io::Result<u8>
-    ensures status { IfOk result (λ status. status ≤ 4) }
-{
-    match tree_of(system.alloc, system.app) {
-        Ok(Some(tree)) => {
-            let picture = Picture {
-                name: system.drawing.name,
-                text: system.app,
-                file: &tree,
-                certificate,
-                walk,
-                boxes: system.drawing.boxes,
-            };
-            let drawn = write_picture(system, &picture, writing);
-            tree.let_go();
-            if drawn? {
-                return Ok(0);
-            }
-            print_outcome(Err(Fault::Usage), writing.bytes())
-        }
-        // A text of which there is a system has a tree, if memory does not run out.
-        Ok(None) | Err(_) => print_outcome(Err(Fault::Memory), writing.bytes()),
-    }
-}
-
-// The certificate in a file.
-fn named_certificate<'a, S: Sources>(
+/// Reads a file, where one is named.
+pub fn read_maybe<'a, S: Sources>(
     alloc: Global,
     files: &S,
-    name: &'a str,
-) -> Result<Certificate, Fault<'a>> {
-    match read_text(alloc, files, name) {
-        Ok(text) => match parse_cert(alloc, text.as_str()) {
-            Ok(certificate) => Ok(certificate),
-            Err(fault) => Err(Fault::Refused(Refusal::from(fault))),
-        },
-        Err(fault) => Err(fault),
+    name: Option<&'a str>,
+) -> Option<FileText<'a>> {
+    match name {
+        Some(name) => Some(read_file(alloc, files, name)),
+        None => None,
     }
 }
 
-// Writes the graph of a system with what is known of its bounds.
-fn draw_bounds(
-    system: Drawn<'_>,
-    bounds: Result<Certificate, Fault<'_>>,
-    writing: &mut Writing,
-) -> io::Result<u8>
-    ensures status { IfOk result (λ status. status ≤ 4) }
-{
-    match bounds {
-        Ok(certificate) => {
-            let drawn = draw_flat(system, Some(&certificate), &[], writing);
-            certificate.let_go();
-            drawn
-        }
-        Err(Fault::Unbound(NoBound::Cycle(walk))) => draw_flat(system, None, &walk, writing),
-        Err(Fault::Unbound(_)) => draw_flat(system, None, &[], writing),
-        Err(fault) => print_outcome(Err(fault), writing.bytes()),
-    }
-}
-
-// Writes the graph of a typed system.
-fn draw_typed<'a, S: Sources>(
-    alloc: Global,
-    files: &S,
-    app: &str,
-    typed: &Typed,
-    drawing: Drawing<'a>,
-    writing: &mut Writing,
-) -> io::Result<u8>
-    requires { IfSome drawing.repeats (λ r. 1 ≤ r) }
-    ensures status { IfOk result (λ status. status ≤ 4) }
-{
-    match flatten(alloc, typed) {
-        Ok(flat) => {
-            let bounds = match drawing.cert {
-                Some(name) => named_certificate(alloc, files, name),
-                None => found_for(alloc, typed, drawing.repeats),
-            };
-            let system = Drawn {
-                alloc,
-                app,
-                flat: &flat,
-                drawing,
-            };
-            let drawn = draw_bounds(system, bounds, writing);
-            flat.let_go();
-            drawn
-        }
-        Err(fault) => print_outcome(Err(Fault::Refused(Refusal::from(fault))), writing.bytes()),
-    }
-}
-
-// Writes the system of the application in a file as a graph in DOT, with its bounds, or the chart of a block type; or the fault of a text, or of the words where
-// there is no such type.
-fn draw_named<'a, S: Sources>(
-    alloc: Global,
-    files: &S,
-    app: &'a str,
-    drawing: Drawing<'a>,
-    writing: &mut Writing,
-) -> io::Result<u8>
-    requires { IfSome drawing.repeats (λ r. 1 ≤ r) }
-    ensures status { IfOk result (λ status. status ≤ 4) }
-{
-    match read_text(alloc, files, app) {
-        Ok(text) => match typed_in(alloc, text.as_str()) {
-            Ok(typed) => {
-                let drawn = draw_typed(alloc, files, text.as_str(), &typed, drawing, writing);
-                typed.let_go();
-                drawn
-            }
-            Err(fault) => print_outcome(Err(fault), writing.bytes()),
-        },
-        Err(fault) => print_outcome(Err(fault), writing.bytes()),
-    }
-}
-
-// Hands out a graph, or why there is none.
+// Hands out a graph: on `output`, or into the file that is named.
 fn give_page<'a, S: Sources, W: Write, E: Write>(
     files: &mut S,
     into: Option<&'a str>,
     page: &[u8],
-    status: u8,
     output: &mut W,
     errors: &mut E,
 ) -> io::Result<u8>
-    requires { status ≤ 4 }
+    ensures others { LeavesAllBut (S.same files.old) (option_map (λ name. name.now) into.entry) (S.contents files.old) (S.contents files.new) }
     ensures status { IfOk result (λ status. status ≤ 4) }
 {
     match into {
-        Some(name) if status == 0 => write_into(files, name, page, output, errors),
-        _ => {
+        Some(name) => write_into(files, name, page, output, errors),
+        None => {
             output.write_all(page)?;
-            Ok(status)
+            Ok(0)
         }
     }
 }
 
-/// Writes the system of the application in a file as a graph in DOT, with its bounds, or the chart of a block type; or the fault of a text, or of the words where
-/// there is no such type, and people are told why. Where memory runs out, that and nothing else. A file that is named for it gets the graph, and nothing else.
-pub fn draw_file<'a, S: Sources, W: Write, E: Write>(
+// What is drawn, of the files that were read for it.
+fn drawing_of<'b>(
+    app: &'b FileText<'b>,
+    cert: Option<&'b FileText<'b>>,
+    request: Draw<'b>,
+) -> Drawing<'b>
+    ensures { result.repeats ≡ request.entry.repeats }
+{
+    Drawing {
+        app: named(app),
+        cert: maybe_named(cert),
+        repeats: request.repeats,
+        boxes: !request.is_flat,
+        chart: request.chart,
+    }
+}
+
+// Draws what is asked for.
+fn draw_read<'a, S: Sources, W: Write, E: Write>(
     alloc: Global,
+    request: Draw<'a>,
     files: &mut S,
-    drawing: Drawing<'a>,
     output: &mut W,
     errors: &mut E,
 ) -> io::Result<u8>
-    requires { IfSome drawing.repeats (λ r. 1 ≤ r) }
+    requires { IfSome request.repeats (λ n. 1 ≤ n) }
+    ensures others { LeavesAllBut (S.same files.old) (drawing_of request.entry).into (S.contents files.old) (S.contents files.new) }
     ensures status { IfOk result (λ status. status ≤ 4) }
 {
-    let mut writing = Writing::new(alloc);
-    match draw_named(alloc, files, drawing.name, drawing, &mut writing) {
-        Ok(status) => match writing.end() {
-            Ok(page) => {
-                hint_drawing(alloc, files, drawing.name, status, errors);
-                hint_chart(alloc, files, drawing.name, drawing.chart, status, errors);
-                give_page(files, drawing.into, &page, status, output, errors)
-            }
-            Err(_) => print_outcome(Err(Fault::Memory), output),
-        },
-        // A write into memory fails for want of it.
-        Err(_) => print_outcome(Err(Fault::Memory), output),
+    let app = read_file(alloc, files, request.app);
+    let cert = read_maybe(alloc, files, request.cert);
+    match picture(alloc, drawing_of(&app, cert.as_ref(), request), errors) {
+        Ok(page) => give_page(files, request.into, &page, output, errors),
+        Err(fault) => print_outcome(Err(fault), output),
     }
+}
+
+/// Writes the system of the application in a file as a graph in DOT, with its bounds, or the chart of a block type; or the fault of a text, or of the words where
+/// there is no such type, and people are told why. A file that is named for it gets the graph, and nothing else. No file that is read is written: such words are at fault.
+pub fn draw<'a, S: Sources, W: Write, E: Write>(
+    alloc: Global,
+    request: Draw<'a>,
+    files: &mut S,
+    output: &mut W,
+    errors: &mut E,
+) -> io::Result<u8>
+    requires { IfSome request.repeats (λ n. 1 ≤ n) }
+    ensures told { IfOk result (λ status. TellsDraw (drawing_of request.entry) (S.same files.old) (S.contents files.old) (S.contents files.new) (W.contents output.old) (W.contents output.new) status) }
+    ensures others { LeavesAllBut (S.same files.old) (drawing_of request.entry).into (S.contents files.old) (S.contents files.new) }
+    ensures status { IfOk result (λ status. status ≤ 4) }
+{
+    if !into_another(files, request.into, Some(request.app)) {
+        return misused(CLASH, output, errors);
+    }
+    if !into_another(files, request.into, request.cert) {
+        return misused(CLASH, output, errors);
+    }
+    draw_read(alloc, request, files, output, errors)
 }

@@ -1,7 +1,6 @@
 //! Standard input as a file, where words name it so.
 
-use crate::check::read_whole;
-use crate::sources::ReadFault;
+use fbr_files::{ReadFault, read_whole};
 use std::alloc::Global;
 use std::io::Read;
 

@@ -1,8 +1,7 @@
 //! Notes on charts: states that no transition leads to, algorithms that no state runs, and event outputs that none emits.
 
-use crate::noted::{Page, begin_note, put_note};
+use crate::noted::{Noting, Page};
 use fb_tree::{BlockTree, ChartTree};
-use fbr_places::Writing;
 
 // Whether an action of a chart runs an algorithm, or emits an event output.
 fn is_done(chart: &ChartTree, wanted: &str, is_event: bool) -> bool {
@@ -34,13 +33,13 @@ fn is_entered(chart: &ChartTree, wanted: &str) -> bool {
 }
 
 /// Writes the notes on the chart of a basic block type.
-pub fn note_chart(page: Page<'_>, block: &BlockTree, chart: &ChartTree, writing: &mut Writing) {
+pub fn note_chart(page: Page<'_>, block: &BlockTree, chart: &ChartTree, notes: &mut Noting) {
     let owner = block.name.text.as_str();
     for event in &block.event_outputs {
         let name = event.name.text.as_str();
         if !is_done(chart, name, true) {
-            begin_note(page, event.name.at, writing);
-            put_note("no state of ", owner, " emits ", name, writing);
+            notes.begin(event.name.at);
+            notes.put("no state of ", owner, " emits ", name);
         }
     }
     let mut is_first = true;
@@ -49,15 +48,15 @@ pub fn note_chart(page: Page<'_>, block: &BlockTree, chart: &ChartTree, writing:
         let is_begin = is_first;
         is_first = false;
         if !is_begin && !is_entered(chart, name) {
-            begin_note(page, state.name.at, writing);
-            put_note("no transition of ", owner, " leads to ", name, writing);
+            notes.begin(state.name.at);
+            notes.put("no transition of ", owner, " leads to ", name);
         }
     }
     for algorithm in &chart.algorithms {
         let name = algorithm.name.text.as_str();
         if !is_done(chart, name, false) {
-            begin_note(page, algorithm.name.at, writing);
-            put_note("no state of ", owner, " runs ", name, writing);
+            notes.begin(algorithm.name.at);
+            notes.put("no state of ", owner, " runs ", name);
         }
     }
 }

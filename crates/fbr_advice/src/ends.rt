@@ -1,10 +1,9 @@
 //! Ends of connections: what each is, and where another source stands.
 
-use crate::spotted::{Named, tell_where};
 use fb_tree::{BlockTree, NetworkTree, ParameterTree, PortTree};
 use fbr_places::{
-    Port, Types, Writing, block_around, connection_at, instance_around, instance_named,
-    network_around, port_in,
+    Named, Port, Types, Writing, block_around, connection_at, instance_around, instance_named,
+    network_around, port_in, tell_where,
 };
 
 /// What an end of a connection is, in a network that may be that of a composite.

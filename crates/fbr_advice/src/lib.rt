@@ -11,7 +11,6 @@ pub mod foreign;
 pub mod noted;
 pub mod numbers;
 pub mod operand;
-pub mod spotted;
 pub mod stopped;
 pub mod syntax;
 pub mod tokens;

@@ -1,9 +1,8 @@
 //! Notes, each with its place.
 
-use crate::spotted::{Named, tell_where};
 use fb_lex::Token;
-use fbr_places::{Types, Writing};
-use std::alloc::Global;
+use fbr_places::{Named, Types, Writing};
+use std::alloc::{AllocError, Global};
 
 /// A text that is accepted, with its tokens and its tree.
 #[derive(Clone, Copy)]
@@ -14,17 +13,66 @@ pub struct Page<'a> {
     pub types: Types<'a>,
 }
 
-/// Begins a note on a byte.
-pub fn begin_note(page: Page<'_>, at: usize, writing: &mut Writing) {
-    tell_where(page.app, at, writing);
-    writing.put(": note: ");
+/// Notes on a text.
+#[derive(Drop)]
+pub struct Notes {
+    /// The byte that each is on.
+    pub places: Vec<usize>,
+    /// What each says, a line each.
+    pub said: String,
+    /// At how many more places arithmetic may wrap.
+    pub more: usize,
 }
 
-/// Goes on with four texts, and ends the line.
-pub fn put_note(one: &str, two: &str, three: &str, four: &str, writing: &mut Writing) {
-    writing.put(one);
-    writing.put(two);
-    writing.put(three);
-    writing.put(four);
-    writing.put("\n");
+/// Notes that are put together.
+#[derive(Drop)]
+pub struct Noting {
+    places: Vec<usize>,
+    said: Writing,
+    is_whole: bool,
+}
+
+impl Noting {
+    /// None so far.
+    pub fn new(alloc: Global) -> Noting {
+        Noting {
+            places: Vec::new(alloc),
+            said: Writing::new(alloc),
+            is_whole: true,
+        }
+    }
+
+    /// Begins a note on a byte.
+    pub fn begin(&mut self, at: usize) {
+        if self.places.push(at).is_err() {
+            self.is_whole = false;
+        }
+    }
+
+    /// What the notes say, to go on with: each ends with its line.
+    pub fn said(&mut self) -> &mut Writing {
+        &mut self.said
+    }
+
+    /// Goes on with four texts, and ends the line.
+    pub fn put(&mut self, one: &str, two: &str, three: &str, four: &str) {
+        self.said.put(one);
+        self.said.put(two);
+        self.said.put(three);
+        self.said.put(four);
+        self.said.put("\n");
+    }
+
+    /// The notes, if memory held all of them, and how many more there are.
+    pub fn end(self, more: usize) -> Result<Notes, AllocError> {
+        let Noting {
+            places,
+            said,
+            is_whole,
+        } = self;
+        match String::from_utf8(said.end()?) {
+            Ok(said) if is_whole => Ok(Notes { places, said, more }),
+            _ => Err(AllocError),
+        }
+    }
 }

@@ -1,8 +1,7 @@
 //! Services whose number is missing, wrong or taken.
 
-use crate::spotted::{Named, tell_where};
 use fb_tree::{FileTree, InstanceTree, Literal};
-use fbr_places::{Writing, device_around, instance_around, network_around};
+use fbr_places::{Named, Writing, device_around, instance_around, network_around, tell_where};
 
 // The number that the ID of a service is, of more than 16 bits where it is none; nothing where there is no ID.
 fn number_of(instance: &InstanceTree) -> Option<u64> {

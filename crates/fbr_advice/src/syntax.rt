@@ -2,17 +2,15 @@
 
 use crate::expected::tell_expected;
 use crate::foreign::{foreign_text, foreign_token};
-use crate::spotted::{Named, tell_spot, tell_where};
 use crate::stopped::{Stopped, stopped_at};
 use crate::tokens::{closer_of, mark_of, put_mark, put_token};
 use fb_lex::Kind;
 use fb_words::Mark;
-use fbr_places::{Spot, Writing};
+use fbr_places::{Named, Writing, tell_where};
 use std::alloc::{AllocError, Global};
 
 // Writes that something is missing behind the last token that could stand; of what closes something, what is open.
 fn tell_missing(stopped: &Stopped, missing: Mark, app: Named<'_>, writing: &mut Writing) {
-    tell_spot(app.name, Spot::of_byte(app.text, stopped.end), writing);
     match missing {
         Mark::EndIf => writing.put("`END_IF;`"),
         Mark::EndCase => writing.put("`END_CASE;`"),
@@ -126,15 +124,15 @@ fn tell_comment(stopped: &Stopped, app: Named<'_>, writing: &mut Writing) {
     }
 }
 
-/// Writes where a token that cannot stand there is, and what could; or where something is missing before it.
+/// Writes what there is to say of a token that cannot stand at a byte, and what could; and tells at which byte that is: where something is missing before it, there.
 pub fn tell_syntax(
     alloc: Global,
     app: Named<'_>,
     at: usize,
     writing: &mut Writing,
-) -> Result<(), AllocError> {
+) -> Result<Option<usize>, AllocError> {
     let Some(mut stopped) = stopped_at(alloc, app.text, at)? else {
-        return Ok(());
+        return Ok(None);
     };
     let rest = app.text.get(at..).unwrap_or("");
     let found = foreign_token(&stopped.before, stopped.found.as_ref(), rest);
@@ -143,15 +141,14 @@ pub fn tell_syntax(
         if let Some(mark) = stopped.missing()? {
             tell_missing(&stopped, mark, app, writing);
             tell_comment(&stopped, app, writing);
-            return Ok(());
+            return Ok(Some(stopped.end));
         }
     }
-    tell_spot(app.name, Spot::of_byte(app.text, at), writing);
     if let Some(says) = says {
         writing.put(says);
         writing.put("\n");
     }
     tell_found(&mut stopped, app, writing)?;
     tell_comment(&stopped, app, writing);
-    Ok(())
+    Ok(Some(at))
 }

@@ -1,11 +1,10 @@
 //! Notes on variables: those that are never written, or never read, and numbers without a unit for a TIME.
 
-use crate::noted::{Page, begin_note, put_note};
+use crate::noted::{Noting, Page};
 use crate::tokens::{index_at, mark_of, name_of};
 use fb_lex::Token;
 use fb_tree::{BlockTree, ChartTree, Constant, Literal, Name, VariableTree};
 use fb_words::{ElemType, Mark};
-use fbr_places::Writing;
 use indexmap::IndexMap;
 use std::alloc::{AllocError, Global};
 
@@ -74,7 +73,7 @@ fn uses_in(alloc: Global, tokens: &[Token]) -> Result<IndexMap<String, Use>, All
 }
 
 // Writes that a variable is never written or never read, where that is asked of it.
-fn note_variable(page: Page<'_>, asked: Asked<'_>, name: &Name, writing: &mut Writing) {
+fn note_variable(page: Page<'_>, asked: Asked<'_>, name: &Name, notes: &mut Noting) {
     let found = asked
         .uses
         .get(name.text.as_str())
@@ -88,31 +87,28 @@ fn note_variable(page: Page<'_>, asked: Asked<'_>, name: &Name, writing: &mut Wr
         (false, true) => " is never written",
         (false, false) => return,
     };
-    begin_note(page, name.at, writing);
-    put_note(name.text.as_str(), " of ", asked.block, says, writing);
+    notes.begin(name.at);
+    notes.put(name.text.as_str(), " of ", asked.block, says);
 }
 
 /// Writes that a number without a unit stands for a TIME, where that is so and it is not 0.
-pub fn note_time(page: Page<'_>, of_type: ElemType, value: &Constant, writing: &mut Writing) {
+pub fn note_time(page: Page<'_>, of_type: ElemType, value: &Constant, notes: &mut Noting) {
     match (of_type, value.value) {
         (ElemType::Time, Literal::Whole(_, number)) if number > 0 => {
-            begin_note(page, value.at, writing);
-            writing.put("a TIME of so many milliseconds: write its unit, as T#30s or T#30ms\n");
+            notes.begin(value.at);
+            notes.said().put(
+                "a TIME of so many milliseconds: write its unit, as T#30s or T#30ms\n",
+            );
         }
         _ => {}
     }
 }
 
 // Writes the notes on variables of one kind.
-fn note_declared(
-    page: Page<'_>,
-    asked: Asked<'_>,
-    declared: &[VariableTree],
-    writing: &mut Writing,
-) {
+fn note_declared(page: Page<'_>, asked: Asked<'_>, declared: &[VariableTree], notes: &mut Noting) {
     for variables in declared {
         if let Some(start) = &variables.start {
-            note_time(page, variables.of_type, &start.value, writing);
+            note_time(page, variables.of_type, &start.value, notes);
         }
         let is_constant = asked.reads && variables.start.is_some();
         let each = Asked {
@@ -120,7 +116,7 @@ fn note_declared(
             ..asked
         };
         for name in &variables.names {
-            note_variable(page, each, name, writing);
+            note_variable(page, each, name, notes);
         }
     }
 }
@@ -130,7 +126,7 @@ pub fn note_variables(
     page: Page<'_>,
     block: &BlockTree,
     chart: &ChartTree,
-    writing: &mut Writing,
+    notes: &mut Noting,
 ) -> Result<(), AllocError> {
     let first = index_at(page.tokens, block.name.at);
     let tokens = page.tokens.get(first..).unwrap_or(&[]);
@@ -141,17 +137,17 @@ pub fn note_variables(
         reads: true,
         writes: false,
     };
-    note_declared(page, asked, &block.inputs, writing);
+    note_declared(page, asked, &block.inputs, notes);
     let asked = Asked {
         reads: false,
         writes: true,
         ..asked
     };
-    note_declared(page, asked, &block.outputs, writing);
+    note_declared(page, asked, &block.outputs, notes);
     let asked = Asked {
         reads: true,
         ..asked
     };
-    note_declared(page, asked, &chart.internals, writing);
+    note_declared(page, asked, &chart.internals, notes);
     Ok(())
 }

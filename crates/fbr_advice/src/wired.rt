@@ -1,9 +1,9 @@
 //! Notes on networks: instances that no event reaches, event outputs that lead nowhere, and values that no event is WITH.
 
-use crate::noted::{Page, begin_note, put_note};
+use crate::noted::{Noting, Page};
 use crate::used::note_time;
 use fb_tree::{BlockTree, BodyTree, EventTree, InstanceTree, NetworkTree, PortTree};
-use fbr_places::{Port, Writing, instance_named};
+use fbr_places::{Port, instance_named};
 
 // Whether an event connection leads to an instance.
 fn is_reached(network: &NetworkTree, instance: &str) -> bool {
@@ -46,19 +46,19 @@ fn note_events(
     network: &NetworkTree,
     instance: &InstanceTree,
     block: &BlockTree,
-    writing: &mut Writing,
+    notes: &mut Noting,
 ) {
     let name = instance.name.text.as_str();
     if !block.event_inputs.is_empty() && !is_reached(network, name) {
-        begin_note(page, instance.name.at, writing);
-        put_note("no event reaches ", name, "", "", writing);
+        notes.begin(instance.name.at);
+        notes.put("no event reaches ", name, "", "");
         return;
     }
     for event in &block.event_outputs {
         let own = event.name.text.as_str();
         if own != "INITO" && !is_led(network, name, own) {
-            begin_note(page, instance.name.at, writing);
-            put_note(name, ".", own, " leads nowhere", writing);
+            notes.begin(instance.name.at);
+            notes.put(name, ".", own, " leads nowhere");
         }
     }
 }
@@ -69,7 +69,7 @@ fn note_end(
     network: &NetworkTree,
     end: &PortTree,
     is_target: bool,
-    writing: &mut Writing,
+    notes: &mut Noting,
 ) {
     let (Some(instance), Some(port)) = (
         instance_named(network, end.first.text.as_str()),
@@ -86,29 +86,29 @@ fn note_end(
             (&block.event_outputs, ": this value is never given")
         };
         if is_type && is_basic && !is_carried(events, port.text.as_str()) {
-            begin_note(page, port.at, writing);
-            writing.put("no event of ");
-            writing.put(block.name.text.as_str());
-            put_note(" is WITH ", port.text.as_str(), says, "", writing);
+            notes.begin(port.at);
+            notes.said().put("no event of ");
+            notes.said().put(block.name.text.as_str());
+            notes.put(" is WITH ", port.text.as_str(), says, "");
         }
     }
 }
 
 /// Writes the notes on a network.
-pub fn note_network(page: Page<'_>, network: &NetworkTree, writing: &mut Writing) {
+pub fn note_network(page: Page<'_>, network: &NetworkTree, notes: &mut Noting) {
     for instance in &network.instances {
         for parameter in &instance.parameters {
             let port = page.types.port(instance, parameter.name.text.as_str());
             if let Some(Port::Input(of_type)) = port {
-                note_time(page, of_type, &parameter.value, writing);
+                note_time(page, of_type, &parameter.value, notes);
             }
         }
         if let Some(block) = page.types.block(instance.of_type.text.as_str()) {
-            note_events(page, network, instance, block, writing);
+            note_events(page, network, instance, block, notes);
         }
     }
     for connection in &network.values {
-        note_end(page, network, &connection.source, false, writing);
-        note_end(page, network, &connection.target, true, writing);
+        note_end(page, network, &connection.source, false, notes);
+        note_end(page, network, &connection.target, true, notes);
     }
 }

@@ -1,7 +1,9 @@
 //! What the program prints.
 
-use fbr::{ReadFault, Sources, command, input_named, paint};
+use fbr::{command, input_named};
 use fbr_cases_language::{Case, ended};
+use fbr_files::{ReadFault, Sources};
+use fbr_tell::paint;
 use std::alloc::{AllocError, Global};
 use std::io;
 use std::net::Net;
@@ -30,10 +32,17 @@ struct Held<'c, 'a> {
     written: Vec<u8>,
 }
 
+// A name without the folder that it begins in.
+fn plain(name: &str) -> &str {
+    name.strip_prefix("./").unwrap_or(name)
+}
+
 impl Sources for Held<'_, '_> {
     ghost use Rattle.std.specs.Prelude.{None};
 
     ghost contents = { λ _ _. None };
+
+    ghost same = { λ _ _ _. None };
 
     fn read(&self, alloc: Global, name: &str) -> Result<Vec<u8>, ReadFault> {
         if name == "-" {
@@ -48,6 +57,11 @@ impl Sources for Held<'_, '_> {
             }
         }
         Err(ReadFault::Unreadable)
+    }
+
+    // A name is that of the same file with `./` before it.
+    fn is_same(&self, one: &str, other: &str) -> bool {
+        one == other || plain(one) == plain(other)
     }
 
     fn write(&mut self, name: &str, text: &[u8]) -> io::Result<()> {

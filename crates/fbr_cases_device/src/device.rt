@@ -1,6 +1,6 @@
 //! What devices answer.
 
-use fb_script::fb_device::{
+use fb_device::{
     Answer, Device, Dispatched, Effect, Opening, Ready, Refusal, Step, load, load_boot, load_from,
 };
 use fb_script::tell;

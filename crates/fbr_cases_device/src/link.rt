@@ -2,8 +2,8 @@
 
 use crate::device::loaded;
 use crate::turn::Page;
-use fb_script::fb_device::fb_link::UdpLink;
-use fb_script::fb_device::{Device, Refusal};
+use fb_device::{Device, Refusal};
+use fb_link::UdpLink;
 use fbr_cases_language::{Case, ended, refused, text_of};
 use std::alloc::{AllocError, Global};
 use std::net::Net;

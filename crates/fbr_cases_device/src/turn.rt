@@ -1,8 +1,8 @@
 //! What devices do with links in memory.
 
 use crate::device::{bytes, halves, loaded, played};
-use fb_script::fb_device::fb_link::{Link, MemoryLink, Plan, Sink};
-use fb_script::fb_device::{Device, LinkDown, Report};
+use fb_device::{Device, LinkDown, Report};
+use fb_link::{Link, MemoryLink, Plan, Sink};
 use fbr_cases_language::{Case, ended, refused, text_of};
 use std::alloc::{AllocError, Global};
 use std::fmt::Write;

@@ -1,8 +1,8 @@
 //! What worlds answer.
 
 use crate::device::{halves, numbers, small};
-use fb_script::fb_world::{OutOfMemory, RootSteps, World, WorldAnswer, WorldEvent};
 use fb_script::{Told, tell};
+use fb_world::{OutOfMemory, RootSteps, World, WorldAnswer, WorldEvent};
 use fbr_cases_language::{Case, ended, refused, text_of};
 use std::alloc::{AllocError, Global};
 use std::fmt::Write;

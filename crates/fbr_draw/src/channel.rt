@@ -3,43 +3,19 @@
 use crate::edge::end_of_edge;
 use crate::picture::Sheet;
 use crate::walk::{comes_to_channel, goes_to_channel, leaves_channel};
-use fb_flat::{Body, Leaf};
-use fb_types_services::{Channel, Service};
-use fb_words::Format;
+use fb_flat::Leaf;
+use fb_types_services::Channel;
+use fbr_leaves::{admitted, channel_of, received_from, sent_on};
 use fbr_places::Writing;
 use indexmap::IndexSet;
 use std::alloc::{AllocError, Global};
-
-// The channel that a leaf sends on.
-fn sent_on(body: &Body) -> Option<u16> {
-    match body {
-        Body::Served(Service::Publish(channel, _)) => Some(channel.number),
-        _ => None,
-    }
-}
-
-// The channel that a leaf receives from.
-fn received_from(body: &Body) -> Option<&Channel> {
-    match body {
-        Body::Served(Service::Subscribe(channel, _)) => Some(channel),
-        _ => None,
-    }
-}
-
-// The number of the channel of a leaf.
-fn number_of(body: &Body) -> Option<u16> {
-    match received_from(body) {
-        Some(channel) => Some(channel.number),
-        None => sent_on(body),
-    }
-}
 
 // The channels of leaves, each once.
 fn channels(alloc: Global, leaves: &[&Leaf]) -> Result<IndexSet<u16>, AllocError> {
     let mut numbers = IndexSet::new(alloc);
     for leaf in leaves {
-        if let Some(channel) = number_of(&leaf.body) {
-            numbers.insert(channel)?;
+        if let Some(channel) = channel_of(leaf) {
+            numbers.insert(channel.number)?;
         }
     }
     Ok(numbers)
@@ -82,10 +58,7 @@ fn draw_sent(number: usize, channel: u16, end: &str, writing: &mut Writing) {
 
 // How often each datagram of a channel may be admitted, where a certificate says it.
 fn times_of(sheet: &Sheet<'_>, channel: &Channel) -> Option<u8> {
-    match (sheet.picture.certificate?.repeats()?, channel.format) {
-        (repeats, Format::First) => Some(repeats),
-        (_, Format::Second) => Some(1),
-    }
+    Some(admitted(sheet.picture.certificate?.repeats()?, channel))
 }
 
 // Ends an edge from a channel to where it is received, in red if a walk goes along it, with how often each datagram may be admitted.
@@ -121,12 +94,12 @@ fn draw_received(
 
 // Draws what joins a leaf, which has a number, to its channel.
 fn draw_end(sheet: &Sheet<'_>, leaf: &Leaf, number: usize, writing: &mut Writing) {
-    if let Some(channel) = sent_on(&leaf.body) {
-        let is_walked = goes_to_channel(sheet.picture.walk, leaf.path.as_str(), channel);
-        draw_sent(number, channel, end_of_edge(is_walked), writing);
+    if let Some(channel) = sent_on(leaf) {
+        let is_walked = goes_to_channel(sheet.picture.walk, leaf.path.as_str(), channel.number);
+        draw_sent(number, channel.number, end_of_edge(is_walked), writing);
         return;
     }
-    if let Some(channel) = received_from(&leaf.body) {
+    if let Some(channel) = received_from(leaf) {
         draw_received(sheet, leaf, number, channel, writing);
     }
 }

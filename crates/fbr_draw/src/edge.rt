@@ -1,9 +1,9 @@
 //! Connections, as edges.
 
-use crate::number::Numbers;
 use crate::picture::Sheet;
 use crate::walk::goes_to_event;
 use fb_flat::{Input, Leaf, Output, Source, Target};
+use fbr_leaves::Numbers;
 use fbr_places::Writing;
 
 /// What ends an edge, in red if a walk goes along it.

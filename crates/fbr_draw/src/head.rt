@@ -3,9 +3,9 @@
 use crate::margin::indent;
 use crate::picture::Sheet;
 use crate::walk::state_of;
-use fb_find_rows::Place;
-use fb_flat::{Body, Leaf};
-use fb_types_services::Service;
+use fb_flat::Leaf;
+use fbr_leaves::number_of;
+use fbr_needs::Step;
 use fbr_places::{Writing, instance_at};
 
 // The path of a leaf below its resource.
@@ -31,18 +31,6 @@ fn name_of(boxes: bool, path: &str) -> &str {
     }
 }
 
-// The number of a service or of its channel.
-fn number_of(body: &Body) -> Option<u16> {
-    match body {
-        Body::Basic(_) => None,
-        Body::Served(service) => match service {
-            Service::Input(number, _) | Service::Output(number, _) => Some(*number),
-            Service::Publish(channel, _) | Service::Subscribe(channel, _) => Some(channel.number),
-            Service::Delay | Service::Cycle | Service::Restart => None,
-        },
-    }
-}
-
 // Draws what a leaf is called, and below that its type and the number of a service.
 fn draw_name(sheet: &Sheet<'_>, leaf: &Leaf, writing: &mut Writing) {
     let path = leaf.path.as_str();
@@ -54,26 +42,19 @@ fn draw_name(sheet: &Sheet<'_>, leaf: &Leaf, writing: &mut Writing) {
         writing.put("<BR/>");
         writing.put(instance.of_type.text.as_str());
     }
-    if let Some(number) = number_of(&leaf.body) {
+    if let Some(number) = number_of(leaf) {
         writing.put(" ");
         writing.show(&number);
     }
     writing.put("</TD></TR>\n");
 }
 
-// The places of a walk, each once: the last is the first again.
-fn without_last(walk: &[Place]) -> &[Place] {
-    match walk.split_last() {
-        Some((_, rest)) => rest,
-        None => walk,
-    }
-}
-
 // Draws the states of a leaf that a walk comes to, in a row if there are some.
-fn draw_states(walk: &[Place], leaf: &str, depth: usize, writing: &mut Writing) {
+fn draw_states(walk: &[Step<'_>], leaf: &str, depth: usize, writing: &mut Writing) {
     let mut begun = false;
-    for place in without_last(walk) {
-        if let Some(state) = state_of(place, leaf) {
+    // The last place of a walk is the first again.
+    for index in 0..walk.len().saturating_sub(1) {
+        if let Some(state) = state_of(walk[index].place, leaf) {
             if begun {
                 writing.put(" → ");
             } else {

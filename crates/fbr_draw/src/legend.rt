@@ -1,7 +1,7 @@
 //! What stands above a picture: its title, and what its signs mean.
 
 use crate::picture::Picture;
-use crate::shown::{last_of, shown};
+use crate::text::{last_of, shown};
 use fb_cert::Certificate;
 use fbr_places::Writing;
 use std::alloc::{AllocError, Global};
@@ -72,7 +72,7 @@ pub fn write_legend(
     writing: &mut Writing,
 ) -> Result<(), AllocError> {
     let system = picture.file.system.name.text.as_str();
-    open_title(alloc, system, picture.name, writing)?;
+    open_title(alloc, system, picture.app.name, writing)?;
     write_note(
         "gray40",
         "solid: events; dashed: data; dotted: datagrams; grey: a port without a connection",

@@ -1,29 +1,24 @@
-//! Room: program. What `fbr draw` writes: a system as a graph in DOT, with weights, depths and walks, or the chart of a block type.
+//! Room: program. What `fbr draw` writes: a system as a graph in DOT, with weights, depths and walks; and what charts share with it.
 //! No contracts: what it writes is tested.
 #![tactic(auto)]
 
 mod channel;
-mod charge;
-mod chart;
 mod cluster;
 mod constant;
 mod device;
 mod edge;
-mod guard;
 mod head;
 mod joined;
 mod leaf;
 mod legend;
 mod margin;
-mod number;
 mod picture;
 mod port;
-mod shown;
-mod state;
 mod system;
-mod transition;
+mod text;
 mod walk;
 
-pub use chart::{chart_named, draw_chart};
+pub use legend::{close_title, open_title, write_note, write_walk};
 pub use picture::Picture;
 pub use system::draw;
+pub use text::shown;

@@ -1,25 +1,24 @@
 //! What is drawn, and what it is drawn with.
 
 use crate::joined::Joined;
-use crate::number::Numbers;
 use fb_cert::Certificate;
-use fb_find_rows::Place;
 use fb_tree::FileTree;
+use fbr_leaves::Numbers;
+use fbr_needs::Step;
+use fbr_places::Named;
 use std::alloc::Global;
 
 /// What is drawn beside the blocks and their connections.
 #[derive(Clone, Copy)]
 pub struct Picture<'a> {
-    /// What the file is called.
-    pub name: &'a str,
-    /// Its text.
-    pub text: &'a str,
+    /// The text, and what its file is called.
+    pub app: Named<'a>,
     /// The source, which has the names of types.
     pub file: &'a FileTree,
     /// The certificate whose weights stand at event inputs and arrivals.
     pub certificate: Option<&'a Certificate>,
     /// The places of a walk, drawn in red.
-    pub walk: &'a [Place],
+    pub walk: &'a [Step<'a>],
     /// Whether composites are drawn as boxes around what they are made of.
     pub boxes: bool,
 }

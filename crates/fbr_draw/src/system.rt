@@ -5,9 +5,9 @@ use crate::device::draw_device;
 use crate::edge::{draw_events, draw_values};
 use crate::joined::joined_ports;
 use crate::legend::write_legend;
-use crate::number::{leaves_of, numbered};
 use crate::picture::{Picture, Sheet};
 use fb_flat::Flat;
+use fbr_leaves::{leaves_of, numbered};
 use fbr_places::Writing;
 use std::alloc::{AllocError, Global};
 

@@ -1,6 +1,7 @@
 //! What of a walk is drawn.
 
 use fb_find_rows::Place;
+use fbr_needs::Step;
 
 // Whether a path is that of something in a leaf.
 fn is_in(path: &str, leaf: &str) -> bool {
@@ -38,8 +39,9 @@ pub fn is_channel(place: &Place, channel: u16) -> bool {
 }
 
 /// Whether a walk comes to a leaf.
-pub fn comes_to(walk: &[Place], leaf: &str) -> bool {
-    for place in walk {
+pub fn comes_to(walk: &[Step<'_>], leaf: &str) -> bool {
+    for step in walk {
+        let place = step.place;
         if is_at(place, leaf) {
             return true;
         }
@@ -48,8 +50,9 @@ pub fn comes_to(walk: &[Place], leaf: &str) -> bool {
 }
 
 /// Whether a walk comes to an event input or the arrival of a leaf.
-pub fn comes_to_event(walk: &[Place], leaf: &str, event: &str) -> bool {
-    for place in walk {
+pub fn comes_to_event(walk: &[Step<'_>], leaf: &str, event: &str) -> bool {
+    for step in walk {
+        let place = step.place;
         if is_event(place, leaf, event) {
             return true;
         }
@@ -58,8 +61,9 @@ pub fn comes_to_event(walk: &[Place], leaf: &str, event: &str) -> bool {
 }
 
 /// Whether a walk comes to a channel.
-pub fn comes_to_channel(walk: &[Place], channel: u16) -> bool {
-    for place in walk {
+pub fn comes_to_channel(walk: &[Step<'_>], channel: u16) -> bool {
+    for step in walk {
+        let place = step.place;
         if is_channel(place, channel) {
             return true;
         }
@@ -68,9 +72,10 @@ pub fn comes_to_channel(walk: &[Place], channel: u16) -> bool {
 }
 
 /// Whether a walk goes on from a leaf to an event input of a leaf.
-pub fn goes_to_event(walk: &[Place], from: &str, leaf: &str, event: &str) -> bool {
+pub fn goes_to_event(walk: &[Step<'_>], from: &str, leaf: &str, event: &str) -> bool {
     let mut was_there = false;
-    for place in walk {
+    for step in walk {
+        let place = step.place;
         if was_there && is_event(place, leaf, event) {
             return true;
         }
@@ -80,9 +85,10 @@ pub fn goes_to_event(walk: &[Place], from: &str, leaf: &str, event: &str) -> boo
 }
 
 /// Whether a walk goes on from a leaf to a channel.
-pub fn goes_to_channel(walk: &[Place], from: &str, channel: u16) -> bool {
+pub fn goes_to_channel(walk: &[Step<'_>], from: &str, channel: u16) -> bool {
     let mut was_there = false;
-    for place in walk {
+    for step in walk {
+        let place = step.place;
         if was_there && is_channel(place, channel) {
             return true;
         }
@@ -92,9 +98,10 @@ pub fn goes_to_channel(walk: &[Place], from: &str, channel: u16) -> bool {
 }
 
 /// Whether a walk goes on from a channel to a leaf.
-pub fn leaves_channel(walk: &[Place], channel: u16, leaf: &str) -> bool {
+pub fn leaves_channel(walk: &[Step<'_>], channel: u16, leaf: &str) -> bool {
     let mut was_there = false;
-    for place in walk {
+    for step in walk {
+        let place = step.place;
         if was_there && is_at(place, leaf) {
             return true;
         }

@@ -1,14 +1,16 @@
 //! The bounds of what fits, told to people.
 
-use crate::beside::{Queue, arrivals_of, tell_beside, tell_depth};
-use crate::channels::{Ways, channels_behind, numbered, tell_channels};
+use crate::beside::{tell_beside, tell_depth};
+use crate::channels::{Ways, channels_behind, tell_channels};
 use crate::notes::tell_notes;
 use fb_cert::Certificate;
-use fb_check::Verified;
 use fb_flat::{Body, FlatResource, Leaf, joined};
 use fb_types_blocks::{Block, Variables};
-use fbr_advice::spotted::Named;
-use fbr_places::Writing;
+use fb_verified::Verified;
+use fbr_diagnosis::notes_of;
+use fbr_leaves::{leaves_in, numbered};
+use fbr_needs::{Queue, arrivals_of};
+use fbr_places::{Named, Writing};
 use std::alloc::{AllocError, Global};
 
 // A resource whose bounds are told.
@@ -17,7 +19,7 @@ struct View<'a> {
     alloc: Global,
     verified: &'a Verified,
     ways: Ways<'a>,
-    queue: Queue<'a>,
+    queue: &'a Queue<'a>,
 }
 
 // Writes the channels on which an arrival of a leaf can be sent on.
@@ -121,29 +123,29 @@ fn tell_leaf(view: View<'_>, leaf: &Leaf, writing: &mut Writing) -> Result<(), A
 }
 
 // Writes the bounds of a resource.
-fn tell_resource<'a>(
+fn tell_resource(
     alloc: Global,
-    verified: &'a Verified,
-    resource: &'a FlatResource,
+    verified: &Verified,
+    resource: &FlatResource,
     writing: &mut Writing,
 ) -> Result<(), AllocError> {
     let path = resource.path.as_str();
-    let arrivals = arrivals_of(alloc, verified, resource)?;
     let queue = Queue {
         path,
         depth: verified.depth(path).unwrap_or(0),
-        arrivals: &arrivals,
+        arrivals: arrivals_of(alloc, verified.certificate(), resource)?,
     };
-    tell_depth(queue, writing);
-    let numbers = numbered(alloc, resource)?;
+    tell_depth(&queue, writing);
+    let leaves = leaves_in(alloc, resource)?;
+    let numbers = numbered(alloc, &leaves)?;
     let view = View {
         alloc,
         verified,
         ways: Ways {
             numbers: &numbers,
-            leaves: resource.leaves.as_slice(),
+            leaves: &leaves,
         },
-        queue,
+        queue: &queue,
     };
     for leaf in &resource.leaves {
         tell_leaf(view, leaf, writing)?;
@@ -165,7 +167,7 @@ pub fn tell_bounds(
         }
     }
     tell_channels(alloc, verified, writing)?;
-    let before = writing.bytes().len();
-    tell_notes(alloc, verified, app, writing)?;
-    Ok(writing.bytes().len() > before)
+    let notes = notes_of(alloc, verified, app)?;
+    tell_notes(app, &notes, writing);
+    Ok(!notes.places.is_empty())
 }

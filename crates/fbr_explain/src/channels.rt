@@ -1,38 +1,26 @@
 //! Channels of what fits, told to people: who sends on them, where their datagrams come to, and what a datagram causes at most.
 
-use crate::service::admitted;
-use fb_check::Verified;
-use fb_flat::{Body, Flat, FlatResource, Leaf, joined};
-use fb_types_services::{Channel, Service};
+use fb_flat::{Body, Flat, Leaf, joined};
+use fb_types_services::Channel;
+use fb_verified::Verified;
+use fbr_leaves::{Numbers, admitted, channel_of, received_from, sent_on};
 use fbr_places::Writing;
 use indexmap::{IndexMap, IndexSet};
 use std::alloc::{AllocError, Global};
-
-/// The numbers of the leaves of a resource, by their paths.
-pub type Numbers = IndexMap<String, usize>;
 
 /// The leaves of a resource, and their numbers.
 #[derive(Clone, Copy)]
 pub struct Ways<'a> {
     pub numbers: &'a Numbers,
-    pub leaves: &'a [Leaf],
+    pub leaves: &'a [&'a Leaf],
 }
 
 impl<'a> Ways<'a> {
     // The leaf of a path.
     fn leaf_at(self, path: &str) -> Option<&'a Leaf> {
         let number = self.numbers.get(path)?;
-        self.leaves.get(*number)
+        self.leaves.get(*number).copied()
     }
-}
-
-/// Numbers for the leaves of a resource, from 0 on.
-pub fn numbered(alloc: Global, resource: &FlatResource) -> Result<Numbers, AllocError> {
-    let mut numbers = IndexMap::new(alloc);
-    for (number, leaf) in resource.leaves.iter().enumerate() {
-        numbers.insert(leaf.path.clone()?, number)?;
-    }
-    Ok(numbers)
 }
 
 // Events that can come about at leaves, each once.
@@ -89,14 +77,6 @@ fn add_targets<'a>(
     Ok(())
 }
 
-// The channel on which an event at a leaf sends a datagram.
-fn sent_on(leaf: &Leaf, event: &str) -> Option<u16> {
-    match &leaf.body {
-        Body::Served(Service::Publish(channel, _)) if event != "INIT" => Some(channel.number),
-        _ => None,
-    }
-}
-
 // A resource has at most so many leaves times event inputs.
 const MOST_EVENTS: usize = 65_536;
 
@@ -117,22 +97,15 @@ pub fn channels_behind<'a>(
         let Some((leaf, event)) = found.all.get(index).copied() else {
             break;
         };
-        if let Some(channel) = sent_on(leaf, event) {
-            channels.insert(channel)?;
+        match sent_on(leaf) {
+            Some(channel) if event != "INIT" => {
+                channels.insert(channel.number)?;
+            }
+            _ => {}
         }
         add_targets(alloc, ways, leaf, event, &mut found)?;
     }
     Ok(channels)
-}
-
-// The channel of a leaf that sends or receives.
-fn channel_of(leaf: &Leaf) -> Option<&Channel> {
-    match &leaf.body {
-        Body::Served(Service::Publish(channel, _) | Service::Subscribe(channel, _)) => {
-            Some(channel)
-        }
-        _ => None,
-    }
 }
 
 // The leaves of a channel each, in text order.
@@ -195,8 +168,8 @@ fn tell_end(
     leaf: &Leaf,
     writing: &mut Writing,
 ) -> Result<(), AllocError> {
-    match &leaf.body {
-        Body::Served(Service::Subscribe(channel, _)) => {
+    match received_from(leaf) {
+        Some(channel) => {
             let path = joined(alloc, leaf.path.as_str(), "ARRIVE")?;
             writing.put("        to ");
             writing.put(path.as_str());
@@ -205,7 +178,7 @@ fn tell_end(
             tell_steps(verified, path.as_str(), writing);
             Ok(())
         }
-        _ => {
+        None => {
             writing.put("        from ");
             writing.put(leaf.path.as_str());
             writing.put("\n");

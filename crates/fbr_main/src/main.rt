@@ -5,7 +5,9 @@
 ghost use Rattle.std.specs.Prelude.{◌≡◌, ◌≤◌, IfOk, MatchResult};
 ghost use Rattle.std.specs.Process.{exit_status};
 
-use fbr::{Disk, command, input_named, paint};
+use fbr::{command, input_named};
+use fbr_files::Disk;
+use fbr_tell::paint;
 use std::alloc::AllocError;
 use std::env::VarError;
 use std::io;
@@ -151,6 +153,7 @@ fn status(rt: &HostRuntime) -> io::Result<u8>
     let mut input = rt.reader();
     let mut files = Disk {
         rt,
+        alloc,
         input: input_named(alloc, texts.as_slice(), &mut input),
     };
     let mut output = BufWriter::new(rt.alloc(), io::writer(rt))?;

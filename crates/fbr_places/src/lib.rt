@@ -5,6 +5,7 @@
 mod around;
 mod declared;
 mod library;
+mod named;
 mod ports;
 mod spot;
 mod tree;
@@ -15,7 +16,8 @@ pub use around::{
 };
 pub use declared::{Declared, declared_at, instance_at, instance_named};
 pub use library::FACES;
+pub use named::{Located, Named, tell_where};
 pub use ports::{Port, Types, port_in, type_named};
 pub use spot::Spot;
-pub use tree::{tokens_of, tree_of};
+pub use tree::{tokens_of, tree_in, tree_of};
 pub use writing::Writing;

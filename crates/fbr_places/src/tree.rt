@@ -14,14 +14,23 @@ pub fn tokens_of(alloc: Global, text: &str) -> Result<Option<Vec<Token>>, AllocE
     }
 }
 
-/// The source tree of a text; nothing where it has none.
-pub fn tree_of(alloc: Global, text: &str) -> Result<Option<FileTree>, AllocError> {
-    let Some(tokens) = tokens_of(alloc, text)? else {
-        return Ok(None);
-    };
-    match parse_tokens(alloc, &tokens, text.len()) {
+/// The source tree of the tokens of a text of so many bytes; nothing where it has none.
+pub fn tree_in(
+    alloc: Global,
+    tokens: &[Token],
+    length: usize,
+) -> Result<Option<FileTree>, AllocError> {
+    match parse_tokens(alloc, tokens, length) {
         Ok(tree) => Ok(Some(tree)),
         Err(TextFault::OutOfMemory) => Err(AllocError),
         Err(_) => Ok(None),
+    }
+}
+
+/// The source tree of a text; nothing where it has none.
+pub fn tree_of(alloc: Global, text: &str) -> Result<Option<FileTree>, AllocError> {
+    match tokens_of(alloc, text)? {
+        Some(tokens) => tree_in(alloc, &tokens, text.len()),
+        None => Ok(None),
     }
 }

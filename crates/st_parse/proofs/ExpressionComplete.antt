@@ -15,7 +15,8 @@ use Rattle.fb_read.proofs.Readers.{Gets, Complete, Shorter, gets_then, gets_wide
 use Rattle.fb_read.proofs.Repetitions.{many_shrinks, separated_shorter, stops_at, while_complete, separated_complete}
 use Rattle.st_parse.specs.declared.operator.Role.{Role}
 use Rattle.st_parse.specs.declared.operator.Role.TheVariants.{Infix, Opener, Other}
-use Rattle.st_parse.specs.ExpressionReading.{role, goes_on, continues, of_level, operator_at, begins_link, link_step, link_at, links_at, chain_at, level_at, opened_at, literal_at, signed_at, negative_at, inverse_at, parentheses_at, element_at, call_at, named_at, operand_of, nested_at, expression_at}
+use Rattle.st_parse.specs.ConstantReading.{number_at, literal_at}
+use Rattle.st_parse.specs.ExpressionReading.{role, goes_on, continues, of_level, operator_at, begins_link, link_step, link_at, links_at, chain_at, level_at, opened_at, literally, negative_at, inverse_at, parentheses_at, element_at, call_at, named_at, operand_of, nested_at, expression_at}
 
 -- ---- what an expression may stand before
 
@@ -233,7 +234,7 @@ module _ (Deep : Type 0) (G : Gram Expression) (inner : Read Expression) (depth 
       opened_gets _ (x, rest) m.LParen depth s e ts refl (item_deep ts x (token (mark m.RParen) s' e' ∷ rest) h) (λ lt. closed_complete m.RParen s' e' ts rest x refl refl lt h (λ y ts. y))
 
   signed_complete : (n s e s' e' : ℕ) (ts : List Token) (x : Expression) → G (token (number n) s' e' ∷ ts) x ts → Gets Deep (negative_at depth inner (token (mark m.Minus) s e ∷ token (number n) s' e' ∷ ts)) (literal (record { value = Whole true n; at = s' }), ts)
-  unfolding negative_at signed_at
+  unfolding negative_at
   signed_complete n s e s' e' ts x h =
       opened_gets _ (literal (record { value = Whole true n; at = s' }), ts) m.Minus depth s e (token (number n) s' e' ∷ ts) refl (λ z. deep z (token (number n) s' e' ∷ ts) x ts h) (λ lt. inl refl)
 
@@ -242,7 +243,7 @@ module _ (Deep : Type 0) (G : Gram Expression) (inner : Read Expression) (depth 
   minus_complete s e ts rest x d h st =
       opened_gets _ (negative s x, rest) m.Minus depth s e ts refl (λ z. deep z ts x rest h)
       (λ lt. let turn : Gets {A = Expression × List Token} Deep (inner ts >>= λ y. Ok (negative s y.0, y.1)) (negative s x, rest) = gets_then _ _ (inner ts) (x, rest) (whole lt ts x rest h st) (inl refl) in
-      subst (λ b. Gets {A = Expression × List Token} Deep (cond b (signed_at ts) (inner ts >>= λ y. Ok (negative s y.0, y.1))) (negative s x, rest)) (sym d) turn)
+      subst (λ b. Gets {A = Expression × List Token} Deep (cond b (literally (number_at true) ts) (inner ts >>= λ y. Ok (negative s y.0, y.1))) (negative s x, rest)) (sym d) turn)
 
   not_complete : (s e : ℕ) (ts rest : List Token) (x : Expression) → G ts x rest → goes_below 0 rest ≡ false → Gets Deep (inverse_at depth inner (token (mark m.Not) s e ∷ ts)) (inverse s x, rest)
   unfolding inverse_at

@@ -16,7 +16,8 @@ use Rattle.fb_read.proofs.Readers.{Meets, Sound, meets_if, meets_then, expect_th
 use Rattle.fb_read.proofs.Repetitions.{while_sound, separated_sound}
 use Rattle.st_parse.specs.declared.operator.Role.{Role}
 use Rattle.st_parse.specs.declared.operator.Role.TheVariants.{Infix, Opener, Other}
-use Rattle.st_parse.specs.ExpressionReading.{role, of_level, link_step, link_at, links_at, chain_at, level_at, opened_at, marked_at, literal_at, signed_at, minus_step, negative_at, inverse_at, parentheses_at, element_at, call_at, named_at, operand_of, nested_at, expression_at}
+use Rattle.st_parse.specs.ConstantReading.{number_at, marked_at, literal_at}
+use Rattle.st_parse.specs.ExpressionReading.{role, of_level, link_step, link_at, links_at, chain_at, level_at, opened_at, literally, minus_step, negative_at, inverse_at, parentheses_at, element_at, call_at, named_at, operand_of, nested_at, expression_at}
 
 -- ---- operators
 
@@ -89,12 +90,12 @@ abbrev pub Accepts : Gram Expression → Type 0
 Accepts G = (n s e : ℕ) (ts : List Token) → G (token (number n) s e ∷ ts) (literal (record { value = Whole false n; at = s })) ts
 
 module _ (G : Gram Expression) (inner : Read Expression) (sound : Sound G inner) where
-  marked_sound : (k : Mark) (s e : ℕ) (ts : List Token) → Meets (IsOperand G (token (mark k) s e ∷ ts)) (marked_at k s ts)
+  marked_sound : (k : Mark) (s e : ℕ) (ts : List Token) → Meets (IsOperand G (token (mark k) s e ∷ ts)) (marked_at k s ts >>= λ c. Ok (literal c.0, c.1))
   marked_sound m.True s e ts = a_literal yes
   marked_sound m.False s e ts = a_literal no
   marked_sound other s e ts = tt
 
-  literal_sound : Sound (IsOperand G) literal_at
+  literal_sound : Sound (IsOperand G) (literally literal_at)
   unfolding literal_at
   literal_sound [] = tt
   literal_sound (token (name x) s e ∷ ts) = tt
@@ -103,8 +104,7 @@ module _ (G : Gram Expression) (inner : Read Expression) (sound : Sound G inner)
   literal_sound (token (duration b n) s e ∷ ts) = a_literal time
   literal_sound (token (mark k) s e ∷ ts) = marked_sound k s e ts
 
-  signed_sound : Accepts G → (s e : ℕ) (ts : List Token) → Meets (IsOperand G (token (mark m.Minus) s e ∷ ts)) (signed_at ts)
-  unfolding signed_at
+  signed_sound : Accepts G → (s e : ℕ) (ts : List Token) → Meets (IsOperand G (token (mark m.Minus) s e ∷ ts)) (literally (number_at true) ts)
   signed_sound accepts s e [] = tt
   signed_sound accepts s e (token (name x) s' e' ∷ ts) = tt
   signed_sound accepts s e (token (number n) s' e' ∷ ts) = a_negative (accepts n s' e' ts)
@@ -114,7 +114,7 @@ module _ (G : Gram Expression) (inner : Read Expression) (sound : Sound G inner)
 
   minus_sound : Accepts G → (s e : ℕ) (ts : List Token) → Meets (IsOperand G (token (mark m.Minus) s e ∷ ts)) (minus_step inner s ts)
   minus_sound accepts s e ts = by (begins_number ts) refl where
-    by : (b : Bool) → begins_number ts ≡ b → Meets (IsOperand G (token (mark m.Minus) s e ∷ ts)) (cond b (signed_at ts) (inner ts >>= λ x. Ok (negative s x.0, x.1)))
+    by : (b : Bool) → begins_number ts ≡ b → Meets (IsOperand G (token (mark m.Minus) s e ∷ ts)) (cond b (literally (number_at true) ts) (inner ts >>= λ x. Ok (negative s x.0, x.1)))
     by true d = signed_sound accepts s e ts
     by false d = meets_then _ _ (inner ts) (sound ts) (λ x rest p. a_minus d p)
 

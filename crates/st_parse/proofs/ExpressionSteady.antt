@@ -5,7 +5,7 @@ use Rattle.fb_words.specs.declared.mark.Mark.{Mark}
 use Rattle.fb_words.specs.declared.mark.Mark.TheVariants as m
 use Rattle.fb_model.specs.Tokens.{Token, token, name, number, typed, duration, mark}
 use Rattle.fb_model.specs.Productions.{Gram, Word}
-use Rattle.fb_model.specs.Trees.{Whole, Typed, Duration, Truth}
+use Rattle.fb_model.specs.Trees.{Constant}
 use Rattle.fb_model.specs.StructuredText.{Expression, literal, variable, element, call, negative, inverse, expressions, grouped}
 use Rattle.fb_model.specs.StructuredTextGrammar.{begins_number, levels, IsLink, IsLevel, IsNested}
 use Rattle.fb_read.specs.Reading.{too_deep, stuck, Read, ◌>>=◌, next_is, expect, name_at, begins_name, list_at}
@@ -14,7 +14,9 @@ use Rattle.fb_read.proofs.Steady.{Steady, Takes, Stops, SeesFirst, sees_first, n
 use Rattle.fb_read.proofs.SteadyLists.{Shrinks, shrinks_of, steady_all, steady_list}
 use Rattle.st_parse.specs.declared.operator.Role.{Role}
 use Rattle.st_parse.specs.declared.operator.Role.TheVariants.{Infix, Opener, Other}
-use Rattle.st_parse.specs.ExpressionReading.{role, of_level, begins_link, link_step, link_at, links_at, chain_at, level_at, opened_at, literal_at, signed_at, minus_step, negative_at, inverse_at, parentheses_at, element_at, call_at, named_at, unnamed_at, operand_of, nested_at, expression_at}
+use Rattle.st_parse.specs.ConstantReading.{number_at, literal_at}
+use Rattle.st_parse.proofs.Literals.{number_steady, literal_steady}
+use Rattle.st_parse.specs.ExpressionReading.{role, of_level, begins_link, link_step, link_at, links_at, chain_at, level_at, opened_at, literally, minus_step, negative_at, inverse_at, parentheses_at, element_at, call_at, named_at, unnamed_at, operand_of, nested_at, expression_at}
 use Rattle.st_parse.proofs.ExpressionSound.{link_sound, level_sound, nested_sound}
 use Rattle.st_parse.proofs.ExpressionComplete.{link_shorter, level_shorter, nested_shorter}
 
@@ -84,42 +86,12 @@ level_steady G item sound short steady (suc level) =
 
 -- ---- operands
 
-one_literal : (c : Expression) (r : Read Expression) (u : Token) → ((ts : List Token) → r (u ∷ ts) ≡ Ok (c, ts)) → Takes r u
-one_literal c r u h = ((λ ts. Ok (c, ts)), steady_done c, h)
-
-marked_begins : (k : Mark) (s e : ℕ) → Takes literal_at (token (mark k) s e) ⊎ Stops literal_at (token (mark k) s e)
-unfolding literal_at
-marked_begins m.True s e = inl (one_literal (literal (record { value = Truth true; at = s })) literal_at (token (mark m.True) s e) (λ ts. refl))
-marked_begins m.False s e = inl (one_literal (literal (record { value = Truth false; at = s })) literal_at (token (mark m.False) s e) (λ ts. refl))
-marked_begins other s e = inr (λ ts. refl)
-
-literal_begins : (u : Token) → Takes literal_at u ⊎ Stops literal_at u
-unfolding literal_at
-literal_begins (token (name x) s e) = inr (λ ts. refl)
-literal_begins (token (number n) s e) = inl (one_literal (literal (record { value = Whole false n; at = s })) literal_at (token (number n) s e) (λ ts. refl))
-literal_begins (token (typed t b n) s e) = inl (one_literal (literal (record { value = Typed t b n; at = s })) literal_at (token (typed t b n) s e) (λ ts. refl))
-literal_begins (token (duration b n) s e) = inl (one_literal (literal (record { value = Duration b n; at = s })) literal_at (token (duration b n) s e) (λ ts. refl))
-literal_begins (token (mark k) s e) = marked_begins k s e
-
-literal_steady : Steady literal_at
-unfolding literal_at
-literal_steady = steady_head literal_at (omega arith) literal_begins
-
-signed_begins : (u : Token) → Takes signed_at u ⊎ Stops signed_at u
-unfolding signed_at
-signed_begins (token (name x) s e) = inr (λ ts. refl)
-signed_begins (token (number n) s e) = inl (one_literal (literal (record { value = Whole true n; at = s })) signed_at (token (number n) s e) (λ ts. refl))
-signed_begins (token (typed t b n) s e) = inr (λ ts. refl)
-signed_begins (token (duration b n) s e) = inr (λ ts. refl)
-signed_begins (token (mark k) s e) = inr (λ ts. refl)
-
-signed_steady : Steady signed_at
-unfolding signed_at
-signed_steady = steady_head signed_at (omega arith) signed_begins
+steady_literally : (read : Read Constant) → Steady read → Steady (literally read)
+steady_literally read h = steady_then read _ h (λ c. steady_done (literal c))
 
 module _ (G : Gram Expression) (inner : Read Expression) (sound : Sound G inner) (short : Shorter G) (steady : Steady inner) where
   minus_steady : (s : ℕ) → Steady (minus_step inner s)
-  minus_steady s = steady_test begins_number number_sees signed_at (λ ts. inner ts >>= λ x. Ok (negative s x.0, x.1)) signed_steady (steady_then inner _ steady (λ x. steady_done (negative s x)))
+  minus_steady s = steady_test begins_number number_sees (literally (number_at true)) (λ ts. inner ts >>= λ x. Ok (negative s x.0, x.1)) (steady_literally (number_at true) (number_steady true)) (steady_then inner _ steady (λ x. steady_done (negative s x)))
 
   negative_steady : (depth : ℕ) → Steady (negative_at depth inner)
   unfolding negative_at
@@ -163,7 +135,7 @@ module _ (G : Gram Expression) (inner : Read Expression) (sound : Sound G inner)
   unnamed_steady depth =
       let item = level_at inner levels in
       steady_choice m.Minus (negative_at depth inner) _ (negative_steady depth)
-      (steady_choice m.Not (inverse_at depth inner) _ (inverse_steady depth) (steady_choice m.LParen (parentheses_at depth item) literal_at (parentheses_steady depth) literal_steady))
+      (steady_choice m.Not (inverse_at depth inner) _ (inverse_steady depth) (steady_choice m.LParen (parentheses_at depth item) (literally literal_at) (parentheses_steady depth) (steady_literally literal_at literal_steady)))
 
   operand_steady : (depth : ℕ) → Steady (operand_of depth inner)
   unfolding operand_of

@@ -6,16 +6,18 @@ use Rattle.fb_words.specs.declared.mark.Mark.{Mark}
 use Rattle.fb_words.specs.declared.mark.Mark.TheVariants as m
 use Rattle.fb_model.specs.Tokens.{Token, token, name, number, typed, duration, mark}
 use Rattle.fb_model.specs.Productions.{Gram, Word, none, last}
-use Rattle.fb_model.specs.Trees.{Whole}
+use Rattle.fb_model.specs.Trees.{Constant, Whole}
 use Rattle.fb_model.specs.StructuredText.{Expression, literal, element, call, negative, inverse, expressions, grouped}
 use Rattle.fb_model.specs.StructuredTextGrammar.{IsOperator, levels, IsLink, a_link, IsChain, a_chain, IsLevel, begins_number, IsOperand, an_element, a_call, in_parentheses, a_negative, a_minus, a_not, IsNested, IsExpression}
 use Rattle.fb_read.specs.Reading.{Wrong, too_deep, stuck, Read, ◌>>=◌, next_is, expect, offset_at, name_at, begins_name, list_at}
-use Rattle.fb_read.proofs.Readers.{Sound, Shorter, NotDeep, shallow_name}
+use Rattle.fb_read.proofs.Readers.{Sound, Shorter, Shallow, shallow_then, shallow_name}
 use Rattle.fb_read.proofs.Steady.{Steady, number_sees, steady_name}
 use Rattle.fb_read.proofs.Viable.{Span, Any, GoesOn, Viable, Marked, Behind, goes_with, goes_as, goes_if, goes_shallow, goes_done, begun_at, goes_next, viable_expect, viable_then, is_read, is_name, shallow_closing, while_viable, separated_viable}
 use Rattle.st_parse.specs.declared.operator.Role.{Role}
 use Rattle.st_parse.specs.declared.operator.Role.TheVariants.{Infix, Opener, Other}
-use Rattle.st_parse.specs.ExpressionReading.{role, of_level, begins_link, link_step, link_at, links_at, chain_at, level_at, opened_at, marked_at, literal_at, signed_at, minus_step, negative_at, inverse_at, parentheses_at, element_at, call_at, named_step, named_at, operand_of, nested_at, expression_at}
+use Rattle.st_parse.specs.ConstantReading.{number_at, literal_at}
+use Rattle.st_parse.proofs.Literals.{number_shallow, literal_shallow}
+use Rattle.st_parse.specs.ExpressionReading.{role, of_level, begins_link, link_step, link_at, links_at, chain_at, level_at, opened_at, literally, minus_step, negative_at, inverse_at, parentheses_at, element_at, call_at, named_step, named_at, operand_of, nested_at, expression_at}
 use Rattle.st_parse.proofs.ExpressionSound.{role_is, Accepts, accepts_number, link_sound, level_sound, operand_sound}
 use Rattle.st_parse.proofs.ExpressionComplete.{level_shorter, nested_shorter}
 use Rattle.st_parse.proofs.ExpressionSteady.{link_steady, level_steady, nested_steady}
@@ -70,28 +72,8 @@ level_viable G item sound short steady viable (suc level) =
 
 -- ---- operands
 
-shallow_marked : (k : Mark) (s : ℕ) (ts : List Token) → NotDeep (marked_at k s ts)
-shallow_marked m.True s ts = tt
-shallow_marked m.False s ts = tt
-shallow_marked other s ts = tt
-
-shallow_literal : (ts : List Token) → NotDeep (literal_at ts)
-unfolding literal_at
-shallow_literal [] = tt
-shallow_literal (token (name x) s e ∷ ts) = tt
-shallow_literal (token (number n) s e ∷ ts) = tt
-shallow_literal (token (typed t b n) s e ∷ ts) = tt
-shallow_literal (token (duration b n) s e ∷ ts) = tt
-shallow_literal (token (mark k) s e ∷ ts) = shallow_marked k s ts
-
-shallow_signed : (ts : List Token) → NotDeep (signed_at ts)
-unfolding signed_at
-shallow_signed [] = tt
-shallow_signed (token (name x) s e ∷ ts) = tt
-shallow_signed (token (number n) s e ∷ ts) = tt
-shallow_signed (token (typed t b n) s e ∷ ts) = tt
-shallow_signed (token (duration b n) s e ∷ ts) = tt
-shallow_signed (token (mark k) s e ∷ ts) = tt
+shallow_literally : (read : Read Constant) → Shallow read → Shallow (literally read)
+shallow_literally read h ts = shallow_then _ (read ts) (h ts) (λ c. tt)
 
 -- a number, and its tree
 abbrev pub nought : Token
@@ -121,8 +103,8 @@ module _ (G : Gram Expression) (inner : Read Expression) (sound : Sound G inner)
 
   minus_viable : (at : ℕ) → Viable (Marked m.Minus One) (minus_step inner at)
   minus_viable at ts = by (begins_number ts) refl where
-    by : (b : Bool) → begins_number ts ≡ b → GoesOn (Marked m.Minus One) ts (cond b (signed_at ts) (inner ts >>= λ x. Ok (negative at x.0, x.1)))
-    by true d = goes_shallow (Marked m.Minus One) ts (signed_at ts) (shallow_signed ts)
+    by : (b : Bool) → begins_number ts ≡ b → GoesOn (Marked m.Minus One) ts (cond b (literally (number_at true) ts) (inner ts >>= λ x. Ok (negative at x.0, x.1)))
+    by true d = goes_shallow (Marked m.Minus One) ts (literally (number_at true) ts) (shallow_literally (number_at true) (number_shallow true) ts)
     by false d =
         goes_done (Marked m.Minus One) ts (λ x. Ok (negative at x.0, x.1)) (inner ts) (λ x. tt)
         (goes_with ts (inner ts) (λ rest. (rest, λ us a h s e. (negative s h.0, a_minus (sym (number_sees a.0 a.1 a.2 ts us a.3) ∙ d) h.1))) (viable ts))
@@ -177,7 +159,7 @@ module _ (G : Gram Expression) (inner : Read Expression) (sound : Sound G inner)
       goes_if One ts (begins_name ts) _ _ (named_viable depth ts)
       (goes_if One ts (next_is m.Minus ts) _ _ (negative_viable depth ts)
       (goes_if One ts (next_is m.Not ts) _ _ (inverse_viable depth ts)
-      (goes_if One ts (next_is m.LParen ts) _ _ (parentheses_viable depth ts) (goes_shallow One ts (literal_at ts) (shallow_literal ts)))))
+      (goes_if One ts (next_is m.LParen ts) _ _ (parentheses_viable depth ts) (goes_shallow One ts (literally literal_at ts) (shallow_literally literal_at literal_shallow ts)))))
 
 -- what is read where so many nestings are allowed is in the grammar where one more is
 nested_wide : (depth : ℕ) → Sound (IsNested (suc depth)) (nested_at depth)

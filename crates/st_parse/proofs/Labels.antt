@@ -1,18 +1,20 @@
 -- The laws of labels and steps.
-use Rattle.std.proofs.Common.{◌≡◌, ℕ, ◌≤◌, ◌⊎◌, Bool, true, false, cond, List, [], ◌∷◌, length, Option, None, Some, Ok, refl, sym, subst, arith, inl, inr}
+use Rattle.std.proofs.Common.{◌≡◌, ℕ, ◌≤◌, Bool, true, false, cond, List, [], ◌∷◌, length, Option, None, Some, Ok, refl, sym, subst, arith, inl}
 use Rattle.fb_words.specs.declared.mark.Mark.{Mark}
 use Rattle.fb_words.specs.declared.mark.Mark.TheVariants as m
 use Rattle.fb_model.specs.Tokens.{Token, token, name, number, typed, duration, mark}
 use Rattle.fb_model.specs.Productions.{IsSeparated, last, before}
-use Rattle.fb_model.specs.Trees.{Whole, Constant}
+use Rattle.fb_model.specs.Trees.{Constant}
 use Rattle.fb_model.specs.StructuredText.{Label}
 use Rattle.fb_model.specs.StructuredTextGrammar.{begins_number, IsInteger, unsigned, signed, IsLabel, one, from_to, IsStep, no_step, a_step}
 use Rattle.fb_read.specs.Reading.{◌>>=◌, next_is, after, list_at}
 use Rattle.fb_read.proofs.Readers.{Meets, Sound, Gets, Complete, never, Shorter, meets_then, meets_as, seen, may_open}
 use Rattle.fb_read.proofs.Repetitions.{IsOptional, missing, given, separated_sound, separated_complete, optional_sound}
-use Rattle.fb_read.proofs.Steady.{Steady, Takes, Stops, SeesFirst, next_sees, name_sees, number_sees, either_sees, same_next, steady_then, steady_done, steady_head, steady_if}
+use Rattle.fb_read.proofs.Steady.{Steady, SeesFirst, next_sees, name_sees, number_sees, either_sees, same_next, steady_then, steady_done, steady_if}
 use Rattle.fb_read.proofs.SteadyLists.{shrinks_of, steady_list}
-use Rattle.st_parse.specs.Reading.{number_at, integer_at, optional_at, label_at, step_at, begins_integer, begins_block, begins_entry}
+use Rattle.st_parse.specs.ConstantReading.{number_at}
+use Rattle.st_parse.proofs.Literals.{number_steady}
+use Rattle.st_parse.specs.Reading.{integer_at, optional_at, label_at, step_at, begins_integer, begins_block, begins_entry}
 
 -- ---- what is read is in the grammar
 
@@ -131,16 +133,6 @@ module _ (Deep : Type 0) where
   step_complete ts x rest (a_step signed) st = inl refl
 
 -- ---- steady
-
-number_begins : (b : Bool) (u : Token) → Takes (number_at b) u ⊎ Stops (number_at b) u
-number_begins b (token (name x) s e) = inr (λ ts. refl)
-number_begins b (token (number n) s e) = inl ((λ ts. Ok (record { value = Whole b n; at = s }, ts)), steady_done (record { value = Whole b n; at = s }), λ ts. refl)
-number_begins b (token (typed t c n) s e) = inr (λ ts. refl)
-number_begins b (token (duration c n) s e) = inr (λ ts. refl)
-number_begins b (token (mark k) s e) = inr (λ ts. refl)
-
-number_steady : (b : Bool) → Steady (number_at b)
-number_steady b = steady_head (number_at b) (omega arith) (number_begins b)
 
 pub integer_steady : Steady integer_at
 unfolding integer_at

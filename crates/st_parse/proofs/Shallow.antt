@@ -1,19 +1,12 @@
 -- Labels and steps do not nest.
-use Rattle.std.proofs.Common.{Bool, true, false, [], ◌∷◌, None, Some, Ok}
+use Rattle.std.proofs.Common.{true, false, None, Some, Ok}
 use Rattle.fb_words.specs.declared.mark.Mark.{Mark}
 use Rattle.fb_words.specs.declared.mark.Mark.TheVariants as m
-use Rattle.fb_model.specs.Tokens.{token, name, number, typed, duration, mark}
 use Rattle.fb_read.specs.Reading.{◌>>=◌, next_is, after}
 use Rattle.fb_read.proofs.Readers.{Shallow, shallow_then, shallow_if}
-use Rattle.st_parse.specs.Reading.{number_at, integer_at, optional_at, label_at}
-
-number_shallow : (b : Bool) → Shallow (number_at b)
-number_shallow b [] = tt
-number_shallow b (token (name x) s e ∷ ts) = tt
-number_shallow b (token (number n) s e ∷ ts) = tt
-number_shallow b (token (typed t c n) s e ∷ ts) = tt
-number_shallow b (token (duration c n) s e ∷ ts) = tt
-number_shallow b (token (mark k) s e ∷ ts) = tt
+use Rattle.st_parse.specs.ConstantReading.{number_at}
+use Rattle.st_parse.proofs.Literals.{number_shallow}
+use Rattle.st_parse.specs.Reading.{integer_at, optional_at, label_at}
 
 pub integer_shallow : Shallow integer_at
 unfolding integer_at

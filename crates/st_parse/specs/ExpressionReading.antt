@@ -6,12 +6,13 @@ use Rattle.fb_words.specs.declared.operator.Operator.{Operator}
 use Rattle.fb_words.specs.declared.operator.Operator.TheVariants as o
 use Rattle.st_parse.specs.declared.operator.Role.{Role}
 use Rattle.st_parse.specs.declared.operator.Role.TheVariants.{Infix, Opener, Other}
-use Rattle.fb_model.specs.Tokens.{Token, token, name, number, typed, duration, mark}
+use Rattle.fb_model.specs.Tokens.{Token, token, mark}
 use Rattle.fb_model.specs.Productions.{Word}
-use Rattle.fb_model.specs.Trees.{Whole, Typed, Duration, Truth}
+use Rattle.fb_model.specs.Trees.{Constant}
 use Rattle.fb_model.specs.StructuredText.{Expression, literal, variable, element, call, negative, inverse, expressions, Link, grouped}
 use Rattle.fb_model.specs.StructuredTextGrammar.{begins_number, levels, most_nested}
-use Rattle.fb_read.specs.Reading.{Wrong, syntax, too_deep, stuck, Read, ◌>>=◌, next_is, after, expect, offset_at, name_at, begins_name, all_at, list_at, whole_of}
+use Rattle.fb_read.specs.Reading.{Wrong, too_deep, stuck, Read, ◌>>=◌, next_is, after, expect, offset_at, name_at, begins_name, all_at, list_at, whole_of}
+use Rattle.st_parse.specs.ConstantReading.{number_at, literal_at}
 
 -- ---- operators
 
@@ -98,30 +99,13 @@ abbrev pub opened_at : Mark → ℕ → List Token → Result (List Token) Wrong
 opened_at k zero ts = if next_is k ts then Err (too_deep (length ts)) else stuck ts
 opened_at k (suc depth) ts = expect k ts
 
--- TRUE or FALSE, behind the mark
-abbrev pub marked_at : Mark → ℕ → Read Expression
-marked_at m.True s ts = Ok (literal (record { value = Truth true; at = s }), ts)
-marked_at m.False s ts = Ok (literal (record { value = Truth false; at = s }), ts)
-marked_at other s ts = Err (syntax (suc (length ts)))
-
--- a literal is one token
-unfoldable pub literal_at : Read Expression
-literal_at [] = stuck []
-literal_at (token (name x) s e ∷ ts) = stuck (token (name x) s e ∷ ts)
-literal_at (token (number n) s e ∷ ts) = Ok (literal (record { value = Whole false n; at = s }), ts)
-literal_at (token (typed t b n) s e ∷ ts) = Ok (literal (record { value = Typed t b n; at = s }), ts)
-literal_at (token (duration b n) s e ∷ ts) = Ok (literal (record { value = Duration b n; at = s }), ts)
-literal_at (token (mark k) s e ∷ ts) = marked_at k s ts
-
--- the number behind its sign
-unfoldable pub signed_at : Read Expression
-signed_at [] = stuck []
-signed_at (token (number n) s e ∷ ts) = Ok (literal (record { value = Whole true n; at = s }), ts)
-signed_at (token other s e ∷ ts) = stuck (token other s e ∷ ts)
+-- a literal as an expression
+abbrev pub literally : Read Constant → Read Expression
+literally read ts = read ts >>= λ c. Ok (literal c.0, c.1)
 
 -- what stands behind a `-`, with its place
 abbrev pub minus_step : Read Expression → ℕ → Read Expression
-minus_step inner s ts = if begins_number ts then signed_at ts else (inner ts >>= λ x. Ok (negative s x.0, x.1))
+minus_step inner s ts = if begins_number ts then literally (number_at true) ts else (inner ts >>= λ x. Ok (negative s x.0, x.1))
 
 -- '-' operand
 unfoldable pub negative_at : ℕ → Read Expression → Read Expression
@@ -172,7 +156,7 @@ named_at depth item ts = do
 -- an operand that a mark or a literal begins
 abbrev pub unnamed_at : ℕ → Read Expression → Read Expression → Read Expression
 unnamed_at depth inner item ts =
-    if next_is m.Minus ts then negative_at depth inner ts else if next_is m.Not ts then inverse_at depth inner ts else if next_is m.LParen ts then parentheses_at depth item ts else literal_at ts
+    if next_is m.Minus ts then negative_at depth inner ts else if next_is m.Not ts then inverse_at depth inner ts else if next_is m.LParen ts then parentheses_at depth item ts else literally literal_at ts
 
 -- an operand, where so many more nestings are allowed, and the operands inside one more are read so
 unfoldable pub operand_of : ℕ → Read Expression → Read Expression

@@ -1,3 +1,4 @@
+pub mod ConstantReading
 pub mod ExpressionReading
 pub mod ExpressionAnswers
 pub mod Reading

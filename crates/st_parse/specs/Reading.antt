@@ -2,12 +2,13 @@
 use Rattle.std.specs.Prelude.{ℕ, zero, suc, ◌-◌, List, [], ◌∷◌, length, take, Bool, true, false, Option, None, Some, Result, Ok, Err, if◌then◌else◌}
 use Rattle.fb_words.specs.declared.mark.Mark.{Mark}
 use Rattle.fb_words.specs.declared.mark.Mark.TheVariants as m
-use Rattle.fb_model.specs.Tokens.{Token, token, number}
+use Rattle.fb_model.specs.Tokens.{Token}
 use Rattle.fb_model.specs.Productions.{Word}
-use Rattle.fb_model.specs.Trees.{Whole, Constant}
+use Rattle.fb_model.specs.Trees.{Constant}
 use Rattle.fb_model.specs.StructuredText.{Expression, Label, Bound, Statement, assign, assign_element, branch, select, repeat, Statements, no_statement, statements, Branch, branches, Arm, arms}
 use Rattle.fb_model.specs.StructuredTextGrammar.{begins_number, is_number, most_nested, most_nested_statements}
-use Rattle.fb_read.specs.Reading.{Wrong, too_deep, stuck, Answer, Read, ◌>>=◌, next_is, after, expect, offset_at, name_at, begins_name, all_at, list_at, whole_of}
+use Rattle.fb_read.specs.Reading.{Wrong, too_deep, Answer, Read, ◌>>=◌, next_is, after, expect, offset_at, name_at, begins_name, all_at, list_at, whole_of}
+use Rattle.st_parse.specs.ConstantReading.{number_at}
 use Rattle.st_parse.specs.ExpressionReading.{expression_at}
 
 -- ---- items of which one begins
@@ -31,12 +32,6 @@ abbrev pub begins_entry : List Token → Bool
 begins_entry ts = if next_is m.Semicolon ts then true else if begins_name ts then true else begins_block ts
 
 -- ---- labels and steps
-
--- a number without a type, to which this sign belongs
-abbrev pub number_at : Bool → Read Constant
-number_at negative [] = stuck []
-number_at negative (token (number n) s e ∷ ts) = Ok (record { value = Whole negative n; at = s }, ts)
-number_at negative (token other s e ∷ ts) = stuck (token other s e ∷ ts)
 
 -- ['-'] number
 unfoldable pub integer_at : Read Constant

@@ -7,35 +7,15 @@ ghost use Rattle.fb_tree.specs.Words.{optional};
 ghost use Rattle.fb_read.specs.Reading.{list_at};
 ghost use Rattle.fb_words.specs.declared.mark.Mark.TheVariants as m;
 ghost use Rattle.fb_tree.specs.Algorithms.{constant_of, label_of};
-ghost use Rattle.st_parse.specs.Reading.{number_at, integer_at, optional_at, label_at, begins_integer};
+ghost use Rattle.st_parse.specs.ConstantReading.{number_at};
+ghost use Rattle.st_parse.specs.Reading.{integer_at, optional_at, label_at, begins_integer};
 
-use fb_lex::{Kind, Token};
+use crate::constant::number;
+use fb_lex::Token;
 use fb_read::{Stop, begins_number, next_is};
-use fb_tree::{Constant, Label, Literal};
+use fb_tree::{Constant, Label};
 use fb_words::Mark;
 use std::alloc::Global;
-
-// The number without a type that has to stand next, with its sign.
-fn number(tokens: &[Token], negative: bool) -> Result<(Constant, &[Token]), Stop>
-    ensures { Gives (λ x. (constant_of x.0, tokens_of x.1.now)) result (number_at negative (tokens_of tokens.now)) }
-{
-    match tokens {
-        [] => Err(Stop::Syntax(0)),
-        [token, rest @ ..] => match &token.kind {
-            Kind::Number(size) => {
-                let value = Literal::Whole(negative, *size);
-                Ok((
-                    Constant {
-                        value,
-                        at: token.start,
-                    },
-                    rest,
-                ))
-            }
-            _ => Err(Stop::Syntax(tokens.len())),
-        },
-    }
-}
 
 /// The number without a type that has to stand next, perhaps behind its sign. A stop is at the first token that cannot stand there.
 #[tactic(auto, unfolding(crate::specs::Reading::integer_at))]

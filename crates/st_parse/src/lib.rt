@@ -4,14 +4,15 @@
 #![tactic(auto)]
 
 mod algorithm;
+mod constant;
 mod label;
-mod literal;
 mod operator;
 mod reading;
 mod statement;
 mod whole;
 
 pub use algorithm::{body, one_algorithm, parse_algorithm};
+pub use constant::{literal, number};
 pub use fb_tree::{Arm, Bound, Branch, Constant, Expr, Label, Link, Literal, Stmt};
 pub use label::integer;
 pub use operator::Role;

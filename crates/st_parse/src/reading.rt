@@ -11,7 +11,7 @@ ghost use Rattle.fb_words.specs.declared.mark.Mark.TheVariants as m;
 ghost use Rattle.fb_tree.specs.Algorithms.{expr_of, exprs_of, link_of, links_of};
 ghost use Rattle.st_parse.specs.ExpressionReading.{level_at, nested_at, links_at, link_at, opened_at, negative_at, inverse_at, parentheses_at, element_at, call_at, named_at, unnamed_at, expression_at};
 
-use crate::literal::{literal, signed};
+use crate::constant::{literal, number};
 use crate::operator::{begins_link, operator_at};
 use fb_lex::Token;
 use fb_read::{Stop, begins_name, begins_number, expect, next_is, next_offset, read_name};
@@ -147,7 +147,8 @@ fn unnamed(alloc: Global, tokens: &[Token], depth: u32) -> Result<(Expr, &[Token
     if next_is(tokens, Mark::LParen) {
         return parentheses(alloc, tokens, depth);
     }
-    literal(tokens)
+    let (constant, rest) = literal(tokens)?;
+    Ok((Expr::Literal(constant), rest))
 }
 
 // A `-` and its operand. Directly before a number without a type it is the number's sign.
@@ -159,7 +160,8 @@ fn negative(alloc: Global, tokens: &[Token], depth: u32) -> Result<(Expr, &[Toke
     let at = next_offset(tokens);
     let (rest, depth) = opened(tokens, Mark::Minus, depth)?;
     if begins_number(rest) {
-        return signed(rest);
+        let (constant, rest) = number(rest, true)?;
+        return Ok((Expr::Literal(constant), rest));
     }
     let (operand, rest) = operand(alloc, rest, depth)?;
     Ok((Expr::Negative(at, Box::new(alloc, operand)?), rest))

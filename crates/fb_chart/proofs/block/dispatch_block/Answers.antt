@@ -6,7 +6,7 @@ use Rattle.fb_chart.specs.Views.{kind_of}
 use Rattle.fb_chart.specs.declared.memory.Condition.{Condition}
 use Rattle.fb_chart.specs.Conditions.{IsConditionOf, leaf_state}
 use Rattle.fb_chart.specs.Dispatching.{HasRun}
-use Rattle.fb_chart.proofs.Lists.{within_got}
+use Rattle.fb_lists.proofs.Lists.{within_got}
 use Rattle.fb_chart.proofs.Sampled.{sampled_same, sampled_can}
 use Rattle.fb_chart.proofs.Stood.{read, set_stands, set_twice}
 use Rattle.fb_chart.proofs.block.dispatch_block.Goals as goal

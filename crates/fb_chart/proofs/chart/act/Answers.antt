@@ -12,7 +12,8 @@ use Rattle.fb_chart.specs.declared.table.ChartCode.{ChartCode}
 use Rattle.fb_chart.specs.Views.{named}
 use Rattle.fb_chart.specs.Tables.{Each, IsAction, IsState}
 use Rattle.fb_chart.specs.Charting.{block_in, states_in, events_in, outputs_in, CanWork, numbered, sent_by, cells_of}
-use Rattle.fb_chart.proofs.Lists.{each_length, stands_at, drop_at}
+use Rattle.fb_lists.proofs.Lists.{stands_at, drop_at}
+use Rattle.fb_chart.proofs.Lists.{each_length}
 use Rattle.fb_chart.proofs.Choosing.{names_length}
 use Rattle.fb_chart.proofs.Doing.{not_gone, room_kept, first_actions, within_now, works_now, small_now, output_now, steps_now, room_now, gives_now, it, come_next, come_done}
 use Rattle.fb_chart.proofs.chart.act.Goals as goal

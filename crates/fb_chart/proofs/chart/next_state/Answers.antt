@@ -1,7 +1,7 @@
 use Rattle.std.proofs.Common.{◌≤◌, length, slice_get, Some, sym, ap, subst, ◌∙◌}
 use Rattle.st_exec.specs.Cells.{values_of, forms_of}
 use Rattle.fb_chart.specs.declared.table.ChartCode.{ChartCode}
-use Rattle.fb_chart.proofs.Lists.{stands_at}
+use Rattle.fb_lists.proofs.Lists.{stands_at}
 use Rattle.fb_chart.proofs.Choosing.{stays, left_first, left_last, step_placed, step_passed, step_asked, step_refused, step_taken, step_target}
 use Rattle.fb_chart.proofs.chart.next_state.Goals.{else-is_open-via-then-is_open+else-is_true, else-is_open-via-else-is_open}
 use Rattle.fb_chart.proofs.chart.next_state.Goals as goal

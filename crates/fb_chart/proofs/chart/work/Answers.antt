@@ -6,7 +6,7 @@ use Rattle.st_exec.specs.CodeViews.{code_commands}
 use Rattle.st_exec.specs.Cells.{values_of, forms_of}
 use Rattle.st_exec.specs.Runs.{IsWithin}
 use Rattle.fb_chart.specs.Charting.{CanWork, numbered}
-use Rattle.fb_chart.proofs.Lists.{all_got, stands_at}
+use Rattle.fb_lists.proofs.Lists.{all_got, stands_at}
 use Rattle.fb_chart.proofs.Acting.{numbered_at}
 use Rattle.fb_chart.proofs.chart.work.Goals as goal
 

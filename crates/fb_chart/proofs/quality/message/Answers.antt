@@ -6,7 +6,7 @@ use Rattle.fb_model.specs.Services.{sent, numbered}
 use Rattle.fb_model.specs.Serving.{stamped}
 use Rattle.st_exec.specs.Forms.{plain_slot}
 use Rattle.st_exec.specs.Cells.{values_of, forms_of}
-use Rattle.fb_chart.proofs.Lists.{stands_at}
+use Rattle.fb_lists.proofs.Lists.{stands_at}
 use Rattle.fb_chart.specs.Responses.{stamps_in}
 use Rattle.fb_chart.proofs.Replies.{numbered_length}
 use Rattle.fb_chart.proofs.Sending.{none_filled, all_filled, sent_slot, next_fits, next_filled}

@@ -6,7 +6,7 @@ use Rattle.fb_model.specs.Language.{setting}
 use Rattle.st_exec.specs.Cells.{Form, values_of, forms_of}
 use Rattle.fb_chart.specs.Views.{given_names}
 use Rattle.fb_chart.specs.Sampling.{CanGive}
-use Rattle.fb_chart.proofs.Lists.{stands_at, drop_at}
+use Rattle.fb_lists.proofs.Lists.{stands_at, drop_at}
 use Rattle.fb_chart.proofs.Moving.{where_next, give_room, give_enough, give_count}
 use Rattle.fb_chart.proofs.sampling.issue.Goals as goal
 

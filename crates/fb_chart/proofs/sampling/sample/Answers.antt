@@ -2,7 +2,7 @@ use Rattle.std.proofs.Common.{◌+◌, List, [], ◌∷◌, drop, sym, ap, subst
 use Rattle.std.specs.List.{AllByRecursion}
 use Rattle.st_exec.specs.Cells.{Form, values_of, forms_of}
 use Rattle.fb_chart.specs.Sampling.{CanTake, sampled_by}
-use Rattle.fb_chart.proofs.Lists.{stands_at, drop_at}
+use Rattle.fb_lists.proofs.Lists.{stands_at, drop_at}
 use Rattle.fb_chart.proofs.sampling.sample.Goals as goal
 
 pub loop-taken-preserved : goal.loop-taken-preserved

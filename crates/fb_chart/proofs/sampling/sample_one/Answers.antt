@@ -1,6 +1,6 @@
 use Rattle.std.proofs.Common.{sym, string_bytes}
 use Rattle.st_exec.specs.Cells.{values_of}
-use Rattle.fb_chart.proofs.Lists.{stands_at}
+use Rattle.fb_lists.proofs.Lists.{stands_at}
 use Rattle.fb_chart.proofs.Moving.{take_room, source_within, source_slot, source_length, source_room, takes_value}
 use Rattle.fb_chart.proofs.sampling.sample_one.Goals as goal
 

@@ -5,7 +5,7 @@ use Rattle.fb_model.specs.Values.{One}
 use Rattle.fb_model.specs.Language.{setting}
 use Rattle.st_exec.specs.Forms.{plain_slot}
 use Rattle.st_exec.specs.Cells.{values_of, forms_of}
-use Rattle.fb_chart.proofs.Lists.{stands_at, drop_at}
+use Rattle.fb_lists.proofs.Lists.{stands_at, drop_at}
 use Rattle.fb_chart.specs.Ports.{received_in}
 use Rattle.fb_chart.proofs.Slots.{Slotted, slotted, slot_is, received_done}
 use Rattle.fb_chart.proofs.transfer.receive.Goals as goal

@@ -4,7 +4,7 @@ use Rattle.std.proofs.lemmas.Int.{to_z-of_z}
 use Rattle.fb_model.specs.Values.{number_of}
 use Rattle.st_exec.specs.Forms.{plain_slot}
 use Rattle.st_exec.specs.Cells.{values_of, forms_of}
-use Rattle.fb_chart.proofs.Lists.{drop_at}
+use Rattle.fb_lists.proofs.Lists.{drop_at}
 use Rattle.fb_chart.specs.Ports.{numbers_at}
 use Rattle.fb_chart.proofs.Slots.{Slotted, slotted, slot_is}
 use Rattle.fb_chart.proofs.transfer.sent_values.Goals as goal

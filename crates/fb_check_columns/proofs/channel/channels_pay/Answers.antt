@@ -1,6 +1,6 @@
 use Rattle.fb_cert.specs.Views.{certificate_of}
 use Rattle.fb_check_columns.specs.Channels.{AreCosts, heard_under}
-use Rattle.fb_check_columns.proofs.Small.{small}
+use Rattle.fb_model_texts.proofs.Small.{small}
 use Rattle.fb_check_columns.proofs.Hearing.{channels_pay, channels_short}
 use Rattle.fb_check_columns.proofs.channel.channels_pay.Goals as goal
 

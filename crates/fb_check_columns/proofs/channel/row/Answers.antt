@@ -2,7 +2,7 @@ use Rattle.std.proofs.Common.{◌≤◌, sym, subst}
 use Rattle.fb_model.specs.CertificateText.{most_steps}
 use Rattle.fb_cert.specs.Views.{certificate_of}
 use Rattle.fb_check_columns.proofs.Amounts.{channel_small}
-use Rattle.fb_check_columns.proofs.Small.{small}
+use Rattle.fb_model_texts.proofs.Small.{small}
 use Rattle.fb_check_columns.proofs.channel.row.Goals as goal
 
 pub returns-clause-small : goal.returns-clause-small

@@ -8,7 +8,7 @@ use Rattle.st_types.specs.declared.whole.Algo.{Algo}
 use Rattle.fb_ranges.specs.Views.{spans_of}
 use Rattle.fb_check_columns.specs.Reckoning.{AreSums}
 use Rattle.fb_model.proofs.Lists.{got}
-use Rattle.fb_check_columns.proofs.Lists.{all_at}
+use Rattle.fb_check_columns.proofs.Lists.{all_image_at}
 use Rattle.fb_check_columns.proofs.Values.{more_sums}
 use Rattle.fb_check_columns.proofs.Costing.{procedure_of, twice_more}
 use Rattle.fb_check_columns.proofs.cost.costs.Goals as goal
@@ -24,7 +24,7 @@ loop-index-preserved c =
       same = c.in_ok-cost.ensures.rest;
       sums =
           λ clear.
-          let one = c.in_ok-cost.ensures.value (all_at (λ (p : system.Procedure). IsClearAlgorithm spans p.algorithm) procedure_of es c.loop-index.index e clear g.0 g.1) in
+          let one = c.in_ok-cost.ensures.value (all_image_at (λ (p : system.Procedure). IsClearAlgorithm spans p.algorithm) procedure_of es c.loop-index.index e clear g.0 g.1) in
           rw (twice_more f es c.loop-index.index e g.0 g.1, c.in_ok-push.ensures.items) (more_sums _ _ _ _ (c.loop-index.invariant.sums clear) one);
     }
 

@@ -1,10 +1,10 @@
-use Rattle.std.proofs.Common.{◌≡◌, ℕ, List, Option, refl, sym, subst, ◌∙◌}
+use Rattle.std.proofs.Common.{ℕ, List, Option, refl, sym, subst, ◌∙◌}
 use Rattle.fb_model.specs.System.{Block}
 use Rattle.fb_model.specs.Clear.{Spans}
 use Rattle.fb_ranges.specs.Views.{spans_of}
 use Rattle.fb_types_blocks.specs.Views.{block_of}
 use Rattle.fb_check_columns.specs.Sharing.{HasCosts, IsCosted}
-use Rattle.fb_check_columns.proofs.Lists.{all_here}
+use Rattle.fb_lists.proofs.Lists.{all_here}
 use Rattle.fb_check_columns.proofs.costed.found.Goals as goal
 
 pub returns-then-are_alike : goal.returns-then-are_alike

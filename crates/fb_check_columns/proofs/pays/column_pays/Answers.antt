@@ -1,5 +1,5 @@
 use Rattle.fb_cert.specs.Views.{certificate_of}
-use Rattle.fb_check_columns.proofs.Small.{small}
+use Rattle.fb_model_texts.proofs.Small.{small}
 use Rattle.fb_check_columns.proofs.Composed.{all_pay, one_fails}
 use Rattle.fb_check_columns.proofs.pays.column_pays.Goals as goal
 

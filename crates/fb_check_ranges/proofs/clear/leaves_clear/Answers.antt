@@ -4,7 +4,8 @@ use Rattle.std.proofs.lemmas.Result.{err_from_is_err_and}
 use Rattle.fb_cert.specs.Views.{certificate_of}
 use Rattle.fb_flat.specs.declared.flat.Leaf.{Leaf}
 use Rattle.fb_check_ranges.specs.Tables.{LeafPasses, LeafRefused}
-use Rattle.fb_check_ranges.proofs.Lists.{all_on, any_at, all_dropped, there_at}
+use Rattle.fb_lists.proofs.Lists.{there_at}
+use Rattle.fb_check_ranges.proofs.Lists.{all_on, any_at, all_dropped}
 use Rattle.fb_check_ranges.proofs.Composed.{leaves_pass, leaves_refused}
 use Rattle.fb_check_ranges.proofs.clear.leaves_clear.Goals as goal
 

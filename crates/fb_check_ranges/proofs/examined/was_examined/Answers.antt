@@ -2,7 +2,7 @@ use Rattle.std.proofs.Common.{refl, sym}
 use Rattle.fb_ranges.specs.Views.{spans_of}
 use Rattle.fb_types_blocks.specs.Views.{block_of}
 use Rattle.fb_check_ranges.specs.Examining.{IsExamined}
-use Rattle.fb_check_ranges.proofs.Lists.{all_here}
+use Rattle.fb_lists.proofs.Lists.{all_here}
 use Rattle.fb_check_ranges.proofs.Sharing.{clear_alike}
 use Rattle.fb_check_ranges.proofs.examined.was_examined.Goals as goal
 

@@ -1,6 +1,6 @@
 use Rattle.std.proofs.Common.{◌≤◌, take}
 use Rattle.std.specs.List.{AllByRecursion}
-use Rattle.fb_device_dispatch.specs.fb_device_tables.declared.table.Resource.{Resource}
+use Rattle.fb_device_tables.specs.declared.table.Resource.{Resource}
 use Rattle.fb_device.proofs.loading.greatest.Given as goal
 
 abbrev pub invariant-loop-resource : goal.invariant-loop-resource

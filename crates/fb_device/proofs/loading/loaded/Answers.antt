@@ -1,5 +1,5 @@
 use Rattle.std.proofs.lemmas.Result.{IfOk-weaker, IfErr-weaker}
-use Rattle.fb_device_dispatch.specs.fb_verdict.Verdicts.{system_in}
+use Rattle.fb_verified.specs.Checked.{system_in}
 use Rattle.std.proofs.Common.{ap}
 use Rattle.fb_wire.specs.Views.{stamped_of}
 use Rattle.fb_device.specs.declared.refusal.Refusal.TheVariants.{Checked}

@@ -1,7 +1,7 @@
 use Rattle.std.proofs.Common.{List, map, sym, ap, subst}
 use Rattle.st_exec.specs.Cells.{Form, forms_of}
-use Rattle.fb_device_dispatch.specs.fb_verdict.Verdicts.{certificate_in}
-use Rattle.fb_device_dispatch.specs.fb_device_tables.Tables.{AreTables}
+use Rattle.fb_verified.specs.Checked.{certificate_in}
+use Rattle.fb_device_tables.specs.Tables.{AreTables}
 use Rattle.fb_device.proofs.loading.made.Goals as goal
 
 pub returns-in-Ok-clause-tables : goal.returns-in-Ok-clause-tables

@@ -1,13 +1,13 @@
 use Rattle.std.proofs.lemmas.Result.{IfOk-weaker, IfErr-weaker}
 use Rattle.std.proofs.Common.{sym, ◌∙◌, ap, slice_get, ◌≡◌}
-use Rattle.fb_device_dispatch.specs.fb_verdict.declared.verified.Verified.{Verified}
-use Rattle.fb_device_dispatch.specs.fb_verdict.Verdicts.{system_in}
+use Rattle.fb_verified.specs.declared.verified.Verified.{Verified}
+use Rattle.fb_verified.specs.Checked.{system_in}
 use Rattle.fb_model.specs.Devices.{silent}
 use Rattle.fb_wire.specs.Views.{stamped_of}
-use Rattle.fb_device_dispatch.specs.fb_device_state.Machines.{device_in, device_at}
-use Rattle.fb_device_dispatch.proofs.of_fb_device_state.Blocks.{within}
-use Rattle.fb_device_dispatch.proofs.of_fb_device_state.Lists.{same_at}
-use Rattle.fb_device_dispatch.proofs.of_fb_device_state.Devices.{device_stands}
+use Rattle.fb_device_state.specs.Machines.{device_in, device_at}
+use Rattle.fb_device_state.proofs.Blocks.{within}
+use Rattle.fb_lists.proofs.Lists.{same_at}
+use Rattle.fb_device_state.proofs.Devices.{device_stands}
 use Rattle.fb_device.proofs.Found.{found_device, no_device_named, missing_so, missing_memory}
 use Rattle.fb_device.proofs.loading.made_ready.Goals as goal
 

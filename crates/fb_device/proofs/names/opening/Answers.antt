@@ -1,10 +1,9 @@
 use Rattle.std.proofs.Common.{ℕ, ◌≡◌, Some, sym, subst, arith}
-use Rattle.fb_chart.proofs.Lists.{stands_at}
+use Rattle.fb_lists.proofs.Lists.{stands_at, all_at}
 use Rattle.fb_sched.specs.declared.reaction.Reaction.{Reaction}
 use Rattle.fb_sched.specs.Agenda.{Agenda, slot_at}
-use Rattle.fb_device_dispatch.specs.fb_device_state.Numbers.{IsKnown}
-use Rattle.fb_device_dispatch.proofs.of_fb_device_state.Blocks.{within}
-use Rattle.fb_device_dispatch.proofs.of_fb_device_state.Lists.{all_at}
+use Rattle.fb_device_state.specs.Numbers.{IsKnown}
+use Rattle.fb_device_state.proofs.Blocks.{within}
 use Rattle.fb_device.proofs.Opened.{one_more_without}
 use Rattle.fb_device.proofs.names.opening.Goals as goal
 

@@ -1,7 +1,6 @@
 use Rattle.std.proofs.Common.{◌≡◌, ◌≤◌, ◌<◌, length, ap, sym, ◌∙◌, arith, vec_len, slice_index_or, string_bytes}
 use Rattle.fb_chart.specs.declared.table.Block.{Block}
-use Rattle.fb_chart.proofs.Lists.{stands_at}
-use Rattle.fb_device_dispatch.proofs.of_fb_device_state.Lists.{same_at}
+use Rattle.fb_lists.proofs.Lists.{stands_at, same_at}
 use Rattle.fb_device.proofs.Finding.{no_block, no_event, named_so}
 use Rattle.fb_device.proofs.names.path.Goals as goal
 

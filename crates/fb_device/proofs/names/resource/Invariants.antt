@@ -1,6 +1,6 @@
 use Rattle.std.proofs.Common.{◌≡◌, drop, map}
 use Rattle.std.specs.Prelude.{string_bytes}
-use Rattle.fb_device_dispatch.proofs.of_fb_device_tables.Numbered.{moved_by}
+use Rattle.fb_device_tables.proofs.Numbered.{moved_by}
 use Rattle.fb_device.specs.Finding.{first_named}
 use Rattle.fb_device.proofs.names.resource.Given as goal
 

@@ -4,7 +4,7 @@ use Rattle.std.proofs.lemmas.List.Sums.{sum_by_push}
 use Rattle.fb_model.specs.Devices.{Happens, Deliver}
 use Rattle.fb_link.specs.Link.{Handed}
 use Rattle.fb_device_arrivals.specs.Answers.{admission_of}
-use Rattle.fb_device_dispatch.specs.fb_device_state.Machines.{device_in, cert_in, machine_of}
+use Rattle.fb_device_state.specs.Machines.{device_in, cert_in, machine_of}
 use Rattle.fb_device.specs.Turns.{Receipt, Quiet, Cut, Sixteenth, denials}
 use Rattle.fb_device.proofs.Turned.{along, receives_more, receives_quiet, receives_cut, receives_sixteenth, denied_err, denied_ok}
 use Rattle.fb_device.proofs.turning.receive_all.Goals as goal

@@ -1,7 +1,7 @@
 use Rattle.std.proofs.Common.{arith, ◌≡◌, ◌≤◌, List, length, ℕ, ◌+◌, [], ◌∷◌, ◌++◌, refl, sym, ◌∙◌, ap, length-append}
 use Rattle.std.proofs.lemmas.List.Sums.{sum_by_push}
 use Rattle.fb_model.specs.Devices.{Happens, Dispatch}
-use Rattle.fb_device_dispatch.specs.fb_device_state.Machines.{device_in, cert_in, machine_of}
+use Rattle.fb_device_state.specs.Machines.{device_in, cert_in, machine_of}
 use Rattle.fb_device.specs.Turns.{Service, runs, takings, losses}
 use Rattle.fb_device.specs.declared.turning.Services.{Services}
 use Rattle.fb_device.proofs.Turned.{along, serves_more}

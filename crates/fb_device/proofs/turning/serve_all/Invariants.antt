@@ -1,6 +1,6 @@
 use Rattle.std.proofs.Common.{◌≡◌, ◌≤◌, List, length}
 use Rattle.std.specs.List.{sum_by}
-use Rattle.fb_device_dispatch.specs.fb_device_state.Machines.{device_in, cert_in, machine_of}
+use Rattle.fb_device_state.specs.Machines.{device_in, cert_in, machine_of}
 use Rattle.fb_device.specs.Turns.{Service, Serves, runs, takings, losses}
 use Rattle.fb_device.proofs.turning.serve_all.Given as goal
 

@@ -3,7 +3,7 @@ use Rattle.fb_model.specs.Wires.{leaves}
 use Rattle.fb_model.specs.Devices.{Idle}
 use Rattle.fb_device_dispatch.specs.Answers.{dispatched_of}
 use Rattle.fb_device_dispatch.specs.declared.answer.Dispatched.TheVariants as dispatched
-use Rattle.fb_device_dispatch.specs.fb_device_state.Machines.{device_in}
+use Rattle.fb_device_state.specs.Machines.{device_in}
 use Rattle.fb_device.proofs.turning.serve_one.Goals as goal
 
 pub returns-in-Idle-clause-served : goal.returns-in-Idle-clause-served

@@ -5,7 +5,7 @@ use Rattle.fb_model.specs.Devices.{Machine, is_timer, expiring}
 use Rattle.fb_device_state.specs.Sessions.{session_of}
 use Rattle.fb_device_state.specs.Machines.{device_in, cert_in, machine_of}
 use Rattle.fb_device_state.specs.Arrivals.{IsArrival}
-use Rattle.fb_device_state.proofs.Lists.{same_at}
+use Rattle.fb_lists.proofs.Lists.{same_at}
 use Rattle.fb_device_arrivals.proofs.Ticks.{expiry, no_room}
 use Rattle.fb_device_arrivals.proofs.clock.expire.Goals as goal
 

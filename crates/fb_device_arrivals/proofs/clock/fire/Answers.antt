@@ -7,7 +7,7 @@ use Rattle.fb_chart.specs.declared.memory.Condition.TheVariants.{Service}
 use Rattle.fb_device_state.specs.declared.program.Running.{Running}
 use Rattle.fb_device_state.specs.Sessions.{session_of}
 use Rattle.fb_device_state.specs.Machines.{device_in, machine_of}
-use Rattle.fb_device_state.proofs.Lists.{same_at}
+use Rattle.fb_lists.proofs.Lists.{same_at}
 use Rattle.fb_device_state.proofs.Blocks.{within}
 use Rattle.fb_device_arrivals.proofs.Firing.{machine_is, good_after}
 use Rattle.fb_device_arrivals.proofs.clock.fire.Goals as goal

@@ -3,7 +3,7 @@ use Rattle.fb_model.specs.Devices.{arriving, IsShaped}
 use Rattle.fb_wire.specs.Views.{purpose_of}
 use Rattle.fb_device_state.specs.Sessions.{session_of}
 use Rattle.fb_device_state.specs.Machines.{machine_of}
-use Rattle.fb_chart.proofs.Lists.{stands_at}
+use Rattle.fb_lists.proofs.Lists.{stands_at}
 use Rattle.fb_device_arrivals.specs.Delivering.{IsReceived}
 use Rattle.fb_device_arrivals.proofs.Deliveries as deliveries
 use Rattle.fb_device_arrivals.proofs.delivery.deliver.Goals as goal

@@ -3,7 +3,7 @@ use Rattle.fb_model.specs.Wires.{leaves}
 use Rattle.fb_model.specs.Values.{all_in}
 use Rattle.fb_model.specs.Ranges.{types_of}
 use Rattle.fb_model.specs.Devices.{arriving, is_input_numbered}
-use Rattle.fb_chart.proofs.Lists.{stands_at}
+use Rattle.fb_lists.proofs.Lists.{stands_at}
 use Rattle.fb_device_state.specs.declared.admission.Shortage.TheVariants.{Places, Numbers}
 use Rattle.fb_device_state.specs.Sessions.{session_of}
 use Rattle.fb_device_state.specs.Machines.{device_in, cert_in, machine_of}

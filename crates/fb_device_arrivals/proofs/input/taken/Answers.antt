@@ -5,7 +5,7 @@ use Rattle.fb_words.specs.declared.elem_type.ElemType.{ElemType}
 use Rattle.fb_words.specs.declared.elem_type.ElemType.TheVariants as t
 use Rattle.fb_model.specs.Values.{in_type, all_in}
 use Rattle.std.proofs.lemmas.List.{take_more}
-use Rattle.fb_chart.proofs.Lists.{stands_at}
+use Rattle.fb_lists.proofs.Lists.{stands_at}
 use Rattle.fb_device_arrivals.proofs.Inputs.{all_in_more}
 use Rattle.fb_device_arrivals.proofs.input.taken.Goals as goal
 

@@ -9,7 +9,7 @@ use Rattle.fb_chart.specs.declared.memory.Condition.TheVariants.{Service}
 use Rattle.fb_device_state.specs.declared.program.Running.{Running}
 use Rattle.fb_device_state.specs.Sessions.{session_of}
 use Rattle.fb_device_state.specs.Machines.{device_in, machine_of}
-use Rattle.fb_device_state.proofs.Lists.{same_at}
+use Rattle.fb_lists.proofs.Lists.{same_at}
 use Rattle.fb_device_state.proofs.Blocks.{within}
 use Rattle.fb_device_arrivals.specs.Stamping.{CanKeep}
 use Rattle.fb_device_arrivals.proofs.Stamped.{unstamped, machine_is, good_after}

@@ -2,11 +2,10 @@ use Rattle.std.proofs.Common.{◌≡◌, ◌<◌, length, ℤ, List, true, false
 use Rattle.fb_model.specs.Wires.{Leaf, leaves}
 use Rattle.fb_model.specs.Certificates.{is_restart}
 use Rattle.fb_model.specs.Devices.{admitted, beginning}
-use Rattle.fb_chart.proofs.Lists.{stands_at}
+use Rattle.fb_lists.proofs.Lists.{stands_at, same_at}
 use Rattle.fb_device_state.specs.Sessions.{session_of}
 use Rattle.fb_device_state.specs.Machines.{device_in, cert_in, machine_of}
 use Rattle.fb_device_state.specs.Arrivals.{IsArrival}
-use Rattle.fb_device_state.proofs.Lists.{same_at}
 use Rattle.fb_device_arrivals.proofs.SameKinds.{same_kinds, leaf_at_block, kind_count}
 use Rattle.fb_device_arrivals.proofs.Beginning.{beginning_arrives, admitted_where_room}
 use Rattle.fb_device_arrivals.proofs.start.begin_one.Goals as goal

@@ -2,7 +2,7 @@ use Rattle.std.proofs.Common.{Option, length, refl, sym, ◌∙◌, ap, subst, a
 use Rattle.std.specs.Option.{option_map}
 use Rattle.fb_model.specs.Wires.{leaves}
 use Rattle.fb_model.specs.Devices.{Runs}
-use Rattle.fb_device_state.specs.fb_device_tables.Views.{place_at}
+use Rattle.fb_device_tables.specs.Views.{place_at}
 use Rattle.fb_device_state.specs.declared.program.Running.{Running}
 use Rattle.fb_device_state.specs.Sessions.{session_of}
 use Rattle.fb_device_state.specs.Machines.{device_in, cert_in, machine_of}

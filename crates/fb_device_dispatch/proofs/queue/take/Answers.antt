@@ -1,5 +1,5 @@
 use Rattle.std.proofs.Common.{◌<◌, length, arith}
-use Rattle.fb_chart.proofs.Lists.{stands_at}
+use Rattle.fb_lists.proofs.Lists.{stands_at}
 use Rattle.fb_device_dispatch.proofs.Taking.{taken}
 use Rattle.fb_device_dispatch.proofs.queue.take.Goals as goal
 

@@ -1,10 +1,9 @@
 use Rattle.std.proofs.Common.{◌≡◌, length, ◌+◌, ◌<◌, ◌≤◌, ◌^◌, set, refl, sym, ◌∙◌, ap, subst, arith}
 use Rattle.std.specs.Vec.{with_item}
-use Rattle.fb_chart.proofs.Lists.{stands_at}
+use Rattle.fb_lists.proofs.Lists.{stands_at, same_at}
 use Rattle.fb_sched.specs.Agenda.{Agenda, IsNew, all_places, reactions_in}
 use Rattle.fb_sched.specs.Changes.{Opens}
 use Rattle.fb_device_state.specs.Sessions.{next_of}
-use Rattle.fb_device_state.proofs.Lists.{same_at}
 use Rattle.fb_device_state.proofs.Arriving as at
 use Rattle.fb_device_state.proofs.Arriving.{next_up, next_in_range, cause_in_range, next_is}
 use Rattle.fb_device_state.proofs.admission.admit.Goals as goal

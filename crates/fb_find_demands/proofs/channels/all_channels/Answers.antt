@@ -4,7 +4,7 @@ use Rattle.fb_find_demands.specs.Ends.{with_channel, channels_in}
 use Rattle.fb_find_demands.proofs.channels.all_channels.Goals as goal
 
 pub loop-back-preserved : goal.loop-back-preserved
-loop-back-preserved c = c.in_ok-add_channel.ensures ∙ (ap₂ with_channel c.leaf_channel.ensures c.loop-back.invariant ∙ ap channels_in (sym c.from_end.ensures))
+loop-back-preserved c = c.in_ok-add_channel.ensures ∙ (ap₂ with_channel c.channel_of.ensures c.loop-back.invariant ∙ ap channels_in (sym c.from_end.ensures))
 
 pub returns : goal.returns
 returns c =

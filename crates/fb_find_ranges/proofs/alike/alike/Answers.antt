@@ -1,5 +1,5 @@
 use Rattle.std.proofs.Common.{◌≡◌, ◌∙◌, map, sym, ap, subst}
-use Rattle.fb_check_ranges.proofs.Lists.{all_here}
+use Rattle.fb_lists.proofs.Lists.{all_here}
 use Rattle.fb_flat.specs.Leaves.{kind_of}
 use Rattle.fb_find_ranges.specs.declared.rows.LeafRows.{LeafRows}
 use Rattle.fb_find_ranges.specs.Views.{Shared, line_of, linked_in, IsKept, IsKind, IsLike}

@@ -1,5 +1,5 @@
 use Rattle.std.proofs.Common.{◌∙◌, List, map, sym, ap, subst, take_all}
-use Rattle.fb_check_ranges.proofs.Lists.{all_here}
+use Rattle.fb_lists.proofs.Lists.{all_here}
 use Rattle.fb_find_ranges.specs.Lines.{next_lined}
 use Rattle.fb_find_ranges.specs.Views.{AreLinked, IsKept, IsKind, Link, Shared, lined_in, linked_in, tabled_in}
 use Rattle.fb_find_ranges.proofs.Entries.{next_added}

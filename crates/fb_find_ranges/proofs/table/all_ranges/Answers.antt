@@ -1,5 +1,5 @@
 use Rattle.std.proofs.Common.{sym, subst}
-use Rattle.fb_check_ranges.proofs.Lists.{all_here}
+use Rattle.fb_lists.proofs.Lists.{all_here}
 use Rattle.fb_find_ranges.specs.Views.{IsKept, Shared}
 use Rattle.fb_find_ranges.proofs.table.all_ranges.Goals as goal
 

@@ -1,5 +1,5 @@
 use Rattle.fb_model.specs.Wires.{leaves}
-use Rattle.fb_world.specs.fb_device.fb_device_state.Machines.{device_in}
+use Rattle.fb_device_state.specs.Machines.{device_in}
 use Rattle.fb_script.proofs.Names.{run_told, never_unnamed}
 use Rattle.fb_script.proofs.playing.tell_run.Goals as goal
 

@@ -2,8 +2,8 @@ use Rattle.std.proofs.Common.{◌∙◌, subst, sym}
 use Rattle.std.proofs.lemmas.Result.{err_from_is_err_and}
 use Rattle.fb_cert.specs.Views.{certificate_of}
 use Rattle.fb_types.specs.Views.{system_of}
-use Rattle.fb_verdict.proofs.Reading.{words}
-use Rattle.fb_verdict.proofs.Composed.{tables_are, plain, known, alone_by}
+use Rattle.fb_verified.proofs.Written.{words, tables_are}
+use Rattle.fb_verdict.proofs.Composed.{plain, known, alone_by}
 use Rattle.fb_verdict.proofs.Denied.{of_rows, of_unclear, of_steps, of_places, of_depth}
 use Rattle.fb_verdict.proofs.verdict.alone_fits.Goals as goal
 

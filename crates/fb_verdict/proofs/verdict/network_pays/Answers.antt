@@ -3,7 +3,8 @@ use Rattle.std.proofs.lemmas.Result.{err_from_is_err_and}
 use Rattle.fb_cert.specs.Views.{certificate_of}
 use Rattle.fb_types.specs.Views.{system_of}
 use Rattle.fb_verdict.specs.Faults.{IsFitFault}
-use Rattle.fb_verdict.proofs.Composed.{tables_are, known}
+use Rattle.fb_verified.proofs.Written.{tables_are}
+use Rattle.fb_verdict.proofs.Composed.{known}
 use Rattle.fb_verdict.proofs.Denied.{far_is, channel_is}
 use Rattle.fb_verdict.proofs.verdict.network_pays.Goals as goal
 

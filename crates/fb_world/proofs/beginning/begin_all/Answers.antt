@@ -2,8 +2,8 @@ use Rattle.std.proofs.Common.{◌+◌, ◌<◌, List, length, sym, ap, subst, ar
 use Rattle.std.proofs.lemmas.List.{length-map}
 use Rattle.fb_types.specs.declared.typed.Configuration.{Configuration}
 use Rattle.fb_types.specs.Views.{device_of}
-use Rattle.fb_verdict.specs.declared.verified.Verified.{Verified}
-use Rattle.fb_verdict.specs.Verdicts.{system_in}
+use Rattle.fb_verified.specs.declared.verified.Verified.{Verified}
+use Rattle.fb_verified.specs.Checked.{system_in}
 use Rattle.fb_world.specs.declared.station.Station.{Station}
 use Rattle.fb_world.specs.Beginning.{HaveBegun}
 use Rattle.fb_world.proofs.First.{few_devices, begun_nothing, begun_more}

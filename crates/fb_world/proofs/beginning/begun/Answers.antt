@@ -1,5 +1,5 @@
 use Rattle.std.proofs.Common.{◌+◌, ◌≤◌, not, ap, ◌∙◌, arith}
-use Rattle.fb_device.specs.fb_device_state.Machines.{machine_of}
+use Rattle.fb_device_state.specs.Machines.{machine_of}
 use Rattle.fb_world.proofs.First.{begun_one, begun_here, begun_above, begun_within}
 use Rattle.fb_world.proofs.beginning.begun.Goals as goal
 

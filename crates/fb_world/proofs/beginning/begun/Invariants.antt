@@ -1,5 +1,5 @@
 use Rattle.std.proofs.Common.{◌+◌, ◌≤◌}
-use Rattle.fb_device.specs.fb_device_state.Machines.{machine_of}
+use Rattle.fb_device_state.specs.Machines.{machine_of}
 use Rattle.fb_world.proofs.beginning.begun.Given as goal
 
 -- so many causes have been opened

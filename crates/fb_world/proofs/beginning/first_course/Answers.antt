@@ -1,6 +1,6 @@
 use Rattle.std.proofs.Common.{refl, subst}
-use Rattle.fb_verdict.specs.declared.verified.Verified.{Verified}
-use Rattle.fb_verdict.specs.Verdicts.{IsChecked}
+use Rattle.fb_verified.specs.declared.verified.Verified.{Verified}
+use Rattle.fb_verified.specs.Checked.{IsChecked}
 use Rattle.fb_world.specs.declared.course.Course.{Course}
 use Rattle.fb_world.proofs.First.{few_devices, is_first, kept_first}
 use Rattle.fb_world.proofs.beginning.first_course.Goals as goal

@@ -1,7 +1,7 @@
 use Rattle.std.proofs.Common.{◌≡◌, false, drop}
 use Rattle.std.specs.List.{AllByRecursion}
-use Rattle.fb_verdict.specs.Lookups.{is_same_path}
-use Rattle.fb_device.specs.fb_device_state.Machines.{device_in}
+use Rattle.fb_verified.specs.Lookups.{is_same_path}
+use Rattle.fb_device_state.specs.Machines.{device_in}
 use Rattle.fb_world.specs.declared.station.Station.{Station}
 use Rattle.fb_world.proofs.station.numbered.Given as goal
 

@@ -2,7 +2,7 @@ use Rattle.std.proofs.Common.{◌≡◌, ℕ, Some, sym, subst}
 use Rattle.std.specs.List.{AllByRecursion}
 use Rattle.fb_sched.specs.declared.reaction.Reaction.{Reaction}
 use Rattle.fb_sched.specs.Agenda.{Agenda, slot_at}
-use Rattle.fb_device_dispatch.specs.fb_device_state.Numbers.{IsKnown}
+use Rattle.fb_device_state.specs.Numbers.{IsKnown}
 use Rattle.fb_device.specs.Openings.{IsOpeningIn}
 use Rattle.fb_device.proofs.Opened.{all_openings, opening_so}
 use Rattle.fb_device.proofs.device.Device.opening.Goals as goal

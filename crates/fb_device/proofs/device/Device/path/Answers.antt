@@ -1,9 +1,9 @@
 use Rattle.std.proofs.Common.{map, sym, subst}
 use Rattle.fb_model.specs.Wires.{leaves}
 use Rattle.st_exec.specs.Cells.{forms_of}
-use Rattle.fb_device_dispatch.specs.fb_device_tables.Tables.{AreBlocks}
-use Rattle.fb_device_dispatch.specs.fb_device_state.Sessions.{session_of}
-use Rattle.fb_device_dispatch.specs.fb_device_state.Machines.{cert_in, device_in}
+use Rattle.fb_device_tables.specs.Tables.{AreBlocks}
+use Rattle.fb_device_state.specs.Sessions.{session_of}
+use Rattle.fb_device_state.specs.Machines.{cert_in, device_in}
 use Rattle.fb_device.proofs.device.Device.path.Goals as goal
 
 pub returns : goal.returns

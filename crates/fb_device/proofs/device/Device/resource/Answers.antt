@@ -1,7 +1,7 @@
 use Rattle.std.proofs.Common.{map, ap, ◌∙◌, string_bytes}
 use Rattle.fb_device.specs.Finding.{first_named}
-use Rattle.fb_device_dispatch.specs.fb_device_state.Sessions.{session_of}
-use Rattle.fb_device_dispatch.specs.fb_device_state.Machines.{cert_in, device_in}
+use Rattle.fb_device_state.specs.Sessions.{session_of}
+use Rattle.fb_device_state.specs.Machines.{cert_in, device_in}
 use Rattle.fb_device.proofs.Finding.{number_of}
 use Rattle.fb_device.proofs.device.Device.resource.Goals as goal
 

@@ -1,7 +1,7 @@
 use Rattle.std.proofs.Common.{◌∙◌, length, arith}
-use Rattle.fb_device_dispatch.specs.fb_device_state.Sessions.{session_of}
-use Rattle.fb_device_dispatch.specs.fb_device_state.Machines.{cert_in, device_in}
-use Rattle.fb_device_dispatch.proofs.of_fb_device_state.Arriving.{resource_count}
+use Rattle.fb_device_state.specs.Sessions.{session_of}
+use Rattle.fb_device_state.specs.Machines.{cert_in, device_in}
+use Rattle.fb_device_state.proofs.Arriving.{resource_count}
 use Rattle.fb_device.proofs.device.Device.resources.Goals as goal
 
 pub returns : goal.returns

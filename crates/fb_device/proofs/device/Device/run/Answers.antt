@@ -5,8 +5,8 @@ use Rattle.fb_model.specs.Headline.{IsSound}
 use Rattle.fb_model.proofs.Ending.{keeps_bounds}
 use Rattle.fb_model.proofs.Admitting.{sound_after}
 use Rattle.fb_model.proofs.Starting.{stays_within_all}
-use Rattle.fb_device_dispatch.specs.fb_device_state.Sessions.{Session}
-use Rattle.fb_device_dispatch.specs.fb_device_state.Machines.{device_in, cert_in, machine_of}
+use Rattle.fb_device_state.specs.Sessions.{Session}
+use Rattle.fb_device_state.specs.Machines.{device_in, cert_in, machine_of}
 use Rattle.fb_device.specs.Answers.{event_of, answer_of, HasPlace}
 use Rattle.std.proofs.lemmas.List.{drop-set-lt}
 use Rattle.fb_model.specs.Devices.{Happens}

@@ -2,7 +2,7 @@ use Rattle.std.proofs.Common.{◌≡◌, map, take, drop, length}
 use Rattle.std.specs.List.{AllByRecursion}
 use Rattle.fb_model.specs.Devices.{Run}
 use Rattle.fb_model.specs.Wires.{leaves}
-use Rattle.fb_device_dispatch.specs.fb_device_state.Machines.{device_in, cert_in, machine_of}
+use Rattle.fb_device_state.specs.Machines.{device_in, cert_in, machine_of}
 use Rattle.fb_device.specs.Answers.{event_of, answer_of, HasPlace}
 use Rattle.fb_device.proofs.device.Device.run.Given as goal
 

@@ -1,7 +1,7 @@
 use Rattle.std.proofs.Common.{ap, ◌∙◌}
 use Rattle.fb_model.specs.Wires.{leaves}
 use Rattle.fb_model.specs.Devices.{begun}
-use Rattle.fb_device_dispatch.specs.fb_device_state.Machines.{device_in}
+use Rattle.fb_device_state.specs.Machines.{device_in}
 use Rattle.fb_device.proofs.loading.Ready.start.Goals as goal
 
 pub returns-clause-first : goal.returns-clause-first

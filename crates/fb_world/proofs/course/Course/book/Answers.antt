@@ -4,15 +4,15 @@ use Rattle.std.proofs.lemmas.Option.{slice_get_read}
 use Rattle.fb_world.specs.declared.station.Station.{Station}
 use Rattle.fb_world.specs.Scenes.{root_for}
 use Rattle.fb_world.specs.Booking.{posted_in, with_steps}
-use Rattle.fb_world.proofs.Lists.{same_got, got_within}
+use Rattle.fb_lists.proofs.Lists.{same_at, within_got}
 use Rattle.fb_world.proofs.course.Course.book.Goals as goal
 
 pub returns-clause-booked : goal.returns-clause-booked
 returns-clause-booked c =
     let stands = slice_get_read c.args.self.now.stations.items (length c.args.self.now.stations.items) c.args.device c.index_mut.result.now refl c.requires.there c.index_mut.ensures.value in
-    let is : c.requires.root.station ≡ c.index_mut.result.now = same_got c.args.self.now.stations.items c.args.device c.requires.root.station c.index_mut.result.now c.requires.root.stands stands in
+    let is : c.requires.root.station ≡ c.index_mut.result.now = same_at c.args.self.now.stations.items c.args.device c.requires.root.station c.index_mut.result.now c.requires.root.stands stands in
     let root_is : root_for c.requires.root.station.roots.entries c.args.ran.now.cause ≡ c.settle-root.result = ap (λ (x : Station). root_for x.roots.entries c.args.ran.now.cause) is ∙ sym c.settle-root.ensures.root in
-    let within : c.settle-root.result - 1 < length c.args.self.now.roots.items = subst (λ n. n - 1 < length c.args.self.now.roots.items) root_is (got_within c.args.self.now.roots.items (root_for c.requires.root.station.roots.entries c.args.ran.now.cause - 1) c.requires.root.root c.requires.root.root_is) in
+    let within : c.settle-root.result - 1 < length c.args.self.now.roots.items = subst (λ n. n - 1 < length c.args.self.now.roots.items) root_is (within_got c.args.self.now.roots.items (root_for c.requires.root.station.roots.entries c.args.ran.now.cause - 1) c.requires.root.root c.requires.root.root_is) in
     let root_stands = slice_get_read c.args.self.now.roots.items (length c.args.self.now.roots.items) (c.settle-root.result - 1) c.index_mut-2.result.now refl within c.index_mut-2.ensures.value in
     record {
       station = c.index_mut.result.now;

@@ -6,17 +6,17 @@ use Rattle.std.proofs.lemmas.List.{length-set}
 use Rattle.fb_model.specs.Messages.{Spells}
 use Rattle.fb_model.specs.Devices.{Happens, Deliver}
 use Rattle.fb_model.specs.World.{Deliver_datagram, Answered}
-use Rattle.fb_verdict.specs.declared.verified.Verified.{Verified}
-use Rattle.fb_device.specs.fb_device_arrivals.declared.denied.Denied.{Denied}
-use Rattle.fb_device.specs.fb_device_arrivals.Answers.{admission_of}
-use Rattle.fb_device.specs.fb_device_state.Machines.{device_in, cert_in, machine_of}
+use Rattle.fb_verified.specs.declared.verified.Verified.{Verified}
+use Rattle.fb_device_arrivals.specs.declared.denied.Denied.{Denied}
+use Rattle.fb_device_arrivals.specs.Answers.{admission_of}
+use Rattle.fb_device_state.specs.Machines.{device_in, cert_in, machine_of}
 use Rattle.fb_world.specs.declared.sent.Sent.{Sent}
 use Rattle.fb_world.specs.declared.station.Station.{Station}
 use Rattle.fb_world.specs.declared.course.Course.{Course}
 use Rattle.fb_world.specs.Roots.{EntersRoot}
 use Rattle.fb_world.specs.Keeping.{IsKept, Goes}
 use Rattle.fb_world.specs.Room.{Uses}
-use Rattle.fb_world.proofs.Lists.{same_got}
+use Rattle.fb_lists.proofs.Lists.{same_at}
 use Rattle.fb_world.proofs.Deliveries.{IsAdmitted, admitted_goes, denied_goes}
 use Rattle.fb_world.proofs.Rooms.{device_kept, uses_set}
 use Rattle.fb_world.proofs.course.Course.deliver.Goals.{then-is_ok, else-is_ok}
@@ -45,13 +45,13 @@ returns-clause-goes c = λ v k.
     let stands = slice_get_read c.args.self.now.stations.items (length c.args.self.now.stations.items) c.args.device c.index_mut.result.now refl c.requires.there c.index_mut.ensures.value in
     let got = slice_get_read c.args.self.now.datagrams.items (length c.args.self.now.datagrams.items) c.args.at c.index.result.now refl c.requires.sent c.index.ensures in
     let got-2 = slice_get_read c.args.self.now.datagrams.items (length c.args.self.now.datagrams.items) c.args.at c.index-2.result.now refl c.requires.sent c.index-2.ensures in
-    let is : c.index-2.result.now ≡ c.index.result.now = same_got c.args.self.now.datagrams.items c.args.at c.index-2.result.now c.index.result.now got-2 got in
+    let is : c.index-2.result.now ≡ c.index.result.now = same_at c.args.self.now.datagrams.items c.args.at c.index-2.result.now c.index.result.now got-2 got in
     let spelled : Spells c.index.result.now.message c.as_slice.result.now = subst (Spells c.index.result.now.message) (sym c.as_slice.ensures.value) c.encode-bytes.ensures in
     let enters : EntersRoot c.index_mut.result.now (is_ok c.deliver-admitted.result) c.index.result.now.root c.deliver-admitted.new.self = subst (λ (g : Sent). EntersRoot c.index_mut.result.now (is_ok c.deliver-admitted.result) g.root c.deliver-admitted.new.self) is c.deliver-admitted.ensures.enters in
     elim c.if-is_ok.branch [
       | then-is_ok w ↦ (
           let got-3 = slice_get_read c.args.self.now.datagrams.items (length c.args.self.now.datagrams.items) c.args.at w.index_mut-then-is_ok.result.now refl c.requires.sent w.index_mut-then-is_ok.ensures.value in
-          let same : w.index_mut-then-is_ok.result.now ≡ c.index.result.now = same_got c.args.self.now.datagrams.items c.args.at w.index_mut-then-is_ok.result.now c.index.result.now got-3 got in
+          let same : w.index_mut-then-is_ok.result.now ≡ c.index.result.now = same_at c.args.self.now.datagrams.items c.args.at w.index_mut-then-is_ok.result.now c.index.result.now got-3 got in
           let admitted : IsAdmitted w.index_mut-then-is_ok.result.now c.args.device w.admit.new.self = record { message = w.admit.ensures.message; root = w.admit.ensures.root; whole = w.admit.ensures.whole; admissions = w.admit.ensures.admissions } in
           let new : Course = record { stations = with_item c.args.self.now.stations c.args.device c.deliver-admitted.new.self; datagrams = with_item c.args.self.now.datagrams c.args.at w.admit.new.self; roots = c.args.self.now.roots; dispatches = c.args.self.now.dispatches } in
           subst (λ (x : Course). Goes v c.args.self.now (Deliver_datagram (suc c.args.at) c.args.device) (Answered (admission_of c.deliver-admitted.result) None) x) (sym w.self-is)

@@ -5,12 +5,12 @@ use Rattle.fb_model.specs.Wires.{Leaf, leaves}
 use Rattle.fb_model.specs.Devices as book
 use Rattle.fb_model.specs.Devices.{Happens}
 use Rattle.fb_model.specs.World.{At_device, A_dispatch, Answered}
-use Rattle.fb_verdict.specs.declared.verified.Verified.{Verified}
-use Rattle.fb_verdict.specs.Verdicts.{system_in}
-use Rattle.fb_device.specs.fb_device_dispatch.declared.answer.Dispatched.TheVariants.{Idle, Ran}
-use Rattle.fb_device.specs.fb_device_dispatch.declared.answer.Dispatched.{Dispatched}
-use Rattle.fb_device.specs.fb_device_dispatch.Answers.{dispatched_of}
-use Rattle.fb_device.specs.fb_device_state.Machines.{device_in, cert_in, machine_of}
+use Rattle.fb_verified.specs.declared.verified.Verified.{Verified}
+use Rattle.fb_verified.specs.Checked.{system_in}
+use Rattle.fb_device_dispatch.specs.declared.answer.Dispatched.TheVariants.{Idle, Ran}
+use Rattle.fb_device_dispatch.specs.declared.answer.Dispatched.{Dispatched}
+use Rattle.fb_device_dispatch.specs.Answers.{dispatched_of}
+use Rattle.fb_device_state.specs.Machines.{device_in, cert_in, machine_of}
 use Rattle.fb_world.specs.declared.station.Station.{Station}
 use Rattle.fb_world.specs.declared.course.Course.{Course}
 use Rattle.fb_world.specs.Answers.{leaves_at}

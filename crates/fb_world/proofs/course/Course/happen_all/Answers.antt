@@ -1,12 +1,13 @@
 use Rattle.std.proofs.Common.{◌+◌, ◌++◌, ◌∷◌, [], List, map, take, drop, length, refl, sym, ◌∙◌, ap, subst, arith}
 use Rattle.std.proofs.lemmas.Option.{slice_get_read}
+use Rattle.std.proofs.lemmas.List.{append_assoc}
 use Rattle.fb_model.specs.World.{WorldRun}
-use Rattle.fb_verdict.specs.Verdicts.{system_in, certificate_in}
+use Rattle.fb_verified.specs.Checked.{system_in, certificate_in}
 use Rattle.fb_world.specs.declared.answer.WorldEvent.{WorldEvent}
 use Rattle.fb_world.specs.Answers.{event_of, answer_of, answers_of, leaves_at, device_of, HaveWorldPlaces}
 use Rattle.fb_world.specs.Scenes.{world_in}
 use Rattle.fb_world.specs.Room.{HasRoom}
-use Rattle.fb_world.proofs.Lists.{drop_at, take_at, again}
+use Rattle.fb_lists.proofs.Lists.{drop_at, take_at}
 use Rattle.fb_world.proofs.Kept.{answers_more, places_more, kept_more}
 use Rattle.fb_world.proofs.Rooms.{room_first, room_left}
 use Rattle.fb_world.proofs.course.Course.happen_all.Goals as goal
@@ -28,7 +29,7 @@ loop-event-preserved c =
           let r = c.loop-event.invariant.run v k in
           let g = c.happen-answer.ensures.goes v (c.loop-event.invariant.kept v k) in (
             r.0 ++ c.happen-answer.result ∷ [],
-            c.push_reserved.ensures.items ∙ ap (λ xs. xs ++ c.happen-answer.result ∷ []) r.1 ∙ again c.args.answers.now.items r.0 (c.happen-answer.result ∷ []),
+            c.push_reserved.ensures.items ∙ ap (λ xs. xs ++ c.happen-answer.result ∷ []) r.1 ∙ append_assoc c.args.answers.now.items r.0 (c.happen-answer.result ∷ []),
             subst (λ (es : List WorldEvent). HaveWorldPlaces (system_in v) es (r.0 ++ c.happen-answer.result ∷ [])) (sym (take_at c.args.events.now c.loop-event.event-index c.event-item.result at))
                 (places_more (system_in v) (take c.loop-event.event-index c.args.events.now) r.0 c.event-item.result c.happen-answer.result r.2 (c.happen-answer.ensures.point v (c.loop-event.invariant.kept v k))),
             subst (λ (es : List WorldEvent). WorldRun (system_in v) (certificate_in v) (world_in v c.args.self.now) (map event_of es) (answers_of (system_in v) es (r.0 ++ c.happen-answer.result ∷ [])) (world_in v c.happen-answer.new.self)) (sym (take_at c.args.events.now c.loop-event.event-index c.event-item.result at))

@@ -1,8 +1,8 @@
 use Rattle.std.proofs.Common.{◌≡◌, ◌+◌, ◌≤◌, ◌++◌, List, map, take, drop, length}
 use Rattle.std.specs.Vec.{vec_len, vec_capacity}
 use Rattle.fb_model.specs.World.{WorldRun}
-use Rattle.fb_verdict.specs.declared.verified.Verified.{Verified}
-use Rattle.fb_verdict.specs.Verdicts.{system_in, certificate_in}
+use Rattle.fb_verified.specs.declared.verified.Verified.{Verified}
+use Rattle.fb_verified.specs.Checked.{system_in, certificate_in}
 use Rattle.fb_world.specs.declared.answer.WorldAnswer.{WorldAnswer}
 use Rattle.fb_world.specs.Answers.{event_of, answers_of, HaveWorldPlaces}
 use Rattle.fb_world.specs.Scenes.{world_in}

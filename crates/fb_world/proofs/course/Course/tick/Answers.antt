@@ -2,7 +2,7 @@ use Rattle.std.proofs.Common.{◌≡◌, refl, length, ap, arith}
 use Rattle.std.specs.Vec.{with_item}
 use Rattle.std.proofs.lemmas.Option.{slice_get_read}
 use Rattle.fb_model.specs.Wires.{leaves}
-use Rattle.fb_device.specs.fb_device_state.Machines.{device_in}
+use Rattle.fb_device_state.specs.Machines.{device_in}
 use Rattle.fb_world.specs.declared.course.Course.{Course}
 use Rattle.fb_world.specs.Room.{blocks_of}
 use Rattle.std.specs.Prelude.{slice_get}

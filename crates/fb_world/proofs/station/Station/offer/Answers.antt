@@ -1,6 +1,6 @@
 use Rattle.std.proofs.Common.{◌+◌, subst, sym, ◌∙◌}
 use Rattle.std.specs.Prelude.{if◌then◌else◌}
-use Rattle.fb_device.specs.fb_device_state.Machines.{device_in, cert_in, machine_of}
+use Rattle.fb_device_state.specs.Machines.{device_in, cert_in, machine_of}
 use Rattle.fb_world.specs.Roots.{OpensRoots, IsPending, with_device}
 use Rattle.fb_world.proofs.Stations.{offer_pending, opened_none}
 use Rattle.fb_world.proofs.station.Station.offer.Goals as goal

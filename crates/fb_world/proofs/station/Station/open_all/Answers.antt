@@ -1,5 +1,5 @@
 use Rattle.std.proofs.Common.{◌≡◌, ◌+◌, subst, sym, ◌∙◌, arith}
-use Rattle.fb_device.specs.fb_device_state.Sessions.{Session}
+use Rattle.fb_device_state.specs.Sessions.{Session}
 use Rattle.fb_world.specs.Roots.{IsPending}
 use Rattle.fb_world.proofs.Stations.{opened_more}
 use Rattle.fb_world.proofs.station.Station.open_all.Goals as goal

@@ -1,5 +1,5 @@
 use Rattle.std.proofs.Common.{◌+◌, subst, sym, arith}
-use Rattle.fb_device.specs.fb_device_state.Machines.{device_in, cert_in, machine_of}
+use Rattle.fb_device_state.specs.Machines.{device_in, cert_in, machine_of}
 use Rattle.fb_world.specs.Roots.{IsPending}
 use Rattle.fb_world.proofs.Stations.{tick_pending, tick_counts}
 use Rattle.fb_world.proofs.station.Station.tick.Goals as goal

@@ -1,9 +1,9 @@
 use Rattle.std.proofs.Common.{◌≡◌, ◌<◌, length, refl, ◌∙◌, subst, arith}
 use Rattle.fb_model.specs.System.{System}
 use Rattle.fb_model.specs.World.{WorldEvent, WorldAnswer, WorldHappens, At_device, A_dispatch, Answered}
-use Rattle.fb_verdict.specs.declared.verified.Verified.{Verified}
-use Rattle.fb_verdict.specs.Verdicts.{system_in, certificate_in}
-use Rattle.fb_device.specs.fb_device_dispatch.Answers.{dispatched_of}
+use Rattle.fb_verified.specs.declared.verified.Verified.{Verified}
+use Rattle.fb_verified.specs.Checked.{system_in, certificate_in}
+use Rattle.fb_device_dispatch.specs.Answers.{dispatched_of}
 use Rattle.fb_world.specs.declared.course.Course.{Course}
 use Rattle.fb_world.specs.Scenes.{Scene, scene_of, system_of, cert_of, world_of, world_in}
 use Rattle.fb_world.specs.Answers.{leaves_at}

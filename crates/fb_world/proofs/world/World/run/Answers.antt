@@ -1,6 +1,6 @@
 use Rattle.std.proofs.Common.{◌≡◌, ◌++◌, List, map, subst, sym, ◌∙◌, ap}
 use Rattle.fb_model.specs.World.{WorldRun}
-use Rattle.fb_verdict.specs.Verdicts.{system_in, certificate_in}
+use Rattle.fb_verified.specs.Checked.{system_in, certificate_in}
 use Rattle.fb_world.specs.declared.answer.WorldAnswer.{WorldAnswer}
 use Rattle.fb_world.specs.Scenes.{Scene, world_of, world_in}
 use Rattle.fb_world.specs.Answers.{event_of, answers_of, HaveWorldPlaces}

@@ -1,6 +1,6 @@
 use Rattle.std.proofs.Common.{subst}
 use Rattle.fb_model.specs.World.{WorldHappens}
-use Rattle.fb_verdict.specs.Verdicts.{system_in, certificate_in}
+use Rattle.fb_verified.specs.Checked.{system_in, certificate_in}
 use Rattle.fb_world.specs.Scenes.{Scene, world_of, world_in}
 use Rattle.fb_world.specs.Answers.{event_of, device_of, leaves_at, answer_of}
 use Rattle.fb_world.proofs.Kept.{scene_same, kept_same, kept_more, on_err}

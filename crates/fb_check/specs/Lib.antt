@@ -1,1 +1,0 @@
-pub use Rattle.fb_verdict.specs as fb_verdict

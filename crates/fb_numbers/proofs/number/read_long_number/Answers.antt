@@ -1,0 +1,6 @@
+use Rattle.std.proofs.Common.{◌∙◌, rules}
+use Rattle.fb_numbers.proofs.Numbers.{long_number}
+use Rattle.fb_numbers.proofs.number.read_long_number.Goals as goal
+
+pub returns : goal.returns
+returns c = c.ok.ensures.value ∙ long_number c.args.word.now c.parse.result (search rules) c.parse.ensures.value.0

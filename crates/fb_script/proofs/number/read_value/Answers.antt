@@ -1,6 +1,0 @@
-use Rattle.std.proofs.Common.{◌∙◌, rules}
-use Rattle.fb_script.proofs.Numbers.{value}
-use Rattle.fb_script.proofs.number.read_value.Goals as goal
-
-pub returns : goal.returns
-returns c = c.ok.ensures.value ∙ value c.args.word.now c.parse.result (search rules) c.parse.ensures.value.0

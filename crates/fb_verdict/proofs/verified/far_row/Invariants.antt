@@ -1,7 +1,0 @@
-use Rattle.std.proofs.Common.{◌≡◌, drop}
-use Rattle.fb_cert.specs.Views.{rows_of}
-use Rattle.fb_verdict.specs.Lookups.{row_at}
-use Rattle.fb_verdict.proofs.verified.far_row.Given as goal
-
-abbrev pub invariant-loop-index : goal.invariant-loop-index
-invariant-loop-index l = row_at l.path (drop l.index (rows_of l.certificate).fars) ≡ row_at l.path (rows_of l.certificate).fars

@@ -1,5 +1,0 @@
-use Rattle.fb_wire.proofs.Unique.{begins_no_other}
-use Rattle.fb_wire.proofs.law.bytes_spell_one_message.Goals as goal
-
-pub returns : goal.returns
-returns c = λ bytes more m n s t. begins_no_other m n bytes more s t

@@ -1,9 +1,0 @@
-use Rattle.std.proofs.Common.{refl}
-use Rattle.fbr.specs.declared.fault.Fault.TheVariants.{File}
-use Rattle.fbr.proofs.Bounded.{unwritten_told}
-use Rattle.fbr.proofs.into.write_into.Goals as goal
-
-pub returns-in-Err-clause-written : goal.returns-in-Err-clause-written
-returns-in-Err-clause-written g c =
-    unwritten_told c.args.name.now c.args.text.now (File c.args.name) (g.S.Sources.contents c.write.new.self c.args.name.now) (g.W.Write.contents c.args.output.now) (g.W.Write.contents c.print_outcome.new.output)
-    c.print_outcome.result refl c.print_outcome.ensures.told

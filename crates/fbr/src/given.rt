@@ -1,0 +1,60 @@
+//! What people are told of a command that was refused, by the files that it read. It is tested, and no contract says it.
+
+use fbr_files::{Fault, FileText, Held};
+use fbr_tell::{Given, Held as Told, NamedFile, hint};
+use std::alloc::Global;
+use std::io::Write;
+
+/// The files that a command read: an application, perhaps a certificate, and perhaps the rows RANGE that are kept; and how often datagrams are delivered.
+#[derive(Clone, Copy)]
+pub struct Files<'b, 'a> {
+    pub app: &'b FileText<'a>,
+    pub cert: Option<&'b FileText<'a>>,
+    pub rows: Option<&'b FileText<'a>>,
+    pub repeats: Option<u8>,
+}
+
+impl<'b, 'a> Files<'b, 'a> {
+    /// An application and a certificate.
+    pub fn two(app: &'b FileText<'a>, cert: &'b FileText<'a>) -> Files<'b, 'a> {
+        Files {
+            app,
+            cert: Some(cert),
+            rows: None,
+            repeats: None,
+        }
+    }
+}
+
+/// A file as those who tell people take it.
+pub fn named<'b>(file: &'b FileText<'b>) -> NamedFile<'b> {
+    let held = match &file.held {
+        Held::Text(text) => Told::Text(text.as_str()),
+        Held::NoText(bytes) => Told::Bytes(bytes.as_slice()),
+        Held::Unread => Told::Nothing,
+        Held::Memory => Told::Memory,
+    };
+    NamedFile {
+        name: file.name,
+        held,
+    }
+}
+
+/// The same, where there is one.
+pub fn maybe_named<'b>(file: Option<&'b FileText<'b>>) -> Option<NamedFile<'b>> {
+    match file {
+        Some(file) => Some(named(file)),
+        None => None,
+    }
+}
+
+/// Tells people of a fault.
+pub fn tell<E: Write>(alloc: Global, fault: &Fault<'_>, files: Files<'_, '_>, errors: &mut E) {
+    let given = Given {
+        app: named(files.app),
+        cert: maybe_named(files.cert),
+        rows: maybe_named(files.rows),
+        repeats: files.repeats,
+    };
+    hint(alloc, fault, given, errors);
+}

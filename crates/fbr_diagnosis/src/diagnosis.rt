@@ -1,0 +1,70 @@
+//! What a diagnosis is.
+
+use crate::meaning::Meaning;
+use crate::reading::Reading;
+use fbr_faults::Fault;
+use fbr_needs::{Counts, Missing, Queue, RangeLink, RangeStart, Step, Sum};
+use fbr_places::{Located, Named};
+use std::alloc::Global;
+
+/// Two texts that a diagnosis is of: an application, and a certificate; and whether the finder is asked for numbers and ranges too.
+#[derive(Clone, Copy)]
+pub struct Asked<'a> {
+    pub alloc: Global,
+    pub app: Named<'a>,
+    pub cert: Named<'a>,
+    pub is_searched: bool,
+}
+
+/// What is needed at a place, and what is there.
+#[derive(Drop)]
+pub enum Finding<'a> {
+    /// Nothing more than the number says.
+    Nothing,
+    /// Sentences on a text: what was found, and what could stand there.
+    Advice(String),
+    /// The text of a certificate is that of an application.
+    Swapped,
+    /// A statement or an operation.
+    Wrong(Fault),
+    /// A row that says less than it needs.
+    Sum(Sum<'a>),
+    /// A queue that is not deep enough.
+    Queue(Queue<'a>),
+    /// A row RANGE beside what its variable begins with.
+    Start(RangeStart<'a>),
+    /// A row RANGE beside what is connected to its input.
+    Link(RangeLink<'a>),
+    /// A row that is missing.
+    Missing(Missing<'a>),
+    /// Places of which each asks for the next.
+    Walk(Vec<Step<'a>>),
+}
+
+/// What is at fault, and what to do.
+#[derive(Drop)]
+pub struct Diagnosis<'a> {
+    /// The number of the refusal.
+    pub code: u8,
+    /// Where it stands, if that is in a text.
+    pub place: Option<Located<'a>>,
+    pub finding: Finding<'a>,
+    /// How many rows are missing and how many too many, where these are more than one.
+    pub counts: Option<Counts>,
+    /// What the number says, and what to do.
+    pub meaning: Option<Meaning>,
+    /// Whether there is a certificate with narrower ranges, where these were looked for.
+    pub is_narrower: Option<bool>,
+    /// What it was made of.
+    pub reading: &'a Reading,
+}
+
+impl<'a> Diagnosis<'a> {
+    /// The places of a walk, if it is one.
+    pub fn walk(&self) -> &[Step<'a>] {
+        match &self.finding {
+            Finding::Walk(steps) => steps.as_slice(),
+            _ => &[],
+        }
+    }
+}

@@ -1,1 +1,0 @@
-pub use Rattle.fb_check.specs.fb_verdict as fb_verdict

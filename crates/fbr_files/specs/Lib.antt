@@ -1,0 +1,5 @@
+pub mod Statuses
+pub mod Outcomes
+pub mod Codes
+pub mod Reading
+pub mod Writing

@@ -1,0 +1,17 @@
+//! Room: program. The files that a command reads and writes, what is at fault, and the line that tells it.
+//! A file is read once; one that is written changes alone, and keeps what it held if writing fails. What a file of the system holds is not said.
+#![tactic(auto)]
+
+mod disk;
+mod fault;
+mod outcome;
+mod reading;
+mod sources;
+mod writing;
+
+pub use disk::Disk;
+pub use fault::Fault;
+pub use outcome::{print_outcome, print_text};
+pub use reading::{FileText, Held, LIMIT, read_file, read_whole};
+pub use sources::{ReadFault, Sources};
+pub use writing::{into_another, write_into};

@@ -1,0 +1,52 @@
+//! Where the files of a command come from.
+
+ghost use Rattle.std.specs.Prelude.{◌≡◌, IfErr, IfOk, IfSome, take, Bool, Option, Some, false, true, List, ℕ};
+ghost use Rattle.fbr_files.specs.Outcomes.{IsContents};
+
+use std::alloc::Global;
+use std::io;
+
+/// Why a file was not read.
+#[derive(Clone, Copy)]
+pub enum ReadFault {
+    Memory,
+    Unreadable,
+}
+
+impl ReadFault {
+    ghost use Rattle.fbr_files.specs.Codes.{code_of};
+
+    /// The number of the refusal.
+    pub fn code(&self) -> u8
+        ensures { result ≡ code_of self.now }
+    {
+        match self {
+            ReadFault::Memory => 9,
+            ReadFault::Unreadable => 61,
+        }
+    }
+}
+
+/// Files, by name: those that are read, and those that are written.
+pub trait Sources {
+    /// What a file of this name holds, where that is known.
+    ghost contents: { Self → List ℕ → Option (List ℕ) };
+
+    /// Whether two names are of one file, where that is known.
+    ghost same: { Self → List ℕ → List ℕ → Option Bool };
+
+    /// All bytes of a file, or one byte more than the limit of the longest ones.
+    fn read(&self, alloc: Global, name: &str) -> Result<Vec<u8>, ReadFault>
+        ensures { IfOk result (λ bytes. IfSome (contents self.now name.now) (λ held. bytes.items ≡ take 33554433 held)) };
+
+    /// Whether two names are of one file.
+    fn is_same(&self, one: &str, other: &str) -> bool
+        ensures known { IfSome (same self.now one.now other.now) (λ is. result ≡ is) }
+        ensures spelled { one.now ≡ other.now → result ≡ true };
+
+    /// Puts a text into a file, in place of what it held. Where that fails the file keeps what it held, and other files do in any case.
+    fn write(&mut self, name: &str, text: &[u8]) -> io::Result<()>
+        ensures written { IfOk result (λ _. IsContents (contents self.new name.now) text.now) }
+        ensures kept { IfErr result (λ _. contents self.new name.now ≡ contents self.old name.now) }
+        ensures others { (other : List ℕ) → same self.old name.now other ≡ Some false → contents self.new other ≡ contents self.old other };
+}

@@ -1,0 +1,45 @@
+//! Files that are written.
+
+ghost use Rattle.std.specs.Prelude.{◌≡◌, ◌≤◌, IfOk, option_map, true, false};
+ghost use Rattle.fbr_files.specs.Writing.{AreApart, LeavesOthers, Meet, Writes};
+
+use crate::fault::Fault;
+use crate::outcome::print_outcome;
+use crate::sources::Sources;
+use std::io;
+use std::io::Write;
+
+/// Whether the file that is written, where one is, is another than a file that is read, where one is.
+pub fn into_another<S: Sources>(files: &S, into: Option<&str>, read: Option<&str>) -> bool
+    ensures apart { result ≡ true → AreApart (S.same files.now) (option_map (λ name. name.now) into.entry) (option_map (λ name. name.now) read.entry) }
+    ensures meet { result ≡ false → Meet (S.same files.now) (option_map (λ name. name.now) into.entry) (option_map (λ name. name.now) read.entry) }
+{
+    match into {
+        Some(into) => match read {
+            Some(read) => !files.is_same(into, read),
+            None => true,
+        },
+        None => true,
+    }
+}
+
+/// Writes a text into a file, and nothing else; or tells that it could not be written, and people too. Other files stay as they are.
+pub fn write_into<'a, S: Sources, W: Write, E: Write>(
+    files: &mut S,
+    name: &'a str,
+    text: &[u8],
+    output: &mut W,
+    errors: &mut E,
+) -> io::Result<u8>
+    ensures written { IfOk result (λ status. Writes name.now text.now (S.contents files.old name.now) (S.contents files.new name.now) (W.contents output.old) (W.contents output.new) status) }
+    ensures others { LeavesOthers (S.same files.old) name.now (S.contents files.old) (S.contents files.new) }
+    ensures status { IfOk result (λ status. status ≤ 4) }
+{
+    match files.write(name, text) {
+        Ok(()) => Ok(0),
+        Err(_) => {
+            let _ = writeln!(errors, "fbr: {name} could not be written");
+            print_outcome(Err(Fault::File(name)), output)
+        }
+    }
+}

@@ -1,0 +1,105 @@
+//! Runs a device of two files over UDP.
+
+ghost use Rattle.std.specs.Prelude.{◌≡◌, ◌≤◌, ℕ, List, Option, IfOk, MatchResult};
+ghost use Rattle.fbr_files.specs.Reading.{IsFile};
+ghost use Rattle.fbr_words.specs.Requests.{service_of};
+ghost use Rattle.fbr_serve.specs.Serving.{IsTextsFault, IsTextsReady, IsFilesFault, IsFilesReady, TellsStop, TellsDevice, TellsServe};
+
+use crate::turns::{Stop, Sums, serve_on};
+use fb_device::{Device, Ready, Refusal as LoadRefusal, load_boot};
+use fb_link::UdpLink;
+use fb_verdict::Refusal;
+use fbr_files::{Fault, FileText, print_outcome};
+use fbr_words::Serve;
+use std::alloc::Global;
+use std::io;
+use std::io::Write;
+use std::net::Net;
+use std::rt::Clock;
+
+// The device of two texts that is asked for.
+fn loaded_texts<'a>(
+    alloc: Global,
+    app: &str,
+    cert: &str,
+    serve: &Serve<'a>,
+) -> Result<Ready, Fault<'a>>
+    ensures { MatchResult result (IsTextsReady (service_of serve.now) app.now cert.now) (IsTextsFault app.now cert.now serve.now.device.now) }
+{
+    match load_boot(alloc, app, cert, serve.device, 1, serve.boot, 1) {
+        Ok(ready) => Ok(ready),
+        Err(LoadRefusal::Checked(Refusal::OutOfMemory)) => Err(Fault::Memory),
+        Err(LoadRefusal::Checked(refusal)) => Err(Fault::Refused(refusal)),
+        Err(LoadRefusal::NoDevice(name)) => Err(Fault::Device(name)),
+        Err(LoadRefusal::Limit) => unreachable!(),
+    }
+}
+
+/// The device that is asked for of two files that were read.
+pub fn load_device<'a>(
+    alloc: Global,
+    app: &FileText<'a>,
+    cert: &FileText<'a>,
+    serve: &Serve<'a>,
+) -> Result<Ready, Fault<'a>>
+    ensures { (held_app held_cert : Option (List ℕ)) → IsFile serve.now.app.now held_app app.now → IsFile serve.now.cert.now held_cert cert.now
+        → MatchResult result (IsFilesReady (service_of serve.now) held_app held_cert) (IsFilesFault (service_of serve.now) held_app held_cert) }
+{
+    match app.text() {
+        Ok(app) => match cert.text() {
+            Ok(cert) => loaded_texts(alloc, app, cert, serve),
+            Err(fault) => Err(fault),
+        },
+        Err(fault) => Err(fault),
+    }
+}
+
+// Tells what the turns did in all, or why they ended early, and gives the program's status.
+fn print_served<W: Write>(served: Result<Sums, Stop>, output: &mut W) -> io::Result<u8>
+    ensures told { IfOk result (λ status. TellsStop served (W.contents output.old) (W.contents output.new) status) }
+    ensures status { IfOk result (λ status. status ≤ 4) }
+{
+    match served {
+        Ok(sums) => {
+            writeln!(output, "{sums}")?;
+            Ok(0)
+        }
+        Err(Stop::LinkDown) => print_outcome(Err(Fault::LinkDown), output),
+        Err(Stop::Output | Stop::Clock) => Ok(3),
+    }
+}
+
+// Takes the turns of a device that has started; or tells that nothing can be bound to its port.
+fn serve_device<R: Clock + Net, W: Write>(
+    rt: &R,
+    device: &mut Device,
+    serve: &Serve<'_>,
+    output: &mut W,
+) -> io::Result<u8>
+    ensures told { IfOk result (λ status. TellsDevice (service_of serve.now) device.old (W.contents output.old) (W.contents output.new) status) }
+    ensures status { IfOk result (λ status. status ≤ 4) }
+{
+    match UdpLink::open(rt, serve.port, serve.peers.as_slice()) {
+        Ok(mut link) => {
+            let served = serve_on(rt, device, &mut link, serve.turns, output);
+            print_served(served, output)
+        }
+        Err(_) => print_outcome(Err(Fault::Socket(serve.port)), output),
+    }
+}
+
+/// Starts a device, takes its turns over UDP, and prints what its OUTPUTs write, and at the end what the turns did in all; or that nothing can be bound to its port.
+pub fn serve_ready<R: Clock + Net, W: Write>(
+    rt: &R,
+    ready: Ready,
+    serve: &Serve<'_>,
+    output: &mut W,
+) -> io::Result<u8>
+    ensures told { (held_app held_cert : Option (List ℕ)) → IsFilesReady (service_of serve.now) held_app held_cert ready → IfOk result (λ status. TellsServe (service_of serve.now) held_app held_cert (W.contents output.old) (W.contents output.new) status) }
+    ensures status { IfOk result (λ status. status ≤ 4) }
+{
+    let mut device = ready.start();
+    let status = serve_device(rt, &mut device, serve, output);
+    device.let_go();
+    status
+}

@@ -1,0 +1,7 @@
+//! Room: program. A script on standard input, run on the world of a system's devices.
+//! What is told is what the first world of the system answers line by line; a script that is refused is told by its line.
+#![tactic(auto)]
+
+mod sim;
+
+pub use sim::run_input;

@@ -1,0 +1,17 @@
+//! Room: program. What people are told: the line on standard error where something is refused, the page of `explain`, and the picture of `draw`.
+//! It reads no files: texts come as they were read. No contract but of statuses: what it prints is tested.
+#![tactic(auto)]
+
+mod chart;
+mod colour;
+mod draw;
+mod given;
+mod line;
+mod page;
+mod stray;
+
+pub use colour::paint;
+pub use draw::{Drawing, picture};
+pub use given::{Given, Held, NamedFile};
+pub use line::hint;
+pub use page::{Page, accepted_page, explain, refused_page, write_number};

@@ -1,0 +1,68 @@
+-- What the program takes as words.
+use Rattle.std.proofs.Common.{codes, ◌≡◌, refl, ◌∙◌, ap, ap₂, true, false, Bool, not, ◌&&◌, [], ◌∷◌, None, Some, inl, inr}
+use Rattle.clap.specs.Words.{App, AddsSubcommand, app_of, with_subcommand, is_simple_and_free}
+use Rattle.clap.specs.Simple.{has_plain_fields}
+use Rattle.clap.specs.declared.builder.command.Command.{Command}
+use Rattle.clap.specs.declared.builder.command.Command.TheViews.{out-Command}
+use Rattle.clap.proofs.OnLiterals.{clap_on_literals}
+use Rattle.fbr_words.specs.Program.{program, request_of, a_bound, a_check, a_sim, IsMisuse}
+
+-- a command without groups and global arguments has none of the latter
+third : (a b c d : Bool) → (a && (not b && (not c && d))) ≡ true → c ≡ false
+third false b c d e = absurd cc
+third true true c d e = absurd cc
+third true false true d e = absurd cc
+third true false false d e = refl
+
+-- a plain command has no global arguments
+no_globals : (k : Command) (a : App) → app_of k ≡ a → a.top.is_plain ≡ true → (out-Command k).has_globals ≡ false
+no_globals k a is plain =
+    let f = out-Command k in
+    let own : has_plain_fields f ≡ true = ap (λ (b : App). b.top.is_plain) is ∙ plain in
+    third _ f.allow_external_subcommands f.has_globals _ own
+
+-- a command with one more, which is plain
+pub adds : (old sub new : Command) (o s : App) → AddsSubcommand old sub new → app_of old ≡ o → app_of sub ≡ s → s.top.is_plain ≡ true → app_of new ≡ with_subcommand o s.top
+adds old sub new o s h old_is sub_is plain = h.shape (no_globals sub s sub_is plain) ∙ ap₂ with_subcommand old_is (ap (λ (a : App). a.top) sub_is)
+
+is_free : is_simple_and_free program ≡ true
+unfolding clap_on_literals
+is_free = refl
+
+pub free_app : (a : App) → a ≡ program → is_simple_and_free a ≡ true
+free_app a e = ap is_simple_and_free e ∙ is_free
+
+-- such words ask for a certificate of this file
+is_bound : request_of (codes "fbr" ∷ codes "bound" ∷ codes "cell.fb" ∷ []) ≡ Some (a_bound (record { app = codes "cell.fb"; repeats = None; into = None; ranges = None; room = None }))
+unfolding clap_on_literals
+is_bound = refl
+
+-- and such for one with steps over the network, in a file
+is_into : request_of (codes "fbr" ∷ codes "bound" ∷ codes "cell.fb" ∷ codes "--repeats" ∷ codes "2" ∷ codes "-o" ∷ codes "cell.cert" ∷ []) ≡ Some (a_bound (record { app = codes "cell.fb"; repeats = Some 2; into = Some (codes "cell.cert"); ranges = None; room = None }))
+unfolding clap_on_literals
+is_into = refl
+
+-- and such for one with other ranges, and with more room
+is_sought : request_of (codes "fbr" ∷ codes "bound" ∷ codes "cell.fb" ∷ codes "--search" ∷ codes "--room" ∷ codes "2" ∷ []) ≡ Some (a_bound (record { app = codes "cell.fb"; repeats = None; into = None; ranges = Some None; room = Some 2 }))
+unfolding clap_on_literals
+is_sought = refl
+
+-- a number above 255 is none that counts
+is_uncounted : IsMisuse (codes "fbr" ∷ codes "bound" ∷ codes "cell.fb" ∷ codes "--repeats" ∷ codes "256" ∷ [])
+unfolding clap_on_literals
+is_uncounted = record { none = refl; no_help = λ h. h; no_version = λ h. h }
+
+-- such words are a check of these files
+is_check : request_of (codes "fbr" ∷ codes "check" ∷ codes "cell.fb" ∷ codes "cell.cert" ∷ []) ≡ Some (a_check (record { app = codes "cell.fb"; cert = codes "cell.cert" }))
+unfolding clap_on_literals
+is_check = refl
+
+-- and such are a simulation over them
+is_sim : request_of (codes "fbr" ∷ codes "sim" ∷ codes "cell.fb" ∷ codes "cell.cert" ∷ []) ≡ Some (a_sim (record { app = codes "cell.fb"; cert = codes "cell.cert" }))
+unfolding clap_on_literals
+is_sim = refl
+
+-- these are none
+is_misused : IsMisuse (codes "fbr" ∷ codes "check" ∷ codes "cell.fb" ∷ [])
+unfolding clap_on_literals
+is_misused = record { none = refl; no_help = λ h. elim h [ inl e ↦ absurd cc | inr e ↦ e ]; no_version = λ h. elim h [ inl e ↦ absurd cc | inr e ↦ e ] }

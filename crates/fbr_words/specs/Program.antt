@@ -1,0 +1,304 @@
+-- The words of the program, in the terms of the crate that reads them.
+use Rattle.std.specs.Prelude.{◌≡◌, ℕ, ◌==◌, nat_le, ◌&&◌, Bool, false, List, [], ◌∷◌, length, Option, Some, None, true, codes, option_map, option_and_then, if◌then◌else◌}
+use Rattle.std.specs.Str.{bytes_eq}
+use Rattle.clap.specs.Words.{App, Row, Rule, Text, Kinds, first_of, all_of, new_app, new_rule, with_rule, with_subcommand, subcommand_of, fault_of, IsAmong}
+use Rattle.clap.specs.declared.builder.action.ArgAction.TheVariants.{Set, SetTrue, Append}
+use Rattle.clap.specs.declared.error.kind.ErrorKind.TheVariants.{DisplayHelp, DisplayVersion}
+use Rattle.clap.specs.Lexer.{usize_max}
+use Rattle.fb_numbers.specs.Numbers.{number_in, long_number_in}
+
+-- a file that has to be named
+abbrev pub file : Text → Rule
+file id = record (new_rule id) { required = true }
+
+-- a subcommand of this name and its file
+abbrev pub over_file : Text → App
+over_file name = with_rule (new_app name) (file (codes "APP"))
+
+-- a subcommand of this name and its two files
+abbrev pub over_files : Text → App
+over_files name = with_rule (over_file name) (file (codes "CERT"))
+
+-- `--repeats` and its number
+abbrev pub repeats : Rule
+repeats = record (new_rule (codes "repeats")) { long = Some (codes "repeats"); action = Some Set; value_names = 1 }
+
+-- `-o` or `--output`, and the name of a file
+abbrev pub output : Rule
+output = record (new_rule (codes "output")) { long = Some (codes "output"); short = Some 111; action = Some Set; value_names = 1 }
+
+-- `--ranges` and the name of a file
+abbrev pub ranges : Rule
+ranges = record (new_rule (codes "ranges")) { long = Some (codes "ranges"); action = Some Set; value_names = 1 }
+
+-- `--search`
+abbrev pub search : Rule
+search = record (new_rule (codes "search")) { long = Some (codes "search"); action = Some SetTrue }
+
+-- `--room` and its number
+abbrev pub room : Rule
+room = record (new_rule (codes "room")) { long = Some (codes "room"); action = Some Set; value_names = 1 }
+
+-- `bound`, its file, how often datagrams are delivered, the file that is written, which ranges there are, and how much room
+abbrev pub bound : App
+bound = with_rule (with_rule (with_rule (with_rule (with_rule (over_file (codes "bound")) repeats) output) ranges) search) room
+
+-- `check` and its two files
+abbrev pub check : App
+check = over_files (codes "check")
+
+-- `sim` and its two files
+abbrev pub sim : App
+sim = over_files (codes "sim")
+
+-- a file that may be named
+abbrev pub maybe_file : Text → Rule
+maybe_file id = new_rule id
+
+-- `--strict`
+abbrev pub strict : Rule
+strict = record (new_rule (codes "strict")) { long = Some (codes "strict"); action = Some SetTrue }
+
+-- `explain`, its file or number, perhaps another file, how often datagrams are delivered, and `--strict`
+abbrev pub explain : App
+explain = with_rule (with_rule (with_rule (over_file (codes "explain")) (maybe_file (codes "CERT"))) repeats) strict
+
+-- `--flat`
+abbrev pub flat : Rule
+flat = record (new_rule (codes "flat")) { long = Some (codes "flat"); action = Some SetTrue }
+
+-- `--chart` and the name of a block type
+abbrev pub chart : Rule
+chart = record (new_rule (codes "chart")) { long = Some (codes "chart"); action = Some Set; value_names = 1 }
+
+-- `draw`, its file, perhaps another one, how often datagrams are delivered, `--flat`, the block type whose chart is drawn, and the file that is written
+abbrev pub draw : App
+draw = with_rule (with_rule (with_rule (with_rule (with_rule (over_file (codes "draw")) (maybe_file (codes "CERT"))) repeats) flat) chart) output
+
+-- an option that takes a number
+abbrev pub number : Text → Rule
+number id = record (new_rule id) { long = Some id; action = Some Set; value_names = 1 }
+
+-- an option that has to be given one
+abbrev pub needed_number : Text → Rule
+needed_number id = record (number id) { required = true }
+
+-- the ports of peers, as many as are named
+abbrev pub peers : Rule
+peers = record (new_rule (codes "PEER")) { action = Some Append; range = Some (record { start_inclusive = 1; end_inclusive = usize_max }) }
+
+-- `serve`, its two files, its device, its port, how many turns it takes, its boot, and its peers
+abbrev pub serve : App
+serve =
+    with_rule (with_rule (with_rule (with_rule (with_rule (over_files (codes "serve")) (file (codes "DEVICE")))
+    (needed_number (codes "bind"))) (needed_number (codes "turns"))) (number (codes "boot"))) peers
+
+-- the command without its subcommands: it tells its version, and wants a subcommand
+abbrev pub top : App
+top = record { top = record (new_app (codes "fbr")).top { has_version = true; subcommand_required = true }; subs = [] }
+
+abbrev pub program : App
+program = with_subcommand (with_subcommand (with_subcommand (with_subcommand (with_subcommand (with_subcommand top bound.top) check.top) sim.top) explain.top) draw.top) serve.top
+
+-- a number of 1 to 255
+abbrev pub small_in : Option ℕ → Option ℕ
+small_in None = None
+small_in (Some n) = if nat_le 1 n && nat_le n 255 then Some n else None
+
+-- how often datagrams are delivered: not said, or so often; nothing where what is said is no number of 1 to 255
+abbrev pub repeats_in : Option Text → Option (Option ℕ)
+repeats_in None = Some None
+repeats_in (Some word) = elim (small_in (number_in word)) [ None ↦ None | Some n ↦ Some (Some n) ]
+
+-- the file that is written: none where no word names one, or where it is `-`
+abbrev pub into_in : Option Text → Option Text
+into_in None = None
+into_in (Some name) = if bytes_eq name (codes "-") then None else Some name
+
+-- the same of all that a subcommand is given
+abbrev pub into_of : List Row → Option Text
+into_of rows = into_in (first_of (codes "output") rows)
+
+-- ---- what `bound` is asked for
+
+-- a certificate of this file, perhaps with steps over the network; the file that is written where there is one; the file whose ranges are kept, or none, where other
+-- ranges may be found than those of the rounds; and how often there is room for the largest arrival, where that is said
+pub record Sought : Type 0 where
+  pub app : Text
+  pub repeats : Option ℕ
+  pub into : Option Text
+  pub ranges : Option (Option Text)
+  pub room : Option ℕ
+
+abbrev pub is_set : Option Text → Bool
+is_set None = false
+is_set (Some word) = bytes_eq word (codes "true")
+
+-- which ranges, by the name of a file, and whether there is to be a search
+abbrev pub ranges_by : Option Text → Bool → Option (Option Text)
+ranges_by (Some name) wish = Some (Some name)
+ranges_by None wish = if wish then Some None else None
+
+-- all of it, where nothing is missing
+abbrev pub sought_with : Option Text → Option (Option ℕ) → Option Text → Option (Option Text) → Option (Option ℕ) → Option Sought
+sought_with (Some app) (Some often) into kept (Some times) = Some (record { app = app; repeats = often; into = into; ranges = kept; room = times })
+sought_with app often into kept times = None
+
+-- what the words of `bound` ask for; nothing where a number is none
+abbrev pub sought_in : List Row → Option Sought
+sought_in rows =
+    sought_with (first_of (codes "APP") rows) (repeats_in (first_of (codes "repeats") rows)) (into_of rows)
+    (ranges_by (first_of (codes "ranges") rows) (is_set (first_of (codes "search") rows))) (repeats_in (first_of (codes "room") rows))
+
+-- ---- what `check` and `sim` are asked for
+
+-- the files of an application and of a certificate
+pub record Files : Type 0 where
+  pub app : Text
+  pub cert : Text
+
+abbrev pub files_with : Option Text → Option Text → Option Files
+files_with (Some app) (Some cert) = Some (record { app = app; cert = cert })
+files_with app cert = None
+
+abbrev pub files_in : List Row → Option Files
+files_in rows = files_with (first_of (codes "APP") rows) (first_of (codes "CERT") rows)
+
+-- ---- what `explain` and `draw` are asked for
+
+-- a number, or the file of an application; perhaps that of a certificate; how often datagrams are delivered, where that is said; and whether notes count
+pub record Question : Type 0 where
+  pub what : Text
+  pub cert : Option Text
+  pub repeats : Option ℕ
+  pub strict : Bool
+
+abbrev pub question_with : Option Text → Option Text → Option (Option ℕ) → Bool → Option Question
+question_with (Some what) cert (Some often) counts = Some (record { what = what; cert = cert; repeats = often; strict = counts })
+question_with what cert often counts = None
+
+abbrev pub question_in : List Row → Option Question
+question_in rows = question_with (first_of (codes "APP") rows) (first_of (codes "CERT") rows) (repeats_in (first_of (codes "repeats") rows)) (is_set (first_of (codes "strict") rows))
+
+-- the file of an application, perhaps that of a certificate, how often datagrams are delivered, whether there are no boxes, the block type whose chart is drawn, and
+-- the file that is written
+pub record Drawing : Type 0 where
+  pub app : Text
+  pub cert : Option Text
+  pub repeats : Option ℕ
+  pub flat : Bool
+  pub chart : Option Text
+  pub into : Option Text
+
+abbrev pub drawing_with : Option Text → Option Text → Option (Option ℕ) → Bool → Option Text → Option Text → Option Drawing
+drawing_with (Some app) cert (Some often) plain block into = Some (record { app = app; cert = cert; repeats = often; flat = plain; chart = block; into = into })
+drawing_with app cert often plain block into = None
+
+abbrev pub drawing_in : List Row → Option Drawing
+drawing_in rows =
+    drawing_with (first_of (codes "APP") rows) (first_of (codes "CERT") rows) (repeats_in (first_of (codes "repeats") rows)) (is_set (first_of (codes "flat") rows))
+    (first_of (codes "chart") rows) (into_of rows)
+
+-- ---- what `serve` is asked for
+
+-- a device of two files, with its port, its turns, its boot, and the ports that it sends to
+pub record Service : Type 0 where
+  pub app : Text
+  pub cert : Text
+  pub device : Text
+  pub port : ℕ
+  pub turns : ℕ
+  pub boot : ℕ
+  pub peers : List ℕ
+
+abbrev pub nonzero : ℕ → Option ℕ
+nonzero n = if n == 0 then None else Some n
+
+-- a port: a number of 1 to 65535
+abbrev pub port_in : Text → Option ℕ
+port_in word = option_and_then nonzero (number_in word)
+
+abbrev pub before : Option ℕ → Option (List ℕ) → Option (List ℕ)
+before (Some port) (Some ports) = Some (port ∷ ports)
+before one two = None
+
+-- each of the words is a port
+abbrev pub ports_in : List Text → Option (List ℕ)
+ports_in [] = Some []
+ports_in (word ∷ words) = before (port_in word) (ports_in words)
+
+-- the ports of peers, at most 64; none where no word is given
+abbrev pub peers_in : Option (List Text) → Option (List ℕ)
+peers_in None = Some []
+peers_in (Some words) = if nat_le (length words) 64 then ports_in words else None
+
+-- the boot, 0 where none is given
+abbrev pub boot_in : Option Text → Option ℕ
+boot_in None = Some 0
+boot_in (Some word) = long_number_in word
+
+-- all of it, where nothing is missing
+abbrev pub service_with : Option Text → Option Text → Option Text → Option ℕ → Option ℕ → Option ℕ → Option (List ℕ) → Option Service
+service_with (Some app) (Some cert) (Some device) (Some port) (Some turns) (Some boot) (Some ports) =
+    Some (record { app = app; cert = cert; device = device; port = port; turns = turns; boot = boot; peers = ports })
+service_with app cert device port turns boot ports = None
+
+-- what the words of `serve` ask for; nothing where a number or a port is none, or there are more than 64 peers
+abbrev pub service_in : List Row → Option Service
+service_in rows =
+    service_with (first_of (codes "APP") rows) (first_of (codes "CERT") rows) (first_of (codes "DEVICE") rows) (option_and_then port_in (first_of (codes "bind") rows))
+    (option_and_then long_number_in (first_of (codes "turns") rows)) (boot_in (first_of (codes "boot") rows)) (peers_in (all_of (codes "PEER") rows))
+
+-- ---- what the program is asked for
+
+-- a command, with all that its words say
+pub data Asked : Type 0 where
+  a_bound : Sought → Asked
+  a_check : Files → Asked
+  a_sim : Files → Asked
+  an_explain : Question → Asked
+  a_draw : Drawing → Asked
+  a_serve : Service → Asked
+
+-- what the words of a subcommand of this name ask for
+abbrev pub request_in : Text × List Row → Option Asked
+request_in entered =
+    if bytes_eq entered.0 (codes "bound") then option_map a_bound (sought_in entered.1)
+    else (if bytes_eq entered.0 (codes "check") then option_map a_check (files_in entered.1)
+    else (if bytes_eq entered.0 (codes "sim") then option_map a_sim (files_in entered.1)
+    else (if bytes_eq entered.0 (codes "explain") then option_map an_explain (question_in entered.1)
+    else (if bytes_eq entered.0 (codes "draw") then option_map a_draw (drawing_in entered.1)
+    else (if bytes_eq entered.0 (codes "serve") then option_map a_serve (service_in entered.1) else None)))))
+
+-- what is read of words that have these faults: nothing, if there is one
+abbrev pub unless_fault : {X : Type 0} → Kinds → Option X → Option X
+unless_fault [] x = x
+unless_fault (k ∷ ks) x = None
+
+-- what the words ask for: they are the program's, and each number in them is one
+abbrev pub request_of : List Text → Option Asked
+request_of words = unless_fault (fault_of program words) (option_and_then request_in (subcommand_of program words))
+
+-- the words ask for nothing, and neither for help nor for the version
+pub record IsMisuse (words : List Text) : Type 0 where
+  pub none : request_of words ≡ None
+  pub no_help : IsAmong DisplayHelp (fault_of program words) → ⊥
+  pub no_version : IsAmong DisplayVersion (fault_of program words) → ⊥
+
+-- how often datagrams are delivered at most, where that is asked for
+abbrev pub often_of : Asked → Option ℕ
+often_of (a_bound q) = q.repeats
+often_of (a_check q) = None
+often_of (a_sim q) = None
+often_of (an_explain q) = q.repeats
+often_of (a_draw q) = q.repeats
+often_of (a_serve q) = None
+
+-- the file that is written, where one is
+abbrev pub written_by : Asked → Option Text
+written_by (a_bound q) = q.into
+written_by (a_check q) = None
+written_by (a_sim q) = None
+written_by (an_explain q) = None
+written_by (a_draw q) = q.into
+written_by (a_serve q) = None

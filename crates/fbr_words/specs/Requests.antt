@@ -1,0 +1,78 @@
+-- What the program's requests are in the terms of its words.
+use Rattle.std.specs.Prelude.{◌≡◌, ◌⊎◌, List, Option, Some, None, option_map}
+use Rattle.clap.specs.Words.{Text, IsAmong, fault_of}
+use Rattle.clap.specs.declared.error.kind.ErrorKind.TheVariants.{DisplayHelp, DisplayVersion}
+use Rattle.fbr_words.specs.declared.bound.Bound.{Bound as BoundRequest}
+use Rattle.fbr_words.specs.declared.bound.Ranges.{Ranges}
+use Rattle.fbr_words.specs.declared.bound.Ranges.TheVariants.{Rounds, Searched, Within}
+use Rattle.fbr_words.specs.declared.files.TwoFiles.{TwoFiles}
+use Rattle.fbr_words.specs.declared.shown.Explain.{Explain as ExplainRequest}
+use Rattle.fbr_words.specs.declared.shown.Draw.{Draw as DrawRequest}
+use Rattle.fbr_words.specs.declared.serve.Serve.{Serve as ServeRequest}
+use Rattle.fbr_words.specs.declared.request.Request.{Request}
+use Rattle.fbr_words.specs.declared.request.Request.TheVariants.{Bound, Check, Sim, Explain, Draw, Serve}
+use Rattle.fbr_words.specs.declared.reading.Misread.{Misread}
+use Rattle.fbr_words.specs.declared.reading.Misread.TheVariants.{Memory, Help, Words, Number}
+use Rattle.fbr_words.specs.Program.{program, Sought, Files, Question, Drawing, Service, Asked, a_bound, a_check, a_sim, an_explain, a_draw, a_serve, request_of}
+
+-- which ranges are wanted: the file that is named, or that there is a search
+abbrev pub ranges_of : Ranges → Option (Option Text)
+ranges_of Rounds = None
+ranges_of Searched = Some None
+ranges_of (Within name) = Some (Some name.now)
+
+abbrev pub sought_of : BoundRequest → Sought
+sought_of w = record { app = w.app.now; repeats = w.repeats; into = option_map (λ name. name.now) w.into; ranges = ranges_of w.ranges; room = w.room }
+
+abbrev pub files_of : TwoFiles → Files
+files_of f = record { app = f.app.now; cert = f.cert.now }
+
+abbrev pub question_of : ExplainRequest → Question
+question_of q = record { what = q.what.now; cert = option_map (λ name. name.now) q.cert; repeats = q.repeats; strict = q.is_strict }
+
+abbrev pub drawing_of : DrawRequest → Drawing
+drawing_of d =
+    record {
+      app = d.app.now;
+      cert = option_map (λ name. name.now) d.cert;
+      repeats = d.repeats;
+      flat = d.is_flat;
+      chart = option_map (λ name. name.now) d.chart;
+      into = option_map (λ name. name.now) d.into;
+    }
+
+abbrev pub service_of : ServeRequest → Service
+service_of r =
+    record {
+      app = r.app.now;
+      cert = r.cert.now;
+      device = r.device.now;
+      port = r.port;
+      turns = r.turns;
+      boot = r.boot;
+      peers = r.peers.items;
+    }
+
+abbrev pub asked_of : Request → Asked
+asked_of (Bound b) = a_bound (sought_of b)
+asked_of (Check f) = a_check (files_of f)
+asked_of (Sim f) = a_sim (files_of f)
+asked_of (Explain q) = an_explain (question_of q)
+asked_of (Draw d) = a_draw (drawing_of d)
+asked_of (Serve s) = a_serve (service_of s)
+
+-- a number is none
+abbrev pub IsNumber : Misread → Type 0
+IsNumber (Number why) = Unit {0}
+IsNumber other = ⊥
+
+-- the words ask for help or the version
+abbrev pub AskForHelp : List Text → Type 0
+AskForHelp words = IsAmong DisplayHelp (fault_of program words) ⊎ IsAmong DisplayVersion (fault_of program words)
+
+-- why words ask for nothing, unless memory ran out
+abbrev pub IsMisread : List Text → Misread → Type 0
+IsMisread words Memory = Unit {0}
+IsMisread words (Help error) = (request_of words ≡ None) × AskForHelp words
+IsMisread words (Words error) = request_of words ≡ None
+IsMisread words (Number why) = request_of words ≡ None

@@ -1,0 +1,288 @@
+//! The words that the program knows, as they are told to `clap`.
+
+ghost use Rattle.std.specs.Prelude.{◌≡◌, false, true, IfOk};
+ghost use Rattle.clap.specs.Words.{App, Rule, app_of, rule_of, with_rule, with_subcommand};
+ghost use Rattle.fbr_words.specs.Program as program;
+
+use clap::{Arg, ArgAction, Command};
+use std::alloc::{AllocError, Global};
+
+/// The version that `fbr --version` tells.
+pub const VERSION: &str = "0.1.0";
+
+// A file that has to be named.
+fn file<'a>(alloc: Global, id: &'a str, help: &'a str) -> Arg<'a>
+    ensures rule { rule_of result ≡ program.file id.now }
+    ensures local { result.global ≡ false }
+{
+    Arg::new(alloc, id).required(true).help(help)
+}
+
+// A file that may be named.
+fn maybe_file<'a>(alloc: Global, id: &'a str, help: &'a str) -> Arg<'a>
+    ensures rule { rule_of result ≡ program.maybe_file id.now }
+    ensures local { result.global ≡ false }
+{
+    Arg::new(alloc, id).help(help)
+}
+
+// A command with one argument more, where there is one.
+fn with<'a>(
+    command: Result<Command<'a>, AllocError>,
+    arg: Arg<'a>,
+) -> Result<Command<'a>, AllocError>
+    ensures { (app : App) (rule : Rule) → IfOk command.entry (λ c. app_of c ≡ app) → rule_of arg.entry ≡ rule → arg.entry.global ≡ false → IfOk result (λ c. app_of c ≡ with_rule app rule) }
+{
+    match command {
+        Ok(command) => command.arg(arg),
+        Err(fault) => Err(fault),
+    }
+}
+
+// A command with one subcommand more, where there are both.
+fn with_command<'a>(
+    command: Result<Command<'a>, AllocError>,
+    sub: Result<Command<'a>, AllocError>,
+) -> Result<Command<'a>, AllocError>
+    ensures { (app own : App) → IfOk command.entry (λ c. app_of c ≡ app) → IfOk sub.entry (λ c. app_of c ≡ own) → own.top.is_plain ≡ true → IfOk result (λ c. app_of c ≡ with_subcommand app own.top) }
+{
+    match command {
+        Ok(command) => match sub {
+            Ok(sub) => command.subcommand(sub),
+            Err(fault) => Err(fault),
+        },
+        Err(fault) => Err(fault),
+    }
+}
+
+// A subcommand that wants a file.
+fn over_file<'a>(alloc: Global, name: &'a str, about: &'a str) -> Result<Command<'a>, AllocError>
+    ensures { IfOk result (λ c. app_of c ≡ program.over_file name.now) }
+{
+    Command::new(alloc, name)
+        .about(about)
+        .arg(file(alloc, "APP", "The application's text"))
+}
+
+// A subcommand that wants two files.
+fn over_files<'a>(alloc: Global, name: &'a str, about: &'a str) -> Result<Command<'a>, AllocError>
+    ensures { IfOk result (λ c. app_of c ≡ program.over_files name.now) }
+{
+    with(
+        over_file(alloc, name, about),
+        file(alloc, "CERT", "The certificate's text"),
+    )
+}
+
+// The option `--repeats`.
+fn repeats<'a>(alloc: Global) -> Arg<'a>
+    ensures rule { rule_of result ≡ program.repeats }
+    ensures local { result.global ≡ false }
+{
+    let help =
+        "Bounds the steps on all devices too, where each datagram is delivered at most R times to a device (1 to 255)";
+    Arg::new(alloc, "repeats")
+        .long("repeats")
+        .action(ArgAction::Set)
+        .value_name("R")
+        .help(help)
+}
+
+// The option `-o`.
+fn output<'a>(alloc: Global) -> Arg<'a>
+    ensures rule { rule_of result ≡ program.output }
+    ensures local { result.global ≡ false }
+{
+    Arg::new(alloc, "output")
+        .long("output")
+        .short('o')
+        .action(ArgAction::Set)
+        .value_name("FILE")
+        .help("Writes into this file in place of standard output, where nothing is refused")
+}
+
+// The option `--ranges`.
+fn ranges<'a>(alloc: Global) -> Arg<'a>
+    ensures rule { rule_of result ≡ program.ranges }
+    ensures local { result.global ≡ false }
+{
+    Arg::new(alloc, "ranges")
+        .long("ranges")
+        .action(ArgAction::Set)
+        .value_name("FILE")
+        .help(
+            "Keeps the rows RANGE of this certificate, and looks for the other ranges as `--search` does",
+        )
+}
+
+// The option `--search`.
+fn search<'a>(alloc: Global) -> Arg<'a>
+    ensures rule { rule_of result ≡ program.search }
+    ensures local { result.global ≡ false }
+{
+    Arg::new(alloc, "search")
+        .long("search")
+        .action(ArgAction::SetTrue)
+        .help(
+            "Tries harder where an index or a divisor is refused with 44: looks for narrower ranges",
+        )
+}
+
+// The option `--room`.
+fn room<'a>(alloc: Global) -> Arg<'a>
+    ensures rule { rule_of result ≡ program.room }
+    ensures local { result.global ≡ false }
+{
+    let help =
+        "Writes each DEPTH as N times the largest arrival, or as all arrivals together where that is less (1 to 255)";
+    Arg::new(alloc, "room")
+        .long("room")
+        .action(ArgAction::Set)
+        .value_name("N")
+        .help(help)
+}
+
+// The subcommand that finds certificates.
+fn bound<'a>(alloc: Global) -> Result<Command<'a>, AllocError>
+    ensures { IfOk result (λ c. app_of c ≡ program.bound) }
+{
+    let about = "Finds a certificate whose numbers are the least, and prints it";
+    let counted = with(over_file(alloc, "bound", about), repeats(alloc));
+    let written = with(counted, output(alloc));
+    let ranged = with(written, ranges(alloc));
+    let searched = with(ranged, search(alloc));
+    with(searched, room(alloc))
+}
+
+// The option `--strict`.
+fn strict<'a>(alloc: Global) -> Arg<'a>
+    ensures rule { rule_of result ≡ program.strict }
+    ensures local { result.global ≡ false }
+{
+    Arg::new(alloc, "strict")
+        .long("strict")
+        .action(ArgAction::SetTrue)
+        .help("Ends with status 1 too where there are notes")
+}
+
+// The subcommand that explains.
+fn explained<'a>(alloc: Global) -> Result<Command<'a>, AllocError>
+    ensures { IfOk result (λ c. app_of c ≡ program.explain) }
+{
+    let about = "Explains the verdict over an application, or the number of a refusal";
+    let help_app = "The application's text, or a number";
+    let help_cert = "The certificate's text; without it the one that is found";
+    let alone = Command::new(alloc, "explain")
+        .about(about)
+        .arg(file(alloc, "APP", help_app));
+    let both = with(alone, maybe_file(alloc, "CERT", help_cert));
+    let counted = with(both, repeats(alloc));
+    with(counted, strict(alloc))
+}
+
+// The option `--flat`.
+fn flat<'a>(alloc: Global) -> Arg<'a>
+    ensures rule { rule_of result ≡ program.flat }
+    ensures local { result.global ≡ false }
+{
+    Arg::new(alloc, "flat")
+        .long("flat")
+        .action(ArgAction::SetTrue)
+        .help("Draws what composites are made of without boxes around it")
+}
+
+// The option `--chart`.
+fn chart<'a>(alloc: Global) -> Arg<'a>
+    ensures rule { rule_of result ≡ program.chart }
+    ensures local { result.global ≡ false }
+{
+    Arg::new(alloc, "chart")
+        .long("chart")
+        .action(ArgAction::Set)
+        .value_name("TYPE")
+        .help("Draws the execution control chart of this basic block type instead")
+}
+
+// The subcommand that draws.
+fn drawn<'a>(alloc: Global) -> Result<Command<'a>, AllocError>
+    ensures { IfOk result (λ c. app_of c ≡ program.draw) }
+{
+    let about = "Draws the system and its bounds, or a chart, as a graph in DOT for graphviz";
+    let help_cert = "The certificate's text; without it the one that is found";
+    let alone = over_file(alloc, "draw", about);
+    let both = with(alone, maybe_file(alloc, "CERT", help_cert));
+    let counted = with(both, repeats(alloc));
+    let flattened = with(counted, flat(alloc));
+    let charted = with(flattened, chart(alloc));
+    with(charted, output(alloc))
+}
+
+// An option that takes a number, which help calls so.
+fn number<'a>(alloc: Global, id: &'a str, value: &'a str, help: &'a str) -> Arg<'a>
+    ensures rule { rule_of result ≡ program.number id.now }
+    ensures local { result.global ≡ false }
+{
+    Arg::new(alloc, id)
+        .long(id)
+        .action(ArgAction::Set)
+        .value_name(value)
+        .help(help)
+}
+
+// The same, which has to be given.
+fn needed_number<'a>(alloc: Global, id: &'a str, value: &'a str, help: &'a str) -> Arg<'a>
+    ensures rule { rule_of result ≡ program.needed_number id.now }
+    ensures local { result.global ≡ false }
+{
+    number(alloc, id, value, help).required(true)
+}
+
+// The ports of peers.
+fn peers<'a>(alloc: Global) -> Arg<'a>
+    ensures rule { rule_of result ≡ program.peers }
+    ensures local { result.global ≡ false }
+{
+    Arg::new(alloc, "PEER")
+        .action(ArgAction::Append)
+        .num_args(1..)
+        .help("The ports on 127.0.0.1 that it sends to, at most 64")
+}
+
+// The subcommand that runs a device over UDP.
+fn served<'a>(alloc: Global) -> Result<Command<'a>, AllocError>
+    ensures { IfOk result (λ c. app_of c ≡ program.serve) }
+{
+    let about = "Runs a device over UDP on 127.0.0.1, and prints what its OUTPUTs write";
+    let help_device = "The name of the device";
+    let help_bind = "The port that it receives at";
+    let help_turns =
+        "How many turns it takes: 16 datagrams are received at most, and each resource is dispatched once";
+    let help_boot =
+        "The boot that its messages of format 2 are stamped with, 0 where none is given; let it grow with each start";
+    let both = over_files(alloc, "serve", about);
+    let device = with(both, file(alloc, "DEVICE", help_device));
+    let port = with(device, needed_number(alloc, "bind", "PORT", help_bind));
+    let turns = with(port, needed_number(alloc, "turns", "N", help_turns));
+    let boot = with(turns, number(alloc, "boot", "B", help_boot));
+    with(boot, peers(alloc))
+}
+
+/// All of them.
+pub fn commands<'a>(alloc: Global) -> Result<Command<'a>, AllocError>
+    ensures { IfOk result (λ c. app_of c ≡ program.program) }
+{
+    let about_check = "Checks that a certificate fits an application";
+    let check = over_files(alloc, "check", about_check)?;
+    let about_sim = "Checks two texts, and runs the script on standard input";
+    let sim = over_files(alloc, "sim", about_sim);
+    let top = Command::new(alloc, "fbr")
+        .about("Proves bounds of function block applications before they run")
+        .version(VERSION)
+        .subcommand_required(true);
+    let finds = with_command(Ok(top), bound(alloc));
+    let checks = with_command(finds, Ok(check));
+    let runs = with_command(checks, sim);
+    let explains = with_command(runs, explained(alloc));
+    let draws = with_command(explains, drawn(alloc));
+    with_command(draws, served(alloc))
+}

@@ -1,0 +1,20 @@
+//! Room: program. The command line of `fbr`: reads its words as a request, or reports why they are not one.
+//! `read_words` answers exactly the request that the words are, unless memory runs out; words that it refuses are none.
+#![tactic(auto)]
+
+mod bound;
+mod files;
+mod given;
+mod grammar;
+mod reading;
+mod request;
+mod serve;
+mod shown;
+
+pub use bound::{Bound, Ranges};
+pub use files::TwoFiles;
+pub use grammar::VERSION;
+pub use reading::{Misread, read_words};
+pub use request::Request;
+pub use serve::Serve;
+pub use shown::{Draw, Explain};

@@ -1,0 +1,86 @@
+//! Words to what they ask for.
+
+ghost use Rattle.std.specs.Prelude.{◌≡◌, ◌≢◌, ◌≤◌, map, option_map, option_and_then, IfErr, IfOk, IfSome, MatchResult, Some, None};
+ghost use Rattle.std.specs.Prelude.{List};
+ghost use Rattle.clap.specs.Words.{Text, HasKind, rows_of, found_of, fault_of, subcommand_rows_of};
+ghost use Rattle.fbr_words.specs.Program as program;
+ghost use Rattle.fbr_words.specs.Requests.{asked_of, IsNumber, IsMisread};
+
+use crate::grammar::commands;
+use crate::request::{Request, request_in};
+use clap::error::ErrorKind;
+use clap::{ArgMatches, Error};
+use std::alloc::Global;
+
+/// Why words ask for nothing.
+#[derive(Drop)]
+pub enum Misread {
+    /// Memory ran out.
+    Memory,
+    /// They ask for help or the version, which the error tells.
+    Help(Error),
+    /// They are none of the program's, and the error tells why.
+    Words(Error),
+    /// A number or a port in them is none, and this says which there can be.
+    Number(&'static str),
+}
+
+// What people are told where the number behind `--repeats` or `--room` is none.
+const UNCOUNTED: &str = "fbr: `--repeats` and `--room` take a number of 1 to 255";
+
+// What people are told where a number of `serve` is none.
+const UNNUMBERED: &str =
+    "fbr: a port is a number of 1 to 65535, with at most 64 peers, and `--turns` and `--boot` take numbers of 32 bits";
+
+// The subcommand that the words name, with what they give to it.
+fn entered<'a, 'b>(matches: &'b ArgMatches<'a>) -> Option<(&'a str, &'b ArgMatches<'a>)>
+    ensures { option_map (λ sub. (sub.0.now, rows_of (found_of sub.1.now))) result ≡ subcommand_rows_of matches.now }
+{
+    matches.subcommand()
+}
+
+// What matched words ask for.
+fn request<'a>(matches: &ArgMatches<'a>) -> Result<Request<'a>, Misread>
+    ensures asked { MatchResult result (λ r. option_and_then program.request_in (subcommand_rows_of matches.now) ≡ Some (asked_of r)) (λ _. option_and_then program.request_in (subcommand_rows_of matches.now) ≡ None) }
+    ensures some { IfOk result (λ r. IfSome (program.often_of (asked_of r)) (λ n. 1 ≤ n)) }
+    ensures number { IfErr result IsNumber }
+{
+    match entered(matches) {
+        Some((name, words)) => match request_in(name, words) {
+            Some(request) => Ok(request),
+            None => Err(Misread::Number(if name == "serve" {
+                UNNUMBERED
+            } else {
+                UNCOUNTED
+            })),
+        },
+        None => Err(Misread::Number(UNCOUNTED)),
+    }
+}
+
+// Why clap matched nothing.
+fn unmatched(error: Error) -> Misread
+    ensures { (words : List Text) → HasKind (fault_of program.program words) error → IsMisread words result }
+{
+    match error.kind() {
+        ErrorKind::DisplayHelp | ErrorKind::DisplayVersion => Misread::Help(error),
+        ErrorKind::OutOfMemory => Misread::Memory,
+        _ => Misread::Words(error),
+    }
+}
+
+/// What words ask for, of which the first is the program's own name.
+pub fn read_words<'a>(alloc: Global, words: &'a [&'a str]) -> Result<Request<'a>, Misread>
+    ensures asked { IfOk result (λ r. program.request_of (map (λ word. word.now) words.now) ≡ Some (asked_of r)) }
+    ensures some { IfOk result (λ r. IfSome (program.often_of (asked_of r)) (λ n. 1 ≤ n)) }
+    ensures misread { IfErr result (IsMisread (map (λ word. word.now) words.now)) }
+{
+    let command = match commands(alloc) {
+        Ok(command) => command,
+        Err(_) => return Err(Misread::Memory),
+    };
+    match command.try_get_matches_from(words) {
+        Ok(matches) => request(&matches),
+        Err(error) => Err(unmatched(error)),
+    }
+}
