@@ -1,6 +1,8 @@
 -- Rows that a text can say, and one more.
-use Rattle.std.proofs.Common.{◌≡◌, ℕ, ℤ, ◌≤ℤ◌, int_le, arith, Bool, true, false, not, Result, Ok, Err, IfOk, IfErr, List, [], ◌∷◌, ◌++◌, refl, sym, subst, append_assoc}
+use Rattle.std.proofs.Common.{◌≡◌, ℕ, zero, suc, ℤ, ◌≤ℤ◌, int_le, arith, Bool, true, false, not, ◌||◌, Result, Ok, Err, IfOk, IfErr, List, [], ◌∷◌, ◌++◌, refl, sym, ap, ◌∙◌, subst, append_assoc}
 use Rattle.std.specs.Prelude.{nat_le}
+use Rattle.std.specs.Str.{bytes_eq}
+use Rattle.indexmap.specs.IndexMap.{set_value_at}
 use Rattle.std.proofs.lemmas.List.{append-nil}
 use Rattle.std.proofs.lemmas.Int.{ints}
 use Rattle.std.proofs.lemmas.Bool.{leb-true}
@@ -8,7 +10,7 @@ use Rattle.std.proofs.lemmas.Slice.Eq.{bytes_eq-Decides}
 use Rattle.fb_model.specs.Spelling.{upper}
 use Rattle.fb_model.specs.Spans.{span}
 use Rattle.fb_model.specs.CertificateText.{TextRow, repeats, range, charge, weight, depth, far, far_state, channel, IsDotted, most_steps, most_places}
-use Rattle.fb_cert.specs.Rows.{Table, Rows, no_rows, has_path, has_number}
+use Rattle.fb_cert.specs.Rows.{Table, Rows, no_rows, has_path, has_number, with_depth_at}
 use Rattle.fb_cert.specs.Views.{amount, has_row, with_row, AddsRow}
 use Rattle.fb_cert.specs.Sayable.{IsUpperPath, IsRange, IsAmount, IsWithin, IsChannel, IsSayable, AreRows, SaysAtPath, ArePathRows, AreSayable}
 use Rattle.fb_cert.specs.Reading.{is_path}
@@ -73,3 +75,35 @@ added_sayable (Ok false) old new e a s h k = subst AreSayable (sym h.1) a
 
 pub int_le_true : (a b : ℤ) → a ≤ℤ b → int_le a b ≡ true
 int_le_true a b h = grind (arith, ints)
+
+-- ---- another depth
+
+-- rows of the same paths
+abbrev AreAlike : Table ℕ → Table ℕ → Type 0
+AreAlike rs ss = (p : List ℕ) → has_path p rs ≡ has_path p ss
+
+alike_more : (rs ss : Table ℕ) (p : List ℕ) (n m : ℕ) → AreAlike rs ss → AreAlike (rs ++ (p, n) ∷ []) (ss ++ (p, m) ∷ [])
+alike_more rs ss p n m h q = at_end rs n ∙ ap (λ b. b || (bytes_eq q p || false)) (h q) ∙ sym (at_end ss m)
+  where
+    or_assoc : (a b c : Bool) → a || (b || c) ≡ (a || b) || c
+    or_assoc true b c = refl
+    or_assoc false b c = refl
+    at_end : (ts : Table ℕ) (k : ℕ) → has_path q (ts ++ (p, k) ∷ []) ≡ has_path q ts || (bytes_eq q p || false)
+    at_end [] k = refl
+    at_end (t ∷ ts) k = ap (λ b. bytes_eq q t.0 || b) (at_end ts k) ∙ or_assoc (bytes_eq q t.0) (has_path q ts) (bytes_eq q p || false)
+
+abbrev DepthsAre : Table ℕ → Table ℕ → Type 0
+DepthsAre before rs = AreRows (SaysAtPath (IsWithin 1 most_places)) (λ r earlier. has_path r.0 earlier) before rs
+
+depths_alike : (before other rs : Table ℕ) → AreAlike other before → DepthsAre before rs → DepthsAre other rs
+depths_alike before other [] same h = tt
+depths_alike before other (r ∷ rs) same h = (h.0, same r.0 ∙ h.1, depths_alike (before ++ r ∷ []) (other ++ r ∷ []) rs (alike_more other before r.0 r.1 r.1 same) h.2)
+
+depths_set : (before other rs : Table ℕ) (i n : ℕ) → AreAlike other before → IsWithin 1 most_places n → DepthsAre before rs → DepthsAre other (set_value_at rs i n)
+depths_set before other [] i n same w h = tt
+depths_set before other (r ∷ rs) zero n same w h = ((h.0.0, w), same r.0 ∙ h.1, depths_alike (before ++ r ∷ []) (other ++ (r.0, n) ∷ []) rs (alike_more other before r.0 n r.1 same) h.2)
+depths_set before other (r ∷ rs) (suc i) n same w h = (h.0, same r.0 ∙ h.1, depths_set (before ++ r ∷ []) (other ++ r ∷ []) rs i n (alike_more other before r.0 r.1 r.1 same) w h.2)
+
+pub sayable_depth : (rs : Rows) (i n : ℕ) → AreSayable rs → IsWithin 1 most_places n → AreSayable (with_depth_at i n rs)
+sayable_depth rs i n a w =
+    record { repeats_are = a.repeats_are; ranges_are = a.ranges_are; charges_are = a.charges_are; weights_are = a.weights_are; depths_are = depths_set [] [] rs.depths i n (λ p. refl) w a.depths_are; fars_are = a.fars_are; far_states_are = a.far_states_are; channels_are = a.channels_are }

@@ -1,11 +1,11 @@
 -- Tables of rows against maps.
-use Rattle.std.proofs.Common.{◌≡◌, ℕ, Bool, true, false, not, cond, ◌||◌, List, [], ◌∷◌, ◌++◌, map, Option, Some, is_some, Result, Ok, Err, IfOk, refl, sym, ap, subst, ◌∙◌, string_bytes}
+use Rattle.std.proofs.Common.{◌≡◌, ◌<◌, ℕ, zero, suc, Bool, true, false, not, cond, ◌||◌, List, [], ◌∷◌, ◌++◌, length, map, Option, Some, is_some, Result, Ok, Err, IfOk, refl, sym, ap, subst, ◌∙◌, string_bytes, arith}
 use Rattle.std.specs.Prelude.{◌==◌, nat_eq}
 use Rattle.std.specs.Map.{lookup}
 use Rattle.std.specs.Str.{bytes_eq}
 use Rattle.std.specs.declared.string.String.{String}
 use Rattle.std.specs.declared.alloc.Global.{Global}
-use Rattle.indexmap.specs.IndexMap.{insert_entry}
+use Rattle.indexmap.specs.IndexMap.{insert_entry, set_value_at}
 use Rattle.fb_model.specs.Spans.{Span}
 use Rattle.fb_model.specs.CertificateText.{range}
 use Rattle.std.specs.Option.{option_map}
@@ -45,6 +45,19 @@ pub adds : {V : Type 0} (es new : List (String Global × V)) (k : String Global)
 adds es new k path v e h n =
     let g : has_path (string_bytes k) (entries_of es) ≡ false = subst (λ p. has_path p (entries_of es) ≡ false) (sym e) h in
     (sym (ap not h), ap entries_of n ∙ subst (λ p. entries_of (insert_entry (λ a b. bytes_eq (string_bytes a) (string_bytes b)) es k v) ≡ entries_of es ++ (p, v) ∷ []) e (entries_with es k v g))
+
+-- ---- another value at an index
+
+pub entries_set : {V : Type 0} (es : List (String Global × V)) (i : ℕ) (v : V) → entries_of (set_value_at es i v) ≡ set_value_at (entries_of es) i v
+entries_set [] i v = refl
+entries_set (e ∷ es) zero v = refl
+entries_set (e ∷ es) (suc i) v = ap (λ r. (string_bytes e.0, e.1) ∷ r) (entries_set es i v)
+
+-- past the last row nothing changes
+pub entries_past : {V : Type 0} (es : List (String Global × V)) (i : ℕ) (v : V) → (i < length es → ⊥) → entries_of es ≡ set_value_at (entries_of es) i v
+entries_past [] i v out = refl
+entries_past (e ∷ es) zero v out = absurd (out (grind (arith)))
+entries_past (e ∷ es) (suc i) v out = ap (λ r. (string_bytes e.0, e.1) ∷ r) (entries_past es i v (λ h. out (grind (arith))))
 
 -- ---- rows by their numbers
 

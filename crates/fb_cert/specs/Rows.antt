@@ -4,7 +4,7 @@ use Rattle.std.specs.List.{list_any}
 use Rattle.std.specs.Str.{bytes_eq}
 use Rattle.std.specs.declared.string.String.{String}
 use Rattle.std.specs.declared.alloc.Global.{Global}
-use Rattle.indexmap.specs.IndexMap.{IndexMap}
+use Rattle.indexmap.specs.IndexMap.{IndexMap, set_value_at}
 use Rattle.fb_model.specs.Certificates as book
 use Rattle.fb_model.specs.Ranges.{Range}
 use Rattle.fb_model.specs.Spans.{Span}
@@ -62,6 +62,10 @@ rows_in c =
       far_states = texts_of c.far_states;
       channels = c.channels.entries;
     }
+
+-- the rows with another depth at an index; past the last row nothing changes
+abbrev pub with_depth_at : ℕ → ℕ → Rows → Rows
+with_depth_at index depth rows = record rows { depths = set_value_at rows.depths index depth }
 
 abbrev pub range_rows : Table Span → List Range
 range_rows rows = map (λ r. range_row r.0 r.1.low r.1.high) rows

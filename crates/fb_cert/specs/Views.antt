@@ -6,7 +6,7 @@ use Rattle.fb_ranges_intervals.specs.declared.interval.Interval.{Interval}
 use Rattle.fb_ranges_intervals.specs.Views.{span_of}
 use Rattle.fb_cert.specs.declared.certificate.Amount.{Amount}
 use Rattle.fb_cert.specs.declared.certificate.Certificate.{Certificate}
-pub use Rattle.fb_cert.specs.Rows.{Table, texts_of, spans_of, has_path, has_number, amount, Rows, no_rows, rows_in, range_rows, amount_rows, depth_rows, far_rows, channel_rows, book_of}
+pub use Rattle.fb_cert.specs.Rows.{Table, texts_of, spans_of, has_path, has_number, amount, Rows, no_rows, rows_in, with_depth_at, range_rows, amount_rows, depth_rows, far_rows, channel_rows, book_of}
 use denote.Ref.{Bor}
 use Rattle.fb_model.specs.Certificates as book
 use Rattle.fb_model.specs.Ranges.{Range}

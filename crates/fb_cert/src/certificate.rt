@@ -4,15 +4,15 @@ ghost use Rattle.std.specs.Prelude.{◌≡◌, ◌==◌, ◌&&◌, not, length, 
 ghost use Rattle.std.specs.Map.{lookup};
 ghost use Rattle.std.specs.Option.{option_map};
 ghost use Rattle.fb_ranges_intervals.specs.Views.{span_of};
-ghost use Rattle.fb_cert.specs.Views.{rows_of, no_rows, text_row_of, has_row, with_row, first_at, shown, span_shown, row_shown, depth_shown, far_shown, channel_shown, range_shown, certificate_of, steps_in, places_in, count_in, span_in};
-ghost use Rattle.fb_cert.specs.Adding.{is_sayable};
+ghost use Rattle.fb_cert.specs.Views.{rows_of, no_rows, text_row_of, has_row, with_row, with_depth_at, first_at, shown, span_shown, row_shown, depth_shown, far_shown, channel_shown, range_shown, certificate_of, steps_in, places_in, count_in, span_in};
+ghost use Rattle.fb_cert.specs.Adding.{is_sayable, is_within};
 ghost use Rattle.fb_model.specs.Certificates as book;
-ghost use Rattle.fb_model.specs.CertificateText.{place_of, names_in, all_but_last, last_name, IsTold};
+ghost use Rattle.fb_model.specs.CertificateText.{place_of, names_in, all_but_last, last_name, most_places, IsTold};
 ghost use Rattle.fb_model.specs.Ranges.{row_at};
 ghost use Rattle.fb_model.specs.System.{Variable};
 
 use crate::lists::Lists;
-use crate::row::Row;
+use crate::row::{MOST_PLACES, Row};
 use crate::sayable::is_sayable;
 use fb_ranges_intervals::Interval;
 use std::alloc::{AllocError, Global};
@@ -64,6 +64,19 @@ impl Certificate {
             return Ok(false);
         }
         self.lists.add(alloc, row)
+    }
+
+    /// Puts another number into the row `DEPTH` at an index in text order, if a text can say it: from 1 to 4,096. Says whether it can. Where there is no
+    /// such row nothing changes.
+    pub fn set_depth(&mut self, index: usize, depth: u64) -> bool
+        ensures tells { result ≡ is_within 1 most_places depth }
+        ensures set { rows_of self.new ≡ (if result then with_depth_at index depth (rows_of self.old) else rows_of self.old) }
+    {
+        if depth < 1 || depth > MOST_PLACES {
+            return false;
+        }
+        self.lists.set_depth(index, depth);
+        true
     }
 
     /// Lets the certificate go. (A crate that lets it go by itself proves the end of each of its parts anew; this call is proved once.)

@@ -2,7 +2,8 @@
 
 ghost use Rattle.std.specs.Prelude.{◌≡◌, IfOk, IfErr};
 ghost use Rattle.fb_model.specs.CertificateText.{repeats};
-ghost use Rattle.fb_cert.specs.Views.{rows_in, no_rows, texts_of, has_number, Adds, AddsNew, AddsRow, text_row_of};
+ghost use Rattle.indexmap.specs.IndexMap.{set_value_at};
+ghost use Rattle.fb_cert.specs.Views.{rows_in, with_depth_at, no_rows, texts_of, has_number, Adds, AddsNew, AddsRow, text_row_of};
 
 use crate::certificate::Amount;
 use crate::row::Row;
@@ -38,6 +39,15 @@ fn add<V: Drop>(
     }
     rows.insert(String::from_str(alloc, path)?, value)?;
     Ok(true)
+}
+
+// Puts another value into the row at an index, where there is one.
+fn set_at(rows: &mut IndexMap<String, u64>, index: usize, value: u64)
+    ensures { texts_of rows.new ≡ set_value_at (texts_of rows.old) index value }
+{
+    if let Some(old) = rows.get_index_mut(index) {
+        *old = value;
+    }
 }
 
 // Ends rows of one kind.
@@ -91,6 +101,13 @@ impl Lists {
         }
         self.repeats = Some(number);
         true
+    }
+
+    /// Puts another depth into the row at an index, where there is one.
+    pub(crate) fn set_depth(&mut self, index: usize, depth: u64)
+        ensures { rows_in self.new ≡ with_depth_at index depth (rows_in self.old) }
+    {
+        set_at(&mut self.depths, index, depth);
     }
 
     /// Adds a row at the end, unless its path or number stands in an earlier one of its kind; says whether it is new.

@@ -1,13 +1,14 @@
 //! Files that are written.
 
 ghost use Rattle.std.specs.Prelude.{◌≡◌, ◌≤◌, IfOk, option_map, true, false};
+ghost use Rattle.fbr_files.specs.Outcomes.{IsReadFault};
 ghost use Rattle.fbr_files.specs.Writing.{AreApart, LeavesOthers, Meet, Writes};
 
 use crate::fault::Fault;
 use crate::outcome::print_outcome;
 use crate::sources::Sources;
 use std::io;
-use std::io::Write;
+use std::io::{ErrorKind, Write};
 
 /// Whether the file that is written, where one is, is another than a file that is read, where one is.
 pub fn into_another<S: Sources>(files: &S, into: Option<&str>, read: Option<&str>) -> bool
@@ -20,6 +21,17 @@ pub fn into_another<S: Sources>(files: &S, into: Option<&str>, read: Option<&str
             None => true,
         },
         None => true,
+    }
+}
+
+// What a file of this name could not be written for: want of memory, or any other reason.
+fn fault_of<'a>(error: &io::Error, name: &'a str) -> Fault<'a>
+    ensures { IsReadFault name.now result }
+{
+    if error.kind() == ErrorKind::OutOfMemory {
+        Fault::Memory
+    } else {
+        Fault::File(name)
     }
 }
 
@@ -37,9 +49,9 @@ pub fn write_into<'a, S: Sources, W: Write, E: Write>(
 {
     match files.write(name, text) {
         Ok(()) => Ok(0),
-        Err(_) => {
+        Err(error) => {
             let _ = writeln!(errors, "fbr: {name} could not be written");
-            print_outcome(Err(Fault::File(name)), output)
+            print_outcome(Err(fault_of(&error, name)), output)
         }
     }
 }
