@@ -88,6 +88,7 @@ alike_more rs ss p n m h q = at_end rs n ∙ ap (λ b. b || (bytes_eq q p || fal
     or_assoc : (a b c : Bool) → a || (b || c) ≡ (a || b) || c
     or_assoc true b c = refl
     or_assoc false b c = refl
+
     at_end : (ts : Table ℕ) (k : ℕ) → has_path q (ts ++ (p, k) ∷ []) ≡ has_path q ts || (bytes_eq q p || false)
     at_end [] k = refl
     at_end (t ∷ ts) k = ap (λ b. bytes_eq q t.0 || b) (at_end ts k) ∙ or_assoc (bytes_eq q t.0) (has_path q ts) (bytes_eq q p || false)
