@@ -1,1 +1,3 @@
+mod Ports
 mod Sending
+mod Taking

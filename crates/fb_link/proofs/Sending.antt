@@ -1,7 +1,8 @@
--- Sends to one port after another.
+-- Sends to one address after another.
 use Rattle.std.proofs.Common.{arith, ◌≡◌, ℕ, ◌+◌, ◌<◌, ◌≤◌, List, [], ◌∷◌, ◌++◌, length, take, Bool, true, false, ◌&&◌, not, refl, sym, ◌∙◌, ap, subst, append_assoc, length-append}
 use Rattle.std.proofs.Math.ListN.{get_or}
 use Rattle.std.proofs.lemmas.List.{take_more, append-nil}
+use Rattle.std.specs.declared.net.socket_addr.SocketAddr.{SocketAddr}
 use Rattle.fb_link.specs.Socket.{SocketCall, SentTo, SendsToEach}
 
 and_true : (a : Bool) → a ≡ a && true
@@ -22,24 +23,24 @@ pub without_failure : (done one err new : Bool) → one ≡ not err → err ≡ 
 without_failure true one err new e f h = e ∙ (ap not f ∙ sym h)
 without_failure false one err new e f h = sym h
 
--- one send more, to a port behind these
-sends_more : {S : Type 0} (does : S → SocketCall → S → Type 0) (bytes ports : List ℕ) (port : ℕ) (s : S) (ok : Bool) (m : S) (one : Bool) (t : S) → SendsToEach does bytes ports s ok m → does m (SentTo port bytes one) t → SendsToEach does bytes (ports ++ port ∷ []) s (ok && one) t
-sends_more does bytes [] port s ok m one t h call =
-    (one, t, subst (λ x. does x (SentTo port bytes one) t) (sym h.0) call, true, (refl, refl), ap (λ x. x && one) h.1 ∙ and_true one)
-sends_more does bytes (p ∷ ps) port s ok m one t h call =
-    (h.0, h.1, h.2, h.3 && one, sends_more does bytes ps port h.1 h.3 m one t h.4 call, ap (λ x. x && one) h.5 ∙ and_assoc h.0 h.3 one)
+-- one send more, to an address behind these
+sends_more : {S : Type 0} (does : S → SocketCall → S → Type 0) (bytes : List ℕ) (peers : List SocketAddr) (peer : SocketAddr) (s : S) (ok : Bool) (m : S) (one : Bool) (t : S) → SendsToEach does bytes peers s ok m → does m (SentTo peer bytes one) t → SendsToEach does bytes (peers ++ peer ∷ []) s (ok && one) t
+sends_more does bytes [] peer s ok m one t h call =
+    (one, t, subst (λ x. does x (SentTo peer bytes one) t) (sym h.0) call, true, (refl, refl), ap (λ x. x && one) h.1 ∙ and_true one)
+sends_more does bytes (p ∷ ps) peer s ok m one t h call =
+    (h.0, h.1, h.2, h.3 && one, sends_more does bytes ps peer h.1 h.3 m one t h.4 call, ap (λ x. x && one) h.5 ∙ and_assoc h.0 h.3 one)
 
--- the send to the next of these ports
-pub sends_next : {S : Type 0} (does : S → SocketCall → S → Type 0) (bytes ports : List ℕ) (i : ℕ) (s : S) (ok : Bool) (m : S) (one : Bool) (t : S) (new : Bool) → i < length ports → SendsToEach does bytes (take i ports) s ok m → does m (SentTo (get_or ports i 0) bytes one) t → ok && one ≡ new → SendsToEach does bytes (take (i + 1) ports) s new t
-sends_next does bytes ports i s ok m one t new lt h call e =
-    let more = sends_more does bytes (take i ports) (get_or ports i 0) s ok m one t h call in
-    subst (λ all. SendsToEach does bytes all s new t) (sym (take_more ports i 0 lt)) (subst (λ x. SendsToEach does bytes (take i ports ++ get_or ports i 0 ∷ []) s x t) e more)
+-- the send to the next of these addresses
+pub sends_next : {S : Type 0} (does : S → SocketCall → S → Type 0) (bytes : List ℕ) (peers : List SocketAddr) (i : ℕ) (d : SocketAddr) (s : S) (ok : Bool) (m : S) (one : Bool) (t : S) (new : Bool) → i < length peers → SendsToEach does bytes (take i peers) s ok m → does m (SentTo (get_or peers i d) bytes one) t → ok && one ≡ new → SendsToEach does bytes (take (i + 1) peers) s new t
+sends_next does bytes peers i d s ok m one t new lt h call e =
+    let more = sends_more does bytes (take i peers) (get_or peers i d) s ok m one t h call in
+    subst (λ all. SendsToEach does bytes all s new t) (sym (take_more peers i d lt)) (subst (λ x. SendsToEach does bytes (take i peers ++ get_or peers i d ∷ []) s x t) e more)
 
--- a socket that keeps the first 256 ports that it sends to keeps those of a send, in order
-pub ports_in_order : {S : Type 0} (does : S → SocketCall → S → Type 0) (kept : S → List ℕ) → ((s : S) (port : ℕ) (bytes : List ℕ) (ok : Bool) (t : S) → does s (SentTo port bytes ok) t → length (kept s) < 256 → kept t ≡ kept s ++ port ∷ []) → (bytes ports : List ℕ) (s : S) (ok : Bool) (t : S) → SendsToEach does bytes ports s ok t → length (kept s) + length ports ≤ 256 → kept t ≡ kept s ++ ports
-ports_in_order does kept keeps bytes [] s ok t h few = ap kept (sym h.0) ∙ sym (append-nil (kept s))
-ports_in_order does kept keeps bytes (port ∷ ports) s ok t h few =
-    let first = keeps s port bytes h.0 h.1 h.2 (omega (arith, few)) in
-    let longer : length (kept h.1) ≡ length (kept s) + 1 = ap length first ∙ length-append (kept s) (port ∷ []) in
-    let rest = ports_in_order does kept keeps bytes ports h.1 h.3 t h.4 (omega (arith, longer, few)) in
-    rest ∙ (ap (λ all. all ++ ports) first ∙ append_assoc (kept s) (port ∷ []) ports)
+-- a socket that keeps the first 256 addresses that it sends to keeps those of a send, in order
+pub peers_in_order : {S : Type 0} (does : S → SocketCall → S → Type 0) (kept : S → List SocketAddr) → ((s : S) (peer : SocketAddr) (bytes : List ℕ) (ok : Bool) (t : S) → does s (SentTo peer bytes ok) t → length (kept s) < 256 → kept t ≡ kept s ++ peer ∷ []) → (bytes : List ℕ) (peers : List SocketAddr) (s : S) (ok : Bool) (t : S) → SendsToEach does bytes peers s ok t → length (kept s) + length peers ≤ 256 → kept t ≡ kept s ++ peers
+peers_in_order does kept keeps bytes [] s ok t h few = ap kept (sym h.0) ∙ sym (append-nil (kept s))
+peers_in_order does kept keeps bytes (peer ∷ peers) s ok t h few =
+    let first = keeps s peer bytes h.0 h.1 h.2 (omega (arith, few)) in
+    let longer : length (kept h.1) ≡ length (kept s) + 1 = ap length first ∙ length-append (kept s) (peer ∷ []) in
+    let rest = peers_in_order does kept keeps bytes peers h.1 h.3 t h.4 (omega (arith, longer, few)) in
+    rest ∙ (ap (λ all. all ++ peers) first ∙ append_assoc (kept s) (peer ∷ []) peers)

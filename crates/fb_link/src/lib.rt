@@ -3,6 +3,7 @@
 //! datagrams at a socket of the system is outside any contract, and so is how long a wait takes. `fbr serve` runs devices over `UdpLink`.
 #![tactic(auto)]
 
+mod addresses;
 mod link;
 mod memory;
 mod socket;

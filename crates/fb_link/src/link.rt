@@ -5,6 +5,8 @@ ghost use Rattle.fb_link.specs.Link.{LinkCall, Sent, receipt, IsWithin, failures
 ghost use Rattle.fb_link.specs.declared.link.Received.{Received};
 ghost use Rattle.fb_link.specs.declared.link.Received.TheVariants.{Nothing};
 
+use std::time::Duration;
+
 /// What a receive answers.
 #[derive(Clone, Copy)]
 pub enum Received {
@@ -43,8 +45,8 @@ pub trait Link {
     fn failures(&self) -> u64
         ensures { result ≡ count self.now };
 
-    /// Waits until a datagram may be there, a few milliseconds at most. A link that cannot wait returns at once.
-    fn wait(&self) {}
+    /// Waits until a datagram may be there, at most so long. A link that cannot wait returns at once.
+    fn wait(&self, _most: Duration) {}
 }
 
 /// What takes the values that the OUTPUTs of a device write.

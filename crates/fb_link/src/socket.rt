@@ -3,75 +3,76 @@
 ghost use Rattle.std.specs.Prelude.{◌≡◌, ◌≤◌, ℕ, length, IfOk, is_ok};
 ghost use Rattle.fb_link.specs.Socket.{SocketCall, SentTo, taking, IsHere};
 
+use libc::net::{POLLIN, poll};
+use libc::types::pollfd;
 use std::io;
 use std::io::ErrorKind;
 use std::net::{Ipv4Addr, Net, SocketAddr, SocketAddrV4, UdpSocket};
+use std::os::fd::AsRawFd;
 use std::time::Duration;
 
-/// How long `wait` of a socket of the system waits at most, in milliseconds.
-const IDLE: u64 = 5;
-
-/// What a link over UDP asks of a socket. Peers are ports of this machine, and no call but `wait` waits.
+/// What a link over UDP asks of a socket. No call but `wait` waits.
 ///
 /// A socket tells by `does` what a call does; one that leaves it out tells nothing.
 pub trait Socket {
     /// What a call does. A socket that tells nothing allows all.
     ghost does: { Self → SocketCall → Self → Type 0 } = { λ _ _ _. Unit {0} };
 
-    /// Sends the bytes to a port once, as one datagram.
-    fn send_to(&mut self, bytes: &[u8], port: u16) -> Result<(), ErrorKind>
-        ensures told { does self.old (SentTo port bytes.now (is_ok result)) self.new };
+    /// Sends the bytes to an address once, as one datagram.
+    fn send_to(&mut self, bytes: &[u8], to: SocketAddr) -> Result<(), ErrorKind>
+        ensures told { does self.old (SentTo to bytes.now (is_ok result)) self.new };
 
-    /// Takes the next datagram into the buffer, and answers how many bytes it is there. What does not fit is lost.
-    fn receive(&mut self, buffer: &mut [u8]) -> Result<usize, ErrorKind>
-        ensures within { IfOk result (λ count. count ≤ length buffer.new) }
+    /// Takes the next datagram into the buffer, and answers how many bytes it is there, and who sent it. What does not fit is lost.
+    fn receive(&mut self, buffer: &mut [u8]) -> Result<(usize, SocketAddr), ErrorKind>
+        ensures within { IfOk result (λ got. got.0 ≤ length buffer.new) }
         ensures told { does self.old (taking result buffer.new (length buffer.old)) self.new };
 
-    /// Waits until a datagram may be there, a few milliseconds at most. A socket that cannot wait returns at once.
-    fn wait(&self) {}
+    /// Waits until a datagram may be there, at most so long. A socket that cannot wait returns at once.
+    fn wait(&self, _most: Duration) {}
 }
 
-// A port of this machine.
-fn here(port: u16) -> SocketAddr
+/// A port of this machine, 127.0.0.1.
+pub(crate) fn here(port: u16) -> SocketAddr
     ensures { IsHere result port }
 {
     SocketAddr::V4(SocketAddrV4::new(Ipv4Addr::LOCALHOST, port))
 }
 
-// A socket that is bound to a port of this machine, and waits in no call but `wait`.
-pub(crate) fn bound<R: Net>(rt: &R, port: u16) -> io::Result<UdpSocket> {
-    let socket = UdpSocket::bind(rt, here(port))?;
-    socket.set_read_timeout(Some(Duration::from_millis(IDLE)))?;
+// A socket that is bound to this address, and waits in no call but `wait`.
+pub(crate) fn bound<R: Net>(rt: &R, bind: SocketAddr) -> io::Result<UdpSocket> {
+    let socket = UdpSocket::bind(rt, bind)?;
     socket.set_nonblocking(true)?;
     Ok(socket)
 }
 
-// Looks whether a datagram is there, for as long as a read of this socket may wait. It stays there.
-fn look(socket: &UdpSocket) {
-    let mut first = [0u8; 1];
-    let _ = socket.peek_from(&mut first);
+// The milliseconds of a time, a started one as a whole one, and 24 days at most.
+fn millis(most: Duration) -> i32 {
+    most.as_nanos().div_ceil(1_000_000).min(i32::MAX as u128) as i32
 }
 
-/// What becomes of datagrams stands in no contract.
+/// What becomes of datagrams stands in no contract, nor how long a wait takes. `wait` counts whole milliseconds, a started one as one more, and the kernel does not round
+/// them to its tick as it does the timeouts of reads; no time is no wait. A signal ends it early.
 impl Socket for UdpSocket {
-    fn send_to(&mut self, bytes: &[u8], port: u16) -> Result<(), ErrorKind> {
-        match UdpSocket::send_to(self, bytes, here(port)) {
+    fn send_to(&mut self, bytes: &[u8], to: SocketAddr) -> Result<(), ErrorKind> {
+        match UdpSocket::send_to(self, bytes, to) {
             Ok(_) => Ok(()),
             Err(error) => Err(error.kind()),
         }
     }
 
-    fn receive(&mut self, buffer: &mut [u8]) -> Result<usize, ErrorKind> {
+    fn receive(&mut self, buffer: &mut [u8]) -> Result<(usize, SocketAddr), ErrorKind> {
         match self.recv_from(buffer) {
-            Ok((count, _)) => Ok(count),
+            Ok(got) => Ok(got),
             Err(error) => Err(error.kind()),
         }
     }
 
-    fn wait(&self) {
-        if self.set_nonblocking(false).is_ok() {
-            look(self);
-            let _ = self.set_nonblocking(true);
-        }
+    fn wait(&self, most: Duration) {
+        let mut asked = [pollfd {
+            fd: self.as_raw_fd(),
+            events: POLLIN,
+            revents: 0,
+        }];
+        let _ = poll(&mut asked, millis(most));
     }
 }

@@ -24,6 +24,19 @@ pub(crate) fn memory(
     MemoryLink::new(alloc, held, 2, plan)
 }
 
+// A link in memory that hands out these datagrams.
+pub(crate) fn held(alloc: Global, datagrams: &[&[u8]]) -> Result<MemoryLink, AllocError> {
+    let mut held = Vec::new(alloc);
+    for datagram in datagrams {
+        held.push(datagram.to_vec(alloc)?)?;
+    }
+    let plan = Plan {
+        receives: Vec::new(alloc),
+        sends: Vec::new(alloc),
+    };
+    MemoryLink::new(alloc, held, 0, plan)
+}
+
 // The bytes of a receive; none where nothing was there, or the link failed.
 fn came<L: Link>(link: &mut L, buffer: &mut [u8]) -> usize {
     match link.receive(buffer) {
