@@ -12,7 +12,8 @@ pub record Dropped {S : Type 0} (does : S → SocketCall → S → Type 0) (send
   pub counts : more ≡ min (counted + n) 18446744073709551615
 
 -- none yet
-pub none_dropped : {S : Type 0} (does : S → SocketCall → S → Type 0) (senders : List IpAddr) (room counted : ℕ) (s : S) → counted < 18446744073709551616 → Dropped does senders room counted s 0 counted s
+pub none_dropped : {S : Type 0} (does : S → SocketCall → S → Type 0) (senders : List IpAddr) (room counted : ℕ) (s : S)
+    → counted < 18446744073709551616 → Dropped does senders room counted s 0 counted s
 none_dropped does senders room counted s fits =
     record { strangers = []; dropped = refl; as_many = refl; counts = omega (arith, fits) }
 

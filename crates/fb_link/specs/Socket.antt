@@ -73,15 +73,18 @@ DropsEach does senders room [] s t = s ≡ t
 DropsEach {S} does senders room (from ∷ strangers) s t =
     (may_send senders from ≡ false) × (bytes : List ℕ) × (m : S) × does s (Took from room bytes) m × DropsEach does senders room strangers m t
 
--- the receive behind so many strangers: a datagram whose sender may send is handed on, with its bytes; or none is there; or the receive fails; or sixteen were strangers
+-- the receive behind so many strangers: a datagram whose sender may send is handed on, with its bytes; or none is there; or the receive fails; or
+-- sixteen were strangers
 abbrev pub Receives : {S : Type 0} → (S → SocketCall → S → Type 0) → List IpAddr → ℕ → ℕ → S → LinkCall → S → Type 0
-Receives does senders room n s (Handed size bytes) t = (n < 16) × (size ≡ room) × (from : SocketAddr) × (may_send senders from ≡ true) × does s (Took from room bytes) t
+Receives does senders room n s (Handed size bytes) t =
+    (n < 16) × (size ≡ room) × (from : SocketAddr) × (may_send senders from ≡ true) × does s (Took from room bytes) t
 Receives does senders room n s Silent t = ((n ≡ 16) × (s ≡ t)) ⊎ ((n < 16) × (kind : ErrorKind) × (is_idle kind ≡ true) × does s (Missed kind) t)
 Receives does senders room n s Broken t = (n < 16) × (kind : ErrorKind) × (is_idle kind ≡ false) × does s (Missed kind) t
 Receives does senders room n s (Sent bytes ok) t = ⊥
 
 -- a receive of a link: it drops what strangers sent, sixteen datagrams at most, counts them up to 2^64 - 1, and hands on none of them
-pub record TakesFrom {S : Type 0} (does : S → SocketCall → S → Type 0) (senders : List IpAddr) (counted : ℕ) (s : S) (call : LinkCall) (more : ℕ) (t : S) : Type 0 where
+pub record TakesFrom {S : Type 0} (does : S → SocketCall → S → Type 0) (senders : List IpAddr) (counted : ℕ)
+    (s : S) (call : LinkCall) (more : ℕ) (t : S) : Type 0 where
   pub room : ℕ
   pub strangers : List SocketAddr
   pub between : S
@@ -104,7 +107,8 @@ IsNoCall (Handed room bytes) = ⊥
 IsNoCall Broken = ⊥
 
 -- a call of a link over a socket, of which so many calls have failed, and so many datagrams of strangers were counted
-pub record UdpStep {S : Type 0} (does : S → SocketCall → S → Type 0) (peers : List SocketAddr) (senders : List IpAddr) (failures counted : ℕ) (s : S) (call : LinkCall) (more : ℕ) (t : S) : Type 0 where
+pub record UdpStep {S : Type 0} (does : S → SocketCall → S → Type 0) (peers : List SocketAddr) (senders : List IpAddr) (failures counted : ℕ)
+    (s : S) (call : LinkCall) (more : ℕ) (t : S) : Type 0 where
   pub asks : failures < 18446744073709551615 → Asks does peers senders counted s call more t
   -- a link whose count of failures can rise no more leaves the socket alone
   pub spent : failures ≡ 18446744073709551615 → IsNoCall call × (more ≡ counted) × (t ≡ s)

@@ -11,8 +11,9 @@ use std::io::ErrorKind;
 use std::marker::Model;
 use std::net::SocketAddr;
 
-/// A socket over a link in memory: it takes what is sent to any address and hands out what the link does, and its calls fail as the link's do. It keeps the first 256
-/// addresses that it is to send to. The datagrams are those of the addresses that it was made with, one after another, and then of port 0 of this machine.
+/// A socket over a link in memory: it takes what is sent to any address and hands out what the link does, and its calls fail as the link's do. It
+/// keeps the first 256 addresses that it is to send to. The datagrams are those of the addresses that it was made with, one after another, and
+/// then of port 0 of this machine.
 #[derive(Drop)]
 pub(crate) struct MemorySocket {
     pub(crate) link: MemoryLink,

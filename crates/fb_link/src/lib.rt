@@ -1,6 +1,7 @@
 //! Room: network. What joins devices: links that take and give datagrams, in memory and over UDP, and sinks of what OUTPUTs write.
-//! Every link counts its failures exactly; `MemoryLink` tells all that it does, and `UdpLink` what it asks of its socket: each peer once, in order. What becomes of
-//! datagrams at a socket of the system is outside any contract, and so is how long a wait takes. `fbr serve` runs devices over `UdpLink`.
+//! Every link counts its failures exactly; `MemoryLink` tells all that it does, and `UdpLink` what it asks of its socket: each peer once, in
+//! order, and no datagram of a stranger is handed on. What becomes of datagrams at a socket of the system is outside any contract, and so is how
+//! long a wait takes. `fbr serve` runs devices over `UdpLink`.
 #![tactic(auto)]
 
 mod addresses;

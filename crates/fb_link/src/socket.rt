@@ -50,8 +50,8 @@ fn millis(most: Duration) -> i32 {
     most.as_nanos().div_ceil(1_000_000).min(i32::MAX as u128) as i32
 }
 
-/// What becomes of datagrams stands in no contract, nor how long a wait takes. `wait` counts whole milliseconds, a started one as one more, and the kernel does not round
-/// them to its tick as it does the timeouts of reads; no time is no wait. A signal ends it early.
+/// What becomes of datagrams stands in no contract, nor how long a wait takes. `wait` counts whole milliseconds, a started one as one more. It asks
+/// `poll`, whose time the kernel does not round up to its tick, as it does that of reads. No time is no wait, and a signal ends a wait early.
 impl Socket for UdpSocket {
     fn send_to(&mut self, bytes: &[u8], to: SocketAddr) -> Result<(), ErrorKind> {
         match UdpSocket::send_to(self, bytes, to) {

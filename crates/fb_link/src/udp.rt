@@ -13,8 +13,8 @@ use std::io::ErrorKind;
 use std::net::{IpAddr, Net, SocketAddr, UdpSocket};
 use std::time::Duration;
 
-/// How many datagrams of strangers one receive drops at most. A device receives until nothing is there, at most so many times a turn; with an end to what each of these
-/// times drops, nobody can keep it in a turn by sending.
+/// How many datagrams of strangers one receive drops at most. A device receives sixteen times a turn at most, and ends that where nothing is there;
+/// a receive that went on as long as strangers send would keep it in its turn.
 const STRANGERS: u32 = 16;
 
 /// No socket could be bound to this port. Code 62.
@@ -42,8 +42,8 @@ impl fmt::Display for SocketFault {
     }
 }
 
-/// A socket, the addresses to which it sends, and those from which it takes datagrams: from anybody, where these are none. It tells what it asks of the socket; what
-/// becomes of datagrams only a socket that tells can say.
+/// A socket, the addresses to which it sends, and those from which it takes datagrams: from anybody, where these are none. It tells what it asks of
+/// the socket; what becomes of datagrams only a socket that tells can say.
 #[derive(Drop)]
 pub struct UdpLink<S = UdpSocket> {
     socket: S,
@@ -158,18 +158,25 @@ impl UdpLink {
 }
 
 impl<S: Socket> UdpLink<S> {
-    /// A link over this socket, to send to each of at most 64 addresses, and to take datagrams from at most 64 IP addresses, or from anybody where none are given.
+    /// A link over this socket, to send to each of at most 64 addresses, and to take datagrams from at most 64 IP addresses, or from anybody where
+    /// none are given.
     pub fn over(socket: S, peers: &[SocketAddr], senders: &[IpAddr]) -> UdpLink<S>
         requires peers { length peers.now ≤ 64 }
         requires senders { length senders.now ≤ 64 }
-        ensures { (result.socket ≡ socket) × (result.peers ≡ peers.now) × (result.senders ≡ senders.now) × (result.failures ≡ 0) × (result.strangers ≡ 0) }
+        ensures socket { result.socket ≡ socket }
+        ensures peers { result.peers ≡ peers.now }
+        ensures senders { result.senders ≡ senders.now }
+        ensures fresh { (result.failures ≡ 0) × (result.strangers ≡ 0) }
     {
         UdpLink::with(socket, Peers::new(peers), Senders::new(senders))
     }
 
     // A link over this socket, with these peers and senders.
     fn with(socket: S, peers: Peers, senders: Senders) -> UdpLink<S>
-        ensures { (result.socket ≡ socket) × (result.peers ≡ peers) × (result.senders ≡ senders) × (result.failures ≡ 0) × (result.strangers ≡ 0) }
+        ensures socket { result.socket ≡ socket }
+        ensures peers { result.peers ≡ peers }
+        ensures senders { result.senders ≡ senders }
+        ensures fresh { (result.failures ≡ 0) × (result.strangers ≡ 0) }
     {
         UdpLink {
             socket,
@@ -188,13 +195,15 @@ impl<S: Socket> UdpLink<S> {
     }
 }
 
-/// A send goes to every peer once, in order, and is one failure where any of these fails. A receive drops what strangers sent, sixteen datagrams at most, and counts them.
-/// Who sent a datagram is told by its IP address alone, whatever the port, and an IPv4 address counts as itself where IPv6 has it as ::ffff:a.b.c.d. A receive that would have
-/// to wait, is interrupted, or dropped sixteen finds nothing. Once 2^64 - 1 calls have failed the socket is left alone.
+/// A send goes to every peer once, in order, and is one failure where any of these fails. A receive drops what strangers sent, sixteen datagrams at
+/// most, and counts them. Who sent a datagram is told by its IP address alone, whatever the port, and an IPv4 address counts as itself where IPv6 has
+/// it as ::ffff:a.b.c.d. A receive that would have to wait, is interrupted, or dropped sixteen finds nothing. Once 2^64 - 1 calls have failed the
+/// socket is left alone.
 impl<S: Socket> Link for UdpLink<S> {
     ghost count = { λ l. l.failures };
 
-    ghost steps = { λ l call m. UdpStep S.does l.peers l.senders l.failures l.strangers l.socket call m.strangers m.socket × (m.peers ≡ l.peers) × (m.senders ≡ l.senders) };
+    ghost steps = { λ l call m. UdpStep S.does l.peers l.senders l.failures l.strangers l.socket call m.strangers m.socket
+        × (m.peers ≡ l.peers) × (m.senders ≡ l.senders) };
 
     fn send(&mut self, bytes: &[u8]) -> bool {
         if self.failures == u64::MAX {

@@ -36,7 +36,8 @@ fn link_of(
 
 // A send over a socket in memory: each peer is sent to once, in order.
 fn send_in_memory(link: &mut UdpLink<MemorySocket>, bytes: &[u8]) -> bool
-    ensures { link.old.failures < 18446744073709551615 → length link.old.socket.sent + length link.old.peers ≤ 256 → link.new.socket.sent ≡ link.old.socket.sent ++ link.old.peers }
+    ensures { link.old.failures < 18446744073709551615 → length link.old.socket.sent + length link.old.peers ≤ 256
+        → link.new.socket.sent ≡ link.old.socket.sent ++ link.old.peers }
 {
     link.send(bytes)
 }
