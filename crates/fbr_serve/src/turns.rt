@@ -13,7 +13,10 @@ use fb_script::Written;
 use std::fmt;
 use std::io::Write;
 use std::rt::Clock;
-use std::time::Instant;
+use std::time::{Duration, Instant};
+
+/// How long a device that finds nothing to do waits for its link at most, in milliseconds.
+const IDLE: u64 = 5;
 
 /// Why no further turn was taken.
 #[derive(Clone, Copy)]
@@ -200,7 +203,7 @@ fn since<R: Clock>(rt: &R, start: Instant) -> Result<u64, Stop>
 // Waits for the link, where a turn found nothing to do and another one follows.
 fn rest<L: Link>(link: &L, report: Report, is_last: bool) {
     if report.fired == 0 && report.received == 0 && report.ran == 0 && !is_last {
-        link.wait();
+        link.wait(Duration::from_millis(IDLE));
     }
 }
 
