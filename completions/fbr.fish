@@ -12,7 +12,7 @@ complete -c fbr -n '__fish_seen_subcommand_from bound explain draw' -x -l repeat
 complete -c fbr -n '__fish_seen_subcommand_from bound draw' -l output -s o -r -d 'writes into this file'
 complete -c fbr -n '__fish_seen_subcommand_from bound' -l search -d 'looks for narrower ranges where 44 is told'
 complete -c fbr -n '__fish_seen_subcommand_from bound' -l ranges -r -d 'keeps the rows RANGE of this certificate'
-complete -c fbr -n '__fish_seen_subcommand_from bound' -x -l room -d 'gives queues room for so many of the largest arrivals, 1 to 255'
+complete -c fbr -n '__fish_seen_subcommand_from bound' -x -l room -d 'gives queues room for so many arrivals of each kind at once, 1 to 255'
 complete -c fbr -n '__fish_seen_subcommand_from explain' -l strict -d 'ends with status 1 where there are notes'
 complete -c fbr -n '__fish_seen_subcommand_from draw' -l flat -d 'draws composites without boxes'
 complete -c fbr -n '__fish_seen_subcommand_from draw' -x -l chart -d 'draws the chart of this basic block type'

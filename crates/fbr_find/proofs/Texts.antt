@@ -4,6 +4,7 @@ use Rattle.std.specs.Prelude.{MatchResult, string_bytes}
 use Rattle.std.specs.declared.string.String.{String}
 use Rattle.std.specs.declared.alloc.Global.{Global}
 use Rattle.fb_model.specs.System.{System}
+use Rattle.fb_model.specs.Certificates.{Fits}
 use Rattle.fb_model.specs.Spelling.{text_limit}
 use Rattle.fb_model.specs.CertificateText.{Spells, most_characters}
 use Rattle.fb_types.specs.declared.typed.Configuration.{Configuration}
@@ -11,7 +12,6 @@ use Rattle.fb_types.specs.Views.{system_of}
 use Rattle.fb_cert.specs.Views.{Rows, book_of}
 use Rattle.fb_cert.specs.Printed.{printed}
 use Rattle.fb_cert.specs.declared.fault.CertFault.TheVariants.{TooLong}
-use Rattle.fb_verified.specs.Checked.{system_in, certificate_in}
 use Rattle.fb_verdict.specs.Verdicts.{IsTypedOf}
 use Rattle.fb_verdict.specs.declared.refusal.Refusal.TheVariants as refusals
 use Rattle.fbr_files.specs.declared.fault.Fault.{Fault}
@@ -19,61 +19,50 @@ use Rattle.fbr_files.specs.declared.fault.Fault.TheVariants.{Memory, Input, File
 use Rattle.fbr_files.specs.Outcomes.{IsContents, IsReadFault}
 use Rattle.fbr_files.specs.Writing.{Holdings}
 use Rattle.fbr_words.specs.Program.{Sought}
-use Rattle.fbr_find.specs.Bounding.{IsFoundBy, IsRangesFault, IsTextOf, IsLeastText, IsRoomyText, IsTextBy, IsTextAsked, IsFitting, IsAccepted, IsSoughtText, IsGivenFault, IsCheckFault, IsTextFaultAsked, of_ranges, of_room, of_length, IsSoughtFault}
+use Rattle.fbr_find.specs.Bounding.{IsFoundBy, IsRangesFault, IsTextOf, IsTextAsked, IsFitting, IsAccepted, IsSoughtText, IsGivenFault, IsTextFaultAsked, of_ranges, of_length, IsSoughtFault, with_room}
+use Rattle.fb_find_room.proofs.Roomy.{book_same}
+use Rattle.fb_find_room.proofs.Fitting.{fits}
 use Rattle.fbr_find.proofs.Found.{fits_found, ranges_memory}
 
-pub text_found : (asked : Option (Option (List ℕ))) (repeats : Option ℕ) (files : Holdings) (s : System) (rows : Rows) (r : Result (String Global) Fault) → IsFoundBy asked repeats files s rows
-    → MatchResult r (λ text. string_bytes text ≡ printed rows) (λ f. f ≡ Memory) → IfOk r (λ text. Spells (string_bytes text) (book_of rows))
-    → MatchResult r (λ text. IsTextOf asked repeats files s (string_bytes text)) (IsRangesFault asked repeats files s)
-text_found asked repeats files s rows (Ok text) found is spelled = record { rows = rows; found = found; printed_is = is; spelled = spelled }
-text_found asked repeats files s rows (Err f) found is spelled = subst (IsRangesFault asked repeats files s) (sym is) (ranges_memory asked repeats files s)
-
--- what is found of the system of a text is found of the text
-pub least_of : (q : Sought) (files : Holdings) (app : List ℕ) (typed : Configuration) (repeats : Option ℕ) (r : Result (String Global) Fault) → IsTypedOf app typed → length app ≤ text_limit → q.repeats ≡ repeats
-    → MatchResult r (λ text. IsTextOf q.ranges repeats files (system_of typed) (string_bytes text)) (IsRangesFault q.ranges repeats files (system_of typed))
-    → MatchResult r (λ text. IsLeastText q files app (string_bytes text)) (IsTextFaultAsked q files app)
-least_of q files app typed repeats (Ok text) is short same h =
-    record { typed = typed; typed_is = is; short = short; text_is = subst (λ n. IsTextOf q.ranges n files (system_of typed) (string_bytes text)) (sym same) h }
-least_of q files app typed repeats (Err f) is short same h = of_ranges typed is (subst (λ n. IsRangesFault q.ranges n files (system_of typed) f) (sym same) h)
-
--- such a text fits
-least_fits : (q : Sought) (files : Holdings) (app text : List ℕ) → IsLeastText q files app text → IsFitting app text
-least_fits q files app text h =
+-- the text of what was found, with the room that is asked for
+pub text_found : (q : Sought) (files : Holdings) (s : System) (repeats room : Option ℕ) (rows : Rows) (r : Result (String Global) Fault) → q.repeats ≡ repeats → q.room ≡ room → IsFoundBy q.ranges repeats files s rows
+    → MatchResult r (λ text. string_bytes text ≡ printed (with_room room s rows)) (λ f. f ≡ Memory) → IfOk r (λ text. Spells (string_bytes text) (book_of (with_room room s rows)))
+    → MatchResult r (λ text. IsTextOf q files s (string_bytes text)) (IsRangesFault q.ranges q.repeats files s)
+text_found q files s repeats room rows (Ok text) same is found made spelled =
     record {
-      source = h.typed_is.system_is.source;
-      system = system_of h.typed;
-      rows = book_of h.text_is.rows;
-      within = h.short;
-      source_is = h.typed_is.system_is.source_is;
-      typed = h.typed_is.system_is.typed;
-      spelled = h.text_is.spelled;
-      fits = fits_found q.ranges q.repeats files (system_of h.typed) h.text_is.rows h.text_is.found;
+      rows = rows;
+      found = subst (λ n. IsFoundBy q.ranges n files s rows) (sym same) found;
+      printed_is = subst (λ n. string_bytes text ≡ printed (with_room n s rows)) (sym is) made;
+      spelled = subst (λ n. Spells (string_bytes text) (book_of (with_room n s rows))) (sym is) spelled;
     }
+text_found q files s repeats room rows (Err f) same is found made spelled = subst (IsRangesFault q.ranges q.repeats files s) (sym made) (ranges_memory q.ranges q.repeats files s)
 
-roomy_fits : (app text : List ℕ) → length app ≤ text_limit → IsRoomyText app text → IsFitting app text
-roomy_fits app text short h =
-    record {
-      source = h.1.system_is.source;
-      system = system_in h.0;
-      rows = certificate_in h.0;
-      within = short;
-      source_is = h.1.system_is.source_is;
-      typed = h.1.system_is.typed;
-      spelled = h.1.certificate_is;
-      fits = h.1.fits;
-    }
+pub unfound : (q : Sought) (files : Holdings) (s : System) (repeats : Option ℕ) (f : Fault) → q.repeats ≡ repeats → IsRangesFault q.ranges repeats files s f → IsRangesFault q.ranges q.repeats files s f
+unfound q files s repeats f same h = subst (λ n. IsRangesFault q.ranges n files s f) (sym same) h
 
--- without more room it is what is asked for
-pub least_asked : (q : Sought) (files : Holdings) (app text : List ℕ) (room : Option ℕ) → q.room ≡ room → room ≡ None → IsLeastText q files app text → IsTextAsked q files app text × IsFitting app text
-least_asked q files app text room is none h =
-    (subst (λ m. IsTextBy m q files app text) (sym is) (subst (λ m. IsTextBy m q files app text) (sym none) h), least_fits q files app text h)
+-- what the rows are that are found, with room or without, they fit
+roomed_fits : (room : Option ℕ) (s : System) (rows : Rows) → Fits s (book_of rows) → Fits s (book_of (with_room room s rows))
+roomed_fits None s rows h = h
+roomed_fits (Some times) s rows h = subst (Fits s) (sym (book_same times s.devices rows)) (fits times s.devices (book_of rows) s h)
 
-pub roomy_asked : (q : Sought) (files : Holdings) (app : List ℕ) (times : ℕ) (room : Option ℕ) (r : Result (String Global) Fault) → q.room ≡ room → room ≡ Some times → length app ≤ text_limit
-    → MatchResult r (λ text. IsRoomyText app (string_bytes text)) (IsCheckFault app)
+-- what is found of the system of a text is asked for of the text, and fits it
+pub asked_of : (q : Sought) (files : Holdings) (app : List ℕ) (typed : Configuration) (r : Result (String Global) Fault) → IsTypedOf app typed → length app ≤ text_limit
+    → MatchResult r (λ text. IsTextOf q files (system_of typed) (string_bytes text)) (IsRangesFault q.ranges q.repeats files (system_of typed))
     → MatchResult r (λ text. IsTextAsked q files app (string_bytes text) × IsFitting app (string_bytes text)) (IsTextFaultAsked q files app)
-roomy_asked q files app times room (Ok text) is some short h =
-    (subst (λ m. IsTextBy m q files app (string_bytes text)) (sym is) (subst (λ m. IsTextBy m q files app (string_bytes text)) (sym some) h), roomy_fits app (string_bytes text) short h)
-roomy_asked q files app times room (Err f) is some short h = of_room times (subst (λ m. q.room ≡ m) some is) h
+asked_of q files app typed (Ok text) is short h = (
+  record { typed = typed; typed_is = is; short = short; text_is = h },
+  record {
+    source = is.system_is.source;
+    system = system_of typed;
+    rows = book_of (with_room q.room (system_of typed) h.rows);
+    within = short;
+    source_is = is.system_is.source_is;
+    typed = is.system_is.typed;
+    spelled = h.spelled;
+    fits = roomed_fits q.room (system_of typed) h.rows (fits_found q.ranges q.repeats files (system_of typed) h.rows h.found);
+  },
+)
+asked_of q files app typed (Err f) is short h = of_ranges typed is h
 
 -- a text above the limit
 pub too_long : (q : Sought) (files : Holdings) (app text : List ℕ) → IsTextAsked q files app text → most_characters < length text → IsTextFaultAsked q files app (Refused (refusals.Certificate TooLong))

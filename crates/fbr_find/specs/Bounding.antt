@@ -13,13 +13,13 @@ use Rattle.fb_types.specs.Views.{system_of}
 use Rattle.fb_cert.specs.declared.fault.CertFault.TheVariants.{TooLong}
 use Rattle.fb_cert.specs.Views.{Rows, book_of}
 use Rattle.fb_cert.specs.Printed.{printed}
-use Rattle.fb_verdict.specs.Verdicts.{IsTypedOf, IsTextFault, IsCertificateFault, IsFaultOf, IsOfTexts}
+use Rattle.fb_verdict.specs.Verdicts.{IsTypedOf, IsTextFault, IsCertificateFault}
 use Rattle.fb_verdict.specs.declared.refusal.Refusal.TheVariants as refusals
-use Rattle.fb_verified.specs.declared.verified.Verified.{Verified}
 use Rattle.fb_find.specs.Bounds.{IsNoBound, RowsStand}
 use Rattle.fb_find_laws.specs.Finding.{IsFound}
 use Rattle.fb_find_rows.specs.declared.fault.NoBound.{NoBound}
 use Rattle.fb_find_rows.specs.declared.fault.NoBound.TheVariants.{OutOfMemory, Cycle, NoRange, Limit}
+use Rattle.fb_find_room.specs.Room.{roomy_rows}
 use Rattle.fb_find_search.specs.Searching.{IsFoundSomehow, IsSearched, IsNoBoundKeeping}
 use Rattle.fbr_files.specs.declared.fault.Fault.{Fault}
 use Rattle.fbr_files.specs.declared.fault.Fault.TheVariants.{Memory, File, Refused, Unbound}
@@ -59,33 +59,26 @@ IsFoundBy None repeats files system rows = IsFound repeats system (book_of rows)
 IsFoundBy (Some None) repeats files system rows = IsFoundSomehow repeats system (book_of rows) × IsSearched repeats system (book_of rows)
 IsFoundBy (Some (Some name)) repeats files system rows = IsFoundSomehow repeats system (book_of rows) × ((given : Rows) × HoldsRows (files name) given × RowsStand given rows)
 
+-- the rows with the room that is asked for
+abbrev pub with_room : Option ℕ → System → Rows → Rows
+with_room None system rows = rows
+with_room (Some times) system rows = roomy_rows times system.devices rows
+
 -- ---- texts
 
--- the text is that of such a certificate of a system
-pub record IsTextOf (asked : Option (Option (List ℕ))) (repeats : Option ℕ) (files : Holdings) (system : System) (text : List ℕ) : Type 0 where
+-- the text is that of such a certificate of a system, with that room
+pub record IsTextOf (q : Sought) (files : Holdings) (system : System) (text : List ℕ) : Type 0 where
   pub rows : Rows
-  pub found : IsFoundBy asked repeats files system rows
-  pub printed_is : text ≡ printed rows
-  pub spelled : Spells text (book_of rows)
+  pub found : IsFoundBy q.ranges q.repeats files system rows
+  pub printed_is : text ≡ printed (with_room q.room system rows)
+  pub spelled : Spells text (book_of (with_room q.room system rows))
 
--- of the application's system
-pub record IsLeastText (q : Sought) (files : Holdings) (app text : List ℕ) : Type 0 where
+-- the text that is asked for of an application's text
+pub record IsTextAsked (q : Sought) (files : Holdings) (app text : List ℕ) : Type 0 where
   pub typed : Configuration
   pub typed_is : IsTypedOf app typed
   pub short : length app ≤ text_limit
-  pub text_is : IsTextOf q.ranges q.repeats files (system_of typed) text
-
--- with more room the checker accepts it
-abbrev pub IsRoomyText : List ℕ → List ℕ → Type 0
-IsRoomyText app text = (v : Verified) × IsOfTexts app text v
-
-abbrev pub IsTextBy : Option ℕ → Sought → Holdings → List ℕ → List ℕ → Type 0
-IsTextBy None q files app text = IsLeastText q files app text
-IsTextBy (Some times) q files app text = IsRoomyText app text
-
--- the text that is asked for of an application's text
-abbrev pub IsTextAsked : Sought → Holdings → List ℕ → List ℕ → Type 0
-IsTextAsked q files app text = IsTextBy q.room q files app text
+  pub text_is : IsTextOf q files (system_of typed) text
 
 -- an application's text within the limit, and the text of a certificate that fits it
 pub record IsFitting (app text : List ℕ) : Type 0 where
@@ -155,21 +148,14 @@ IsRangesFault None repeats files system f = IsUnbound repeats system f
 IsRangesFault (Some None) repeats files system f = IsUnbound repeats system f
 IsRangesFault (Some (Some name)) repeats files system f = IsKeptFault name (files name) repeats system f
 
--- the checker accepts no text of a certificate for want of memory, or for this fault
-abbrev pub IsCheckFault : List ℕ → Fault → Type 0
-IsCheckFault app Memory = Unit {0}
-IsCheckFault app (Refused f) = (cert : List ℕ) × IsFaultOf app cert f
-IsCheckFault app other = ⊥
-
 -- the text is too long for a certificate
 abbrev pub IsLengthFault : List ℕ → Fault → Type 0
 IsLengthFault text f = (f ≡ Refused (refusals.Certificate TooLong)) × (most_characters < length text)
 
--- why there is no text: the application's is at fault, there is no certificate of its system, what was found has no more room, or it is too long
+-- why there is no text: the application's is at fault, there is no certificate of its system, or it is too long
 pub data IsTextFaultAsked (q : Sought) (files : Holdings) (app : List ℕ) (f : Fault) : Type 0 where
   of_application : IsTypedFault app f → IsTextFaultAsked q files app f
   of_ranges : (typed : Configuration) → IsTypedOf app typed → IsRangesFault q.ranges q.repeats files (system_of typed) f → IsTextFaultAsked q files app f
-  of_room : (times : ℕ) → q.room ≡ Some times → IsCheckFault app f → IsTextFaultAsked q files app f
   of_length : (text : List ℕ) → IsTextAsked q files app text → IsLengthFault text f → IsTextFaultAsked q files app f
 
 -- the application's file was not read, or what it holds is at fault so

@@ -2,20 +2,23 @@
 
 ghost use Rattle.std.specs.Prelude.{◌≡◌, ◌≤◌, ℕ, List, Option, IfErr, IfOk, IfSome, MatchResult, string_bytes};
 ghost use Rattle.fb_types.specs.Views.{system_of};
-ghost use Rattle.fb_cert.specs.Views.{certificate_of, rows_of, Rows};
+ghost use Rattle.fb_model.specs.CertificateText.{Spells};
+ghost use Rattle.fb_cert.specs.Views.{book_of, certificate_of, rows_of, Rows};
+ghost use Rattle.fb_cert.specs.Printed.{printed};
 ghost use Rattle.fb_find.specs.Bounds.{RowsStand};
 ghost use Rattle.fb_find_laws.specs.Finding.{IsFound};
 ghost use Rattle.fb_find_search.specs.Searching.{IsFoundSomehow, IsSearched};
+ghost use Rattle.fbr_files.specs.declared.fault.Fault.TheVariants.{Memory};
 ghost use Rattle.fbr_files.specs.Reading.{IsRead, IsFile};
 ghost use Rattle.fbr_files.specs.Writing.{Holdings};
 ghost use Rattle.fbr_words.specs.Program as program;
 ghost use Rattle.fbr_words.specs.Requests.{ranges_of, sought_of};
-ghost use Rattle.fbr_find.specs.Bounding.{AreRangesRead, IsReadFor, HoldsRows, IsGivenFault, IsKeptFault, IsUnboundKeeping, IsUnbound, IsRangesFault, IsTextFaultAsked, IsFoundBy, IsLeastText, IsTextOf, IsTextAsked, IsFitting, IsAccepted, IsLengthFault, IsSoughtText, IsSoughtFault};
+ghost use Rattle.fbr_find.specs.Bounding.{AreRangesRead, IsReadFor, HoldsRows, IsGivenFault, IsKeptFault, IsUnboundKeeping, IsUnbound, IsRangesFault, IsTextFaultAsked, IsFoundBy, IsTextOf, IsTextAsked, IsFitting, IsAccepted, IsLengthFault, IsSoughtText, IsSoughtFault, with_room as roomed};
 
 use crate::finding::{bounded, text_of, typed_in};
-use crate::room::with_room;
 use fb_cert::{CertFault, Certificate, parse_cert};
 use fb_find::find;
+use fb_find_room::with_room;
 use fb_find_search::{find_keeping, search};
 use fb_types::Typed;
 use fb_verdict::Refusal;
@@ -153,42 +156,38 @@ fn certificate_in<'a>(
     }
 }
 
-// Its text.
-fn text_for<'a>(
+// A certificate with so much room, where any is asked for.
+fn roomy_for<'a>(
     alloc: Global,
     typed: &Typed,
-    repeats: Option<u8>,
-    ranges: &RangesFrom<'a>,
-) -> Result<String, Fault<'a>>
-    requires { IfSome repeats (λ r. 1 ≤ r) }
-    ensures { (asked : Option (Option (List ℕ))) (files : Holdings) → AreRangesRead asked files ranges.now
-        → MatchResult result (λ text. IsTextOf asked repeats files (system_of typed.now) (string_bytes text)) (IsRangesFault asked repeats files (system_of typed.now)) }
+    room: Option<u8>,
+    certificate: Certificate,
+) -> Result<Certificate, Fault<'a>>
+    ensures { MatchResult result (λ c. rows_of c ≡ roomed room (system_of typed.now) (rows_of certificate)) (λ f. f ≡ Memory) }
 {
-    match certificate_in(alloc, typed, repeats, ranges) {
-        Ok(certificate) => {
-            let text = text_of(alloc, &certificate);
-            certificate.let_go();
-            text
-        }
-        Err(fault) => Err(fault),
+    let Some(times) = room else {
+        return Ok(certificate);
+    };
+    match with_room(alloc, typed, times, certificate) {
+        Ok(roomy) => Ok(roomy),
+        Err(_) => Err(Fault::Memory),
     }
 }
 
-// The same of an application's text.
-fn text_in<'a>(
+// Its text.
+fn text_with_room<'a>(
     alloc: Global,
-    app: &str,
-    repeats: Option<u8>,
-    ranges: &RangesFrom<'a>,
+    typed: &Typed,
+    room: Option<u8>,
+    certificate: Certificate,
 ) -> Result<String, Fault<'a>>
-    requires { IfSome repeats (λ r. 1 ≤ r) }
-    ensures { (q : program.Sought) (files : Holdings) → AreRangesRead q.ranges files ranges.now → q.repeats ≡ repeats
-        → MatchResult result (λ text. IsLeastText q files app.now (string_bytes text)) (IsTextFaultAsked q files app.now) }
+    ensures text { MatchResult result (λ text. string_bytes text ≡ printed (roomed room (system_of typed.now) (rows_of certificate))) (λ f. f ≡ Memory) }
+    ensures spelled { IfOk result (λ text. Spells (string_bytes text) (book_of (roomed room (system_of typed.now) (rows_of certificate)))) }
 {
-    match typed_in(alloc, app) {
-        Ok(typed) => {
-            let text = text_for(alloc, &typed, repeats, ranges);
-            typed.let_go();
+    match roomy_for(alloc, typed, room, certificate) {
+        Ok(roomy) => {
+            let text = text_of(alloc, &roomy);
+            roomy.let_go();
             text
         }
         Err(fault) => Err(fault),
@@ -196,17 +195,30 @@ fn text_in<'a>(
 }
 
 impl<'a> Wanted<'a> {
-    // The text that is asked for of an application's text, with more room where that is asked for.
+    // The text that is wanted of a system.
+    fn text_for(&self, alloc: Global, typed: &Typed) -> Result<String, Fault<'a>>
+        requires { IfSome self.now.repeats (λ r. 1 ≤ r) }
+        ensures { (q : program.Sought) (files : Holdings) → IsReadFor q files self.now
+            → MatchResult result (λ text. IsTextOf q files (system_of typed.now) (string_bytes text)) (IsRangesFault q.ranges q.repeats files (system_of typed.now)) }
+    {
+        match certificate_in(alloc, typed, self.repeats, &self.ranges) {
+            Ok(certificate) => text_with_room(alloc, typed, self.room, certificate),
+            Err(fault) => Err(fault),
+        }
+    }
+
+    // The text that is wanted of an application's text. It fits.
     fn text_over(&self, alloc: Global, app: &str) -> Result<String, Fault<'a>>
         requires { IfSome self.now.repeats (λ r. 1 ≤ r) }
         ensures { (q : program.Sought) (files : Holdings) → IsReadFor q files self.now
             → MatchResult result (λ text. IsTextAsked q files app.now (string_bytes text) × IsFitting app.now (string_bytes text)) (IsTextFaultAsked q files app.now) }
     {
-        match text_in(alloc, app, self.repeats, &self.ranges) {
-            Ok(text) => match self.room {
-                Some(times) => with_room(alloc, app, text.as_str(), times),
-                None => Ok(text),
-            },
+        match typed_in(alloc, app) {
+            Ok(typed) => {
+                let text = self.text_for(alloc, &typed);
+                typed.let_go();
+                text
+            }
             Err(fault) => Err(fault),
         }
     }

@@ -29,7 +29,7 @@ fn tell_bound(rt: &HostRuntime, words: &[&str]) -> io::Result<()> {
     eprintln!(rt; "fbr: looking for the least certificate")?;
     if is_roomy(words) {
         let depths =
-            "fbr: each DEPTH is then that of so many of its largest arrivals, or of each arrival once where that is less";
+            "fbr: each DEPTH is then enough for so many arrivals of each kind at once, up to 4096";
         eprintln!(rt; "{depths}")?;
     }
     Ok(())

@@ -134,7 +134,7 @@ fn room<'a>(alloc: Global) -> Arg<'a>
     ensures local { result.global ≡ false }
 {
     let help =
-        "Writes each DEPTH as N times the largest arrival, or as all arrivals together where that is less (1 to 255)";
+        "Makes each queue deep enough for N arrivals of each kind at once, up to 4096 places (1 to 255)";
     Arg::new(alloc, "room")
         .long("room")
         .action(ArgAction::Set)

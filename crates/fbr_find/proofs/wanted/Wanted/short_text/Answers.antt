@@ -1,4 +1,4 @@
-use Rattle.std.proofs.Common.{◌≡◌, ◌≤◌, ◌<◌, length, arith, rules, string_bytes}
+use Rattle.std.proofs.Common.{◌≤◌, ◌<◌, length, rules, string_bytes}
 use Rattle.fb_model.specs.CertificateText.{most_characters}
 use Rattle.fbr_find.proofs.Texts.{too_long}
 use Rattle.fbr_find.proofs.wanted.Wanted.short_text.Goals as goal

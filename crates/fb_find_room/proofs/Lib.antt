@@ -1,0 +1,3 @@
+mod Reckoning
+pub mod Roomy
+pub mod Fitting
