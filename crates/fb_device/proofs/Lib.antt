@@ -5,5 +5,5 @@ pub mod Silent
 pub mod Beginning
 pub mod Begun
 pub mod Found
-pub mod Turned
+pub mod Due
 pub mod Long

@@ -3,16 +3,19 @@
 ghost use Rattle.std.specs.Prelude.{◌≡◌, ◌≤◌, length, map, take, drop, MatchOption};
 ghost use Rattle.std.specs.List.{AllByRecursion};
 ghost use Rattle.fb_model.specs.Devices.{Happens, Offer, Deliver, Tick, Dispatch, Expired, Run, begun};
-ghost use Rattle.fb_model.specs.Headline.{KeepsBounds, StaysWithinAll};
+ghost use Rattle.fb_model.specs.Certificates.{DeviceHolds};
+ghost use Rattle.fb_model.specs.Headline.{IsSound, KeepsBounds, StaysWithinAll};
 ghost use Rattle.fb_model.specs.Wires.{leaves};
 ghost use Rattle.fb_device_arrivals.specs.Answers.{admission_of};
 ghost use Rattle.fb_device_dispatch.specs.Answers.{dispatched_of, HasPoint};
 ghost use Rattle.fb_device_state.specs.Machines.{device_in, cert_in, machine_of};
 ghost use Rattle.fb_device.specs.Answers.{answer_of, event_of, HasPlace, IsOpening, IsNamed, IsNoPoint, IsNumberOf, IsNoNumber};
+ghost use Rattle.fb_device.specs.Due.{IsNextDue};
 ghost use Rattle.fb_device.specs.Promises.{IsBounded};
 ghost use Rattle.fb_device.specs.Silence.{IsSilent};
 
 use crate::answer::{Answer, Opening, Step};
+use crate::due::next_due;
 use crate::names::{name, opening, path, resource};
 use crate::sharing::release;
 use fb_device_arrivals::{Denied, begin, deliver, offer, tick};
@@ -146,6 +149,21 @@ impl Device {
         ensures { IsOpening (cert_in self.now) (leaves (device_in self.now)) (machine_of self.now) cause result }
     {
         opening(&self.program.tables.blocks, &self.running.queues, cause)
+    }
+
+    /// The moment at which the first of the armed timers is due, in milliseconds; `None` where none is armed.
+    pub fn next_due(&self) -> Option<u64>
+        ensures { IsNextDue (machine_of self.now).store (leaves (device_in self.now)) result }
+    {
+        next_due(&self.running.timers)
+    }
+
+    /// The certificate holds of the device, and the device is in a state from which all bounds are kept.
+    pub fn keeps_bounds(&self)
+        ensures holds { DeviceHolds (cert_in self.now) (device_in self.now) }
+        ensures sound { IsSound (cert_in self.now) (device_in self.now) (machine_of self.now) }
+    {
+        let _ = &self.program;
     }
 
     /// The name of the device.

@@ -5,12 +5,12 @@
 
 mod answer;
 mod device;
+mod due;
 mod law;
 mod loading;
 mod names;
 mod refusal;
 mod sharing;
-mod turning;
 
 pub use answer::{Answer, Opening, Step};
 pub use device::Device;
@@ -21,4 +21,3 @@ pub use law::long_datagrams_are_denied;
 pub use loading::{Ready, load, load_boot, load_checked, load_from};
 pub use refusal::Refusal;
 pub use sharing::{release, share};
-pub use turning::{LinkDown, Report};

@@ -1,5 +1,5 @@
--- What calls of links and sinks do. This project's profile.
-use Rattle.std.specs.Prelude.{ℕ, ℤ, ◌≤◌, List, ◌++◌, Bool, take, codes}
+-- What calls of links do. This project's profile.
+use Rattle.std.specs.Prelude.{ℕ, ◌≤◌, List, ◌++◌, Bool, take, codes}
 use Rattle.std.specs.Fmt.{decimal}
 use Rattle.fb_link.specs.declared.udp.SocketFault.{SocketFault}
 use Rattle.fb_link.specs.declared.link.Received.{Received}
@@ -31,11 +31,6 @@ IsWithin _ room = Unit {0}
 abbrev pub failures_of : Received → ℕ
 failures_of Failed = 1
 failures_of _ = 0
-
--- one call of a sink
-pub record Written : Type 0 where
-  pub number : ℕ
-  pub values : List ℤ
 
 -- the code, and the port
 abbrev pub socket_line : SocketFault → List ℕ

@@ -1,4 +1,4 @@
-//! Lists of addresses, which take no memory of their own.
+//! Lists of at most 64 addresses, which take no memory of their own.
 
 ghost use Rattle.std.specs.Prelude.{◌≡◌, ◌<◌, ◌≤◌, [], ◌∷◌, ◌++◌, length};
 ghost use Rattle.fb_link.specs.Socket.{AreHere};
@@ -9,7 +9,7 @@ use std::net::{IpAddr, Ipv4Addr, SocketAddr};
 
 /// To whom a link sends: at most 64 addresses.
 #[derive(Drop)]
-pub(crate) struct Peers {
+pub struct Peers {
     all: [SocketAddr; 64],
     count: usize,
 }
@@ -27,7 +27,7 @@ impl Model for Peers {
 
 impl Peers {
     /// These addresses.
-    pub(crate) fn new(addresses: &[SocketAddr]) -> Self
+    pub fn new(addresses: &[SocketAddr]) -> Self
         requires { length addresses.now ≤ 64 }
         ensures { result ≡ addresses.now }
     {
@@ -52,8 +52,8 @@ impl Peers {
         peers
     }
 
-    // One more address.
-    fn push(&mut self, address: SocketAddr)
+    /// One more address.
+    pub fn push(&mut self, address: SocketAddr)
         requires { length self.old < 64 }
         ensures { self.new ≡ self.old ++ address ∷ [] }
     {
@@ -62,8 +62,9 @@ impl Peers {
     }
 
     /// The addresses.
-    pub(crate) fn as_slice(&self) -> &[SocketAddr]
-        ensures { result.now ≡ self.now }
+    pub fn as_slice(&self) -> &[SocketAddr]
+        ensures all { result.now ≡ self.now }
+        ensures few { length self.now ≤ 64 }
     {
         &self.all[..self.count]
     }
@@ -71,7 +72,7 @@ impl Peers {
 
 /// From whom a link takes datagrams: at most 64 IP addresses.
 #[derive(Drop)]
-pub(crate) struct Senders {
+pub struct Senders {
     all: [IpAddr; 64],
     count: usize,
 }
@@ -89,7 +90,7 @@ impl Model for Senders {
 
 impl Senders {
     /// These addresses.
-    pub(crate) fn new(addresses: &[IpAddr]) -> Self
+    pub fn new(addresses: &[IpAddr]) -> Self
         requires { length addresses.now ≤ 64 }
         ensures { result ≡ addresses.now }
     {
@@ -99,9 +100,19 @@ impl Senders {
         Senders { all, count }
     }
 
+    /// One more address.
+    pub fn push(&mut self, address: IpAddr)
+        requires { length self.old < 64 }
+        ensures { self.new ≡ self.old ++ address ∷ [] }
+    {
+        self.all[self.count] = address;
+        self.count += 1;
+    }
+
     /// The addresses.
-    pub(crate) fn as_slice(&self) -> &[IpAddr]
-        ensures { result.now ≡ self.now }
+    pub fn as_slice(&self) -> &[IpAddr]
+        ensures all { result.now ≡ self.now }
+        ensures few { length self.now ≤ 64 }
     {
         &self.all[..self.count]
     }

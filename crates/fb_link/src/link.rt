@@ -1,7 +1,7 @@
-//! Links and sinks.
+//! Links.
 
 ghost use Rattle.std.specs.Prelude.{◌≡◌, ◌+◌, ℕ, length, if◌then◌else◌};
-ghost use Rattle.fb_link.specs.Link.{LinkCall, Sent, receipt, IsWithin, failures_of, Written};
+ghost use Rattle.fb_link.specs.Link.{LinkCall, Sent, receipt, IsWithin, failures_of};
 ghost use Rattle.fb_link.specs.declared.link.Received.{Received};
 ghost use Rattle.fb_link.specs.declared.link.Received.TheVariants.{Nothing};
 
@@ -47,14 +47,4 @@ pub trait Link {
 
     /// Waits until a datagram may be there, at most so long. A link that cannot wait returns at once.
     fn wait(&self, _most: Duration) {}
-}
-
-/// What takes the values that the OUTPUTs of a device write.
-pub trait Sink {
-    /// What a call does. A sink that tells nothing allows all.
-    ghost takes: { Self → Written → Self → Type 0 } = { λ _ _ _. Unit {0} };
-
-    /// Takes the values of the OUTPUT of a number.
-    fn write(&mut self, number: u16, values: &[i64])
-        ensures { takes self.old (record { number = number; values = values.now }) self.new };
 }

@@ -1,15 +1,15 @@
 -- A turn of a device over a link: the clock, the datagrams that came in, and one dispatch of each resource.
 -- This project's profile.
-use Rattle.std.specs.Prelude.{◌≡◌, ℕ, ◌+◌, ◌<◌, ◌≤◌, List, [], ◌∷◌, ◌++◌, map, length, Bool, true, false, if◌then◌else◌, Result, Ok, Err, Option, Some, None}
+use Rattle.std.specs.Prelude.{◌≡◌, ℕ, ℤ, ◌+◌, ◌<◌, ◌≤◌, List, [], ◌∷◌, ◌++◌, map, length, Bool, true, false, if◌then◌else◌, Result, Ok, Err, Option, Some, None}
 use Rattle.std.specs.List.{flat_map, sum_by, AllByRecursion}
 use Rattle.fb_model.specs.System.{Device}
 use Rattle.fb_model.specs.Messages.{Message, spelling}
 use Rattle.fb_model.specs.Serving.{Effect, Send, Write}
 use Rattle.fb_model.specs.Certificates.{Certificate}
-use Rattle.fb_model.specs.Devices.{Machine, Event, Deliver, Tick, Dispatch, Answer, Admitted, Denied, Expired, Idle, Ran, Run}
-use Rattle.fb_link.specs.Link.{LinkCall, Handed, Silent, Broken, Sent, Written}
-use Rattle.fb_device.specs.declared.turning.Report.{Report}
-use Rattle.fb_device.specs.declared.turning.LinkDown.{LinkDown}
+use Rattle.fb_model.specs.Devices.{Machine, Event, Deliver, Tick, Dispatch, Answer, Admitted, Denied, Expired, Idle, Ran, Run, Happens}
+use Rattle.fb_link.specs.Link.{LinkCall, Handed, Silent, Broken, Sent}
+use Rattle.fb_turn.specs.declared.turning.Report.{Report}
+use Rattle.fb_turn.specs.declared.turning.LinkDown.{LinkDown}
 
 -- these calls, one after another, lead from the first state to the last
 abbrev pub Chain : {S C : Type 0} → (S → C → S → Type 0) → S → List C → S → Type 0
@@ -75,7 +75,12 @@ effect_of (Denied why) = None
 effect_of (Expired count) = None
 effect_of Idle = None
 
--- what the link is given for an effect, and what the sink is
+-- what an OUTPUT writes: its number, and its values
+pub record Written : Type 0 where
+  pub number : ℕ
+  pub values : List ℤ
+
+-- what the link is given for an effect, and what an OUTPUT writes
 abbrev pub sends_for : Option Effect → Bool → List LinkCall
 sends_for (Some (Send message)) taken = Sent (spelling message) taken ∷ []
 sends_for (Some (Write number values)) taken = []
@@ -119,6 +124,19 @@ takings s = taken_in (effect_of s.answer) s.taken
 abbrev pub losses : Service → ℕ
 losses s = lost_in (effect_of s.answer) s.taken
 
+-- ---- what is seen
+
+-- a datagram that came and what was answered, or what a dispatch answered and whether the link took what was sent
+pub data Sight : Type 0 where
+  Came : (bytes : List ℕ) → (answer : Answer) → Sight
+  Served : (answer : Answer) → (taken : Bool) → Sight
+
+abbrev pub coming : Receipt → Sight
+coming r = Came r.bytes r.answer
+
+abbrev pub serving : Service → Sight
+serving s = Served s.answer s.taken
+
 -- the dispatches of the resources from this number on
 abbrev pub each_once : ℕ → List Service → List Event
 each_once q [] = []
@@ -143,6 +161,10 @@ answers_of t = Expired t.fired ∷ (map (λ r. r.answer) t.receipts ++ map (λ s
 abbrev pub link_calls_of : Turn → List LinkCall
 link_calls_of t = map handing t.receipts ++ (close_calls t.close ++ flat_map sends t.services)
 
+-- all that is seen of a turn, in order
+abbrev pub sights_of : Turn → List Sight
+sights_of t = map coming t.receipts ++ map serving t.services
+
 -- the calls of a link that failed
 abbrev pub failures_of : Turn → ℕ
 failures_of t = (if is_cut t.close then 1 else 0) + sum_by losses t.services
@@ -163,11 +185,11 @@ abbrev pub IsTold : Turn → ℕ → Result Report LinkDown → Type 0
 IsTold t resources (Ok report) = (is_cut t.close ≡ false) × (length t.services ≡ resources) × (report ≡ report_of t)
 IsTold t resources (Err down) = (t.close ≡ Cut) × (t.services ≡ [])
 
--- a turn is the run of exactly these events, with exactly these calls of the link and the sink
-pub record IsTurn {L W : Type 0} (cert : Certificate) (device : Device) (calls : L → LinkCall → L → Type 0) (count : L → ℕ) (takes : W → Written → W → Type 0) (now : ℕ) (s : Machine) (l : L) (w : W) (turn : Turn) (t : Machine) (m : L) (v : W) : Type 0 where
+-- a turn is the run of exactly these events, with exactly these calls of the link, and just this is seen of it
+pub record IsTurn {L W : Type 0} (cert : Certificate) (device : Device) (calls : L → LinkCall → L → Type 0) (count : L → ℕ) (sees : W → Sight → W → Type 0) (now : ℕ) (s : Machine) (l : L) (w : W) (turn : Turn) (t : Machine) (m : L) (v : W) : Type 0 where
   pub device_run : Run cert device s (events_of now turn) (answers_of turn) t
   pub link_run : Chain calls l (link_calls_of turn) m
-  pub sink_run : Chain takes w (flat_map writes turn.services) v
+  pub seen : Chain sees w (sights_of turn) v
   pub datagrams : AllByRecursion (λ r. length r.bytes ≤ 160) turn.receipts
   pub closes : ClosesAt turn.close (length turn.receipts)
   pub counted : count m ≡ count l + failures_of turn
@@ -175,22 +197,28 @@ pub record IsTurn {L W : Type 0} (cert : Certificate) (device : Device) (calls :
 -- ---- the parts of a turn
 
 -- the receives of a turn, with the deliveries between them
-pub record Receives {L : Type 0} (cert : Certificate) (device : Device) (calls : L → LinkCall → L → Type 0) (count : L → ℕ) (s : Machine) (l : L) (all : List Receipt) (close : Close) (t : Machine) (m : L) : Type 0 where
+pub record Receives {L W : Type 0} (cert : Certificate) (device : Device) (calls : L → LinkCall → L → Type 0) (count : L → ℕ) (sees : W → Sight → W → Type 0) (s : Machine) (l : L) (w : W) (all : List Receipt) (close : Close) (t : Machine) (m : L) (v : W) : Type 0 where
   pub device_run : Run cert device s (map delivery all) (map (λ r. r.answer) all) t
   pub link_run : Chain calls l (map handing all ++ close_calls close) m
+  pub seen : Chain sees w (map coming all) v
   pub datagrams : AllByRecursion (λ r. length r.bytes ≤ 160) all
   pub closes : ClosesAt close (length all)
   pub counted : count m ≡ count l + (if is_cut close then 1 else 0)
 
 -- the dispatches of the first resources
-pub record Serves {L W : Type 0} (cert : Certificate) (device : Device) (calls : L → LinkCall → L → Type 0) (count : L → ℕ) (takes : W → Written → W → Type 0) (s : Machine) (l : L) (w : W) (all : List Service) (t : Machine) (m : L) (v : W) : Type 0 where
+pub record Serves {L W : Type 0} (cert : Certificate) (device : Device) (calls : L → LinkCall → L → Type 0) (count : L → ℕ) (sees : W → Sight → W → Type 0) (s : Machine) (l : L) (w : W) (all : List Service) (t : Machine) (m : L) (v : W) : Type 0 where
   pub device_run : Run cert device s (each_once 0 all) (map (λ o. o.answer) all) t
   pub link_run : Chain calls l (flat_map sends all) m
-  pub sink_run : Chain takes w (flat_map writes all) v
+  pub seen : Chain sees w (map serving all) v
   pub counted : count m ≡ count l + sum_by losses all
 
--- what an effect does outside of the device
-pub record GoesOut {L W : Type 0} (calls : L → LinkCall → L → Type 0) (count : L → ℕ) (takes : W → Written → W → Type 0) (effect : Option Effect) (l : L) (w : W) (taken : Bool) (m : L) (v : W) : Type 0 where
+-- what an effect gives to the link
+pub record GoesOut {L : Type 0} (calls : L → LinkCall → L → Type 0) (count : L → ℕ) (effect : Option Effect) (l : L) (taken : Bool) (m : L) : Type 0 where
   pub link_run : Chain calls l (sends_for effect taken) m
-  pub sink_run : Chain takes w (writes_for effect) v
   pub counted : count m ≡ count l + lost_in effect taken
+
+-- the dispatch of a resource
+pub record ServesOne {L W : Type 0} (cert : Certificate) (device : Device) (calls : L → LinkCall → L → Type 0) (count : L → ℕ) (sees : W → Sight → W → Type 0) (resource : ℕ) (s : Machine) (l : L) (w : W) (one : Service) (t : Machine) (m : L) (v : W) : Type 0 where
+  pub happens : Happens cert device s (Dispatch resource) one.answer t
+  pub out : GoesOut calls count (effect_of one.answer) l one.taken m
+  pub seen : sees w (serving one) v

@@ -1,15 +1,15 @@
 use Rattle.std.proofs.Common.{◌≡◌, ◌≤◌, List, length}
 use Rattle.std.specs.List.{sum_by}
 use Rattle.fb_device_state.specs.Machines.{device_in, cert_in, machine_of}
-use Rattle.fb_device.specs.Turns.{Receipt, denials}
-use Rattle.fb_device.proofs.Turned.{ReceivesSoFar}
-use Rattle.fb_device.proofs.turning.receive_all.Given as goal
+use Rattle.fb_turn.specs.Turns.{Receipt, denials}
+use Rattle.fb_turn.proofs.Turned.{ReceivesSoFar}
+use Rattle.fb_turn.proofs.turning.receive_all.Given as goal
 
--- each receive so far gave a datagram, which was delivered and counted
+-- each receive so far gave a datagram, which was delivered, seen and counted
 abbrev pub invariant-loop : goal.invariant-loop
 invariant-loop g l =
     (all : List Receipt)
-    × ReceivesSoFar (cert_in l.fn.device) (device_in l.fn.device) g.L.Link.steps g.L.Link.count (machine_of l.fn.device) l.fn.link all (machine_of l.device) l.link
+    × ReceivesSoFar (cert_in l.fn.device) (device_in l.fn.device) g.L.Link.steps g.L.Link.count g.W.Watch.sees (machine_of l.fn.device) l.fn.link l.fn.watch all (machine_of l.device) l.link l.watch
     × (length all ≡ l.counter)
     × (l.received ≡ length all)
     × (l.denied ≡ sum_by denials all)

@@ -1,14 +1,14 @@
 use Rattle.std.proofs.Common.{◌≡◌, ◌≤◌, List, length}
 use Rattle.std.specs.List.{sum_by}
 use Rattle.fb_device_state.specs.Machines.{device_in, cert_in, machine_of}
-use Rattle.fb_device.specs.Turns.{Service, Serves, runs, takings, losses}
-use Rattle.fb_device.proofs.turning.serve_all.Given as goal
+use Rattle.fb_turn.specs.Turns.{Service, Serves, runs, takings, losses}
+use Rattle.fb_turn.proofs.turning.serve_all.Given as goal
 
 -- the resources so far were dispatched and counted
 abbrev pub invariant-loop-resource : goal.invariant-loop-resource
 invariant-loop-resource g l =
     (all : List Service)
-    × Serves (cert_in l.fn.device) (device_in l.fn.device) g.L.Link.steps g.L.Link.count g.W.Sink.takes (machine_of l.fn.device) l.fn.link l.fn.sink all (machine_of l.device) l.link l.sink
+    × Serves (cert_in l.fn.device) (device_in l.fn.device) g.L.Link.steps g.L.Link.count g.W.Watch.sees (machine_of l.fn.device) l.fn.link l.fn.watch all (machine_of l.device) l.link l.watch
     × (length all ≡ l.resource)
     × (l.ran ≡ sum_by runs all)
     × (l.sent ≡ sum_by takings all)
