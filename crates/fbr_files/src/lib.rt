@@ -14,4 +14,4 @@ pub use fault::Fault;
 pub use outcome::{print_outcome, print_text};
 pub use reading::{FileText, Held, LIMIT, read_file, read_whole};
 pub use sources::{ReadFault, Sources};
-pub use writing::{into_another, write_into};
+pub use writing::{into_another, put_text, write_into};

@@ -1,7 +1,7 @@
 //! Files that are written.
 
-ghost use Rattle.std.specs.Prelude.{◌≡◌, ◌≤◌, IfOk, option_map, true, false};
-ghost use Rattle.fbr_files.specs.Outcomes.{IsReadFault};
+ghost use Rattle.std.specs.Prelude.{◌≡◌, ◌≤◌, IfOk, MatchResult, option_map, true, false};
+ghost use Rattle.fbr_files.specs.Outcomes.{IsContents, IsReadFault};
 ghost use Rattle.fbr_files.specs.Writing.{AreApart, LeavesOthers, Meet, Writes};
 
 use crate::fault::Fault;
@@ -35,6 +35,17 @@ fn fault_of<'a>(error: &io::Error, name: &'a str) -> Fault<'a>
     }
 }
 
+/// Puts a text into a file, in place of what it held; or says why not, and then it holds what it held. Other files stay as they are.
+pub fn put_text<'a, S: Sources>(files: &mut S, name: &'a str, text: &[u8]) -> Result<(), Fault<'a>>
+    ensures put { MatchResult result (λ _. IsContents (S.contents files.new name.now) text.now) (λ f. IsReadFault name.now f × (S.contents files.new name.now ≡ S.contents files.old name.now)) }
+    ensures others { LeavesOthers (S.same files.old) name.now (S.contents files.old) (S.contents files.new) }
+{
+    match files.write(name, text) {
+        Ok(()) => Ok(()),
+        Err(error) => Err(fault_of(&error, name)),
+    }
+}
+
 /// Writes a text into a file, and nothing else; or tells that it could not be written, and people too. Other files stay as they are.
 pub fn write_into<'a, S: Sources, W: Write, E: Write>(
     files: &mut S,
@@ -47,11 +58,11 @@ pub fn write_into<'a, S: Sources, W: Write, E: Write>(
     ensures others { LeavesOthers (S.same files.old) name.now (S.contents files.old) (S.contents files.new) }
     ensures status { IfOk result (λ status. status ≤ 4) }
 {
-    match files.write(name, text) {
+    match put_text(files, name, text) {
         Ok(()) => Ok(0),
-        Err(error) => {
+        Err(fault) => {
             let _ = writeln!(errors, "fbr: {name} could not be written");
-            print_outcome(Err(fault_of(&error, name)), output)
+            print_outcome(Err(fault), output)
         }
     }
 }

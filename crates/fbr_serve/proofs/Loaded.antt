@@ -12,7 +12,8 @@ use Rattle.fbr_files.specs.declared.fault.Fault.{Fault}
 use Rattle.fbr_files.specs.declared.fault.Fault.TheVariants as faults
 use Rattle.fbr_files.specs.Outcomes.{Tells, refusal, IsContents, IsReadFault}
 use Rattle.fbr_words.specs.Program.{Service}
-use Rattle.fbr_serve.specs.Serving.{IsStarted, IsTextsReady, IsFilesReady, IsFilesDevice, IsTextsFault, IsFilesFault, TellsDevice, TellsServe, no_device, a_device}
+use Rattle.fbr_files.specs.Writing.{Holdings}
+use Rattle.fbr_serve.specs.Serving.{IsStarted, IsTextsReady, IsFilesReady, IsFilesDevice, IsTextsFault, IsFilesFault, TakesBoot, HasNoBoot, TellsDevice, TellsServe, no_boot, no_device, a_device}
 
 -- ---- the files
 
@@ -53,22 +54,22 @@ texts_at_fault q held_app held_cert app cert faults.LinkDown a c h = absurd h
 texts_at_fault q held_app held_cert app cert (faults.Socket port) a c h = absurd h
 
 -- what is loaded of the texts that two files hold is loaded of the files
-pub files_loaded : (q : Service) (held_app held_cert : Option (List ℕ)) (app cert : List ℕ) (r : Result Session Fault) → IsContents held_app app → IsContents held_cert cert
-    → MatchResult r (IsTextsReady q app cert) (IsTextsFault app cert q.device) → MatchResult r (IsFilesReady q held_app held_cert) (IsFilesFault q held_app held_cert)
-files_loaded q held_app held_cert app cert (Ok s) a c h = (app, cert, a, c, h)
-files_loaded q held_app held_cert app cert (Err f) a c h = texts_at_fault q held_app held_cert app cert f a c h
+pub files_loaded : (q : Service) (boot : ℕ) (held_app held_cert : Option (List ℕ)) (app cert : List ℕ) (r : Result Session Fault) → IsContents held_app app → IsContents held_cert cert
+    → MatchResult r (IsTextsReady q boot app cert) (IsTextsFault app cert q.device) → MatchResult r (IsFilesReady q boot held_app held_cert) (IsFilesFault q held_app held_cert)
+files_loaded q boot held_app held_cert app cert (Ok s) a c h = (app, cert, a, c, h)
+files_loaded q boot held_app held_cert app cert (Err f) a c h = texts_at_fault q held_app held_cert app cert f a c h
 
 -- ---- the device
 
 -- a device that is ready starts
-pub started : (q : Service) (held_app held_cert : Option (List ℕ)) (s t : Session) → IsFilesReady q held_app held_cert s
+pub started : (q : Service) (boot : ℕ) (held_app held_cert : Option (List ℕ)) (s t : Session) → IsFilesReady q boot held_app held_cert s
     → ((first : ℕ) (stamp : Stamp) → machine_of s ≡ silent (device_in s) first stamp → machine_of t ≡ at_first (device_in s) first stamp)
-    → t.verified ≡ s.verified → t.number ≡ s.number → IsFilesDevice q held_app held_cert t
-started q held_app held_cert s t h first v n =
+    → t.verified ≡ s.verified → t.number ≡ s.number → IsFilesDevice q boot held_app held_cert t
+started q boot held_app held_cert s t h first v n =
     let app = h.0 in
     let cert = h.1 in
     let r = h.4 in
-    let stamp : Stamp = record { boot = q.boot; sequence = 1 } in
+    let stamp : Stamp = record { boot = boot; sequence = 1 } in
     let device : device_in s ≡ r.device = ap (λ o. elim o [ None ↦ record { name = []; resources = [] } | Some d ↦ d ]) r.stands in
     let machine : machine_of t ≡ at_first (device_in s) 1 stamp = first 1 stamp (r.silent ∙ ap (λ (d : Device). silent d 1 stamp) (sym device)) in (
       app,
@@ -86,16 +87,17 @@ started q held_app held_cert s t h first v n =
 
 -- ---- what is told
 
-pub refused_served : {E : Type 0} (q : Service) (held_app held_cert : Option (List ℕ)) (f : Fault) (old new : Option (List ℕ)) (r : Result ℕ E)
-    → IsFilesFault q held_app held_cert f → IfOk r (λ status. Tells (refusal f) old new status) → IfOk r (λ status. TellsServe q held_app held_cert old new status)
-refused_served q held_app held_cert f old new (Ok status) is h = no_device f is h
-refused_served q held_app held_cert f old new (Err e) is h = tt
+pub refused_served : {E : Type 0} (q : Service) (before after : Holdings) (boot : ℕ) (f : Fault) (old new : Option (List ℕ)) (r : Result ℕ E) → TakesBoot q.life.boot before after boot
+    → IsFilesFault q (before q.app) (before q.cert) f → IfOk r (λ status. Tells (refusal f) old new status) → IfOk r (λ status. TellsServe q before after old new status)
+refused_served q before after boot f old new (Ok status) taken is h = no_device boot taken f is h
+refused_served q before after boot f old new (Err e) taken is h = tt
 
-pub memory_served : {E : Type 0} (q : Service) (held_app held_cert : Option (List ℕ)) (old new : Option (List ℕ)) (r : Result ℕ E)
-    → IfOk r (λ status. Tells (refusal faults.Memory) old new status) → IfOk r (λ status. TellsServe q held_app held_cert old new status)
-memory_served q held_app held_cert old new r h = refused_served q held_app held_cert faults.Memory old new r tt h
+pub unbooted_served : {E : Type 0} (q : Service) (before after : Holdings) (f : Fault) (old new : Option (List ℕ)) (r : Result ℕ E) → HasNoBoot q.life.boot before after f
+    → IfOk r (λ status. Tells (refusal f) old new status) → IfOk r (λ status. TellsServe q before after old new status)
+unbooted_served q before after f old new (Ok status) is h = no_boot f is h
+unbooted_served q before after f old new (Err e) is h = tt
 
-pub device_served : {E : Type 0} (q : Service) (held_app held_cert : Option (List ℕ)) (s : Session) (old new : Option (List ℕ)) (r : Result ℕ E)
-    → IsFilesDevice q held_app held_cert s → IfOk r (λ status. TellsDevice q s old new status) → IfOk r (λ status. TellsServe q held_app held_cert old new status)
-device_served q held_app held_cert s old new (Ok status) is h = a_device s is h
-device_served q held_app held_cert s old new (Err e) is h = tt
+pub device_served : {E : Type 0} (q : Service) (before after : Holdings) (boot : ℕ) (s : Session) (old new : Option (List ℕ)) (r : Result ℕ E) → TakesBoot q.life.boot before after boot
+    → IsFilesDevice q boot (before q.app) (before q.cert) s → IfOk r (λ status. TellsDevice q s old new status) → IfOk r (λ status. TellsServe q before after old new status)
+device_served q before after boot s old new (Ok status) taken is h = a_device boot taken s is h
+device_served q before after boot s old new (Err e) taken is h = tt

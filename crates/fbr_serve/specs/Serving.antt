@@ -1,30 +1,34 @@
 -- Turns of a device over a link, and what `fbr serve` tells: this project's profile.
-use Rattle.std.specs.Prelude.{◌≡◌, ◌≤◌, ℕ, ◌+◌, ◌⊎◌, Bool, true, false, List, [], ◌∷◌, ◌++◌, length, Option, Some, Result, Ok, Err, codes, string_bytes, slice_get}
+use Rattle.std.specs.Prelude.{◌≡◌, ◌≤◌, ℕ, ◌+◌, ◌-◌, ◌⊎◌, ◌==◌, nat_lt, min, Bool, true, false, List, [], ◌∷◌, ◌++◌, length, take, Option, Some, None, Result, Ok, Err, codes, string_bytes, slice_get, slice_index, option_and_then, if◌then◌else◌}
 use Rattle.std.specs.List.{flat_map, sum_by, AllByRecursion}
 use Rattle.std.specs.Fmt.{decimal}
+use Rattle.std.specs.Str.{trim}
 use Rattle.std.specs.Io.KnownBytes.{Appends}
 use Rattle.fb_model.specs.Messages.{Stamp}
 use Rattle.fb_model.specs.System.{Device}
 use Rattle.fb_model.specs.Certificates.{Certificate}
 use Rattle.fb_model.specs.Devices.{Machine, at_first}
 use Rattle.fb_model.specs.Spelling.{upper}
-use Rattle.fb_link.specs.Link.{LinkCall, Written}
+use Rattle.fb_link.specs.Link.{LinkCall}
+use Rattle.fb_turn.specs.Turns.{Turn, Cut, is_cut, Sight, Came, Served, Written, IsTurn, effect_of, writes_for, writes, report_of}
+use Rattle.fb_turn.specs.declared.turning.Report.{Report}
 use Rattle.fb_verdict.specs.Verdicts as verdicts
 use Rattle.fb_verified.specs.Checked as checked
 use Rattle.fb_verified.specs.Lookups.{is_same_path}
 use Rattle.fb_device_state.specs.Sessions.{Session}
 use Rattle.fb_device_state.specs.Machines.{device_in, cert_in, machine_of}
 use Rattle.fb_device.specs.Loads.{IsLoaded, IsUnknown}
-use Rattle.fb_device.specs.Turns.{Turn, Cut, is_cut, IsTurn, writes, report_of}
-use Rattle.fb_device.specs.declared.turning.Report.{Report}
 use Rattle.fb_script.specs.Texts.{write_text}
-use Rattle.fbr_serve.specs.declared.turns.Stop.{Stop}
-use Rattle.fbr_serve.specs.declared.turns.Stop.TheVariants as stops
-use Rattle.fbr_serve.specs.declared.turns.Sums.{Sums}
+use Rattle.fbr_serve.specs.declared.stop.Stop.{Stop}
+use Rattle.fbr_serve.specs.declared.stop.Stop.TheVariants as stops
+use Rattle.fbr_serve.specs.declared.sums.Sums.{Sums}
+use Rattle.fbr_serve.specs.declared.turns.Ran.{Ran}
 use Rattle.fbr_files.specs.declared.fault.Fault.{Fault}
 use Rattle.fbr_files.specs.declared.fault.Fault.TheVariants as faults
-use Rattle.fbr_files.specs.Outcomes.{Tells, refusal, IsContents}
-use Rattle.fbr_words.specs.Program.{Service}
+use Rattle.fb_numbers.specs.Numbers.{long_number_in}
+use Rattle.fbr_files.specs.Outcomes.{Tells, refusal, IsContents, IsReadFault}
+use Rattle.fbr_files.specs.Writing.{Holdings}
+use Rattle.fbr_words.specs.Program.{Boot, numbered, in_file, Life, Telling, Service}
 
 -- ---- turns
 
@@ -33,11 +37,11 @@ pub record TurnAt : Type 0 where
   pub now : ℕ
   pub turn : Turn
 
--- a sink of which nothing is told
-abbrev pub Anything : Unit {0} → Written → Unit {0} → Type 0
-Anything _ written _ = Unit {0}
+-- one who watches and tells nothing
+abbrev pub Anything : Unit {0} → Sight → Unit {0} → Type 0
+Anything _ sight _ = Unit {0}
 
--- a turn of a device over a link, whatever takes what it writes
+-- a turn of a device over a link, whoever watches it
 abbrev pub IsTaken : {L : Type 0} → Certificate → Device → (L → LinkCall → L → Type 0) → (L → ℕ) → Machine → L → TurnAt → Machine → L → Type 0
 IsTaken cert device calls count s l x t m = IsTurn cert device calls count Anything x.now s l tt x.turn t m tt
 
@@ -62,37 +66,32 @@ pub record IsCutOff (turn : Turn) : Type 0 where
 abbrev pub report_at : TurnAt → Report
 report_at x = report_of x.turn
 
+-- a count of 64 bits stays where it can rise no more
+abbrev pub capped : ℕ → ℕ
+capped n = min n 18446744073709551615
+
 abbrev pub sums_of : List TurnAt → Sums
 sums_of all =
     record {
-      fired = sum_by (λ x. (report_at x).fired) all;
-      received = sum_by (λ x. (report_at x).received) all;
-      denied = sum_by (λ x. (report_at x).denied) all;
-      ran = sum_by (λ x. (report_at x).ran) all;
-      sent = sum_by (λ x. (report_at x).sent) all;
-      lost = sum_by (λ x. (report_at x).lost) all;
+      fired = capped (sum_by (λ x. (report_at x).fired) all);
+      received = capped (sum_by (λ x. (report_at x).received) all);
+      denied = capped (sum_by (λ x. (report_at x).denied) all);
+      ran = capped (sum_by (λ x. (report_at x).ran) all);
+      sent = capped (sum_by (λ x. (report_at x).sent) all);
+      lost = capped (sum_by (λ x. (report_at x).lost) all);
     }
 
 -- with one report more
 abbrev pub with_report : Sums → Report → Sums
 with_report s r =
     record {
-      fired = s.fired + r.fired;
-      received = s.received + r.received;
-      denied = s.denied + r.denied;
-      ran = s.ran + r.ran;
-      sent = s.sent + r.sent;
-      lost = s.lost + r.lost;
+      fired = capped (s.fired + r.fired);
+      received = capped (s.received + r.received);
+      denied = capped (s.denied + r.denied);
+      ran = capped (s.ran + r.ran);
+      sent = capped (s.sent + r.sent);
+      lost = capped (s.lost + r.lost);
     }
-
--- no sum is above this number
-pub record AreWithin (most : ℕ) (s : Sums) : Type 0 where
-  pub fired : s.fired ≤ most
-  pub received : s.received ≤ most
-  pub denied : s.denied ≤ most
-  pub ran : s.ran ≤ most
-  pub sent : s.sent ≤ most
-  pub lost : s.lost ≤ most
 
 -- `fired 0 received 1 denied 0`
 abbrev pub came_text : Sums → List ℕ
@@ -108,16 +107,25 @@ sums_text s = came_text s ++ codes " " ++ went_text s
 
 -- ---- what they print
 
--- `write 1 9`, and a line feed
-abbrev pub write_line : Written → List ℕ
-write_line w = write_text w.number w.values ++ 10 ∷ []
+-- the moment in milliseconds and a blank, where lines begin with the clock
+abbrev pub clock_text : Bool → ℕ → List ℕ
+clock_text timed now = if timed then decimal now ++ codes " " else []
+
+-- `write 1 9`, or `12304 write 1 9`, and a line feed
+abbrev pub write_line : Bool → ℕ → Written → List ℕ
+write_line timed now w = clock_text timed now ++ (write_text w.number w.values ++ 10 ∷ [])
 
 -- a line for each write of a turn, in order
-abbrev pub turn_lines : Turn → List ℕ
-turn_lines turn = flat_map write_line (flat_map writes turn.services)
+abbrev pub turn_lines : Bool → TurnAt → List ℕ
+turn_lines timed x = flat_map (write_line timed x.now) (flat_map writes x.turn.services)
 
-abbrev pub lines_of : List TurnAt → List ℕ
-lines_of all = flat_map (λ x. turn_lines x.turn) all
+abbrev pub lines_of : Bool → List TurnAt → List ℕ
+lines_of timed all = flat_map (turn_lines timed) all
+
+-- the line for what is seen, where a dispatch writes
+abbrev pub sight_lines : Bool → ℕ → Sight → List ℕ
+sight_lines timed now (Came bytes answer) = []
+sight_lines timed now (Served answer taken) = flat_map (write_line timed now) (writes_for (effect_of answer))
 
 -- ---- one turn
 
@@ -125,13 +133,12 @@ lines_of all = flat_map (λ x. turn_lines x.turn) all
 abbrev pub EndsTurn : Device → Turn → Result Report Stop → Type 0
 EndsTurn device turn (Ok report) = IsWhole device turn × (report ≡ report_of turn)
 EndsTurn device turn (Err stops.LinkDown) = IsCutOff turn
-EndsTurn device turn (Err stops.Output) = IsWhole device turn
+EndsTurn device turn (Err stops.Output) = ⊥
 EndsTurn device turn (Err stops.Clock) = ⊥
 
--- the writer took the lines of a turn, unless it failed
-abbrev pub PrintsTurn : Option (List ℕ) → Option (List ℕ) → Turn → Result Report Stop → Type 0
-PrintsTurn old new turn (Err stops.Output) = Unit {0}
-PrintsTurn old new turn result = Appends old new (turn_lines turn)
+-- the writer took the lines of a turn, unless one was lost
+abbrev pub PrintsTurn : Bool → Option (List ℕ) → Option (List ℕ) → TurnAt → Bool → Type 0
+PrintsTurn timed old new x lost = lost ≡ false → Appends old new (turn_lines timed x)
 
 -- ---- all turns
 
@@ -143,23 +150,56 @@ pub record EndsCutOff (device : Device) (all : List TurnAt) : Type 0 where
   pub whole : AllByRecursion (λ x. IsWhole device x.turn) before
   pub cut : IsCutOff last.turn
 
--- turns that were to be so many come to these sums, or end early
-abbrev pub EndAs : Device → ℕ → List TurnAt → Result Sums Stop → Type 0
-EndAs device n all (Ok sums) = (length all ≡ n) × AllByRecursion (λ x. IsWhole device x.turn) all × (sums ≡ sums_of all)
-EndAs device n all (Err stops.LinkDown) = (length all ≤ n) × EndsCutOff device all
-EndAs device n all (Err stops.Output) = (length all ≤ n) × AllByRecursion (λ x. IsWhole device x.turn) all
-EndAs device n all (Err stops.Clock) = (length all ≤ n) × AllByRecursion (λ x. IsWhole device x.turn) all
+-- turns that were to be so many at most come to these sums, or end early: where a receive failed, where a line was lost that may not be, or where there was no clock.
+-- They are exactly so many where nothing else was to end them.
+abbrev pub EndAs : Device → Bool → ℕ → List TurnAt → Result Sums Stop → Type 0
+EndAs device until n all (Ok sums) = (length all ≤ n) × (until ≡ false → length all ≡ n) × AllByRecursion (λ x. IsWhole device x.turn) all × (sums ≡ sums_of all)
+EndAs device until n all (Err stops.LinkDown) = (length all ≤ n) × EndsCutOff device all
+EndAs device until n all (Err stops.Output) = (length all ≤ n) × AllByRecursion (λ x. IsWhole device x.turn) all
+EndAs device until n all (Err stops.Clock) = (length all ≤ n) × AllByRecursion (λ x. IsWhole device x.turn) all
 
--- the writer took the lines of the turns, unless it failed
-abbrev pub Prints : Option (List ℕ) → Option (List ℕ) → List TurnAt → Result Sums Stop → Type 0
-Prints old new all (Err stops.Output) = Unit {0}
-Prints old new all result = Appends old new (lines_of all)
+-- the writer took the lines of the turns, unless one was lost
+abbrev pub Prints : Bool → Option (List ℕ) → Option (List ℕ) → List TurnAt → Bool → Type 0
+Prints timed old new all lost = lost ≡ false → Appends old new (lines_of timed all)
 
--- a device takes turns over a link that were to be so many
-pub record IsServed {L : Type 0} (cert : Certificate) (device : Device) (calls : L → LinkCall → L → Type 0) (count : L → ℕ) (n : ℕ) (s : Machine) (l : L) (old : Option (List ℕ)) (all : List TurnAt) (t : Machine) (m : L) (new : Option (List ℕ)) (result : Result Sums Stop) : Type 0 where
+-- lines that are lost end turns only where that is said
+abbrev pub EndsByOutput : Bool → Ran → Type 0
+EndsByOutput strict r = r.end ≡ Err stops.Output → (strict ≡ true) × (r.is_lost ≡ true)
+
+-- a device takes turns over a link, as it is said
+pub record IsServed {L : Type 0} (cert : Certificate) (device : Device) (calls : L → LinkCall → L → Type 0) (count : L → ℕ) (life : Life) (telling : Telling) (s : Machine) (l : L) (old : Option (List ℕ)) (all : List TurnAt) (t : Machine) (m : L) (new : Option (List ℕ)) (ran : Ran) : Type 0 where
   pub turns : Turns cert device calls count s l all t m
-  pub ends : EndAs device n all result
-  pub printed : Prints old new all result
+  pub ends : EndAs device life.until_eof life.turns all ran.end
+  pub printed : Prints telling.clock old new all ran.is_lost
+  pub output : EndsByOutput telling.strict ran
+
+-- ---- the boot
+
+-- a boot behind which there is another
+abbrev pub with_next : ℕ → Option ℕ
+with_next boot = if nat_lt boot 4294967295 then Some boot else None
+
+-- the boot that a file holds: digits, perhaps with white space around them. The last one has none behind it.
+abbrev pub boot_in : List ℕ → Option ℕ
+boot_in text = option_and_then with_next (long_number_in (trim text))
+
+-- the text of the next one
+abbrev pub next_text : ℕ → List ℕ
+next_text boot = decimal (boot + 1) ++ 10 ∷ []
+
+-- a file of this name held this boot, and holds the next one
+abbrev pub TakesFileBoot : List ℕ → Option (List ℕ) → Option (List ℕ) → ℕ → Type 0
+TakesFileBoot name before after boot = (text : List ℕ) × IsContents before text × (boot_in text ≡ Some boot) × IsContents after (next_text boot)
+
+-- a device starts with this boot, and the file that holds it, where one does, holds the next one then
+abbrev pub TakesBoot : Boot → Holdings → Holdings → ℕ → Type 0
+TakesBoot (numbered n) before after boot = (boot ≡ n) × (after ≡ before)
+TakesBoot (in_file name) before after boot = TakesFileBoot name (before name) (after name) boot
+
+-- there is no boot: its file cannot be read or written, or holds none, or memory ran out. It holds what it held.
+abbrev pub HasNoBoot : Boot → Holdings → Holdings → Fault → Type 0
+HasNoBoot (numbered n) before after fault = ⊥
+HasNoBoot (in_file name) before after fault = IsReadFault name fault × (after name ≡ before name)
 
 -- ---- what the command tells
 
@@ -186,18 +226,18 @@ IsFilesFault q held_app held_cert f =
     (app : List ℕ) × (cert : List ℕ) × IsContents held_app app × IsContents held_cert cert × IsTextsFault app cert q.device f
 
 -- the device of a name in two texts, before it starts
-abbrev pub IsTextsReady : Service → List ℕ → List ℕ → Session → Type 0
-IsTextsReady q app cert s = IsLoaded app cert q.device 1 (record { boot = q.boot; sequence = 1 }) s
+abbrev pub IsTextsReady : Service → ℕ → List ℕ → List ℕ → Session → Type 0
+IsTextsReady q boot app cert s = IsLoaded app cert q.device 1 (record { boot = boot; sequence = 1 }) s
 
 -- the same of two files
-abbrev pub IsFilesReady : Service → Option (List ℕ) → Option (List ℕ) → Session → Type 0
-IsFilesReady q held_app held_cert s =
-    (app : List ℕ) × (cert : List ℕ) × IsContents held_app app × IsContents held_cert cert × IsTextsReady q app cert s
+abbrev pub IsFilesReady : Service → ℕ → Option (List ℕ) → Option (List ℕ) → Session → Type 0
+IsFilesReady q boot held_app held_cert s =
+    (app : List ℕ) × (cert : List ℕ) × IsContents held_app app × IsContents held_cert cert × IsTextsReady q boot app cert s
 
 -- the device of two files that is asked for, as it is once it has started
-abbrev pub IsFilesDevice : Service → Option (List ℕ) → Option (List ℕ) → Session → Type 0
-IsFilesDevice q held_app held_cert s =
-    (app : List ℕ) × (cert : List ℕ) × IsContents held_app app × IsContents held_cert cert × IsStarted app cert q.device q.boot s
+abbrev pub IsFilesDevice : Service → ℕ → Option (List ℕ) → Option (List ℕ) → Session → Type 0
+IsFilesDevice q boot held_app held_cert s =
+    (app : List ℕ) × (cert : List ℕ) × IsContents held_app app × IsContents held_cert cert × IsStarted app cert q.device boot s
 
 -- behind the lines of the turns stand their sums, or that the link is down; 3 where the writer or the clock failed
 abbrev pub TellsStop : Result Sums Stop → Option (List ℕ) → Option (List ℕ) → ℕ → Type 0
@@ -214,22 +254,24 @@ abbrev pub failed_calls : ℕ → ℕ
 failed_calls n = n
 
 -- a device takes turns over such a link, and this is told
-pub record TellsTurns (n : ℕ) (s : Session) (old new : Option (List ℕ)) (status : ℕ) : Type 0 where
+pub record TellsTurns (life : Life) (telling : Telling) (s : Session) (old new : Option (List ℕ)) (status : ℕ) : Type 0 where
   pub all : List TurnAt
   pub last : Machine
   pub failed : ℕ
   pub mid : Option (List ℕ)
-  pub result : Result Sums Stop
-  pub served : IsServed (cert_in s) (device_in s) AnyCall failed_calls n (machine_of s) 0 old all last failed mid result
-  pub told : TellsStop result mid new status
+  pub ran : Ran
+  pub served : IsServed (cert_in s) (device_in s) AnyCall failed_calls life telling (machine_of s) 0 old all last failed mid ran
+  pub told : TellsStop ran.end mid new status
 
 -- of a device that has started: that nothing can be bound to the port, or its turns
 abbrev pub TellsDevice : Service → Session → Option (List ℕ) → Option (List ℕ) → ℕ → Type 0
-TellsDevice q s old new status = Tells (refusal (faults.Socket q.port)) old new status ⊎ TellsTurns q.turns s old new status
+TellsDevice q s old new status = Tells (refusal (faults.Socket q.network.bind.port)) old new status ⊎ TellsTurns q.life q.telling s old new status
 
--- what `serve` tells
-pub data TellsServe (q : Service) (held_app held_cert old new : Option (List ℕ)) (status : ℕ) : Type 0 where
+-- what `serve` tells, and what it leaves in files
+pub data TellsServe (q : Service) (before after : Holdings) (old new : Option (List ℕ)) (status : ℕ) : Type 0 where
+  -- why there is no boot
+  no_boot : (f : Fault) → HasNoBoot q.life.boot before after f → Tells (refusal f) old new status → TellsServe q before after old new status
   -- why there is no such device
-  no_device : (f : Fault) → IsFilesFault q held_app held_cert f → Tells (refusal f) old new status → TellsServe q held_app held_cert old new status
+  no_device : (boot : ℕ) → TakesBoot q.life.boot before after boot → (f : Fault) → IsFilesFault q (before q.app) (before q.cert) f → Tells (refusal f) old new status → TellsServe q before after old new status
   -- what becomes of the device
-  a_device : (s : Session) → IsFilesDevice q held_app held_cert s → TellsDevice q s old new status → TellsServe q held_app held_cert old new status
+  a_device : (boot : ℕ) → TakesBoot q.life.boot before after boot → (s : Session) → IsFilesDevice q boot (before q.app) (before q.cert) s → TellsDevice q s old new status → TellsServe q before after old new status

@@ -2,10 +2,14 @@
 
 ghost use Rattle.std.specs.Prelude.{◌≡◌, ◌≤◌, ℕ, List, Option, IfOk, MatchResult};
 ghost use Rattle.fbr_files.specs.Reading.{IsFile};
+ghost use Rattle.fbr_files.specs.Writing.{Holdings};
 ghost use Rattle.fbr_words.specs.Requests.{service_of};
-ghost use Rattle.fbr_serve.specs.Serving.{IsTextsFault, IsTextsReady, IsFilesFault, IsFilesReady, TellsStop, TellsDevice, TellsServe};
+ghost use Rattle.fbr_serve.specs.Serving.{IsTextsFault, IsTextsReady, IsFilesFault, IsFilesReady, TakesBoot, TellsStop, TellsDevice, TellsServe};
 
-use crate::turns::{Stop, Sums, serve_on};
+use crate::stop::Stop;
+use crate::sums::Sums;
+use crate::telling::Teller;
+use crate::turns::serve_on;
 use fb_device::{Device, Ready, Refusal as LoadRefusal, load_boot};
 use fb_link::UdpLink;
 use fb_verdict::Refusal;
@@ -23,10 +27,11 @@ fn loaded_texts<'a>(
     app: &str,
     cert: &str,
     serve: &Serve<'a>,
+    boot: u32,
 ) -> Result<Ready, Fault<'a>>
-    ensures { MatchResult result (IsTextsReady (service_of serve.now) app.now cert.now) (IsTextsFault app.now cert.now serve.now.device.now) }
+    ensures { MatchResult result (IsTextsReady (service_of serve.now) boot app.now cert.now) (IsTextsFault app.now cert.now serve.now.device.now) }
 {
-    match load_boot(alloc, app, cert, serve.device, 1, serve.boot, 1) {
+    match load_boot(alloc, app, cert, serve.device, 1, boot, 1) {
         Ok(ready) => Ok(ready),
         Err(LoadRefusal::Checked(Refusal::OutOfMemory)) => Err(Fault::Memory),
         Err(LoadRefusal::Checked(refusal)) => Err(Fault::Refused(refusal)),
@@ -35,19 +40,20 @@ fn loaded_texts<'a>(
     }
 }
 
-/// The device that is asked for of two files that were read.
+/// The device that is asked for of two files that were read, with its boot.
 pub fn load_device<'a>(
     alloc: Global,
     app: &FileText<'a>,
     cert: &FileText<'a>,
     serve: &Serve<'a>,
+    boot: u32,
 ) -> Result<Ready, Fault<'a>>
     ensures { (held_app held_cert : Option (List ℕ)) → IsFile serve.now.app.now held_app app.now → IsFile serve.now.cert.now held_cert cert.now
-        → MatchResult result (IsFilesReady (service_of serve.now) held_app held_cert) (IsFilesFault (service_of serve.now) held_app held_cert) }
+        → MatchResult result (IsFilesReady (service_of serve.now) boot held_app held_cert) (IsFilesFault (service_of serve.now) held_app held_cert) }
 {
     match app.text() {
         Ok(app) => match cert.text() {
-            Ok(cert) => loaded_texts(alloc, app, cert, serve),
+            Ok(cert) => loaded_texts(alloc, app, cert, serve, boot),
             Err(fault) => Err(fault),
         },
         Err(fault) => Err(fault),
@@ -69,37 +75,83 @@ fn print_served<W: Write>(served: Result<Sums, Stop>, output: &mut W) -> io::Res
     }
 }
 
+// Tells people that a device is ready.
+fn tell_ready<E: Write>(device: &Device, serve: &Serve<'_>, errors: &mut E) {
+    let (name, bind) = (device.name(), serve.network.bind);
+    let _ = write!(errors, "fbr: {name} receives at {bind}");
+    let senders = serve.network.senders.as_slice();
+    let _ = if senders.is_empty() {
+        write!(errors, " from anybody")
+    } else {
+        write!(errors, " from")
+    };
+    for sender in senders {
+        let sender = *sender;
+        let _ = write!(errors, " {sender}");
+    }
+    let _ = write!(errors, ", sends to");
+    let peers = serve.network.peers.as_slice();
+    if peers.is_empty() {
+        let _ = write!(errors, " nobody");
+    }
+    for peer in peers {
+        let peer = *peer;
+        let _ = write!(errors, " {peer}");
+    }
+    let _ = writeln!(errors, "");
+}
+
+// Tells people of datagrams that came from elsewhere.
+fn tell_strangers<E: Write>(strangers: u64, errors: &mut E) {
+    if strangers > 0 {
+        let _ = writeln!(
+            errors,
+            "fbr: {strangers} datagrams were dropped, since their senders are not named by --from"
+        );
+    }
+}
+
 // Takes the turns of a device that has started; or tells that nothing can be bound to its port.
-fn serve_device<R: Clock + Net, W: Write>(
+fn serve_device<R: Clock + Net, W: Write, E: Write>(
     rt: &R,
     device: &mut Device,
     serve: &Serve<'_>,
     output: &mut W,
+    errors: &mut E,
 ) -> io::Result<u8>
     ensures told { IfOk result (λ status. TellsDevice (service_of serve.now) device.old (W.contents output.old) (W.contents output.new) status) }
     ensures status { IfOk result (λ status. status ≤ 4) }
 {
-    match UdpLink::open(rt, serve.port, serve.peers.as_slice()) {
+    let network = &serve.network;
+    let (peers, senders) = (network.peers.as_slice(), network.senders.as_slice());
+    match UdpLink::open_at(rt, network.bind, peers, senders) {
         Ok(mut link) => {
-            let served = serve_on(rt, device, &mut link, serve.turns, output);
-            print_served(served, output)
+            tell_ready(device, serve, errors);
+            let mut people = Teller::new(errors, serve.telling);
+            let ran = serve_on(rt, device, &mut link, serve, output, &mut people);
+            people.close(ran.end.as_ref().ok());
+            tell_strangers(link.strangers(), errors);
+            print_served(ran.end, output)
         }
-        Err(_) => print_outcome(Err(Fault::Socket(serve.port)), output),
+        Err(_) => print_outcome(Err(Fault::Socket(network.bind.port())), output),
     }
 }
 
-/// Starts a device, takes its turns over UDP, and prints what its OUTPUTs write, and at the end what the turns did in all; or that nothing can be bound to its port.
-pub fn serve_ready<R: Clock + Net, W: Write>(
+/// Starts a device, takes its turns over UDP, and prints what its OUTPUTs write, and at the end what the turns did in all; or that nothing can be bound to its
+/// port. On `errors` people are told what it does.
+pub fn serve_ready<R: Clock + Net, W: Write, E: Write>(
     rt: &R,
     ready: Ready,
     serve: &Serve<'_>,
     output: &mut W,
+    errors: &mut E,
 ) -> io::Result<u8>
-    ensures told { (held_app held_cert : Option (List ℕ)) → IsFilesReady (service_of serve.now) held_app held_cert ready → IfOk result (λ status. TellsServe (service_of serve.now) held_app held_cert (W.contents output.old) (W.contents output.new) status) }
+    ensures told { (before after : Holdings) (boot : ℕ) → TakesBoot (service_of serve.now).life.boot before after boot → IsFilesReady (service_of serve.now) boot (before serve.now.app.now) (before serve.now.cert.now) ready
+        → IfOk result (λ status. TellsServe (service_of serve.now) before after (W.contents output.old) (W.contents output.new) status) }
     ensures status { IfOk result (λ status. status ≤ 4) }
 {
     let mut device = ready.start();
-    let status = serve_device(rt, &mut device, serve, output);
+    let status = serve_device(rt, &mut device, serve, output, errors);
     device.let_go();
     status
 }

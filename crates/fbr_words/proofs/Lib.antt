@@ -1,4 +1,4 @@
 pub mod Entered
 pub mod Misreading
 pub mod Taken
-pub mod Ports
+pub mod Each

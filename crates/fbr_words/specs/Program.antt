@@ -5,7 +5,8 @@ use Rattle.clap.specs.Words.{App, Row, Rule, Text, Kinds, first_of, all_of, new_
 use Rattle.clap.specs.declared.builder.action.ArgAction.TheVariants.{Set, SetTrue, Append}
 use Rattle.clap.specs.declared.error.kind.ErrorKind.TheVariants.{DisplayHelp, DisplayVersion}
 use Rattle.clap.specs.Lexer.{usize_max}
-use Rattle.fb_numbers.specs.Numbers.{number_in, long_number_in}
+use Rattle.fb_addresses.specs.Addresses.{Endpoint, endpoint_in, ip_in}
+use Rattle.fb_numbers.specs.Numbers.{number_in, long_number_in, wide_number_in}
 
 -- a file that has to be named
 abbrev pub file : Text → Rule
@@ -83,15 +84,31 @@ number id = record (new_rule id) { long = Some id; action = Some Set; value_name
 abbrev pub needed_number : Text → Rule
 needed_number id = record (number id) { required = true }
 
--- the ports of peers, as many as are named
+-- the addresses of peers, as many as are named
 abbrev pub peers : Rule
 peers = record (new_rule (codes "PEER")) { action = Some Append; range = Some (record { start_inclusive = 1; end_inclusive = usize_max }) }
 
--- `serve`, its two files, its device, its port, how many turns it takes, its boot, and its peers
+-- an option that may be given again, each time with a value
+abbrev pub repeated : Text → Rule
+repeated id = record (new_rule id) { long = Some id; action = Some Append; value_names = 1 }
+
+-- an option without a value
+abbrev pub set : Text → Rule
+set id = record (new_rule id) { long = Some id; action = Some SetTrue }
+
+-- `serve`, its two files, its device, where it receives, and from whom
+abbrev pub serve_at : App
+serve_at = with_rule (with_rule (with_rule (over_files (codes "serve")) (file (codes "DEVICE"))) (needed_number (codes "bind"))) (repeated (codes "from"))
+
+-- and how long it runs
+abbrev pub serve_for : App
+serve_for = with_rule (with_rule (with_rule (with_rule serve_at (number (codes "turns"))) (set (codes "until-eof"))) (number (codes "boot"))) (number (codes "boot-file"))
+
+-- and what it tells, and to whom it sends
 abbrev pub serve : App
 serve =
-    with_rule (with_rule (with_rule (with_rule (with_rule (over_files (codes "serve")) (file (codes "DEVICE")))
-    (needed_number (codes "bind"))) (needed_number (codes "turns"))) (number (codes "boot"))) peers
+    with_rule (with_rule (with_rule (with_rule (with_rule serve_for (set (codes "verbose"))) (number (codes "summary"))) (set (codes "clock")))
+    (set (codes "stop-on-lost-output"))) peers
 
 -- the command without its subcommands: it tells its version, and wants a subcommand
 abbrev pub top : App
@@ -201,53 +218,112 @@ drawing_in rows =
 
 -- ---- what `serve` is asked for
 
--- a device of two files, with its port, its turns, its boot, and the ports that it sends to
+-- where a device receives, to whom it sends, and the IP addresses from which it takes datagrams: anybody's, where there are none
+pub record Network : Type 0 where
+  pub bind : Endpoint
+  pub peers : List Endpoint
+  pub senders : List (List ℕ)
+
+-- the boot is a number, or is held by a file
+pub data Boot : Type 0 where
+  numbered : (number : ℕ) → Boot
+  in_file : (name : Text) → Boot
+
+-- the boot, the most turns, and whether the device also ends where standard input does
+pub record Life : Type 0 where
+  pub boot : Boot
+  pub turns : ℕ
+  pub until_eof : Bool
+
+-- whether each step is told, after how many seconds the sums are, whether lines begin with the clock, and whether one that is lost ends the device
+pub record Telling : Type 0 where
+  pub verbose : Bool
+  pub summary : Option ℕ
+  pub clock : Bool
+  pub strict : Bool
+
+-- a device of two files, its network, how long it runs, and what it tells
 pub record Service : Type 0 where
   pub app : Text
   pub cert : Text
   pub device : Text
-  pub port : ℕ
-  pub turns : ℕ
-  pub boot : ℕ
-  pub peers : List ℕ
+  pub network : Network
+  pub life : Life
+  pub telling : Telling
+
+abbrev pub before : {X : Type 0} → Option X → Option (List X) → Option (List X)
+before (Some x) (Some xs) = Some (x ∷ xs)
+before one two = None
+
+-- what each of the words is read as; nothing where one is nothing
+abbrev pub each_in : {X : Type 0} → (Text → Option X) → List Text → Option (List X)
+each_in read [] = Some []
+each_in read (word ∷ words) = before (read word) (each_in read words)
+
+-- the same of 64 words at most; none where no word is given
+abbrev pub few_in : {X : Type 0} → (Text → Option X) → Option (List Text) → Option (List X)
+few_in read None = Some []
+few_in read (Some words) = if nat_le (length words) 64 then each_in read words else None
+
+abbrev pub peers_in : Option (List Text) → Option (List Endpoint)
+peers_in words = few_in endpoint_in words
+
+abbrev pub senders_in : Option (List Text) → Option (List (List ℕ))
+senders_in words = few_in ip_in words
+
+abbrev pub network_with : Option Endpoint → Option (List Endpoint) → Option (List (List ℕ)) → Option Network
+network_with (Some bind) (Some to) (Some from) = Some (record { bind = bind; peers = to; senders = from })
+network_with bind to from = None
+
+abbrev pub network_in : List Row → Option Network
+network_in rows = network_with (option_and_then endpoint_in (first_of (codes "bind") rows)) (peers_in (all_of (codes "PEER") rows)) (senders_in (all_of (codes "from") rows))
+
+-- a number, a file, or 0 where neither is given; both are none
+abbrev pub boot_by : Option Text → Option Text → Option Boot
+boot_by None None = Some (numbered 0)
+boot_by None (Some name) = Some (in_file name)
+boot_by (Some word) None = option_map numbered (long_number_in word)
+boot_by (Some word) (Some name) = None
+
+-- as many turns as there can be where nothing is said
+abbrev pub turns_by : Option Text → Option ℕ
+turns_by None = Some 18446744073709551615
+turns_by (Some word) = wide_number_in word
+
+abbrev pub life_with : Option Boot → Option ℕ → Bool → Option Life
+life_with (Some boot) (Some turns) eof = Some (record { boot = boot; turns = turns; until_eof = eof })
+life_with boot turns eof = None
+
+abbrev pub life_in : List Row → Option Life
+life_in rows = life_with (boot_by (first_of (codes "boot") rows) (first_of (codes "boot-file") rows)) (turns_by (first_of (codes "turns") rows)) (is_set (first_of (codes "until-eof") rows))
 
 abbrev pub nonzero : ℕ → Option ℕ
 nonzero n = if n == 0 then None else Some n
 
--- a port: a number of 1 to 65535
-abbrev pub port_in : Text → Option ℕ
-port_in word = option_and_then nonzero (number_in word)
+-- no seconds where nothing is said; nothing where what is said is no number, or 0
+abbrev pub seconds_by : Option Text → Option (Option ℕ)
+seconds_by None = Some None
+seconds_by (Some word) = option_map (λ n. Some n) (option_and_then nonzero (long_number_in word))
 
-abbrev pub before : Option ℕ → Option (List ℕ) → Option (List ℕ)
-before (Some port) (Some ports) = Some (port ∷ ports)
-before one two = None
+abbrev pub telling_with : Bool → Option (Option ℕ) → Bool → Bool → Option Telling
+telling_with steps (Some seconds) timed ends = Some (record { verbose = steps; summary = seconds; clock = timed; strict = ends })
+telling_with steps None timed ends = None
 
--- each of the words is a port
-abbrev pub ports_in : List Text → Option (List ℕ)
-ports_in [] = Some []
-ports_in (word ∷ words) = before (port_in word) (ports_in words)
-
--- the ports of peers, at most 64; none where no word is given
-abbrev pub peers_in : Option (List Text) → Option (List ℕ)
-peers_in None = Some []
-peers_in (Some words) = if nat_le (length words) 64 then ports_in words else None
-
--- the boot, 0 where none is given
-abbrev pub boot_in : Option Text → Option ℕ
-boot_in None = Some 0
-boot_in (Some word) = long_number_in word
+abbrev pub telling_in : List Row → Option Telling
+telling_in rows =
+    telling_with (is_set (first_of (codes "verbose") rows)) (seconds_by (first_of (codes "summary") rows)) (is_set (first_of (codes "clock") rows))
+    (is_set (first_of (codes "stop-on-lost-output") rows))
 
 -- all of it, where nothing is missing
-abbrev pub service_with : Option Text → Option Text → Option Text → Option ℕ → Option ℕ → Option ℕ → Option (List ℕ) → Option Service
-service_with (Some app) (Some cert) (Some device) (Some port) (Some turns) (Some boot) (Some ports) =
-    Some (record { app = app; cert = cert; device = device; port = port; turns = turns; boot = boot; peers = ports })
-service_with app cert device port turns boot ports = None
+abbrev pub service_with : Option Text → Option Text → Option Text → Option Life → Option Telling → Option Network → Option Service
+service_with (Some app) (Some cert) (Some device) (Some life) (Some telling) (Some network) =
+    Some (record { app = app; cert = cert; device = device; network = network; life = life; telling = telling })
+service_with app cert device life telling network = None
 
--- what the words of `serve` ask for; nothing where a number or a port is none, or there are more than 64 peers
+-- what the words of `serve` ask for; nothing where a number or an address is none, or there are more than 64 peers or senders
 abbrev pub service_in : List Row → Option Service
 service_in rows =
-    service_with (first_of (codes "APP") rows) (first_of (codes "CERT") rows) (first_of (codes "DEVICE") rows) (option_and_then port_in (first_of (codes "bind") rows))
-    (option_and_then long_number_in (first_of (codes "turns") rows)) (boot_in (first_of (codes "boot") rows)) (peers_in (all_of (codes "PEER") rows))
+    service_with (first_of (codes "APP") rows) (first_of (codes "CERT") rows) (first_of (codes "DEVICE") rows) (life_in rows) (telling_in rows) (network_in rows)
 
 -- ---- what the program is asked for
 
@@ -294,6 +370,11 @@ often_of (an_explain q) = q.repeats
 often_of (a_draw q) = q.repeats
 often_of (a_serve q) = None
 
+-- the file that holds the boot, where one does
+abbrev pub boot_file : Boot → Option Text
+boot_file (numbered n) = None
+boot_file (in_file name) = Some name
+
 -- the file that is written, where one is
 abbrev pub written_by : Asked → Option Text
 written_by (a_bound q) = q.into
@@ -301,4 +382,4 @@ written_by (a_check q) = None
 written_by (a_sim q) = None
 written_by (an_explain q) = None
 written_by (a_draw q) = q.into
-written_by (a_serve q) = None
+written_by (a_serve q) = boot_file q.life.boot

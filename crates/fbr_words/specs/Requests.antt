@@ -1,5 +1,5 @@
 -- What the program's requests are in the terms of its words.
-use Rattle.std.specs.Prelude.{◌≡◌, ◌⊎◌, List, Option, Some, None, option_map}
+use Rattle.std.specs.Prelude.{◌≡◌, ◌⊎◌, List, map, Option, Some, None, option_map}
 use Rattle.clap.specs.Words.{Text, IsAmong, fault_of}
 use Rattle.clap.specs.declared.error.kind.ErrorKind.TheVariants.{DisplayHelp, DisplayVersion}
 use Rattle.fbr_words.specs.declared.bound.Bound.{Bound as BoundRequest}
@@ -8,12 +8,18 @@ use Rattle.fbr_words.specs.declared.bound.Ranges.TheVariants.{Rounds, Searched, 
 use Rattle.fbr_words.specs.declared.files.TwoFiles.{TwoFiles}
 use Rattle.fbr_words.specs.declared.shown.Explain.{Explain as ExplainRequest}
 use Rattle.fbr_words.specs.declared.shown.Draw.{Draw as DrawRequest}
+use Rattle.fb_addresses.specs.Addresses.{endpoint_of, parts_of}
+use Rattle.fbr_words.specs.declared.network.Network.{Network as NetworkRequest}
+use Rattle.fbr_words.specs.declared.serve.Boot.{Boot as BootRequest}
+use Rattle.fbr_words.specs.declared.serve.Boot.TheVariants.{Number as Numbered, File as FromFile}
+use Rattle.fbr_words.specs.declared.serve.Life.{Life as LifeRequest}
+use Rattle.fbr_words.specs.declared.serve.Telling.{Telling as TellingRequest}
 use Rattle.fbr_words.specs.declared.serve.Serve.{Serve as ServeRequest}
 use Rattle.fbr_words.specs.declared.request.Request.{Request}
 use Rattle.fbr_words.specs.declared.request.Request.TheVariants.{Bound, Check, Sim, Explain, Draw, Serve}
 use Rattle.fbr_words.specs.declared.reading.Misread.{Misread}
 use Rattle.fbr_words.specs.declared.reading.Misread.TheVariants.{Memory, Help, Words, Number}
-use Rattle.fbr_words.specs.Program.{program, Sought, Files, Question, Drawing, Service, Asked, a_bound, a_check, a_sim, an_explain, a_draw, a_serve, request_of}
+use Rattle.fbr_words.specs.Program.{program, Sought, Files, Question, Drawing, Network, Boot, numbered, in_file, Life, Telling, Service, Asked, a_bound, a_check, a_sim, an_explain, a_draw, a_serve, request_of}
 
 -- which ranges are wanted: the file that is named, or that there is a search
 abbrev pub ranges_of : Ranges → Option (Option Text)
@@ -41,17 +47,21 @@ drawing_of d =
       into = option_map (λ name. name.now) d.into;
     }
 
+abbrev pub network_of : NetworkRequest → Network
+network_of n = record { bind = endpoint_of n.bind; peers = map endpoint_of n.peers; senders = map parts_of n.senders }
+
+abbrev pub boot_of : BootRequest → Boot
+boot_of (Numbered n) = numbered n
+boot_of (FromFile name) = in_file name.now
+
+abbrev pub life_of : LifeRequest → Life
+life_of l = record { boot = boot_of l.boot; turns = l.turns; until_eof = l.until_eof }
+
+abbrev pub telling_of : TellingRequest → Telling
+telling_of t = record { verbose = t.is_verbose; summary = t.summary; clock = t.has_clock; strict = t.is_strict }
+
 abbrev pub service_of : ServeRequest → Service
-service_of r =
-    record {
-      app = r.app.now;
-      cert = r.cert.now;
-      device = r.device.now;
-      port = r.port;
-      turns = r.turns;
-      boot = r.boot;
-      peers = r.peers.items;
-    }
+service_of r = record { app = r.app.now; cert = r.cert.now; device = r.device.now; network = network_of r.network; life = life_of r.life; telling = telling_of r.telling }
 
 abbrev pub asked_of : Request → Asked
 asked_of (Bound b) = a_bound (sought_of b)

@@ -237,7 +237,7 @@ fn needed_number<'a>(alloc: Global, id: &'a str, value: &'a str, help: &'a str) 
     number(alloc, id, value, help).required(true)
 }
 
-// The ports of peers.
+// The addresses of peers.
 fn peers<'a>(alloc: Global) -> Arg<'a>
     ensures rule { rule_of result ≡ program.peers }
     ensures local { result.global ≡ false }
@@ -245,26 +245,87 @@ fn peers<'a>(alloc: Global) -> Arg<'a>
     Arg::new(alloc, "PEER")
         .action(ArgAction::Append)
         .num_args(1..)
-        .help("The ports on 127.0.0.1 that it sends to, at most 64")
+        .help(
+            "The addresses that it sends to, as PORT, ADDRESS:PORT or [ADDRESS]:PORT, at most 64",
+        )
+}
+
+// An option that may be given again, each time with a value.
+fn repeated<'a>(alloc: Global, id: &'a str, value: &'a str, help: &'a str) -> Arg<'a>
+    ensures rule { rule_of result ≡ program.repeated id.now }
+    ensures local { result.global ≡ false }
+{
+    Arg::new(alloc, id)
+        .long(id)
+        .action(ArgAction::Append)
+        .value_name(value)
+        .help(help)
+}
+
+// An option without a value.
+fn set<'a>(alloc: Global, id: &'a str, help: &'a str) -> Arg<'a>
+    ensures rule { rule_of result ≡ program.set id.now }
+    ensures local { result.global ≡ false }
+{
+    Arg::new(alloc, id)
+        .long(id)
+        .action(ArgAction::SetTrue)
+        .help(help)
+}
+
+// `serve` with what says where it receives, and from whom.
+fn served_at<'a>(alloc: Global) -> Result<Command<'a>, AllocError>
+    ensures { IfOk result (λ c. app_of c ≡ program.serve_at) }
+{
+    let about = "Runs a device over UDP, and prints what its OUTPUTs write";
+    let help_device = "The name of the device";
+    let help_bind =
+        "Where it receives: PORT of 127.0.0.1, ADDRESS:PORT of IPv4, or [ADDRESS]:PORT of IPv6";
+    let help_from =
+        "Takes datagrams from this IP address only; may be given again, at most 64 times";
+    let both = over_files(alloc, "serve", about);
+    let device = with(both, file(alloc, "DEVICE", help_device));
+    let bound = with(device, needed_number(alloc, "bind", "ADDRESS", help_bind));
+    with(bound, repeated(alloc, "from", "ADDRESS", help_from))
+}
+
+// `serve` with what says how long it runs.
+fn served_for<'a>(alloc: Global) -> Result<Command<'a>, AllocError>
+    ensures { IfOk result (λ c. app_of c ≡ program.serve_for) }
+{
+    let help_turns =
+        "Ends after so many turns: 16 datagrams are received at most, and each resource is dispatched once";
+    let help_eof = "Ends where standard input does";
+    let help_boot =
+        "The boot that its messages of format 2 are stamped with, 0 where none is given; let it grow with each start";
+    let help_file =
+        "Takes the boot from this file, and puts the next one there before anything is sent";
+    let counted = with(
+        served_at(alloc),
+        number(alloc, "turns", "N", help_turns),
+    );
+    let ended = with(counted, set(alloc, "until-eof", help_eof));
+    let booted = with(ended, number(alloc, "boot", "B", help_boot));
+    with(booted, number(alloc, "boot-file", "FILE", help_file))
 }
 
 // The subcommand that runs a device over UDP.
 fn served<'a>(alloc: Global) -> Result<Command<'a>, AllocError>
     ensures { IfOk result (λ c. app_of c ≡ program.serve) }
 {
-    let about = "Runs a device over UDP on 127.0.0.1, and prints what its OUTPUTs write";
-    let help_device = "The name of the device";
-    let help_bind = "The port that it receives at";
-    let help_turns =
-        "How many turns it takes: 16 datagrams are received at most, and each resource is dispatched once";
-    let help_boot =
-        "The boot that its messages of format 2 are stamped with, 0 where none is given; let it grow with each start";
-    let both = over_files(alloc, "serve", about);
-    let device = with(both, file(alloc, "DEVICE", help_device));
-    let port = with(device, needed_number(alloc, "bind", "PORT", help_bind));
-    let turns = with(port, needed_number(alloc, "turns", "N", help_turns));
-    let boot = with(turns, number(alloc, "boot", "B", help_boot));
-    with(boot, peers(alloc))
+    let help_verbose =
+        "Tells on standard error of each arrival, each dispatch, what is sent, and each cause that has ended";
+    let help_summary = "Tells the sums on standard error every N seconds";
+    let help_clock = "Lines of OUTPUTs begin with the milliseconds of the device's clock";
+    let help_strict = "Ends where a line cannot be written, in place of counting it";
+    let told = with(
+        served_for(alloc),
+        set(alloc, "verbose", help_verbose),
+    );
+    let summed = with(told, number(alloc, "summary", "N", help_summary));
+    let timed = with(summed, set(alloc, "clock", help_clock));
+    let ending = with(timed, set(alloc, "stop-on-lost-output", help_strict));
+    with(ending, peers(alloc))
 }
 
 /// All of them.

@@ -62,12 +62,13 @@ fn draw<'a>(words: &ArgMatches<'a>) -> Option<Request<'a>>
 }
 
 fn serve<'a>(words: &ArgMatches<'a>) -> Option<Request<'a>>
-    ensures { option_map asked_of result ≡ option_map program.a_serve (program.service_in (rows_of (found_of words.now))) }
+    ensures asked { option_map asked_of result ≡ option_map program.a_serve (program.service_in (rows_of (found_of words.now))) }
+    ensures some { IfSome result (λ r. IfSome (program.often_of (asked_of r)) (λ n. 1 ≤ n)) }
 {
     Some(Request::Serve(serve_in(words)?))
 }
 
-/// What a subcommand of this name asks for with its words; `None` where a number or a port is none, or there are more than 64 peers.
+/// What a subcommand of this name asks for with its words; `None` where a number or an address is none.
 pub fn request_in<'a>(name: &str, words: &ArgMatches<'a>) -> Option<Request<'a>>
     ensures asked { option_map asked_of result ≡ program.request_in (name.now, rows_of (found_of words.now)) }
     ensures some { IfSome result (λ r. IfSome (program.often_of (asked_of r)) (λ n. 1 ≤ n)) }

@@ -1,75 +1,120 @@
 //! What the words of `fbr serve` ask for.
 
-ghost use Rattle.std.specs.Prelude.{◌≡◌, ◌≤◌, ℕ, Option, Some, map, length, option_map, codes};
-ghost use Rattle.clap.specs.Words.{rows_of, found_of, all_of};
+ghost use Rattle.std.specs.Prelude.{◌≡◌, option_map};
+ghost use Rattle.clap.specs.Words.{rows_of, found_of};
 ghost use Rattle.fbr_words.specs.Program as program;
-ghost use Rattle.fbr_words.specs.Requests.{service_of};
+ghost use Rattle.fbr_words.specs.Requests.{boot_of, life_of, network_of, service_of, telling_of};
 
-use crate::given::given;
-use arrayvec::ArrayVec;
+use crate::given::{flag, given};
+use crate::network::{Network, network_in};
 use clap::ArgMatches;
-use fb_numbers::{read_long_number, read_number};
+use fb_numbers::{read_long_number, read_wide_number};
 
-/// A device of two files, with its port, its turns, its boot, and the ports that it sends to.
+/// Where the boot comes from that messages of format 2 are stamped with.
+#[derive(Clone, Copy)]
+pub enum Boot<'a> {
+    /// It is this number.
+    Number(u32),
+    /// The file of this name holds it, and gets the next one.
+    File(&'a str),
+}
+
+/// How long a device runs.
+#[derive(Clone, Copy)]
+pub struct Life<'a> {
+    pub boot: Boot<'a>,
+    /// So many turns at most; 2^64 - 1 where none are said.
+    pub turns: u64,
+    /// It also ends where standard input does.
+    pub until_eof: bool,
+}
+
+/// What a device tells while it runs.
+#[derive(Clone, Copy)]
+pub struct Telling {
+    /// Each arrival, dispatch, end and send.
+    pub is_verbose: bool,
+    /// The sums each time so many seconds have passed.
+    pub summary: Option<u32>,
+    /// The lines of OUTPUTs begin with the device's clock.
+    pub has_clock: bool,
+    /// A line that cannot be written ends the device.
+    pub is_strict: bool,
+}
+
+/// A device of two files, the network that it is part of, how long it runs, and what it tells.
 #[derive(Drop)]
 pub struct Serve<'a> {
     pub app: &'a str,
     pub cert: &'a str,
     pub device: &'a str,
-    pub port: u16,
-    pub turns: u32,
-    pub boot: u32,
-    pub peers: ArrayVec<u16, 64>,
+    pub network: Network,
+    pub life: Life<'a>,
+    pub telling: Telling,
 }
 
-// The port that a word names.
-fn read_port(word: &str) -> Option<u16>
-    ensures { result ≡ program.port_in word.now }
+// The boot: a number, a file, or 0 where neither is given; both are none.
+fn boot_by<'a>(number: Option<&'a str>, file: Option<&'a str>) -> Option<Boot<'a>>
+    ensures { option_map boot_of result ≡ program.boot_by (option_map (λ text. text.now) number.entry) (option_map (λ text. text.now) file.entry) }
 {
-    match read_number(word) {
-        Some(0) => None,
-        port => port,
+    match (number, file) {
+        (None, None) => Some(Boot::Number(0)),
+        (None, Some(name)) => Some(Boot::File(name)),
+        (Some(word), None) => match read_long_number(word) {
+            Some(number) => Some(Boot::Number(number)),
+            None => None,
+        },
+        (Some(_), Some(_)) => None,
     }
 }
 
-// The ports that words name, at most 64.
-fn read_ports(words: &[&str]) -> Option<ArrayVec<u16, 64>>
-    ensures { option_map (λ ports. ports.items) result ≡ program.peers_in (Some (map (λ word. word.now) words.now)) }
-{
-    let mut ports = ArrayVec::new();
-    if words.len() > 64 {
-        return None;
-    }
-    for word in words {
-        match read_port(word) {
-            Some(port) => ports.push(port),
-            None => return None,
-        }
-    }
-    Some(ports)
-}
-
-// The ports of peers, none where none is given.
-fn peers_in(words: &ArgMatches<'_>) -> Option<ArrayVec<u16, 64>>
-    ensures { option_map (λ ports. ports.items) result ≡ program.peers_in (all_of (codes "PEER") (rows_of (found_of words.now))) }
-{
-    match words.get_raw("PEER") {
-        Some(words) => read_ports(words),
-        None => Some(ArrayVec::new()),
-    }
-}
-
-// The boot, 0 where none is given.
-fn boot_in(word: Option<&str>) -> Option<u32>
-    ensures { result ≡ program.boot_in (option_map (λ text. text.now) word.entry) }
+// How many turns, as many as there can be where nothing is said.
+fn turns_by(word: Option<&str>) -> Option<u64>
+    ensures { result ≡ program.turns_by (option_map (λ text. text.now) word.entry) }
 {
     match word {
-        Some(word) => read_long_number(word),
-        None => Some(0),
+        Some(word) => read_wide_number(word),
+        None => Some(u64::MAX),
     }
 }
 
-/// What is asked for; `None` where a number or a port is none, or there are more than 64 peers.
+// A number of seconds, where one is said.
+fn seconds_by(word: Option<&str>) -> Option<Option<u32>>
+    ensures { result ≡ program.seconds_by (option_map (λ text. text.now) word.entry) }
+{
+    match word {
+        None => Some(None),
+        Some(word) => match read_long_number(word) {
+            None | Some(0) => None,
+            seconds => Some(seconds),
+        },
+    }
+}
+
+// How long it runs.
+fn life_in<'a>(words: &ArgMatches<'a>) -> Option<Life<'a>>
+    ensures { option_map life_of result ≡ program.life_in (rows_of (found_of words.now)) }
+{
+    Some(Life {
+        boot: boot_by(given(words, "boot"), given(words, "boot-file"))?,
+        turns: turns_by(given(words, "turns"))?,
+        until_eof: flag(words, "until-eof"),
+    })
+}
+
+// What it tells.
+fn telling_in(words: &ArgMatches<'_>) -> Option<Telling>
+    ensures { option_map telling_of result ≡ program.telling_in (rows_of (found_of words.now)) }
+{
+    Some(Telling {
+        is_verbose: flag(words, "verbose"),
+        summary: seconds_by(given(words, "summary"))?,
+        has_clock: flag(words, "clock"),
+        is_strict: flag(words, "stop-on-lost-output"),
+    })
+}
+
+/// What is asked for; `None` where a number or an address is none, there are more than 64 peers or senders, or a boot is given twice.
 pub fn serve_in<'a>(words: &ArgMatches<'a>) -> Option<Serve<'a>>
     ensures { option_map service_of result ≡ program.service_in (rows_of (found_of words.now)) }
 {
@@ -77,9 +122,8 @@ pub fn serve_in<'a>(words: &ArgMatches<'a>) -> Option<Serve<'a>>
         app: given(words, "APP")?,
         cert: given(words, "CERT")?,
         device: given(words, "DEVICE")?,
-        port: read_port(given(words, "bind")?)?,
-        turns: read_long_number(given(words, "turns")?)?,
-        boot: boot_in(given(words, "boot"))?,
-        peers: peers_in(words)?,
+        life: life_in(words)?,
+        telling: telling_in(words)?,
+        network: network_in(words)?,
     })
 }

@@ -6,7 +6,7 @@ use Rattle.fbr_serve.proofs.serve.load_device.Goals as goal
 
 pub returns-in-Ok-text : goal.returns-in-Ok-text
 returns-in-Ok-text c = λ held_app held_cert app cert.
-    files_loaded (service_of c.args.serve.now) held_app held_cert c.in-Ok.app.now c.in-Ok-text.cert.now c.loaded_texts.result (c.in-Ok.ensures held_app app.read) (c.in-Ok-text.ensures held_cert cert.read) c.loaded_texts.ensures
+    files_loaded (service_of c.args.serve.now) c.args.boot held_app held_cert c.in-Ok.app.now c.in-Ok-text.cert.now c.loaded_texts.result (c.in-Ok.ensures held_app app.read) (c.in-Ok-text.ensures held_cert cert.read) c.loaded_texts.ensures
 
 pub returns-in-Err-text : goal.returns-in-Err-text
 returns-in-Err-text c = λ held_app held_cert app cert.

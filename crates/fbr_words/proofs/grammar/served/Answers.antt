@@ -1,17 +1,17 @@
 use Rattle.std.proofs.Common.{codes}
 use Rattle.clap.specs.Words.{App, with_rule}
-use Rattle.fbr_words.specs.Program.{file, over_files, number, needed_number, peers}
+use Rattle.fbr_words.specs.Program.{serve_for, number, set, peers}
 use Rattle.fbr_words.proofs.grammar.served.Goals as goal
 
 pub returns : goal.returns
 returns c =
-    let none : App = over_files (codes "serve") in
-    let one : App = with_rule none (file (codes "DEVICE")) in
-    let two : App = with_rule one (needed_number (codes "bind")) in
-    let three : App = with_rule two (needed_number (codes "turns")) in
-    let four : App = with_rule three (number (codes "boot")) in
-    let first = c.with-device.ensures none (file (codes "DEVICE")) c.over_files-both.ensures c.file.ensures.rule c.file.ensures.local in
-    let second = c.with-port.ensures one (needed_number (codes "bind")) first c.needed_number.ensures.rule c.needed_number.ensures.local in
-    let third = c.with-turns.ensures two (needed_number (codes "turns")) second c.needed_number-2.ensures.rule c.needed_number-2.ensures.local in
-    let fourth = c.with-boot.ensures three (number (codes "boot")) third c.number.ensures.rule c.number.ensures.local in
-    c.with.ensures four peers fourth c.peers.ensures.rule c.peers.ensures.local
+    let app0 : App = serve_for in
+    let app1 : App = with_rule app0 (set (codes "verbose")) in
+    let app2 : App = with_rule app1 (number (codes "summary")) in
+    let app3 : App = with_rule app2 (set (codes "clock")) in
+    let app4 : App = with_rule app3 (set (codes "stop-on-lost-output")) in
+    let is1 = c.with-told.ensures app0 (set (codes "verbose")) c.served_for.ensures c.set.ensures.rule c.set.ensures.local in
+    let is2 = c.with-summed.ensures app1 (number (codes "summary")) is1 c.number.ensures.rule c.number.ensures.local in
+    let is3 = c.with-timed.ensures app2 (set (codes "clock")) is2 c.set-2.ensures.rule c.set-2.ensures.local in
+    let is4 = c.with-ending.ensures app3 (set (codes "stop-on-lost-output")) is3 c.set-3.ensures.rule c.set-3.ensures.local in
+    c.with.ensures app4 peers is4 c.peers.ensures.rule c.peers.ensures.local

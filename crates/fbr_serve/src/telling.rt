@@ -1,0 +1,326 @@
+//! What people are told while a device runs. It is tested, and no contract says it.
+
+use crate::sums::Sums;
+use fb_device::{Denied, Device, Effect, Ended, Ran};
+use fb_wire::{Message, Purpose, decode};
+use fbr_words::Telling;
+use std::fmt;
+use std::io::Write;
+
+/// How many lines of a kind are told in a second; those behind them are counted.
+const MOST: u64 = 10;
+
+/// The kinds of lines that are counted: a number of a denial, or a datagram that the link did not take.
+const KINDS: usize = 12;
+
+/// The kind of a datagram that was not taken.
+const UNSENT: usize = 11;
+
+// A moment as people read it, as `12.304 s`.
+#[derive(Clone, Copy)]
+struct Moment(u64);
+
+impl fmt::Display for Moment {
+    fn fmt<W: fmt::Write>(&self, f: &mut fmt::Formatter<W>) -> fmt::Result {
+        let seconds = self.0 / 1000;
+        let millis = self.0 % 1000;
+        write!(f, "{seconds}.{millis:03} s")
+    }
+}
+
+// For whom a datagram is, as `INPUT 1`.
+#[derive(Clone, Copy)]
+struct For(Purpose, u16);
+
+impl For {
+    // That of a message.
+    fn of(message: &Message) -> For {
+        For(message.purpose(), message.number())
+    }
+}
+
+impl fmt::Display for For {
+    fn fmt<W: fmt::Write>(&self, f: &mut fmt::Formatter<W>) -> fmt::Result {
+        let number = self.1;
+        match self.0 {
+            Purpose::ToInput => write!(f, "INPUT {number}"),
+            Purpose::ToChannel => write!(f, "channel {number}"),
+        }
+    }
+}
+
+// Why something was denied, in words.
+#[derive(Clone, Copy)]
+struct Why(Denied);
+
+impl fmt::Display for Why {
+    fn fmt<W: fmt::Write>(&self, f: &mut fmt::Formatter<W>) -> fmt::Result {
+        match self.0 {
+            Denied::UnknownInput => write!(f, "there is no such INPUT"),
+            Denied::BadCount => write!(f, "the INPUT takes another number of values"),
+            Denied::BadValue(place) => write!(f, "value {place} does not fit its type"),
+            Denied::NoCredit {
+                needs,
+                free,
+            } => write!(f, "{needs} places needed, {free} free"),
+            Denied::Spent => write!(f, "no number is left for a cause"),
+            Denied::Wire(fault) => {
+                write!(f, "it is no message ({fault})")
+            }
+            Denied::NoSubscriber => write!(f, "no SUBSCRIBE takes this channel"),
+            Denied::Shape => write!(f, "it has another format, or other values"),
+            Denied::Closed => write!(f, "the SUBSCRIBE is closed"),
+            Denied::Stale {
+                boot,
+                sequence,
+            } => {
+                write!(f, "it is not later than boot {boot}, number {sequence}")
+            }
+        }
+    }
+}
+
+// The kind of a denial.
+fn kind_of(denied: &Denied) -> usize {
+    match denied.code() {
+        64 => 10,
+        code => (code as usize).saturating_sub(50),
+    }
+}
+
+/// Tells people of a device on standard error: each denial and each datagram that was not taken, at most ten of a kind in a second, and more where that is
+/// asked for.
+#[derive(Drop)]
+pub struct Teller<'a, E> {
+    errors: &'a mut E,
+    is_verbose: bool,
+    second: u64,
+    told: [u64; 12],
+    denied: [u64; 12],
+    lost_lines: u64,
+    summary: Option<u32>,
+    next_summary: u64,
+    last_turn: u64,
+    longest_turn: u64,
+}
+
+impl<'a, E: Write> Teller<'a, E> {
+    /// One who has told nothing yet.
+    pub fn new(errors: &'a mut E, telling: Telling) -> Teller<'a, E> {
+        let seconds = telling.summary.unwrap_or(0);
+        Teller {
+            errors,
+            is_verbose: telling.is_verbose,
+            second: 0,
+            told: [0; KINDS],
+            denied: [0; KINDS],
+            lost_lines: 0,
+            summary: telling.summary,
+            next_summary: u64::from(seconds).saturating_mul(1000),
+            last_turn: 0,
+            longest_turn: 0,
+        }
+    }
+
+    // Tells how many more there were of a kind in the second that has passed.
+    fn tell_more(&mut self, kind: usize, second: u64) {
+        let told = self.told.get(kind).copied().unwrap_or(0);
+        if told > MOST {
+            let more = told - MOST;
+            let moment = Moment(second.saturating_mul(1000).saturating_add(999));
+            let code = if kind == 10 { 64 } else { kind.saturating_add(50) };
+            let _ = if kind == UNSENT {
+                writeln!(self.errors, "{moment} {more} more were not taken in that second")
+            } else {
+                writeln!(self.errors, "{moment} {more} more denied {code} in that second")
+            };
+        }
+    }
+
+    // Begins a second anew, if it is another one.
+    fn enter(&mut self, now: u64) {
+        let second = now / 1000;
+        if second != self.second {
+            for kind in 0..KINDS {
+                self.tell_more(kind, self.second);
+            }
+            self.told = [0; KINDS];
+            self.second = second;
+        }
+    }
+
+    // Counts one of a kind, and answers whether it is told.
+    fn counts(&mut self, now: u64, kind: usize) -> bool {
+        self.enter(now);
+        match self.told.get_mut(kind) {
+            Some(told) => {
+                *told = told.saturating_add(1);
+                *told <= MOST
+            }
+            None => true,
+        }
+    }
+
+    // Tells of a denial.
+    fn denied(&mut self, now: u64, bytes: &[u8], denied: &Denied) {
+        let kind = kind_of(denied);
+        if let Some(count) = self.denied.get_mut(kind) {
+            *count = count.saturating_add(1);
+        }
+        if self.counts(now, kind) {
+            let moment = Moment(now);
+            let code = denied.code();
+            let why = Why(*denied);
+            let _ = match decode(bytes) {
+                Ok(message) => {
+                    let whom = For::of(&message);
+                    writeln!(self.errors, "{moment} {whom} denied {code}: {why}")
+                }
+                Err(_) => {
+                    let size = bytes.len();
+                    writeln!(self.errors, "{moment} {size} bytes denied {code}: {why}")
+                }
+            };
+        }
+    }
+
+    /// A datagram came, and this was answered.
+    pub fn came(&mut self, now: u64, device: &Device, bytes: &[u8], answer: &Result<u64, Denied>) {
+        match answer {
+            Ok(cause) => {
+                if self.is_verbose {
+                    self.admitted(now, device, bytes, *cause);
+                }
+            }
+            Err(denied) => self.denied(now, bytes, denied),
+        }
+    }
+
+    // Tells of an arrival.
+    fn admitted(&mut self, now: u64, device: &Device, bytes: &[u8], cause: u64) {
+        if let Ok(message) = decode(bytes) {
+            let moment = Moment(now);
+            let whom = For::of(&message);
+            let _ = match device.opening(cause) {
+                Some(opening) => {
+                    let bound = opening.weight;
+                    writeln!(
+                        self.errors,
+                        "{moment} {whom} begins cause {cause}, of {bound} steps at most"
+                    )
+                }
+                None => writeln!(self.errors, "{moment} {whom} begins cause {cause}"),
+            };
+        }
+    }
+
+    /// A block ran, and the link took what it sent, if it sent something.
+    pub fn ran(&mut self, now: u64, device: &Device, ran: &Ran, is_taken: bool) {
+        if self.is_verbose {
+            self.dispatched(now, device, ran);
+        }
+        if let Some(Effect::Send(message)) = &ran.effect {
+            self.sent(now, message, is_taken);
+        }
+        if self.is_verbose {
+            if let Some(ended) = &ran.ended {
+                self.ended(now, ended);
+            }
+        }
+    }
+
+    // Tells of a dispatch.
+    fn dispatched(&mut self, now: u64, device: &Device, ran: &Ran) {
+        let moment = Moment(now);
+        let (cause, steps) = (ran.cause, ran.steps);
+        if let Some((path, event)) = device.path(ran.block, ran.event) {
+            let _ = writeln!(
+                self.errors,
+                "{moment} {path}.{event} of cause {cause}: {steps} steps"
+            );
+        }
+    }
+
+    // Tells of what was sent.
+    fn sent(&mut self, now: u64, message: &Message, is_taken: bool) {
+        let moment = Moment(now);
+        let whom = For::of(message);
+        if !is_taken {
+            if self.counts(now, UNSENT) {
+                let _ = writeln!(self.errors, "{moment} sent to {whom}: not every peer took it");
+            }
+        } else if self.is_verbose {
+            let _ = writeln!(self.errors, "{moment} sent to {whom}");
+        }
+    }
+
+    // Tells of a cause that has ended.
+    fn ended(&mut self, now: u64, ended: &Ended) {
+        let moment = Moment(now);
+        let (cause, total, bound) = (ended.cause, ended.total, ended.bound);
+        let _ = writeln!(
+            self.errors,
+            "{moment} cause {cause} has ended after {total} of {bound} steps"
+        );
+    }
+
+    /// A line could not be written.
+    pub fn lost_line(&mut self) {
+        self.lost_lines = self.lost_lines.saturating_add(1);
+    }
+
+    /// A turn begins, behind turns that did this. The time since the one before is that turn's, unless the device waited then.
+    pub fn turned(&mut self, now: u64, sums: &Sums, has_waited: bool) {
+        self.enter(now);
+        if !has_waited {
+            self.longest_turn = self.longest_turn.max(now.saturating_sub(self.last_turn));
+        }
+        self.last_turn = now;
+        if let Some(seconds) = self.summary {
+            if now >= self.next_summary {
+                self.tell_sums(now, sums);
+                let step = u64::from(seconds).saturating_mul(1000);
+                self.next_summary = now.saturating_add(step);
+            }
+        }
+    }
+
+    // Tells how often each number was denied.
+    fn tell_denied(&mut self) {
+        for kind in 0..KINDS {
+            let count = self.denied.get(kind).copied().unwrap_or(0);
+            if count > 0 {
+                let code = if kind == 10 { 64 } else { kind.saturating_add(50) };
+                let _ = write!(self.errors, " {code}:{count}");
+            }
+        }
+    }
+
+    // Tells the sums so far.
+    fn tell_sums(&mut self, now: u64, sums: &Sums) {
+        let moment = Moment(now);
+        let longest = self.longest_turn;
+        let lines = self.lost_lines;
+        let _ = write!(self.errors, "{moment} {sums}; longest turn {longest} ms, lines lost {lines}, denied");
+        if sums.denied == 0 {
+            let _ = write!(self.errors, " none");
+        }
+        self.tell_denied();
+        let _ = writeln!(self.errors, "");
+    }
+
+    /// Tells what was left to tell, as the device ends: of the last second, the sums where they are told at all, and of lines that were lost.
+    pub fn close(&mut self, sums: Option<&Sums>) {
+        let last = self.last_turn;
+        self.enter(u64::MAX);
+        if let Some(sums) = sums {
+            if self.summary.is_some() {
+                self.tell_sums(last, sums);
+            }
+        }
+        let lines = self.lost_lines;
+        if lines > 0 {
+            let _ = writeln!(self.errors, "fbr: {lines} lines could not be written");
+        }
+    }
+}
