@@ -4,6 +4,7 @@ use crate::device::loaded;
 use crate::turn::Page;
 use fb_device::{Device, Refusal};
 use fb_link::UdpLink;
+use fb_turn::turn;
 use fbr_cases_language::{Case, ended, refused, text_of};
 use std::alloc::{AllocError, Global};
 use std::net::Net;
@@ -20,11 +21,11 @@ fn take_turns(
     unheard: &mut Page,
 ) {
     let (mut from, mut to) = links;
-    for turn in 0..TURNS {
-        if turn == 2 && one.offer(1, &[]).is_err() {
+    for round in 0..TURNS {
+        if round == 2 && one.offer(1, &[]).is_err() {
             return;
         }
-        if one.turn(&mut from, unheard, 0).is_err() || other.turn(&mut to, page, 0).is_err() {
+        if turn(one, &mut from, unheard, 0).is_err() || turn(other, &mut to, page, 0).is_err() {
             return;
         }
         if !page.text.is_empty() {

@@ -1,8 +1,9 @@
 //! What devices do with links in memory.
 
 use crate::device::{bytes, halves, loaded, played};
-use fb_device::{Device, LinkDown, Report};
-use fb_link::{Link, MemoryLink, Plan, Sink};
+use fb_device::{Denied, Device, Dispatched, Effect};
+use fb_link::{Link, MemoryLink, Plan};
+use fb_turn::{LinkDown, Report, Watch, turn};
 use fbr_cases_language::{Case, ended, refused, text_of};
 use std::alloc::{AllocError, Global};
 use std::fmt::Write;
@@ -24,10 +25,16 @@ fn wrote(out: &mut String, number: u16, values: &[i64]) -> Result<(), AllocError
     out.push('\n')
 }
 
-impl Sink for Page {
-    fn write(&mut self, number: u16, values: &[i64]) {
-        if wrote(&mut self.text, number, values).is_err() {
-            self.failed = true;
+impl Watch for Page {
+    fn came(&mut self, _device: &Device, _bytes: &[u8], _answer: &Result<u64, Denied>) {}
+
+    fn served(&mut self, _device: &Device, answer: &Dispatched, _is_taken: bool) {
+        if let Dispatched::Ran(ran) = answer {
+            if let Some(Effect::Write(number, values)) = &ran.effect {
+                if wrote(&mut self.text, *number, values.as_slice()).is_err() {
+                    self.failed = true;
+                }
+            }
         }
     }
 }
@@ -99,7 +106,7 @@ fn turned(
     for line in lines.lines() {
         let (word, rest) = halves(line);
         if word == "turn" {
-            let report = device.turn(link, page, rest.parse::<u64>().unwrap_or(0));
+            let report = turn(device, link, page, rest.parse::<u64>().unwrap_or(0));
             reported(&mut page.text, report)?;
         } else {
             played(alloc, &mut page.text, device, line)?;

@@ -2,9 +2,12 @@
 //! A status becomes the process's own; that `main` calls the command at all is shown by the stored run alone.
 #![tactic(auto)]
 
+mod live;
+
 ghost use Rattle.std.specs.Prelude.{◌≡◌, ◌≤◌, IfOk, MatchResult};
 ghost use Rattle.std.specs.Process.{exit_status};
 
+use crate::live::Live;
 use fbr::{command, input_named};
 use fbr_files::Disk;
 use fbr_tell::paint;
@@ -52,7 +55,6 @@ fn tell_waiting(rt: &HostRuntime, words: &[&str]) -> io::Result<()> {
     if rt.stderr().is_terminal() {
         match word {
             Some("bound") => tell_bound(rt, words)?,
-            Some("serve") => eprintln!(rt; "fbr: the device runs to its last turn")?,
             _ => {}
         }
     }
@@ -72,11 +74,11 @@ fn outcome(status: u8, flushed: io::Result<()>) -> u8
 }
 
 // Tells people of a file that was not read, or of output that failed.
-fn tell_failure(rt: &HostRuntime, status: u8) -> io::Result<()> {
+fn tell_failure<W: Write>(status: u8, errors: &mut W) -> io::Result<()> {
     if status == 3 {
         let why =
             "fbr: a file could not be read or written, a port could not be used, or the output failed; `fbr --help` lists the commands";
-        eprintln!(rt; "{why}")?;
+        writeln!(errors, "{why}")?;
     }
     Ok(())
 }
@@ -134,6 +136,28 @@ fn explain_in_colour<W: Write>(
     outcome(status, paint(&page, output))
 }
 
+// Runs a device, which waits for nobody who reads what it writes.
+fn serve_live(
+    rt: &HostRuntime,
+    words: &[&str],
+    files: &mut Disk<'_, HostRuntime>,
+) -> io::Result<u8>
+    ensures { IfOk result (λ status. status ≤ 4) }
+{
+    let mut output = Live::new(rt.alloc(), 1)?;
+    let mut errors = Live::new(rt.alloc(), 2)?;
+    let status = command(rt, words, files, &mut rt.reader(), &mut output, &mut errors);
+    let status = outcome(status, output.finish());
+    let _ = tell_failure(status, &mut errors);
+    let _ = errors.finish();
+    Ok(status)
+}
+
+// Whether the words ask for a device that runs.
+fn is_served(words: &[&str]) -> bool {
+    matches!(words.get(1).copied(), Some("serve"))
+}
+
 // Whether the words ask for an explanation.
 fn is_explained(words: &[&str]) -> bool {
     matches!(words.get(1).copied(), Some("explain"))
@@ -156,9 +180,12 @@ fn status(rt: &HostRuntime) -> io::Result<u8>
         alloc,
         input: input_named(alloc, texts.as_slice(), &mut input),
     };
+    let words = texts.as_slice();
+    if is_served(words) {
+        return serve_live(rt, words, &mut files);
+    }
     let mut output = BufWriter::new(rt.alloc(), io::writer(rt))?;
     let mut errors = Vec::new(alloc);
-    let words = texts.as_slice();
     let is_coloured = is_coloured(rt);
     let status = if is_explained(words) && is_coloured && rt.stdout().is_terminal() {
         explain_in_colour(rt, words, &mut files, &mut output, &mut errors)
@@ -168,7 +195,7 @@ fn status(rt: &HostRuntime) -> io::Result<u8>
     let status = outcome(status, output.flush());
     let mut people = rt.stderr();
     tell(&errors, is_coloured && people.is_terminal(), &mut people).unwrap_or(());
-    tell_failure(rt, status).unwrap_or(());
+    tell_failure(status, &mut people).unwrap_or(());
     Ok(status)
 }
 
