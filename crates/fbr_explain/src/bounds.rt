@@ -9,7 +9,7 @@ use fb_types_blocks::{Block, Variables};
 use fb_verified::Verified;
 use fbr_diagnosis::notes_of;
 use fbr_leaves::{leaves_in, numbered};
-use fbr_needs::{Queue, arrivals_of};
+use fbr_needs::{Queue, queue_in};
 use fbr_places::{Named, Writing};
 use std::alloc::{AllocError, Global};
 
@@ -37,8 +37,8 @@ fn tell_ways(
     Ok(())
 }
 
-// Writes what one event at an arrival of a leaf causes at most: on its device, and where it is known on all, and through which channels; and beside which other
-// arrivals there is no room for it.
+// Writes what one event at an arrival of a leaf causes at most: on its device, and where it is known on all, and through which channels; how many of it the
+// queue takes at once; and beside which other arrivals there is no room for it.
 fn tell_arrival(
     view: View<'_>,
     leaf: &Leaf,
@@ -129,12 +129,7 @@ fn tell_resource(
     resource: &FlatResource,
     writing: &mut Writing,
 ) -> Result<(), AllocError> {
-    let path = resource.path.as_str();
-    let queue = Queue {
-        path,
-        depth: verified.depth(path).unwrap_or(0),
-        arrivals: arrivals_of(alloc, verified.certificate(), resource)?,
-    };
+    let queue = queue_in(alloc, verified.certificate(), resource)?;
     tell_depth(&queue, writing);
     let leaves = leaves_in(alloc, resource)?;
     let numbers = numbered(alloc, &leaves)?;
@@ -153,8 +148,8 @@ fn tell_resource(
     Ok(())
 }
 
-/// Writes the bounds of what fits: how deep each queue is, what each arrival causes at most and beside which others it has no room, the range of each
-/// variable that is not its whole type, and the channels; and notes on the text. Says whether there are notes.
+/// Writes the bounds of what fits: how deep each queue is, what each arrival causes at most, how many of it fit at once and beside which others it has no
+/// room, the range of each variable that is not its whole type, and the channels; and notes on the text. Says whether there are notes.
 pub fn tell_bounds(
     alloc: Global,
     verified: &Verified,

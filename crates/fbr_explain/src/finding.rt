@@ -106,7 +106,7 @@ fn tell_arrivals(arrivals: &[Arrival], writing: &mut Writing) {
         writing.put(" places for ");
         writing.put(arrival.path.as_str());
         writing.put("\n");
-        if arrival.is_begin {
+        if arrival.is_begin() {
             begins = begins.saturating_add(arrival.places);
         }
     }

@@ -13,7 +13,7 @@ mod term;
 mod walk;
 
 pub use counts::{Counts, counts_of};
-pub use queue::{Arrival, Queue, arrivals_of, queue_of};
+pub use queue::{Arrival, ArrivalKind, Queue, queue_in, queue_of};
 pub use range::{Linked, RangeLink, RangeStart, range_link, range_start};
 pub use row::{Missing, Numbers, missing_channel, missing_row};
 pub use sum::{Sum, channel_sum, charge_sum, far_sum, weight_sum};

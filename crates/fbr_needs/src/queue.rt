@@ -6,12 +6,28 @@ use fb_types_services::Service;
 use fbr_leaves::resource_at;
 use std::alloc::{AllocError, Global};
 
-/// An arrival, the places that one event there takes at most, and whether it is a BEGIN.
+/// What an arrival comes to: an INPUT, a SUBSCRIBE, a timer, or an E_RESTART, whose BEGIN comes once, at the start.
+#[derive(Clone, Copy)]
+pub enum ArrivalKind {
+    Input,
+    Subscribe,
+    Timer,
+    Begin,
+}
+
+/// An arrival, the places that one event there takes at most, and its kind.
 #[derive(Drop)]
 pub struct Arrival {
     pub path: String,
     pub places: u64,
-    pub is_begin: bool,
+    pub kind: ArrivalKind,
+}
+
+impl Arrival {
+    /// Whether it is a BEGIN.
+    pub fn is_begin(&self) -> bool {
+        matches!(self.kind, ArrivalKind::Begin)
+    }
 }
 
 /// The queue of a resource: its path, the depth that its row says, and the arrivals that it takes.
@@ -22,6 +38,31 @@ pub struct Queue<'a> {
     pub arrivals: Vec<Arrival>,
 }
 
+impl Queue<'_> {
+    /// The places that all its arrivals take together, each of them once.
+    pub fn places(&self) -> u64 {
+        let mut places: u64 = 0;
+        for arrival in &self.arrivals {
+            places = places.saturating_add(arrival.places);
+        }
+        places
+    }
+
+    /// How many of an arrival the queue takes at once, if it holds nothing else.
+    pub fn fitting(&self, arrival: &Arrival) -> u64 {
+        self.depth.checked_div(arrival.places).unwrap_or(0)
+    }
+
+    /// The path of an arrival within the resource.
+    pub fn within<'b>(&self, arrival: &'b Arrival) -> &'b str {
+        let path = arrival.path.as_str();
+        match path.strip_prefix(self.path) {
+            Some(rest) => rest.strip_prefix('.').unwrap_or(rest),
+            None => path,
+        }
+    }
+}
+
 // The places of an arrival, 0 where it has no row.
 fn places(certificate: &Certificate, path: &str) -> u64 {
     match certificate.weight(path) {
@@ -30,8 +71,18 @@ fn places(certificate: &Certificate, path: &str) -> u64 {
     }
 }
 
-/// The arrivals of a resource.
-pub fn arrivals_of(
+// The kind of the arrival of a service, which has one.
+fn kind_of(service: &Service) -> ArrivalKind {
+    match service {
+        Service::Input(_, _) => ArrivalKind::Input,
+        Service::Restart => ArrivalKind::Begin,
+        Service::Delay | Service::Cycle => ArrivalKind::Timer,
+        _ => ArrivalKind::Subscribe,
+    }
+}
+
+// The arrivals of a resource.
+fn arrivals_of(
     alloc: Global,
     certificate: &Certificate,
     resource: &FlatResource,
@@ -43,7 +94,7 @@ pub fn arrivals_of(
                 let path = joined(alloc, leaf.path.as_str(), event)?;
                 arrivals.push(Arrival {
                     places: places(certificate, path.as_str()),
-                    is_begin: matches!(service, Service::Restart),
+                    kind: kind_of(service),
                     path,
                 })?;
             }
@@ -52,19 +103,29 @@ pub fn arrivals_of(
     Ok(arrivals)
 }
 
-/// The queue of the resource of a path, if there is one.
-pub fn queue_of<'a>(
+/// The queue of a resource.
+pub fn queue_in<'a>(
     alloc: Global,
-    flat: &Flat,
     certificate: &Certificate,
-    path: &'a str,
-) -> Result<Option<Queue<'a>>, AllocError> {
-    let Some(resource) = resource_at(flat, path) else {
-        return Ok(None);
-    };
-    Ok(Some(Queue {
+    resource: &'a FlatResource,
+) -> Result<Queue<'a>, AllocError> {
+    let path = resource.path.as_str();
+    Ok(Queue {
         path,
         depth: certificate.depth(path).unwrap_or(0),
         arrivals: arrivals_of(alloc, certificate, resource)?,
-    }))
+    })
+}
+
+/// The queue of the resource of a path, if there is one.
+pub fn queue_of<'a>(
+    alloc: Global,
+    flat: &'a Flat,
+    certificate: &Certificate,
+    path: &str,
+) -> Result<Option<Queue<'a>>, AllocError> {
+    match resource_at(flat, path) {
+        Some(resource) => Ok(Some(queue_in(alloc, certificate, resource)?)),
+        None => Ok(None),
+    }
 }
