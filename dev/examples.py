@@ -10,7 +10,7 @@ is NAME.cert with the depth that takes each arrival once, and NAME.room.out what
 Of a wrong plant NAME.out is its refusal by `fbr bound`, or NAME.cert its certificate where each device by itself has one, with NAME.repeats.out its
 refusal by `fbr bound --repeats 2` and mended.repeats.cert what that prints of the mended one; mended.out is what `fbr check NAME.fb mended.cert` prints; where it runs, NAME.script.out is what `fbr sim` prints for NAME.script
 under NAME.cert, and mended.script.out what it prints of the mended one for mended.script under mended.repeats.cert. Beside the .out of a refusal the .err is what
-people are told on standard error."""
+people are told on standard error; beside a certificate whose queues do not take each arrival once the .cert.err is what `fbr bound` and `fbr check` tell them."""
 import pathlib
 import re
 import subprocess
@@ -42,6 +42,13 @@ class Cases:
         self.add(label, words, out.read_text(), files)
         self.text += f"on standard error:\n{out.with_suffix('.err').read_text()}"
 
+    def accepted(self, label, words, printed, cert, files):
+        """A case in which this certificate is found or accepted, and beside it what people are told of its queues."""
+        self.add(label, words, printed, files)
+        told = cert.with_name(f"{cert.name}.err")
+        if told.exists():
+            self.text += f"on standard error:\n{told.read_text()}"
+
     def add(self, label, words, printed, files=(), script=None):
         self.text += f"==== case {label}\n"
         for path in files:
@@ -59,12 +66,12 @@ def plant(folder):
     name = folder.name
     app, cert, script, out = (folder / f"{name}.{it}" for it in ("fb", "cert", "script", "out"))
     cases = Cases(f"The plant examples/{name}: its certificate is found, is accepted, and its script runs.")
-    cases.add("its certificate is found", f"bound {app.name}", cert.read_text(), [app])
-    cases.add("it is accepted", f"check {app.name} {cert.name}", "accepted\n", [app, cert])
+    cases.accepted("its certificate is found", f"bound {app.name}", cert.read_text(), cert, [app])
+    cases.accepted("it is accepted", f"check {app.name} {cert.name}", "accepted\n", cert, [app, cert])
     cases.add("it runs", f"sim {app.name} {cert.name}", out.read_text(), [app, cert], script.read_text())
     rows, offers, causes = (folder / f"{name}.room.{it}" for it in ("cert", "script", "out"))
     if rows.exists():
-        cases.add("with room for each arrival once it is accepted", f"check {app.name} {rows.name}", "accepted\n", [app, rows])
+        cases.accepted("with room for each arrival once it is accepted", f"check {app.name} {rows.name}", "accepted\n", rows, [app, rows])
         cases.add("and none denies another", f"sim {app.name} {rows.name}", causes.read_text(), [app, rows], offers.read_text())
     return cases.text
 
@@ -77,17 +84,18 @@ def wrong(folder):
     found = folder / f"{name}.cert"
     network = folder / f"{name}.repeats.out"
     if found.exists():
-        cases.add("each device by itself has a certificate", f"bound {app.name}", found.read_text(), [app])
-        cases.add("it is accepted", f"check {app.name} {found.name}", "accepted\n", [app, found])
+        cases.accepted("each device by itself has a certificate", f"bound {app.name}", found.read_text(), found, [app])
+        cases.accepted("it is accepted", f"check {app.name} {found.name}", "accepted\n", found, [app, found])
     else:
         cases.refused("it has no certificate", f"bound {app.name}", folder / f"{name}.out", [app])
     if network.exists():
         cases.refused("over the network it has none", f"bound {app.name} --repeats 2", network, [app])
-        cases.add("the mended one has one over the network", f"bound {mended.name} --repeats 2", (folder / "mended.repeats.cert").read_text(), [mended])
+        repeated = folder / "mended.repeats.cert"
+        cases.accepted("the mended one has one over the network", f"bound {mended.name} --repeats 2", repeated.read_text(), repeated, [mended])
     if (folder / "mended.out").exists():
         cases.refused("the certificate of the mended one does not fit", f"check {app.name} {cert.name}", folder / "mended.out", [app, cert])
-    cases.add("it is mended", f"bound {mended.name}", cert.read_text(), [mended])
-    cases.add("the mended one is accepted", f"check {mended.name} {cert.name}", "accepted\n", [mended, cert])
+    cases.accepted("it is mended", f"bound {mended.name}", cert.read_text(), cert, [mended])
+    cases.accepted("the mended one is accepted", f"check {mended.name} {cert.name}", "accepted\n", cert, [mended, cert])
     for label, text, rows in [("it runs", app, found), ("the mended one runs", mended, folder / "mended.repeats.cert")]:
         script = text.with_suffix(".script")
         if script.exists():

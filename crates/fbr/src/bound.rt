@@ -8,8 +8,10 @@ ghost use Rattle.fbr.specs.Answers.{IsPutOut, TellsBound};
 
 use crate::given::{Files, tell};
 use crate::misread::misused;
+use fbr_check::texts_verified;
 use fbr_files::{Fault, Sources, into_another, print_outcome, print_text, write_into};
 use fbr_find::{RangesFrom, Wanted, read_wanted};
+use fbr_tell::tell_shallow;
 use fbr_words::Bound;
 use std::alloc::Global;
 use std::io;
@@ -60,6 +62,17 @@ fn refuse<'a, W: Write, E: Write>(
     print_outcome(Err(fault), output)
 }
 
+// Warns people of queues for which a certificate that was found has no room for each arrival once.
+fn warn<E: Write>(alloc: Global, wanted: &Wanted<'_>, cert: &str, errors: &mut E) {
+    let Ok(app) = wanted.app.text() else {
+        return;
+    };
+    if let Ok(verified) = texts_verified(alloc, app, cert) {
+        tell_shallow(alloc, &verified, errors);
+        verified.let_go();
+    }
+}
+
 // Finds the certificate that is wanted, and puts it out, or tells why there is none.
 fn find<'a, S: Sources, W: Write, E: Write>(
     alloc: Global,
@@ -76,13 +89,16 @@ fn find<'a, S: Sources, W: Write, E: Write>(
 {
     let wanted = read_wanted(alloc, files, request);
     match wanted.text(alloc) {
-        Ok(text) => put_out(files, request.into, text.as_str(), output, errors),
+        Ok(text) => {
+            warn(alloc, &wanted, &text, errors);
+            put_out(files, request.into, text.as_str(), output, errors)
+        }
         Err(fault) => refuse(alloc, &wanted, fault, output, errors),
     }
 }
 
 /// Finds a certificate as it is asked for of the application in a file, and writes its text on `output`, or into the file that is named, or why there is none; on `errors`
-/// people are told of a fault. The application's own file is not written: such words are at fault.
+/// people are told of a fault, and of queues that do not take each arrival once. The application's own file is not written: such words are at fault.
 pub fn bound<'a, S: Sources, W: Write, E: Write>(
     alloc: Global,
     request: Bound<'a>,

@@ -1,11 +1,13 @@
 //! `fbr check`, and the verdict over standard input.
 
-ghost use Rattle.std.specs.Prelude.{◌≡◌, ◌≤◌, IfOk};
-ghost use Rattle.fbr_check.specs.Verdicts.{TellsInput, TellsFiles};
+ghost use Rattle.std.specs.Prelude.{◌≡◌, ◌≤◌, ℕ, List, Option, IfOk};
+ghost use Rattle.fbr_check.specs.Verdicts.{IsFilesOutcome, TellsInput, TellsFiles};
+ghost use Rattle.fbr_files.specs.Reading.{IsRead};
 
 use crate::given::{Files, tell};
-use fbr_check::{files_outcome, input_outcome};
-use fbr_files::{Sources, print_outcome, read_file};
+use fbr_check::{files_verified, input_outcome};
+use fbr_files::{Fault, FileText, Sources, print_outcome, read_file};
+use fbr_tell::tell_shallow;
 use fbr_words::TwoFiles;
 use std::alloc::Global;
 use std::io;
@@ -24,7 +26,26 @@ pub fn check_input<I: Read, W: Write>(
     print_outcome(outcome, output)
 }
 
-/// Checks two files, and writes the outcome and nothing else; on `errors` people are told of a fault.
+// The verdict over two files that were read; where they are accepted, people are warned of queues that do not take each arrival once.
+fn warned_outcome<'a, E: Write>(
+    alloc: Global,
+    app: &FileText<'a>,
+    cert: &FileText<'a>,
+    errors: &mut E,
+) -> Result<(), Fault<'a>>
+    ensures { (held_app held_cert : Option (List ℕ)) → IsRead held_app app.now.held → IsRead held_cert cert.now.held → IsFilesOutcome app.now.name.now cert.now.name.now held_app held_cert result }
+{
+    match files_verified(alloc, app, cert) {
+        Ok(verified) => {
+            tell_shallow(alloc, &verified, errors);
+            verified.let_go();
+            Ok(())
+        }
+        Err(fault) => Err(fault),
+    }
+}
+
+/// Checks two files, and writes the outcome and nothing else; on `errors` people are told of a fault, and of queues that do not take each arrival once.
 pub fn check<'a, S: Sources, W: Write, E: Write>(
     alloc: Global,
     request: TwoFiles<'a>,
@@ -37,7 +58,7 @@ pub fn check<'a, S: Sources, W: Write, E: Write>(
 {
     let app = read_file(alloc, files, request.app);
     let cert = read_file(alloc, files, request.cert);
-    let outcome = files_outcome(alloc, &app, &cert);
+    let outcome = warned_outcome(alloc, &app, &cert, errors);
     if let Err(fault) = &outcome {
         tell(alloc, fault, Files::two(&app, &cert), errors);
     }

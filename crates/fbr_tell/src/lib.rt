@@ -1,4 +1,4 @@
-//! Room: program. What people are told: the line on standard error where something is refused, the page of `explain`, and the picture of `draw`.
+//! Room: program. What people are told: the lines on standard error, the page of `explain`, and the picture of `draw`.
 //! It reads no files: texts come as they were read. No contract but of statuses: what it prints is tested.
 #![tactic(auto)]
 
@@ -8,6 +8,7 @@ mod draw;
 mod given;
 mod line;
 mod page;
+mod shallow;
 mod stray;
 
 pub use colour::paint;
@@ -15,3 +16,4 @@ pub use draw::{Drawing, picture};
 pub use given::{Given, Held, NamedFile};
 pub use line::hint;
 pub use page::{Page, accepted_page, explain, refused_page, write_number};
+pub use shallow::tell_shallow;
