@@ -6,4 +6,4 @@ mod input;
 mod verdict;
 
 pub use input::input_outcome;
-pub use verdict::{files_outcome, files_verified, texts_outcome, texts_verified};
+pub use verdict::{files_verified, texts_outcome, texts_verified};

@@ -2,7 +2,7 @@
 
 ghost use Rattle.std.specs.Prelude.{List, ℕ, Option};
 ghost use Rattle.fbr_files.specs.Reading.{IsRead};
-ghost use Rattle.fbr_check.specs.Verdicts.{IsVerdict, IsVerifiedTexts, IsVerified, IsFilesOutcome};
+ghost use Rattle.fbr_check.specs.Verdicts.{IsVerdict, IsVerifiedTexts, IsVerified};
 
 use fb_verdict::{Refusal, check_text};
 use fb_verified::Verified;
@@ -46,23 +46,6 @@ pub fn files_verified<'a>(
             Ok(cert) => texts_verified(alloc, app, cert),
             Err(fault) => Err(fault),
         },
-        Err(fault) => Err(fault),
-    }
-}
-
-/// The verdict over two files that were read.
-pub fn files_outcome<'a>(
-    alloc: Global,
-    app: &FileText<'a>,
-    cert: &FileText<'a>,
-) -> Result<(), Fault<'a>>
-    ensures { (held_app held_cert : Option (List ℕ)) → IsRead held_app app.now.held → IsRead held_cert cert.now.held → IsFilesOutcome app.now.name.now cert.now.name.now held_app held_cert result }
-{
-    match files_verified(alloc, app, cert) {
-        Ok(verified) => {
-            verified.let_go();
-            Ok(())
-        }
         Err(fault) => Err(fault),
     }
 }
