@@ -156,9 +156,9 @@ fn given(effect: &Option<Effect>, taken: bool) -> Given
 fn give_out<L: Link>(answer: &Dispatched, link: &mut L) -> Given
     ensures out { (all : List Leaf) → GoesOut L.steps L.count (turns.effect_of (dispatched_of all answer.now)) link.old result.taken link.new }
     ensures counts { (all : List Leaf) → result.services ≡ record {
-        ran = turns.runs_of (dispatched_of all answer.now);
-        sent = turns.taken_in (turns.effect_of (dispatched_of all answer.now)) result.taken;
-        lost = turns.lost_in (turns.effect_of (dispatched_of all answer.now)) result.taken;
+      ran = turns.runs_of (dispatched_of all answer.now);
+      sent = turns.taken_in (turns.effect_of (dispatched_of all answer.now)) result.taken;
+      lost = turns.lost_in (turns.effect_of (dispatched_of all answer.now)) result.taken;
     } }
     ensures few { (result.services.ran ≤ 1) × (result.services.sent ≤ 1) × (result.services.lost ≤ 1) }
 {

@@ -137,11 +137,7 @@ fn explain_in_colour<W: Write>(
 }
 
 // Runs a device, which waits for nobody who reads what it writes.
-fn serve_live(
-    rt: &HostRuntime,
-    words: &[&str],
-    files: &mut Disk<'_, HostRuntime>,
-) -> io::Result<u8>
+fn serve_live(rt: &HostRuntime, words: &[&str], files: &mut Disk<'_, HostRuntime>) -> io::Result<u8>
     ensures { IfOk result (λ status. status ≤ 4) }
 {
     let mut output = Live::new(rt.alloc(), 1)?;

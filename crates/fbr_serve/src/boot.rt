@@ -32,11 +32,7 @@ fn next_text(alloc: Global, boot: u32) -> Result<String, AllocError>
 }
 
 // Takes the boot that a file holds, and puts the next one there.
-fn take_from<'a, S: Sources>(
-    alloc: Global,
-    files: &mut S,
-    name: &'a str,
-) -> Result<u32, Fault<'a>>
+fn take_from<'a, S: Sources>(alloc: Global, files: &mut S, name: &'a str) -> Result<u32, Fault<'a>>
     ensures taken { MatchResult result (λ boot. TakesFileBoot name.now (S.contents files.old name.now) (S.contents files.new name.now) boot) (λ f. IsReadFault name.now f × (S.contents files.new name.now ≡ S.contents files.old name.now)) }
     ensures others { LeavesOthers (S.same files.old) name.now (S.contents files.old) (S.contents files.new) }
 {

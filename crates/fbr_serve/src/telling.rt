@@ -16,6 +16,21 @@ const KINDS: usize = 12;
 /// The kind of a datagram that was not taken.
 const UNSENT: usize = 11;
 
+// A number of steps, as `1 step`.
+#[derive(Clone, Copy)]
+struct Steps(u64);
+
+impl fmt::Display for Steps {
+    fn fmt<W: fmt::Write>(&self, f: &mut fmt::Formatter<W>) -> fmt::Result {
+        let count = self.0;
+        if count == 1 {
+            write!(f, "1 step")
+        } else {
+            write!(f, "{count} steps")
+        }
+    }
+}
+
 // A moment as people read it, as `12.304 s`.
 #[derive(Clone, Copy)]
 struct Moment(u64);
@@ -59,21 +74,13 @@ impl fmt::Display for Why {
             Denied::UnknownInput => write!(f, "there is no such INPUT"),
             Denied::BadCount => write!(f, "the INPUT takes another number of values"),
             Denied::BadValue(place) => write!(f, "value {place} does not fit its type"),
-            Denied::NoCredit {
-                needs,
-                free,
-            } => write!(f, "{needs} places needed, {free} free"),
+            Denied::NoCredit { needs, free } => write!(f, "{needs} places needed, {free} free"),
             Denied::Spent => write!(f, "no number is left for a cause"),
-            Denied::Wire(fault) => {
-                write!(f, "it is no message ({fault})")
-            }
+            Denied::Wire(fault) => write!(f, "it is no message, {fault}"),
             Denied::NoSubscriber => write!(f, "no SUBSCRIBE takes this channel"),
             Denied::Shape => write!(f, "it has another format, or other values"),
             Denied::Closed => write!(f, "the SUBSCRIBE is closed"),
-            Denied::Stale {
-                boot,
-                sequence,
-            } => {
+            Denied::Stale { boot, sequence } => {
                 write!(f, "it is not later than boot {boot}, number {sequence}")
             }
         }
@@ -128,11 +135,21 @@ impl<'a, E: Write> Teller<'a, E> {
         if told > MOST {
             let more = told - MOST;
             let moment = Moment(second.saturating_mul(1000).saturating_add(999));
-            let code = if kind == 10 { 64 } else { kind.saturating_add(50) };
-            let _ = if kind == UNSENT {
-                writeln!(self.errors, "{moment} {more} more were not taken in that second")
+            let code = if kind == 10 {
+                64
             } else {
-                writeln!(self.errors, "{moment} {more} more denied {code} in that second")
+                kind.saturating_add(50)
+            };
+            let _ = if kind == UNSENT {
+                writeln!(
+                    self.errors,
+                    "{moment} {more} more were not taken in that second"
+                )
+            } else {
+                writeln!(
+                    self.errors,
+                    "{moment} {more} more denied {code} in that second"
+                )
             };
         }
     }
@@ -203,10 +220,10 @@ impl<'a, E: Write> Teller<'a, E> {
             let whom = For::of(&message);
             let _ = match device.opening(cause) {
                 Some(opening) => {
-                    let bound = opening.weight;
+                    let bound = Steps(opening.weight);
                     writeln!(
                         self.errors,
-                        "{moment} {whom} begins cause {cause}, of {bound} steps at most"
+                        "{moment} {whom} begins cause {cause}, of at most {bound}"
                     )
                 }
                 None => writeln!(self.errors, "{moment} {whom} begins cause {cause}"),
@@ -232,11 +249,11 @@ impl<'a, E: Write> Teller<'a, E> {
     // Tells of a dispatch.
     fn dispatched(&mut self, now: u64, device: &Device, ran: &Ran) {
         let moment = Moment(now);
-        let (cause, steps) = (ran.cause, ran.steps);
+        let (cause, steps) = (ran.cause, Steps(ran.steps));
         if let Some((path, event)) = device.path(ran.block, ran.event) {
             let _ = writeln!(
                 self.errors,
-                "{moment} {path}.{event} of cause {cause}: {steps} steps"
+                "{moment} {path}.{event} of cause {cause}: {steps}"
             );
         }
     }
@@ -247,7 +264,10 @@ impl<'a, E: Write> Teller<'a, E> {
         let whom = For::of(message);
         if !is_taken {
             if self.counts(now, UNSENT) {
-                let _ = writeln!(self.errors, "{moment} sent to {whom}: not every peer took it");
+                let _ = writeln!(
+                    self.errors,
+                    "{moment} sent to {whom}: not every peer took it"
+                );
             }
         } else if self.is_verbose {
             let _ = writeln!(self.errors, "{moment} sent to {whom}");
@@ -257,10 +277,10 @@ impl<'a, E: Write> Teller<'a, E> {
     // Tells of a cause that has ended.
     fn ended(&mut self, now: u64, ended: &Ended) {
         let moment = Moment(now);
-        let (cause, total, bound) = (ended.cause, ended.total, ended.bound);
+        let (cause, total, bound) = (ended.cause, ended.total, Steps(ended.bound));
         let _ = writeln!(
             self.errors,
-            "{moment} cause {cause} has ended after {total} of {bound} steps"
+            "{moment} cause {cause} has ended after {total} of {bound}"
         );
     }
 
@@ -290,7 +310,11 @@ impl<'a, E: Write> Teller<'a, E> {
         for kind in 0..KINDS {
             let count = self.denied.get(kind).copied().unwrap_or(0);
             if count > 0 {
-                let code = if kind == 10 { 64 } else { kind.saturating_add(50) };
+                let code = if kind == 10 {
+                    64
+                } else {
+                    kind.saturating_add(50)
+                };
                 let _ = write!(self.errors, " {code}:{count}");
             }
         }
@@ -301,7 +325,10 @@ impl<'a, E: Write> Teller<'a, E> {
         let moment = Moment(now);
         let longest = self.longest_turn;
         let lines = self.lost_lines;
-        let _ = write!(self.errors, "{moment} {sums}; longest turn {longest} ms, lines lost {lines}, denied");
+        let _ = write!(
+            self.errors,
+            "{moment} {sums}; longest turn {longest} ms, lines lost {lines}, denied"
+        );
         if sums.denied == 0 {
             let _ = write!(self.errors, " none");
         }

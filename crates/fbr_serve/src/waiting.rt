@@ -30,7 +30,11 @@ pub(crate) fn rest<L: Link>(
     if report.fired > 0 || report.received > 0 || report.ran > 0 {
         return false;
     }
-    let most = if turns == u64::MAX { UNCOUNTED } else { COUNTED };
+    let most = if turns == u64::MAX {
+        UNCOUNTED
+    } else {
+        COUNTED
+    };
     link.wait(Duration::from_millis(until(device.next_due(), now, most)));
     true
 }

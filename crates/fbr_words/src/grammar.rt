@@ -245,9 +245,7 @@ fn peers<'a>(alloc: Global) -> Arg<'a>
     Arg::new(alloc, "PEER")
         .action(ArgAction::Append)
         .num_args(1..)
-        .help(
-            "The addresses that it sends to, as PORT, ADDRESS:PORT or [ADDRESS]:PORT, at most 64",
-        )
+        .help("The addresses that it sends to, as PORT, ADDRESS:PORT or [ADDRESS]:PORT, at most 64")
 }
 
 // An option that may be given again, each time with a value.
@@ -300,10 +298,7 @@ fn served_for<'a>(alloc: Global) -> Result<Command<'a>, AllocError>
         "The boot that its messages of format 2 are stamped with, 0 where none is given; let it grow with each start";
     let help_file =
         "Takes the boot from this file, and puts the next one there before anything is sent";
-    let counted = with(
-        served_at(alloc),
-        number(alloc, "turns", "N", help_turns),
-    );
+    let counted = with(served_at(alloc), number(alloc, "turns", "N", help_turns));
     let ended = with(counted, set(alloc, "until-eof", help_eof));
     let booted = with(ended, number(alloc, "boot", "B", help_boot));
     with(booted, number(alloc, "boot-file", "FILE", help_file))
@@ -318,10 +313,7 @@ fn served<'a>(alloc: Global) -> Result<Command<'a>, AllocError>
     let help_summary = "Tells the sums on standard error every N seconds";
     let help_clock = "Lines of OUTPUTs begin with the milliseconds of the device's clock";
     let help_strict = "Ends where a line cannot be written, in place of counting it";
-    let told = with(
-        served_for(alloc),
-        set(alloc, "verbose", help_verbose),
-    );
+    let told = with(served_for(alloc), set(alloc, "verbose", help_verbose));
     let summed = with(told, number(alloc, "summary", "N", help_summary));
     let timed = with(summed, set(alloc, "clock", help_clock));
     let ending = with(timed, set(alloc, "stop-on-lost-output", help_strict));
