@@ -3,6 +3,7 @@
 #![tactic(auto)]
 
 mod live;
+mod stack;
 
 ghost use Rattle.std.specs.Prelude.{◌≡◌, ◌≤◌, IfOk, MatchResult};
 ghost use Rattle.std.specs.Process.{exit_status};
@@ -159,10 +160,24 @@ fn is_explained(words: &[&str]) -> bool {
     matches!(words.get(1).copied(), Some("explain"))
 }
 
+// Tells that the stack is too small for the deepest texts, which counts as want of memory.
+fn refuse_stack(rt: &HostRuntime) -> io::Result<u8>
+    ensures { IfOk result (λ status. status ≤ 4) }
+{
+    println!(rt; "refused 9")?;
+    eprintln!(rt;
+        "fbr: the limit of the stack is below 1 MiB: `ulimit -s 8192` makes it the usual one"
+    )?;
+    Ok(4)
+}
+
 // Runs the command of the process's words, over its files, its standard input, its standard output, and its standard error for people.
 fn status(rt: &HostRuntime) -> io::Result<u8>
     ensures { IfOk result (λ status. status ≤ 4) }
 {
+    if !stack::is_enough() {
+        return refuse_stack(rt);
+    }
     let alloc = rt.alloc();
     let words = words_of(rt)?;
     let mut texts: Vec<&str> = Vec::new(alloc);

@@ -8,19 +8,23 @@ use Rattle.fb_model.proofs.Lists.{all_append}
 use Rattle.fb_model.specs.System.{Device}
 use Rattle.fb_model.specs.Certificates.{Certificate}
 use Rattle.fb_model.specs.Devices.{Machine}
+use Rattle.std.specs.declared.net.ip_addr.IpAddr.{IpAddr}
+use Rattle.std.specs.declared.net.socket_addr.SocketAddr.{SocketAddr}
 use Rattle.fb_link.specs.Link.{LinkCall}
+use Rattle.fb_link.specs.Socket.{SocketCall}
 use Rattle.fb_verified.specs.Checked.{system_in, certificate_in}
 use Rattle.fb_verified.specs.declared.verified.Verified.{Verified}
 use Rattle.fb_device_state.specs.Sessions.{Session}
 use Rattle.fb_device_state.specs.Machines.{device_at, device_in, cert_in, machine_of}
 use Rattle.fb_turn.specs.Turns.{Turn, Receipt, Service, Chain, Sight, IsTurn, coming, serving, sights_of, writes, report_of, link_calls_of}
 use Rattle.fb_turn.specs.declared.turning.Report.{Report}
-use Rattle.fbr_words.specs.Program.{Life, Telling}
+use Rattle.fbr_words.specs.Program.{Life, Telling, Service}
 use Rattle.fbr_serve.specs.declared.sums.Sums.{Sums}
 use Rattle.fbr_serve.specs.declared.stop.Stop.{Stop}
 use Rattle.fbr_serve.specs.declared.stop.Stop.TheVariants as stops
 use Rattle.fbr_serve.specs.declared.turns.Ran.{Ran}
-use Rattle.fbr_serve.specs.Serving.{TurnAt, Anything, IsTaken, Turns, IsWhole, IsCutOff, capped, sums_of, with_report, write_line, turn_lines, lines_of, sight_lines, EndsTurn, PrintsTurn, EndsCutOff, EndAs, Prints, EndsByOutput, IsServed, AnyCall, failed_calls, TellsStop, TellsTurns}
+use Rattle.fbr_serve.specs.Serving.{TurnAt, Anything, IsTaken, Turns, IsWhole, IsCutOff, capped, sums_of, with_report, write_line, turn_lines, lines_of, sight_lines, EndsTurn, PrintsTurn, EndsCutOff, EndAs, Prints, EndsByOutput, IsServed, Over, LinkAsks, failed_in, unasked, AreOf, TellsStop, TellsTurns}
+use Rattle.fbr_serve.proofs.Traced.{Step, turns_traced}
 
 -- ---- bytes that a writer takes
 
@@ -258,46 +262,30 @@ module _ {L : Type 0} (calls : L → LinkCall → L → Type 0) (count : L → �
       by stops.Output no_end = absurd no_end
       by stops.Clock no_end = absurd no_end
 
--- ---- over a link of which nothing is told but the count of its failures
+-- ---- what is told of a link over UDP
 
-any_calls : {L : Type 0} (calls : L → LinkCall → L → Type 0) (count : L → ℕ) (cs : List LinkCall) (l m : L) → Chain calls l cs m → Chain AnyCall (count l) cs (count m)
-any_calls calls count [] l m h = ap count h
-any_calls calls count (c ∷ cs) l m h = (count h.0, tt, any_calls calls count cs h.0 m h.2)
-
-any_turn : {L : Type 0} (cert : Certificate) (device : Device) (calls : L → LinkCall → L → Type 0) (count : L → ℕ) (s : Machine) (l : L) (x : TurnAt) (t : Machine) (m : L)
-    → IsTaken cert device calls count s l x t m → IsTaken cert device AnyCall failed_calls s (count l) x t (count m)
-any_turn cert device calls count s l x t m h =
+-- turns over a link to these peers, and from these senders, that has done nothing yet
+pub turns_told : {E L S : Type 0} (does : S → SocketCall → S → Type 0) (socket : L → S) (peers : L → List SocketAddr) (senders : L → List IpAddr) (failures strangers : L → ℕ) (q : Service) (s : Session) (l : L) (old : Option (List ℕ)) (t : Session) (m : L)
+    (mid : Option (List ℕ)) (ran : Ran) (new : Option (List ℕ)) (r : Result ℕ E) → Served (Step does socket peers senders failures strangers) failures q.life q.telling s l old t m mid ran → failures l ≡ 0 → strangers l ≡ 0
+    → AreOf q.network (peers l) (senders l) → IfOk r (λ status. TellsStop ran.end mid new status) → IfOk r (λ status. TellsTurns q s old new status)
+turns_told does socket peers senders failures strangers q s l old t m mid ran new (Ok status) h none known are told =
+    let traced = turns_traced does socket peers senders failures strangers (peers l) (senders l) (cert_in s) (device_in s) (machine_of s) l h.0 (machine_of t) m [] (refl, refl) h.1.turns in
+    let first : record { failures = failures l; strangers = strangers l; asked = [] } ≡ unasked = ap₂ (λ a b. record { failures = a; strangers = b; asked = [] }) none known in
     record {
-      device_run = h.device_run;
-      link_run = any_calls calls count (link_calls_of x.turn) l m h.link_run;
-      seen = h.seen;
-      datagrams = h.datagrams;
-      closes = h.closes;
-      counted = h.counted;
-    }
-
-any_turns : {L : Type 0} (cert : Certificate) (device : Device) (calls : L → LinkCall → L → Type 0) (count : L → ℕ) (s : Machine) (l : L) (xs : List TurnAt) (t : Machine) (m : L)
-    → Turns cert device calls count s l xs t m → Turns cert device AnyCall failed_calls s (count l) xs t (count m)
-any_turns cert device calls count s l [] t m h = (h.0, ap count h.1)
-any_turns cert device calls count s l (x ∷ xs) t m h =
-    (h.0, count h.1, any_turn cert device calls count s l x h.0 h.1 h.2, any_turns cert device calls count h.0 h.1 xs t m h.3)
-
--- turns over a link of which no call has failed yet
-pub turns_told : {E L : Type 0} (calls : L → LinkCall → L → Type 0) (count : L → ℕ) (life : Life) (telling : Telling) (s : Session) (l : L) (old : Option (List ℕ)) (t : Session) (m : L) (mid : Option (List ℕ)) (ran : Ran) (new : Option (List ℕ)) (r : Result ℕ E)
-    → Served calls count life telling s l old t m mid ran → count l ≡ 0 → IfOk r (λ status. TellsStop ran.end mid new status) → IfOk r (λ status. TellsTurns life telling s old new status)
-turns_told calls count life telling s l old t m mid ran new (Ok status) h none told =
-    record {
+      peers = peers l;
+      senders = senders l;
+      are = are;
       all = h.0;
       last = machine_of t;
-      failed = count m;
+      asked = record { failures = failures m; strangers = strangers m; asked = traced.0 };
       mid = mid;
       ran = ran;
       served = record {
-        turns = subst (λ k. Turns (cert_in s) (device_in s) AnyCall failed_calls (machine_of s) k h.0 (machine_of t) (count m)) none (any_turns (cert_in s) (device_in s) calls count (machine_of s) l h.0 (machine_of t) m h.1.turns);
+        turns = subst (λ (o : Over). Turns (cert_in s) (device_in s) (LinkAsks (peers l) (senders l)) failed_in (machine_of s) o h.0 (machine_of t) (record { failures = failures m; strangers = strangers m; asked = traced.0 })) first traced.1;
         ends = h.1.ends;
         printed = h.1.printed;
         output = h.1.output;
       };
       told = told;
     }
-turns_told calls count life telling s l old t m mid ran new (Err e) h none told = tt
+turns_told does socket peers senders failures strangers q s l old t m mid ran new (Err e) h none known are told = tt

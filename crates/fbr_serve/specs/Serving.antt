@@ -1,5 +1,5 @@
 -- Turns of a device over a link, and what `fbr serve` tells: this project's profile.
-use Rattle.std.specs.Prelude.{◌≡◌, ◌≤◌, ℕ, ◌+◌, ◌-◌, ◌⊎◌, ◌==◌, nat_lt, min, Bool, true, false, List, [], ◌∷◌, ◌++◌, length, take, Option, Some, None, Result, Ok, Err, codes, string_bytes, slice_get, slice_index, option_and_then, if◌then◌else◌}
+use Rattle.std.specs.Prelude.{◌≡◌, ◌≤◌, ℕ, ◌+◌, ◌-◌, ◌⊎◌, ◌==◌, nat_lt, min, Bool, true, false, List, [], ◌∷◌, ◌++◌, length, map, Option, Some, None, Result, Ok, Err, codes, string_bytes, slice_get, slice_index, option_and_then, if◌then◌else◌}
 use Rattle.std.specs.List.{flat_map, sum_by, AllByRecursion}
 use Rattle.std.specs.Fmt.{decimal}
 use Rattle.std.specs.Str.{trim}
@@ -9,7 +9,11 @@ use Rattle.fb_model.specs.System.{Device}
 use Rattle.fb_model.specs.Certificates.{Certificate}
 use Rattle.fb_model.specs.Devices.{Machine, at_first}
 use Rattle.fb_model.specs.Spelling.{upper}
+use Rattle.std.specs.declared.net.ip_addr.IpAddr.{IpAddr}
+use Rattle.std.specs.declared.net.socket_addr.SocketAddr.{SocketAddr}
+use Rattle.fb_addresses.specs.Addresses.{endpoint_of, parts_of}
 use Rattle.fb_link.specs.Link.{LinkCall}
+use Rattle.fb_link.specs.Socket.{SocketCall, UdpStep}
 use Rattle.fb_turn.specs.Turns.{Turn, Cut, is_cut, Sight, Came, Served, Written, IsTurn, effect_of, writes_for, writes, report_of}
 use Rattle.fb_turn.specs.declared.turning.Report.{Report}
 use Rattle.fb_verdict.specs.Verdicts as verdicts
@@ -28,7 +32,7 @@ use Rattle.fbr_files.specs.declared.fault.Fault.TheVariants as faults
 use Rattle.fb_numbers.specs.Numbers.{long_number_in}
 use Rattle.fbr_files.specs.Outcomes.{Tells, refusal, IsContents, IsReadFault}
 use Rattle.fbr_files.specs.Writing.{Holdings}
-use Rattle.fbr_words.specs.Program.{Boot, numbered, in_file, Life, Telling, Service}
+use Rattle.fbr_words.specs.Program.{Boot, numbered, in_file, Life, Network, Telling, Service}
 
 -- ---- turns
 
@@ -246,26 +250,48 @@ TellsStop (Err stops.LinkDown) old new status = Tells (refusal faults.LinkDown) 
 TellsStop (Err stops.Output) old new status = status ≡ 3
 TellsStop (Err stops.Clock) old new status = status ≡ 3
 
--- a link of which nothing is told but the count of its failures
-abbrev pub AnyCall : ℕ → LinkCall → ℕ → Type 0
-AnyCall failed call more = Unit {0}
+-- a socket of which nothing more is told than what it was asked, and answered
+abbrev pub Traced : List SocketCall → SocketCall → List SocketCall → Type 0
+Traced before call after = after ≡ before ++ call ∷ []
 
-abbrev pub failed_calls : ℕ → ℕ
-failed_calls n = n
+-- a link over such a socket: how many of its calls failed, how many datagrams of strangers it dropped, and what it asked of the socket
+pub record Over : Type 0 where
+  pub failures : ℕ
+  pub strangers : ℕ
+  pub asked : List SocketCall
 
--- a device takes turns over such a link, and this is told
-pub record TellsTurns (life : Life) (telling : Telling) (s : Session) (old new : Option (List ℕ)) (status : ℕ) : Type 0 where
+abbrev pub failed_in : Over → ℕ
+failed_in l = l.failures
+
+-- a call of a link over UDP to these peers, that takes datagrams from these senders
+abbrev pub LinkAsks : List SocketAddr → List IpAddr → Over → LinkCall → Over → Type 0
+LinkAsks peers senders l call m = UdpStep Traced peers senders l.failures l.strangers l.asked call m.strangers m.asked
+
+-- nothing was asked yet
+abbrev pub unasked : Over
+unasked = record { failures = 0; strangers = 0; asked = [] }
+
+-- these are the addresses of a network
+pub record AreOf (network : Network) (peers : List SocketAddr) (senders : List IpAddr) : Type 0 where
+  pub to : map endpoint_of peers ≡ network.peers
+  pub from : map parts_of senders ≡ network.senders
+
+-- a device takes turns over a link to the peers and from the senders that are asked for, and this is told
+pub record TellsTurns (q : Service) (s : Session) (old new : Option (List ℕ)) (status : ℕ) : Type 0 where
+  pub peers : List SocketAddr
+  pub senders : List IpAddr
+  pub are : AreOf q.network peers senders
   pub all : List TurnAt
   pub last : Machine
-  pub failed : ℕ
+  pub asked : Over
   pub mid : Option (List ℕ)
   pub ran : Ran
-  pub served : IsServed (cert_in s) (device_in s) AnyCall failed_calls life telling (machine_of s) 0 old all last failed mid ran
+  pub served : IsServed (cert_in s) (device_in s) (LinkAsks peers senders) failed_in q.life q.telling (machine_of s) unasked old all last asked mid ran
   pub told : TellsStop ran.end mid new status
 
 -- of a device that has started: that nothing can be bound to the port, or its turns
 abbrev pub TellsDevice : Service → Session → Option (List ℕ) → Option (List ℕ) → ℕ → Type 0
-TellsDevice q s old new status = Tells (refusal (faults.Socket q.network.bind.port)) old new status ⊎ TellsTurns q.life q.telling s old new status
+TellsDevice q s old new status = Tells (refusal (faults.Socket q.network.bind.port)) old new status ⊎ TellsTurns q s old new status
 
 -- what `serve` tells, and what it leaves in files
 pub data TellsServe (q : Service) (before after : Holdings) (old new : Option (List ℕ)) (status : ℕ) : Type 0 where

@@ -101,6 +101,16 @@ fn tell_ready<E: Write>(device: &Device, serve: &Serve<'_>, errors: &mut E) {
     let _ = writeln!(errors, "");
 }
 
+// Tells people why a device ended early, where it did.
+fn tell_end<E: Write>(end: &Result<Sums, Stop>, errors: &mut E) {
+    let _ = match end {
+        Ok(_) => Ok(()),
+        Err(Stop::LinkDown) => writeln!(errors, "fbr: a receive from the network failed"),
+        Err(Stop::Output) => writeln!(errors, "fbr: the device ends, since a line was lost"),
+        Err(Stop::Clock) => writeln!(errors, "fbr: the clock could not be read"),
+    };
+}
+
 // Tells people of datagrams that came from elsewhere.
 fn tell_strangers<E: Write>(strangers: u64, errors: &mut E) {
     if strangers > 0 {
@@ -131,6 +141,7 @@ fn serve_device<R: Clock + Net, W: Write, E: Write>(
             let ran = serve_on(rt, device, &mut link, serve, output, &mut people);
             people.close(ran.end.as_ref().ok());
             tell_strangers(link.strangers(), errors);
+            tell_end(&ran.end, errors);
             print_served(ran.end, output)
         }
         Err(_) => print_outcome(Err(Fault::Socket(network.bind.port())), output),

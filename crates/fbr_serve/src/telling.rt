@@ -346,7 +346,9 @@ impl<'a, E: Write> Teller<'a, E> {
             }
         }
         let lines = self.lost_lines;
-        if lines > 0 {
+        if lines == 1 {
+            let _ = writeln!(self.errors, "fbr: 1 line could not be written");
+        } else if lines > 1 {
             let _ = writeln!(self.errors, "fbr: {lines} lines could not be written");
         }
     }
