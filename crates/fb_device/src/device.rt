@@ -21,6 +21,7 @@ use crate::sharing::release;
 use fb_device_arrivals::{Denied, begin, deliver, offer, tick};
 use fb_device_dispatch::{Dispatched, dispatch};
 use fb_device_state::{Program, Running};
+use fb_verified::Verified;
 use std::marker::Model;
 
 /// A device that runs a checked application. Its calls are written to take no memory, which no clause says.
@@ -164,6 +165,13 @@ impl Device {
         ensures sound { IsSound (cert_in self.now) (device_in self.now) (machine_of self.now) }
     {
         let _ = &self.program;
+    }
+
+    /// What was checked of the texts.
+    pub(crate) fn verified(&self) -> &Verified
+        ensures { result.now ≡ self.now.verified }
+    {
+        &self.program.verified
     }
 
     /// The name of the device.

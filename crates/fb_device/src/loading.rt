@@ -88,6 +88,13 @@ impl Ready {
         device.begin();
         device
     }
+
+    /// What was checked of the texts.
+    pub fn verified(&self) -> &Verified
+        ensures { result.now ≡ self.now.verified }
+    {
+        self.device.verified()
+    }
 }
 
 // The number of the first device of a name.

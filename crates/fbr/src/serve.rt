@@ -10,6 +10,7 @@ ghost use Rattle.fbr_serve.specs.Serving.{TellsServe};
 use crate::given::{Files, tell};
 use fbr_files::{Fault, Sources, print_outcome, read_file};
 use fbr_serve::{load_device, serve_ready, take_boot};
+use fbr_tell::tell_shallow;
 use fbr_words::Serve;
 use std::io;
 use std::io::Write;
@@ -57,7 +58,10 @@ pub fn serve<R: AllocGlobal + Clock + Net, S: Sources, W: Write, E: Write>(
         Err(fault) => return refuse_boot(fault, output, errors),
     };
     match ready {
-        Ok(ready) => serve_ready(rt, ready, &request, output, errors),
+        Ok(ready) => {
+            tell_shallow(alloc, ready.verified(), errors);
+            serve_ready(rt, ready, &request, output, errors)
+        }
         Err(fault) => {
             tell(alloc, &fault, Files::two(&app, &cert), errors);
             print_outcome(Err(fault), output)
