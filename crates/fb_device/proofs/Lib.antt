@@ -5,5 +5,5 @@ pub mod Silent
 pub mod Beginning
 pub mod Begun
 pub mod Found
-pub mod Due
+pub mod FirstDue
 pub mod Long

@@ -6,4 +6,4 @@ pub mod Loads
 pub mod Openings
 pub mod Finding
 pub mod Starting
-pub mod Due
+pub mod NextDue

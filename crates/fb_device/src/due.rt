@@ -4,7 +4,7 @@ ghost use Rattle.std.specs.Prelude.{List};
 ghost use Rattle.fb_model.specs.Wires.{Leaf};
 ghost use Rattle.fb_model.specs.Store.{Store};
 ghost use Rattle.fb_sched.specs.Expiry.{AreArmed};
-ghost use Rattle.fb_device.specs.Due.{IsNextDue};
+ghost use Rattle.fb_device.specs.NextDue.{IsNextDue};
 
 use fb_sched::Timers;
 

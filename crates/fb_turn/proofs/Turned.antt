@@ -1,13 +1,13 @@
 -- Turns, part by part: calls of links and sinks one after another, receives with their deliveries, dispatches with what goes out.
 use Rattle.std.proofs.Common.{◌≡◌, ℕ, ◌+◌, ◌≤◌, ◌<◌, List, [], ◌∷◌, ◌++◌, map, length, refl, sym, ◌∙◌, ap, subst, arith, append_assoc}
-use Rattle.std.specs.Prelude.{Result, Bool, true, false, Ok, Err, is_err, if◌then◌else◌}
-use Rattle.std.specs.List.{flat_map, sum_by, AllByRecursion}
+use Rattle.std.specs.Prelude.{Result, true, false, Ok, Err, is_err}
+use Rattle.std.specs.List.{flat_map, AllByRecursion}
 use Rattle.std.proofs.lemmas.List.{map-append, append-nil}
 use Rattle.std.proofs.lemmas.List.Sums.{sum_by_push}
 use Rattle.std.proofs.lemmas.Grind.{flat_map-append}
 use Rattle.fb_model.specs.System.{Device}
 use Rattle.fb_model.specs.Certificates.{Certificate}
-use Rattle.fb_model.specs.Devices.{Machine, Event, Deliver, Tick, Dispatch, Answer, Expired, Run, Happens}
+use Rattle.fb_model.specs.Devices.{Machine, Event, Tick, Dispatch, Answer, Expired, Run, Happens}
 use Rattle.fb_model.proofs.Ending.{run_more}
 use Rattle.fb_link.specs.Link.{LinkCall, Silent, Broken}
 use Rattle.fb_device_arrivals.specs.Answers.{admission_of}
@@ -16,7 +16,7 @@ use Rattle.fb_verified.specs.declared.verified.Verified.{Verified}
 use Rattle.fb_verified.specs.Checked.{system_in, certificate_in}
 use Rattle.fb_device_state.specs.Sessions.{Session}
 use Rattle.fb_device_state.specs.Machines.{device_at, device_in, cert_in}
-use Rattle.fb_turn.specs.Turns.{Chain, Receipt, Close, Sixteenth, Quiet, Cut, delivery, handing, close_calls, ClosesAt, is_cut, denials_of, Service, sends, losses, each_once, Sight, coming, serving, Turn, IsTurn, Receives, ServesOne, Serves}
+use Rattle.fb_turn.specs.Turns.{Chain, Receipt, Close, Sixteenth, Quiet, Cut, delivery, handing, close_calls, is_cut, denials_of, Service, sends, losses, each_once, Sight, coming, serving, IsTurn, Receives, ServesOne, Serves}
 
 -- two sessions of one program have one certificate and one device
 pub along : (s t : Session) (P : Certificate → Device → Type 0) → s.verified ≡ t.verified → s.number ≡ t.number → P (cert_in s) (device_in s) → P (cert_in t) (device_in t)

@@ -3,7 +3,7 @@
 use Rattle.std.specs.Prelude.{◌≡◌, ℕ, ℤ, ◌+◌, ◌<◌, ◌≤◌, List, [], ◌∷◌, ◌++◌, map, length, Bool, true, false, if◌then◌else◌, Result, Ok, Err, Option, Some, None}
 use Rattle.std.specs.List.{flat_map, sum_by, AllByRecursion}
 use Rattle.fb_model.specs.System.{Device}
-use Rattle.fb_model.specs.Messages.{Message, spelling}
+use Rattle.fb_model.specs.Messages.{spelling}
 use Rattle.fb_model.specs.Serving.{Effect, Send, Write}
 use Rattle.fb_model.specs.Certificates.{Certificate}
 use Rattle.fb_model.specs.Devices.{Machine, Event, Deliver, Tick, Dispatch, Answer, Admitted, Denied, Expired, Idle, Ran, Run, Happens}

@@ -141,7 +141,7 @@ struct Given {
 }
 
 // What a block that ran comes to, where the link took what it sent, or not.
-fn given(effect: &Option<Effect>, taken: bool) -> Given
+fn make_given(effect: &Option<Effect>, taken: bool) -> Given
     ensures { result ≡ record { taken = taken; services = record { ran = 1; sent = turns.taken_in (responses.effect_of effect.now) taken; lost = turns.lost_in (responses.effect_of effect.now) taken } } }
 {
     let (sent, lost) = match effect {
@@ -173,7 +173,7 @@ fn give_out<L: Link>(answer: &Dispatched, link: &mut L) -> Given
         },
         Dispatched::Ran(ran) => {
             let taken = put_out(&ran.effect, link);
-            given(&ran.effect, taken)
+            make_given(&ran.effect, taken)
         }
     }
 }

@@ -1,12 +1,12 @@
-use Rattle.std.proofs.Common.{arith, ◌≡◌, ◌<◌, List, length, ℕ, ◌+◌, ◌≤◌, Bool, true, false, [], ◌∷◌, ◌++◌, refl, sym, ◌∙◌, subst, length-append, take}
+use Rattle.std.proofs.Common.{arith, List, ℕ, [], ◌∷◌, ◌++◌, refl, sym, ◌∙◌, subst, length-append, take}
 use Rattle.std.proofs.lemmas.Grind.{common_steps}
 use Rattle.std.proofs.lemmas.List.Sums.{sum_by_push}
 use Rattle.fb_model.specs.Devices.{Happens, Deliver}
 use Rattle.fb_link.specs.Link.{Handed}
 use Rattle.fb_device_arrivals.specs.Answers.{admission_of}
 use Rattle.fb_device_state.specs.Machines.{device_in, cert_in, machine_of}
-use Rattle.fb_turn.specs.Turns.{Receipt, Quiet, Cut, Sixteenth, denials}
-use Rattle.fb_turn.proofs.Turned.{along, receives_more, receives_quiet, receives_cut, receives_sixteenth, denied_err, denied_ok}
+use Rattle.fb_turn.specs.Turns.{Receipt, Quiet, Cut, denials}
+use Rattle.fb_turn.proofs.Turned.{along, receives_more, receives_quiet, receives_cut, denied_err, denied_ok}
 use Rattle.fb_turn.proofs.turning.receive_all.Goals as goal
 use Rattle.fb_turn.proofs.turning.receive_all.Goals.{then-is_err, else-is_err}
 

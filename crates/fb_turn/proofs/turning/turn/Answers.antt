@@ -1,4 +1,4 @@
-use Rattle.std.proofs.Common.{◌≡◌, [], length, refl, sym, ◌∙◌, subst}
+use Rattle.std.proofs.Common.{◌≡◌, [], refl, sym, ◌∙◌, subst}
 use Rattle.fb_model.proofs.Ending.{keeps_bounds}
 use Rattle.fb_model.proofs.Admitting.{sound_after}
 use Rattle.fb_model.proofs.Starting.{stays_within_all}

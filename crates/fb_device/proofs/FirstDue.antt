@@ -9,7 +9,7 @@ use Rattle.fb_sched.specs.Order.{IsOrdered, AreApart, due_of, due_at}
 use Rattle.fb_sched.specs.Expiry.{AreArmed, moment_of, leaf_of}
 use Rattle.fb_sched.proofs.Leaves.{due_leaf}
 use Rattle.fb_device_arrivals.proofs.Ticks.{due_timer}
-use Rattle.fb_device.specs.Due.{last_moment, IsNextDue}
+use Rattle.fb_device.specs.NextDue.{last_moment, IsNextDue}
 
 first_of : {X : Type 0} (xs : List X) (x : X) → slice_get xs 0 ≡ Some x → (rest : List X) × (xs ≡ x ∷ rest)
 first_of [] x e = cc
