@@ -16,7 +16,7 @@ use Rattle.fb_verified.specs.Checked.{system_in, certificate_in}
 use Rattle.fb_verified.specs.declared.verified.Verified.{Verified}
 use Rattle.fb_device_state.specs.Sessions.{Session}
 use Rattle.fb_device_state.specs.Machines.{device_at, device_in, cert_in, machine_of}
-use Rattle.fb_turn.specs.Turns.{Turn, Receipt, Service, Chain, Sight, IsTurn, coming, serving, sights_of, writes, report_of, link_calls_of}
+use Rattle.fb_turn.specs.Turns.{Turn, Receipt, Service as Dispatch, Chain, Sight, IsTurn, coming, serving, sights_of, writes, report_of, link_calls_of}
 use Rattle.fb_turn.specs.declared.turning.Report.{Report}
 use Rattle.fbr_words.specs.Program.{Life, Telling, Service}
 use Rattle.fbr_serve.specs.declared.sums.Sums.{Sums}
@@ -85,7 +85,7 @@ arrivals_print : (clock : Bool) (moment : ℕ) (rs : List Receipt) → flat_map 
 arrivals_print clock moment [] = refl
 arrivals_print clock moment (r ∷ rs) = arrivals_print clock moment rs
 
-dispatches_print : (clock : Bool) (moment : ℕ) (ss : List Service) → flat_map (sight_lines clock moment) (map serving ss) ≡ flat_map (write_line clock moment) (flat_map writes ss)
+dispatches_print : (clock : Bool) (moment : ℕ) (ss : List Dispatch) → flat_map (sight_lines clock moment) (map serving ss) ≡ flat_map (write_line clock moment) (flat_map writes ss)
 dispatches_print clock moment [] = refl
 dispatches_print clock moment (o ∷ os) =
     ap (λ t. flat_map (write_line clock moment) (writes o) ++ t) (dispatches_print clock moment os) ∙ sym (flat_map-append (write_line clock moment) (writes o) (flat_map writes os))

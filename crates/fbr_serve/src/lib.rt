@@ -17,5 +17,4 @@ pub use boot::take_boot;
 pub use serve::{load_device, serve_ready};
 pub use stop::Stop;
 pub use sums::Sums;
-pub use telling::Teller;
 pub use turns::{Ran, serve_on};

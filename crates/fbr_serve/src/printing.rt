@@ -12,63 +12,59 @@ use fb_turn::Watch;
 use std::io;
 use std::io::Write;
 
+/// The moment of a turn, in milliseconds, and whether its lines begin with it.
+#[derive(Clone, Copy)]
+pub(crate) struct When {
+    pub now: u64,
+    pub is_told: bool,
+}
+
 /// Prints what OUTPUTs write, a line each, and tells people of what else it sees.
 #[derive(Drop)]
-pub(crate) struct Printer<'a, 'b, W, E> {
+pub(crate) struct Printer<'a, W, E> {
     pub output: &'a mut W,
-    pub people: &'a mut Teller<'b, E>,
-    /// The moment of the turn, in milliseconds.
-    pub now: u64,
-    /// Whether lines begin with it.
-    pub has_clock: bool,
+    pub errors: &'a mut E,
+    pub people: &'a mut Teller,
+    pub when: When,
     pub has_printed: bool,
     /// Whether a line was lost.
     pub is_lost: bool,
 }
 
 // Prints what an OUTPUT writes.
-fn print_write<W: Write>(
-    output: &mut W,
-    has_clock: bool,
-    now: u64,
-    number: u16,
-    values: &[i64],
-) -> io::Result<()>
-    ensures { IfOk result (λ _. Appends (W.contents output.old) (W.contents output.new) (write_line has_clock now (record { number = number; values = values.now }))) }
+fn print_write<W: Write>(output: &mut W, when: When, number: u16, values: &[i64]) -> io::Result<()>
+    ensures { IfOk result (λ _. Appends (W.contents output.old) (W.contents output.new) (write_line when.is_told when.now (record { number = number; values = values.now }))) }
 {
     let written = Written(number, values);
-    if has_clock {
+    if when.is_told {
+        let now = when.now;
         writeln!(output, "{now} {written}")
     } else {
         writeln!(output, "{written}")
     }
 }
 
-impl<W: Write, E: Write> Watch for Printer<'_, '_, W, E> {
-    ghost sees = { λ p sight q. (q.output.ghost_name ≡ p.output.ghost_name) × (q.now ≡ p.now) × (q.has_clock ≡ p.has_clock)
-        × (q.is_lost ≡ false → (p.is_lost ≡ false) × Appends (W.contents p.output.now) (W.contents q.output.now) (sight_lines p.has_clock p.now sight)) };
+impl<W: Write, E: Write> Watch for Printer<'_, W, E> {
+    ghost sees = { λ p sight q. (q.output.ghost_name ≡ p.output.ghost_name) × (q.when.now ≡ p.when.now) × (q.when.is_told ≡ p.when.is_told)
+        × (q.is_lost ≡ false → (p.is_lost ≡ false) × Appends (W.contents p.output.now) (W.contents q.output.now) (sight_lines p.when.is_told p.when.now sight)) };
 
     fn came(&mut self, device: &Device, bytes: &[u8], answer: &Result<u64, Denied>) {
-        self.people.came(self.now, device, bytes, answer);
+        self.people
+            .came(self.errors, self.when.now, device, bytes, answer);
     }
 
     fn served(&mut self, device: &Device, answer: &Dispatched, is_taken: bool) {
         if let Dispatched::Ran(ran) = answer {
             if let Some(Effect::Write(number, values)) = &ran.effect {
                 self.has_printed = true;
-                let printed = print_write(
-                    self.output,
-                    self.has_clock,
-                    self.now,
-                    *number,
-                    values.as_slice(),
-                );
+                let printed = print_write(self.output, self.when, *number, values.as_slice());
                 if printed.is_err() {
                     self.is_lost = true;
                     self.people.lost_line();
                 }
             }
-            self.people.ran(self.now, device, ran, is_taken);
+            self.people
+                .ran(self.errors, self.when.now, device, ran, is_taken);
         }
     }
 }

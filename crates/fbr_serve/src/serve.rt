@@ -8,7 +8,6 @@ ghost use Rattle.fbr_serve.specs.Serving.{IsTextsFault, IsTextsReady, IsFilesFau
 
 use crate::stop::Stop;
 use crate::sums::Sums;
-use crate::telling::Teller;
 use crate::turns::serve_on;
 use fb_device::{Device, Ready, Refusal as LoadRefusal, load_boot};
 use fb_link::UdpLink;
@@ -137,9 +136,7 @@ fn serve_device<R: Clock + Net, W: Write, E: Write>(
     match UdpLink::open_at(rt, network.bind, peers, senders) {
         Ok(mut link) => {
             tell_ready(device, serve, errors);
-            let mut people = Teller::new(errors, serve.telling);
-            let ran = serve_on(rt, device, &mut link, serve, output, &mut people);
-            people.close(ran.end.as_ref().ok());
+            let ran = serve_on(rt, device, &mut link, serve, output, errors);
             tell_strangers(link.strangers(), errors);
             tell_end(&ran.end, errors);
             print_served(ran.end, output)

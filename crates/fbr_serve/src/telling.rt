@@ -1,5 +1,6 @@
 //! What people are told while a device runs. It is tested, and no contract says it.
 
+use crate::stop::Stop;
 use crate::sums::Sums;
 use fb_device::{Denied, Device, Effect, Ended, Ran};
 use fb_wire::{Message, Purpose, decode};
@@ -98,8 +99,7 @@ fn kind_of(denied: &Denied) -> usize {
 /// Tells people of a device on standard error: each denial and each datagram that was not taken, at most ten of a kind in a second, and more where that is
 /// asked for.
 #[derive(Drop)]
-pub struct Teller<'a, E> {
-    errors: &'a mut E,
+pub(crate) struct Teller {
     is_verbose: bool,
     second: u64,
     told: [u64; 12],
@@ -111,12 +111,11 @@ pub struct Teller<'a, E> {
     longest_turn: u64,
 }
 
-impl<'a, E: Write> Teller<'a, E> {
+impl Teller {
     /// One who has told nothing yet.
-    pub fn new(errors: &'a mut E, telling: Telling) -> Teller<'a, E> {
+    pub(crate) fn new(telling: Telling) -> Teller {
         let seconds = telling.summary.unwrap_or(0);
         Teller {
-            errors,
             is_verbose: telling.is_verbose,
             second: 0,
             told: [0; KINDS],
@@ -130,7 +129,7 @@ impl<'a, E: Write> Teller<'a, E> {
     }
 
     // Tells how many more there were of a kind in the second that has passed.
-    fn tell_more(&mut self, kind: usize, second: u64) {
+    fn tell_more<E: Write>(&self, errors: &mut E, kind: usize, second: u64) {
         let told = self.told.get(kind).copied().unwrap_or(0);
         if told > MOST {
             let more = told - MOST;
@@ -141,25 +140,19 @@ impl<'a, E: Write> Teller<'a, E> {
                 kind.saturating_add(50)
             };
             let _ = if kind == UNSENT {
-                writeln!(
-                    self.errors,
-                    "{moment} {more} more were not taken in that second"
-                )
+                writeln!(errors, "{moment} {more} more were not taken in that second")
             } else {
-                writeln!(
-                    self.errors,
-                    "{moment} {more} more denied {code} in that second"
-                )
+                writeln!(errors, "{moment} {more} more denied {code} in that second")
             };
         }
     }
 
     // Begins a second anew, if it is another one.
-    fn enter(&mut self, now: u64) {
+    fn enter<E: Write>(&mut self, errors: &mut E, now: u64) {
         let second = now / 1000;
         if second != self.second {
             for kind in 0..KINDS {
-                self.tell_more(kind, self.second);
+                self.tell_more(errors, kind, self.second);
             }
             self.told = [0; KINDS];
             self.second = second;
@@ -167,8 +160,8 @@ impl<'a, E: Write> Teller<'a, E> {
     }
 
     // Counts one of a kind, and answers whether it is told.
-    fn counts(&mut self, now: u64, kind: usize) -> bool {
-        self.enter(now);
+    fn counts<E: Write>(&mut self, errors: &mut E, now: u64, kind: usize) -> bool {
+        self.enter(errors, now);
         match self.told.get_mut(kind) {
             Some(told) => {
                 *told = told.saturating_add(1);
@@ -179,42 +172,49 @@ impl<'a, E: Write> Teller<'a, E> {
     }
 
     // Tells of a denial.
-    fn denied(&mut self, now: u64, bytes: &[u8], denied: &Denied) {
+    fn denied<E: Write>(&mut self, errors: &mut E, now: u64, bytes: &[u8], denied: &Denied) {
         let kind = kind_of(denied);
         if let Some(count) = self.denied.get_mut(kind) {
             *count = count.saturating_add(1);
         }
-        if self.counts(now, kind) {
+        if self.counts(errors, now, kind) {
             let moment = Moment(now);
             let code = denied.code();
             let why = Why(*denied);
             let _ = match decode(bytes) {
                 Ok(message) => {
                     let whom = For::of(&message);
-                    writeln!(self.errors, "{moment} {whom} denied {code}: {why}")
+                    writeln!(errors, "{moment} {whom} denied {code}: {why}")
                 }
                 Err(_) => {
                     let size = bytes.len();
-                    writeln!(self.errors, "{moment} {size} bytes denied {code}: {why}")
+                    writeln!(errors, "{moment} {size} bytes denied {code}: {why}")
                 }
             };
         }
     }
 
     /// A datagram came, and this was answered.
-    pub fn came(&mut self, now: u64, device: &Device, bytes: &[u8], answer: &Result<u64, Denied>) {
+    pub(crate) fn came<E: Write>(
+        &mut self,
+        errors: &mut E,
+        now: u64,
+        device: &Device,
+        bytes: &[u8],
+        answer: &Result<u64, Denied>,
+    ) {
         match answer {
             Ok(cause) => {
                 if self.is_verbose {
-                    self.admitted(now, device, bytes, *cause);
+                    Teller::admitted(errors, now, device, bytes, *cause);
                 }
             }
-            Err(denied) => self.denied(now, bytes, denied),
+            Err(denied) => self.denied(errors, now, bytes, denied),
         }
     }
 
     // Tells of an arrival.
-    fn admitted(&mut self, now: u64, device: &Device, bytes: &[u8], cause: u64) {
+    fn admitted<E: Write>(errors: &mut E, now: u64, device: &Device, bytes: &[u8], cause: u64) {
         if let Ok(message) = decode(bytes) {
             let moment = Moment(now);
             let whom = For::of(&message);
@@ -222,83 +222,90 @@ impl<'a, E: Write> Teller<'a, E> {
                 Some(opening) => {
                     let bound = Steps(opening.weight);
                     writeln!(
-                        self.errors,
+                        errors,
                         "{moment} {whom} begins cause {cause}, of at most {bound}"
                     )
                 }
-                None => writeln!(self.errors, "{moment} {whom} begins cause {cause}"),
+                None => writeln!(errors, "{moment} {whom} begins cause {cause}"),
             };
         }
     }
 
     /// A block ran, and the link took what it sent, if it sent something.
-    pub fn ran(&mut self, now: u64, device: &Device, ran: &Ran, is_taken: bool) {
+    pub(crate) fn ran<E: Write>(
+        &mut self,
+        errors: &mut E,
+        now: u64,
+        device: &Device,
+        ran: &Ran,
+        is_taken: bool,
+    ) {
         if self.is_verbose {
-            self.dispatched(now, device, ran);
+            Teller::dispatched(errors, now, device, ran);
         }
         if let Some(Effect::Send(message)) = &ran.effect {
-            self.sent(now, message, is_taken);
+            self.sent(errors, now, message, is_taken);
         }
         if self.is_verbose {
             if let Some(ended) = &ran.ended {
-                self.ended(now, ended);
+                Teller::ended(errors, now, ended);
             }
         }
     }
 
     // Tells of a dispatch.
-    fn dispatched(&mut self, now: u64, device: &Device, ran: &Ran) {
+    fn dispatched<E: Write>(errors: &mut E, now: u64, device: &Device, ran: &Ran) {
         let moment = Moment(now);
         let (cause, steps) = (ran.cause, Steps(ran.steps));
         if let Some((path, event)) = device.path(ran.block, ran.event) {
-            let _ = writeln!(
-                self.errors,
-                "{moment} {path}.{event} of cause {cause}: {steps}"
-            );
+            let _ = writeln!(errors, "{moment} {path}.{event} of cause {cause}: {steps}");
         }
     }
 
     // Tells of what was sent.
-    fn sent(&mut self, now: u64, message: &Message, is_taken: bool) {
+    fn sent<E: Write>(&mut self, errors: &mut E, now: u64, message: &Message, is_taken: bool) {
         let moment = Moment(now);
         let whom = For::of(message);
         if !is_taken {
-            if self.counts(now, UNSENT) {
-                let _ = writeln!(
-                    self.errors,
-                    "{moment} sent to {whom}: not every peer took it"
-                );
+            if self.counts(errors, now, UNSENT) {
+                let _ = writeln!(errors, "{moment} sent to {whom}: not every peer took it");
             }
         } else if self.is_verbose {
-            let _ = writeln!(self.errors, "{moment} sent to {whom}");
+            let _ = writeln!(errors, "{moment} sent to {whom}");
         }
     }
 
     // Tells of a cause that has ended.
-    fn ended(&mut self, now: u64, ended: &Ended) {
+    fn ended<E: Write>(errors: &mut E, now: u64, ended: &Ended) {
         let moment = Moment(now);
         let (cause, total, bound) = (ended.cause, ended.total, Steps(ended.bound));
         let _ = writeln!(
-            self.errors,
+            errors,
             "{moment} cause {cause} has ended after {total} of {bound}"
         );
     }
 
     /// A line could not be written.
-    pub fn lost_line(&mut self) {
+    pub(crate) fn lost_line(&mut self) {
         self.lost_lines = self.lost_lines.saturating_add(1);
     }
 
     /// A turn begins, behind turns that did this. The time since the one before is that turn's, unless the device waited then.
-    pub fn turned(&mut self, now: u64, sums: &Sums, has_waited: bool) {
-        self.enter(now);
+    pub(crate) fn turned<E: Write>(
+        &mut self,
+        errors: &mut E,
+        now: u64,
+        sums: &Sums,
+        has_waited: bool,
+    ) {
+        self.enter(errors, now);
         if !has_waited {
             self.longest_turn = self.longest_turn.max(now.saturating_sub(self.last_turn));
         }
         self.last_turn = now;
         if let Some(seconds) = self.summary {
             if now >= self.next_summary {
-                self.tell_sums(now, sums);
+                self.tell_sums(errors, now, sums);
                 let step = u64::from(seconds).saturating_mul(1000);
                 self.next_summary = now.saturating_add(step);
             }
@@ -306,7 +313,7 @@ impl<'a, E: Write> Teller<'a, E> {
     }
 
     // Tells how often each number was denied.
-    fn tell_denied(&mut self) {
+    fn tell_denied<E: Write>(&self, errors: &mut E) {
         for kind in 0..KINDS {
             let count = self.denied.get(kind).copied().unwrap_or(0);
             if count > 0 {
@@ -315,41 +322,41 @@ impl<'a, E: Write> Teller<'a, E> {
                 } else {
                     kind.saturating_add(50)
                 };
-                let _ = write!(self.errors, " {code}:{count}");
+                let _ = write!(errors, " {code}:{count}");
             }
         }
     }
 
     // Tells the sums so far.
-    fn tell_sums(&mut self, now: u64, sums: &Sums) {
+    fn tell_sums<E: Write>(&self, errors: &mut E, now: u64, sums: &Sums) {
         let moment = Moment(now);
         let longest = self.longest_turn;
         let lines = self.lost_lines;
         let _ = write!(
-            self.errors,
+            errors,
             "{moment} {sums}; longest turn {longest} ms, lines lost {lines}, denied"
         );
         if sums.denied == 0 {
-            let _ = write!(self.errors, " none");
+            let _ = write!(errors, " none");
         }
-        self.tell_denied();
-        let _ = writeln!(self.errors, "");
+        self.tell_denied(errors);
+        let _ = writeln!(errors, "");
     }
 
     /// Tells what was left to tell, as the device ends: of the last second, the sums where they are told at all, and of lines that were lost.
-    pub fn close(&mut self, sums: Option<&Sums>) {
+    pub(crate) fn close<E: Write>(&mut self, errors: &mut E, end: &Result<Sums, Stop>) {
         let last = self.last_turn;
-        self.enter(u64::MAX);
-        if let Some(sums) = sums {
+        self.enter(errors, u64::MAX);
+        if let Ok(sums) = end {
             if self.summary.is_some() {
-                self.tell_sums(last, sums);
+                self.tell_sums(errors, last, sums);
             }
         }
         let lines = self.lost_lines;
         if lines == 1 {
-            let _ = writeln!(self.errors, "fbr: 1 line could not be written");
+            let _ = writeln!(errors, "fbr: 1 line could not be written");
         } else if lines > 1 {
-            let _ = writeln!(self.errors, "fbr: {lines} lines could not be written");
+            let _ = writeln!(errors, "fbr: {lines} lines could not be written");
         }
     }
 }

@@ -8,7 +8,7 @@ ghost use Rattle.fbr_serve.specs.Serving.{TurnAt, IsTaken, EndsTurn, PrintsTurn,
 ghost use Rattle.fbr_serve.specs.declared.stop.Stop.TheVariants as stops;
 
 use crate::ended::has_ended;
-use crate::printing::{Printer, flushed};
+use crate::printing::{Printer, When, flushed};
 use crate::stop::Stop;
 use crate::sums::Sums;
 use crate::telling::Teller;
@@ -16,7 +16,7 @@ use crate::waiting::rest;
 use fb_device::Device;
 use fb_link::Link;
 use fb_turn::{Report, turn};
-use fbr_words::{Serve, Telling};
+use fbr_words::Serve;
 use std::io::Write;
 use std::rt::Clock;
 use std::time::Instant;
@@ -28,10 +28,16 @@ pub struct Ran {
     pub is_lost: bool,
 }
 
-// The end of turns.
-fn ended(end: Result<Sums, Stop>, is_lost: bool) -> Ran
+// The end of turns, of which people are told what was left to tell.
+fn ended<E: Write>(
+    end: Result<Sums, Stop>,
+    is_lost: bool,
+    errors: &mut E,
+    people: &mut Teller,
+) -> Ran
     ensures { result ≡ record { end = end; is_lost = is_lost } }
 {
+    people.close(errors, &end);
     Ran { end, is_lost }
 }
 
@@ -53,24 +59,24 @@ fn either(one: bool, other: bool) -> bool
 fn take_turn<L: Link, W: Write, E: Write>(
     device: &mut Device,
     link: &mut L,
-    now: u64,
-    telling: Telling,
+    when: When,
     output: &mut W,
-    people: &mut Teller<'_, E>,
+    errors: &mut E,
+    people: &mut Teller,
 ) -> Taken
-    ensures taken { (turn : Turn) × IsTaken (cert_in device.old) (device_in device.old) L.steps L.count (machine_of device.old) link.old (record { now = now; turn = turn }) (machine_of device.new) link.new
-        × EndsTurn (device_in device.old) turn result.end × PrintsTurn telling.has_clock (W.contents output.old) (W.contents output.new) (record { now = now; turn = turn }) result.is_lost }
+    ensures taken { (turn : Turn) × IsTaken (cert_in device.old) (device_in device.old) L.steps L.count (machine_of device.old) link.old (record { now = when.now; turn = turn }) (machine_of device.new) link.new
+        × EndsTurn (device_in device.old) turn result.end × PrintsTurn when.is_told (W.contents output.old) (W.contents output.new) (record { now = when.now; turn = turn }) result.is_lost }
     ensures same { (device.new.verified ≡ device.old.verified) × (device.new.number ≡ device.old.number) }
 {
     let mut printer = Printer {
         output,
+        errors,
         people,
-        now,
-        has_clock: telling.has_clock,
+        when,
         has_printed: false,
         is_lost: false,
     };
-    let turned = turn(device, link, &mut printer, now);
+    let turned = turn(device, link, &mut printer, when.now);
     let Printer {
         output,
         has_printed,
@@ -106,47 +112,52 @@ fn since<R: Clock>(rt: &R, start: Instant) -> Result<u64, Stop>
 /// prints what it writes, a line each: `write NUMBER VALUES`. Behind a turn that found nothing to do it waits for the link, or until the next timer is due,
 /// unless that turn was the last.
 ///
-/// Gives what the turns did in all. They end early where a receive fails, or the clock; and where a line is lost and that is to end them.
+/// On `errors` people are told what happens. Gives what the turns did in all. They end early where a receive fails, or the clock; and where a line is lost and that is to end them.
 pub fn serve_on<R: Clock, L: Link, W: Write, E: Write>(
     rt: &R,
     device: &mut Device,
     link: &mut L,
     serve: &Serve<'_>,
     output: &mut W,
-    people: &mut Teller<'_, E>,
+    errors: &mut E,
 ) -> Ran
     ensures served { (all : List TurnAt) × IsServed (cert_in device.old) (device_in device.old) L.steps L.count (life_of serve.now.life) (telling_of serve.now.telling) (machine_of device.old) link.old (W.contents output.old) all (machine_of device.new) link.new (W.contents output.new) result }
     ensures same { (device.new.verified ≡ device.old.verified) × (device.new.number ≡ device.old.number) }
 {
     let (life, telling) = (serve.life, serve.telling);
+    let mut people = Teller::new(telling);
     let mut sums = Sums::none();
     let mut is_lost = false;
     let mut has_waited = false;
     let start = match Instant::now(rt) {
         Ok(start) => start,
-        Err(_) => return ended(Err(Stop::Clock), is_lost),
+        Err(_) => return ended(Err(Stop::Clock), is_lost, errors, &mut people),
     };
     for turn in 0..life.turns {
         if life.until_eof && has_ended() {
-            return ended(Ok(sums), is_lost);
+            return ended(Ok(sums), is_lost, errors, &mut people);
         }
         let now = match since(rt, start) {
             Ok(now) => now,
-            Err(stop) => return ended(Err(stop), is_lost),
+            Err(stop) => return ended(Err(stop), is_lost, errors, &mut people),
         };
-        people.turned(now, &sums, has_waited);
-        let taken = take_turn(device, link, now, telling, output, people);
+        people.turned(errors, now, &sums, has_waited);
+        let when = When {
+            now,
+            is_told: telling.has_clock,
+        };
+        let taken = take_turn(device, link, when, output, errors, &mut people);
         is_lost = either(is_lost, taken.is_lost);
         match taken.end {
             Ok(report) => {
                 sums = sums.with(report);
                 if telling.is_strict && is_lost {
-                    return ended(Err(Stop::Output), is_lost);
+                    return ended(Err(Stop::Output), is_lost, errors, &mut people);
                 }
                 has_waited = turn + 1 < life.turns && rest(link, device, report, now, life.turns);
             }
-            Err(stop) => return ended(Err(stop), is_lost),
+            Err(stop) => return ended(Err(stop), is_lost, errors, &mut people),
         }
     }
-    ended(Ok(sums), is_lost)
+    ended(Ok(sums), is_lost, errors, &mut people)
 }
