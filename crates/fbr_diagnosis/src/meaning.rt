@@ -170,7 +170,7 @@ pub fn meaning_of(code: u8) -> Option<Meaning> {
             "take another port, or end the other program",
         ),
         63 => said(
-            "the words are no command; `--repeats` is given no number of 1 to 255; `fbr draw --chart` is given no basic block type of the text; a port of `fbr serve` is none of 1 to 65535, or it is given more than 64 peers, or `--turns` or `--boot` no number below 4294967296",
+            "the words are no command; `--repeats` or `--room` is given no number of 1 to 255; `fbr draw --chart` is given no basic block type of the text; an address of `fbr serve` is none, or has no port of 1 to 65535; it is given more than 64 peers or senders, a number that is too large, or a boot twice",
             "`fbr --help`",
         ),
         64 => said(

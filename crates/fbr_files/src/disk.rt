@@ -61,6 +61,18 @@ fn fill<F: OpenFile + Write>(
     file.sync_all()
 }
 
+// Has the folder of a file on the disk, so that a name that was changed there is not changed back by a cut. Not every file system can.
+fn settle<R: Files>(files: &R, name: &str) {
+    let folder = match name.rsplit_once('/') {
+        Some(("", _)) => "/",
+        Some((folder, _)) => folder,
+        None => ".",
+    };
+    if let Ok(mut folder) = fs::open(files, folder) {
+        let _ = folder.sync_all();
+    }
+}
+
 // Puts a text at a name by a new file beside it, which is renamed at the end: a cut in between leaves what stood there whole.
 fn replace<R: Files>(
     files: &R,
@@ -74,8 +86,11 @@ fn replace<R: Files>(
         Ok(()) => fs::rename(files, beside.as_str(), name),
         Err(error) => Err(error),
     };
-    if done.is_err() {
-        let _ = fs::remove_file(files, beside.as_str());
+    match done {
+        Ok(()) => settle(files, name),
+        Err(_) => {
+            let _ = fs::remove_file(files, beside.as_str());
+        }
     }
     done
 }

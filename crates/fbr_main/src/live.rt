@@ -10,6 +10,9 @@ use std::io::{ErrorKind, Write};
 /// How many bytes wait for a reader at most.
 const ROOM: usize = 65_536;
 
+/// The bytes of a line for which there is room from the beginning. What a device prints and tells while it runs is shorter.
+const LINE: usize = 4096;
+
 /// How long the end of the program waits for a reader, in milliseconds.
 const LAST: i32 = 1000;
 
@@ -39,7 +42,7 @@ impl Live {
         Ok(Live {
             stream,
             lines: Lines::new(alloc, ROOM)?,
-            line: Vec::new(alloc),
+            line: Vec::with_capacity(alloc, LINE)?,
             failed: false,
         })
     }

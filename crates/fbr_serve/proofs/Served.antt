@@ -1,5 +1,5 @@
 -- Turns of a device, and what they print.
-use Rattle.std.proofs.Common.{◌≡◌, ◌≤◌, ◌<◌, ◌+◌, ◌*◌, ℕ, Bool, true, false, not, List, [], ◌∷◌, ◌++◌, length, refl, sym, ap, ap₂, subst, ◌∙◌, arith, append_assoc, append-nil, length-append, Option, Some, None, Result, Ok, Err, IfOk}
+use Rattle.std.proofs.Common.{◌≡◌, ◌≤◌, ◌<◌, ◌+◌, ◌*◌, ℕ, Bool, true, false, not, List, [], ◌∷◌, ◌++◌, length, map, refl, sym, ap, ap₂, subst, ◌∙◌, arith, append_assoc, append-nil, length-append, Option, Some, None, Result, Ok, Err, IfOk}
 use Rattle.std.specs.List.{flat_map, sum_by, AllByRecursion}
 use Rattle.std.specs.Io.KnownBytes.{Appends, Keeps}
 use Rattle.std.proofs.lemmas.List.Sums.{sum_by_push}
@@ -79,6 +79,11 @@ puts_all name now timed lost held clock moment (x ∷ xs) p q c m h e =
     let first = h.1.3 rest.0 in
     let here : Appends (held p) (held h.0) (sight_lines clock moment x) = subst (λ b. Appends (held p) (held h.0) (sight_lines b moment x)) c (subst (λ n. Appends (held p) (held h.0) (sight_lines (timed p) n x)) m first.1) in
     (first.0, takes_more (held p) (held h.0) (held q) (sight_lines clock moment x) (flat_map (sight_lines clock moment) xs) here rest.1)
+
+pub puts_name : {P N : Type 0} (name : P → N) (now : P → ℕ) (timed : P → Bool) (lost : P → Bool) (held : P → Option (List ℕ)) (all : List Sight) (p q : P)
+    → Chain (λ a x b. Puts name now timed lost held a (sight_lines (timed a) (now a) x) b) p all q → name q ≡ name p
+puts_name name now timed lost held [] p q h = sym (ap name h)
+puts_name name now timed lost held (x ∷ xs) p q h = puts_name name now timed lost held xs h.0 q h.2 ∙ h.1.0
 
 -- arrivals print nothing
 arrivals_print : (clock : Bool) (moment : ℕ) (rs : List Receipt) → flat_map (sight_lines clock moment) (map coming rs) ≡ []

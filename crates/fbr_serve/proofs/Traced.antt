@@ -14,22 +14,22 @@ use Rattle.fbr_serve.specs.Serving.{TurnAt, IsTaken, Turns, Traced, Over, LinkAs
 
 module _ {S : Type 0} (does : S → SocketCall → S → Type 0) where
   sends_traced : (bytes : List ℕ) (peers : List SocketAddr) (s : S) (ok : Bool) (t : S) (before : List SocketCall) → SendsToEach does bytes peers s ok t → (after : List SocketCall) × SendsToEach Traced bytes peers before ok after
-  sends_traced bytes [] s ok t before h = (before, refl, h.1)
+  sends_traced bytes [] s ok t before h = (before, (refl, h.1))
   sends_traced bytes (peer ∷ peers) s ok t before h =
       let rest = sends_traced bytes peers h.1 h.3 t (before ++ SentTo peer bytes h.0 ∷ []) h.4 in
-      (rest.0, h.0, before ++ SentTo peer bytes h.0 ∷ [], refl, h.3, rest.1, h.5)
+      (rest.0, (h.0, before ++ SentTo peer bytes h.0 ∷ [], refl, h.3, rest.1, h.5))
 
   drops_traced : (senders : List IpAddr) (room : ℕ) (strangers : List SocketAddr) (s t : S) (before : List SocketCall) → DropsEach does senders room strangers s t → (after : List SocketCall) × DropsEach Traced senders room strangers before after
   drops_traced senders room [] s t before h = (before, refl)
   drops_traced senders room (from ∷ strangers) s t before h =
       let rest = drops_traced senders room strangers h.2 t (before ++ Took from room h.1 ∷ []) h.4 in
-      (rest.0, h.0, h.1, before ++ Took from room h.1 ∷ [], refl, rest.1)
+      (rest.0, (h.0, h.1, before ++ Took from room h.1 ∷ [], refl, rest.1))
 
   receives_traced : (senders : List IpAddr) (room n : ℕ) (s : S) (call : LinkCall) (t : S) (before : List SocketCall) → Receives does senders room n s call t → (after : List SocketCall) × Receives Traced senders room n before call after
-  receives_traced senders room n s (Handed size bytes) t before h = (before ++ Took h.2 room bytes ∷ [], h.0, h.1, h.2, h.3, refl)
+  receives_traced senders room n s (Handed size bytes) t before h = (before ++ Took h.2 room bytes ∷ [], (h.0, h.1, h.2, h.3, refl))
   receives_traced senders room n s Silent t before (inl h) = (before, inl (h.0, refl))
   receives_traced senders room n s Silent t before (inr h) = (before ++ Missed h.1 ∷ [], inr (h.0, h.1, h.2, refl))
-  receives_traced senders room n s Broken t before h = (before ++ Missed h.1 ∷ [], h.0, h.1, h.2, refl)
+  receives_traced senders room n s Broken t before h = (before ++ Missed h.1 ∷ [], (h.0, h.1, h.2, refl))
   receives_traced senders room n s (Sent bytes ok) t before h = absurd h
 
   takes_traced : (senders : List IpAddr) (counted : ℕ) (s : S) (call : LinkCall) (more : ℕ) (t : S) (before : List SocketCall) → TakesFrom does senders counted s call more t → (after : List SocketCall) × TakesFrom Traced senders counted before call more after
@@ -40,7 +40,7 @@ module _ {S : Type 0} (does : S → SocketCall → S → Type 0) where
 
   asks_traced : (peers : List SocketAddr) (senders : List IpAddr) (counted : ℕ) (s : S) (call : LinkCall) (more : ℕ) (t : S) (before : List SocketCall) → Asks does peers senders counted s call more t → (after : List SocketCall) × Asks Traced peers senders counted before call more after
   asks_traced peers senders counted s (Sent bytes ok) more t before h =
-      let sent = sends_traced bytes peers s ok t before h.0 in (sent.0, sent.1, h.1)
+      let sent = sends_traced bytes peers s ok t before h.0 in (sent.0, (sent.1, h.1))
   asks_traced peers senders counted s (Handed room bytes) more t before h = takes_traced senders counted s (Handed room bytes) more t before h
   asks_traced peers senders counted s Silent more t before h = takes_traced senders counted s Silent more t before h
   asks_traced peers senders counted s Broken more t before h = takes_traced senders counted s Broken more t before h
@@ -89,8 +89,8 @@ module _ {L S : Type 0} (does : S → SocketCall → S → Type 0) (socket : L �
 
     pub turns_traced : (cert : Certificate) (device : Device) (s : Machine) (l : L) (xs : List TurnAt) (t : Machine) (m : L) (before : List SocketCall) → Is l → Turns cert device Step failures s l xs t m
         → (after : List SocketCall) × Turns cert device (LinkAsks to from) failed_in s (over l before) xs t (over m after)
-    turns_traced cert device s l [] t m before is h = (before, h.0, ap (λ x. over x before) h.1)
+    turns_traced cert device s l [] t m before is h = (before, (h.0, ap (λ x. over x before) h.1))
     turns_traced cert device s l (x ∷ xs) t m before is h =
         let one = turn_traced cert device s l x h.0 h.1 before is h.2 in
         let rest = turns_traced cert device h.0 h.1 xs t m one.0 one.2 h.3 in
-        (rest.0, h.0, over h.1 one.0, one.1, rest.1)
+        (rest.0, (h.0, over h.1 one.0, one.1, rest.1))

@@ -1,6 +1,6 @@
 //! The boot of a device.
 
-ghost use Rattle.std.specs.Prelude.{◌≡◌, MatchResult, string_bytes, IfOk};
+ghost use Rattle.std.specs.Prelude.{◌≡◌, ◌<◌, MatchResult, string_bytes, IfOk};
 ghost use Rattle.fbr_files.specs.Outcomes.{IsReadFault};
 ghost use Rattle.fbr_files.specs.Writing.{LeavesAllBut, LeavesOthers};
 ghost use Rattle.fbr_words.specs.Program.{boot_file};

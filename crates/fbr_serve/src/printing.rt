@@ -26,7 +26,6 @@ pub(crate) struct Printer<'a, W, E> {
     pub errors: &'a mut E,
     pub people: &'a mut Teller,
     pub when: When,
-    pub has_printed: bool,
     /// Whether a line was lost.
     pub is_lost: bool,
 }
@@ -56,7 +55,6 @@ impl<W: Write, E: Write> Watch for Printer<'_, W, E> {
     fn served(&mut self, device: &Device, answer: &Dispatched, is_taken: bool) {
         if let Dispatched::Ran(ran) = answer {
             if let Some(Effect::Write(number, values)) = &ran.effect {
-                self.has_printed = true;
                 let printed = print_write(self.output, self.when, *number, values.as_slice());
                 if printed.is_err() {
                     self.is_lost = true;
@@ -69,13 +67,9 @@ impl<W: Write, E: Write> Watch for Printer<'_, W, E> {
     }
 }
 
-/// Lets people see what was printed, where something was.
-pub(crate) fn flushed<W: Write>(output: &mut W, has_printed: bool) -> bool
+/// Lets people see what was printed, as far as the writer has not yet shown it.
+pub(crate) fn flushed<W: Write>(output: &mut W) -> bool
     ensures { Keeps (W.contents output.old) (W.contents output.new) }
 {
-    if has_printed {
-        output.flush().is_ok()
-    } else {
-        true
-    }
+    output.flush().is_ok()
 }

@@ -77,7 +77,7 @@ impl fmt::Display for Why {
             Denied::BadValue(place) => write!(f, "value {place} does not fit its type"),
             Denied::NoCredit { needs, free } => write!(f, "{needs} places needed, {free} free"),
             Denied::Spent => write!(f, "no number is left for a cause"),
-            Denied::Wire(fault) => write!(f, "it is no message, {fault}"),
+            Denied::Wire(_) => write!(f, "it is no message"),
             Denied::NoSubscriber => write!(f, "no SUBSCRIBE takes this channel"),
             Denied::Shape => write!(f, "it has another format, or other values"),
             Denied::Closed => write!(f, "the SUBSCRIBE is closed"),
@@ -186,9 +186,9 @@ impl Teller {
                     let whom = For::of(&message);
                     writeln!(errors, "{moment} {whom} denied {code}: {why}")
                 }
-                Err(_) => {
+                Err(fault) => {
                     let size = bytes.len();
-                    writeln!(errors, "{moment} {size} bytes denied {code}: {why}")
+                    writeln!(errors, "{moment} {size} bytes denied {fault}: {why}")
                 }
             };
         }

@@ -73,17 +73,17 @@ fn take_turn<L: Link, W: Write, E: Write>(
         errors,
         people,
         when,
-        has_printed: false,
         is_lost: false,
     };
     let turned = turn(device, link, &mut printer, when.now);
     let Printer {
         output,
-        has_printed,
+        errors,
         is_lost,
         ..
     } = printer;
-    let is_lost = either(!flushed(output, has_printed), is_lost);
+    let is_lost = either(!flushed(output), is_lost);
+    let _ = errors.flush();
     // Nothing happens here: the proof reads what the writer holds.
     let _ = &*output;
     match turned {

@@ -1,4 +1,4 @@
-use Rattle.std.proofs.Common.{inr, map, ap}
+use Rattle.std.proofs.Common.{inr, map, ap, ◌∙◌}
 use Rattle.std.proofs.lemmas.Result.{IfOk-weaker}
 use Rattle.fb_addresses.specs.Addresses.{endpoint_of, parts_of}
 use Rattle.fbr_words.specs.Requests.{service_of}
@@ -11,4 +11,4 @@ returns-in-Ok-clause-told g c =
     IfOk-weaker c.print_served.result _ _ (λ status h. inr h)
     (turns_told _ (λ l. l.socket) (λ l. l.peers) (λ l. l.senders) (λ l. l.failures) (λ l. l.strangers) (service_of c.args.serve.now) c.args.device.now c.in-Ok.link (g.W.Write.contents c.args.output.now) c.serve_on-ran.new.device c.serve_on-ran.new.link
     (g.W.Write.contents c.serve_on-ran.new.output) c.serve_on-ran.result (g.W.Write.contents c.print_served.new.output) c.print_served.result c.serve_on-ran.ensures.served fresh.0 fresh.3
-    (record { to = ap (map endpoint_of) (fresh.1 ∙ c.as_slice.ensures.all); from = ap (map parts_of) (fresh.2 ∙ c.as_slice-2.ensures.all) }) c.print_served.ensures.told)
+    (record { to = ap (map endpoint_of) (fresh.1 ∙ c.as_slice-peers.ensures.all); from = ap (map parts_of) (fresh.2 ∙ c.as_slice-senders.ensures.all) }) c.print_served.ensures.told)
