@@ -9,7 +9,7 @@ _fbr() {
         bound) options="--repeats --search --ranges --room --output --help" ;;
         explain) options="--repeats --strict --help" ;;
         draw) options="--repeats --flat --chart --output --help" ;;
-        serve) options="--bind --turns --boot --help" ;;
+        serve) options="--bind --from --turns --until-eof --boot --boot-file --verbose --summary --clock --stop-on-lost-output --help" ;;
         check | sim) options="--help" ;;
         help) mapfile -t COMPREPLY < <(compgen -W "bound check sim explain draw serve help" -- "$word") && return ;;
     esac
