@@ -348,20 +348,56 @@ def free_port():
         return it.getsockname()[1]
 
 
+def has_ipv6():
+    try:
+        with socket.socket(socket.AF_INET6, socket.SOCK_DGRAM) as it:
+            it.bind(("::1", 0))
+            return True
+    except OSError:
+        return False
+
+
+def served(table, app, cert):
+    """The words of `serve`. Standard input has ended, so that --until-eof ends a device before its first turn."""
+    sums, at_fault = "fired 0 received 0 denied 0 ran 0 sent 0 lost 0", "refused 63"
+    brief = ["--turns", "0"]
+    rows = [
+        ("64 peers", [*brief, *["65535"] * 64], sums),
+        ("65 peers", [*brief, *["65535"] * 65], at_fault),
+        ("64 senders", [*brief, *["--from", "10.0.0.1"] * 64], sums),
+        ("65 senders", [*brief, *["--from", "10.0.0.1"] * 65], at_fault),
+        ("boot 4294967295", [*brief, "--boot", "4294967295"], sums),
+        ("boot 4294967296", [*brief, "--boot", "4294967296"], at_fault),
+        ("turns 18446744073709551615", ["--turns", "18446744073709551615", "--until-eof"], sums),
+        ("turns 18446744073709551616", ["--turns", "18446744073709551616", "--until-eof"], at_fault),
+        ("no turns", ["--until-eof"], sums),
+        ("summary 4294967295", [*brief, "--summary", "4294967295"], sums),
+        ("summary 4294967296", [*brief, "--summary", "4294967296"], at_fault),
+        ("summary 0", [*brief, "--summary", "0"], at_fault),
+    ]
+    for word, line in (("::ffff:10.0.0.1", sums), ("fe80::1", sums), ("10.0.0.1:1", at_fault), ("[::1]", at_fault), ("10.0.0.0/8", at_fault), ("localhost", at_fault), ("", at_fault)):
+        rows.append((f"--from {word}", [*brief, "--from", word], line))
+    for word, line in (("10.0.0.1:65535", sums), ("[fd00::1]:1", sums), ("10.0.0.1:65536", at_fault), ("10.0.0.1:0", at_fault), ("10.0.0.1", at_fault), ("fd00::1:1", at_fault)):
+        rows.append((f"peer {word}", [*brief, word], line))
+    for label, options, line in rows:
+        table.add(label, ["serve", app, cert, "D", "--bind", str(free_port()), *options], line)
+    for bind in ("0", "65536", "127.0.0.1:0", "127.0.0.1:65536", "[::1]:0", "::1:24001", "127.0.0.1", "localhost:24001"):
+        table.add(f"--bind {bind}", ["serve", app, cert, "D", "--bind", bind, *brief], at_fault)
+    for bind in ["127.0.0.1:{}", "0.0.0.0:{}"] + (["[::1]:{}", "[::]:{}"] if has_ipv6() else []):
+        table.add(f"--bind {bind}", ["serve", app, cert, "D", "--bind", bind.format(free_port()), *brief], sums)
+    # Of these two no address of this machine is one.
+    for bind in ("192.0.2.1:24001", "[2001:db8::1]:24001"):
+        table.add(f"--bind {bind}", ["serve", app, cert, "D", "--bind", bind, *brief], "refused 62 24001")
+    for text in ("4294967294", "0", " 5 \n"):
+        table.add(f"a boot file with {text!r}", ["serve", app, cert, "D", "--bind", str(free_port()), *brief, "--boot-file", table.file(text)], sums)
+    for path in (*map(table.file, ("4294967295", "", "-1", "5 6", "five", b"\xff")), f"{table.folder}/none", table.folder):
+        table.add(f"no boot in {path}", ["serve", app, cert, "D", "--bind", str(free_port()), *brief, "--boot-file", path], f"refused 61 {path}")
+    table.add("two boots", ["serve", app, cert, "D", "--bind", str(free_port()), *brief, "--boot", "1", "--boot-file", table.file("1")], at_fault)
+
+
 def words(table):
     app, cert = table.file(CELL), table.file(CELL_CERT)
-    sums = "fired 0 received 0 denied 0 ran 0 sent 0 lost 0"
-    for label, port, turns, boot, peers, line in (
-        ("64 peers", free_port(), 0, 0, 64, sums),
-        ("65 peers", free_port(), 0, 0, 65, "refused 63"),
-        ("boot 4294967295", free_port(), 0, 4294967295, 0, sums),
-        ("boot 4294967296", free_port(), 0, 4294967296, 0, "refused 63"),
-        ("port 0", 0, 0, 0, 0, "refused 63"),
-        ("port 65536", 65536, 0, 0, 0, "refused 63"),
-        ("turns 4294967296", free_port(), 4294967296, 0, 0, "refused 63"),
-    ):
-        options = ["--bind", str(port), "--turns", str(turns), "--boot", str(boot)]
-        table.add(label, ["serve", app, cert, "D", *options, *["65535"] * peers], line)
+    served(table, app, cert)
     full, fuller = table.file(b" " * MOST_FILE), table.file(b" " * (MOST_FILE + 1))
     table.add(f"a file of {MOST_FILE} bytes", ["check", full, cert], "refused 4")
     table.add("a file of one byte more", ["check", fuller, cert], f"refused 61 {fuller}")

@@ -3,15 +3,19 @@
 
 `PROGRAM serve` runs one device until it has received at least N datagrams (1,000,000 where none is given), while three processes send to its port as fast as they can: valid messages of its
 channels, repeated, late and forged; what is no message, cut behind each byte or with a field at fault; messages of other channels, INPUTs, types and formats. Beside them one client offers its
-INPUT 1 a number, and the next one as soon as the first was written, again and again where the system has lost the datagram.
+INPUT 1 a number, and the next one as soon as the first was written, again and again where the system has lost the datagram. To INPUT 3 it sends a number every 5 ms, once: which share of them is
+written says what a flood leaves of a sender that does not repeat. Nothing is asked of that share, since the system drops what comes faster than it is received.
 
-Asked is that number by number is written, in order, and some dozens of them at least; that nothing else is written on that OUTPUT; that of a channel of format 2 nothing is taken twice or late;
-that the sums are those of what was written, but for the one cause that may be open in each of the two resources at the end; that the process takes no more memory at its end than in its first
-tenth; and that it ends with status 0."""
+Asked is that number by number is written, in order, and some dozens of them at least; that nothing else is written on that OUTPUT; that of what was sent once nothing is written twice, late or
+never sent, and of a channel of format 2 nothing is taken twice or late; that the sums are those of what was written, but for the one cause that may be open in each of the three resources at the
+end; that standard error tells of each denial, at most ten of a kind in a second, and of all that it counts; that the process takes no more memory at its end than in its first tenth; and that it
+ends with status 0."""
 import argparse
+import collections
 import multiprocessing
 import os
 import random
+import re
 import select
 import socket
 import struct
@@ -32,11 +36,18 @@ FBS BEGIN : E_RESTART; PLAIN : SUBSCRIBE[DINT](ID := 7, QI := TRUE); STAMPED : S
 TWO : OUTPUT[DINT](ID := 2); THREE : OUTPUT[DINT](ID := 3); END_FBS
 EVENT_CONNECTIONS BEGIN.COLD TO PLAIN.INIT; PLAIN.INITO TO STAMPED.INIT; PLAIN.IND TO TWO.REQ; STAMPED.IND TO THREE.REQ; END_CONNECTIONS
 DATA_CONNECTIONS PLAIN.RD_1 TO TWO.SD_1; STAMPED.RD_1 TO THREE.SD_1; END_CONNECTIONS
+END_RESOURCE
+RESOURCE ONCE
+FBS PLACE : INPUT[DINT](ID := 3); LAMP : OUTPUT[DINT](ID := 4); END_FBS
+EVENT_CONNECTIONS PLACE.IND TO LAMP.REQ; END_CONNECTIONS
+DATA_CONNECTIONS PLACE.RD_1 TO LAMP.SD_1; END_CONNECTIONS
 END_RESOURCE END_DEVICE END_SYSTEM
 """
 # What the two E_RESTART cause: a BEGIN each, and three INITs.
 BEGINS = 5
 CHANNEL, INPUT, BOOL, DINT = 1, 2, 0, 3
+# How many lines of a kind are told in a second.
+TOLD = 10
 # What it has asked for. What it has of its own file grows with each part of the program that runs for the first time.
 MEMORY = "RssAnon", "VmData"
 
@@ -115,11 +126,12 @@ class Flood:
 
 
 class Device:
-    """The process under flood, and the lines that it has printed."""
+    """The process under flood, the lines that it has printed, and what it has told people."""
 
     def __init__(self, command):
-        self.job = subprocess.Popen(command, stdout=subprocess.PIPE, stderr=subprocess.PIPE, bufsize=0)
-        self.lines, self.last, self.memory = {1: [], 2: [], 3: []}, "", []
+        self.errors = tempfile.TemporaryFile()
+        self.job = subprocess.Popen(command, stdout=subprocess.PIPE, stderr=self.errors, bufsize=0)
+        self.lines, self.last, self.memory = {1: [], 2: [], 3: [], 4: []}, "", []
         self.reader = threading.Thread(target=self.read)
         self.reader.start()
 
@@ -143,6 +155,10 @@ class Device:
     def runs(self):
         return self.job.poll() is None
 
+    def told(self):
+        self.errors.seek(0)
+        return self.errors.read().decode(errors="replace")
+
 
 def free_port():
     with socket.socket(socket.AF_INET, socket.SOCK_DGRAM) as it:
@@ -151,8 +167,8 @@ def free_port():
 
 
 def offered(device, port, end):
-    """Offers one number behind the other for as long as the device runs."""
-    number = 0
+    """Offers INPUT 1 one number behind the other for as long as the device runs, and INPUT 3 a number every 5 ms, once; and answers how many of these."""
+    number = singles = next_single = 0
     with socket.socket(socket.AF_INET, socket.SOCK_DGRAM) as link:
         while device.runs() and time.monotonic() < end:
             if number == 0 or device.lines[1] and device.lines[1][-1] == number:
@@ -161,7 +177,12 @@ def offered(device, port, end):
             if time.monotonic() >= again:
                 link.sendto(message(INPUT, 1, number), ("127.0.0.1", port))
                 again = time.monotonic() + 0.01
+            if time.monotonic() >= next_single:
+                singles += 1
+                link.sendto(message(INPUT, 3, singles), ("127.0.0.1", port))
+                next_single = time.monotonic() + 0.005
             time.sleep(0.0002)
+    return singles
 
 
 def heard(link):
@@ -175,9 +196,9 @@ def heard(link):
     return count
 
 
-def differences(device, least, datagrams):
+def differences(device, least, datagrams, singles):
     """What is not as it has to be."""
-    one, two, three = (device.lines[at] for at in (1, 2, 3))
+    one, two, three, four = (device.lines[at] for at in (1, 2, 3, 4))
     wrong = []
     if one != sorted(one) or set(one) != set(range(1, len(set(one)) + 1)):
         wrong.append("OUTPUT 1 wrote other numbers than were offered, or not in their order")
@@ -187,6 +208,8 @@ def differences(device, least, datagrams):
         wrong.append("OUTPUT 2 wrote what nobody sent on channel 7")
     if three != sorted(set(three)):
         wrong.append("OUTPUT 3 wrote a number twice, or an older one")
+    if four != sorted(set(four)) or set(four) - set(range(1, singles + 1)):
+        wrong.append("OUTPUT 4 wrote a number twice or late, or one that was not sent")
     told = device.last.split()
     if told[0::2] != ["fired", "received", "denied", "ran", "sent", "lost"]:
         return [*wrong, f"no sums, but {device.last!r}"]
@@ -194,10 +217,29 @@ def differences(device, least, datagrams):
     if received < datagrams:
         wrong.append(f"{received} datagrams were received, and not {datagrams}")
     # Of each resource one cause may be open: it has run no block yet or one, or in OWN all but the PUBLISH.
-    pending = received - denied - len(one) - len(two) - len(three)
-    more = ran - BEGINS - 3 * len(one) - 2 * len(two) - 2 * len(three)
-    if not (0 <= pending <= 2 and -1 <= more <= 2 and 0 <= len(one) - sent - lost <= 1) or fired:
-        wrong.append(f"{device.last}, but {len(one)}, {len(two)} and {len(three)} numbers were written")
+    pending = received - denied - len(one) - len(two) - len(three) - len(four)
+    more = ran - BEGINS - 3 * len(one) - 2 * len(two) - 2 * len(three) - 2 * len(four)
+    if not (0 <= pending <= 3 and -1 <= more <= 3 and 0 <= len(one) - sent - lost <= 1) or fired:
+        wrong.append(f"{device.last}, but {len(one)}, {len(two)}, {len(three)} and {len(four)} numbers were written")
+    return [*wrong, *untold(device.told(), device.last, denied)]
+
+
+def untold(told, last, denied):
+    """What standard error does not tell of denials, or tells too often."""
+    counted, seconds = collections.Counter(), collections.Counter()
+    for second, code in re.findall(r"^(\d+)\.\d{3} s (?:INPUT \d+|channel \d+|\d+ bytes) denied (\d+): ", told, re.M):
+        counted[int(code)] += 1
+        seconds[second, code] += 1
+    for more, code in re.findall(r"^\d+\.\d{3} s (\d+) more denied (\d+) in that second$", told, re.M):
+        counted[int(code)] += int(more)
+    wrong = [f"in second {second} {count} denials of {code} are told" for (second, code), count in seconds.items() if count > TOLD]
+    summary = re.search(rf" s {last}; longest turn \d+ ms, lines lost 0, denied(.*)$", told, re.M)
+    if not summary:
+        # Lines wait in 64 KiB: what finds no room there is lost.
+        return wrong if len(told) > 60_000 else [*wrong, f"standard error does not tell the sums at its end, but {told[-200:]!r}"]
+    sums = {int(code): int(count) for code, count in re.findall(r"(\d+):(\d+)", summary[1])}
+    if sums != counted or sum(sums.values()) != denied:
+        wrong.append(f"{denied} were denied; by the last line of standard error {sums}, and by all lines {dict(counted)}")
     return wrong
 
 
@@ -220,22 +262,22 @@ def flooded(program, datagrams, folder):
     end = time.monotonic() + 60 + datagrams / 2000
     # Of two turns one at least receives something, or dispatches what was received: a turn without either waits for a datagram.
     turns = datagrams * 5 // 2
-    words = ["serve", *files, "D", "--bind", str(port), "--turns", str(turns), str(peer.getsockname()[1])]
+    words = ["serve", *files, "D", "--bind", str(port), "--turns", str(turns), "--summary", "3600", str(peer.getsockname()[1])]
     device = Device([program, *words])
     try:
-        offered(device, port, end)
+        singles = offered(device, port, end)
         flood.end()
         if device.runs():
-            return device, flood, [f"{turns} turns are not over in time"], 0
+            return device, flood, [f"{turns} turns are not over in time"], 0, singles
     finally:
         device.job.kill()
         for job in flood.jobs:
             job.kill()
     device.reader.join()
-    wrong = differences(device, 10 + datagrams // 5000, datagrams)
+    wrong = differences(device, 10 + datagrams // 5000, datagrams, singles)
     if device.job.returncode:
-        wrong.append(f"status {device.job.returncode}, {device.job.stderr.read()[:300]!r}")
-    return device, flood, wrong, heard(peer)
+        wrong.append(f"status {device.job.returncode}, {device.told()[:300]!r}")
+    return device, flood, wrong, heard(peer), singles
 
 
 def main():
@@ -246,7 +288,7 @@ def main():
     given = words.parse_args()
     begun = time.monotonic()
     with tempfile.TemporaryDirectory() as folder:
-        device, flood, wrong, told = flooded(os.path.abspath(given.program), given.datagrams, folder)
+        device, flood, wrong, told, singles = flooded(os.path.abspath(given.program), given.datagrams, folder)
     more = grown(device.memory)
     if more is None or more > given.grows:
         wrong.append(f"the process grew by {more} kB, of {MEMORY}: {device.memory[:1]} at first, {device.memory[-1:]} at last")
@@ -254,7 +296,9 @@ def main():
         print(it)
     sent = sum(it.value for it in flood.sent)
     memory = ", ".join(f"{what} {kilobytes} kB" for what, kilobytes in zip(MEMORY, device.memory[-1] if device.memory else []))
+    once = len(device.lines[4])
     print(f"flood: {sent} sent in {time.monotonic() - begun:.0f} s; {device.last}; {len(set(device.lines[1]))} offers written, {told} heard by the peer; {memory}, grown by {more} kB")
+    print(f"offers that were sent once: {once} of {singles} written, {100 * once / max(1, singles):.0f} %")
     return 1 if wrong else 0
 
 

@@ -47,7 +47,10 @@ ANSWERS = {
 }
 SUMS = re.compile(r"fired (\d+) received (\d+) denied (\d+) ran (\d+) sent (\d+) lost (\d+)")
 NONE = b"CERT 1\n"
-WORDS = "check bound sim serve explain draw help --help --version -h -V --repeats --search --ranges --room --strict --bind --turns --boot --flat --chart -- - 0 1 2 255 256 43 -1 4294967296 D x APP CERT".split()
+# An address that sends nothing here, and options with which a device runs.
+STRANGER = "10.0.0.1"
+OPTIONS = [], ["--verbose"], ["--clock", "--summary", "1"], ["--from", "127.0.0.1"], ["--from", STRANGER, "--verbose"]
+WORDS = "check bound sim serve explain draw help --help --version -h -V --repeats --search --ranges --room --strict --bind --turns --boot --from --until-eof --boot-file --verbose --summary --clock --stop-on-lost-output --flat --chart -- - 0 1 2 255 256 43 -1 4294967296 D x APP CERT".split()
 
 
 class Wrong(Exception):
@@ -426,17 +429,20 @@ class Trial:
         sender.start()
         try:
             turns = str(self.rng.choice([0, 1, 3, 40]))
-            status, said = self.run(["serve", path, cert, device, "--bind", str(port), "--turns", turns, str(port)])
+            options = self.rng.choice(OPTIONS)
+            status, said = self.run(["serve", path, cert, device, "--bind", str(port), "--turns", turns, *options, str(port)])
         finally:
             ended.set()
             sender.join()
         *writes, last = said.splitlines() or [""]
-        ask(all(re.fullmatch(r"write \d+( -?\d+)*", line) for line in writes), "a line that is no write")
+        clock = r"\d+ " if "--clock" in options else ""
+        ask(all(re.fullmatch(clock + r"write \d+( -?\d+)*", line) for line in writes), "a line that is no write")
         sums = SUMS.fullmatch(last)
         ask(status == 0 and sums or status == 3 and last == f"refused 62 {port}", "no sums")
         if sums:
             _, received, denied, ran, sent, lost = map(int, sums.groups())
             ask(denied <= received and len(writes) + sent + lost <= ran, "sums that do not add up")
+            ask(received == 0 or STRANGER not in options, "a datagram of a stranger that was received")
 
     def words(self):
         """Random words, none of which serves for long."""
