@@ -235,8 +235,7 @@ def untold(told, last, denied):
     wrong = [f"in second {second} {count} denials of {code} are told" for (second, code), count in seconds.items() if count > TOLD]
     summary = re.search(rf" s {last}; longest turn \d+ ms, lines lost 0, denied(.*)$", told, re.M)
     if not summary:
-        # Lines wait in 64 KiB: what finds no room there is lost.
-        return wrong if len(told) > 60_000 else [*wrong, f"standard error does not tell the sums at its end, but {told[-200:]!r}"]
+        return [*wrong, f"standard error does not tell the sums at its end, but {told[-200:]!r}"]
     sums = {int(code): int(count) for code, count in re.findall(r"(\d+):(\d+)", summary[1])}
     if sums != counted or sum(sums.values()) != denied:
         wrong.append(f"{denied} were denied; by the last line of standard error {sums}, and by all lines {dict(counted)}")
