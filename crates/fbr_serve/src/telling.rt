@@ -3,7 +3,7 @@
 use crate::stop::Stop;
 use crate::sums::Sums;
 use fb_device::{Denied, Device, Effect, Ended, Ran};
-use fb_wire::{Message, Purpose, decode};
+use fb_wire::{Message, Purpose, WireFault, decode};
 use fbr_words::Telling;
 use std::fmt;
 use std::io::Write;
@@ -65,6 +65,20 @@ impl fmt::Display for For {
     }
 }
 
+// The field of bytes that is at fault.
+fn field_of(fault: WireFault) -> &'static str {
+    match fault {
+        WireFault::Short => "Short",
+        WireFault::Magic => "Magic",
+        WireFault::Version => "Version",
+        WireFault::Kind => "Kind",
+        WireFault::Count => "Count",
+        WireFault::TypeCode => "TypeCode",
+        WireFault::Value => "Value",
+        WireFault::Trailing => "Trailing",
+    }
+}
+
 // Why something was denied, in words.
 #[derive(Clone, Copy)]
 struct Why(Denied);
@@ -77,7 +91,10 @@ impl fmt::Display for Why {
             Denied::BadValue(place) => write!(f, "value {place} does not fit its type"),
             Denied::NoCredit { needs, free } => write!(f, "{needs} places needed, {free} free"),
             Denied::Spent => write!(f, "no number is left for a cause"),
-            Denied::Wire(_) => write!(f, "it is no message"),
+            Denied::Wire(fault) => {
+                let field = field_of(fault);
+                write!(f, "it is no message ({field})")
+            }
             Denied::NoSubscriber => write!(f, "no SUBSCRIBE takes this channel"),
             Denied::Shape => write!(f, "it has another format, or other values"),
             Denied::Closed => write!(f, "the SUBSCRIBE is closed"),
@@ -186,9 +203,9 @@ impl Teller {
                     let whom = For::of(&message);
                     writeln!(errors, "{moment} {whom} denied {code}: {why}")
                 }
-                Err(fault) => {
+                Err(_) => {
                     let size = bytes.len();
-                    writeln!(errors, "{moment} {size} bytes denied {fault}: {why}")
+                    writeln!(errors, "{moment} {size} bytes denied {code}: {why}")
                 }
             };
         }
