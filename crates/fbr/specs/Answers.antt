@@ -81,4 +81,4 @@ Answers (a_check q) same before after input old new status = TellsFiles q.app q.
 Answers (a_sim q) same before after input old new status = TellsSim q.app q.cert (before q.app) (before q.cert) input old new status
 Answers (an_explain q) same before after input old new status = TellsExplain q before old new status
 Answers (a_draw q) same before after input old new status = TellsDraw q same before after old new status
-Answers (a_serve q) same before after input old new status = TellsServe q (before q.app) (before q.cert) old new status
+Answers (a_serve q) same before after input old new status = TellsServe q before after old new status
