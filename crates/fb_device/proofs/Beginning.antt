@@ -113,7 +113,7 @@ nothing_at : (slot : ℕ) (r : Reaction) → slot_at [] slot ≡ Some r → ⊥
 nothing_at zero r h = absurd cc
 nothing_at (suc slot) r h = absurd cc
 
-resource_depth : (cert : Certificate) (device : Device) (n k : ℕ) (xs : List Resource) (rs : List book.Resource) (x : Resource) → AreResources cert device n xs rs → slice_get xs k ≡ Some x → x.depth ≡ depth_of cert device (n + k)
+pub resource_depth : (cert : Certificate) (device : Device) (n k : ℕ) (xs : List Resource) (rs : List book.Resource) (x : Resource) → AreResources cert device n xs rs → slice_get xs k ≡ Some x → x.depth ≡ depth_of cert device (n + k)
 resource_depth cert device n k [] [] x a h = cc
 resource_depth cert device n k [] (r ∷ rs) x a h = absurd a
 resource_depth cert device n k (y ∷ ys) [] x a h = absurd a

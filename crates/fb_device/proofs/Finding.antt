@@ -85,7 +85,7 @@ pub record Here (cert : Certificate) (all : List Leaf) (issues : List (List Form
   pub stands : slice_get all i ≡ Some leaf
   pub is : IsBlock cert all issues own issued x slots leaf
 
-none_at : {X : Type 0} (xs : List X) (k : ℕ) → length xs ≤ k → slice_get xs k ≡ None
+pub none_at : {X : Type 0} (xs : List X) (k : ℕ) → length xs ≤ k → slice_get xs k ≡ None
 none_at [] k h = refl
 none_at (x ∷ xs) zero h = absurd (omega (arith, h))
 none_at (x ∷ xs) (suc k) h = none_at xs k (omega (arith, h))

@@ -7,3 +7,4 @@ pub mod Begun
 pub mod Found
 pub mod FirstDue
 pub mod Long
+pub mod Looking

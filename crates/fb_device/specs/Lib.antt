@@ -7,3 +7,4 @@ pub mod Openings
 pub mod Finding
 pub mod Starting
 pub mod NextDue
+pub mod Looks

@@ -1,6 +1,6 @@
 //! A device that runs.
 
-ghost use Rattle.std.specs.Prelude.{◌≡◌, ◌≤◌, length, map, take, drop, MatchOption};
+ghost use Rattle.std.specs.Prelude.{◌≡◌, ◌≤◌, None, length, map, take, drop, slice_get, MatchOption};
 ghost use Rattle.std.specs.List.{AllByRecursion};
 ghost use Rattle.fb_model.specs.Devices.{Happens, Offer, Deliver, Tick, Dispatch, Expired, Run, begun};
 ghost use Rattle.fb_model.specs.Certificates.{DeviceHolds};
@@ -10,12 +10,14 @@ ghost use Rattle.fb_device_arrivals.specs.Answers.{admission_of};
 ghost use Rattle.fb_device_dispatch.specs.Answers.{dispatched_of, HasPoint};
 ghost use Rattle.fb_device_state.specs.Machines.{device_in, cert_in, machine_of};
 ghost use Rattle.fb_device.specs.Answers.{answer_of, event_of, HasPlace, IsOpening, IsNamed, IsNoPoint, IsNumberOf, IsNoNumber};
+ghost use Rattle.fb_device.specs.Looks.{IsLook, IsFill};
 ghost use Rattle.fb_device.specs.NextDue.{IsNextDue};
 ghost use Rattle.fb_device.specs.Promises.{IsBounded};
 ghost use Rattle.fb_device.specs.Silence.{IsSilent};
 
 use crate::answer::{Answer, Opening, Step};
 use crate::due::next_due;
+use crate::look::{Fill, Look, fill_of, look_at};
 use crate::names::{name, opening, path, resource};
 use crate::sharing::release;
 use fb_device_arrivals::{Denied, begin, deliver, offer, tick};
@@ -157,6 +159,20 @@ impl Device {
         ensures { IsNextDue (machine_of self.now).store (leaves (device_in self.now)) result }
     {
         next_due(&self.running.timers)
+    }
+
+    /// What the block of a number holds; `None` where there is none.
+    pub fn look_at(&self, block: u16) -> Option<Look<'_>>
+        ensures { MatchOption result (slice_get (leaves (device_in self.now)) block ≡ None) (IsLook (leaves (device_in self.now)) (machine_of self.now).store block) }
+    {
+        look_at(&self.program, &self.running, block)
+    }
+
+    /// How full the queue of the resource of a number is; `None` where there is none.
+    pub fn fill_of(&self, resource: u16) -> Option<Fill<'_>>
+        ensures { MatchOption result (length (device_in self.now).resources ≤ resource) (IsFill (cert_in self.now) (device_in self.now) (machine_of self.now) resource) }
+    {
+        fill_of(&self.program, &self.running, resource)
     }
 
     /// The certificate holds of the device, and the device is in a state from which all bounds are kept.
