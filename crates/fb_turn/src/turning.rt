@@ -135,13 +135,13 @@ fn put_out<L: Link>(effect: &Option<Effect>, link: &mut L) -> bool
 
 // What became of what a dispatch did outside of the device.
 #[derive(Clone, Copy)]
-struct Given {
+struct Outcome {
     taken: bool,
     services: Services,
 }
 
 // What a block that ran comes to, where the link took what it sent, or not.
-fn make_given(effect: &Option<Effect>, taken: bool) -> Given
+fn count_out(effect: &Option<Effect>, taken: bool) -> Outcome
     ensures { result ≡ record { taken = taken; services = record { ran = 1; sent = turns.taken_in (responses.effect_of effect.now) taken; lost = turns.lost_in (responses.effect_of effect.now) taken } } }
 {
     let (sent, lost) = match effect {
@@ -149,11 +149,11 @@ fn make_given(effect: &Option<Effect>, taken: bool) -> Given
         Some(Effect::Write(_, _)) | None => (0, 0),
     };
     let services = Services { ran: 1, sent, lost };
-    Given { taken, services }
+    Outcome { taken, services }
 }
 
 // Gives out what a dispatch did outside of the device.
-fn give_out<L: Link>(answer: &Dispatched, link: &mut L) -> Given
+fn give_out<L: Link>(answer: &Dispatched, link: &mut L) -> Outcome
     ensures out { (all : List Leaf) → GoesOut L.steps L.count (turns.effect_of (dispatched_of all answer.now)) link.old result.taken link.new }
     ensures counts { (all : List Leaf) → result.services ≡ record {
       ran = turns.runs_of (dispatched_of all answer.now);
@@ -163,7 +163,7 @@ fn give_out<L: Link>(answer: &Dispatched, link: &mut L) -> Given
     ensures few { (result.services.ran ≤ 1) × (result.services.sent ≤ 1) × (result.services.lost ≤ 1) }
 {
     match answer {
-        Dispatched::Idle => Given {
+        Dispatched::Idle => Outcome {
             taken: true,
             services: Services {
                 ran: 0,
@@ -173,7 +173,7 @@ fn give_out<L: Link>(answer: &Dispatched, link: &mut L) -> Given
         },
         Dispatched::Ran(ran) => {
             let taken = put_out(&ran.effect, link);
-            make_given(&ran.effect, taken)
+            count_out(&ran.effect, taken)
         }
     }
 }
@@ -191,9 +191,9 @@ fn serve_one<L: Link, W: Watch>(
     ensures same { (device.new.verified ≡ device.old.verified) × (device.new.number ≡ device.old.number) }
 {
     let answer = device.dispatch(resource);
-    let given = give_out(&answer, link);
-    watch.served(device, &answer, given.taken);
-    given.services
+    let outcome = give_out(&answer, link);
+    watch.served(device, &answer, outcome.taken);
+    outcome.services
 }
 
 // Dispatches each of the first resources once, in order.
