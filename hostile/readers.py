@@ -80,7 +80,7 @@ class Device:
         status = self.job.wait(SECONDS)
         self.errors.seek(0)
         told = self.errors.read().decode()
-        sums = re.search(r" s fired (\d+) received 0 denied 0 ran (\d+) sent 0 lost 0; longest turn \d+ ms, lines lost (\d+), denied none$", told, re.M)
+        sums = re.search(r" s fired (\d+) received 0 denied 0 ran (\d+) sent 0 lost 0; longest turn \d+ ms(?:, \w+ held \d+ of \d+)+, lines lost (\d+), denied none$", told, re.M)
         if not sums:
             raise Fault(f"it does not tell its sums, but {told[-300:]!r}")
         fired, ran, lost = map(int, sums.groups())

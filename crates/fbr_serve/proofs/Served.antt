@@ -272,7 +272,7 @@ module _ {L : Type 0} (calls : L → LinkCall → L → Type 0) (count : L → �
 -- turns over a link to these peers, and from these senders, that has done nothing yet
 pub turns_told : {E L S : Type 0} (does : S → SocketCall → S → Type 0) (socket : L → S) (peers : L → List SocketAddr) (senders : L → List IpAddr) (failures strangers : L → ℕ) (q : Service) (s : Session) (l : L) (old : Option (List ℕ)) (t : Session) (m : L)
     (mid : Option (List ℕ)) (ran : Ran) (new : Option (List ℕ)) (r : Result ℕ E) → Served (Step does socket peers senders failures strangers) failures q.life q.telling s l old t m mid ran → failures l ≡ 0 → strangers l ≡ 0
-    → AreOf q.network (peers l) (senders l) → IfOk r (λ status. TellsStop ran.end mid new status) → IfOk r (λ status. TellsTurns q s old new status)
+    → AreOf q.network (peers l) (senders l) → IfOk r (λ status. TellsStop ran mid new status) → IfOk r (λ status. TellsTurns q s old new status)
 turns_told does socket peers senders failures strangers q s l old t m mid ran new (Ok status) h none known are told =
     let traced = turns_traced does socket peers senders failures strangers (peers l) (senders l) (cert_in s) (device_in s) (machine_of s) l h.0 (machine_of t) m [] (refl, refl) h.1.turns in
     let first : record { failures = failures l; strangers = strangers l; asked = [] } ≡ unasked = ap₂ (λ a b. record { failures = a; strangers = b; asked = [] }) none known in

@@ -243,12 +243,15 @@ abbrev pub IsFilesDevice : Service → ℕ → Option (List ℕ) → Option (Lis
 IsFilesDevice q boot held_app held_cert s =
     (app : List ℕ) × (cert : List ℕ) × IsContents held_app app × IsContents held_cert cert × IsStarted app cert q.device boot s
 
--- behind the lines of the turns stand their sums, or that the link is down; 3 where the writer or the clock failed
-abbrev pub TellsStop : Result Sums Stop → Option (List ℕ) → Option (List ℕ) → ℕ → Type 0
-TellsStop (Ok sums) old new status = (status ≡ 0) × Appends old new (sums_text sums ++ 10 ∷ [])
-TellsStop (Err stops.LinkDown) old new status = Tells (refusal faults.LinkDown) old new status
-TellsStop (Err stops.Output) old new status = status ≡ 3
-TellsStop (Err stops.Clock) old new status = status ≡ 3
+-- behind the lines of the turns stand their sums, and the status is 3 where a line was lost; or that the link is down; or it is 3 where the writer or the clock failed
+abbrev pub TellsEnd : Bool → Result Sums Stop → Option (List ℕ) → Option (List ℕ) → ℕ → Type 0
+TellsEnd lost (Ok sums) old new status = (status ≡ (if lost then 3 else 0)) × Appends old new (sums_text sums ++ 10 ∷ [])
+TellsEnd lost (Err stops.LinkDown) old new status = Tells (refusal faults.LinkDown) old new status
+TellsEnd lost (Err stops.Output) old new status = status ≡ 3
+TellsEnd lost (Err stops.Clock) old new status = status ≡ 3
+
+abbrev pub TellsStop : Ran → Option (List ℕ) → Option (List ℕ) → ℕ → Type 0
+TellsStop ran old new status = TellsEnd ran.is_lost ran.end old new status
 
 -- a socket of which nothing more is told than what it was asked, and answered
 abbrev pub Traced : List SocketCall → SocketCall → List SocketCall → Type 0
@@ -287,7 +290,7 @@ pub record TellsTurns (q : Service) (s : Session) (old new : Option (List ℕ)) 
   pub mid : Option (List ℕ)
   pub ran : Ran
   pub served : IsServed (cert_in s) (device_in s) (LinkAsks peers senders) failed_in q.life q.telling (machine_of s) unasked old all last asked mid ran
-  pub told : TellsStop ran.end mid new status
+  pub told : TellsStop ran mid new status
 
 -- of a device that has started: that nothing can be bound to the port, or its turns
 abbrev pub TellsDevice : Service → Session → Option (List ℕ) → Option (List ℕ) → ℕ → Type 0

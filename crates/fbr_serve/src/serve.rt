@@ -1,6 +1,6 @@
 //! Runs a device of two files over UDP.
 
-ghost use Rattle.std.specs.Prelude.{◌≡◌, ◌≤◌, ℕ, List, Option, IfOk, MatchResult};
+ghost use Rattle.std.specs.Prelude.{◌≡◌, ◌≤◌, ℕ, List, Option, IfOk, MatchResult, if◌then◌else◌};
 ghost use Rattle.fbr_files.specs.Reading.{IsFile};
 ghost use Rattle.fbr_files.specs.Writing.{Holdings};
 ghost use Rattle.fbr_words.specs.Requests.{service_of};
@@ -8,7 +8,7 @@ ghost use Rattle.fbr_serve.specs.Serving.{IsTextsFault, IsTextsReady, IsFilesFau
 
 use crate::stop::Stop;
 use crate::sums::Sums;
-use crate::turns::serve_on;
+use crate::turns::{Ran, serve_on};
 use fb_device::{Device, Ready, Refusal as LoadRefusal, load_boot};
 use fb_link::UdpLink;
 use fb_verdict::Refusal;
@@ -59,23 +59,31 @@ pub fn load_device<'a>(
     }
 }
 
+// The program's status behind turns that came to sums: 3 where a line was lost.
+fn status_of(is_lost: bool) -> u8
+    ensures said { result ≡ (if is_lost then 3 else 0) }
+    ensures most { result ≤ 4 }
+{
+    if is_lost { 3 } else { 0 }
+}
+
 // Tells what the turns did in all, or why they ended early, and gives the program's status.
-fn print_served<W: Write>(served: Result<Sums, Stop>, output: &mut W) -> io::Result<u8>
-    ensures told { IfOk result (λ status. TellsStop served (W.contents output.old) (W.contents output.new) status) }
+fn print_served<W: Write>(ran: Ran, output: &mut W) -> io::Result<u8>
+    ensures told { IfOk result (λ status. TellsStop ran (W.contents output.old) (W.contents output.new) status) }
     ensures status { IfOk result (λ status. status ≤ 4) }
 {
-    match served {
+    match ran.end {
         Ok(sums) => {
             writeln!(output, "{sums}")?;
-            Ok(0)
+            Ok(status_of(ran.is_lost))
         }
         Err(Stop::LinkDown) => print_outcome(Err(Fault::LinkDown), output),
         Err(Stop::Output | Stop::Clock) => Ok(3),
     }
 }
 
-// Tells people that a device is ready.
-fn tell_ready<E: Write>(device: &Device, serve: &Serve<'_>, errors: &mut E) {
+// Tells people that a device is ready, and what its certificate supposes of the network.
+fn tell_ready<E: Write>(device: &Device, repeats: Option<u8>, serve: &Serve<'_>, errors: &mut E) {
     let (name, bind) = (device.name(), serve.network.bind);
     let _ = write!(errors, "fbr: {name} receives at {bind}");
     let senders = serve.network.senders.as_slice();
@@ -98,6 +106,12 @@ fn tell_ready<E: Write>(device: &Device, serve: &Serve<'_>, errors: &mut E) {
         let _ = write!(errors, " {peer}");
     }
     let _ = writeln!(errors, "");
+    if let Some(repeats) = repeats {
+        let _ = writeln!(
+            errors,
+            "fbr: the certificate supposes that no datagram of format 1 comes more than {repeats} times (REPEATS {repeats})"
+        );
+    }
 }
 
 // Tells people why a device ended early, where it did.
@@ -124,6 +138,7 @@ fn tell_strangers<E: Write>(strangers: u64, errors: &mut E) {
 fn serve_device<R: Clock + Net, W: Write, E: Write>(
     rt: &R,
     device: &mut Device,
+    repeats: Option<u8>,
     serve: &Serve<'_>,
     output: &mut W,
     errors: &mut E,
@@ -135,11 +150,11 @@ fn serve_device<R: Clock + Net, W: Write, E: Write>(
     let (peers, senders) = (network.peers.as_slice(), network.senders.as_slice());
     match UdpLink::open_at(rt, network.bind, peers, senders) {
         Ok(mut link) => {
-            tell_ready(device, serve, errors);
+            tell_ready(device, repeats, serve, errors);
             let ran = serve_on(rt, device, &mut link, serve, output, errors);
             tell_strangers(link.strangers(), errors);
             tell_end(&ran.end, errors);
-            print_served(ran.end, output)
+            print_served(ran, output)
         }
         Err(_) => print_outcome(Err(Fault::Socket(network.bind.port())), output),
     }
@@ -158,8 +173,9 @@ pub fn serve_ready<R: Clock + Net, W: Write, E: Write>(
         → IfOk result (λ status. TellsServe (service_of serve.now) before after (W.contents output.old) (W.contents output.new) status) }
     ensures status { IfOk result (λ status. status ≤ 4) }
 {
+    let repeats = ready.verified().certificate().repeats();
     let mut device = ready.start();
-    let status = serve_device(rt, &mut device, serve, output, errors);
+    let status = serve_device(rt, &mut device, repeats, serve, output, errors);
     device.let_go();
     status
 }

@@ -17,6 +17,9 @@ const KINDS: usize = 12;
 /// The kind of a datagram that was not taken.
 const UNSENT: usize = 11;
 
+/// Of how many queues the fullest state is told.
+const QUEUES: u16 = 16;
+
 // A number of steps, as `1 step`.
 #[derive(Clone, Copy)]
 struct Steps(u64);
@@ -126,6 +129,7 @@ pub(crate) struct Teller {
     next_summary: u64,
     last_turn: u64,
     longest_turn: u64,
+    fullest: [u64; 16],
 }
 
 impl Teller {
@@ -142,6 +146,36 @@ impl Teller {
             next_summary: u64::from(seconds).saturating_mul(1000),
             last_turn: 0,
             longest_turn: 0,
+            fullest: [0; 16],
+        }
+    }
+
+    // Looks how full the queues are, where sums are told.
+    fn look(&mut self, device: &Device) {
+        if self.summary.is_some() {
+            for resource in 0..QUEUES {
+                if let Some(fill) = device.fill_of(resource) {
+                    let held = fill.depth.saturating_sub(fill.free);
+                    if let Some(most) = self.fullest.get_mut(usize::from(resource)) {
+                        *most = held.max(*most);
+                    }
+                }
+            }
+        }
+    }
+
+    // Tells the most places that causes held in each queue.
+    fn tell_fullest<E: Write>(&self, errors: &mut E, device: &Device) {
+        for resource in 0..QUEUES {
+            if let Some(fill) = device.fill_of(resource) {
+                let most = self
+                    .fullest
+                    .get(usize::from(resource))
+                    .copied()
+                    .unwrap_or(0);
+                let (name, depth) = (fill.name, fill.depth);
+                let _ = write!(errors, ", {name} held {most} of {depth}");
+            }
         }
     }
 
@@ -220,6 +254,7 @@ impl Teller {
         bytes: &[u8],
         answer: &Result<u64, Denied>,
     ) {
+        self.look(device);
         match answer {
             Ok(cause) => {
                 if self.is_verbose {
@@ -257,6 +292,7 @@ impl Teller {
         ran: &Ran,
         is_taken: bool,
     ) {
+        self.look(device);
         if self.is_verbose {
             Teller::dispatched(errors, now, device, ran);
         }
@@ -311,6 +347,7 @@ impl Teller {
     pub(crate) fn turned<E: Write>(
         &mut self,
         errors: &mut E,
+        device: &Device,
         now: u64,
         sums: &Sums,
         has_waited: bool,
@@ -322,7 +359,7 @@ impl Teller {
         self.last_turn = now;
         if let Some(seconds) = self.summary {
             if now >= self.next_summary {
-                self.tell_sums(errors, now, sums);
+                self.tell_sums(errors, device, now, sums);
                 let step = u64::from(seconds).saturating_mul(1000);
                 self.next_summary = now.saturating_add(step);
             }
@@ -345,14 +382,13 @@ impl Teller {
     }
 
     // Tells the sums so far.
-    fn tell_sums<E: Write>(&self, errors: &mut E, now: u64, sums: &Sums) {
+    fn tell_sums<E: Write>(&self, errors: &mut E, device: &Device, now: u64, sums: &Sums) {
         let moment = Moment(now);
         let longest = self.longest_turn;
         let lines = self.lost_lines;
-        let _ = write!(
-            errors,
-            "{moment} {sums}; longest turn {longest} ms, lines lost {lines}, denied"
-        );
+        let _ = write!(errors, "{moment} {sums}; longest turn {longest} ms");
+        self.tell_fullest(errors, device);
+        let _ = write!(errors, ", lines lost {lines}, denied");
         if sums.denied == 0 {
             let _ = write!(errors, " none");
         }
@@ -361,12 +397,17 @@ impl Teller {
     }
 
     /// Tells what was left to tell, as the device ends: of the last second, the sums where they are told at all, and of lines that were lost.
-    pub(crate) fn close<E: Write>(&mut self, errors: &mut E, end: &Result<Sums, Stop>) {
+    pub(crate) fn close<E: Write>(
+        &mut self,
+        errors: &mut E,
+        device: &Device,
+        end: &Result<Sums, Stop>,
+    ) {
         let last = self.last_turn;
         self.enter(errors, u64::MAX);
         if let Ok(sums) = end {
             if self.summary.is_some() {
-                self.tell_sums(errors, last, sums);
+                self.tell_sums(errors, device, last, sums);
             }
         }
         let lines = self.lost_lines;

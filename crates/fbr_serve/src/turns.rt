@@ -32,12 +32,13 @@ pub struct Ran {
 fn ended<E: Write>(
     end: Result<Sums, Stop>,
     is_lost: bool,
+    device: &Device,
     errors: &mut E,
     people: &mut Teller,
 ) -> Ran
     ensures { result ≡ record { end = end; is_lost = is_lost } }
 {
-    people.close(errors, &end);
+    people.close(errors, device, &end);
     Ran { end, is_lost }
 }
 
@@ -131,17 +132,17 @@ pub fn serve_on<R: Clock, L: Link, W: Write, E: Write>(
     let mut has_waited = false;
     let start = match Instant::now(rt) {
         Ok(start) => start,
-        Err(_) => return ended(Err(Stop::Clock), is_lost, errors, &mut people),
+        Err(_) => return ended(Err(Stop::Clock), is_lost, device, errors, &mut people),
     };
     for turn in 0..life.turns {
         if life.until_eof && has_ended() {
-            return ended(Ok(sums), is_lost, errors, &mut people);
+            return ended(Ok(sums), is_lost, device, errors, &mut people);
         }
         let now = match since(rt, start) {
             Ok(now) => now,
-            Err(stop) => return ended(Err(stop), is_lost, errors, &mut people),
+            Err(stop) => return ended(Err(stop), is_lost, device, errors, &mut people),
         };
-        people.turned(errors, now, &sums, has_waited);
+        people.turned(errors, device, now, &sums, has_waited);
         let when = When {
             now,
             is_told: telling.has_clock,
@@ -152,12 +153,12 @@ pub fn serve_on<R: Clock, L: Link, W: Write, E: Write>(
             Ok(report) => {
                 sums = sums.with(report);
                 if telling.is_strict && is_lost {
-                    return ended(Err(Stop::Output), is_lost, errors, &mut people);
+                    return ended(Err(Stop::Output), is_lost, device, errors, &mut people);
                 }
                 has_waited = turn + 1 < life.turns && rest(link, device, report, now, life.turns);
             }
-            Err(stop) => return ended(Err(stop), is_lost, errors, &mut people),
+            Err(stop) => return ended(Err(stop), is_lost, device, errors, &mut people),
         }
     }
-    ended(Ok(sums), is_lost, errors, &mut people)
+    ended(Ok(sums), is_lost, device, errors, &mut people)
 }
