@@ -95,7 +95,7 @@ def answered(program, words, stdin):
         given.write(stdin)
         given.seek(0)
         done = subprocess.run([program, *words], stdin=given, capture_output=True, timeout=SECONDS)
-    return done.returncode, done.stdout.decode(), done.stderr.decode(errors="replace")
+    return done.returncode, done.stdout.decode(errors="surrogateescape"), done.stderr.decode(errors="replace")
 
 
 def differs(program, row):
@@ -403,7 +403,7 @@ def words(table):
     table.add("a file of one byte more", ["check", fuller, cert], f"refused 61 {fuller}")
     bytes_ = table.file(b"SYSTEM S END_SYSTEM \xff")
     table.add("a file that is no UTF-8", ["check", bytes_, cert], f"refused 61 {bytes_}")
-    table.add("a word that is no UTF-8", ["check", "\udcff", cert], "refused 63")
+    table.add("a file whose name is no UTF-8", ["check", "hall\udcff.fb", cert], "refused 61 hall\udcff.fb")
     table.add("a file without end", ["check", "/dev/zero", cert], "refused 61 /dev/zero")
     table.add("a folder", ["check", table.folder, cert], f"refused 61 {table.folder}")
     script = b" " * (MOST_FILE - 1) + b"\n"

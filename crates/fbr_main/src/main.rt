@@ -13,7 +13,7 @@ use fbr::{command, input_named};
 use fbr_files::Disk;
 use fbr_tell::paint;
 use std::alloc::AllocError;
-use std::env::VarError;
+use std::env::{Env, FillError, VarError};
 use std::io;
 use std::io::{BufWriter, ErrorKind, IsTerminal, Write};
 use std::process::ExitCode;
@@ -84,24 +84,37 @@ fn tell_failure<W: Write>(status: u8, errors: &mut W) -> io::Result<()> {
     Ok(())
 }
 
-// The process's words. Where one is no UTF-8, a word that is none of the program's stands for all, so that `command` tells that the words are at fault.
+// The process's words, where all are UTF-8.
 fn words_of(rt: &HostRuntime) -> io::Result<Vec<String>> {
-    let alloc = rt.alloc();
-    match std::env::args(rt) {
-        Ok(read) => {
-            let words: Vec<String> = read.collect(alloc)?;
-            Ok(words)
-        }
-        Err(error) if error.kind() == ErrorKind::InvalidData => {
-            let mut words = Vec::new(alloc);
-            for word in ["fbr", "\u{FFFD}"] {
-                let word = String::from_str(alloc, word)?;
-                words.push(word).map_err(AllocError::from)?;
+    let words: Vec<String> = std::env::args(rt)?.collect(rt.alloc())?;
+    Ok(words)
+}
+
+// Tells of a word of the process that is no UTF-8 as of a file that cannot be read: by its bytes, as they were given.
+fn refuse_word(rt: &HostRuntime) -> io::Result<u8>
+    ensures { IfOk result (λ status. status ≤ 4) }
+{
+    let mut bytes = [0u8; 4096];
+    let mut page = Vec::new(rt.alloc());
+    page.write_all(b"refused 61")?;
+    for at in 0..usize::MAX {
+        match rt.arg(at, &mut bytes) {
+            Ok(count) => {
+                let word = bytes.get(..count).unwrap_or(&[]);
+                if str::from_utf8(word).is_err() {
+                    page.write_all(b" ")?;
+                    page.write_all(word)?;
+                    break;
+                }
             }
-            Ok(words)
+            Err(FillError::TooLong) => {}
+            Err(FillError::NotPresent) => break,
         }
-        Err(error) => Err(error),
     }
+    page.write_all(b"\n")?;
+    rt.stdout().write_all(&page)?;
+    eprintln!(rt; "fbr: names of files are to be UTF-8, and this one is not")?;
+    Ok(3)
 }
 
 // Whether what goes to a terminal has colour: it has not where NO_COLOR is set, or that cannot be known.
@@ -179,7 +192,11 @@ fn status(rt: &HostRuntime) -> io::Result<u8>
         return refuse_stack(rt);
     }
     let alloc = rt.alloc();
-    let words = words_of(rt)?;
+    let words = match words_of(rt) {
+        Ok(words) => words,
+        Err(error) if error.kind() == ErrorKind::InvalidData => return refuse_word(rt),
+        Err(error) => return Err(error),
+    };
     let mut texts: Vec<&str> = Vec::new(alloc);
     for word in &words {
         texts.push(word.as_str()).map_err(AllocError::from)?;
