@@ -1,0 +1,25 @@
+//! Room: program. Reads stories: tests of plants that read like the service sequences of IEC 61499-1, a stimulus on the left, and on the right what the outside
+//! sees of it. A story is read whole, and each name in it resolved, before anything is played. No contracts: what is read is tested.
+#![tactic(auto)]
+
+mod expectation;
+mod fault;
+mod names;
+mod near;
+mod place;
+mod reading;
+mod sequences;
+mod stimulus;
+mod story;
+mod values;
+mod variables;
+
+pub use fault::Fault;
+pub use names::Names;
+pub use place::{Place, Sort};
+pub use sequences::read_story;
+pub use story::{
+    Action, Arrival, Cause, Expected, Fate, Looked, Sequence, Span, Step, Stimulus, Variable,
+    Wanted, WantedWrite,
+};
+pub use values::show_value;
