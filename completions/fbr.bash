@@ -2,7 +2,7 @@
 _fbr() {
     local word=${COMP_WORDS[COMP_CWORD]} command=${COMP_WORDS[1]} options
     if [ "$COMP_CWORD" -eq 1 ]; then
-        mapfile -t COMPREPLY < <(compgen -W "bound check sim explain draw serve help --help --version" -- "$word")
+        mapfile -t COMPREPLY < <(compgen -W "bound check sim play explain draw serve help --help --version" -- "$word")
         return
     fi
     case $command in
@@ -10,8 +10,8 @@ _fbr() {
         explain) options="--repeats --strict --help" ;;
         draw) options="--repeats --flat --chart --output --help" ;;
         serve) options="--bind --from --turns --until-eof --boot --boot-file --verbose --summary --clock --stop-on-lost-output --help" ;;
-        check | sim) options="--help" ;;
-        help) mapfile -t COMPREPLY < <(compgen -W "bound check sim explain draw serve help" -- "$word") && return ;;
+        check | sim | play) options="--help" ;;
+        help) mapfile -t COMPREPLY < <(compgen -W "bound check sim play explain draw serve help" -- "$word") && return ;;
     esac
     if [ "${word:0:1}" = - ]; then
         mapfile -t COMPREPLY < <(compgen -W "$options" -- "$word")

@@ -2,6 +2,7 @@
 complete -c fbr -n __fish_use_subcommand -f -a bound -d 'finds the least certificate'
 complete -c fbr -n __fish_use_subcommand -f -a check -d 'checks that a certificate fits'
 complete -c fbr -n __fish_use_subcommand -f -a sim -d 'checks, and runs the script on standard input'
+complete -c fbr -n __fish_use_subcommand -f -a play -d 'plays stories of a plant'
 complete -c fbr -n __fish_use_subcommand -f -a explain -d 'explains a verdict, or a number'
 complete -c fbr -n __fish_use_subcommand -f -a draw -d 'draws the system, or a chart, as a graph in DOT'
 complete -c fbr -n __fish_use_subcommand -f -a serve -d 'runs a device over UDP'
@@ -26,4 +27,4 @@ complete -c fbr -n '__fish_seen_subcommand_from serve' -l verbose -d 'tells of e
 complete -c fbr -n '__fish_seen_subcommand_from serve' -x -l summary -d 'tells the sums every so many seconds'
 complete -c fbr -n '__fish_seen_subcommand_from serve' -l clock -d 'lines begin with the milliseconds of the clock'
 complete -c fbr -n '__fish_seen_subcommand_from serve' -l stop-on-lost-output -d 'ends where a line cannot be written'
-complete -c fbr -n '__fish_seen_subcommand_from help' -f -a 'bound check sim explain draw serve help'
+complete -c fbr -n '__fish_seen_subcommand_from help' -f -a 'bound check sim play explain draw serve help'

@@ -10,7 +10,7 @@ is NAME.cert with the depth that takes each arrival once, and NAME.room.out what
 Of a wrong plant NAME.out is its refusal by `fbr bound`, or NAME.cert its certificate where each device by itself has one, with NAME.repeats.out its
 refusal by `fbr bound --repeats 2` and mended.repeats.cert what that prints of the mended one; mended.out is what `fbr check NAME.fb mended.cert` prints; where it runs, NAME.script.out is what `fbr sim` prints for NAME.script
 under NAME.cert, and mended.script.out what it prints of the mended one for mended.script under mended.repeats.cert. Beside the .out of a refusal the .err is what
-people are told on standard error; beside a certificate whose queues do not take each arrival once the .cert.err is what `fbr bound` and `fbr check` tell them."""
+people are told on standard error; NAME.story and NAME.room.story have sequences that all pass, with the certificate of the same name; beside a certificate whose queues do not take each arrival once the .cert.err is what `fbr bound` and `fbr check` tell them."""
 import pathlib
 import re
 import subprocess
@@ -65,10 +65,13 @@ def plant(folder):
     """The cases of a plant: its certificate is found and accepted, and it runs."""
     name = folder.name
     app, cert, script, out = (folder / f"{name}.{it}" for it in ("fb", "cert", "script", "out"))
-    cases = Cases(f"The plant examples/{name}: its certificate is found, is accepted, and its script runs.")
+    cases = Cases(f"The plant examples/{name}: its certificate is found, is accepted, its script runs, and its stories pass.")
     cases.accepted("its certificate is found", f"bound {app.name}", cert.read_text(), cert, [app])
     cases.accepted("it is accepted", f"check {app.name} {cert.name}", "accepted\n", cert, [app, cert])
     cases.add("it runs", f"sim {app.name} {cert.name}", out.read_text(), [app, cert], script.read_text())
+    for story in sorted(folder.glob("*.story")):
+        rows, passed = story.with_suffix(".cert"), len(re.findall(r"^ *SEQUENCE\b", story.read_text(), re.M))
+        cases.add("its stories pass", f"play {app.name} {rows.name} {story.name}", f"{passed} passed, 0 failed\n", [app, rows, story])
     rows, offers, causes = (folder / f"{name}.room.{it}" for it in ("cert", "script", "out"))
     if rows.exists():
         cases.accepted("with room for each arrival once it is accepted", f"check {app.name} {rows.name}", "accepted\n", rows, [app, rows])

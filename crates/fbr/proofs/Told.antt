@@ -16,7 +16,7 @@ use Rattle.fbr_check.specs.Verdicts.{IsInputOutcome, IsFilesOutcome, IsVerified,
 use Rattle.fbr_find.specs.Bounding.{IsSoughtText, IsSoughtFault}
 use Rattle.fbr_serve.proofs.Served.{takes_more}
 use Rattle.fbr_sim.specs.Simulation.{TellsScript}
-use Rattle.fbr.specs.Answers.{IsClash, IsPutOut, written, TellsBound, a_clash, a_text, no_text, Begins, TellsVerdict, TellsBeside, TellsExplain, TellsSim}
+use Rattle.fbr.specs.Answers.{IsClash, IsPutOut, written, TellsBound, a_clash, a_text, no_text, Begins, TellsVerdict, TellsBeside, TellsExplain, TellsSim, TellsPlayed}
 
 -- ---- a verdict
 
@@ -134,3 +134,15 @@ same_asked o q p a b = ap (or_asked q) (sym a ∙ b)
 pub or_three : {E : Type 0} (r : Result ℕ E) (n : ℕ) (P : ℕ → Type 0) → n ≡ result_unwrap_or r 3 → IfOk r P → P n ⊎ (n ≡ 3)
 or_three (Ok status) n P e h = inl (subst P (sym e) h)
 or_three (Err x) n P e h = inr e
+
+-- ---- stories
+
+pub stories_played : {E : Type 0} (one two : List ℕ) (held_one held_two : Option (List ℕ)) (v : Verified) (old new : Option (List ℕ)) (r : Result ℕ E)
+    → IsVerified one two held_one held_two (Ok v) → IfOk r (λ status. TellsPlayed one two held_one held_two old new status)
+stories_played one two held_one held_two v old new (Ok status) is = inr (v, is)
+stories_played one two held_one held_two v old new (Err e) is = tt
+
+pub stories_refused : {E : Type 0} (one two : List ℕ) (held_one held_two : Option (List ℕ)) (f : Fault) (old new : Option (List ℕ)) (r : Result ℕ E)
+    → IsVerified one two held_one held_two (Err f) → IfOk r (λ status. Tells (refusal f) old new status) → IfOk r (λ status. TellsPlayed one two held_one held_two old new status)
+stories_refused one two held_one held_two f old new (Ok status) is h = inl (f, is, h)
+stories_refused one two held_one held_two f old new (Err e) is h = tt

@@ -1,5 +1,6 @@
 -- What becomes of a command: this project's profile.
-use Rattle.std.specs.Prelude.{◌≡◌, ◌⊎◌, ℕ, List, [], ◌∷◌, ◌++◌, Option, None, Some, Result, Ok, Err}
+use Rattle.std.specs.Prelude.{◌≡◌, ◌⊎◌, ℕ, ◌==◌, Bool, List, [], ◌∷◌, ◌++◌, Option, None, Some, Result, Ok, Err, codes, if◌then◌else◌}
+use Rattle.std.specs.List.{ends_with}
 use Rattle.std.specs.Io.KnownBytes.{Appends}
 use Rattle.fb_numbers.specs.Numbers.{number_in}
 use Rattle.fb_verified.specs.declared.verified.Verified.{Verified}
@@ -7,7 +8,7 @@ use Rattle.fbr_files.specs.declared.fault.Fault.{Fault}
 use Rattle.fbr_files.specs.declared.fault.Fault.TheVariants.{Usage}
 use Rattle.fbr_files.specs.Outcomes.{Outcome, Tells, outcome_said, refusal}
 use Rattle.fbr_files.specs.Writing.{Sameness, Holdings, AreApart, Meet, Writes}
-use Rattle.fbr_words.specs.Program.{Sought, Question, Drawing, Asked, a_bound, a_check, a_sim, an_explain, a_draw, a_serve}
+use Rattle.fbr_words.specs.Program.{Sought, Plays, Question, Drawing, Asked, a_bound, a_check, a_sim, a_play, an_explain, a_draw, a_serve}
 use Rattle.fbr_check.specs.Verdicts.{TellsFiles, IsFilesOutcome, IsVerified}
 use Rattle.fbr_find.specs.Bounding.{IsSoughtText, IsSoughtFault}
 use Rattle.fbr_sim.specs.Simulation.{TellsScript}
@@ -72,6 +73,37 @@ TellsSim one two held_one held_two held old new status =
     ((f : Fault) × IsFilesOutcome {A = Unit {0}} one two held_one held_two (Err f) × Tells (refusal f) old new status)
     ⊎ ((v : Verified) × IsVerified one two held_one held_two (Ok v) × TellsScript v held old new status)
 
+-- ---- stories
+
+-- a file is a story by its name
+abbrev pub is_story : List ℕ → Bool
+is_story name = ends_with (λ a b. a == b) name (codes ".story")
+
+-- the file of a certificate, where one is named before the stories
+abbrev pub cert_in : List (List ℕ) → Option (List ℕ)
+cert_in [] = None
+cert_in (name ∷ names) = if is_story name then None else Some name
+
+-- the stories behind it
+abbrev pub stories_in : List (List ℕ) → List (List ℕ)
+stories_in [] = []
+stories_in (name ∷ names) = if is_story name then name ∷ names else names
+
+-- the verdict is told where it refuses; else the two texts fit, and stories are played
+abbrev pub TellsPlayed : List ℕ → List ℕ → Option (List ℕ) → Option (List ℕ) → Option (List ℕ) → Option (List ℕ) → ℕ → Type 0
+TellsPlayed one two held_one held_two old new status =
+    ((f : Fault) × IsFilesOutcome {A = Unit {0}} one two held_one held_two (Err f) × Tells (refusal f) old new status)
+    ⊎ ((v : Verified) × IsVerified one two held_one held_two (Ok v))
+
+-- so it is where a certificate is named
+abbrev pub TellsWith : Plays → Option (List ℕ) → Holdings → Option (List ℕ) → Option (List ℕ) → ℕ → Type 0
+TellsWith q None before old new status = Unit {0}
+TellsWith q (Some cert) before old new status = TellsPlayed q.app cert (before q.app) (before cert) old new status
+
+-- the words are at fault where no story is named
+abbrev pub TellsPlays : Plays → Holdings → Option (List ℕ) → Option (List ℕ) → ℕ → Type 0
+TellsPlays q before old new status = ((stories_in q.files ≡ []) × Tells (refusal Usage) old new status) ⊎ TellsWith q (cert_in q.files) before old new status
+
 -- ---- all
 
 -- what becomes of what is asked for, by what files and standard input hold
@@ -79,6 +111,7 @@ abbrev pub Answers : Asked → Sameness → Holdings → Holdings → Option (Li
 Answers (a_bound q) same before after input old new status = TellsBound q same before after old new status
 Answers (a_check q) same before after input old new status = TellsFiles q.app q.cert (before q.app) (before q.cert) old new status
 Answers (a_sim q) same before after input old new status = TellsSim q.app q.cert (before q.app) (before q.cert) input old new status
+Answers (a_play q) same before after input old new status = TellsPlays q before old new status
 Answers (an_explain q) same before after input old new status = TellsExplain q before old new status
 Answers (a_draw q) same before after input old new status = TellsDraw q same before after old new status
 Answers (a_serve q) same before after input old new status = TellsServe q before after old new status

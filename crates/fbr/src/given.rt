@@ -15,6 +15,16 @@ pub struct Files<'b, 'a> {
 }
 
 impl<'b, 'a> Files<'b, 'a> {
+    /// An application alone.
+    pub fn one(app: &'b FileText<'a>) -> Files<'b, 'a> {
+        Files {
+            app,
+            cert: None,
+            rows: None,
+            repeats: None,
+        }
+    }
+
     /// An application and a certificate.
     pub fn two(app: &'b FileText<'a>, cert: &'b FileText<'a>) -> Files<'b, 'a> {
         Files {

@@ -10,6 +10,7 @@ mod explain;
 mod given;
 mod misread;
 mod piped;
+mod play;
 mod run;
 mod serve;
 mod sim;

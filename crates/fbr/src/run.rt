@@ -14,6 +14,7 @@ use crate::check::{check, check_input};
 use crate::draw::draw;
 use crate::explain::explain;
 use crate::misread::tell_misread;
+use crate::play::play;
 use crate::serve::serve;
 use crate::sim::sim;
 use fbr_files::Sources;
@@ -42,6 +43,7 @@ fn answer<'a, R: AllocGlobal + Clock + Net, S: Sources, I: Read, W: Write, E: Wr
         Request::Bound(request) => bound(alloc, request, files, output, errors),
         Request::Check(request) => check(alloc, request, files, output, errors),
         Request::Sim(request) => sim(alloc, request, files, input, output, errors),
+        Request::Play(request) => play(alloc, request, files, output, errors),
         Request::Explain(request) => explain(alloc, request, files, output),
         Request::Draw(request) => draw(alloc, request, files, output, errors),
         Request::Serve(request) => serve(rt, request, files, output, errors),

@@ -52,6 +52,14 @@ check = over_files (codes "check")
 abbrev pub sim : App
 sim = over_files (codes "sim")
 
+-- files, as many as are named
+abbrev pub files : Text → Rule
+files id = record (new_rule id) { required = true; action = Some Append; range = Some (record { start_inclusive = 1; end_inclusive = usize_max }) }
+
+-- `play`, its file, and the files behind it
+abbrev pub play : App
+play = with_rule (over_file (codes "play")) (files (codes "STORY"))
+
 -- a file that may be named
 abbrev pub maybe_file : Text → Rule
 maybe_file id = new_rule id
@@ -115,7 +123,8 @@ abbrev pub top : App
 top = record { top = record (new_app (codes "fbr")).top { has_version = true; subcommand_required = true }; subs = [] }
 
 abbrev pub program : App
-program = with_subcommand (with_subcommand (with_subcommand (with_subcommand (with_subcommand (with_subcommand top bound.top) check.top) sim.top) explain.top) draw.top) serve.top
+program =
+    with_subcommand (with_subcommand (with_subcommand (with_subcommand (with_subcommand (with_subcommand (with_subcommand top bound.top) check.top) sim.top) play.top) explain.top) draw.top) serve.top
 
 -- a number of 1 to 255
 abbrev pub small_in : Option ℕ → Option ℕ
@@ -265,6 +274,29 @@ abbrev pub few_in : {X : Type 0} → (Text → Option X) → Option (List Text) 
 few_in read None = Some []
 few_in read (Some words) = if nat_le (length words) 64 then each_in read words else None
 
+-- ---- what `play` is asked for
+
+-- the file of an application; and those behind it, perhaps that of a certificate first, and stories
+pub record Plays : Type 0 where
+  pub app : Text
+  pub files : List Text
+
+abbrev pub whole : Text → Option Text
+whole word = Some word
+
+abbrev pub names_in : Option (List Text) → Option (List Text)
+names_in words = few_in whole words
+
+abbrev pub plays_with : Option Text → Option (List Text) → Option Plays
+plays_with (Some app) (Some files) = Some (record { app = app; files = files })
+plays_with app files = None
+
+-- what the words of `play` ask for; nothing where there are more than 64 files
+abbrev pub plays_in : List Row → Option Plays
+plays_in rows = plays_with (first_of (codes "APP") rows) (names_in (all_of (codes "STORY") rows))
+
+-- ---- the network of `serve`
+
 abbrev pub peers_in : Option (List Text) → Option (List Endpoint)
 peers_in words = few_in endpoint_in words
 
@@ -332,6 +364,7 @@ pub data Asked : Type 0 where
   a_bound : Sought → Asked
   a_check : Files → Asked
   a_sim : Files → Asked
+  a_play : Plays → Asked
   an_explain : Question → Asked
   a_draw : Drawing → Asked
   a_serve : Service → Asked
@@ -342,9 +375,10 @@ request_in entered =
     if bytes_eq entered.0 (codes "bound") then option_map a_bound (sought_in entered.1)
     else (if bytes_eq entered.0 (codes "check") then option_map a_check (files_in entered.1)
     else (if bytes_eq entered.0 (codes "sim") then option_map a_sim (files_in entered.1)
+    else (if bytes_eq entered.0 (codes "play") then option_map a_play (plays_in entered.1)
     else (if bytes_eq entered.0 (codes "explain") then option_map an_explain (question_in entered.1)
     else (if bytes_eq entered.0 (codes "draw") then option_map a_draw (drawing_in entered.1)
-    else (if bytes_eq entered.0 (codes "serve") then option_map a_serve (service_in entered.1) else None)))))
+    else (if bytes_eq entered.0 (codes "serve") then option_map a_serve (service_in entered.1) else None))))))
 
 -- what is read of words that have these faults: nothing, if there is one
 abbrev pub unless_fault : {X : Type 0} → Kinds → Option X → Option X
@@ -366,6 +400,7 @@ abbrev pub often_of : Asked → Option ℕ
 often_of (a_bound q) = q.repeats
 often_of (a_check q) = None
 often_of (a_sim q) = None
+often_of (a_play q) = None
 often_of (an_explain q) = q.repeats
 often_of (a_draw q) = q.repeats
 often_of (a_serve q) = None
@@ -380,6 +415,7 @@ abbrev pub written_by : Asked → Option Text
 written_by (a_bound q) = q.into
 written_by (a_check q) = None
 written_by (a_sim q) = None
+written_by (a_play q) = None
 written_by (an_explain q) = None
 written_by (a_draw q) = q.into
 written_by (a_serve q) = boot_file q.life.boot

@@ -6,6 +6,7 @@ use Rattle.fbr_words.specs.declared.bound.Bound.{Bound as BoundRequest}
 use Rattle.fbr_words.specs.declared.bound.Ranges.{Ranges}
 use Rattle.fbr_words.specs.declared.bound.Ranges.TheVariants.{Rounds, Searched, Within}
 use Rattle.fbr_words.specs.declared.files.TwoFiles.{TwoFiles}
+use Rattle.fbr_words.specs.declared.play.Play.{Play as PlayRequest}
 use Rattle.fbr_words.specs.declared.shown.Explain.{Explain as ExplainRequest}
 use Rattle.fbr_words.specs.declared.shown.Draw.{Draw as DrawRequest}
 use Rattle.fb_addresses.specs.Addresses.{endpoint_of, parts_of}
@@ -16,10 +17,10 @@ use Rattle.fbr_words.specs.declared.serve.Life.{Life as LifeRequest}
 use Rattle.fbr_words.specs.declared.serve.Telling.{Telling as TellingRequest}
 use Rattle.fbr_words.specs.declared.serve.Serve.{Serve as ServeRequest}
 use Rattle.fbr_words.specs.declared.request.Request.{Request}
-use Rattle.fbr_words.specs.declared.request.Request.TheVariants.{Bound, Check, Sim, Explain, Draw, Serve}
+use Rattle.fbr_words.specs.declared.request.Request.TheVariants.{Bound, Check, Sim, Play, Explain, Draw, Serve}
 use Rattle.fbr_words.specs.declared.reading.Misread.{Misread}
 use Rattle.fbr_words.specs.declared.reading.Misread.TheVariants.{Memory, Help, Words, Number}
-use Rattle.fbr_words.specs.Program.{program, Sought, Files, Question, Drawing, Network, Boot, numbered, in_file, Life, Telling, Service, Asked, a_bound, a_check, a_sim, an_explain, a_draw, a_serve, request_of}
+use Rattle.fbr_words.specs.Program.{program, Sought, Files, Plays, Question, Drawing, Network, Boot, numbered, in_file, Life, Telling, Service, Asked, a_bound, a_check, a_sim, a_play, an_explain, a_draw, a_serve, request_of}
 
 -- which ranges are wanted: the file that is named, or that there is a search
 abbrev pub ranges_of : Ranges → Option (Option Text)
@@ -32,6 +33,9 @@ sought_of w = record { app = w.app.now; repeats = w.repeats; into = option_map (
 
 abbrev pub files_of : TwoFiles → Files
 files_of f = record { app = f.app.now; cert = f.cert.now }
+
+abbrev pub plays_of : PlayRequest → Plays
+plays_of p = record { app = p.app.now; files = map (λ name. name.now) p.files.items }
 
 abbrev pub question_of : ExplainRequest → Question
 question_of q = record { what = q.what.now; cert = option_map (λ name. name.now) q.cert; repeats = q.repeats; strict = q.is_strict }
@@ -67,6 +71,7 @@ abbrev pub asked_of : Request → Asked
 asked_of (Bound b) = a_bound (sought_of b)
 asked_of (Check f) = a_check (files_of f)
 asked_of (Sim f) = a_sim (files_of f)
+asked_of (Play p) = a_play (plays_of p)
 asked_of (Explain q) = an_explain (question_of q)
 asked_of (Draw d) = a_draw (drawing_of d)
 asked_of (Serve s) = a_serve (service_of s)

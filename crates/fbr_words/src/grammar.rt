@@ -74,6 +74,28 @@ fn over_files<'a>(alloc: Global, name: &'a str, about: &'a str) -> Result<Comman
     )
 }
 
+// Files, as many as are named.
+fn files<'a>(alloc: Global, id: &'a str, help: &'a str) -> Arg<'a>
+    ensures rule { rule_of result ≡ program.files id.now }
+    ensures local { result.global ≡ false }
+{
+    Arg::new(alloc, id)
+        .required(true)
+        .action(ArgAction::Append)
+        .num_args(1..)
+        .help(help)
+}
+
+// The subcommand that plays stories.
+fn played<'a>(alloc: Global) -> Result<Command<'a>, AllocError>
+    ensures { IfOk result (λ c. app_of c ≡ program.play) }
+{
+    let about = "Plays stories of a plant, and tells which of them came otherwise";
+    let help =
+        "Stories, whose names end in .story, at most 64; the certificate's text may stand before them";
+    with(over_file(alloc, "play", about), files(alloc, "STORY", help))
+}
+
 // The option `--repeats`.
 fn repeats<'a>(alloc: Global) -> Arg<'a>
     ensures rule { rule_of result ≡ program.repeats }
@@ -335,7 +357,8 @@ pub fn commands<'a>(alloc: Global) -> Result<Command<'a>, AllocError>
     let finds = with_command(Ok(top), bound(alloc));
     let checks = with_command(finds, Ok(check));
     let runs = with_command(checks, sim);
-    let explains = with_command(runs, explained(alloc));
+    let plays = with_command(runs, played(alloc));
+    let explains = with_command(plays, explained(alloc));
     let draws = with_command(explains, drawn(alloc));
     with_command(draws, served(alloc))
 }

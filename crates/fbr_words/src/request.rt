@@ -7,6 +7,7 @@ ghost use Rattle.fbr_words.specs.Requests.{asked_of};
 
 use crate::bound::{Bound, bound_in};
 use crate::files::{TwoFiles, files_in};
+use crate::play::{Play, play_in};
 use crate::serve::{Serve, serve_in};
 use crate::shown::{Draw, Explain, draw_in, explain_in};
 use clap::ArgMatches;
@@ -20,6 +21,8 @@ pub enum Request<'a> {
     Check(TwoFiles<'a>),
     /// Runs a script on a world of devices.
     Sim(TwoFiles<'a>),
+    /// Plays stories on a world of devices.
+    Play(Play<'a>),
     /// Tells people of a verdict, or of a number.
     Explain(Explain<'a>),
     /// Draws a system or a chart.
@@ -45,6 +48,12 @@ fn sim<'a>(words: &ArgMatches<'a>) -> Option<Request<'a>>
     ensures { option_map asked_of result ≡ option_map program.a_sim (program.files_in (rows_of (found_of words.now))) }
 {
     Some(Request::Sim(files_in(words)?))
+}
+
+fn play<'a>(words: &ArgMatches<'a>) -> Option<Request<'a>>
+    ensures { option_map asked_of result ≡ option_map program.a_play (program.plays_in (rows_of (found_of words.now))) }
+{
+    Some(Request::Play(play_in(words)?))
 }
 
 fn explain<'a>(words: &ArgMatches<'a>) -> Option<Request<'a>>
@@ -79,6 +88,8 @@ pub fn request_in<'a>(name: &str, words: &ArgMatches<'a>) -> Option<Request<'a>>
         check(words)
     } else if name == "sim" {
         sim(words)
+    } else if name == "play" {
+        play(words)
     } else if name == "explain" {
         explain(words)
     } else if name == "draw" {

@@ -1,6 +1,6 @@
 use Rattle.std.proofs.Common.{◌≡◌, refl, rules}
 use Rattle.clap.specs.Words.{App, app_of, with_subcommand}
-use Rattle.fbr_words.specs.Program.{bound, check, sim, explain, draw, serve, top}
+use Rattle.fbr_words.specs.Program.{bound, check, sim, play, explain, draw, serve, top}
 use Rattle.fbr_words.proofs.grammar.commands.Goals as goal
 
 pub returns : goal.returns
@@ -8,12 +8,14 @@ returns c =
     let one : App = with_subcommand top bound.top in
     let two : App = with_subcommand one check.top in
     let three : App = with_subcommand two sim.top in
-    let four : App = with_subcommand three explain.top in
-    let five : App = with_subcommand four draw.top in
+    let four : App = with_subcommand three play.top in
+    let five : App = with_subcommand four explain.top in
+    let six : App = with_subcommand five draw.top in
     let top_is : app_of c.subcommand_required-top.result ≡ top = search rules in
     let first = c.with_command-finds.ensures top bound top_is c.bound.ensures refl in
     let second = c.with_command-checks.ensures one check first c.in_ok-check.ensures refl in
     let third = c.with_command-runs.ensures two sim second c.over_files-sim.ensures refl in
-    let fourth = c.with_command-explains.ensures three explain third c.explained.ensures refl in
-    let fifth = c.with_command-draws.ensures four draw fourth c.drawn.ensures refl in
-    c.with_command.ensures five serve fifth c.served.ensures refl
+    let fourth = c.with_command-plays.ensures three play third c.played.ensures refl in
+    let fifth = c.with_command-explains.ensures four explain fourth c.explained.ensures refl in
+    let sixth = c.with_command-draws.ensures five draw fifth c.drawn.ensures refl in
+    c.with_command.ensures six serve sixth c.served.ensures refl
