@@ -1,7 +1,7 @@
 #!/usr/bin/env python3
-"""Floods a device over loopback: hostile/floods.py PROGRAM [--datagrams N]
+"""Floods a device over loopback: hostile/floods.py PROGRAM [--datagrams N | --seconds N] [--rate N]
 
-`PROGRAM serve` runs one device until it has received at least N datagrams (1,000,000 where none is given), while three processes send to its port as fast as they can: valid messages of its
+`PROGRAM serve` runs one device until it has received at least N datagrams (1,000,000 where none is given), or for N seconds, while three processes send to its port as fast as they can, or N a second each with --rate: valid messages of its
 channels, repeated, late and forged; what is no message, cut behind each byte or with a field at fault; messages of other channels, INPUTs, types and formats. Beside them one client offers its
 INPUT 1 a number, and the next one as soon as the first was written, again and again where the system has lost the datagram. To INPUT 3 it sends a number every 5 ms, once: which share of them is
 written says what a flood leaves of a sender that does not repeat. Nothing is asked of that share, since the system drops what comes faster than it is received.
@@ -95,26 +95,28 @@ def of_others(rng):
         yield message(CHANNEL, 8, 666)
 
 
-def send_until(end, datagrams, port, sent):
-    """Sends until it is told to end, and tells how many it sent."""
+def send_until(end, datagrams, port, sent, rate):
+    """Sends until it is told to end, so many a second at most where there is a rate, and tells how many it sent."""
     with socket.socket(socket.AF_INET, socket.SOCK_DGRAM) as link:
-        count = 0
+        count, begun, batch = 0, time.monotonic(), 10 if rate else 100
         while not end.is_set():
-            for _ in range(100):
+            for _ in range(batch):
                 link.sendto(next(datagrams), ("127.0.0.1", port))
-            count += 100
+            count += batch
+            if rate:
+                end.wait(max(0, begun + count / rate - time.monotonic()))
     sent.value = count
 
 
 class Flood:
     """Three processes that send."""
 
-    def __init__(self, port):
+    def __init__(self, port, rate):
         self.over, self.jobs, self.sent = multiprocessing.Event(), [], []
         for seed, datagrams in enumerate((of_channels, of_bytes, of_others)):
             sent = multiprocessing.Value("q", 0)
             made = datagrams(random.Random(seed))
-            job = multiprocessing.Process(target=send_until, args=(self.over, made, port, sent), daemon=True)
+            job = multiprocessing.Process(target=send_until, args=(self.over, made, port, sent, rate), daemon=True)
             job.start()
             self.jobs.append(job)
             self.sent.append(sent)
@@ -130,7 +132,7 @@ class Device:
 
     def __init__(self, command):
         self.errors = tempfile.TemporaryFile()
-        self.job = subprocess.Popen(command, stdout=subprocess.PIPE, stderr=self.errors, bufsize=0)
+        self.job = subprocess.Popen(command, stdin=subprocess.PIPE, stdout=subprocess.PIPE, stderr=self.errors, bufsize=0)
         self.lines, self.last, self.memory = {1: [], 2: [], 3: [], 4: []}, "", []
         self.reader = threading.Thread(target=self.read)
         self.reader.start()
@@ -166,7 +168,7 @@ def free_port():
         return it.getsockname()[1]
 
 
-def offered(device, port, end):
+def offered(device, port, end, pause):
     """Offers INPUT 1 one number behind the other for as long as the device runs, and INPUT 3 a number every 5 ms, once; and answers how many of these."""
     number = singles = next_single = 0
     with socket.socket(socket.AF_INET, socket.SOCK_DGRAM) as link:
@@ -181,7 +183,7 @@ def offered(device, port, end):
                 singles += 1
                 link.sendto(message(INPUT, 3, singles), ("127.0.0.1", port))
                 next_single = time.monotonic() + 0.005
-            time.sleep(0.0002)
+            time.sleep(pause)
     return singles
 
 
@@ -233,7 +235,7 @@ def untold(told, last, denied):
     for more, code in re.findall(r"^\d+\.\d{3} s (\d+) more denied (\d+) in that second$", told, re.M):
         counted[int(code)] += int(more)
     wrong = [f"in second {second} {count} denials of {code} are told" for (second, code), count in seconds.items() if count > TOLD]
-    summary = re.search(rf" s {last}; longest turn \d+ ms, lines lost 0, denied(.*)$", told, re.M)
+    summary = re.search(rf" s {last}; longest turn \d+ ms, OWN held [12] of 2, NET held [01] of 1, ONCE held [01] of 1, lines lost 0, denied(.*)$", told, re.M)
     if not summary:
         return [*wrong, f"standard error does not tell the sums at its end, but {told[-200:]!r}"]
     sums = {int(code): int(count) for code, count in re.findall(r"(\d+):(\d+)", summary[1])}
@@ -249,7 +251,7 @@ def grown(memory):
     return max(last - first for first, last in zip(memory[len(memory) // 10], memory[-1]))
 
 
-def flooded(program, datagrams, folder):
+def flooded(program, datagrams, seconds, rate, folder):
     files = f"{folder}/app", f"{folder}/cert"
     with open(files[0], "w") as it:
         it.write(APP)
@@ -257,15 +259,19 @@ def flooded(program, datagrams, folder):
         subprocess.run([program, "bound", files[0]], stdout=it, check=True)
     port, peer = free_port(), socket.socket(socket.AF_INET, socket.SOCK_DGRAM)
     peer.bind(("127.0.0.1", 0))
-    flood = Flood(port)
-    end = time.monotonic() + 60 + datagrams / 2000
+    flood = Flood(port, rate)
+    end = time.monotonic() + (seconds or 60 + datagrams / 2000)
     # Of two turns one at least receives something, or dispatches what was received: a turn without either waits for a datagram.
     turns = datagrams * 5 // 2
-    words = ["serve", *files, "D", "--bind", str(port), "--turns", str(turns), "--summary", "3600", str(peer.getsockname()[1])]
+    ends = ["--until-eof"] if seconds else ["--turns", str(turns)]
+    words = ["serve", *files, "D", "--bind", str(port), *ends, "--summary", "3600", str(peer.getsockname()[1])]
     device = Device([program, *words])
     try:
-        singles = offered(device, port, end)
+        singles = offered(device, port, end, 0.001 if rate else 0.0002)
         flood.end()
+        if seconds:
+            device.job.stdin.close()
+            device.job.wait(10)
         if device.runs():
             return device, flood, [f"{turns} turns are not over in time"], 0, singles
     finally:
@@ -273,7 +279,8 @@ def flooded(program, datagrams, folder):
         for job in flood.jobs:
             job.kill()
     device.reader.join()
-    wrong = differences(device, 10 + datagrams // 5000, datagrams, singles)
+    least = 0 if seconds else datagrams
+    wrong = differences(device, 10 + least // 5000, least, singles)
     if device.job.returncode:
         wrong.append(f"status {device.job.returncode}, {device.told()[:300]!r}")
     return device, flood, wrong, heard(peer), singles
@@ -283,11 +290,13 @@ def main():
     words = argparse.ArgumentParser()
     words.add_argument("program")
     words.add_argument("--datagrams", type=int, default=1_000_000)
+    words.add_argument("--seconds", type=int, default=0, help="ends behind so many seconds, and not behind so many datagrams")
+    words.add_argument("--rate", type=int, default=0, help="how many each of the three processes sends a second at most")
     words.add_argument("--grows", type=int, default=0, help="by how many kB the process may grow")
     given = words.parse_args()
     begun = time.monotonic()
     with tempfile.TemporaryDirectory() as folder:
-        device, flood, wrong, told, singles = flooded(os.path.abspath(given.program), given.datagrams, folder)
+        device, flood, wrong, told, singles = flooded(os.path.abspath(given.program), given.datagrams, given.seconds, given.rate, folder)
     more = grown(device.memory)
     if more is None or more > given.grows:
         wrong.append(f"the process grew by {more} kB, of {MEMORY}: {device.memory[:1]} at first, {device.memory[-1:]} at last")
