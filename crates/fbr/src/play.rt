@@ -104,8 +104,9 @@ fn play_two<S: Sources, W: Write, E: Write>(
     }
 }
 
-/// Plays stories over the application in a file, with the certificate of another, or with the one that is found: what came otherwise than a story says is written,
-/// and at the end how many of their sequences passed and failed. Where the files are refused, their outcome is written and nothing else; on `errors` people are told why.
+/// Plays stories over the application in a file, with the certificate of another, or with the one that is found: what came otherwise than a story says is
+/// written, and at the end how many of their sequences passed and failed. Where the files are refused, their outcome is written and nothing else; on
+/// `errors` people are told why.
 pub fn play<S: Sources, W: Write, E: Write>(
     alloc: Global,
     request: Play<'_>,

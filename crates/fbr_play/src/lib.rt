@@ -1,4 +1,5 @@
-//! Room: program. Plays stories on worlds of devices, and tells what came otherwise than they say. No contracts but on statuses: what it plays and prints is tested.
+//! Room: program. Plays stories on worlds of devices, and tells what came otherwise than they say.
+//! No contracts but on statuses: what it plays and prints is tested.
 #![tactic(auto)]
 
 mod course;

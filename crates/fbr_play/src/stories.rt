@@ -71,8 +71,9 @@ fn print_score<W: Write>(score: Score, output: &mut W) -> io::Result<u8>
     Ok(if failed > 0 { 1 } else { 0 })
 }
 
-/// Plays the stories that files hold over what was verified: what came otherwise than a sequence says is written, and at the end how many sequences passed and failed.
-/// The status is 1 where one failed. A story that cannot be read, or a line of it that is at fault, is refused, people are told on `errors`, and no later story is played.
+/// Plays the stories that files hold over what was verified: what came otherwise than a sequence says is written, and at the end how many sequences passed
+/// and failed. The status is 1 where one failed. A story that cannot be read, or has a line that is at fault, is refused: people are told on `errors`, and
+/// no later story is played.
 pub fn play_stories<S: Sources, W: Write, E: Write>(
     alloc: Global,
     verified: Verified,
