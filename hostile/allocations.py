@@ -3,7 +3,7 @@
 
 hostile/failing.c is built with the C compiler and preloaded. First every command runs on the counter, on a timer and on two devices (without --short also on examples/handover), and `explain` and `draw`
 on the cases of tests/commands (with --short on the first of each file): before each growth the process forks, and the child is refused this growth. What the child prints has to be what is printed
-with ample memory, or a refusal for want of memory and nothing else, with status 4; of `sim` it is a beginning of the lines and then this refusal, of `explain` what it tells of 9 stands behind it, and
+with ample memory, or a refusal for want of memory and nothing else, with status 4; of `sim` and `play` it is a beginning of the lines and then this refusal, of `explain` what it tells of 9 stands behind it, and
 nothing at all is printed where there is no memory for the words. There is no signal, and no panic. What people are told on standard error may be less then.
 
 Then what scripts of `sim` and turns of `serve` take behind their first answer is counted: how many growths a line of each kind takes, and how many growths a device takes
@@ -36,6 +36,15 @@ EVENT_CONNECTIONS GO.IND TO DLY.START; HALT.IND TO DLY.STOP; DLY.EO TO LAMP.REQ;
 END_RESOURCE END_DEVICE END_SYSTEM
 """
 TIMER_SCRIPT = "tick D 100\noffer D 1\n" + "dispatch D R\n" * 3 + "tick D 150\n" + "dispatch D R\n" * 2 + "offer D 2\ndispatch D R\n"
+TIMER_STORY = """SEQUENCE later
+  GO() -> ;
+  EXPECT QUEUE R = 0;
+  AFTER T#50ms -> LAMP();
+END_SEQUENCE
+SEQUENCE never
+  TOGETHER GO(), HALT() -> LAMP() -> DENIED STEPS <= 1;
+END_SEQUENCE
+"""
 NETWORK = """SYSTEM S
 DEVICE D1 RESOURCE R
 FBS BUTTON : INPUT[INT](ID := 1); RST : E_RESTART; PUB : PUBLISH[INT](ID := 7, QI := TRUE); END_FBS
@@ -63,10 +72,13 @@ def read(name):
 
 
 class Plant:
-    """An application, its certificates and a script, in files."""
+    """An application, its certificates, a script, and perhaps a story, in files."""
 
-    def __init__(self, name, text, script, program, folder):
-        self.name, self.script = name, script
+    def __init__(self, name, text, script, program, folder, story=None):
+        self.name, self.script, self.story = name, script, story and f"{folder}/{name}.story"
+        if story:
+            with open(self.story, "w") as it:
+                it.write(story)
         self.app, self.cert, self.far, self.bad = (f"{folder}/{name}.{it}" for it in ("fb", "cert", "far", "bad"))
         with open(self.app, "w") as it:
             it.write(text)
@@ -89,6 +101,9 @@ class Plant:
             yield words, ""
         for cert in (self.cert, self.far):
             yield ["sim", app, cert], self.script
+        if self.story:
+            yield ["play", app, self.cert, self.story], ""
+            yield ["play", app, self.story, self.story], ""
 
 
 def built(folder):
@@ -120,8 +135,8 @@ def records(file):
 
 
 def is_refusal(word, ample, told):
-    """Is this the refusal for want of memory, of `sim` behind a beginning of the ample output? It is nothing where there is no memory for the words."""
-    if word == "sim":
+    """Is this the refusal for want of memory, of `sim` and `play` behind a beginning of the ample output? It is nothing where there is no memory for the words."""
+    if word in ("sim", "play"):
         lines, refused, rest = told.partition(REFUSED)
         return not told or refused and not rest and ample.startswith(lines)
     return told in ("", REFUSED) or word == "explain" and told == REFUSED + MEANING
@@ -355,7 +370,7 @@ def main():
         library = built(folder)
         plants = [
             Plant("counter", read("counter.fb"), read("counter.script"), program, folder),
-            Plant("timer", TIMER, TIMER_SCRIPT, program, folder),
+            Plant("timer", TIMER, TIMER_SCRIPT, program, folder, TIMER_STORY),
             Plant("network", NETWORK, NETWORK_SCRIPT, program, folder),
         ]
         more = [] if given.short else [Plant("handover", read("handover/handover.fb"), read("handover/handover.script"), program, folder)]
