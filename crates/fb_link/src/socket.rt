@@ -3,7 +3,7 @@
 ghost use Rattle.std.specs.Prelude.{◌≡◌, ◌≤◌, ℕ, length, IfOk, is_ok};
 ghost use Rattle.fb_link.specs.Socket.{SocketCall, SentTo, taking, IsHere};
 
-use libc::net::{POLLIN, poll};
+use libc::net::{POLLIN, SO_RCVBUF, SOL_SOCKET, poll, setsockopt};
 use libc::types::pollfd;
 use std::io;
 use std::io::ErrorKind;
@@ -38,9 +38,20 @@ pub(crate) fn here(port: u16) -> SocketAddr
     SocketAddr::V4(SocketAddrV4::new(Ipv4Addr::LOCALHOST, port))
 }
 
-// A socket that is bound to this address, and waits in no call but `wait`.
+/// The bytes of datagrams that the system is asked to keep until they are received: some ten thousand, with what it keeps of each.
+const KEPT: i32 = 4_194_304;
+
+// Asks the system for more room for datagrams that were not received yet. It may give less, and nothing here depends on it.
+fn widen(socket: &UdpSocket) {
+    let mut value = [0u8; 16];
+    value[..4].copy_from_slice(&KEPT.to_ne_bytes());
+    let _ = unsafe { setsockopt(socket.as_raw_fd(), SOL_SOCKET, SO_RCVBUF, &value, 4) };
+}
+
+// A socket that is bound to this address, with more room for what comes, and that waits in no call but `wait`.
 pub(crate) fn bound<R: Net>(rt: &R, bind: SocketAddr) -> io::Result<UdpSocket> {
     let socket = UdpSocket::bind(rt, bind)?;
+    widen(&socket);
     socket.set_nonblocking(true)?;
     Ok(socket)
 }
