@@ -2,16 +2,18 @@
 _fbr() {
     local word=${COMP_WORDS[COMP_CWORD]} command=${COMP_WORDS[1]} options
     if [ "$COMP_CWORD" -eq 1 ]; then
-        mapfile -t COMPREPLY < <(compgen -W "bound check sim play explain draw serve help --help --version" -- "$word")
+        mapfile -t COMPREPLY < <(compgen -W "bound check sim play explain draw serve replay help --help --version" -- "$word")
         return
     fi
     case $command in
         bound) options="--repeats --search --ranges --room --output --help" ;;
         explain) options="--repeats --strict --help" ;;
         draw) options="--repeats --flat --chart --output --help" ;;
-        serve) options="--bind --from --turns --until-eof --boot --boot-file --verbose --summary --clock --stop-on-lost-output --help" ;;
-        check | sim | play) options="--help" ;;
-        help) mapfile -t COMPREPLY < <(compgen -W "bound check sim play explain draw serve help" -- "$word") && return ;;
+        serve) options="--bind --from --turns --until-eof --boot --boot-file --verbose --summary --clock --stop-on-lost-output --record --sync --help" ;;
+        play) options="--watch --report --vcd --csv --help" ;;
+        replay) options="--verbose --clock --help" ;;
+        check | sim) options="--help" ;;
+        help) mapfile -t COMPREPLY < <(compgen -W "bound check sim play explain draw serve replay help" -- "$word") && return ;;
     esac
     if [ "${word:0:1}" = - ]; then
         mapfile -t COMPREPLY < <(compgen -W "$options" -- "$word")

@@ -10,7 +10,8 @@ is NAME.cert with the depth that takes each arrival once, and NAME.room.out what
 Of a wrong plant NAME.out is its refusal by `fbr bound`, or NAME.cert its certificate where each device by itself has one, with NAME.repeats.out its
 refusal by `fbr bound --repeats 2` and mended.repeats.cert what that prints of the mended one; mended.out is what `fbr check NAME.fb mended.cert` prints; where it runs, NAME.script.out is what `fbr sim` prints for NAME.script
 under NAME.cert, and mended.script.out what it prints of the mended one for mended.script under mended.repeats.cert. Beside the .out of a refusal the .err is what
-people are told on standard error; NAME.story and NAME.room.story have sequences that all pass, with the certificate of the same name; beside a certificate whose queues do not take each arrival once the .cert.err is what `fbr bound` and `fbr check` tell them."""
+people are told on standard error; NAME.story and NAME.room.story have sequences that all pass, with the certificate of the same name, and NAME_blocks.story
+sequences of block types alone; beside a certificate whose queues do not take each arrival once the .cert.err is what `fbr bound` and `fbr check` tell them."""
 import pathlib
 import re
 import subprocess
@@ -71,6 +72,7 @@ def plant(folder):
     cases.add("it runs", f"sim {app.name} {cert.name}", out.read_text(), [app, cert], script.read_text())
     for story in sorted(folder.glob("*.story")):
         rows, passed = story.with_suffix(".cert"), len(re.findall(r"^ *SEQUENCE\b", story.read_text(), re.M))
+        rows = rows if rows.exists() else cert
         cases.add("its stories pass", f"play {app.name} {rows.name} {story.name}", f"{passed} passed, 0 failed\n", [app, rows, story])
     rows, offers, causes = (folder / f"{name}.room.{it}" for it in ("cert", "script", "out"))
     if rows.exists():

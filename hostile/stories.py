@@ -28,10 +28,11 @@ VALUE = re.compile(r"TRUE|FALSE|T#\w+|-?\d+", re.I)
 
 
 def plants():
-    """Each story of a plant: the plant's text, the certificate of the story's name, and the story."""
+    """Each story of a plant: the plant's text, the certificate of the story's name or else the plant's, and the story."""
     for folder in sorted(it for it in (TOP / "examples").iterdir() if it.is_dir() and it.name != "wrong"):
         for story in sorted(folder.glob("*.story")):
-            yield folder / f"{folder.name}.fb", story.with_suffix(".cert"), story
+            cert = story.with_suffix(".cert")
+            yield folder / f"{folder.name}.fb", cert if cert.exists() else folder / f"{folder.name}.cert", story
 
 
 def play(program, *words):
@@ -89,7 +90,7 @@ def failing(program, folder):
 def mutated(rng, text):
     """A story that was cut, or has a part doubled, dropped, moved or replaced."""
     words = ["->", ";", "(", ")", ",", "..", "ANY", "DENIED", "STEPS", "<=", "EXPECT", "IN", "=", "AFTER", "T#1ms", "T#9999999h", "TOGETHER", "LOSE", "TWICE", "HOLD", "NEXT", "DROP", "ALL", "FROM", "HEAL"]
-    words += ["QUEUE", "SEQUENCE", "END_SEQUENCE", "x", "-1", "99999999999999999999", "TRUE", "(*", "*)", ".", "\0", "é", "[", "]"]
+    words += ["FOR", "BLOCK", "FOR BLOCK LIMITS", ":=", "QUEUE", "SEQUENCE", "END_SEQUENCE", "x", "-1", "99999999999999999999", "TRUE", "(*", "*)", ".", "\0", "é", "[", "]"]
     for _ in range(rng.randrange(1, 4)):
         at, end = sorted(rng.randrange(len(text) + 1) for _ in range(2))
         part = text[at : min(end, at + 40)]

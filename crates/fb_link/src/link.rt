@@ -45,6 +45,11 @@ pub trait Link {
     fn failures(&self) -> u64
         ensures { result ≡ count self.now };
 
+    /// How many datagrams of strangers were dropped, as far as a link counts them.
+    fn dropped(&self) -> u64 {
+        0
+    }
+
     /// Waits until a datagram may be there, at most so long. A link that cannot wait returns at once.
     fn wait(&self, _most: Duration) {}
 }

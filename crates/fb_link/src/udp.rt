@@ -232,6 +232,10 @@ impl<S: Socket> Link for UdpLink<S> {
         received
     }
 
+    fn dropped(&self) -> u64 {
+        self.strangers
+    }
+
     fn failures(&self) -> u64 {
         self.failures
     }

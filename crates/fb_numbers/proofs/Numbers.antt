@@ -1,11 +1,14 @@
 -- What `parse` reads as a number.
-use Rattle.std.proofs.Common.{◌≡◌, ◌≢◌, ℕ, ◌+◌, ◌^◌, ◌<◌, ◌≤◌, ◌==◌, List, length, drop, get_or, Bool, true, false, not, ◌&&◌, cond, Result, Ok, Err, Option, Some, None, refl, ◌∙◌, ap, arith, rules, tests}
+use Rattle.std.proofs.Common.{◌≡◌, ◌≢◌, ℕ, ◌+◌, ◌^◌, ◌<◌, ◌≤◌, ◌==◌, List, [], ◌∷◌, length, drop, get_or, Bool, true, false, not, ◌&&◌, cond, Result, Ok, Err, Option, Some, None, refl, sym, subst, ◌∙◌, ap, arith, rules, tests}
 use Rattle.std.specs.Prelude.{ℤ, pos, neg_ℤ, nat_lt, slice_index}
+use Rattle.std.specs.Fmt.{decimal}
+use Rattle.std.specs.List.{AllByRecursion}
 use Rattle.std.specs.Result.{OkIff, result_ok}
 use Rattle.std.specs.Option.{option_map}
 use Rattle.std.specs.Str.{all_ascii_digits}
 use Rattle.std.specs.Str.Parse.{ParsesUnsigned, ParsesSigned}
 use Rattle.std.proofs.lemmas.Str.Parse.{IsNumeralModel, numerals_by_fold, tells_all_ascii_digits, parse_plain, parse_signed_plain, parse_signed_minus}
+use Rattle.std.proofs.lemmas.Fmt.{decimal_is_IsNumeral, digits_decimal, digits_value-decimal}
 use Rattle.fb_model.specs.CertificateText.{decimal_from}
 use Rattle.fb_numbers.specs.Numbers.{number_below, number_in, long_number_in, wide_number_in, value_in}
 use mir.Syntax.{w64}
@@ -63,3 +66,25 @@ value {E} bs r n h = by (slice_index bs 0 == 45) refl
     by : (b : Bool) → (slice_index bs 0 == 45) ≡ b → result_ok r ≡ cond b (option_map (λ k. neg_ℤ (pos k)) (number_below (2 ^ 63 + 1) (drop 1 bs))) (option_map pos (number_below (2 ^ 63) bs))
     by true e = below (drop 1 bs) (2 ^ 63 + 1) r (λ k. neg_ℤ (pos k)) (at_most r _ _ _ (2 ^ 63) _ (parse_signed_minus own w64 bs r h (grind (arith, e))))
     by false e = below bs (2 ^ 63) r pos (parse_signed_plain own w64 bs r h (no_plus bs n) (grind (arith, e)))
+
+-- ---- what a number is written as is read as that number
+
+read_below : (limit n : ℕ) → n < 2 ^ 64 → n < limit → number_below limit (decimal n) ≡ Some n
+read_below limit n h l =
+    let is : decimal_from 0 (decimal n) ≡ n = digits_value-decimal own n h in
+    let passes = holds (length (decimal n)) (decimal_from 0 (decimal n)) limit (all_ascii_digits (decimal n)) (digits_decimal own n h) (decimal_is_IsNumeral n h).0.0 (subst (λ k. k < limit) (sym is) l) in
+    ap (λ b. cond b (Some (decimal_from 0 (decimal n))) None) passes ∙ ap Some is
+
+pub long_number_of : (n : ℕ) → n < 2 ^ 32 → long_number_in (decimal n) ≡ Some n
+long_number_of n h = read_below (2 ^ 32) n (omega (arith, h)) h
+
+pub wide_number_of : (n : ℕ) → n < 2 ^ 64 → wide_number_in (decimal n) ≡ Some n
+wide_number_of n h = read_below (2 ^ 64) n h h
+
+-- and has no space in it
+solid_digits : (cs : List ℕ) → all_ascii_digits cs ≡ true → AllByRecursion (λ c. (c == 32) ≡ false) cs
+solid_digits [] h = tt
+solid_digits (c ∷ cs) h = let k = tells_all_ascii_digits.parts c cs h in (grind (arith, k.0), solid_digits cs k.1)
+
+pub decimal_solid : (n : ℕ) → n < 2 ^ 64 → AllByRecursion (λ c. (c == 32) ≡ false) (decimal n)
+decimal_solid n h = solid_digits (decimal n) (digits_decimal own n h)

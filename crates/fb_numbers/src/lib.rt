@@ -1,6 +1,8 @@
-//! Room: program. Numbers as words of a command or a script write them: decimal digits, and a minus where a value may have one.
+//! Room: program. Words of a command, of a script or of a record, and the numbers in them: decimal digits, and a minus where a value may have one.
 #![tactic(auto)]
 
 mod number;
+mod words;
 
 pub use number::{read_long_number, read_number, read_value, read_wide_number};
+pub use words::words_of;

@@ -1,11 +1,11 @@
 //! Lines of a script.
 
-ghost use Rattle.std.specs.Prelude.{◌≡◌, [], ◌∷◌, codes, IfOk};
+ghost use Rattle.std.specs.Prelude.{◌≡◌, [], ◌∷◌, codes};
 ghost use Rattle.fb_model.specs.CertificateText.{words};
 ghost use Rattle.fb_script.specs.Views.{texts, AreValues, IsRead, IsLine};
 ghost use Rattle.fb_script.specs.declared.line.LineFault.TheVariants.{OutOfMemory};
 
-use fb_numbers::{read_number, read_value, read_wide_number};
+use fb_numbers::{read_number, read_value, read_wide_number, words_of};
 use std::alloc::{AllocError, AllocFailed, Global};
 
 /// A line that has words.
@@ -75,15 +75,6 @@ impl<T: Drop> From<AllocFailed<T>> for LineFault {
     fn from(_: AllocFailed<T>) -> LineFault {
         LineFault::OutOfMemory
     }
-}
-
-// The words of a line, which stand between spaces.
-pub(crate) fn words_of(alloc: Global, line: &str) -> Result<Vec<&str>, AllocError>
-    ensures { IfOk result (λ v. texts v.items ≡ words line.now) }
-{
-    line.split(' ')
-        .filter(|word| !word.is_empty())
-        .collect(alloc)
 }
 
 fn read_values(alloc: Global, words: &[&str]) -> Result<Vec<i64>, LineFault>

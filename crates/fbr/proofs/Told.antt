@@ -7,8 +7,8 @@ use Rattle.fb_verified.specs.declared.verified.Verified.{Verified}
 use Rattle.fbr_files.specs.declared.fault.Fault.{Fault}
 use Rattle.fbr_files.specs.declared.fault.Fault.TheVariants.{Usage}
 use Rattle.fbr_files.specs.Outcomes.{Outcome, Tells, refusal, outcome_said}
-use Rattle.fbr_files.specs.Writing.{Sameness, Holdings, AreApart, Meet, Writes, LeavesAllBut}
-use Rattle.fbr_words.specs.Program.{Sought, Question, Asked, request_of, IsMisuse}
+use Rattle.fbr_files.specs.Writing.{Sameness, Holdings, AreApart, Meet, Writes, LeavesAllBut, LeavesAll}
+use Rattle.fbr_words.specs.Program.{Sought, Question, Service, Asked, if_named, request_of, IsMisuse}
 use Rattle.fbr_words.specs.Requests.{IsMisread}
 use Rattle.fbr_words.specs.declared.reading.Misread.{Misread}
 use Rattle.fbr_words.specs.declared.reading.Misread.TheVariants.{Memory, Help, Words, Number}
@@ -16,7 +16,10 @@ use Rattle.fbr_check.specs.Verdicts.{IsInputOutcome, IsFilesOutcome, IsVerified,
 use Rattle.fbr_find.specs.Bounding.{IsSoughtText, IsSoughtFault}
 use Rattle.fbr_serve.proofs.Served.{takes_more}
 use Rattle.fbr_sim.specs.Simulation.{TellsScript}
-use Rattle.fbr.specs.Answers.{IsClash, IsPutOut, written, TellsBound, a_clash, a_text, no_text, Begins, TellsVerdict, TellsBeside, TellsExplain, TellsSim, TellsPlayed}
+use Rattle.fbr_play.specs.Scores.{TellsEnd as TellsLast, TellsStories}
+use Rattle.fbr_play.specs.declared.score.Score.{Score}
+use Rattle.fbr_serve.specs.Serving.{TellsServe}
+use Rattle.fbr.specs.Answers.{IsClash, IsPutOut, written, TellsBound, a_clash, a_text, no_text, Begins, TellsVerdict, TellsBeside, TellsExplain, TellsSim, TellsPlayed, TellsServed}
 
 -- ---- a verdict
 
@@ -109,6 +112,19 @@ pub kept_all : (same : Sameness) (into : Option (List ℕ)) (before after : Hold
 kept_all same None before after is = is
 kept_all same (Some name) before after is = λ other apart. ap (λ (f : Holdings). f other) is
 
+pub all_kept : (same : Sameness) (names : List (List ℕ)) (before after : Holdings) → after ≡ before → LeavesAll same names before after
+all_kept same [] before after is = is
+all_kept same (name ∷ names) before after is = (before, λ other apart. refl, all_kept same names before after is)
+
+-- one file that is written, where one is, and others behind it
+pub all_more : (same : Sameness) (into : Option (List ℕ)) (names : List (List ℕ)) (before mid after : Holdings) → LeavesAllBut same into before mid → LeavesAll same names mid after → LeavesAll same (if_named into ++ names) before after
+all_more same None names before mid after h k = subst (λ s. LeavesAll same names s after) h k
+all_more same (Some name) names before mid after h k = (mid, h, k)
+
+pub all_one : (same : Sameness) (into : Option (List ℕ)) (before after : Holdings) → LeavesAllBut same into before after → LeavesAll same (if_named into) before after
+all_one same None before after h = h
+all_one same (Some name) before after h = (after, h, refl)
+
 some_none : {X : Type 0} (x : X) (o : Option X) → o ≡ None → o ≡ Some x → ⊥
 some_none x o is h = let e : None ≡ Some x = sym is ∙ h in cc
 
@@ -138,11 +154,27 @@ or_three (Err x) n P e h = inr e
 -- ---- stories
 
 pub stories_played : {E : Type 0} (one two : List ℕ) (held_one held_two : Option (List ℕ)) (v : Verified) (old new : Option (List ℕ)) (r : Result ℕ E)
-    → IsVerified one two held_one held_two (Ok v) → IfOk r (λ status. TellsPlayed one two held_one held_two old new status)
-stories_played one two held_one held_two v old new (Ok status) is = inr (v, is)
-stories_played one two held_one held_two v old new (Err e) is = tt
+    → IsVerified one two held_one held_two (Ok v) → IfOk r (λ status. TellsStories new status) → IfOk r (λ status. TellsPlayed one two held_one held_two old new status)
+stories_played one two held_one held_two v old new (Ok status) is h = inr (v, is, h)
+stories_played one two held_one held_two v old new (Err e) is h = tt
 
 pub stories_refused : {E : Type 0} (one two : List ℕ) (held_one held_two : Option (List ℕ)) (f : Fault) (old new : Option (List ℕ)) (r : Result ℕ E)
     → IsVerified one two held_one held_two (Err f) → IfOk r (λ status. Tells (refusal f) old new status) → IfOk r (λ status. TellsPlayed one two held_one held_two old new status)
 stories_refused one two held_one held_two f old new (Ok status) is h = inl (f, is, h)
 stories_refused one two held_one held_two f old new (Err e) is h = tt
+
+-- ---- a device
+
+pub served_by : {E : Type 0} (q : Service) (same : Sameness) (before between after : Holdings) (old new : Option (List ℕ)) (r : Result ℕ E) → IfOk r (λ status. TellsServe q before between old new status) → LeavesAllBut same q.life.recorded between after
+    → IfOk r (λ status. TellsServed q same before after old new status)
+served_by q same before between after old new (Ok status) h k = record { between = between; told = h; recorded = k }
+served_by q same before between after old new (Err e) h k = tt
+
+-- ---- files that stories are kept in
+
+pub three_left : (same : Sameness) (one two three : Option (List ℕ)) (a b c d : Holdings) → LeavesAllBut same one a b → LeavesAllBut same two b c → LeavesAllBut same three c d → LeavesAll same (if_named one ++ (if_named two ++ if_named three)) a d
+three_left same one two three a b c d h k l = all_more same one (if_named two ++ if_named three) a b d h (all_more same two (if_named three) b c d k (all_one same three c d l))
+
+pub told_so : {E : Type 0} (o : Result Score Fault) (old mid new : Option (List ℕ)) (r : Result ℕ E) → IfOk r (λ status. TellsLast o mid new status) → IfOk r (λ status. TellsStories new status)
+told_so o old mid new (Ok status) h = (mid, o, h)
+told_so o old mid new (Err e) h = tt

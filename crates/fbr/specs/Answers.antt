@@ -1,5 +1,5 @@
 -- What becomes of a command: this project's profile.
-use Rattle.std.specs.Prelude.{◌≡◌, ◌⊎◌, ℕ, ◌==◌, Bool, List, [], ◌∷◌, ◌++◌, Option, None, Some, Result, Ok, Err, codes, if◌then◌else◌}
+use Rattle.std.specs.Prelude.{◌≡◌, ◌⊎◌, ℕ, ◌==◌, Bool, List, [], ◌∷◌, ◌++◌, Option, None, Some, IsSome, Result, Ok, Err, codes, if◌then◌else◌}
 use Rattle.std.specs.List.{ends_with}
 use Rattle.std.specs.Io.KnownBytes.{Appends}
 use Rattle.fb_numbers.specs.Numbers.{number_in}
@@ -7,11 +7,12 @@ use Rattle.fb_verified.specs.declared.verified.Verified.{Verified}
 use Rattle.fbr_files.specs.declared.fault.Fault.{Fault}
 use Rattle.fbr_files.specs.declared.fault.Fault.TheVariants.{Usage}
 use Rattle.fbr_files.specs.Outcomes.{Outcome, Tells, outcome_said, refusal}
-use Rattle.fbr_files.specs.Writing.{Sameness, Holdings, AreApart, Meet, Writes}
-use Rattle.fbr_words.specs.Program.{Sought, Plays, Question, Drawing, Asked, a_bound, a_check, a_sim, a_play, an_explain, a_draw, a_serve}
+use Rattle.fbr_files.specs.Writing.{Sameness, Holdings, AreApart, Meet, Writes, LeavesAllBut}
+use Rattle.fbr_words.specs.Program.{Sought, Plays, Question, Drawing, Service, Asked, a_bound, a_check, a_sim, a_play, an_explain, a_draw, a_serve, a_replay}
 use Rattle.fbr_check.specs.Verdicts.{TellsFiles, IsFilesOutcome, IsVerified}
 use Rattle.fbr_find.specs.Bounding.{IsSoughtText, IsSoughtFault}
 use Rattle.fbr_sim.specs.Simulation.{TellsScript}
+use Rattle.fbr_play.specs.Scores.{TellsStories}
 use Rattle.fbr_serve.specs.Serving.{TellsServe}
 
 -- ---- a file that is written
@@ -89,20 +90,32 @@ abbrev pub stories_in : List (List ℕ) → List (List ℕ)
 stories_in [] = []
 stories_in (name ∷ names) = if is_story name then name ∷ names else names
 
--- the verdict is told where it refuses; else the two texts fit, and stories are played
+-- the verdict is told where it refuses; else the two texts fit, and the status is that of a score or of a refusal
 abbrev pub TellsPlayed : List ℕ → List ℕ → Option (List ℕ) → Option (List ℕ) → Option (List ℕ) → Option (List ℕ) → ℕ → Type 0
 TellsPlayed one two held_one held_two old new status =
     ((f : Fault) × IsFilesOutcome {A = Unit {0}} one two held_one held_two (Err f) × Tells (refusal f) old new status)
-    ⊎ ((v : Verified) × IsVerified one two held_one held_two (Ok v))
+    ⊎ ((v : Verified) × IsVerified one two held_one held_two (Ok v) × TellsStories new status)
 
 -- so it is where a certificate is named
 abbrev pub TellsWith : Plays → Option (List ℕ) → Holdings → Option (List ℕ) → Option (List ℕ) → ℕ → Type 0
 TellsWith q None before old new status = Unit {0}
 TellsWith q (Some cert) before old new status = TellsPlayed q.app cert (before q.app) (before cert) old new status
 
--- the words are at fault where no story is named
+-- a file is named that is to be written
+abbrev pub NamesOne : Plays → Type 0
+NamesOne q = IsSome q.report ⊎ (IsSome q.dump ⊎ IsSome q.table)
+
+-- the words are at fault where no story is named, and may be where a file is to be written: it must be none that is read
 abbrev pub TellsPlays : Plays → Holdings → Option (List ℕ) → Option (List ℕ) → ℕ → Type 0
-TellsPlays q before old new status = ((stories_in q.files ≡ []) × Tells (refusal Usage) old new status) ⊎ TellsWith q (cert_in q.files) before old new status
+TellsPlays q before old new status = (((stories_in q.files ≡ []) ⊎ NamesOne q) × Tells (refusal Usage) old new status) ⊎ TellsWith q (cert_in q.files) before old new status
+
+-- ---- a device
+
+-- what `serve` tells and leaves in files, of which its record, where there is one, changes none but its own
+pub record TellsServed (q : Service) (same : Sameness) (before after : Holdings) (old new : Option (List ℕ)) (status : ℕ) : Type 0 where
+  pub between : Holdings
+  pub told : TellsServe q before between old new status
+  pub recorded : LeavesAllBut same q.life.recorded between after
 
 -- ---- all
 
@@ -114,4 +127,6 @@ Answers (a_sim q) same before after input old new status = TellsSim q.app q.cert
 Answers (a_play q) same before after input old new status = TellsPlays q before old new status
 Answers (an_explain q) same before after input old new status = TellsExplain q before old new status
 Answers (a_draw q) same before after input old new status = TellsDraw q same before after old new status
-Answers (a_serve q) same before after input old new status = TellsServe q before after old new status
+Answers (a_serve q) same before after input old new status = TellsServed q same before after old new status
+-- what `replay` tells is not said
+Answers (a_replay q) same before after input old new status = Unit {0}

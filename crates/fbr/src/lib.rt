@@ -1,5 +1,5 @@
 //! Room: program. The commands of `fbr` as a library: `command` over the words, a source of files, a reader and two writers.
-//! One outcome is written, and it is true of what was read; no file is written but the one that `-o` names. Not said: that the program does not give up
+//! One outcome is written, and it is true of what was read; no file is written but those that the words name. Not said: that the program does not give up
 //! (9, 61, 62, or status 3), and what help, `explain` and `draw` write.
 #![tactic(auto)]
 
@@ -11,6 +11,7 @@ mod given;
 mod misread;
 mod piped;
 mod play;
+mod replay;
 mod run;
 mod serve;
 mod sim;

@@ -1,10 +1,10 @@
 //! A command: what its words ask for, and what becomes of it.
 
-ghost use Rattle.std.specs.Prelude.{◌≡◌, ◌⊎◌, ◌<◌, ◌≤◌, length, map, option_and_then, IfOk, IfSome};
+ghost use Rattle.std.specs.Prelude.{◌≡◌, ◌⊎◌, ◌<◌, ◌≤◌, length, map, IfOk, IfSome};
 ghost use Rattle.fbr_files.specs.declared.fault.Fault.TheVariants.{Memory};
 ghost use Rattle.fbr_files.specs.Outcomes.{Tells, TellsUsage, refusal};
-ghost use Rattle.fbr_files.specs.Writing.{LeavesAllBut};
-ghost use Rattle.fbr_words.specs.Program.{Asked, request_of, written_by, often_of, IsMisuse};
+ghost use Rattle.fbr_files.specs.Writing.{LeavesAll};
+ghost use Rattle.fbr_words.specs.Program.{Asked, request_of, written_by, written_for, often_of, IsMisuse};
 ghost use Rattle.fbr_words.specs.Requests.{asked_of};
 ghost use Rattle.fbr_check.specs.Verdicts.{TellsInput};
 ghost use Rattle.fbr.specs.Answers.{Answers};
@@ -15,6 +15,7 @@ use crate::draw::draw;
 use crate::explain::explain;
 use crate::misread::tell_misread;
 use crate::play::play;
+use crate::replay::replay;
 use crate::serve::serve;
 use crate::sim::sim;
 use fbr_files::Sources;
@@ -35,7 +36,7 @@ fn answer<'a, R: AllocGlobal + Clock + Net, S: Sources, I: Read, W: Write, E: Wr
 ) -> io::Result<u8>
     requires { IfSome (often_of (asked_of request)) (λ n. 1 ≤ n) }
     ensures answers { IfOk result (λ status. Answers (asked_of request.entry) (S.same files.old) (S.contents files.old) (S.contents files.new) (I.remaining input.old) (W.contents output.old) (W.contents output.new) status) }
-    ensures others { LeavesAllBut (S.same files.old) (written_by (asked_of request.entry)) (S.contents files.old) (S.contents files.new) }
+    ensures others { LeavesAll (S.same files.old) (written_by (asked_of request.entry)) (S.contents files.old) (S.contents files.new) }
     ensures status { IfOk result (λ status. status ≤ 4) }
 {
     let alloc = rt.alloc();
@@ -47,6 +48,7 @@ fn answer<'a, R: AllocGlobal + Clock + Net, S: Sources, I: Read, W: Write, E: Wr
         Request::Explain(request) => explain(alloc, request, files, output),
         Request::Draw(request) => draw(alloc, request, files, output, errors),
         Request::Serve(request) => serve(rt, request, files, output, errors),
+        Request::Replay(request) => replay(alloc, request, files, input, output, errors),
     }
 }
 
@@ -62,7 +64,7 @@ fn run_words<'a, R: AllocGlobal + Clock + Net, S: Sources, I: Read, W: Write, E:
     ensures answers { (q : Asked) → request_of (map (λ word. word.now) words.now) ≡ Some q
         → IfOk result (λ status. Answers q (S.same files.old) (S.contents files.old) (S.contents files.new) (I.remaining input.old) (W.contents output.old) (W.contents output.new) status ⊎ Tells (refusal Memory) (W.contents output.old) (W.contents output.new) status) }
     ensures usage { IsMisuse (map (λ word. word.now) words.now) → IfOk result (λ status. TellsUsage (W.contents output.old) (W.contents output.new) status) }
-    ensures others { LeavesAllBut (S.same files.old) (option_and_then (λ q. written_by q) (request_of (map (λ word. word.now) words.now))) (S.contents files.old) (S.contents files.new) }
+    ensures others { LeavesAll (S.same files.old) (written_for (request_of (map (λ word. word.now) words.now))) (S.contents files.old) (S.contents files.new) }
     ensures status { IfOk result (λ status. status ≤ 4) }
 {
     match read_words(rt.alloc(), words) {
@@ -94,9 +96,9 @@ pub fn command<'a, R: AllocGlobal + Clock + Net, S: Sources, I: Read, W: Write, 
     // and that they are at fault where they ask for nothing, and for neither help nor the version.
     ensures usage { 2 ≤ length words.now → IsMisuse (map (λ word. word.now) words.now)
         → TellsUsage (W.contents output.old) (W.contents output.new) result ⊎ (result ≡ 3) }
-    // Whatever becomes of it, files hold what they held, but for one that the words name to be written.
+    // Whatever becomes of it, files hold what they held, but for those that the words name to be written.
     ensures still { length words.now < 2 → S.contents files.new ≡ S.contents files.old }
-    ensures others { 2 ≤ length words.now → LeavesAllBut (S.same files.old) (option_and_then (λ q. written_by q) (request_of (map (λ word. word.now) words.now))) (S.contents files.old) (S.contents files.new) }
+    ensures others { 2 ≤ length words.now → LeavesAll (S.same files.old) (written_for (request_of (map (λ word. word.now) words.now))) (S.contents files.old) (S.contents files.new) }
 {
     if words.len() < 2 {
         return check_input(rt.alloc(), input, output).unwrap_or(3);

@@ -44,6 +44,10 @@ impl Sources for Held<'_, '_> {
 
     ghost same = { λ _ _ _. None };
 
+    type Reader = io::Cursor<Vec<u8>>;
+
+    type Writer = Vec<u8>;
+
     fn read(&self, alloc: Global, name: &str) -> Result<Vec<u8>, ReadFault> {
         if name == "-" {
             return match &self.input {
@@ -72,6 +76,24 @@ impl Sources for Held<'_, '_> {
         self.written.extend_from_slice(line.as_bytes())?;
         self.written.extend_from_slice(text)?;
         Ok(())
+    }
+
+    fn open(&self, name: &str) -> io::Result<io::Cursor<Vec<u8>>> {
+        match self.read(self.alloc, name) {
+            Ok(bytes) => Ok(io::Cursor::new(bytes)),
+            Err(ReadFault::Memory) => Err(io::Error::from(io::ErrorKind::OutOfMemory)),
+            Err(ReadFault::Unreadable) => Err(io::Error::from(io::ErrorKind::NotFound)),
+        }
+    }
+
+    // What is written bit by bit is not shown.
+    fn create(&mut self, name: Option<&str>, _is_synced: bool) -> io::Result<Vec<u8>> {
+        if let Some(name) = name {
+            if self.read(self.alloc, name).is_ok() || name.starts_with("locked/") {
+                return Err(io::Error::from(io::ErrorKind::AlreadyExists));
+            }
+        }
+        Ok(Vec::new(self.alloc))
     }
 }
 

@@ -1,5 +1,5 @@
 -- What becomes of files where one is written: this project's profile.
-use Rattle.std.specs.Prelude.{◌≡◌, ℕ, List, Bool, true, false, Option, None, Some, IfSome}
+use Rattle.std.specs.Prelude.{◌≡◌, ℕ, List, [], ◌∷◌, Bool, true, false, Option, None, Some, IfSome}
 use Rattle.fbr_files.specs.declared.fault.Fault.{Fault}
 use Rattle.fbr_files.specs.Outcomes.{Tells, refusal, IsContents, IsReadFault}
 
@@ -31,6 +31,11 @@ LeavesOthers same name before after = (other : List ℕ) → same name other ≡
 abbrev pub LeavesAllBut : Sameness → Option (List ℕ) → Holdings → Holdings → Type 0
 LeavesAllBut same None before after = after ≡ before
 LeavesAllBut same (Some name) before after = LeavesOthers same name before after
+
+-- and all but several, which are written one after another
+abbrev pub LeavesAll : Sameness → List (List ℕ) → Holdings → Holdings → Type 0
+LeavesAll same [] before after = after ≡ before
+LeavesAll same (name ∷ names) before after = (between : Holdings) × LeavesOthers same name before between × LeavesAll same names between after
 
 -- a file of this name gets a text and nothing is told, or it is told that it could not be written, and the file holds what it held
 pub data Writes (name text : List ℕ) (before after old new : Option (List ℕ)) (status : ℕ) : Type 0 where

@@ -4,9 +4,10 @@ ghost use Rattle.std.specs.Prelude.{None};
 
 use crate::reading::read_whole;
 use crate::sources::{ReadFault, Sources};
+use crate::stream::Stream;
 use std::alloc::Global;
 use std::fs::{Metadata, OpenFile, OpenOptions, Permissions};
-use std::io::{ErrorKind, Write};
+use std::io::{BufReader, ErrorKind, Write};
 use std::os::unix::fs::MetadataExt;
 use std::rt::Files;
 use std::{fs, io};
@@ -18,6 +19,9 @@ pub struct Disk<'a, R: Files> {
     pub alloc: Global,
     pub input: Result<Vec<u8>, ReadFault>,
 }
+
+/// How many bytes of a file are read ahead.
+const AHEAD: usize = 8192;
 
 // The most names that are tried for a new file.
 const TRIES: u32 = 100;
@@ -116,6 +120,10 @@ impl<R: Files> Sources for Disk<'_, R> {
 
     ghost same = { λ _ _ _. None };
 
+    type Reader = BufReader<R::File>;
+
+    type Writer = Stream<R::File>;
+
     fn read(&self, alloc: Global, name: &str) -> Result<Vec<u8>, ReadFault> {
         if name == "-" {
             return again(&self.input);
@@ -146,6 +154,27 @@ impl<R: Files> Sources for Disk<'_, R> {
             }
             // A terminal, a pipe or a device is written as it is, and what a link without a file leads to is made.
             _ => fs::write(self.rt, name, text),
+        }
+    }
+
+    fn open(&self, name: &str) -> io::Result<BufReader<R::File>> {
+        let file = fs::open(self.rt, name)?;
+        BufReader::with_capacity(self.alloc, AHEAD, file)
+    }
+
+    fn create(&mut self, name: Option<&str>, is_synced: bool) -> io::Result<Stream<R::File>> {
+        match name {
+            Some(name) => {
+                let file = fs::File::create_new(self.rt, name)?;
+                Ok(Stream {
+                    file: Some(file),
+                    is_synced,
+                })
+            }
+            None => Ok(Stream {
+                file: None,
+                is_synced,
+            }),
         }
     }
 }

@@ -7,6 +7,7 @@ mod fault;
 mod outcome;
 mod reading;
 mod sources;
+mod stream;
 mod writing;
 
 pub use disk::Disk;
@@ -14,4 +15,5 @@ pub use fault::Fault;
 pub use outcome::{print_outcome, print_text};
 pub use reading::{FileText, Held, LIMIT, read_file, read_whole};
 pub use sources::{ReadFault, Sources};
+pub use stream::Stream;
 pub use writing::{into_another, put_text, write_into};

@@ -1,10 +1,12 @@
 //! Where the files of a command come from.
 
-ghost use Rattle.std.specs.Prelude.{◌≡◌, IfErr, IfOk, IfSome, take, Bool, Option, Some, false, true, List, ℕ};
+ghost use Rattle.std.specs.Prelude.{◌≡◌, IfErr, IfOk, IfSome, take, option_map, Bool, Option, Some, false, true, List, ℕ};
 ghost use Rattle.fbr_files.specs.Outcomes.{IsContents};
+ghost use Rattle.fbr_files.specs.Writing.{LeavesAllBut};
 
 use std::alloc::Global;
 use std::io;
+use std::io::{Read, Write};
 
 /// Why a file was not read.
 #[derive(Clone, Copy)]
@@ -29,6 +31,12 @@ impl ReadFault {
 
 /// Files, by name: those that are read, and those that are written.
 pub trait Sources {
+    /// A file that is read bit by bit.
+    type Reader: Read + Drop;
+
+    /// A file that is written bit by bit.
+    type Writer: Write + Drop;
+
     /// What a file of this name holds, where that is known.
     ghost contents: { Self → List ℕ → Option (List ℕ) };
 
@@ -48,5 +56,15 @@ pub trait Sources {
     fn write(&mut self, name: &str, text: &[u8]) -> io::Result<()>
         ensures written { IfOk result (λ _. IsContents (contents self.new name.now) text.now) }
         ensures kept { IfErr result (λ _. contents self.new name.now ≡ contents self.old name.now) }
-        ensures others { (other : List ℕ) → same self.old name.now other ≡ Some false → contents self.new other ≡ contents self.old other };
+        ensures others { (other : List ℕ) → same self.old name.now other ≡ Some false → contents self.new other ≡ contents self.old other }
+        ensures names { same self.new ≡ same self.old };
+
+    /// Opens a file that is read bit by bit.
+    fn open(&self, name: &str) -> io::Result<Self::Reader>;
+
+    /// Makes a new file that is written bit by bit, or fails where one of this name is there already. Where it is to be synced, each flush has on the disk what was
+    /// written. Without a name, what is written goes nowhere. Other files hold what they held.
+    fn create(&mut self, name: Option<&str>, is_synced: bool) -> io::Result<Self::Writer>
+        ensures others { LeavesAllBut (same self.old) (option_map (λ name. name.now) name.entry) (contents self.old) (contents self.new) }
+        ensures names { same self.new ≡ same self.old };
 }

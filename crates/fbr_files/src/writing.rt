@@ -39,6 +39,7 @@ fn fault_of<'a>(error: &io::Error, name: &'a str) -> Fault<'a>
 pub fn put_text<'a, S: Sources>(files: &mut S, name: &'a str, text: &[u8]) -> Result<(), Fault<'a>>
     ensures put { MatchResult result (λ _. IsContents (S.contents files.new name.now) text.now) (λ f. IsReadFault name.now f × (S.contents files.new name.now ≡ S.contents files.old name.now)) }
     ensures others { LeavesOthers (S.same files.old) name.now (S.contents files.old) (S.contents files.new) }
+    ensures names { S.same files.new ≡ S.same files.old }
 {
     match files.write(name, text) {
         Ok(()) => Ok(()),
@@ -56,6 +57,7 @@ pub fn write_into<'a, S: Sources, W: Write, E: Write>(
 ) -> io::Result<u8>
     ensures written { IfOk result (λ status. Writes name.now text.now (S.contents files.old name.now) (S.contents files.new name.now) (W.contents output.old) (W.contents output.new) status) }
     ensures others { LeavesOthers (S.same files.old) name.now (S.contents files.old) (S.contents files.new) }
+    ensures names { S.same files.new ≡ S.same files.old }
     ensures status { IfOk result (λ status. status ≤ 4) }
 {
     match put_text(files, name, text) {

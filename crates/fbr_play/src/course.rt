@@ -5,14 +5,16 @@ use crate::seen::{Sight, Sights};
 use fb_device::{Answer, Denied, Dispatched, Effect, Ran};
 use fb_world::{Missed, World, WorldAnswer, WorldEvent};
 use fbr_story::{Arrival, Cause};
+use fbr_watch::Watching;
 use std::alloc::{AllocError, Global};
+use std::io::Write;
 
 /// The most dispatches of a stimulus.
 pub(crate) const MOST: u64 = 1_000_000;
 
 /// How far a world of so many devices has come, and what the outside saw since the last stimulus.
 #[derive(Drop)]
-pub(crate) struct Course {
+pub(crate) struct Course<'w, 's, 'a, F, W> {
     alloc: Global,
     pub(crate) devices: u16,
     /// Where the clocks of all devices stand, in milliseconds.
@@ -23,6 +25,9 @@ pub(crate) struct Course {
     left: u64,
     /// The channel of the last datagram.
     pub(crate) channel: Option<u16>,
+    /// What watches it, and where that writes lines.
+    watching: &'w mut Watching<'s, 'a, F>,
+    output: &'w mut W,
 }
 
 // The numbers once more.
@@ -54,9 +59,14 @@ fn fires(world: &mut World, device: u16, moment: u64) -> Result<bool, AllocError
     }
 }
 
-impl Course {
+impl<'w, 's, 'a, F: Write + Drop, W: Write> Course<'w, 's, 'a, F, W> {
     /// The course of a world to which nothing has happened.
-    pub(crate) fn new(alloc: Global, devices: u16) -> Course {
+    pub(crate) fn new(
+        alloc: Global,
+        devices: u16,
+        watching: &'w mut Watching<'s, 'a, F>,
+        output: &'w mut W,
+    ) -> Course<'w, 's, 'a, F, W> {
         Course {
             alloc,
             devices,
@@ -65,6 +75,33 @@ impl Course {
             sights: Sights::new(alloc),
             left: MOST,
             channel: None,
+            watching,
+            output,
+        }
+    }
+
+    /// What watches it sees all devices for the first time in the sequence of this name.
+    pub(crate) fn watch(&mut self, world: &World, sequence: &str) {
+        self.watching.begin(Some(sequence), self.output);
+        for number in 0..self.devices {
+            if let Some(device) = world.get(number) {
+                self.watching.first(number, device, self.output);
+            }
+        }
+    }
+
+    // What watches it looks at a device after a dispatch.
+    fn look(&mut self, world: &World, number: u16, resource: u16, ran: &Ran) {
+        if let Some(device) = world.get(number) {
+            self.watching
+                .ran(number, device, resource, self.moment, ran, self.output);
+        }
+    }
+
+    // What watches it looks at the queues of a device.
+    fn look_at_queues(&mut self, world: &World, number: u16) {
+        if let Some(device) = world.get(number) {
+            self.watching.came(number, device, self.moment, self.output);
         }
     }
 
@@ -114,7 +151,10 @@ impl Course {
             let mut answer = Dispatched::Idle;
             match world.dispatch(device, resource, &mut answer) {
                 Ok(sent) => match &answer {
-                    Dispatched::Ran(ran) => self.note(device, ran, sent)?,
+                    Dispatched::Ran(ran) => {
+                        self.look(world, device, resource, ran);
+                        self.note(device, ran, sent)?;
+                    }
                     Dispatched::Idle => break,
                 },
                 Err(Missed::Unknown) => break,
@@ -146,6 +186,7 @@ impl Course {
                     None | Some(Denied::NoSubscriber) => {}
                     Some(denied) => self.sights.see(device, Sight::DeniedDatagram(denied))?,
                 }
+                self.look_at_queues(world, device);
             }
         }
         Ok(())
@@ -175,7 +216,10 @@ impl Course {
         let event = WorldEvent::Offer(arrival.device, arrival.input, values);
         match denial(world, &event)? {
             Some(denied) => self.sights.see(arrival.device, Sight::Denied(denied)),
-            None => Ok(()),
+            None => {
+                self.look_at_queues(world, arrival.device);
+                Ok(())
+            }
         }
     }
 
@@ -198,12 +242,13 @@ impl Course {
     // The clocks of all devices come to a moment. Answers whether a timer was fired.
     fn tick(&mut self, world: &mut World, moment: u64) -> Result<bool, AllocError> {
         let mut is_fired = false;
+        self.moment = moment;
         for device in 0..self.devices {
             if fires(world, device, moment)? {
                 is_fired = true;
             }
+            self.look_at_queues(world, device);
         }
-        self.moment = moment;
         Ok(is_fired)
     }
 
@@ -226,6 +271,11 @@ impl Course {
         }
         let _ = self.tick(world, end)?;
         Ok(())
+    }
+
+    /// So many of the steps that were taken are not counted.
+    pub(crate) fn leave_out(&mut self, steps: u64) {
+        self.sights.steps = self.sights.steps.saturating_sub(steps);
     }
 
     /// A stimulus comes, and the world is served.

@@ -1,14 +1,19 @@
 //! Room: program. Plays stories on worlds of devices, and tells what came otherwise than they say.
-//! No contracts but on statuses: what it plays and prints is tested.
+//! `print_end` tells exactly how many sequences passed and failed, with status 1 if one failed. What is played and compared is tested.
 #![tactic(auto)]
 
+mod blocks;
 mod course;
 mod looking;
 mod network;
+mod notes;
 mod playing;
+mod report;
+mod score;
 mod seen;
 mod stories;
 mod story_file;
 mod telling;
 
-pub use stories::play_stories;
+pub use score::{Score, print_end, print_score};
+pub use stories::{Kept, Played, Stories, play_all};

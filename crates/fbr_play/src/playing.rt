@@ -7,7 +7,9 @@ use fb_verified::Verified;
 use fb_world::World;
 use fbr_places::Writing;
 use fbr_story::{Action, Expected, Sequence, Span, Step, Stimulus};
+use fbr_watch::Watching;
 use std::alloc::{AllocError, Global};
+use std::io::Write;
 use std::rc::Rc;
 
 // What people are told of a step that failed, or nothing.
@@ -30,11 +32,11 @@ impl Scene<'_> {
     }
 
     // Compares what was seen with what was wanted.
-    fn compare(
+    fn compare<F: Write + Drop, W: Write>(
         &self,
         alloc: Global,
         stimulus: &Stimulus,
-        course: &Course,
+        course: &Course<'_, '_, '_, F, W>,
     ) -> Result<Failure, AllocError> {
         let is_as_wanted = match &stimulus.wanted {
             Some(wanted) => course.sights.are(wanted, course.devices),
@@ -50,11 +52,11 @@ impl Scene<'_> {
     }
 
     // Compares how many steps were taken with how many may be.
-    fn count(
+    fn count<F: Write + Drop, W: Write>(
         &self,
         alloc: Global,
         stimulus: &Stimulus,
-        course: &Course,
+        course: &Course<'_, '_, '_, F, W>,
     ) -> Result<Failure, AllocError> {
         if let Some(most) = stimulus.most {
             if course.sights.steps > most {
@@ -67,14 +69,15 @@ impl Scene<'_> {
     }
 
     // Plays a stimulus.
-    fn stimulate(
+    fn stimulate<F: Write + Drop, W: Write>(
         &self,
         alloc: Global,
         stimulus: &Stimulus,
-        course: &mut Course,
+        course: &mut Course<'_, '_, '_, F, W>,
         world: &mut World,
     ) -> Result<Failure, AllocError> {
         course.happen(world, &stimulus.cause)?;
+        course.leave_out(stimulus.carrying);
         if course.is_spent() {
             let mut writing = self.head(alloc, stimulus.said);
             put_endless(course, &mut writing);
@@ -109,11 +112,11 @@ impl Scene<'_> {
     }
 
     // Plays a step.
-    fn play(
+    fn play<F: Write + Drop, W: Write>(
         &self,
         alloc: Global,
         step: &Step<'_>,
-        course: &mut Course,
+        course: &mut Course<'_, '_, '_, F, W>,
         world: &mut World,
     ) -> Result<Failure, AllocError> {
         match &step.action {
@@ -135,10 +138,10 @@ impl Scene<'_> {
     }
 
     // Serves the start of the system.
-    fn start(
+    fn start<F: Write + Drop, W: Write>(
         &self,
         alloc: Global,
-        course: &mut Course,
+        course: &mut Course<'_, '_, '_, F, W>,
         world: &mut World,
     ) -> Result<Failure, AllocError> {
         course.serve(world)?;
@@ -151,8 +154,16 @@ impl Scene<'_> {
     }
 
     // Plays all steps, up to the first that fails.
-    fn play_all(&self, alloc: Global, world: &mut World) -> Result<Failure, AllocError> {
-        let mut course = Course::new(alloc, self.telling.names.devices());
+    fn play_all<F: Write + Drop, W: Write>(
+        &self,
+        alloc: Global,
+        world: &mut World,
+        watching: &mut Watching<'_, '_, F>,
+        output: &mut W,
+    ) -> Result<Failure, AllocError> {
+        let devices = self.telling.names.devices();
+        let mut course = Course::new(alloc, devices, watching, output);
+        course.watch(world, self.telling.source(self.sequence.name));
         if let Some(failure) = self.start(alloc, &mut course, world)? {
             return Ok(Some(failure));
         }
@@ -166,16 +177,18 @@ impl Scene<'_> {
 }
 
 /// Plays a sequence on a fresh world. Gives what people are told of the step that failed, if one did.
-pub(crate) fn play_sequence(
+pub(crate) fn play_sequence<F: Write + Drop, W: Write>(
     alloc: Global,
     verified: &Rc<Verified>,
     telling: &Telling<'_, '_>,
     sequence: &Sequence<'_>,
+    watching: &mut Watching<'_, '_, F>,
+    output: &mut W,
 ) -> Result<Option<Vec<u8>>, AllocError> {
     let scene = Scene { telling, sequence };
     match World::over(alloc, verified.clone()?) {
         Ok(mut world) => {
-            let played = scene.play_all(alloc, &mut world);
+            let played = scene.play_all(alloc, &mut world, watching, output);
             world.let_go();
             played
         }

@@ -1,21 +1,26 @@
 //! Plays the story of a file.
 
+use crate::blocks::Blocks;
+use crate::notes::Notes;
 use crate::playing::play_sequence;
+use crate::score::Score;
 use crate::telling::Telling;
 use fb_lex::{TextFault, Token, lex};
 use fb_verified::Verified;
 use fbr_places::{Named, Spot, Writing, tell_where};
-use fbr_story::{Fault, Names, Sequence, read_story};
-use std::alloc::Global;
+use fbr_story::{Fault, Names, Sequence, Span, read_story, subjects_in};
+use fbr_watch::Watching;
+use std::alloc::{AllocError, Global};
 use std::io;
 use std::io::Write;
 use std::rc::Rc;
 
-/// How the sequences of a story went.
+/// What stories are played on: what was verified, and the text of its application.
 #[derive(Clone, Copy)]
-pub(crate) struct Score {
-    pub(crate) passed: u64,
-    pub(crate) failed: u64,
+pub(crate) struct Stage<'s> {
+    pub(crate) alloc: Global,
+    pub(crate) verified: &'s Rc<Verified>,
+    pub(crate) app: &'s str,
 }
 
 /// Why a story is not played.
@@ -73,87 +78,172 @@ fn refuse<E: Write>(alloc: Global, fault: Fault, file: Named<'_>, errors: &mut E
     }
 }
 
-// Plays the sequences of a story.
-fn play_sequences<W: Write>(
-    alloc: Global,
-    verified: &Rc<Verified>,
-    telling: &Telling<'_, '_>,
-    sequences: &[Sequence<'_>],
-    output: &mut W,
-) -> io::Result<Result<Score, Unplayed>> {
-    let mut score = Score {
-        passed: 0,
-        failed: 0,
-    };
-    for sequence in sequences {
-        match play_sequence(alloc, verified, telling, sequence) {
-            Ok(None) => score.passed = score.passed.saturating_add(1),
-            Ok(Some(failure)) => {
-                output.write_all(&failure)?;
-                score.failed = score.failed.saturating_add(1);
-            }
-            Err(_) => return Ok(Err(Unplayed::Memory)),
-        }
-    }
-    Ok(Ok(score))
+// A story as it was read, and what it is played on.
+#[derive(Clone, Copy)]
+struct Cast<'s, 'n> {
+    stage: Stage<'s>,
+    blocks: &'s Blocks,
+    file: Named<'s>,
+    tokens: &'s [Token],
+    names: &'n [Names<'s>],
 }
 
-// Reads a story whose names are known, and plays it.
-fn play_named<W: Write, E: Write>(
-    alloc: Global,
-    verified: &Rc<Verified>,
-    telling: &Telling<'_, '_>,
+impl<'s> Cast<'s, '_> {
+    // Plays a sequence on the system, or on its block type alone. Gives what people are told of the step that failed, if one did.
+    fn play<W: Write>(
+        &self,
+        sequence: &Sequence<'_>,
+        notes: &mut Notes<'_, '_>,
+        output: &mut W,
+    ) -> Result<Option<Vec<u8>>, AllocError> {
+        let Some(names) = self.names.get(sequence.scope) else {
+            return Ok(None);
+        };
+        let telling = Telling {
+            file: self.file.name,
+            text: self.file.text,
+            tokens: self.tokens,
+            names,
+        };
+        let alloc = self.stage.alloc;
+        match self.blocks.get(sequence.scope) {
+            Some(verified) => {
+                // What is watched is of the system, and not of a block type alone.
+                let mut unwatched: Watching<'_, '_, Vec<u8>> = Watching::nothing();
+                play_sequence(alloc, verified, &telling, sequence, &mut unwatched, output)
+            }
+            None => {
+                let watching = &mut notes.watching;
+                play_sequence(
+                    alloc,
+                    self.stage.verified,
+                    &telling,
+                    sequence,
+                    watching,
+                    output,
+                )
+            }
+        }
+    }
+
+    // The name of a sequence.
+    fn name_of(&self, sequence: &Sequence<'_>) -> &'s str {
+        let Span { from, to } = sequence.name;
+        let text: &'s str = self.file.text;
+        text.get(from..to).unwrap_or("")
+    }
+
+    // Reads the story, and plays it.
+    fn read<W: Write, E: Write>(
+        &self,
+        notes: &mut Notes<'_, '_>,
+        output: &mut W,
+        errors: &mut E,
+    ) -> io::Result<Result<Score, Unplayed>> {
+        match read_story(self.stage.alloc, self.file.text, self.tokens, self.names) {
+            Ok(sequences) => self.play_all(&sequences, notes, output),
+            Err(fault) => Ok(Err(refuse(self.stage.alloc, fault, self.file, errors))),
+        }
+    }
+
+    // Plays the sequences of the story.
+    fn play_all<W: Write>(
+        &self,
+        sequences: &[Sequence<'_>],
+        notes: &mut Notes<'_, '_>,
+        output: &mut W,
+    ) -> io::Result<Result<Score, Unplayed>> {
+        let mut score = Score::none();
+        for sequence in sequences {
+            let Ok(failure) = self.play(sequence, notes, output) else {
+                return Ok(Err(Unplayed::Memory));
+            };
+            let name = self.name_of(sequence);
+            let noted = match &failure {
+                None => {
+                    score.passed = score.passed.saturating_add(1);
+                    notes.report.add(self.file.name, name, None)
+                }
+                Some(told) => {
+                    output.write_all(told)?;
+                    score.failed = score.failed.saturating_add(1);
+                    notes
+                        .report
+                        .add(self.file.name, name, Some(told.as_slice()))
+                }
+            };
+            if noted.is_err() {
+                return Ok(Err(Unplayed::Memory));
+            }
+        }
+        match notes.report.end_story(self.file.name, score) {
+            Ok(()) => Ok(Ok(score)),
+            Err(_) => Ok(Err(Unplayed::Memory)),
+        }
+    }
+}
+
+// Plays a story of these tokens on a system and on block types.
+fn play_on<W: Write, E: Write>(
+    stage: Stage<'_>,
+    blocks: &Blocks,
+    story: (Named<'_>, &[Token]),
+    notes: &mut Notes<'_, '_>,
     output: &mut W,
     errors: &mut E,
 ) -> io::Result<Result<Score, Unplayed>> {
-    match read_story(alloc, telling.text, telling.tokens, telling.names) {
-        Ok(sequences) => play_sequences(alloc, verified, telling, &sequences, output),
-        Err(fault) => {
-            let file = Named {
-                name: telling.file,
-                text: telling.text,
-            };
-            Ok(Err(refuse(alloc, fault, file, errors)))
-        }
-    }
+    let (file, tokens) = story;
+    let Ok(names) = blocks.names(stage.alloc, stage.verified) else {
+        return Ok(Err(Unplayed::Memory));
+    };
+    let cast = Cast {
+        stage,
+        blocks,
+        file,
+        tokens,
+        names: &names,
+    };
+    cast.read(notes, output, errors)
 }
 
-// Finds the names of the system, reads the story that has these tokens, and plays it.
+// The block types that a story of these tokens plays alone.
+fn blocks_of(stage: Stage<'_>, tokens: &[Token]) -> Result<Blocks, Fault> {
+    let subjects = subjects_in(stage.alloc, tokens)?;
+    Blocks::of(stage.alloc, stage.app, &subjects)
+}
+
+// Finds the block types that a story plays alone, and plays it.
 fn play_tokens<W: Write, E: Write>(
-    alloc: Global,
-    verified: &Rc<Verified>,
+    stage: Stage<'_>,
     file: Named<'_>,
     tokens: &[Token],
+    notes: &mut Notes<'_, '_>,
     output: &mut W,
     errors: &mut E,
 ) -> io::Result<Result<Score, Unplayed>> {
-    match Names::of(alloc, verified.flat()) {
-        Ok(names) => {
-            let telling = Telling {
-                file: file.name,
-                text: file.text,
-                tokens,
-                names: &names,
-            };
-            play_named(alloc, verified, &telling, output, errors)
+    match blocks_of(stage, tokens) {
+        Ok(blocks) => {
+            let played = play_on(stage, &blocks, (file, tokens), notes, output, errors);
+            blocks.let_go();
+            played
         }
-        Err(_) => Ok(Err(Unplayed::Memory)),
+        Err(fault) => Ok(Err(refuse(stage.alloc, fault, file, errors))),
     }
 }
 
-/// Plays the sequences of the story that a file holds, each on a fresh world of what was verified. The whole story is read first: where a line is at fault
-/// people are told of it on `errors`, and nothing is played. Each sequence that fails is told on `output`, by its first step that failed.
+/// Plays the sequences of the story that a file holds, each on a fresh world of what was verified, or of a block type alone. The whole story is read first:
+/// where a line is at fault people are told of it on `errors`, and nothing is played. Each sequence that fails is told on `output`, by its first step that
+/// failed.
 pub(crate) fn play_story<W: Write, E: Write>(
-    alloc: Global,
-    verified: &Rc<Verified>,
-    name: &str,
-    story: &str,
+    stage: Stage<'_>,
+    file: Named<'_>,
+    notes: &mut Notes<'_, '_>,
     output: &mut W,
     errors: &mut E,
 ) -> io::Result<Result<Score, Unplayed>> {
-    let file = Named { name, text: story };
-    match lex(alloc, story) {
-        Ok(tokens) => play_tokens(alloc, verified, file, &tokens, output, errors),
+    let alloc = stage.alloc;
+    match lex(alloc, file.text) {
+        Ok(tokens) => play_tokens(stage, file, &tokens, notes, output, errors),
         Err(fault) => Ok(Err(refuse(alloc, text_fault(alloc, fault), file, errors))),
     }
 }

@@ -30,8 +30,8 @@ fn put_line(text: &str, writing: &mut Writing) {
 }
 
 impl<'a> Telling<'a, '_> {
-    // The text of the story between two bytes.
-    fn source(&self, span: Span) -> &'a str {
+    /// The text of the story between two bytes.
+    pub(crate) fn source(&self, span: Span) -> &'a str {
         let text: &'a str = self.text;
         text.get(span.from..span.to).unwrap_or("")
     }
@@ -211,7 +211,7 @@ pub(crate) fn put_steps(most: u64, steps: u64, writing: &mut Writing) {
 }
 
 /// Writes that a stimulus caused more dispatches than it may.
-pub(crate) fn put_endless(course: &Course, writing: &mut Writing) {
+pub(crate) fn put_endless<F, W>(course: &Course<'_, '_, '_, F, W>, writing: &mut Writing) {
     writing.put("an end\n  came    none within ");
     writing.show(&MOST);
     writing.put(" dispatches");

@@ -13,7 +13,7 @@ use Rattle.fbr_files.specs.declared.fault.Fault.TheVariants as faults
 use Rattle.fbr_files.specs.Outcomes.{Tells, refusal, IsContents, IsReadFault}
 use Rattle.fbr_words.specs.Program.{Service}
 use Rattle.fbr_files.specs.Writing.{Holdings}
-use Rattle.fbr_serve.specs.Serving.{IsStarted, IsTextsReady, IsFilesReady, IsFilesDevice, IsTextsFault, IsFilesFault, TakesBoot, HasNoBoot, TellsDevice, TellsServe, no_boot, no_device, a_device}
+use Rattle.fbr_serve.specs.Serving.{IsStarted, IsTextsReady, IsFilesReady, IsFilesDevice, IsTextsFault, IsFilesFault, TakesBoot, HasNoBoot, TellsDevice, TellsServe, no_boot, no_device, a_device, HasNoRecord, no_record}
 
 -- ---- the files
 
@@ -101,3 +101,8 @@ pub device_served : {E : Type 0} (q : Service) (before after : Holdings) (boot :
     → IsFilesDevice q boot (before q.app) (before q.cert) s → IfOk r (λ status. TellsDevice q s old new status) → IfOk r (λ status. TellsServe q before after old new status)
 device_served q before after boot s old new (Ok status) taken is h = a_device boot taken s is h
 device_served q before after boot s old new (Err e) taken is h = tt
+
+pub unrecorded_served : {E : Type 0} (q : Service) (before after : Holdings) (boot : ℕ) (f : Fault) (old new : Option (List ℕ)) (r : Result ℕ E) → TakesBoot q.life.boot before after boot
+    → HasNoRecord q.life.recorded f → IfOk r (λ status. Tells (refusal f) old new status) → IfOk r (λ status. TellsServe q before after old new status)
+unrecorded_served q before after boot f old new (Ok status) taken is h = no_record boot taken f is h
+unrecorded_served q before after boot f old new (Err e) taken is h = tt

@@ -296,11 +296,18 @@ pub record TellsTurns (q : Service) (s : Session) (old new : Option (List ℕ)) 
 abbrev pub TellsDevice : Service → Session → Option (List ℕ) → Option (List ℕ) → ℕ → Type 0
 TellsDevice q s old new status = Tells (refusal (faults.Socket q.network.bind.port)) old new status ⊎ TellsTurns q s old new status
 
--- what `serve` tells, and what it leaves in files
+-- there is no record: its file is there already or cannot be written, or memory ran out
+abbrev pub HasNoRecord : Option (List ℕ) → Fault → Type 0
+HasNoRecord None fault = IsReadFault (codes "-") fault
+HasNoRecord (Some name) fault = IsReadFault name fault
+
+-- what `serve` tells, and what it leaves in files before its record begins
 pub data TellsServe (q : Service) (before after : Holdings) (old new : Option (List ℕ)) (status : ℕ) : Type 0 where
   -- why there is no boot
   no_boot : (f : Fault) → HasNoBoot q.life.boot before after f → Tells (refusal f) old new status → TellsServe q before after old new status
   -- why there is no such device
   no_device : (boot : ℕ) → TakesBoot q.life.boot before after boot → (f : Fault) → IsFilesFault q (before q.app) (before q.cert) f → Tells (refusal f) old new status → TellsServe q before after old new status
+  -- why there is no record of it
+  no_record : (boot : ℕ) → TakesBoot q.life.boot before after boot → (f : Fault) → HasNoRecord q.life.recorded f → Tells (refusal f) old new status → TellsServe q before after old new status
   -- what becomes of the device
   a_device : (boot : ℕ) → TakesBoot q.life.boot before after boot → (s : Session) → IsFilesDevice q boot (before q.app) (before q.cert) s → TellsDevice q s old new status → TellsServe q before after old new status

@@ -35,6 +35,7 @@ fn next_text(alloc: Global, boot: u32) -> Result<String, AllocError>
 fn take_from<'a, S: Sources>(alloc: Global, files: &mut S, name: &'a str) -> Result<u32, Fault<'a>>
     ensures taken { MatchResult result (λ boot. TakesFileBoot name.now (S.contents files.old name.now) (S.contents files.new name.now) boot) (λ f. IsReadFault name.now f × (S.contents files.new name.now ≡ S.contents files.old name.now)) }
     ensures others { LeavesOthers (S.same files.old) name.now (S.contents files.old) (S.contents files.new) }
+    ensures names { S.same files.new ≡ S.same files.old }
 {
     let file = read_file(alloc, files, name);
     let boot = match file.text() {
@@ -62,6 +63,7 @@ pub fn take_boot<'a, S: Sources>(
 ) -> Result<u32, Fault<'a>>
     ensures taken { MatchResult result (λ taken. TakesBoot (boot_of boot.entry) (S.contents files.old) (S.contents files.new) taken) (λ f. HasNoBoot (boot_of boot.entry) (S.contents files.old) (S.contents files.new) f) }
     ensures others { LeavesAllBut (S.same files.old) (boot_file (boot_of boot.entry)) (S.contents files.old) (S.contents files.new) }
+    ensures names { S.same files.new ≡ S.same files.old }
 {
     match boot {
         Boot::Number(number) => Ok(number),

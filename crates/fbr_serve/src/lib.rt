@@ -5,7 +5,10 @@
 
 mod boot;
 mod ended;
+mod feed;
+mod notes;
 mod printing;
+mod replay;
 mod serve;
 mod stop;
 mod sums;
@@ -14,7 +17,5 @@ mod turns;
 mod waiting;
 
 pub use boot::take_boot;
+pub use replay::{load_recorded, replay_ready};
 pub use serve::{load_device, serve_ready};
-pub use stop::Stop;
-pub use sums::Sums;
-pub use turns::{Ran, serve_on};

@@ -4,13 +4,17 @@ ghost use Rattle.std.specs.Prelude.{◌≡◌, ◌≤◌, ℕ, List, Option, IfO
 ghost use Rattle.fbr_files.specs.Reading.{IsFile};
 ghost use Rattle.fbr_files.specs.Writing.{Holdings};
 ghost use Rattle.fbr_words.specs.Requests.{service_of};
+ghost use Rattle.fb_device.specs.Loads.{IsLoaded};
 ghost use Rattle.fbr_serve.specs.Serving.{IsTextsFault, IsTextsReady, IsFilesFault, IsFilesReady, TakesBoot, TellsStop, TellsDevice, TellsServe};
 
+use crate::notes::Notes;
 use crate::stop::Stop;
 use crate::sums::Sums;
+use crate::telling::Teller;
 use crate::turns::{Ran, serve_on};
 use fb_device::{Device, Ready, Refusal as LoadRefusal, load_boot};
 use fb_link::UdpLink;
+use fb_record::Recorder;
 use fb_verdict::Refusal;
 use fbr_files::{Fault, FileText, print_outcome};
 use fbr_words::Serve;
@@ -19,6 +23,25 @@ use std::io;
 use std::io::Write;
 use std::net::Net;
 use std::rt::Clock;
+
+/// The device of this name in two texts, with its boot.
+pub(crate) fn load_named<'a>(
+    alloc: Global,
+    app: &str,
+    cert: &str,
+    device: &str,
+    boot: u32,
+) -> Result<Ready, Fault<'a>>
+    ensures { MatchResult result (IsLoaded app.now cert.now device.now 1 (record { boot = boot; sequence = 1 })) (IsTextsFault app.now cert.now device.now) }
+{
+    match load_boot(alloc, app, cert, device, 1, boot, 1) {
+        Ok(ready) => Ok(ready),
+        Err(LoadRefusal::Checked(Refusal::OutOfMemory)) => Err(Fault::Memory),
+        Err(LoadRefusal::Checked(refusal)) => Err(Fault::Refused(refusal)),
+        Err(LoadRefusal::NoDevice(name)) => Err(Fault::Device(name)),
+        Err(LoadRefusal::Limit) => unreachable!(),
+    }
+}
 
 // The device of two texts that is asked for.
 fn loaded_texts<'a>(
@@ -30,13 +53,7 @@ fn loaded_texts<'a>(
 ) -> Result<Ready, Fault<'a>>
     ensures { MatchResult result (IsTextsReady (service_of serve.now) boot app.now cert.now) (IsTextsFault app.now cert.now serve.now.device.now) }
 {
-    match load_boot(alloc, app, cert, serve.device, 1, boot, 1) {
-        Ok(ready) => Ok(ready),
-        Err(LoadRefusal::Checked(Refusal::OutOfMemory)) => Err(Fault::Memory),
-        Err(LoadRefusal::Checked(refusal)) => Err(Fault::Refused(refusal)),
-        Err(LoadRefusal::NoDevice(name)) => Err(Fault::Device(name)),
-        Err(LoadRefusal::Limit) => unreachable!(),
-    }
+    load_named(alloc, app, cert, serve.device, boot)
 }
 
 /// The device that is asked for of two files that were read, with its boot.
@@ -67,8 +84,8 @@ fn status_of(is_lost: bool) -> u8
     if is_lost { 3 } else { 0 }
 }
 
-// Tells what the turns did in all, or why they ended early, and gives the program's status.
-fn print_served<W: Write>(ran: Ran, output: &mut W) -> io::Result<u8>
+/// Tells what the turns did in all, or why they ended early, and gives the program's status.
+pub(crate) fn print_served<W: Write>(ran: Ran, output: &mut W) -> io::Result<u8>
     ensures told { IfOk result (λ status. TellsStop ran (W.contents output.old) (W.contents output.new) status) }
     ensures status { IfOk result (λ status. status ≤ 4) }
 {
@@ -135,13 +152,13 @@ fn tell_strangers<E: Write>(strangers: u64, errors: &mut E) {
 }
 
 // Takes the turns of a device that has started; or tells that nothing can be bound to its port.
-fn serve_device<R: Clock + Net, W: Write, E: Write>(
+fn serve_device<R: Clock + Net, W: Write, E: Write, F: Write>(
     rt: &R,
     device: &mut Device,
     repeats: Option<u8>,
     serve: &Serve<'_>,
     output: &mut W,
-    errors: &mut E,
+    notes: &mut Notes<E, F>,
 ) -> io::Result<u8>
     ensures told { IfOk result (λ status. TellsDevice (service_of serve.now) device.old (W.contents output.old) (W.contents output.new) status) }
     ensures status { IfOk result (λ status. status ≤ 4) }
@@ -150,10 +167,10 @@ fn serve_device<R: Clock + Net, W: Write, E: Write>(
     let (peers, senders) = (network.peers.as_slice(), network.senders.as_slice());
     match UdpLink::open_at(rt, network.bind, peers, senders) {
         Ok(mut link) => {
-            tell_ready(device, repeats, serve, errors);
-            let ran = serve_on(rt, device, &mut link, serve, output, errors);
-            tell_strangers(link.strangers(), errors);
-            tell_end(&ran.end, errors);
+            tell_ready(device, repeats, serve, &mut notes.errors);
+            let ran = serve_on(rt, device, &mut link, serve, output, notes);
+            tell_strangers(link.strangers(), &mut notes.errors);
+            tell_end(&ran.end, &mut notes.errors);
             print_served(ran, output)
         }
         Err(_) => print_outcome(Err(Fault::Socket(network.bind.port())), output),
@@ -161,13 +178,14 @@ fn serve_device<R: Clock + Net, W: Write, E: Write>(
 }
 
 /// Starts a device, takes its turns over UDP, and prints what its OUTPUTs write, and at the end what the turns did in all; or that nothing can be bound to its
-/// port. On `errors` people are told what it does.
-pub fn serve_ready<R: Clock + Net, W: Write, E: Write>(
+/// port. On `errors` people are told what it does, and the recorder records what comes.
+pub fn serve_ready<R: Clock + Net, W: Write, E: Write, F: Write + Drop>(
     rt: &R,
     ready: Ready,
     serve: &Serve<'_>,
     output: &mut W,
     errors: &mut E,
+    recorder: Recorder<F>,
 ) -> io::Result<u8>
     ensures told { (before after : Holdings) (boot : ℕ) → TakesBoot (service_of serve.now).life.boot before after boot → IsFilesReady (service_of serve.now) boot (before serve.now.app.now) (before serve.now.cert.now) ready
         → IfOk result (λ status. TellsServe (service_of serve.now) before after (W.contents output.old) (W.contents output.new) status) }
@@ -175,7 +193,12 @@ pub fn serve_ready<R: Clock + Net, W: Write, E: Write>(
 {
     let repeats = ready.verified().certificate().repeats();
     let mut device = ready.start();
-    let status = serve_device(rt, &mut device, repeats, serve, output, errors);
+    let mut notes = Notes {
+        errors,
+        people: Teller::new(serve.telling),
+        recorder,
+    };
+    let status = serve_device(rt, &mut device, repeats, serve, output, &mut notes);
     device.let_go();
     status
 }

@@ -116,6 +116,28 @@ fn kind_of(denied: &Denied) -> usize {
     }
 }
 
+/// What turns came to so far.
+#[derive(Clone, Copy)]
+pub(crate) struct Past {
+    pub sums: Sums,
+    /// Whether the device has waited since the last one.
+    pub has_waited: bool,
+    /// How many datagrams of strangers were dropped.
+    pub dropped: u64,
+    /// Whether the record has ended, since a line could not be written.
+    pub is_unrecorded: bool,
+}
+
+// Tells how many datagrams of strangers were dropped, where some were.
+fn tell_dropped<E: Write>(errors: &mut E, dropped: u64) {
+    if dropped > 0 {
+        let _ = writeln!(
+            errors,
+            "fbr: {dropped} datagrams so far came from addresses that --from does not name, and were dropped"
+        );
+    }
+}
+
 /// Tells people of a device on standard error: each denial and each datagram that was not taken, at most ten of a kind in a second, and more where that is
 /// asked for.
 #[derive(Drop)]
@@ -130,6 +152,7 @@ pub(crate) struct Teller {
     last_turn: u64,
     longest_turn: u64,
     fullest: [u64; 16],
+    is_unrecorded: bool,
 }
 
 impl Teller {
@@ -147,6 +170,7 @@ impl Teller {
             last_turn: 0,
             longest_turn: 0,
             fullest: [0; 16],
+            is_unrecorded: false,
         }
     }
 
@@ -343,23 +367,37 @@ impl Teller {
         self.lost_lines = self.lost_lines.saturating_add(1);
     }
 
+    /// Tells, once, that the record could not be written any more.
+    pub(crate) fn unrecorded<E: Write>(&mut self, errors: &mut E) {
+        if !self.is_unrecorded {
+            self.is_unrecorded = true;
+            let _ = writeln!(
+                errors,
+                "fbr: the record ends here, since it could not be written; the device goes on"
+            );
+        }
+    }
+
     /// A turn begins, behind turns that did this. The time since the one before is that turn's, unless the device waited then.
     pub(crate) fn turned<E: Write>(
         &mut self,
         errors: &mut E,
         device: &Device,
         now: u64,
-        sums: &Sums,
-        has_waited: bool,
+        past: &Past,
     ) {
         self.enter(errors, now);
-        if !has_waited {
+        if past.is_unrecorded {
+            self.unrecorded(errors);
+        }
+        if !past.has_waited {
             self.longest_turn = self.longest_turn.max(now.saturating_sub(self.last_turn));
         }
         self.last_turn = now;
         if let Some(seconds) = self.summary {
             if now >= self.next_summary {
-                self.tell_sums(errors, device, now, sums);
+                self.tell_sums(errors, device, now, &past.sums);
+                tell_dropped(errors, past.dropped);
                 let step = u64::from(seconds).saturating_mul(1000);
                 self.next_summary = now.saturating_add(step);
             }

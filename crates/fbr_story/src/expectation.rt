@@ -1,7 +1,6 @@
 //! Reads what is to be looked at.
 
 use crate::fault::Fault;
-use crate::place::Sort;
 use crate::reading::Reader;
 use crate::story::{Expected, Looked, Variable};
 use crate::values::read_value;
@@ -12,7 +11,7 @@ use fb_words::{ElemType, Mark};
 fn read_queue<'a>(reader: &mut Reader<'a>) -> Result<Expected<'a>, Fault> {
     let at = reader.start();
     let name = reader.path("the name of a resource")?;
-    let (device, resource) = reader.names.resource(reader.alloc, name.as_str(), at)?;
+    let (device, resource) = reader.names().resource(reader.alloc, name.as_str(), at)?;
     reader.mark(Mark::Equal, "`=`")?;
     let from = reader.start();
     let count = reader.number()?;
@@ -54,8 +53,9 @@ fn read_held<'a>(
     name: &str,
     at: usize,
 ) -> Result<Expected<'a>, Fault> {
-    let place = reader.names.resolve(reader.alloc, Sort::Block, block, at)?;
-    let declared = find_variable(reader.alloc, place, name, at)?;
+    let place = reader.names().block(reader.alloc, block, at)?;
+    let path = reader.names().told(place);
+    let declared = find_variable(reader.alloc, place, path, name, at)?;
     let before = read_index(reader, declared)?;
     reader.mark(Mark::Equal, "`=`")?;
     let from = reader.start();
@@ -74,18 +74,39 @@ fn read_held<'a>(
 
 // The state that a block is to be in, by its name.
 fn read_state<'a>(reader: &mut Reader<'a>, name: &str, at: usize) -> Result<Expected<'a>, Fault> {
-    let place = reader.names.resolve(reader.alloc, Sort::Block, name, at)?;
+    let place = reader.names().block(reader.alloc, name, at)?;
+    let path = reader.names().told(place);
     let from = reader.start();
     let state = reader.name("the name of a state")?;
-    let (block, number) = find_state(reader.alloc, place, state, from)?;
+    let (block, number) = find_state(reader.alloc, place, path, state, from)?;
     Ok(Expected {
         wanted: reader.said(from),
         looked: Looked::State(place, block, number),
     })
 }
 
+// What is to be looked at of a block type alone: its own states and variables are named without it.
+fn read_own<'a>(reader: &mut Reader<'a>) -> Result<Expected<'a>, Fault> {
+    let at = reader.start();
+    if reader.is_word("IN") && reader.has_name_behind() {
+        reader.pass();
+        return read_state(reader, "", at);
+    }
+    let path = reader.path("a variable, or IN and a state,")?;
+    if reader.take_word("IN") {
+        return read_state(reader, path.as_str(), at);
+    }
+    match path.as_str().rsplit_once('.') {
+        Some((block, name)) => read_held(reader, block, name, at),
+        None => read_held(reader, "", path.as_str(), at),
+    }
+}
+
 /// What is to be looked at, behind EXPECT.
 pub(crate) fn read_expected<'a>(reader: &mut Reader<'a>) -> Result<Expected<'a>, Fault> {
+    if reader.names().block_type().is_some() {
+        return read_own(reader);
+    }
     if reader.take_word("QUEUE") {
         return read_queue(reader);
     }

@@ -2,6 +2,7 @@
 //! sees of it. A story is read whole, and each name in it resolved, before anything is played. No contracts: what is read is tested.
 #![tactic(auto)]
 
+mod arguments;
 mod expectation;
 mod fault;
 mod names;
@@ -13,11 +14,13 @@ mod stimulus;
 mod story;
 mod values;
 mod variables;
+mod within;
 
 pub use fault::Fault;
 pub use names::Names;
+pub use near::unknown;
 pub use place::{Place, Sort};
-pub use sequences::read_story;
+pub use sequences::{Subject, read_story, subjects_in, unknown_block};
 pub use story::{
     Action, Arrival, Cause, Expected, Fate, Looked, Sequence, Span, Step, Stimulus, Variable,
     Wanted, WantedWrite,

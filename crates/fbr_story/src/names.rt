@@ -4,6 +4,7 @@ use crate::fault::Fault;
 use crate::near::{unknown, unknown_behind};
 use crate::place::{Place, Sort, is_joined, parts, short};
 use fb_flat::Flat;
+use fbr_alone::Alone;
 use fbr_places::Writing;
 use std::alloc::{AllocError, Global};
 
@@ -27,34 +28,35 @@ fn ambiguous(alloc: Global, at: usize, name: &str, one: Place<'_>, other: Place<
 }
 
 // That a name stands for an instance of another sort.
-fn of_another_sort(alloc: Global, at: usize, name: &str, sort: Sort) -> Fault {
-    let mut writing = Writing::new(alloc);
-    writing.put(name);
-    writing.put(" is no ");
-    writing.put(sort.name());
-    Fault::written(at, writing)
+fn of_another_sort(alloc: Global, at: usize, name: &str, sort: &str) -> Fault {
+    Fault::at(alloc, at, &[name, " is no ", sort])
 }
 
 // That there is no instance of a sort that has a name.
-fn none_of(alloc: Global, name: &str, sort: Sort) -> Writing {
+fn none_of(alloc: Global, name: &str, sort: &str) -> Writing {
     let mut writing = Writing::new(alloc);
     writing.put("there is no ");
-    writing.put(sort.name());
+    writing.put(sort);
     writing.put(" ");
     writing.put(name);
     writing
 }
 
-/// The names of a system.
+/// The names of a system, or of a block type alone in the system that is made around it.
 #[derive(Drop)]
 pub struct Names<'a> {
-    places: Vec<Place<'a>>,
+    pub(crate) places: Vec<Place<'a>>,
     flat: &'a Flat,
+    pub(crate) alone: Option<&'a Alone>,
 }
 
 impl<'a> Names<'a> {
-    /// The names of a system whose leaves these are.
-    pub fn of(alloc: Global, flat: &'a Flat) -> Result<Names<'a>, AllocError> {
+    /// The names of a system whose leaves these are, of a block type where it was made around one.
+    pub fn of(
+        alloc: Global,
+        flat: &'a Flat,
+        around: Option<&'a Alone>,
+    ) -> Result<Names<'a>, AllocError> {
         let mut places = Vec::new(alloc);
         for (number, device) in flat.devices.iter().enumerate() {
             let mut block: usize = 0;
@@ -69,7 +71,11 @@ impl<'a> Names<'a> {
                 }
             }
         }
-        Ok(Names { places, flat })
+        Ok(Names {
+            places,
+            flat,
+            alone: around,
+        })
     }
 
     /// How many devices the system has.
@@ -78,7 +84,7 @@ impl<'a> Names<'a> {
     }
 
     // Whether the system has one device, whose name says nothing then.
-    fn is_alone(&self) -> bool {
+    fn has_one_device(&self) -> bool {
         self.flat.devices.len() == 1
     }
 
@@ -90,7 +96,7 @@ impl<'a> Names<'a> {
         if is_joined(name, device, inner) {
             return true;
         }
-        self.is_alone() && (name == inner || is_joined(name, resource, inner))
+        self.has_one_device() && (name == inner || is_joined(name, resource, inner))
     }
 
     // What a name stands for among the instances of a sort.
@@ -131,7 +137,7 @@ impl<'a> Names<'a> {
     pub fn shortest(&self, alloc: Global, place: Place<'_>) -> Result<String, AllocError> {
         let mut text = String::new(alloc);
         if let Some((device, resource, _)) = parts(place.leaf.path.as_str()) {
-            if !self.is_alone() {
+            if !self.has_one_device() {
                 text.push_str(device)?;
                 text.push_str(".")?;
             }
@@ -169,6 +175,14 @@ impl<'a> Names<'a> {
         name
     }
 
+    // What instances of a sort are called.
+    fn called(&self, sort: Sort) -> &'static str {
+        match (sort, self.alone) {
+            (Sort::Output, Some(_)) => "event output",
+            _ => sort.name(),
+        }
+    }
+
     /// The instance of a sort that a name at a byte stands for.
     pub fn resolve(
         &self,
@@ -180,10 +194,12 @@ impl<'a> Names<'a> {
         match (self.find(sort, name), self.find(Sort::Block, name)) {
             (Found::One(place), _) => Ok(place),
             (Found::Several(one, other), _) => Err(ambiguous(alloc, at, name, one, other)),
-            (Found::Nothing, Found::One(_)) => Err(of_another_sort(alloc, at, name, sort)),
+            (Found::Nothing, Found::One(_)) => {
+                Err(of_another_sort(alloc, at, name, self.called(sort)))
+            }
             (Found::Nothing, _) => {
                 let names = self.all(alloc, sort)?;
-                let begun = none_of(alloc, name, sort);
+                let begun = none_of(alloc, name, self.called(sort));
                 Err(unknown_behind(alloc, at, begun, &names, self.in_resource(name)))
             }
         }
@@ -228,7 +244,7 @@ impl<'a> Names<'a> {
     // The shortest name of a resource, by its path.
     fn shortest_of<'p>(&self, path: &'p str) -> &'p str {
         match path.split_once('.') {
-            Some((_, resource)) if self.is_alone() => resource,
+            Some((_, resource)) if self.has_one_device() => resource,
             _ => path,
         }
     }

@@ -83,14 +83,8 @@ pub(crate) fn unknown_behind(
     }
 }
 
-/// The same, behind these words.
-pub(crate) fn unknown(
-    alloc: Global,
-    at: usize,
-    words: &[&str],
-    names: &[String],
-    wanted: &str,
-) -> Fault {
+/// The fault of a name that stands for nothing, behind these words, with the nearest name that there is, or else some of them.
+pub fn unknown(alloc: Global, at: usize, words: &[&str], names: &[String], wanted: &str) -> Fault {
     let mut writing = Writing::new(alloc);
     for word in words {
         writing.put(*word);

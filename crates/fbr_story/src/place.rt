@@ -75,6 +75,20 @@ impl<'a> Place<'a> {
         }
     }
 
+    /// Whether it is a service that something comes to from outside its device, or that shows it something.
+    pub(crate) fn meets_outside(self) -> bool {
+        match &self.leaf.body {
+            Body::Served(service) => matches!(
+                service,
+                Service::Input(_, _)
+                    | Service::Output(_, _)
+                    | Service::Publish(_, _)
+                    | Service::Subscribe(_, _)
+            ),
+            Body::Basic(_) => false,
+        }
+    }
+
     /// Its path behind the names of its device and its resource.
     pub fn inner(self) -> &'a str {
         let path: &'a str = self.leaf.path.as_str();

@@ -7,17 +7,28 @@ use fb_lex::{Kind, Token};
 use fb_words::Mark;
 use std::alloc::Global;
 
-/// The tokens of a story, how many of them are read, and what its names stand for.
+/// The tokens of a story, how many of them are read, and what its names stand for: those of its system first, and then those of each block type that it
+/// plays alone.
 #[derive(Drop)]
 pub(crate) struct Reader<'a> {
     pub(crate) alloc: Global,
     pub(crate) text: &'a str,
     pub(crate) tokens: &'a [Token],
-    pub(crate) names: &'a Names<'a>,
+    pub(crate) all: &'a [Names<'a>],
+    pub(crate) first: &'a Names<'a>,
+    /// Which of them are those of the sequence that is read.
+    pub(crate) scope: usize,
     pub(crate) at: usize,
 }
 
 impl<'a> Reader<'a> {
+    /// The names of the sequence that is read.
+    pub(crate) fn names(&self) -> &'a Names<'a> {
+        let all: &'a [Names<'a>] = self.all;
+        let first: &'a Names<'a> = self.first;
+        all.get(self.scope).unwrap_or(first)
+    }
+
     /// The token that stands so many tokens behind the next one.
     pub(crate) fn peek(&self, ahead: usize) -> Option<&'a Token> {
         let tokens: &'a [Token] = self.tokens;
@@ -95,6 +106,19 @@ impl<'a> Reader<'a> {
                 _ => None,
             },
             None => None,
+        }
+    }
+
+    /// Whether the first of these marks stands next, a name behind it, and then the second.
+    pub(crate) fn is_named_behind(&self, first: Mark, second: Mark) -> bool {
+        self.has_mark(0, first) && self.has_name_behind() && self.has_mark(2, second)
+    }
+
+    /// Whether a name stands behind the next token.
+    pub(crate) fn has_name_behind(&self) -> bool {
+        match self.peek(1) {
+            Some(token) => matches!(&token.kind, Kind::Name(_)),
+            None => false,
         }
     }
 

@@ -3,12 +3,13 @@
 use crate::expectation::read_expected;
 use crate::fault::Fault;
 use crate::names::Names;
+use crate::near::unknown;
 use crate::reading::Reader;
 use crate::stimulus::read_stimulus;
 use crate::story::{Action, Fate, Sequence, Span, Step};
-use fb_lex::Token;
+use fb_lex::{Kind, Token};
 use fb_words::Mark;
-use std::alloc::Global;
+use std::alloc::{AllocError, Global};
 
 // The fate of the next datagram, if a step says one.
 fn read_fate(reader: &mut Reader<'_>) -> Result<Option<Fate>, Fault> {
@@ -31,11 +32,27 @@ fn read_silenced(reader: &mut Reader<'_>) -> Result<u16, Fault> {
     reader.expect_word("FROM")?;
     let at = reader.start();
     let name = reader.name("the name of a device")?;
-    reader.names.device(reader.alloc, name, at)
+    reader.names().device(reader.alloc, name, at)
+}
+
+// A line about datagrams is no step of a block type alone, which sends none.
+fn refuse_datagrams(reader: &Reader<'_>, is_next: bool) -> Result<(), Fault> {
+    match reader.names().block_type() {
+        Some(name) if is_next => {
+            let words = [name, " alone sends no datagrams"];
+            Err(Fault::at(reader.alloc, reader.start(), &words))
+        }
+        _ => Ok(()),
+    }
 }
 
 // What a step does that is no stimulus, if one stands next.
 fn read_other<'a>(reader: &mut Reader<'a>) -> Result<Option<Action<'a>>, Fault> {
+    let is_fate = reader.is_word("LOSE") || reader.is_word("TWICE") || reader.is_word("HOLD");
+    refuse_datagrams(
+        reader,
+        is_fate || reader.is_word("DROP") || reader.is_word("HEAL"),
+    )?;
     if let Some(fate) = read_fate(reader)? {
         return Ok(Some(Action::Next(fate)));
     }
@@ -76,19 +93,35 @@ fn read_sequence_name(reader: &mut Reader<'_>) -> Result<Span, Fault> {
     reader.expect_word("SEQUENCE")?;
     let from = reader.start();
     let _ = reader.name("the name of the sequence")?;
-    let name = reader.said(from);
-    if reader.is_mark(Mark::For) {
-        let words = ["a sequence FOR BLOCK is not played: a sequence is of the whole system"];
-        return Err(Fault::at(reader.alloc, reader.start(), &words));
+    Ok(reader.said(from))
+}
+
+// Which names a sequence has: behind FOR BLOCK those of a block type.
+fn read_scope(reader: &mut Reader<'_>) -> Result<usize, Fault> {
+    if !reader.take_mark(Mark::For) {
+        return Ok(0);
     }
-    Ok(name)
+    reader.expect_word("BLOCK")?;
+    let at = reader.start();
+    let name = reader.name("the name of a block type")?;
+    for (scope, names) in reader.all.iter().enumerate() {
+        if let Some(block_type) = names.block_type() {
+            if block_type == name {
+                return Ok(scope);
+            }
+        }
+    }
+    let words = ["there is no block type ", name];
+    Err(Fault::at(reader.alloc, at, &words))
 }
 
 // The sequence that is to stand next.
 fn read_sequence<'a>(reader: &mut Reader<'a>) -> Result<Sequence<'a>, Fault> {
     let from = reader.start();
     let name = read_sequence_name(reader)?;
+    let scope = read_scope(reader)?;
     let said = reader.said(from);
+    reader.scope = scope;
     let mut steps = Vec::new(reader.alloc);
     for _ in 0..reader.tokens.len() {
         let is_over = reader.is_word("END_SEQUENCE") || reader.is_word("SEQUENCE");
@@ -98,21 +131,86 @@ fn read_sequence<'a>(reader: &mut Reader<'a>) -> Result<Sequence<'a>, Fault> {
         steps.push(read_step(reader)?)?;
     }
     reader.expect_word("END_SEQUENCE")?;
-    Ok(Sequence { said, name, steps })
+    Ok(Sequence {
+        said,
+        name,
+        scope,
+        steps,
+    })
 }
 
-/// The sequences of a story that has these tokens, in order. There is one at least.
+/// A block type that a story plays alone: its name in upper case, and the byte of the story at which it stands first.
+#[derive(Clone, Copy)]
+pub struct Subject<'t> {
+    pub name: &'t str,
+    pub at: usize,
+}
+
+// The block type behind FOR BLOCK, where the token of a number is this FOR.
+fn subject_at(tokens: &[Token], index: usize) -> Option<Subject<'_>> {
+    let Kind::Mark(Mark::For) = &tokens.get(index)?.kind else {
+        return None;
+    };
+    let Kind::Name(word) = &tokens.get(index.saturating_add(1))?.kind else {
+        return None;
+    };
+    let token = tokens.get(index.saturating_add(2))?;
+    match &token.kind {
+        Kind::Name(name) if word.as_str() == "BLOCK" => Some(Subject {
+            name: name.as_str(),
+            at: token.start,
+        }),
+        _ => None,
+    }
+}
+
+// Whether a block type is among these.
+fn is_among(subjects: &[Subject<'_>], name: &str) -> bool {
+    for subject in subjects {
+        if subject.name == name {
+            return true;
+        }
+    }
+    false
+}
+
+/// The block types that a story of these tokens plays alone, each once.
+pub fn subjects_in(alloc: Global, tokens: &[Token]) -> Result<Vec<Subject<'_>>, AllocError> {
+    let mut subjects = Vec::new(alloc);
+    for index in 0..tokens.len() {
+        if let Some(subject) = subject_at(tokens, index) {
+            if !is_among(&subjects, subject.name) {
+                subjects.push(subject)?;
+            }
+        }
+    }
+    Ok(subjects)
+}
+
+/// That a text declares no block type of a name: the fault, with the nearest name that it has.
+pub fn unknown_block(alloc: Global, subject: Subject<'_>, names: &[String]) -> Fault {
+    let words = ["there is no block type ", subject.name];
+    unknown(alloc, subject.at, &words, names, subject.name)
+}
+
+/// The sequences of a story that has these tokens, in order. There is one at least. Its names are those of the system, and then those of each block type that
+/// it plays alone.
 pub fn read_story<'a>(
     alloc: Global,
     text: &'a str,
     tokens: &'a [Token],
-    names: &'a Names<'a>,
+    all: &'a [Names<'a>],
 ) -> Result<Vec<Sequence<'a>>, Fault> {
+    let Some(first) = all.get(0) else {
+        return Ok(Vec::new(alloc));
+    };
     let mut reader = Reader {
         alloc,
         text,
         tokens,
-        names,
+        all,
+        first,
+        scope: 0,
         at: 0,
     };
     let mut sequences = Vec::new(alloc);

@@ -1,12 +1,16 @@
 //! Reads stimuli, and what they are to make the outside see.
 
+use crate::arguments::{all_of, read_arguments};
 use crate::fault::Fault;
 use crate::place::Sort;
 use crate::reading::Reader;
 use crate::story::{Arrival, Cause, Stimulus, Wanted, WantedWrite};
 use crate::values::{read_value, read_values};
+use crate::within::find_event;
 use fb_lex::Kind;
 use fb_words::{ElemType, Mark};
+use fbr_alone::Alone;
+use std::alloc::Global;
 
 // An instance of a sort with its values in brackets: the numbers of its device and of itself, and the values.
 fn read_port(reader: &mut Reader<'_>, sort: Sort, may_be_any: bool) -> Result<WantedWrite, Fault> {
@@ -16,7 +20,9 @@ fn read_port(reader: &mut Reader<'_>, sort: Sort, may_be_any: bool) -> Result<Wa
         _ => "the name of an OUTPUT",
     };
     let name = reader.path(what)?;
-    let place = reader.names.resolve(reader.alloc, sort, name.as_str(), at)?;
+    let place = reader
+        .names()
+        .resolve(reader.alloc, sort, name.as_str(), at)?;
     let Some((number, types)) = place.port() else {
         return Err(reader.expected(what));
     };
@@ -28,20 +34,67 @@ fn read_port(reader: &mut Reader<'_>, sort: Sort, may_be_any: bool) -> Result<Wa
     })
 }
 
-// An arrival.
-fn read_arrival(reader: &mut Reader<'_>) -> Result<Arrival, Fault> {
+// Values at an INPUT.
+fn read_input(reader: &mut Reader<'_>, arrivals: &mut Vec<Arrival>) -> Result<(), Fault> {
     let port = read_port(reader, Sort::Input, false)?;
-    let mut values = Vec::new(reader.alloc);
-    for value in &port.values {
-        if let Some(number) = value {
-            values.push(*number)?;
-        }
-    }
-    Ok(Arrival {
+    arrivals.push(Arrival {
         device: port.device,
         input: port.output,
+        values: all_of(reader.alloc, &port.values)?,
+    })?;
+    Ok(())
+}
+
+// The value that is held for an event comes.
+fn hold(alloc: Global, input: u16, value: i64, arrivals: &mut Vec<Arrival>) -> Result<(), Fault> {
+    let mut values = Vec::new(alloc);
+    values.push(value)?;
+    arrivals.push(Arrival {
+        device: 0,
+        input,
         values,
-    })
+    })?;
+    Ok(())
+}
+
+// An event of a block type alone, behind the values that are held for it. Answers how many these are.
+fn read_event(
+    reader: &mut Reader<'_>,
+    around: &Alone,
+    arrivals: &mut Vec<Arrival>,
+) -> Result<u64, Fault> {
+    let at = reader.start();
+    let name = reader.name("the name of an event input")?;
+    let event = find_event(reader.alloc, around, name, at)?;
+    let given = read_arguments(reader, event)?;
+    let mut held: u64 = 0;
+    let mut values = Vec::new(reader.alloc);
+    for (argument, value) in event.arguments.iter().zip(&given) {
+        match argument.holder {
+            Some(input) => {
+                hold(reader.alloc, input, *value, arrivals)?;
+                held = held.saturating_add(1);
+            }
+            None => values.push(*value)?,
+        }
+    }
+    arrivals.push(Arrival {
+        device: 0,
+        input: event.input,
+        values,
+    })?;
+    Ok(held)
+}
+
+// An arrival. Answers how many values are held for it.
+fn read_arrival(reader: &mut Reader<'_>, arrivals: &mut Vec<Arrival>) -> Result<u64, Fault> {
+    match reader.names().alone {
+        Some(around) => read_event(reader, around, arrivals),
+        None => {
+            read_input(reader, arrivals)?;
+            Ok(0)
+        }
+    }
 }
 
 // The span of time behind AFTER.
@@ -54,21 +107,21 @@ fn read_span(reader: &mut Reader<'_>) -> Result<u64, Fault> {
     }
 }
 
-// What comes from outside.
-fn read_cause(reader: &mut Reader<'_>) -> Result<Cause, Fault> {
+// What comes from outside, and how many values are held for it.
+fn read_cause(reader: &mut Reader<'_>) -> Result<(Cause, u64), Fault> {
     if reader.take_word("AFTER") {
-        return Ok(Cause::Time(read_span(reader)?));
+        return Ok((Cause::Time(read_span(reader)?), 0));
     }
     let mut arrivals = Vec::new(reader.alloc);
     let is_together = reader.take_word("TOGETHER");
-    arrivals.push(read_arrival(reader)?)?;
+    let mut held = read_arrival(reader, &mut arrivals)?;
     for _ in 0..reader.tokens.len() {
         if !is_together || !reader.take_mark(Mark::Comma) {
             break;
         }
-        arrivals.push(read_arrival(reader)?)?;
+        held = held.saturating_add(read_arrival(reader, &mut arrivals)?);
     }
-    Ok(Cause::Arrivals(arrivals))
+    Ok((Cause::Arrivals(arrivals), held))
 }
 
 // Whether denials have this number.
@@ -152,13 +205,14 @@ fn read_most(reader: &mut Reader<'_>) -> Result<Option<u64>, Fault> {
 /// The stimulus that is to stand next.
 pub(crate) fn read_stimulus(reader: &mut Reader<'_>) -> Result<Stimulus, Fault> {
     let from = reader.start();
-    let cause = read_cause(reader)?;
+    let (cause, carrying) = read_cause(reader)?;
     let said = reader.said(from);
     let wanted = read_wanted(reader)?;
     let most = read_most(reader)?;
     Ok(Stimulus {
         said,
         cause,
+        carrying,
         wanted,
         most,
     })

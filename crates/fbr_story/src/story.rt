@@ -22,11 +22,12 @@ pub struct Span {
     pub to: usize,
 }
 
-/// A sequence: its first line, its name, and its steps in order.
+/// A sequence: its first line, its name, which names are its own (0 those of the system, and then those of block types), and its steps in order.
 #[derive(Drop)]
 pub struct Sequence<'a> {
     pub said: Span,
     pub name: Span,
+    pub scope: usize,
     pub steps: Vec<Step<'a>>,
 }
 
@@ -58,6 +59,8 @@ pub struct Stimulus {
     /// Its text.
     pub said: Span,
     pub cause: Cause,
+    /// How many steps its values take before it comes, which are not counted: each that has an INPUT of its own.
+    pub carrying: u64,
     pub wanted: Option<Wanted>,
     /// The most steps that it may take, on all devices.
     pub most: Option<u64>,

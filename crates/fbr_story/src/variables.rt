@@ -77,10 +77,11 @@ fn names_of(alloc: Global, place: Place<'_>) -> Result<Vec<String>, AllocError> 
     }
 }
 
-/// What the variable of an instance is declared as that has a name.
+/// What the variable of an instance is declared as that has a name. People are told of the instance by its path.
 pub(crate) fn find_variable(
     alloc: Global,
     place: Place<'_>,
+    path: &str,
     name: &str,
     at: usize,
 ) -> Result<Declared, Fault> {
@@ -88,7 +89,6 @@ pub(crate) fn find_variable(
         Some(found) => Ok(found),
         None => {
             let names = names_of(alloc, place)?;
-            let path = place.leaf.path.as_str();
             let words = [path, " has no variable ", name];
             Err(unknown(alloc, at, &words, &names, name))
         }
@@ -110,10 +110,10 @@ fn states_of(alloc: Global, block: &Block) -> Result<Vec<String>, AllocError> {
 pub(crate) fn find_state<'a>(
     alloc: Global,
     place: Place<'a>,
+    path: &str,
     name: &str,
     at: usize,
 ) -> Result<(&'a Block, u16), Fault> {
-    let path: &str = place.leaf.path.as_str();
     let body: &'a Body = &place.leaf.body;
     let Body::Basic(block) = body else {
         return Err(Fault::at(alloc, at, &[path, " has no states"]));

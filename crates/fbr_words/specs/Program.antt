@@ -1,5 +1,5 @@
 -- The words of the program, in the terms of the crate that reads them.
-use Rattle.std.specs.Prelude.{◌≡◌, ℕ, ◌==◌, nat_le, ◌&&◌, Bool, false, List, [], ◌∷◌, length, Option, Some, None, true, codes, option_map, option_and_then, if◌then◌else◌}
+use Rattle.std.specs.Prelude.{◌≡◌, ℕ, ◌==◌, nat_le, ◌&&◌, Bool, false, List, [], ◌∷◌, ◌++◌, length, Option, Some, None, true, codes, option_map, option_and_then, if◌then◌else◌}
 use Rattle.std.specs.Str.{bytes_eq}
 use Rattle.clap.specs.Words.{App, Row, Rule, Text, Kinds, first_of, all_of, new_app, new_rule, with_rule, with_subcommand, subcommand_of, fault_of, IsAmong}
 use Rattle.clap.specs.declared.builder.action.ArgAction.TheVariants.{Set, SetTrue, Append}
@@ -56,10 +56,6 @@ sim = over_files (codes "sim")
 abbrev pub files : Text → Rule
 files id = record (new_rule id) { required = true; action = Some Append; range = Some (record { start_inclusive = 1; end_inclusive = usize_max }) }
 
--- `play`, its file, and the files behind it
-abbrev pub play : App
-play = with_rule (over_file (codes "play")) (files (codes "STORY"))
-
 -- a file that may be named
 abbrev pub maybe_file : Text → Rule
 maybe_file id = new_rule id
@@ -104,6 +100,16 @@ repeated id = record (new_rule id) { long = Some id; action = Some Append; value
 abbrev pub set : Text → Rule
 set id = record (new_rule id) { long = Some id; action = Some SetTrue }
 
+-- `play`, its file, the files behind it, what is watched, and the files that are written
+abbrev pub play : App
+play =
+    with_rule (with_rule (with_rule (with_rule (with_rule (over_file (codes "play")) (files (codes "STORY"))) (repeated (codes "watch"))) (number (codes "report")))
+    (number (codes "vcd"))) (number (codes "csv"))
+
+-- `replay`, its two files and the record, and what it tells
+abbrev pub replay : App
+replay = with_rule (with_rule (with_rule (over_files (codes "replay")) (file (codes "RECORD"))) (set (codes "verbose"))) (set (codes "clock"))
+
 -- `serve`, its two files, its device, where it receives, and from whom
 abbrev pub serve_at : App
 serve_at = with_rule (with_rule (with_rule (over_files (codes "serve")) (file (codes "DEVICE"))) (needed_number (codes "bind"))) (repeated (codes "from"))
@@ -112,10 +118,14 @@ serve_at = with_rule (with_rule (with_rule (over_files (codes "serve")) (file (c
 abbrev pub serve_for : App
 serve_for = with_rule (with_rule (with_rule (with_rule serve_at (number (codes "turns"))) (set (codes "until-eof"))) (number (codes "boot"))) (number (codes "boot-file"))
 
+-- and where it is recorded
+abbrev pub serve_by : App
+serve_by = with_rule (with_rule serve_for (number (codes "record"))) (set (codes "sync"))
+
 -- and what it tells, and to whom it sends
 abbrev pub serve : App
 serve =
-    with_rule (with_rule (with_rule (with_rule (with_rule serve_for (set (codes "verbose"))) (number (codes "summary"))) (set (codes "clock")))
+    with_rule (with_rule (with_rule (with_rule (with_rule serve_by (set (codes "verbose"))) (number (codes "summary"))) (set (codes "clock")))
     (set (codes "stop-on-lost-output"))) peers
 
 -- the command without its subcommands: it tells its version, and wants a subcommand
@@ -124,7 +134,8 @@ top = record { top = record (new_app (codes "fbr")).top { has_version = true; su
 
 abbrev pub program : App
 program =
-    with_subcommand (with_subcommand (with_subcommand (with_subcommand (with_subcommand (with_subcommand (with_subcommand top bound.top) check.top) sim.top) play.top) explain.top) draw.top) serve.top
+    with_subcommand (with_subcommand (with_subcommand (with_subcommand (with_subcommand (with_subcommand (with_subcommand (with_subcommand top bound.top) check.top) sim.top) play.top)
+    explain.top) draw.top) serve.top) replay.top
 
 -- a number of 1 to 255
 abbrev pub small_in : Option ℕ → Option ℕ
@@ -238,11 +249,14 @@ pub data Boot : Type 0 where
   numbered : (number : ℕ) → Boot
   in_file : (name : Text) → Boot
 
--- the boot, the most turns, and whether the device also ends where standard input does
+-- the boot, the most turns, whether the device also ends where standard input does, the file of its record, where there is one, and whether each line of it goes to
+-- the disk at once
 pub record Life : Type 0 where
   pub boot : Boot
   pub turns : ℕ
   pub until_eof : Bool
+  pub recorded : Option Text
+  pub synced : Bool
 
 -- whether each step is told, after how many seconds the sums are, whether lines begin with the clock, and whether one that is lost ends the device
 pub record Telling : Type 0 where
@@ -276,10 +290,15 @@ few_in read (Some words) = if nat_le (length words) 64 then each_in read words e
 
 -- ---- what `play` is asked for
 
--- the file of an application; and those behind it, perhaps that of a certificate first, and stories
+-- the file of an application; those behind it, perhaps that of a certificate first, and stories; the paths that are watched; and the files that are written, where they
+-- are: of the report, of a value change dump, and of a table
 pub record Plays : Type 0 where
   pub app : Text
   pub files : List Text
+  pub watched : List Text
+  pub report : Option Text
+  pub dump : Option Text
+  pub table : Option Text
 
 abbrev pub whole : Text → Option Text
 whole word = Some word
@@ -287,13 +306,34 @@ whole word = Some word
 abbrev pub names_in : Option (List Text) → Option (List Text)
 names_in words = few_in whole words
 
-abbrev pub plays_with : Option Text → Option (List Text) → Option Plays
-plays_with (Some app) (Some files) = Some (record { app = app; files = files })
-plays_with app files = None
+abbrev pub plays_with : Option Text → Option (List Text) → Option (List Text) → Option Text → Option Text → Option Text → Option Plays
+plays_with (Some app) (Some files) (Some paths) report dump table = Some (record { app = app; files = files; watched = paths; report = report; dump = dump; table = table })
+plays_with app files paths report dump table = None
 
--- what the words of `play` ask for; nothing where there are more than 64 files
+-- what the words of `play` ask for; nothing where there are more than 64 files or paths
 abbrev pub plays_in : List Row → Option Plays
-plays_in rows = plays_with (first_of (codes "APP") rows) (names_in (all_of (codes "STORY") rows))
+plays_in rows =
+    plays_with (first_of (codes "APP") rows) (names_in (all_of (codes "STORY") rows)) (names_in (all_of (codes "watch") rows)) (first_of (codes "report") rows)
+    (first_of (codes "vcd") rows) (first_of (codes "csv") rows)
+
+-- ---- what `replay` is asked for
+
+-- the files of an application, of a certificate and of a record, whether each step is told, and whether lines begin with the clock
+pub record Replaying : Type 0 where
+  pub app : Text
+  pub cert : Text
+  pub recorded : Text
+  pub verbose : Bool
+  pub clock : Bool
+
+abbrev pub replaying_with : Option Text → Option Text → Option Text → Bool → Bool → Option Replaying
+replaying_with (Some app) (Some cert) (Some recorded) steps timed = Some (record { app = app; cert = cert; recorded = recorded; verbose = steps; clock = timed })
+replaying_with app cert recorded steps timed = None
+
+abbrev pub replaying_in : List Row → Option Replaying
+replaying_in rows =
+    replaying_with (first_of (codes "APP") rows) (first_of (codes "CERT") rows) (first_of (codes "RECORD") rows) (is_set (first_of (codes "verbose") rows))
+    (is_set (first_of (codes "clock") rows))
 
 -- ---- the network of `serve`
 
@@ -322,12 +362,20 @@ abbrev pub turns_by : Option Text → Option ℕ
 turns_by None = Some 18446744073709551615
 turns_by (Some word) = wide_number_in word
 
-abbrev pub life_with : Option Boot → Option ℕ → Bool → Option Life
-life_with (Some boot) (Some turns) eof = Some (record { boot = boot; turns = turns; until_eof = eof })
-life_with boot turns eof = None
+-- a record goes to the disk only where there is one
+abbrev pub synced_by : Option Text → Bool → Option Bool
+synced_by None true = None
+synced_by None false = Some false
+synced_by (Some name) sync = Some sync
+
+abbrev pub life_with : Option Boot → Option ℕ → Bool → Option Text → Option Bool → Option Life
+life_with (Some boot) (Some turns) eof name (Some sync) = Some (record { boot = boot; turns = turns; until_eof = eof; recorded = name; synced = sync })
+life_with boot turns eof name sync = None
 
 abbrev pub life_in : List Row → Option Life
-life_in rows = life_with (boot_by (first_of (codes "boot") rows) (first_of (codes "boot-file") rows)) (turns_by (first_of (codes "turns") rows)) (is_set (first_of (codes "until-eof") rows))
+life_in rows =
+    life_with (boot_by (first_of (codes "boot") rows) (first_of (codes "boot-file") rows)) (turns_by (first_of (codes "turns") rows)) (is_set (first_of (codes "until-eof") rows))
+    (first_of (codes "record") rows) (synced_by (first_of (codes "record") rows) (is_set (first_of (codes "sync") rows)))
 
 abbrev pub nonzero : ℕ → Option ℕ
 nonzero n = if n == 0 then None else Some n
@@ -368,6 +416,7 @@ pub data Asked : Type 0 where
   an_explain : Question → Asked
   a_draw : Drawing → Asked
   a_serve : Service → Asked
+  a_replay : Replaying → Asked
 
 -- what the words of a subcommand of this name ask for
 abbrev pub request_in : Text × List Row → Option Asked
@@ -378,7 +427,8 @@ request_in entered =
     else (if bytes_eq entered.0 (codes "play") then option_map a_play (plays_in entered.1)
     else (if bytes_eq entered.0 (codes "explain") then option_map an_explain (question_in entered.1)
     else (if bytes_eq entered.0 (codes "draw") then option_map a_draw (drawing_in entered.1)
-    else (if bytes_eq entered.0 (codes "serve") then option_map a_serve (service_in entered.1) else None))))))
+    else (if bytes_eq entered.0 (codes "serve") then option_map a_serve (service_in entered.1)
+    else (if bytes_eq entered.0 (codes "replay") then option_map a_replay (replaying_in entered.1) else None)))))))
 
 -- what is read of words that have these faults: nothing, if there is one
 abbrev pub unless_fault : {X : Type 0} → Kinds → Option X → Option X
@@ -404,18 +454,29 @@ often_of (a_play q) = None
 often_of (an_explain q) = q.repeats
 often_of (a_draw q) = q.repeats
 often_of (a_serve q) = None
+often_of (a_replay q) = None
 
 -- the file that holds the boot, where one does
 abbrev pub boot_file : Boot → Option Text
 boot_file (numbered n) = None
 boot_file (in_file name) = Some name
 
--- the file that is written, where one is
-abbrev pub written_by : Asked → Option Text
-written_by (a_bound q) = q.into
-written_by (a_check q) = None
-written_by (a_sim q) = None
-written_by (a_play q) = None
-written_by (an_explain q) = None
-written_by (a_draw q) = q.into
-written_by (a_serve q) = boot_file q.life.boot
+abbrev pub if_named : Option Text → List Text
+if_named None = []
+if_named (Some name) = name ∷ []
+
+-- the files that are written, one after another
+abbrev pub written_by : Asked → List Text
+written_by (a_bound q) = if_named q.into
+written_by (a_check q) = []
+written_by (a_sim q) = []
+written_by (a_play q) = if_named q.report ++ (if_named q.dump ++ if_named q.table)
+written_by (an_explain q) = []
+written_by (a_draw q) = if_named q.into
+written_by (a_serve q) = if_named (boot_file q.life.boot) ++ if_named q.life.recorded
+written_by (a_replay q) = []
+
+-- none where words ask for nothing
+abbrev pub written_for : Option Asked → List Text
+written_for None = []
+written_for (Some q) = written_by q

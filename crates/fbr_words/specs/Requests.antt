@@ -7,6 +7,7 @@ use Rattle.fbr_words.specs.declared.bound.Ranges.{Ranges}
 use Rattle.fbr_words.specs.declared.bound.Ranges.TheVariants.{Rounds, Searched, Within}
 use Rattle.fbr_words.specs.declared.files.TwoFiles.{TwoFiles}
 use Rattle.fbr_words.specs.declared.play.Play.{Play as PlayRequest}
+use Rattle.fbr_words.specs.declared.replay.Replay.{Replay as ReplayRequest}
 use Rattle.fbr_words.specs.declared.shown.Explain.{Explain as ExplainRequest}
 use Rattle.fbr_words.specs.declared.shown.Draw.{Draw as DrawRequest}
 use Rattle.fb_addresses.specs.Addresses.{endpoint_of, parts_of}
@@ -17,10 +18,10 @@ use Rattle.fbr_words.specs.declared.serve.Life.{Life as LifeRequest}
 use Rattle.fbr_words.specs.declared.serve.Telling.{Telling as TellingRequest}
 use Rattle.fbr_words.specs.declared.serve.Serve.{Serve as ServeRequest}
 use Rattle.fbr_words.specs.declared.request.Request.{Request}
-use Rattle.fbr_words.specs.declared.request.Request.TheVariants.{Bound, Check, Sim, Play, Explain, Draw, Serve}
+use Rattle.fbr_words.specs.declared.request.Request.TheVariants.{Bound, Check, Sim, Play, Explain, Draw, Serve, Replay}
 use Rattle.fbr_words.specs.declared.reading.Misread.{Misread}
 use Rattle.fbr_words.specs.declared.reading.Misread.TheVariants.{Memory, Help, Words, Number}
-use Rattle.fbr_words.specs.Program.{program, Sought, Files, Plays, Question, Drawing, Network, Boot, numbered, in_file, Life, Telling, Service, Asked, a_bound, a_check, a_sim, a_play, an_explain, a_draw, a_serve, request_of}
+use Rattle.fbr_words.specs.Program.{program, Sought, Files, Plays, Question, Drawing, Network, Boot, numbered, in_file, Life, Telling, Service, Replaying, Asked, a_bound, a_check, a_sim, a_play, an_explain, a_draw, a_serve, a_replay, request_of}
 
 -- which ranges are wanted: the file that is named, or that there is a search
 abbrev pub ranges_of : Ranges → Option (Option Text)
@@ -35,7 +36,18 @@ abbrev pub files_of : TwoFiles → Files
 files_of f = record { app = f.app.now; cert = f.cert.now }
 
 abbrev pub plays_of : PlayRequest → Plays
-plays_of p = record { app = p.app.now; files = map (λ name. name.now) p.files.items }
+plays_of p =
+    record {
+      app = p.app.now;
+      files = map (λ name. name.now) p.files.items;
+      watched = map (λ path. path.now) p.watched.items;
+      report = option_map (λ name. name.now) p.written.report;
+      dump = option_map (λ name. name.now) p.written.dump;
+      table = option_map (λ name. name.now) p.written.table;
+    }
+
+abbrev pub replaying_of : ReplayRequest → Replaying
+replaying_of r = record { app = r.app.now; cert = r.cert.now; recorded = r.record.now; verbose = r.is_verbose; clock = r.has_clock }
 
 abbrev pub question_of : ExplainRequest → Question
 question_of q = record { what = q.what.now; cert = option_map (λ name. name.now) q.cert; repeats = q.repeats; strict = q.is_strict }
@@ -59,7 +71,7 @@ boot_of (Numbered n) = numbered n
 boot_of (FromFile name) = in_file name.now
 
 abbrev pub life_of : LifeRequest → Life
-life_of l = record { boot = boot_of l.boot; turns = l.turns; until_eof = l.until_eof }
+life_of l = record { boot = boot_of l.boot; turns = l.turns; until_eof = l.until_eof; recorded = option_map (λ name. name.now) l.record; synced = l.is_synced }
 
 abbrev pub telling_of : TellingRequest → Telling
 telling_of t = record { verbose = t.is_verbose; summary = t.summary; clock = t.has_clock; strict = t.is_strict }
@@ -75,6 +87,7 @@ asked_of (Play p) = a_play (plays_of p)
 asked_of (Explain q) = an_explain (question_of q)
 asked_of (Draw d) = a_draw (drawing_of d)
 asked_of (Serve s) = a_serve (service_of s)
+asked_of (Replay r) = a_replay (replaying_of r)
 
 -- a number is none
 abbrev pub IsNumber : Misread → Type 0

@@ -86,16 +86,6 @@ fn files<'a>(alloc: Global, id: &'a str, help: &'a str) -> Arg<'a>
         .help(help)
 }
 
-// The subcommand that plays stories.
-fn played<'a>(alloc: Global) -> Result<Command<'a>, AllocError>
-    ensures { IfOk result (λ c. app_of c ≡ program.play) }
-{
-    let about = "Plays stories of a plant, and tells which of them came otherwise";
-    let help =
-        "Stories, whose names end in .story, at most 64; the certificate's text may stand before them";
-    with(over_file(alloc, "play", about), files(alloc, "STORY", help))
-}
-
 // The option `--repeats`.
 fn repeats<'a>(alloc: Global) -> Arg<'a>
     ensures rule { rule_of result ≡ program.repeats }
@@ -293,6 +283,41 @@ fn set<'a>(alloc: Global, id: &'a str, help: &'a str) -> Arg<'a>
         .help(help)
 }
 
+// The subcommand that plays stories.
+fn played<'a>(alloc: Global) -> Result<Command<'a>, AllocError>
+    ensures { IfOk result (λ c. app_of c ≡ program.play) }
+{
+    let about = "Plays stories of a plant, and tells which of them came otherwise";
+    let help =
+        "Stories, whose names end in .story, at most 64; the certificate's text may stand before them";
+    let help_watch =
+        "Tells after each dispatch what has changed at this path: an instance, a variable or a resource, or `*` for all; may be given again, at most 64 times";
+    let help_report = "Writes into this file how the sequences went, as JUnit XML";
+    let help_dump =
+        "Writes into this file what has changed, as a value change dump, which GTKWave opens";
+    let help_table = "Writes into this file what has changed, as a table of comma-separated values";
+    let named = with(over_file(alloc, "play", about), files(alloc, "STORY", help));
+    let watched = with(named, repeated(alloc, "watch", "PATH", help_watch));
+    let told = with(watched, number(alloc, "report", "FILE", help_report));
+    let dumped = with(told, number(alloc, "vcd", "FILE", help_dump));
+    with(dumped, number(alloc, "csv", "FILE", help_table))
+}
+
+// The subcommand that takes the turns of a record again.
+fn replayed<'a>(alloc: Global) -> Result<Command<'a>, AllocError>
+    ensures { IfOk result (λ c. app_of c ≡ program.replay) }
+{
+    let about = "Takes the turns of a recorded device again, and prints what its OUTPUTs write";
+    let help_record = "The record that `serve` wrote; `-` is standard input";
+    let help_verbose =
+        "Tells on standard error of each arrival, each dispatch, what is sent, and each cause that has ended";
+    let help_clock = "Lines of OUTPUTs begin with the milliseconds of the device's clock";
+    let both = over_files(alloc, "replay", about);
+    let recorded = with(both, file(alloc, "RECORD", help_record));
+    let told = with(recorded, set(alloc, "verbose", help_verbose));
+    with(told, set(alloc, "clock", help_clock))
+}
+
 // `serve` with what says where it receives, and from whom.
 fn served_at<'a>(alloc: Global) -> Result<Command<'a>, AllocError>
     ensures { IfOk result (λ c. app_of c ≡ program.serve_at) }
@@ -326,6 +351,20 @@ fn served_for<'a>(alloc: Global) -> Result<Command<'a>, AllocError>
     with(booted, number(alloc, "boot-file", "FILE", help_file))
 }
 
+// `serve` with what says where it is recorded.
+fn served_by<'a>(alloc: Global) -> Result<Command<'a>, AllocError>
+    ensures { IfOk result (λ c. app_of c ≡ program.serve_by) }
+{
+    let help_record =
+        "Records in this new file what comes to the device, a line a turn, for `replay`";
+    let help_sync = "Has each line of the record on the disk before the next turn";
+    let recorded = with(
+        served_for(alloc),
+        number(alloc, "record", "FILE", help_record),
+    );
+    with(recorded, set(alloc, "sync", help_sync))
+}
+
 // The subcommand that runs a device over UDP.
 fn served<'a>(alloc: Global) -> Result<Command<'a>, AllocError>
     ensures { IfOk result (λ c. app_of c ≡ program.serve) }
@@ -335,7 +374,7 @@ fn served<'a>(alloc: Global) -> Result<Command<'a>, AllocError>
     let help_summary = "Tells the sums on standard error every N seconds";
     let help_clock = "Lines of OUTPUTs begin with the milliseconds of the device's clock";
     let help_strict = "Ends where a line cannot be written, in place of counting it";
-    let told = with(served_for(alloc), set(alloc, "verbose", help_verbose));
+    let told = with(served_by(alloc), set(alloc, "verbose", help_verbose));
     let summed = with(told, number(alloc, "summary", "N", help_summary));
     let timed = with(summed, set(alloc, "clock", help_clock));
     let ending = with(timed, set(alloc, "stop-on-lost-output", help_strict));
@@ -360,5 +399,6 @@ pub fn commands<'a>(alloc: Global) -> Result<Command<'a>, AllocError>
     let plays = with_command(runs, played(alloc));
     let explains = with_command(plays, explained(alloc));
     let draws = with_command(explains, drawn(alloc));
-    with_command(draws, served(alloc))
+    let serves = with_command(draws, served(alloc));
+    with_command(serves, replayed(alloc))
 }

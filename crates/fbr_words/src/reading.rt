@@ -30,7 +30,7 @@ const UNCOUNTED: &str = "fbr: `--repeats` and `--room` take a number of 1 to 255
 
 // What people are told where a number or an address of `serve` is none.
 const UNNUMBERED: &str =
-    "fbr: an address is PORT, ADDRESS:PORT or [ADDRESS]:PORT with a port of 1 to 65535, and `--from` takes an ADDRESS, 64 of each at most; `--boot` and `--summary` take a number of 32 bits, `--turns` one of 64, and `--boot-file` stands in place of `--boot`";
+    "fbr: an address is PORT, ADDRESS:PORT or [ADDRESS]:PORT with a port of 1 to 65535, and `--from` takes an ADDRESS, 64 of each at most; `--boot` and `--summary` take a number of 32 bits, `--turns` one of 64, `--boot-file` stands in place of `--boot`, and `--sync` stands with `--record`";
 
 // The subcommand that the words name, with what they give to it.
 fn entered<'a, 'b>(matches: &'b ArgMatches<'a>) -> Option<(&'a str, &'b ArgMatches<'a>)>

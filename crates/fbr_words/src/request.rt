@@ -8,6 +8,7 @@ ghost use Rattle.fbr_words.specs.Requests.{asked_of};
 use crate::bound::{Bound, bound_in};
 use crate::files::{TwoFiles, files_in};
 use crate::play::{Play, play_in};
+use crate::replay::{Replay, replay_in};
 use crate::serve::{Serve, serve_in};
 use crate::shown::{Draw, Explain, draw_in, explain_in};
 use clap::ArgMatches;
@@ -29,6 +30,8 @@ pub enum Request<'a> {
     Draw(Draw<'a>),
     /// Runs a device.
     Serve(Serve<'a>),
+    /// Takes the turns of a record again.
+    Replay(Replay<'a>),
 }
 
 fn bound<'a>(words: &ArgMatches<'a>) -> Option<Request<'a>>
@@ -77,6 +80,12 @@ fn serve<'a>(words: &ArgMatches<'a>) -> Option<Request<'a>>
     Some(Request::Serve(serve_in(words)?))
 }
 
+fn replay<'a>(words: &ArgMatches<'a>) -> Option<Request<'a>>
+    ensures { option_map asked_of result ≡ option_map program.a_replay (program.replaying_in (rows_of (found_of words.now))) }
+{
+    Some(Request::Replay(replay_in(words)?))
+}
+
 /// What a subcommand of this name asks for with its words; `None` where a number or an address is none.
 pub fn request_in<'a>(name: &str, words: &ArgMatches<'a>) -> Option<Request<'a>>
     ensures asked { option_map asked_of result ≡ program.request_in (name.now, rows_of (found_of words.now)) }
@@ -96,6 +105,8 @@ pub fn request_in<'a>(name: &str, words: &ArgMatches<'a>) -> Option<Request<'a>>
         draw(words)
     } else if name == "serve" {
         serve(words)
+    } else if name == "replay" {
+        replay(words)
     } else {
         None
     }

@@ -27,6 +27,10 @@ pub struct Life<'a> {
     pub turns: u64,
     /// It also ends where standard input does.
     pub until_eof: bool,
+    /// The new file that its turns are recorded in.
+    pub record: Option<&'a str>,
+    /// Each line of the record goes to the disk at once.
+    pub is_synced: bool,
 }
 
 /// What a device tells while it runs.
@@ -91,6 +95,16 @@ fn seconds_by(word: Option<&str>) -> Option<Option<u32>>
     }
 }
 
+// Whether each line of a record goes to the disk, which is nothing where there is no record.
+fn synced_by(record: Option<&str>, is_synced: bool) -> Option<bool>
+    ensures { result ≡ program.synced_by (option_map (λ name. name.now) record.entry) is_synced }
+{
+    match record {
+        Some(_) => Some(is_synced),
+        None => { if is_synced { None } else { Some(false) } }
+    }
+}
+
 // How long it runs.
 fn life_in<'a>(words: &ArgMatches<'a>) -> Option<Life<'a>>
     ensures { option_map life_of result ≡ program.life_in (rows_of (found_of words.now)) }
@@ -99,6 +113,8 @@ fn life_in<'a>(words: &ArgMatches<'a>) -> Option<Life<'a>>
         boot: boot_by(given(words, "boot"), given(words, "boot-file"))?,
         turns: turns_by(given(words, "turns"))?,
         until_eof: flag(words, "until-eof"),
+        record: given(words, "record"),
+        is_synced: synced_by(given(words, "record"), flag(words, "sync"))?,
     })
 }
 
@@ -114,7 +130,8 @@ fn telling_in(words: &ArgMatches<'_>) -> Option<Telling>
     })
 }
 
-/// What is asked for; `None` where a number or an address is none, there are more than 64 peers or senders, or a boot is given twice.
+/// What is asked for; `None` where a number or an address is none, there are more than 64 peers or senders, a boot is given twice, or `--sync` without
+/// `--record`.
 pub fn serve_in<'a>(words: &ArgMatches<'a>) -> Option<Serve<'a>>
     ensures { option_map service_of result ≡ program.service_in (rows_of (found_of words.now)) }
 {

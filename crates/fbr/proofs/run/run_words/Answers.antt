@@ -1,12 +1,11 @@
 use Rattle.std.proofs.Common.{◌≡◌, List, map, refl, sym, subst, inl, inr}
-use Rattle.std.specs.Prelude.{option_and_then}
 use Rattle.std.proofs.lemmas.Result.{IfOk-weaker}
 use Rattle.clap.specs.Words.{Text}
-use Rattle.fbr_files.specs.Writing.{LeavesAllBut}
-use Rattle.fbr_words.specs.Program.{Asked, request_of, written_by}
+use Rattle.fbr_files.specs.Writing.{LeavesAll}
+use Rattle.fbr_words.specs.Program.{Asked, request_of, written_for}
 use Rattle.fbr_words.specs.Requests.{asked_of}
 use Rattle.fbr.specs.Answers.{Answers}
-use Rattle.fbr.proofs.Told.{kept_all, misread_asked, misuse_asked, same_asked}
+use Rattle.fbr.proofs.Told.{all_kept, misread_asked, misuse_asked, same_asked}
 use Rattle.fbr.proofs.run.run_words.Goals as goal
 
 pub returns-in-Ok-clause-answers : goal.returns-in-Ok-clause-answers
@@ -24,7 +23,7 @@ returns-in-Ok-clause-usage g c = λ is.
 
 pub returns-in-Ok-clause-others : goal.returns-in-Ok-clause-others
 returns-in-Ok-clause-others g c =
-    subst (λ o. LeavesAllBut (g.S.Sources.same c.args.files.now) (option_and_then (λ q. written_by q) o) (g.S.Sources.contents c.args.files.now) (g.S.Sources.contents c.answer.new.files)) (sym c.in-Ok.ensures.asked) c.answer.ensures.others
+    subst (λ o. LeavesAll (g.S.Sources.same c.args.files.now) (written_for o) (g.S.Sources.contents c.args.files.now) (g.S.Sources.contents c.answer.new.files)) (sym c.in-Ok.ensures.asked) c.answer.ensures.others
 
 pub returns-in-Err-clause-answers : goal.returns-in-Err-clause-answers
 returns-in-Err-clause-answers g c = λ q is.
@@ -39,4 +38,4 @@ returns-in-Err-clause-usage g c = λ is.
 pub returns-in-Err-clause-others : goal.returns-in-Err-clause-others
 returns-in-Err-clause-others g c =
     let words : List Text = map (λ word. word.now) c.args.words.now in
-    kept_all (g.S.Sources.same c.args.files.now) (option_and_then (λ q. written_by q) (request_of words)) (g.S.Sources.contents c.args.files.now) (g.S.Sources.contents c.args.files.now) refl
+    all_kept (g.S.Sources.same c.args.files.now) (written_for (request_of words)) (g.S.Sources.contents c.args.files.now) (g.S.Sources.contents c.args.files.now) refl

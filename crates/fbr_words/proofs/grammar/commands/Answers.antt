@@ -1,6 +1,6 @@
 use Rattle.std.proofs.Common.{◌≡◌, refl, rules}
 use Rattle.clap.specs.Words.{App, app_of, with_subcommand}
-use Rattle.fbr_words.specs.Program.{bound, check, sim, play, explain, draw, serve, top}
+use Rattle.fbr_words.specs.Program.{bound, check, sim, play, explain, draw, serve, replay, top}
 use Rattle.fbr_words.proofs.grammar.commands.Goals as goal
 
 pub returns : goal.returns
@@ -18,4 +18,6 @@ returns c =
     let fourth = c.with_command-plays.ensures three play third c.played.ensures refl in
     let fifth = c.with_command-explains.ensures four explain fourth c.explained.ensures refl in
     let sixth = c.with_command-draws.ensures five draw fifth c.drawn.ensures refl in
-    c.with_command.ensures six serve sixth c.served.ensures refl
+    let seven : App = with_subcommand six serve.top in
+    let seventh = c.with_command-serves.ensures six serve sixth c.served.ensures refl in
+    c.with_command.ensures seven replay seventh c.replayed.ensures refl

@@ -1,7 +1,7 @@
 use Rattle.std.proofs.Common.{ℕ, List, length, ◌==◌, not, lit<, rules, tests}
 use Rattle.std.proofs.lemmas.Iterator.Consumers.{YieldsList-from_filter, map_from_collect, YieldsList-at}
 use Rattle.std.proofs.lemmas.Iterator.Splits.{YieldsList-from_str_split}
-use Rattle.fb_script.proofs.line.words_of.Goals as goal
+use Rattle.fb_numbers.proofs.words.words_of.Goals as goal
 
 pub returns : goal.returns
 returns c =

@@ -1,0 +1,159 @@
+//! Reports of stories as JUnit XML, which test servers read.
+
+use crate::score::Score;
+use fbr_places::Writing;
+use std::alloc::{AllocError, Global};
+
+// What stands in the place of a character that XML 1.0 does not have.
+const NO_CHARACTER: &str = "\u{FFFD}";
+
+/// A report: what is written of the stories so far, and of the sequences of the one that is played. Nothing is written where none is asked for.
+#[derive(Drop)]
+pub(crate) struct Report {
+    alloc: Global,
+    is_asked: bool,
+    suites: Vec<u8>,
+    cases: Vec<u8>,
+}
+
+// Whether XML 1.0 does not have a character.
+fn is_unknown(character: char) -> bool {
+    match character {
+        '\t' | '\n' | '\r' => false,
+        '\u{0}'..='\u{1F}' | '\u{FFFE}' | '\u{FFFF}' => true,
+        _ => false,
+    }
+}
+
+// Writes a character of a text; in an attribute a line feed and a tab would be read as spaces.
+fn put_character(character: char, is_attribute: bool, writing: &mut Writing) {
+    match character {
+        '&' => writing.put("&amp;"),
+        '<' => writing.put("&lt;"),
+        '>' => writing.put("&gt;"),
+        '"' => writing.put("&quot;"),
+        '\r' => writing.put("&#13;"),
+        '\n' if is_attribute => writing.put("&#10;"),
+        '\t' if is_attribute => writing.put("&#9;"),
+        _ => {
+            if is_unknown(character) {
+                writing.put(NO_CHARACTER);
+            } else {
+                writing.show(&character);
+            }
+        }
+    }
+}
+
+// Writes a text.
+fn put_text(text: &str, writing: &mut Writing) {
+    for character in text.chars() {
+        put_character(character, false, writing);
+    }
+}
+
+// Writes an attribute.
+fn put_attribute(name: &str, text: &str, writing: &mut Writing) {
+    writing.put(" ");
+    writing.put(name);
+    writing.put("=\"");
+    for character in text.chars() {
+        put_character(character, true, writing);
+    }
+    writing.put("\"");
+}
+
+// Writes how many sequences there are, and how many failed.
+fn put_counts(score: Score, writing: &mut Writing) {
+    writing.put(" tests=\"");
+    writing.show(&score.count());
+    writing.put("\" failures=\"");
+    writing.show(&score.failed);
+    writing.put("\"");
+}
+
+// Writes what was told of a sequence that failed.
+fn put_failure(told: &[u8], writing: &mut Writing) {
+    let text = str::from_utf8(told).unwrap_or("");
+    let first = match text.split_once('\n') {
+        Some((first, _)) => first,
+        None => text,
+    };
+    writing.put(">\n<failure");
+    put_attribute("message", first, writing);
+    writing.put(">");
+    put_text(text, writing);
+    writing.put("</failure>\n</testcase>\n");
+}
+
+// The line of a sequence of the story of a file, with what was told if it failed.
+fn written_case(alloc: Global, file: &str, name: &str, told: Option<&[u8]>) -> Writing {
+    let mut writing = Writing::new(alloc);
+    let class = file.strip_suffix(".story").unwrap_or(file);
+    writing.put("<testcase");
+    put_attribute("classname", class, &mut writing);
+    put_attribute("name", name, &mut writing);
+    match told {
+        Some(told) => put_failure(told, &mut writing),
+        None => writing.put("/>\n"),
+    }
+    writing
+}
+
+impl Report {
+    /// Before the first story.
+    pub(crate) fn new(alloc: Global, is_asked: bool) -> Report {
+        Report {
+            alloc,
+            is_asked,
+            suites: Vec::new(alloc),
+            cases: Vec::new(alloc),
+        }
+    }
+
+    /// Adds a sequence of the story of a file, and what was told if it failed.
+    pub(crate) fn add(
+        &mut self,
+        file: &str,
+        name: &str,
+        told: Option<&[u8]>,
+    ) -> Result<(), AllocError> {
+        if self.is_asked {
+            let case = written_case(self.alloc, file, name, told).end()?;
+            self.cases.extend_from_slice(&case)?;
+        }
+        Ok(())
+    }
+
+    /// Ends the story of a file, whose sequences went so.
+    pub(crate) fn end_story(&mut self, file: &str, score: Score) -> Result<(), AllocError> {
+        if !self.is_asked {
+            return Ok(());
+        }
+        let mut head = Writing::new(self.alloc);
+        head.put("<testsuite");
+        put_attribute("name", file, &mut head);
+        put_counts(score, &mut head);
+        head.put(">\n");
+        self.suites.extend_from_slice(&head.end()?)?;
+        self.suites.extend_from_slice(&self.cases)?;
+        self.suites.extend_from_slice(b"</testsuite>\n")?;
+        self.cases = Vec::new(self.alloc);
+        Ok(())
+    }
+
+    /// The whole report of stories that went so; nothing where none is asked for.
+    pub(crate) fn end(&self, score: Score) -> Result<Vec<u8>, AllocError> {
+        if !self.is_asked {
+            return Ok(Vec::new(self.alloc));
+        }
+        let mut head = Writing::new(self.alloc);
+        head.put("<?xml version=\"1.0\" encoding=\"UTF-8\"?>\n<testsuites");
+        put_counts(score, &mut head);
+        head.put(">\n");
+        let mut whole = head.end()?;
+        whole.extend_from_slice(&self.suites)?;
+        whole.extend_from_slice(b"</testsuites>\n")?;
+        Ok(whole)
+    }
+}

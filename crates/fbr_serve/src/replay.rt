@@ -1,0 +1,240 @@
+//! Takes the turns of a record again.
+
+ghost use Rattle.std.specs.Prelude.{◌≡◌, ◌≤◌, IfOk};
+ghost use Rattle.fb_record.specs.Views as records;
+ghost use Rattle.fbr_serve.specs.Recording.{plays};
+
+use crate::feed::{Next, next_line};
+use crate::notes::Notes;
+use crate::printing::When;
+use crate::serve::{load_named, print_served};
+use crate::stop::Stop;
+use crate::sums::Sums;
+use crate::telling::Teller;
+use crate::turns::{Ran, Taken, take_turn};
+use fb_device::{Device, Ready};
+use fb_link::{MemoryLink, Plan};
+use fb_numbers::words_of;
+use fb_record::{Entry, Head, Recorder, is_digest, read_entry, read_head};
+use fbr_files::{Fault, FileText, print_outcome};
+use fbr_words::{Replay, Telling};
+use std::alloc::{AllocError, Global};
+use std::io;
+use std::io::{Read, Write};
+
+/// Why the turns of a record are not taken to its end.
+#[derive(Clone, Copy)]
+enum Halt {
+    /// The line of this number, counted from 1, says no turn.
+    Line(usize),
+    Memory,
+    /// The record could not be read.
+    Unreadable,
+}
+
+// A link that hands out what came in a turn, and takes what is sent.
+fn link_of(alloc: Global, entry: Entry, room: usize) -> Result<MemoryLink, AllocError>
+    ensures { IfOk result (λ m. m ≡ plays (records.entry_of entry) room) }
+{
+    let mut failing = Vec::new(alloc);
+    if entry.is_down {
+        failing.push(entry.datagrams.len() as u64 + 1)?;
+    }
+    let plan = Plan {
+        receives: failing,
+        sends: Vec::new(alloc),
+    };
+    MemoryLink::new(alloc, entry.datagrams, room, plan)
+}
+
+// Takes the turn that a record says.
+fn take_entry<W: Write, E: Write>(
+    alloc: Global,
+    device: &mut Device,
+    entry: Entry,
+    is_told: bool,
+    output: &mut W,
+    notes: &mut Notes<E, io::Sink>,
+) -> Result<Taken, AllocError> {
+    let when = When {
+        now: entry.now,
+        is_told,
+    };
+    let room = usize::from(device.resources());
+    let mut link = link_of(alloc, entry, room)?;
+    Ok(take_turn(device, &mut link, when, output, notes))
+}
+
+// Takes the turn that a line says.
+fn take_line<W: Write, E: Write>(
+    alloc: Global,
+    device: &mut Device,
+    line: &[u8],
+    is_told: bool,
+    output: &mut W,
+    notes: &mut Notes<E, io::Sink>,
+) -> Result<Option<Taken>, AllocError> {
+    let Ok(text) = str::from_utf8(line) else {
+        return Ok(None);
+    };
+    match read_entry(alloc, text)? {
+        Some(entry) => Ok(Some(take_entry(alloc, device, entry, is_told, output, notes)?)),
+        None => Ok(None),
+    }
+}
+
+// Takes the turns of the lines behind the first, and gives what they did in all.
+fn take_lines<R: Read, W: Write, E: Write>(
+    alloc: Global,
+    device: &mut Device,
+    is_told: bool,
+    reader: &mut R,
+    output: &mut W,
+    notes: &mut Notes<E, io::Sink>,
+) -> Result<Ran, Halt> {
+    let mut line = Vec::new(alloc);
+    let mut sums = Sums::none();
+    let mut is_lost = false;
+    for at in 2..usize::MAX {
+        match next_line(reader, &mut line) {
+            Next::Whole => {}
+            Next::End => break,
+            Next::TooLong => return Err(Halt::Line(at)),
+            Next::Memory => return Err(Halt::Memory),
+            Next::Failed => return Err(Halt::Unreadable),
+        }
+        match take_line(alloc, device, &line, is_told, output, notes) {
+            Ok(Some(taken)) => {
+                is_lost = is_lost || taken.is_lost;
+                match taken.end {
+                    Ok(report) => sums = sums.with(report),
+                    Err(stop) => {
+                        let end = Err(stop);
+                        return Ok(Ran { end, is_lost });
+                    }
+                }
+            }
+            Ok(None) => return Err(Halt::Line(at)),
+            Err(_) => return Err(Halt::Memory),
+        }
+    }
+    let end = Ok(sums);
+    Ok(Ran { end, is_lost })
+}
+
+// Tells people what is wrong with the first line of a record.
+fn refuse_head<'a, E: Write>(why: &str, errors: &mut E) -> Fault<'a> {
+    let _ = writeln!(errors, "fbr: {why}");
+    Fault::Line(1)
+}
+
+// The device of two texts that a record is of.
+fn load_head<'a, E: Write>(
+    alloc: Global,
+    app: &str,
+    cert: &str,
+    line: &str,
+    errors: &mut E,
+) -> Result<Ready, Fault<'a>> {
+    let words = words_of(alloc, line).map_err(|_| Fault::Memory)?;
+    let Some(
+        Head {
+            device,
+            boot,
+            app: app_digest,
+            cert: cert_digest,
+        },
+    ) = read_head(&words)
+    else {
+        return Err(refuse_head("this is no record of a device", errors));
+    };
+    if !is_digest(alloc, app_digest, app).map_err(|_| Fault::Memory)? {
+        return Err(refuse_head(
+            "the record was made with another text of the application",
+            errors,
+        ));
+    }
+    if !is_digest(alloc, cert_digest, cert).map_err(|_| Fault::Memory)? {
+        return Err(refuse_head("the record was made with another certificate", errors));
+    }
+    load_named(alloc, app, cert, device, boot)
+}
+
+/// The device that a record is of, out of the two files that it was made with. `Line`, 60, where the first line says no device, or other texts, of which people are
+/// told on `errors`.
+pub fn load_recorded<'a, R: Read, E: Write>(
+    alloc: Global,
+    app: &FileText<'a>,
+    cert: &FileText<'a>,
+    replay: Replay<'a>,
+    reader: &mut R,
+    errors: &mut E,
+) -> Result<Ready, Fault<'a>> {
+    let app = app.text()?;
+    let cert = cert.text()?;
+    let mut line = Vec::new(alloc);
+    match next_line(reader, &mut line) {
+        Next::Whole => {}
+        Next::End | Next::TooLong => {
+            return Err(refuse_head("this is no record of a device", errors));
+        }
+        Next::Memory => return Err(Fault::Memory),
+        Next::Failed => return Err(Fault::File(replay.record)),
+    }
+    match str::from_utf8(&line) {
+        Ok(line) => load_head(alloc, app, cert, line, errors),
+        Err(_) => Err(refuse_head("this is no record of a device", errors)),
+    }
+}
+
+// Prints what the turns of a record did in all, or why they were not taken to its end, and gives the program's status.
+fn print_replayed<W: Write>(
+    taken: Result<Ran, Halt>,
+    replay: Replay<'_>,
+    output: &mut W,
+) -> io::Result<u8>
+    ensures status { IfOk result (λ status. status ≤ 4) }
+{
+    match taken {
+        Ok(ran) => print_served(ran, output),
+        Err(Halt::Line(at)) => print_outcome(Err(Fault::Line(at)), output),
+        Err(Halt::Memory) => print_outcome(Err(Fault::Memory), output),
+        Err(Halt::Unreadable) => print_outcome(Err(Fault::File(replay.record)), output),
+    }
+}
+
+/// Starts a device, takes the turns of its record again, and prints what its OUTPUTs write, and at the end what the turns did in all. A last line that was cut is
+/// left out; one that says no turn ends it with 60.
+pub fn replay_ready<R: Read, W: Write, E: Write>(
+    alloc: Global,
+    ready: Ready,
+    replay: Replay<'_>,
+    reader: &mut R,
+    output: &mut W,
+    errors: &mut E,
+) -> io::Result<u8>
+    ensures status { IfOk result (λ status. status ≤ 4) }
+{
+    let telling = Telling {
+        is_verbose: replay.is_verbose,
+        summary: None,
+        has_clock: replay.has_clock,
+        is_strict: false,
+    };
+    let mut device = ready.start();
+    let mut notes = Notes {
+        errors,
+        people: Teller::new(telling),
+        recorder: Recorder::new(alloc, io::sink())?,
+    };
+    let taken = take_lines(
+        alloc,
+        &mut device,
+        replay.has_clock,
+        reader,
+        output,
+        &mut notes,
+    );
+    device.let_go();
+    print_replayed(taken, replay, output)
+}
