@@ -6,13 +6,14 @@ _fbr() {
         return
     fi
     case $command in
-        bound) options="--repeats --search --ranges --room --output --help" ;;
-        explain) options="--repeats --strict --help" ;;
+        bound) options="--repeats --search --ranges --room --json --output --help" ;;
+        explain) options="--repeats --strict --json --help" ;;
         draw) options="--repeats --flat --chart --output --help" ;;
         serve) options="--bind --from --turns --until-eof --boot --boot-file --verbose --summary --clock --stop-on-lost-output --record --sync --help" ;;
-        play) options="--watch --report --vcd --csv --help" ;;
-        replay) options="--verbose --clock --help" ;;
-        check | sim) options="--help" ;;
+        sim) options="--watch --vcd --csv --timeline --help" ;;
+        play) options="--watch --vcd --csv --timeline --report --help" ;;
+        replay) options="--verbose --clock --watch --vcd --csv --timeline --help" ;;
+        check) options="--json --help" ;;
         help) mapfile -t COMPREPLY < <(compgen -W "bound check sim play explain draw serve replay help" -- "$word") && return ;;
     esac
     if [ "${word:0:1}" = - ]; then

@@ -30,6 +30,8 @@ SECONDS = 600
 REFUSED = "refused 9\n"
 # What `explain` tells of 9.
 MEANING = "What it says: memory ran out\nWhat to do: give the process more memory\n"
+# What is told of 9 with `--json`, behind the command.
+REPORT = ',"line":"refused 9","number":9,"remedies":["give the process more memory"],"says":"memory ran out","schema":1,"status":4,"verdict":"refused"}\n'
 TIMER = """SYSTEM S DEVICE D RESOURCE R
 FBS GO : INPUT(ID := 1); HALT : INPUT(ID := 2); DLY : E_DELAY(DT := T#50ms); LAMP : OUTPUT(ID := 9); END_FBS
 EVENT_CONNECTIONS GO.IND TO DLY.START; HALT.IND TO DLY.STOP; DLY.EO TO LAMP.REQ; END_CONNECTIONS
@@ -99,6 +101,8 @@ class Plant:
             yield words, ""
         for words in (["explain", app], ["explain", app, self.bad], ["draw", app], ["draw", app, self.far], ["draw", app, self.far, "--chart", "counter"]):
             yield words, ""
+        for words in (["check", "--json", app, self.cert], ["check", "--json", app, self.bad], ["bound", "--json", app, "--repeats", "2"], ["explain", "--json", app, self.far]):
+            yield words, ""
         for cert in (self.cert, self.far):
             yield ["sim", app, cert], self.script
         if self.story:
@@ -134,8 +138,11 @@ def records(file):
         yield number, os.waitstatus_to_exitcode(status), file.read(printed).decode(), file.read(told).decode()
 
 
-def is_refusal(word, ample, told):
+def is_refusal(words, ample, told):
     """Is this the refusal for want of memory, of `sim` and `play` behind a beginning of the ample output? It is nothing where there is no memory for the words."""
+    word = words[0] if words else ""
+    if "--json" in words:
+        return told in ("", REFUSED, f'{{"command":"{word}"{REPORT}')
     if word in ("sim", "play"):
         lines, refused, rest = told.partition(REFUSED)
         return not told or refused and not rest and ample.startswith(lines)
@@ -151,7 +158,7 @@ def try_command(words, text, program, library, folder, where=None, expected=(0, 
     refused = 0
     for number, ended, printed, told in tried:
         same = ended == status and printed == ample
-        honest = same or ended == 4 and is_refusal(words[0] if words else "", ample, printed)
+        honest = same or ended == 4 and is_refusal(words, ample, printed)
         if not honest or "panic" in told:
             fail(f"{shown}: growth {number} of {len(tried)}: status {ended}, {printed[-300:]!r}, {told[-300:]!r}, of {ample!r}")
         refused += not same

@@ -1,7 +1,8 @@
 #!/usr/bin/env python3
-"""Tries what `-o` does to files, with a program that is there:  hostile/files.py PROGRAM
+"""Tries what commands do to files, with a program that is there:  hostile/files.py PROGRAM
 
-APP and CERT are never written, by whatever name; a file that is written is whole at every moment, and keeps its mode; other files stay as they are."""
+No file that is read is written, by whatever name; a file that is written is whole at every moment, and keeps its mode; other files stay as they are. A script is
+answered line by line, 1,000 lines back and forth."""
 import os
 import resource
 import shutil
@@ -15,11 +16,11 @@ PLANT = f"{TOP}/examples/button_and_cell"
 TOLD = "fbr: `-o` takes another file than APP and CERT\n"
 
 
-def run(program, *words, cwd, limit=None):
+def run(program, *words, cwd, limit=None, given=""):
     def limited():
         resource.setrlimit(resource.RLIMIT_FSIZE, (limit, limit))
 
-    return subprocess.run([program, *words], cwd=cwd, capture_output=True, text=True, timeout=60, preexec_fn=limited if limit is not None else None)
+    return subprocess.run([program, *words], cwd=cwd, capture_output=True, text=True, input=given, timeout=60, preexec_fn=limited if limit is not None else None)
 
 
 def read(path):
@@ -52,6 +53,51 @@ def clashes(program, folder):
         for name, held in before.items():
             assert read(f"{folder}/{name}") == held, words
     assert os.path.islink(f"{folder}/link.fb") and os.path.islink(f"{folder}/link.cert")
+
+
+def kept_apart(program, folder):
+    """No file that `sim`, `play` or `replay` reads is written, however it is spelled."""
+    options = "--vcd", "--csv", "--timeline"
+    told = "fbr: what is written would take the place of a file that is read: name another file\n"
+    tried = [(f"sim a.fb a.cert {option} {name}", "") for option in options for name in ("./a.fb", "hard.fb", "link.cert")]
+    tried += [(f"play a.fb a.cert a.story {option} {name}", "") for option in (*options, "--report") for name in ("hard.fb", "link.cert", "./a.story")]
+    tried += [(f"play a.fb a.story {option} a.story", "") for option in (*options, "--report")]
+    tried += [(f"replay a.fb a.cert a.record {option} {name}", "") for option in options for name in ("hard.fb", "link.cert", "inner/../a.record")]
+    tried.append(("replay a.fb a.cert - --csv a.cert", ""))
+    for words, given in tried:
+        before = {name: read(f"{folder}/{name}") for name in ("a.fb", "a.cert", "a.story", "a.record")}
+        ran = run(program, *words.split(), cwd=folder)
+        assert (ran.returncode, ran.stdout, ran.stderr) == (2, "refused 63\n", told), (words, ran)
+        for name, held in before.items():
+            assert read(f"{folder}/{name}") == held, words
+
+
+def kept_whole(program, folder):
+    """What is kept of a run goes into the files that are named, in place of what they held, or leaves them as they were."""
+    script = "offer D 1\ndispatch D R\n"
+    for limit in (None, 16):
+        for option in ("--vcd", "--csv", "--timeline"):
+            with open(f"{folder}/kept", "wb") as it:
+                it.write(b"what was here before\n")
+            ran = run(program, "sim", "a.fb", "a.cert", option, "kept", cwd=folder, limit=limit, given=script)
+            held = read(f"{folder}/kept")
+            if limit is None:
+                assert ran.returncode == 0 and held.startswith({"--vcd": b"$version", "--csv": b"time,", "--timeline": b"<?xml"}[option]), (option, ran)
+            else:
+                assert ran.returncode != 0 and held == b"what was here before\n", (option, ran, held)
+
+
+def back_and_forth(program, folder):
+    """Each line of a script is answered before the next one is written."""
+    with subprocess.Popen([program, "sim", "a.fb", "a.cert"], cwd=folder, stdin=subprocess.PIPE, stdout=subprocess.PIPE, text=True) as it:
+        for at in range(1000):
+            it.stdin.write(f"tick D {at}\n")
+            it.stdin.flush()
+            assert it.stdout.readline() == "fired 0\n", at
+        it.stdin.write("offer D 1")
+        it.stdin.close()
+        assert it.stdout.read() == "cause 1\n"
+        assert it.wait(60) == 0
 
 
 def written(program, folder):
@@ -97,10 +143,17 @@ def main():
         shutil.copy(f"{PLANT}.cert", f"{folder}/a.cert")
         with open(f"{folder}/bad.fb", "w", encoding="utf-8") as it:
             it.write("SYSTEM S\n")
+        with open(f"{folder}/a.story", "w", encoding="utf-8") as it:
+            it.write("SEQUENCE pressed\n    D.BUTTON -> ..;\nEND_SEQUENCE\n")
+        with open(f"{folder}/a.record", "w", encoding="utf-8") as it:
+            it.write("turn 0\n")
         clashes(program, folder)
+        kept_apart(program, folder)
         written(program, folder)
         kept(program, folder)
-    print("files: APP and CERT are not written, and what is written is whole")
+        kept_whole(program, folder)
+        back_and_forth(program, folder)
+    print("files: what is read is not written, what is written is whole, and scripts are answered line by line")
 
 
 if __name__ == "__main__":

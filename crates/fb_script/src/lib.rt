@@ -8,6 +8,6 @@ mod run;
 mod told;
 
 pub use line::{Line, LineFault, read_line};
-pub use playing::tell;
-pub use run::{End, simulate};
+pub use playing::{Asked, ask, tell, tell_dispatched};
+pub use run::{End, next_text, simulate};
 pub use told::{Told, Written};

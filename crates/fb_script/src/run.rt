@@ -1,6 +1,9 @@
 //! Whole scripts.
 
-ghost use Rattle.std.specs.Prelude.{◌≡◌, ◌≤◌, length, IfOk, Some, slice_get};
+ghost use Rattle.std.specs.Prelude.{◌≡◌, IfOk, MatchResult, Some, slice_get};
+ghost use Rattle.std.specs.Io.Buffered.{reader_remaining};
+ghost use Rattle.std.specs.Io.KnownBytes.{Keeps};
+ghost use Rattle.std.specs.Str.Lines.{StripsCarriageReturn};
 ghost use Rattle.fb_model.specs.System.{Device};
 ghost use Rattle.fb_model.specs.World.{At_device, A_dispatch};
 ghost use Rattle.fb_device.specs.Answers.{answer_of, HasPlace};
@@ -10,16 +13,21 @@ ghost use Rattle.fb_world.specs.Answers.{device_of, event_of, leaves_at, steps_o
 ghost use Rattle.fb_script.specs.Texts.{answer_text, root_text, told_text};
 ghost use Rattle.fb_script.specs.Views.{command_of};
 ghost use Rattle.fb_script.specs.Steps.{IsWritten, HasHappened, IsObeyed, IsStep};
-ghost use Rattle.fb_script.specs.Runs.{IsRun};
+ghost use Rattle.fb_script.specs.Runs.{HaltsAt, IsLine, IsRun};
+ghost use Rattle.fb_script.specs.declared.run.End.TheVariants.{Unreadable};
 
 use crate::line::{Line, LineFault, read_line};
 use crate::playing::{Asked, ask, tell, tell_dispatched};
 use crate::told::Told;
 use fb_device::{Answer, Dispatched};
 use fb_world::{Missed, RootSteps, World, WorldAnswer, WorldEvent};
+use fbr_lines::{Next, next_line};
 use std::alloc::Global;
 use std::io;
-use std::io::Write;
+use std::io::{BufReader, Read, Write};
+
+// The most bytes of a line, its line feed counted.
+const LONGEST: usize = 1_048_576;
 
 /// How a script ends.
 #[derive(Clone, Copy)]
@@ -28,6 +36,8 @@ pub enum End {
     Done,
     /// The line of this number, counted from 1, is of another form, or its device, its resource, its datagram or its root is unknown. Neither it nor a later one was run.
     Line(usize),
+    /// The script could not be read on, or its next line is no UTF-8 or has more than 1,048,576 bytes. No later line was run.
+    Unreadable,
     /// Memory ran out at a line. Neither it nor a later one was run.
     OutOfMemory,
 }
@@ -177,26 +187,73 @@ fn step<W: Write>(
     }
 }
 
-/// Runs the lines of a script on a world, in order, up to the first that is bad. Each answer is written on a line of its own. The datagrams of all devices are
-/// numbered from 1 as they are sent, and come to a device where a line delivers them.
-pub fn simulate<W: Write>(
+// A line without the carriage return at its end, where there is one.
+fn without_return(line: &[u8]) -> &[u8]
+    ensures { StripsCarriageReturn line.now result.now }
+{
+    match line {
+        [rest @ .., b'\r'] => rest,
+        _ => line,
+    }
+}
+
+// A text, where bytes are one.
+fn text_in(bytes: &[u8]) -> Result<&str, End>
+    ensures { MatchResult result (λ text. text.now ≡ bytes.now) (λ end. end ≡ Unreadable) }
+{
+    match str::from_utf8(bytes) {
+        Ok(text) => Ok(text),
+        Err(_) => Err(End::Unreadable),
+    }
+}
+
+/// The next line of a script, or how it ends. A carriage return before a line feed belongs to it.
+pub fn next_text<'l, I: Read>(
+    script: &mut BufReader<I>,
+    line: &'l mut Vec<u8>,
+) -> Result<&'l str, End>
+    ensures { MatchResult result (λ text. IsLine (reader_remaining I.remaining script.old) text.now (reader_remaining I.remaining script.new)) (HaltsAt (reader_remaining I.remaining script.old)) }
+{
+    match next_line(script, line, LONGEST) {
+        Next::Whole => text_in(without_return(line)),
+        Next::Last => text_in(line),
+        Next::End => Err(End::Done),
+        Next::TooLong => Err(End::Unreadable),
+        Next::Failed => Err(End::Unreadable),
+        Next::Memory => Err(End::OutOfMemory),
+    }
+}
+
+// Shows what was written where that is waited for.
+fn show<W: Write>(is_waited: bool, output: &mut W) -> io::Result<()>
+    ensures { IfOk result (λ _. Keeps (W.contents output.old) (W.contents output.new)) }
+{
+    if is_waited { output.flush() } else { Ok(()) }
+}
+
+/// Runs the lines of a script on a world, in order, up to the first that is bad. Each answer is written on a line of its own, and shown before the script is waited
+/// for. The datagrams of all devices are numbered from 1 as they are sent, and come to a device where a line delivers them.
+pub fn simulate<I: Read, W: Write>(
     alloc: Global,
     world: &mut World,
-    script: &str,
+    script: &mut BufReader<I>,
     output: &mut W,
 ) -> io::Result<End>
-    requires { length script.now ≤ 33554432 }
-    ensures runs { IfOk result (λ end. IsRun world.old script.now (W.contents output.old) (W.contents output.new) end world.new) }
+    ensures runs { IfOk result (λ end. IsRun world.old (reader_remaining I.remaining script.old) (W.contents output.old) (W.contents output.new) end world.new) }
     ensures same { world.new.verified ≡ world.old.verified }
 {
-    let mut number = 0;
-    for line in script.lines() {
-        number += 1;
-        match step(alloc, world, line, number, output) {
+    let mut line = Vec::new(alloc);
+    for number in 1..usize::MAX {
+        let text = match next_text(script, &mut line) {
+            Ok(text) => text,
+            Err(end) => return Ok(end),
+        };
+        match step(alloc, world, text, number, output) {
             Ok(None) => {}
             Ok(Some(end)) => return Ok(end),
             Err(error) => return Err(error),
         }
+        show(script.buffer().is_empty(), output)?;
     }
-    Ok(End::Done)
+    Ok(End::Unreadable)
 }

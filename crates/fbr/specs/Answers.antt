@@ -1,6 +1,6 @@
 -- What becomes of a command: this project's profile.
-use Rattle.std.specs.Prelude.{◌≡◌, ◌⊎◌, ℕ, ◌==◌, Bool, List, [], ◌∷◌, ◌++◌, Option, None, Some, IsSome, Result, Ok, Err, codes, if◌then◌else◌}
-use Rattle.std.specs.List.{ends_with}
+use Rattle.std.specs.Prelude.{◌≡◌, ◌⊎◌, ℕ, ◌==◌, ◌&&◌, Bool, true, List, [], ◌∷◌, ◌++◌, Option, None, Some, IsSome, is_none, length, Result, Ok, Err, codes, if◌then◌else◌}
+use Rattle.std.specs.List.{ends_with, AllByRecursion}
 use Rattle.std.specs.Io.KnownBytes.{Appends}
 use Rattle.fb_numbers.specs.Numbers.{number_in}
 use Rattle.fb_verified.specs.declared.verified.Verified.{Verified}
@@ -8,12 +8,18 @@ use Rattle.fbr_files.specs.declared.fault.Fault.{Fault}
 use Rattle.fbr_files.specs.declared.fault.Fault.TheVariants.{Usage}
 use Rattle.fbr_files.specs.Outcomes.{Outcome, Tells, outcome_said, refusal}
 use Rattle.fbr_files.specs.Writing.{Sameness, Holdings, AreApart, Meet, Writes, LeavesAllBut}
-use Rattle.fbr_words.specs.Program.{Sought, Plays, Question, Drawing, Service, Asked, a_bound, a_check, a_sim, a_play, an_explain, a_draw, a_serve, a_replay}
+use Rattle.fbr_words.specs.Program.{Sought, Watching, Simulating, Plays, Replaying, Question, Drawing, Service, Asked, a_bound, a_check, a_sim, a_play, an_explain, a_draw, a_serve, a_replay}
 use Rattle.fbr_check.specs.Verdicts.{TellsFiles, IsFilesOutcome, IsVerified}
 use Rattle.fbr_find.specs.Bounding.{IsSoughtText, IsSoughtFault}
 use Rattle.fbr_sim.specs.Simulation.{TellsScript}
 use Rattle.fbr_play.specs.Scores.{TellsStories}
 use Rattle.fbr_serve.specs.Serving.{TellsServe}
+
+-- ---- JSON
+
+-- JSON is printed, of which nothing is said; or else this is so
+abbrev pub OrJson : Bool → Type 0 → Type 0
+OrJson json told = (json ≡ true) ⊎ told
 
 -- ---- a file that is written
 
@@ -66,13 +72,43 @@ TellsBeside q (Some cert) before old new status = number_in q.what ≡ None → 
 abbrev pub TellsExplain : Question → Holdings → Option (List ℕ) → Option (List ℕ) → ℕ → Type 0
 TellsExplain q before old new status = TellsBeside q q.cert before old new status
 
+-- ---- what is kept of a run
+
+-- the file that is written, where one is, is none of these
+abbrev pub AllApart : Sameness → Option (List ℕ) → List (List ℕ) → Type 0
+AllApart same into names = AllByRecursion (λ name. AreApart same into (Some name)) names
+
+-- neither is a file in which something is kept
+abbrev pub AreKeptApart : Sameness → Watching → List (List ℕ) → Type 0
+AreKeptApart same w names = AllApart same w.dump names × (AllApart same w.table names × AllApart same w.timeline names)
+
+-- a file is named in which something is kept
+abbrev pub NamesKept : Watching → Type 0
+NamesKept w = IsSome w.dump ⊎ (IsSome w.table ⊎ IsSome w.timeline)
+
+-- nothing is watched
+abbrev pub is_plain : Watching → Bool
+is_plain w = (length w.paths == 0) && (is_none w.dump && (is_none w.table && is_none w.timeline))
+
 -- ---- a simulation
 
--- the verdict is told where it refuses; else the two texts fit, and the script is run
-abbrev pub TellsSim : List ℕ → List ℕ → Option (List ℕ) → Option (List ℕ) → Option (List ℕ) → Option (List ℕ) → Option (List ℕ) → ℕ → Type 0
-TellsSim one two held_one held_two held old new status =
+-- the verdict is told where it refuses; else the two texts fit, and the script is run. Of one that is watched nothing is said.
+abbrev pub TellsSimulated : Watching → List ℕ → List ℕ → Option (List ℕ) → Option (List ℕ) → Option (List ℕ) → Option (List ℕ) → Option (List ℕ) → ℕ → Type 0
+TellsSimulated w one two held_one held_two held old new status =
     ((f : Fault) × IsFilesOutcome {A = Unit {0}} one two held_one held_two (Err f) × Tells (refusal f) old new status)
-    ⊎ ((v : Verified) × IsVerified one two held_one held_two (Ok v) × TellsScript v held old new status)
+    ⊎ ((v : Verified) × IsVerified one two held_one held_two (Ok v) × (is_plain w ≡ true → TellsScript v held old new status))
+
+-- the words are at fault, which they may be where a file is to be written: it is none that is read
+abbrev pub TellsSim : Simulating → Sameness → Holdings → Option (List ℕ) → Option (List ℕ) → Option (List ℕ) → ℕ → Type 0
+TellsSim q same before held old new status =
+    (NamesKept q.watched × Tells (refusal Usage) old new status)
+    ⊎ (AreKeptApart same q.watched (q.app ∷ q.cert ∷ []) × TellsSimulated q.watched q.app q.cert (before q.app) (before q.cert) held old new status)
+
+-- ---- a record
+
+-- the same of a replay, of which nothing more is said
+abbrev pub TellsReplay : Replaying → Sameness → Option (List ℕ) → Option (List ℕ) → ℕ → Type 0
+TellsReplay q same old new status = (NamesKept q.watched × Tells (refusal Usage) old new status) ⊎ AreKeptApart same q.watched (q.app ∷ q.cert ∷ q.recorded ∷ [])
 
 -- ---- stories
 
@@ -90,24 +126,33 @@ abbrev pub stories_in : List (List ℕ) → List (List ℕ)
 stories_in [] = []
 stories_in (name ∷ names) = if is_story name then name ∷ names else names
 
--- the verdict is told where it refuses; else the two texts fit, and the status is that of a score or of a refusal
+-- the verdict is told where it refuses; else the two texts fit, and the last line and the status are those of a score or of a refusal
 abbrev pub TellsPlayed : List ℕ → List ℕ → Option (List ℕ) → Option (List ℕ) → Option (List ℕ) → Option (List ℕ) → ℕ → Type 0
 TellsPlayed one two held_one held_two old new status =
     ((f : Fault) × IsFilesOutcome {A = Unit {0}} one two held_one held_two (Err f) × Tells (refusal f) old new status)
-    ⊎ ((v : Verified) × IsVerified one two held_one held_two (Ok v) × TellsStories new status)
+    ⊎ ((v : Verified) × IsVerified one two held_one held_two (Ok v) × TellsStories old new status)
 
--- so it is where a certificate is named
+-- so are they where a certificate was to be found, or a refusal is told
+abbrev pub TellsFound : Option (List ℕ) → Option (List ℕ) → ℕ → Type 0
+TellsFound old new status = TellsStories old new status ⊎ ((f : Fault) × Tells (refusal f) old new status)
+
+-- which of these, by the certificate that is named
 abbrev pub TellsWith : Plays → Option (List ℕ) → Holdings → Option (List ℕ) → Option (List ℕ) → ℕ → Type 0
-TellsWith q None before old new status = Unit {0}
+TellsWith q None before old new status = TellsFound old new status
 TellsWith q (Some cert) before old new status = TellsPlayed q.app cert (before q.app) (before cert) old new status
 
 -- a file is named that is to be written
 abbrev pub NamesOne : Plays → Type 0
-NamesOne q = IsSome q.report ⊎ (IsSome q.dump ⊎ IsSome q.table)
+NamesOne q = IsSome q.report ⊎ NamesKept q.watched
 
--- the words are at fault where no story is named, and may be where a file is to be written: it must be none that is read
-abbrev pub TellsPlays : Plays → Holdings → Option (List ℕ) → Option (List ℕ) → ℕ → Type 0
-TellsPlays q before old new status = (((stories_in q.files ≡ []) ⊎ NamesOne q) × Tells (refusal Usage) old new status) ⊎ TellsWith q (cert_in q.files) before old new status
+-- what is written is none of the files that are read
+abbrev pub ArePlayedApart : Sameness → Plays → Type 0
+ArePlayedApart same q = AllApart same q.report (q.app ∷ q.files) × AreKeptApart same q.watched (q.app ∷ q.files)
+
+-- the words are at fault where no story is named, and may be where a file is to be written: it is none that is read
+abbrev pub TellsPlays : Plays → Sameness → Holdings → Option (List ℕ) → Option (List ℕ) → ℕ → Type 0
+TellsPlays q same before old new status =
+    (((stories_in q.files ≡ []) ⊎ NamesOne q) × Tells (refusal Usage) old new status) ⊎ (ArePlayedApart same q × TellsWith q (cert_in q.files) before old new status)
 
 -- ---- a device
 
@@ -121,12 +166,11 @@ pub record TellsServed (q : Service) (same : Sameness) (before after : Holdings)
 
 -- what becomes of what is asked for, by what files and standard input hold
 abbrev pub Answers : Asked → Sameness → Holdings → Holdings → Option (List ℕ) → Option (List ℕ) → Option (List ℕ) → ℕ → Type 0
-Answers (a_bound q) same before after input old new status = TellsBound q same before after old new status
-Answers (a_check q) same before after input old new status = TellsFiles q.app q.cert (before q.app) (before q.cert) old new status
-Answers (a_sim q) same before after input old new status = TellsSim q.app q.cert (before q.app) (before q.cert) input old new status
-Answers (a_play q) same before after input old new status = TellsPlays q before old new status
-Answers (an_explain q) same before after input old new status = TellsExplain q before old new status
+Answers (a_bound q) same before after input old new status = OrJson q.json (TellsBound q same before after old new status)
+Answers (a_check q) same before after input old new status = OrJson q.json (TellsFiles q.app q.cert (before q.app) (before q.cert) old new status)
+Answers (a_sim q) same before after input old new status = TellsSim q same before input old new status
+Answers (a_play q) same before after input old new status = TellsPlays q same before old new status
+Answers (an_explain q) same before after input old new status = OrJson q.json (TellsExplain q before old new status)
 Answers (a_draw q) same before after input old new status = TellsDraw q same before after old new status
 Answers (a_serve q) same before after input old new status = TellsServed q same before after old new status
--- what `replay` tells is not said
-Answers (a_replay q) same before after input old new status = Unit {0}
+Answers (a_replay q) same before after input old new status = TellsReplay q same old new status

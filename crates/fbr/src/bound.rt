@@ -4,9 +4,10 @@ ghost use Rattle.std.specs.Prelude.{◌≡◌, ◌≤◌, Some, IfOk, IfSome, op
 ghost use Rattle.fbr_files.specs.Outcomes.{Tells, refusal};
 ghost use Rattle.fbr_files.specs.Writing.{AreApart, LeavesAllBut};
 ghost use Rattle.fbr_words.specs.Requests.{sought_of};
-ghost use Rattle.fbr.specs.Answers.{IsPutOut, TellsBound};
+ghost use Rattle.fbr.specs.Answers.{IsPutOut, OrJson, TellsBound};
 
 use crate::given::{Files, tell};
+use crate::json::bound_json;
 use crate::misread::misused;
 use fbr_check::texts_verified;
 use fbr_files::{Fault, Sources, into_another, print_outcome, print_text, write_into};
@@ -20,8 +21,8 @@ use std::io::Write;
 /// What people are told where a file that is read would be written.
 pub const CLASH: &str = "fbr: `-o` takes another file than APP and CERT";
 
-// A text is printed, or written into the file that is named.
-fn put_out<'a, S: Sources, W: Write, E: Write>(
+/// A text is printed, or written into the file that is named.
+pub fn put_out<'a, S: Sources, W: Write, E: Write>(
     files: &mut S,
     into: Option<&'a str>,
     text: &str,
@@ -38,6 +39,19 @@ fn put_out<'a, S: Sources, W: Write, E: Write>(
     }
 }
 
+/// The files that were read for what is wanted.
+pub fn files_of<'b, 'a>(wanted: &'b Wanted<'a>) -> Files<'b, 'a> {
+    Files {
+        app: &wanted.app,
+        cert: None,
+        rows: match &wanted.ranges {
+            RangesFrom::Within(file) => Some(file),
+            _ => None,
+        },
+        repeats: wanted.repeats,
+    }
+}
+
 // Tells why there is no certificate, and people too.
 fn refuse<'a, W: Write, E: Write>(
     alloc: Global,
@@ -49,16 +63,7 @@ fn refuse<'a, W: Write, E: Write>(
     ensures told { IfOk result (λ status. Tells (refusal fault.entry) (W.contents output.old) (W.contents output.new) status) }
     ensures status { IfOk result (λ status. status ≤ 4) }
 {
-    let given = Files {
-        app: &wanted.app,
-        cert: None,
-        rows: match &wanted.ranges {
-            RangesFrom::Within(file) => Some(file),
-            _ => None,
-        },
-        repeats: wanted.repeats,
-    };
-    tell(alloc, &fault, given, errors);
+    tell(alloc, &fault, files_of(wanted), errors);
     print_outcome(Err(fault), output)
 }
 
@@ -97,9 +102,9 @@ fn find<'a, S: Sources, W: Write, E: Write>(
     }
 }
 
-/// Finds a certificate as it is asked for of the application in a file, and writes its text on `output`, or into the file that is named, or why there is none; on `errors`
-/// people are told of a fault, and of queues that do not take each arrival once. The application's own file is not written: such words are at fault.
-pub fn bound<'a, S: Sources, W: Write, E: Write>(
+// Finds a certificate as it is asked for of the application in a file, and writes its text on `output`, or into the file that is named, or why there is none; on `errors`
+// people are told of a fault, and of queues that do not take each arrival once. The application's own file is not written: such words are at fault.
+fn bound_text<'a, S: Sources, W: Write, E: Write>(
     alloc: Global,
     request: Bound<'a>,
     files: &mut S,
@@ -115,4 +120,23 @@ pub fn bound<'a, S: Sources, W: Write, E: Write>(
         return misused(CLASH, output, errors);
     }
     find(alloc, request, files, output, errors)
+}
+
+/// The same, or with `--json` a report of it.
+pub fn bound<'a, S: Sources, W: Write, E: Write>(
+    alloc: Global,
+    request: Bound<'a>,
+    files: &mut S,
+    output: &mut W,
+    errors: &mut E,
+) -> io::Result<u8>
+    requires { IfSome request.repeats (λ n. 1 ≤ n) }
+    ensures told { IfOk result (λ status. OrJson request.entry.is_json (TellsBound (sought_of request.entry) (S.same files.old) (S.contents files.old) (S.contents files.new) (W.contents output.old) (W.contents output.new) status)) }
+    ensures others { LeavesAllBut (S.same files.old) (sought_of request.entry).into (S.contents files.old) (S.contents files.new) }
+    ensures status { IfOk result (λ status. status ≤ 4) }
+{
+    if request.is_json {
+        return bound_json(alloc, request, files, output, errors);
+    }
+    bound_text(alloc, request, files, output, errors)
 }

@@ -3,12 +3,14 @@
 ghost use Rattle.std.specs.Prelude.{◌≡◌, ◌≤◌, ℕ, List, Option, IfOk};
 ghost use Rattle.fbr_check.specs.Verdicts.{IsFilesOutcome, TellsInput, TellsFiles};
 ghost use Rattle.fbr_files.specs.Reading.{IsRead};
+ghost use Rattle.fbr.specs.Answers.{OrJson};
 
 use crate::given::{Files, tell};
+use crate::json::check_json;
 use fbr_check::{files_verified, input_outcome};
 use fbr_files::{Fault, FileText, Sources, print_outcome, read_file};
 use fbr_tell::tell_shallow;
-use fbr_words::TwoFiles;
+use fbr_words::Check;
 use std::alloc::Global;
 use std::io;
 use std::io::{Read, Write};
@@ -45,10 +47,10 @@ fn warned_outcome<'a, E: Write>(
     }
 }
 
-/// Checks two files, and writes the outcome and nothing else; on `errors` people are told of a fault, and of queues that do not take each arrival once.
-pub fn check<'a, S: Sources, W: Write, E: Write>(
+// Checks two files, and writes the outcome and nothing else; on `errors` people are told of a fault, and of queues that do not take each arrival once.
+fn check_text<'a, S: Sources, W: Write, E: Write>(
     alloc: Global,
-    request: TwoFiles<'a>,
+    request: Check<'a>,
     files: &S,
     output: &mut W,
     errors: &mut E,
@@ -63,4 +65,22 @@ pub fn check<'a, S: Sources, W: Write, E: Write>(
         tell(alloc, fault, Files::two(&app, &cert), errors);
     }
     print_outcome(outcome, output)
+}
+
+/// Checks two files, and writes the outcome and nothing else, or with `--json` a report of it; on `errors` people are told of a fault, and of queues that do not take
+/// each arrival once.
+pub fn check<'a, S: Sources, W: Write, E: Write>(
+    alloc: Global,
+    request: Check<'a>,
+    files: &S,
+    output: &mut W,
+    errors: &mut E,
+) -> io::Result<u8>
+    ensures told { IfOk result (λ status. OrJson request.entry.is_json (TellsFiles request.entry.app.now request.entry.cert.now (S.contents files.now request.entry.app.now) (S.contents files.now request.entry.cert.now) (W.contents output.old) (W.contents output.new) status)) }
+    ensures status { IfOk result (λ status. status ≤ 4) }
+{
+    if request.is_json {
+        return check_json(alloc, request, files, output, errors);
+    }
+    check_text(alloc, request, files, output, errors)
 }

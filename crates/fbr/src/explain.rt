@@ -4,9 +4,10 @@ ghost use Rattle.std.specs.Prelude.{◌≡◌, ◌⊎◌, ◌≤◌, ℕ, List, 
 ghost use Rattle.fbr_files.specs.Outcomes.{outcome_said};
 ghost use Rattle.fbr_files.specs.Reading.{IsRead};
 ghost use Rattle.fbr_words.specs.Requests.{question_of};
-ghost use Rattle.fbr.specs.Answers.{Begins, TellsVerdict, TellsExplain};
+ghost use Rattle.fbr.specs.Answers.{Begins, OrJson, TellsVerdict, TellsExplain};
 
 use crate::given::named;
+use crate::json::explain_json;
 use fb_numbers::read_number;
 use fbr_check::files_verified;
 use fbr_files::{Fault, FileText, Sources, print_outcome, read_file};
@@ -112,9 +113,9 @@ fn explain_one<W: Write>(
     }
 }
 
-/// Explains the number of a refusal or a denial, or else the verdict over the application in the file of this name: with the certificate of a second file, or with the one
-/// that is found. The first line is that of `check`, or of `bound` where there is no certificate, and so is the status; where one is strict, it is 1 too where there are notes.
-pub fn explain<'a, S: Sources, W: Write>(
+// Explains the number of a refusal or a denial, or else the verdict over the application in the file of this name: with the certificate of a second file, or with the one
+// that is found. The first line is that of `check`, or of `bound` where there is no certificate, and so is the status; where one is strict, it is 1 too where there are notes.
+fn explain_text<'a, S: Sources, W: Write>(
     alloc: Global,
     request: Explain<'a>,
     files: &S,
@@ -135,4 +136,22 @@ pub fn explain<'a, S: Sources, W: Write>(
         }
         None => explain_one(alloc, &app, request, output),
     }
+}
+
+/// Explains the number of a refusal or a denial, or else the verdict over the application in the file of this name: with the certificate of a second file, or with the one
+/// that is found; with `--json` in a report.
+pub fn explain<'a, S: Sources, W: Write>(
+    alloc: Global,
+    request: Explain<'a>,
+    files: &S,
+    output: &mut W,
+) -> io::Result<u8>
+    requires { IfSome request.repeats (λ n. 1 ≤ n) }
+    ensures told { IfOk result (λ status. OrJson request.entry.is_json (TellsExplain (question_of request.entry) (S.contents files.now) (W.contents output.old) (W.contents output.new) status)) }
+    ensures status { IfOk result (λ status. status ≤ 4) }
+{
+    if request.is_json {
+        return explain_json(alloc, request, files, output);
+    }
+    explain_text(alloc, request, files, output)
 }

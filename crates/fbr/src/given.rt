@@ -58,13 +58,17 @@ pub fn maybe_named<'b>(file: Option<&'b FileText<'b>>) -> Option<NamedFile<'b>> 
     }
 }
 
-/// Tells people of a fault.
-pub fn tell<E: Write>(alloc: Global, fault: &Fault<'_>, files: Files<'_, '_>, errors: &mut E) {
-    let given = Given {
+/// All files as those who tell people take them.
+pub fn given_of<'b>(files: Files<'b, 'b>) -> Given<'b> {
+    Given {
         app: named(files.app),
         cert: maybe_named(files.cert),
         rows: maybe_named(files.rows),
         repeats: files.repeats,
-    };
-    hint(alloc, fault, given, errors);
+    }
+}
+
+/// Tells people of a fault.
+pub fn tell<E: Write>(alloc: Global, fault: &Fault<'_>, files: Files<'_, '_>, errors: &mut E) {
+    hint(alloc, fault, given_of(files), errors);
 }

@@ -8,6 +8,8 @@ mod check;
 mod draw;
 mod explain;
 mod given;
+mod json;
+mod kept;
 mod misread;
 mod piped;
 mod play;

@@ -1,23 +1,27 @@
 //! `fbr play`.
 
-ghost use Rattle.std.specs.Prelude.{◌≡◌, ◌≤◌, ◌++◌, true, IfOk, IsSome, map, option_map};
-ghost use Rattle.fbr_files.specs.Writing.{LeavesAll, LeavesAllBut};
-ghost use Rattle.fbr_words.specs.Program.{a_play, if_named, written_by};
+ghost use Rattle.std.specs.Prelude.{◌≡◌, ◌≤◌, false, true, IfOk, map, option_map};
+ghost use Rattle.fbr_files.specs.declared.fault.Fault.TheVariants.{Memory};
+ghost use Rattle.fbr_files.specs.Outcomes.{Tells, refusal};
+ghost use Rattle.fbr_files.specs.Writing.{LeavesAll};
+ghost use Rattle.fbr_words.specs.Program.{a_play, written_by};
 ghost use Rattle.fbr_words.specs.Requests.{plays_of};
 ghost use Rattle.fbr_play.specs.Scores.{TellsStories};
 ghost use Rattle.fbr.specs.Answers as answers;
-ghost use Rattle.fbr.specs.Answers.{NamesOne, TellsPlayed, TellsPlays};
+ghost use Rattle.fbr.specs.Answers.{ArePlayedApart, NamesOne, TellsFound, TellsPlayed, TellsPlays};
 
 use crate::given::{Files, tell};
+use crate::kept::{OVERWRITTEN, is_read, overwrites, put_kept, put_maybe, wish_of};
 use crate::misread::misused;
 use fbr_check::{files_verified, texts_verified};
-use fbr_files::{Fault, FileText, Sources, into_another, print_outcome, put_text, read_file};
+use fbr_files::{Fault, FileText, Sources, print_outcome, read_file};
 use fbr_find::read_wanted;
-use fbr_play::{Kept, Played, Stories, play_all, print_end};
-use fbr_words::{Bound, Play, Ranges, TwoFiles, Written};
+use fbr_play::{Played, Score, Stories, play_all, print_end};
+use fbr_watch::Seen;
+use fbr_words::{Bound, Play, Ranges};
 use std::alloc::Global;
 use std::io;
-use std::io::Write;
+use std::io::{ErrorKind, Write};
 
 // What people are told where no story is named.
 const NO_STORY: &str = "fbr: no story is named, and names of stories end in .story";
@@ -49,107 +53,95 @@ fn stories_in<'b, 'a>(files: &'b [&'a str]) -> &'b [&'a str]
     }
 }
 
-// What people are told where a file that is read would be written.
-const OVERWRITTEN: &str =
-    "fbr: what is written would take the place of the application, the certificate or a story: name another file";
-
 // Stories over the application that a file holds, with what is asked for beside them.
 fn stories_of<'t, 'b, 'a>(app: &'t FileText<'_>, request: &'b Play<'a>) -> Stories<'t, 'b, 'a> {
-    let written = request.written;
     Stories {
         app: app.text().unwrap_or(""),
         names: stories_in(request.files.as_slice()),
-        watched: request.watched.as_slice(),
-        kept: Kept {
-            has_report: written.report.is_some(),
-            has_dump: written.dump.is_some(),
-            has_table: written.table.is_some(),
-        },
+        wish: wish_of(&request.watched),
+        has_report: request.report.is_some(),
     }
-}
-
-// Whether a file that is written, where one is, is one that is read.
-fn is_read<S: Sources>(files: &S, into: Option<&str>, request: &Play<'_>) -> bool
-    ensures { result ≡ true → IsSome (option_map (λ name. name.now) into.entry) }
-{
-    if into.is_none() {
-        return false;
-    }
-    if !into_another(files, into, Some(request.app)) {
-        return true;
-    }
-    for name in request.files.as_slice() {
-        if !into_another(files, into, Some(*name)) {
-            return true;
-        }
-    }
-    false
 }
 
 // Whether one of the files that are written is one that is read.
-fn overwrites<S: Sources>(files: &S, request: &Play<'_>) -> bool
-    ensures { result ≡ true → NamesOne (plays_of request.now) }
+fn overwrites_one<S: Sources>(files: &S, request: &Play<'_>) -> bool
+    ensures apart { result ≡ false → ArePlayedApart (S.same files.now) (plays_of request.now) }
+    ensures named { result ≡ true → NamesOne (plays_of request.now) }
 {
-    let Written {
+    let others = request.files.as_slice();
+    if is_read(files, request.report, request.app, others) {
+        return true;
+    }
+    overwrites(files, &request.watched, request.app, others)
+}
+
+// Puts a report and what was kept of stories into the files that are named, where they were played to their end; or says which file could not be written.
+fn put_played<'a, S: Sources>(
+    files: &mut S,
+    request: &Play<'a>,
+    report: &[u8],
+    seen: &Seen,
+) -> Result<(), Fault<'a>>
+    ensures { LeavesAll (S.same files.old) (written_by (a_play (plays_of request.now))) (S.contents files.old) (S.contents files.new) }
+{
+    let told = put_maybe(files, request.report, report);
+    let kept = put_kept(files, &request.watched, seen);
+    told.and(kept)
+}
+
+// How stories went, once what was kept of them is in its files, where they were played to their end.
+fn outcome_of<'a, S: Sources>(
+    files: &mut S,
+    request: &Play<'a>,
+    played: Played<'a>,
+) -> Result<Score, Fault<'a>>
+    ensures { LeavesAll (S.same files.old) (written_by (a_play (plays_of request.now))) (S.contents files.old) (S.contents files.new) }
+{
+    let Played {
+        outcome,
         report,
-        dump,
-        table,
-    } = request.written;
-    if is_read(files, report, request) {
-        return true;
-    }
-    if is_read(files, dump, request) {
-        return true;
-    }
-    is_read(files, table, request)
-}
-
-// Puts a text into a file, where one is named.
-fn put_maybe<'a, S: Sources>(
-    files: &mut S,
-    into: Option<&'a str>,
-    text: &[u8],
-) -> Result<(), Fault<'a>>
-    ensures others { LeavesAllBut (S.same files.old) (option_map (λ name. name.now) into.entry) (S.contents files.old) (S.contents files.new) }
-    ensures names { S.same files.new ≡ S.same files.old }
-{
-    match into {
-        Some(name) => put_text(files, name, text),
-        None => Ok(()),
+        seen,
+    } = played;
+    match outcome {
+        Ok(score) => match put_played(files, request, &report, &seen) {
+            Ok(()) => Ok(score),
+            Err(fault) => Err(fault),
+        },
+        Err(fault) => Err(fault),
     }
 }
 
-// Puts what was kept into the files that are named; or says which of them could not be written.
-fn put_kept<'a, S: Sources>(
-    files: &mut S,
-    written: Written<'a>,
-    played: &Played<'_>,
-) -> Result<(), Fault<'a>>
-    ensures { LeavesAll (S.same files.old) (if_named (option_map (λ name. name.now) written.entry.report) ++ (if_named (option_map (λ name. name.now) written.entry.dump) ++ if_named (option_map (λ name. name.now) written.entry.table))) (S.contents files.old) (S.contents files.new) }
-{
-    let report = put_maybe(files, written.report, &played.report);
-    let dump = put_maybe(files, written.dump, &played.dump);
-    let table = put_maybe(files, written.table, &played.table);
-    report.and(dump).and(table)
-}
-
-// Puts what was kept of stories into the files that are named, tells how they went, and gives the program's status.
-fn finish<S: Sources, W: Write>(
-    files: &mut S,
-    written: Written<'_>,
-    played: Played<'_>,
-    output: &mut W,
-) -> io::Result<u8>
-    ensures told { IfOk result (λ status. TellsStories (W.contents output.new) status) }
-    ensures others { LeavesAll (S.same files.old) (if_named (option_map (λ name. name.now) written.entry.report) ++ (if_named (option_map (λ name. name.now) written.entry.dump) ++ if_named (option_map (λ name. name.now) written.entry.table))) (S.contents files.old) (S.contents files.new) }
+// Tells that there was no memory for what is told of stories, where an error says so.
+fn spent<W: Write>(error: io::Error, output: &mut W) -> io::Result<u8>
+    ensures told { IfOk result (λ status. Tells (refusal Memory) (W.contents output.old) (W.contents output.new) status) }
     ensures status { IfOk result (λ status. status ≤ 4) }
 {
-    if played.outcome.is_err() {
-        return print_end(played.outcome, output);
+    if error.kind() == ErrorKind::OutOfMemory {
+        print_outcome(Err(Fault::Memory), output)
+    } else {
+        Err(error)
     }
-    match put_kept(files, written, &played) {
-        Ok(()) => print_end(played.outcome, output),
-        Err(fault) => print_end(Err(fault), output),
+}
+
+// Puts what was kept of stories into the files that are named, and tells how they went behind a page, which tells what came otherwise.
+fn finish<'a, S: Sources, W: Write>(
+    files: &mut S,
+    request: &Play<'a>,
+    played: Played<'a>,
+    page: &mut Vec<u8>,
+    output: &mut W,
+) -> io::Result<u8>
+    ensures told { IfOk result (λ status. TellsStories (W.contents output.old) (W.contents output.new) status) }
+    ensures others { LeavesAll (S.same files.old) (written_by (a_play (plays_of request.now))) (S.contents files.old) (S.contents files.new) }
+    ensures status { IfOk result (λ status. status ≤ 4) }
+{
+    let outcome = outcome_of(files, request, played);
+    match print_end(outcome, page) {
+        Ok(status) => {
+            output.write_all(page)?;
+            Ok(status)
+        }
+        Err(error) => spent(error, output),
     }
 }
 
@@ -162,6 +154,7 @@ fn play_one<S: Sources, W: Write, E: Write>(
     output: &mut W,
     errors: &mut E,
 ) -> io::Result<u8>
+    ensures told { IfOk result (λ status. TellsFound (W.contents output.old) (W.contents output.new) status) }
     ensures others { LeavesAll (S.same files.old) (written_by (a_play (plays_of request.now))) (S.contents files.old) (S.contents files.new) }
     ensures status { IfOk result (λ status. status ≤ 4) }
 {
@@ -171,6 +164,7 @@ fn play_one<S: Sources, W: Write, E: Write>(
         into: None,
         ranges: Ranges::Rounds,
         room: None,
+        is_json: false,
     };
     let wanted = read_wanted(alloc, files, bound);
     let verified = match wanted.text(alloc) {
@@ -183,9 +177,10 @@ fn play_one<S: Sources, W: Write, E: Write>(
     match verified {
         Ok(verified) => {
             let stories = stories_of(&wanted.app, request);
-            match play_all(alloc, verified, stories, files, output, errors) {
-                Ok(played) => finish(files, request.written, played, output),
-                Err(error) => Err(error),
+            let mut page = Vec::new(alloc);
+            match play_all(alloc, verified, stories, files, &mut page, errors) {
+                Ok(played) => finish(files, request, played, &mut page, output),
+                Err(error) => spent(error, output),
             }
         }
         Err(fault) => {
@@ -195,10 +190,17 @@ fn play_one<S: Sources, W: Write, E: Write>(
     }
 }
 
+// The files of an application and of its certificate.
+#[derive(Clone, Copy)]
+struct Both<'a> {
+    app: &'a str,
+    cert: &'a str,
+}
+
 // Plays stories over an application and its certificate, where it fits.
 fn play_two<S: Sources, W: Write, E: Write>(
     alloc: Global,
-    both: TwoFiles<'_>,
+    both: Both<'_>,
     request: &Play<'_>,
     files: &mut S,
     output: &mut W,
@@ -213,9 +215,10 @@ fn play_two<S: Sources, W: Write, E: Write>(
     match files_verified(alloc, &app, &cert) {
         Ok(verified) => {
             let stories = stories_of(&app, request);
-            match play_all(alloc, verified, stories, files, output, errors) {
-                Ok(played) => finish(files, request.written, played, output),
-                Err(error) => Err(error),
+            let mut page = Vec::new(alloc);
+            match play_all(alloc, verified, stories, files, &mut page, errors) {
+                Ok(played) => finish(files, request, played, &mut page, output),
+                Err(error) => spent(error, output),
             }
         }
         Err(fault) => {
@@ -235,7 +238,7 @@ pub fn play<S: Sources, W: Write, E: Write>(
     output: &mut W,
     errors: &mut E,
 ) -> io::Result<u8>
-    ensures told { IfOk result (λ status. TellsPlays (plays_of request.entry) (S.contents files.old) (W.contents output.old) (W.contents output.new) status) }
+    ensures told { IfOk result (λ status. TellsPlays (plays_of request.entry) (S.same files.old) (S.contents files.old) (W.contents output.old) (W.contents output.new) status) }
     ensures others { LeavesAll (S.same files.old) (written_by (a_play (plays_of request.entry))) (S.contents files.old) (S.contents files.new) }
     ensures status { IfOk result (λ status. status ≤ 4) }
 {
@@ -243,12 +246,12 @@ pub fn play<S: Sources, W: Write, E: Write>(
     if stories_in(named).is_empty() {
         return misused(NO_STORY, output, errors);
     }
-    if overwrites(files, &request) {
+    if overwrites_one(files, &request) {
         return misused(OVERWRITTEN, output, errors);
     }
     match cert_in(named) {
         Some(cert) => {
-            let both = TwoFiles {
+            let both = Both {
                 app: request.app,
                 cert,
             };

@@ -1,6 +1,6 @@
 //! Notes on charts: states that no transition leads to, algorithms that no state runs, and event outputs that none emits.
 
-use crate::noted::{Noting, Page};
+use crate::noted::{NoteKind, Noting, Page};
 use fb_tree::{BlockTree, ChartTree};
 
 // Whether an action of a chart runs an algorithm, or emits an event output.
@@ -38,7 +38,7 @@ pub fn note_chart(page: Page<'_>, block: &BlockTree, chart: &ChartTree, notes: &
     for event in &block.event_outputs {
         let name = event.name.text.as_str();
         if !is_done(chart, name, true) {
-            notes.begin(event.name.at);
+            notes.begin(NoteKind::EventNeverEmitted, event.name.at);
             notes.put("no state of ", owner, " emits ", name);
         }
     }
@@ -48,14 +48,14 @@ pub fn note_chart(page: Page<'_>, block: &BlockTree, chart: &ChartTree, notes: &
         let is_begin = is_first;
         is_first = false;
         if !is_begin && !is_entered(chart, name) {
-            notes.begin(state.name.at);
+            notes.begin(NoteKind::StateNeverEntered, state.name.at);
             notes.put("no transition of ", owner, " leads to ", name);
         }
     }
     for algorithm in &chart.algorithms {
         let name = algorithm.name.text.as_str();
         if !is_done(chart, name, false) {
-            notes.begin(algorithm.name.at);
+            notes.begin(NoteKind::AlgorithmNeverRun, algorithm.name.at);
             notes.put("no state of ", owner, " runs ", name);
         }
     }

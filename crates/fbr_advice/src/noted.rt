@@ -13,11 +13,48 @@ pub struct Page<'a> {
     pub types: Types<'a>,
 }
 
+/// What a note is of.
+#[derive(Clone, Copy)]
+pub enum NoteKind {
+    NeverUsed,
+    NeverRead,
+    NeverWritten,
+    TimeWithoutUnit,
+    EventNeverEmitted,
+    StateNeverEntered,
+    AlgorithmNeverRun,
+    InstanceNeverReached,
+    EventLeadsNowhere,
+    ValueNeverTaken,
+    ValueNeverGiven,
+    ArithmeticMayWrap,
+}
+
+impl NoteKind {
+    /// Its name, which stays the same.
+    pub fn name(self) -> &'static str {
+        match self {
+            NoteKind::NeverUsed => "never-used",
+            NoteKind::NeverRead => "never-read",
+            NoteKind::NeverWritten => "never-written",
+            NoteKind::TimeWithoutUnit => "time-without-unit",
+            NoteKind::EventNeverEmitted => "event-never-emitted",
+            NoteKind::StateNeverEntered => "state-never-entered",
+            NoteKind::AlgorithmNeverRun => "algorithm-never-run",
+            NoteKind::InstanceNeverReached => "instance-never-reached",
+            NoteKind::EventLeadsNowhere => "event-leads-nowhere",
+            NoteKind::ValueNeverTaken => "value-never-taken",
+            NoteKind::ValueNeverGiven => "value-never-given",
+            NoteKind::ArithmeticMayWrap => "arithmetic-may-wrap",
+        }
+    }
+}
+
 /// Notes on a text.
 #[derive(Drop)]
 pub struct Notes {
-    /// The byte that each is on.
-    pub places: Vec<usize>,
+    /// What each is of, and the byte that it is on.
+    pub places: Vec<(NoteKind, usize)>,
     /// What each says, a line each.
     pub said: String,
     /// At how many more places arithmetic may wrap.
@@ -27,7 +64,7 @@ pub struct Notes {
 /// Notes that are put together.
 #[derive(Drop)]
 pub struct Noting {
-    places: Vec<usize>,
+    places: Vec<(NoteKind, usize)>,
     said: Writing,
     is_whole: bool,
 }
@@ -42,9 +79,9 @@ impl Noting {
         }
     }
 
-    /// Begins a note on a byte.
-    pub fn begin(&mut self, at: usize) {
-        if self.places.push(at).is_err() {
+    /// Begins a note of a kind on a byte.
+    pub fn begin(&mut self, kind: NoteKind, at: usize) {
+        if self.places.push((kind, at)).is_err() {
             self.is_whole = false;
         }
     }

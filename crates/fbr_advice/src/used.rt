@@ -1,6 +1,6 @@
 //! Notes on variables: those that are never written, or never read, and numbers without a unit for a TIME.
 
-use crate::noted::{Noting, Page};
+use crate::noted::{NoteKind, Noting, Page};
 use crate::tokens::{index_at, mark_of, name_of};
 use fb_lex::Token;
 use fb_tree::{BlockTree, ChartTree, Constant, Literal, Name, VariableTree};
@@ -81,13 +81,13 @@ fn note_variable(page: Page<'_>, asked: Asked<'_>, name: &Name, notes: &mut Noti
         .unwrap_or(UNUSED);
     let unread = asked.reads && !found.is_read;
     let unwritten = asked.writes && !found.is_written;
-    let says = match (unread, unwritten) {
-        (true, true) => " is never used",
-        (true, false) => " is never read",
-        (false, true) => " is never written",
+    let (kind, says) = match (unread, unwritten) {
+        (true, true) => (NoteKind::NeverUsed, " is never used"),
+        (true, false) => (NoteKind::NeverRead, " is never read"),
+        (false, true) => (NoteKind::NeverWritten, " is never written"),
         (false, false) => return,
     };
-    notes.begin(name.at);
+    notes.begin(kind, name.at);
     notes.put(name.text.as_str(), " of ", asked.block, says);
 }
 
@@ -95,7 +95,7 @@ fn note_variable(page: Page<'_>, asked: Asked<'_>, name: &Name, notes: &mut Noti
 pub fn note_time(page: Page<'_>, of_type: ElemType, value: &Constant, notes: &mut Noting) {
     match (of_type, value.value) {
         (ElemType::Time, Literal::Whole(_, number)) if number > 0 => {
-            notes.begin(value.at);
+            notes.begin(NoteKind::TimeWithoutUnit, value.at);
             notes.said().put(
                 "a TIME of so many milliseconds: write its unit, as T#30s or T#30ms\n",
             );

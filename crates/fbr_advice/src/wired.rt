@@ -1,6 +1,6 @@
 //! Notes on networks: instances that no event reaches, event outputs that lead nowhere, and values that no event is WITH.
 
-use crate::noted::{Noting, Page};
+use crate::noted::{NoteKind, Noting, Page};
 use crate::used::note_time;
 use fb_tree::{BlockTree, BodyTree, EventTree, InstanceTree, NetworkTree, PortTree};
 use fbr_places::{Port, instance_named};
@@ -50,14 +50,14 @@ fn note_events(
 ) {
     let name = instance.name.text.as_str();
     if !block.event_inputs.is_empty() && !is_reached(network, name) {
-        notes.begin(instance.name.at);
+        notes.begin(NoteKind::InstanceNeverReached, instance.name.at);
         notes.put("no event reaches ", name, "", "");
         return;
     }
     for event in &block.event_outputs {
         let own = event.name.text.as_str();
         if own != "INITO" && !is_led(network, name, own) {
-            notes.begin(instance.name.at);
+            notes.begin(NoteKind::EventLeadsNowhere, instance.name.at);
             notes.put(name, ".", own, " leads nowhere");
         }
     }
@@ -80,13 +80,21 @@ fn note_end(
     for block in &page.types.file.blocks {
         let is_type = block.name.text.as_str() == instance.of_type.text.as_str();
         let is_basic = matches!(&block.body, BodyTree::Chart(_));
-        let (events, says) = if is_target {
-            (&block.event_inputs, ": this value is never taken")
+        let (events, kind, says) = if is_target {
+            (
+                &block.event_inputs,
+                NoteKind::ValueNeverTaken,
+                ": this value is never taken",
+            )
         } else {
-            (&block.event_outputs, ": this value is never given")
+            (
+                &block.event_outputs,
+                NoteKind::ValueNeverGiven,
+                ": this value is never given",
+            )
         };
         if is_type && is_basic && !is_carried(events, port.text.as_str()) {
-            notes.begin(port.at);
+            notes.begin(kind, port.at);
             notes.said().put("no event of ");
             notes.said().put(block.name.text.as_str());
             notes.put(" is WITH ", port.text.as_str(), says, "");

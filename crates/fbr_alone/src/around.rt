@@ -27,6 +27,18 @@ pub struct Alone {
     pub text: String,
 }
 
+impl Alone {
+    /// The name of a block within the one instance of the type, by the path of the block in its resource. The instance itself has the empty name.
+    pub fn within<'p>(&self, path: &'p str) -> Option<&'p str> {
+        let rest = path.strip_prefix(self.instance.as_str())?;
+        if rest.is_empty() {
+            Some(rest)
+        } else {
+            rest.strip_prefix('.')
+        }
+    }
+}
+
 /// What a name is of block types.
 #[derive(Drop)]
 pub enum Found {

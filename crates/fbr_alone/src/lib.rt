@@ -4,7 +4,9 @@
 
 mod arguments;
 mod around;
+mod subjects;
 mod system;
 
 pub use arguments::{Argument, EventInput};
 pub use around::{Alone, BEFORE_PATHS, Found, alone_in};
+pub use subjects::{Subject, subjects_in};

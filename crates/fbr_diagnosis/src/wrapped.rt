@@ -7,7 +7,7 @@ use fb_tree::{BodyTree, ChartTree};
 use fb_types_blocks::Block;
 use fb_verified::Verified;
 use fb_words::Mark;
-use fbr_advice::noted::{Noting, Page};
+use fbr_advice::noted::{NoteKind, Noting, Page};
 use fbr_advice::tokens::{index_at, mark_of, put_spelled};
 use fbr_faults::{Wrap, algorithm_wraps, guard_wraps};
 use fbr_leaves::block_in;
@@ -111,7 +111,7 @@ fn spelled<'a>(page: Page<'a>, wrap: Wrap) -> &'a str {
 
 // Writes the note on an operation.
 fn note_wrap(page: Page<'_>, wrap: Wrap, notes: &mut Noting) {
-    notes.begin(wrap.at);
+    notes.begin(NoteKind::ArithmeticMayWrap, wrap.at);
     let writing = notes.said();
     put_spelled(spelled(page, wrap), writing);
     let low = wrap.low;

@@ -108,8 +108,8 @@ pub fn channels_behind<'a>(
     Ok(channels)
 }
 
-// The leaves of a channel each, in text order.
-fn leaves_by_channel<'a>(
+/// The leaves of each channel, in text order.
+pub fn leaves_by_channel<'a>(
     alloc: Global,
     flat: &'a Flat,
 ) -> Result<IndexMap<u16, Vec<&'a Leaf>>, AllocError> {

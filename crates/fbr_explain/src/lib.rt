@@ -11,5 +11,6 @@ mod told;
 mod walk;
 
 pub use bounds::tell_bounds;
+pub use channels::{Ways, channels_behind, leaves_by_channel};
 pub use finding::tell_lead;
-pub use told::{meaning_parts, tell_diagnosis};
+pub use told::{meaning_parts, narrower_said, tell_diagnosis};

@@ -5,7 +5,7 @@ use fbr_places::{Named, Writing, tell_where};
 
 /// Writes notes on a text, a line each, and behind them at how many more places arithmetic may wrap.
 pub fn tell_notes(app: Named<'_>, notes: &Notes, writing: &mut Writing) {
-    for (at, says) in notes.places.iter().zip(notes.said.lines()) {
+    for ((_, at), says) in notes.places.iter().zip(notes.said.lines()) {
         tell_where(app, *at, writing);
         writing.put(": note: ");
         writing.put(says);

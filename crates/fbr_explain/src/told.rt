@@ -23,16 +23,25 @@ fn tell_meaning(meaning: Option<Meaning>, writing: &mut Writing) {
     }
 }
 
+/// Whether narrower ranges help, in one sentence, if it is known.
+pub fn narrower_said(is_narrower: Option<bool>) -> &'static str {
+    match is_narrower {
+        Some(true) => {
+            "There is a certificate with narrower ranges: `fbr bound APP --search` finds it."
+        }
+        Some(false) => {
+            "Narrower ranges were looked for, and under none of them it is clear: let a test of the plain variable against a number stand right before it (LANGUAGE.md has a table of spellings)."
+        }
+        None => "",
+    }
+}
+
 // Writes whether narrower ranges help.
 fn tell_narrower(is_narrower: Option<bool>, writing: &mut Writing) {
-    match is_narrower {
-        Some(true) => writing.put(
-            "There is a certificate with narrower ranges: `fbr bound APP --search` finds it.\n",
-        ),
-        Some(false) => writing.put(
-            "Narrower ranges were looked for, and under none of them it is clear: let a test of the plain variable against a number stand right before it (LANGUAGE.md has a table of spellings).\n",
-        ),
-        None => {}
+    let said = narrower_said(is_narrower);
+    if !said.is_empty() {
+        writing.put(said);
+        writing.put("\n");
     }
 }
 

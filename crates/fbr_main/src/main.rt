@@ -168,8 +168,13 @@ fn is_served(words: &[&str]) -> bool {
     matches!(words.get(1).copied(), Some("serve"))
 }
 
-// Whether the words ask for an explanation.
+// Whether the words ask for an explanation for people.
 fn is_explained(words: &[&str]) -> bool {
+    for word in words {
+        if *word == "--json" {
+            return false;
+        }
+    }
     matches!(words.get(1).copied(), Some("explain"))
 }
 

@@ -5,6 +5,8 @@ use crate::writing::Writing;
 /// A character of a text: its line, and its place there.
 #[derive(Clone, Copy)]
 pub struct Spot<'a> {
+    /// The number of its first byte in the text, from 0.
+    pub byte: usize,
     /// The number of the line, from 1.
     pub line: usize,
     /// The number of the character in its line, from 1; at the line's end one more than it has.
@@ -36,6 +38,7 @@ impl<'a> Spot<'a> {
         for (index, line) in text.split('\n').enumerate() {
             if rest <= line.len() {
                 return Some(Spot {
+                    byte,
                     line: index.saturating_add(1),
                     column: characters_before(line, rest).saturating_add(1),
                     text: without_return(line),
@@ -48,12 +51,19 @@ impl<'a> Spot<'a> {
 
     /// Where a line of a text begins, of which the first is line 1; nothing where the text has fewer.
     pub fn of_line(text: &'a str, number: usize) -> Option<Spot<'a>> {
-        let line = text.split('\n').nth(number.saturating_sub(1))?;
-        Some(Spot {
-            line: number,
-            column: 1,
-            text: without_return(line),
-        })
+        let mut byte: usize = 0;
+        for (index, line) in text.split('\n').enumerate() {
+            if index == number.saturating_sub(1) {
+                return Some(Spot {
+                    byte,
+                    line: number,
+                    column: 1,
+                    text: without_return(line),
+                });
+            }
+            byte = byte.saturating_add(line.len()).saturating_add(1);
+        }
+        None
     }
 
     /// Writes the line, and a mark below the character.

@@ -23,6 +23,6 @@ abbrev pub TellsEnd : Result Score Fault → Option (List ℕ) → Option (List 
 TellsEnd (Ok s) old new status = TellsScore s old new status
 TellsEnd (Err f) old new status = Tells (refusal f) old new status
 
--- the status is that of a score or of a refusal. The line is the last one only if it is known what was told before it, and nothing here says that it is.
-abbrev pub TellsStories : Option (List ℕ) → ℕ → Type 0
-TellsStories new status = (before : Option (List ℕ)) × (outcome : Result Score Fault) × TellsEnd outcome before new status
+-- behind a page stands the line of a score, or why stories were not played to their end
+abbrev pub TellsStories : Option (List ℕ) → Option (List ℕ) → ℕ → Type 0
+TellsStories old new status = (page : List ℕ) × (between : Option (List ℕ)) × (outcome : Result Score Fault) × Appends old between page × TellsEnd outcome between new status

@@ -2,12 +2,12 @@
 
 use fb_device::{release, share};
 use fb_verified::Verified;
-use fbr_alone::{Alone, BEFORE_PATHS, Found, alone_in};
+use fbr_alone::{Alone, BEFORE_PATHS, Found, Subject, alone_in};
 use fbr_check::texts_verified;
 use fbr_files::{FileText, Held};
 use fbr_find::{RangesFrom, Wanted};
 use fbr_places::Writing;
-use fbr_story::{Fault, Names, Subject, unknown_block};
+use fbr_story::{Fault, Names, unknown_block};
 use std::alloc::{AllocError, Global};
 use std::rc::Rc;
 

@@ -16,4 +16,4 @@ mod story_file;
 mod telling;
 
 pub use score::{Score, print_end, print_score};
-pub use stories::{Kept, Played, Stories, play_all};
+pub use stories::{Played, Stories, play_all};

@@ -2,10 +2,8 @@
 
 use crate::score::Score;
 use fbr_places::Writing;
+use fbr_timeline::{put_attribute, put_escaped};
 use std::alloc::{AllocError, Global};
-
-// What stands in the place of a character that XML 1.0 does not have.
-const NO_CHARACTER: &str = "\u{FFFD}";
 
 /// A report: what is written of the stories so far, and of the sequences of the one that is played. Nothing is written where none is asked for.
 #[derive(Drop)]
@@ -14,53 +12,6 @@ pub(crate) struct Report {
     is_asked: bool,
     suites: Vec<u8>,
     cases: Vec<u8>,
-}
-
-// Whether XML 1.0 does not have a character.
-fn is_unknown(character: char) -> bool {
-    match character {
-        '\t' | '\n' | '\r' => false,
-        '\u{0}'..='\u{1F}' | '\u{FFFE}' | '\u{FFFF}' => true,
-        _ => false,
-    }
-}
-
-// Writes a character of a text; in an attribute a line feed and a tab would be read as spaces.
-fn put_character(character: char, is_attribute: bool, writing: &mut Writing) {
-    match character {
-        '&' => writing.put("&amp;"),
-        '<' => writing.put("&lt;"),
-        '>' => writing.put("&gt;"),
-        '"' => writing.put("&quot;"),
-        '\r' => writing.put("&#13;"),
-        '\n' if is_attribute => writing.put("&#10;"),
-        '\t' if is_attribute => writing.put("&#9;"),
-        _ => {
-            if is_unknown(character) {
-                writing.put(NO_CHARACTER);
-            } else {
-                writing.show(&character);
-            }
-        }
-    }
-}
-
-// Writes a text.
-fn put_text(text: &str, writing: &mut Writing) {
-    for character in text.chars() {
-        put_character(character, false, writing);
-    }
-}
-
-// Writes an attribute.
-fn put_attribute(name: &str, text: &str, writing: &mut Writing) {
-    writing.put(" ");
-    writing.put(name);
-    writing.put("=\"");
-    for character in text.chars() {
-        put_character(character, true, writing);
-    }
-    writing.put("\"");
 }
 
 // Writes how many sequences there are, and how many failed.
@@ -82,7 +33,7 @@ fn put_failure(told: &[u8], writing: &mut Writing) {
     writing.put(">\n<failure");
     put_attribute("message", first, writing);
     writing.put(">");
-    put_text(text, writing);
+    put_escaped(text, writing);
     writing.put("</failure>\n</testcase>\n");
 }
 

@@ -8,26 +8,19 @@ use fb_device::{release, share};
 use fb_verified::Verified;
 use fbr_files::{Fault, Sources, read_file};
 use fbr_places::Named;
-use fbr_watch::{Kept as Sinks, Signals, Unwatched, Watching, find_signals};
-use std::alloc::{AllocError, Global};
+use fbr_signals::Signals;
+use fbr_watch::{Seen, Wish};
+use std::alloc::Global;
 use std::io;
 use std::io::Write;
 
-/// Stories by the names of their files, the text of the application that they are of, the paths whose changes are told, and what else is asked for.
+/// Stories by the names of their files, the text of the application that they are of, what is watched, and whether there is to be a report.
 #[derive(Clone, Copy)]
 pub struct Stories<'t, 'b, 'a> {
     pub app: &'t str,
     pub names: &'b [&'a str],
-    pub watched: &'b [&'a str],
-    pub kept: Kept,
-}
-
-/// What is kept of stories: a report, and what has changed as a value change dump and as a table. These are of what is watched, or of all where nothing is.
-#[derive(Clone, Copy)]
-pub struct Kept {
+    pub wish: Wish<'b, 'a>,
     pub has_report: bool,
-    pub has_dump: bool,
-    pub has_table: bool,
 }
 
 /// How stories went: how many of their sequences passed and failed, or what refused one of them; and what was kept, which is empty where it is not asked for, and
@@ -37,10 +30,7 @@ pub struct Played<'a> {
     pub outcome: Result<Score, Fault<'a>>,
     /// As JUnit XML.
     pub report: Vec<u8>,
-    /// As a value change dump.
-    pub dump: Vec<u8>,
-    /// As comma-separated values.
-    pub table: Vec<u8>,
+    pub seen: Seen,
 }
 
 // What came of stories of which one is refused.
@@ -48,8 +38,7 @@ fn refused<'a>(alloc: Global, fault: Fault<'a>) -> Played<'a> {
     Played {
         outcome: Err(fault),
         report: Vec::new(alloc),
-        dump: Vec::new(alloc),
-        table: Vec::new(alloc),
+        seen: Seen::nothing(alloc),
     }
 }
 
@@ -101,25 +90,6 @@ fn play_files<'a, S: Sources, W: Write, E: Write>(
     Ok(Ok(all))
 }
 
-// What watches the sequences.
-fn watching_of<'s, 'a>(
-    alloc: Global,
-    stories: Stories<'_, '_, '_>,
-    signals: &'s Signals<'a>,
-) -> Result<Watching<'s, 'a, Vec<u8>>, AllocError> {
-    let mut sinks = Sinks {
-        table: None,
-        dump: None,
-    };
-    if stories.kept.has_table {
-        sinks.table = Some(Vec::new(alloc));
-    }
-    if stories.kept.has_dump {
-        sinks.dump = Some(Vec::new(alloc));
-    }
-    Watching::new(alloc, signals, !stories.watched.is_empty(), sinks)
-}
-
 // What is kept of stories that went so.
 fn kept_of<'a>(
     alloc: Global,
@@ -127,13 +97,12 @@ fn kept_of<'a>(
     notes: Notes<'_, '_>,
 ) -> io::Result<Played<'a>> {
     let Notes { report, watching } = notes;
-    let Sinks { table, dump } = watching.end()?;
+    let seen = Seen::of(alloc, watching)?;
     match played {
         Ok(score) => Ok(Played {
             outcome: Ok(score),
             report: report.end(score)?,
-            dump: dump.unwrap_or(Vec::new(alloc)),
-            table: table.unwrap_or(Vec::new(alloc)),
+            seen,
         }),
         Err(fault) => Ok(refused(alloc, fault)),
     }
@@ -149,40 +118,15 @@ fn play_watched<'a, S: Sources, W: Write, E: Write>(
     errors: &mut E,
 ) -> io::Result<Played<'a>> {
     let alloc = stage.alloc;
-    let Ok(watching) = watching_of(alloc, stories, signals) else {
+    let Ok(watching) = stories.wish.watching(alloc, signals) else {
         return Ok(refused(alloc, Fault::Memory));
     };
     let mut notes = Notes {
-        report: Report::new(alloc, stories.kept.has_report),
+        report: Report::new(alloc, stories.has_report),
         watching,
     };
     let played = play_files(stage, stories, files, &mut notes, output, errors)?;
     kept_of(alloc, played, notes)
-}
-
-// Tells people why something cannot be watched.
-fn refuse_watch<'a, E: Write>(alloc: Global, unwatched: Unwatched, errors: &mut E) -> Played<'a> {
-    match unwatched {
-        Unwatched::Memory => refused(alloc, Fault::Memory),
-        Unwatched::Pattern(_, text) => {
-            let _ = errors.write_all(b"fbr: ");
-            let _ = errors.write_all(&text);
-            let _ = errors.write_all(b"\n");
-            refused(alloc, Fault::Usage)
-        }
-    }
-}
-
-// The signals that are watched: those that paths name, or all where none is named and what has changed is kept.
-fn signals_of<'a>(
-    alloc: Global,
-    verified: &'a Verified,
-    stories: Stories<'_, '_, '_>,
-) -> Result<Signals<'a>, Unwatched> {
-    if stories.watched.is_empty() && (stories.kept.has_dump || stories.kept.has_table) {
-        return find_signals(alloc, verified.flat(), &["*"]);
-    }
-    find_signals(alloc, verified.flat(), stories.watched)
 }
 
 // Plays stories on what they are played on.
@@ -193,9 +137,17 @@ fn play_on<'a, S: Sources, W: Write, E: Write>(
     output: &mut W,
     errors: &mut E,
 ) -> io::Result<Played<'a>> {
-    match signals_of(stage.alloc, stage.verified, stories) {
+    let alloc = stage.alloc;
+    match stories.wish.signals(alloc, stage.verified.flat(), None) {
         Ok(signals) => play_watched(stage, stories, &signals, files, output, errors),
-        Err(unwatched) => Ok(refuse_watch(stage.alloc, unwatched, errors)),
+        Err(unwatched) => Ok(refused(
+            alloc,
+            if unwatched.tell(errors) {
+                Fault::Usage
+            } else {
+                Fault::Memory
+            },
+        )),
     }
 }
 

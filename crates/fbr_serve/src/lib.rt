@@ -5,7 +5,7 @@
 
 mod boot;
 mod ended;
-mod feed;
+mod looking;
 mod notes;
 mod printing;
 mod replay;
@@ -17,5 +17,6 @@ mod turns;
 mod waiting;
 
 pub use boot::take_boot;
-pub use replay::{load_recorded, replay_ready};
+pub use looking::{Blind, Look, Viewer};
+pub use replay::{Replayed, Subject, load_recorded, replay_ready};
 pub use serve::{load_device, serve_ready};

@@ -30,8 +30,13 @@ pub(crate) struct Printer<'a, 'b, W, E, F> {
     pub is_lost: bool,
 }
 
-// Prints what an OUTPUT writes.
-fn print_write<W: Write>(output: &mut W, when: When, number: u16, values: &[i64]) -> io::Result<()>
+/// Prints what an OUTPUT writes.
+pub(crate) fn print_write<W: Write>(
+    output: &mut W,
+    when: When,
+    number: u16,
+    values: &[i64],
+) -> io::Result<()>
     ensures { IfOk result (λ _. Appends (W.contents output.old) (W.contents output.new) (write_line when.is_told when.now (record { number = number; values = values.now }))) }
 {
     let written = Written(number, values);

@@ -4,7 +4,7 @@ ghost use Rattle.std.specs.Prelude.{◌≡◌, ◌≤◌, IfOk};
 ghost use Rattle.fb_record.specs.Views as records;
 ghost use Rattle.fbr_serve.specs.Recording.{plays};
 
-use crate::feed::{Next, next_line};
+use crate::looking::{Look, look_turn};
 use crate::notes::Notes;
 use crate::printing::When;
 use crate::serve::{load_named, print_served};
@@ -16,11 +16,16 @@ use fb_device::{Device, Ready};
 use fb_link::{MemoryLink, Plan};
 use fb_numbers::words_of;
 use fb_record::{Entry, Head, Recorder, is_digest, read_entry, read_head};
+use fb_verified::Verified;
 use fbr_files::{Fault, FileText, print_outcome};
+use fbr_lines::{Next, next_line};
 use fbr_words::{Replay, Telling};
 use std::alloc::{AllocError, Global};
 use std::io;
-use std::io::{Read, Write};
+use std::io::{BufReader, Read, Write};
+
+/// The most bytes of a line, its line feed counted: that of a turn has fewer.
+const LONGEST: usize = 8_192;
 
 /// Why the turns of a record are not taken to its end.
 #[derive(Clone, Copy)]
@@ -47,30 +52,41 @@ fn link_of(alloc: Global, entry: Entry, room: usize) -> Result<MemoryLink, Alloc
     MemoryLink::new(alloc, entry.datagrams, room, plan)
 }
 
+// How turns are told: whether lines begin with the clock, and what looks at the device.
+#[derive(Drop)]
+struct View<V> {
+    has_clock: bool,
+    viewer: V,
+}
+
 // Takes the turn that a record says.
-fn take_entry<W: Write, E: Write>(
+fn take_entry<W: Write, E: Write, V: Look>(
     alloc: Global,
     device: &mut Device,
     entry: Entry,
-    is_told: bool,
+    view: &mut View<V>,
     output: &mut W,
     notes: &mut Notes<E, io::Sink>,
 ) -> Result<Taken, AllocError> {
     let when = When {
         now: entry.now,
-        is_told,
+        is_told: view.has_clock,
     };
     let room = usize::from(device.resources());
     let mut link = link_of(alloc, entry, room)?;
-    Ok(take_turn(device, &mut link, when, output, notes))
+    Ok(if view.viewer.is_blind() {
+        take_turn(device, &mut link, when, output, notes)
+    } else {
+        look_turn(device, &mut link, when, output, notes, &mut view.viewer)
+    })
 }
 
 // Takes the turn that a line says.
-fn take_line<W: Write, E: Write>(
+fn take_line<W: Write, E: Write, V: Look>(
     alloc: Global,
     device: &mut Device,
     line: &[u8],
-    is_told: bool,
+    view: &mut View<V>,
     output: &mut W,
     notes: &mut Notes<E, io::Sink>,
 ) -> Result<Option<Taken>, AllocError> {
@@ -78,17 +94,17 @@ fn take_line<W: Write, E: Write>(
         return Ok(None);
     };
     match read_entry(alloc, text)? {
-        Some(entry) => Ok(Some(take_entry(alloc, device, entry, is_told, output, notes)?)),
+        Some(entry) => Ok(Some(take_entry(alloc, device, entry, view, output, notes)?)),
         None => Ok(None),
     }
 }
 
 // Takes the turns of the lines behind the first, and gives what they did in all.
-fn take_lines<R: Read, W: Write, E: Write>(
+fn take_lines<R: Read, W: Write, E: Write, V: Look>(
     alloc: Global,
     device: &mut Device,
-    is_told: bool,
-    reader: &mut R,
+    view: &mut View<V>,
+    reader: &mut BufReader<R>,
     output: &mut W,
     notes: &mut Notes<E, io::Sink>,
 ) -> Result<Ran, Halt> {
@@ -96,14 +112,14 @@ fn take_lines<R: Read, W: Write, E: Write>(
     let mut sums = Sums::none();
     let mut is_lost = false;
     for at in 2..usize::MAX {
-        match next_line(reader, &mut line) {
+        match next_line(reader, &mut line, LONGEST) {
             Next::Whole => {}
-            Next::End => break,
+            Next::Last | Next::End => break,
             Next::TooLong => return Err(Halt::Line(at)),
             Next::Memory => return Err(Halt::Memory),
             Next::Failed => return Err(Halt::Unreadable),
         }
-        match take_line(alloc, device, &line, is_told, output, notes) {
+        match take_line(alloc, device, &line, view, output, notes) {
             Ok(Some(taken)) => {
                 is_lost = is_lost || taken.is_lost;
                 match taken.end {
@@ -128,6 +144,30 @@ fn refuse_head<'a, E: Write>(why: &str, errors: &mut E) -> Fault<'a> {
     Fault::Line(1)
 }
 
+/// The device that a record is of, before it starts, and its number among those of its system.
+#[derive(Drop)]
+pub struct Subject {
+    pub ready: Ready,
+    pub number: u16,
+}
+
+impl Subject {
+    /// Lets the device go.
+    pub fn let_go(self) {
+        self.ready.start().let_go();
+    }
+}
+
+// The number of the device of this name, in which letter case has no meaning.
+fn number_of(verified: &Verified, name: &str) -> u16 {
+    for (number, device) in verified.flat().devices.iter().enumerate() {
+        if device.name.as_str().eq_ignore_ascii_case(name) {
+            return u16::try_from(number).unwrap_or(0);
+        }
+    }
+    0
+}
+
 // The device of two texts that a record is of.
 fn load_head<'a, E: Write>(
     alloc: Global,
@@ -135,7 +175,7 @@ fn load_head<'a, E: Write>(
     cert: &str,
     line: &str,
     errors: &mut E,
-) -> Result<Ready, Fault<'a>> {
+) -> Result<Subject, Fault<'a>> {
     let words = words_of(alloc, line).map_err(|_| Fault::Memory)?;
     let Some(
         Head {
@@ -157,7 +197,9 @@ fn load_head<'a, E: Write>(
     if !is_digest(alloc, cert_digest, cert).map_err(|_| Fault::Memory)? {
         return Err(refuse_head("the record was made with another certificate", errors));
     }
-    load_named(alloc, app, cert, device, boot)
+    let ready = load_named(alloc, app, cert, device, boot)?;
+    let number = number_of(ready.verified(), device);
+    Ok(Subject { ready, number })
 }
 
 /// The device that a record is of, out of the two files that it was made with. `Line`, 60, where the first line says no device, or other texts, of which people are
@@ -166,16 +208,16 @@ pub fn load_recorded<'a, R: Read, E: Write>(
     alloc: Global,
     app: &FileText<'a>,
     cert: &FileText<'a>,
-    replay: Replay<'a>,
-    reader: &mut R,
+    replay: &Replay<'a>,
+    reader: &mut BufReader<R>,
     errors: &mut E,
-) -> Result<Ready, Fault<'a>> {
+) -> Result<Subject, Fault<'a>> {
     let app = app.text()?;
     let cert = cert.text()?;
     let mut line = Vec::new(alloc);
-    match next_line(reader, &mut line) {
+    match next_line(reader, &mut line, LONGEST) {
         Next::Whole => {}
-        Next::End | Next::TooLong => {
+        Next::Last | Next::End | Next::TooLong => {
             return Err(refuse_head("this is no record of a device", errors));
         }
         Next::Memory => return Err(Fault::Memory),
@@ -190,7 +232,7 @@ pub fn load_recorded<'a, R: Read, E: Write>(
 // Prints what the turns of a record did in all, or why they were not taken to its end, and gives the program's status.
 fn print_replayed<W: Write>(
     taken: Result<Ran, Halt>,
-    replay: Replay<'_>,
+    replay: &Replay<'_>,
     output: &mut W,
 ) -> io::Result<u8>
     ensures status { IfOk result (λ status. status ≤ 4) }
@@ -203,17 +245,25 @@ fn print_replayed<W: Write>(
     }
 }
 
+/// A device that takes the turns of a record, and what looks at it.
+#[derive(Drop)]
+pub struct Replayed<V> {
+    pub ready: Ready,
+    pub viewer: V,
+}
+
 /// Starts a device, takes the turns of its record again, and prints what its OUTPUTs write, and at the end what the turns did in all. A last line that was cut is
-/// left out; one that says no turn ends it with 60.
-pub fn replay_ready<R: Read, W: Write, E: Write>(
+/// left out; one that says no turn ends it with 60. Where something looks at the device, the lines of what has changed stand behind each dispatch. Gives the
+/// program's status, and what has looked.
+pub fn replay_ready<R: Read, W: Write, E: Write, V: Look + Drop>(
     alloc: Global,
-    ready: Ready,
-    replay: Replay<'_>,
-    reader: &mut R,
+    replayed: Replayed<V>,
+    replay: &Replay<'_>,
+    reader: &mut BufReader<R>,
     output: &mut W,
     errors: &mut E,
-) -> io::Result<u8>
-    ensures status { IfOk result (λ status. status ≤ 4) }
+) -> io::Result<(u8, V)>
+    ensures status { IfOk result (λ ended. ended.0 ≤ 4) }
 {
     let telling = Telling {
         is_verbose: replay.is_verbose,
@@ -221,20 +271,26 @@ pub fn replay_ready<R: Read, W: Write, E: Write>(
         has_clock: replay.has_clock,
         is_strict: false,
     };
+    let Replayed { ready, viewer } = replayed;
+    let recorder = match Recorder::new(alloc, io::sink()) {
+        Ok(recorder) => recorder,
+        Err(_) => {
+            ready.start().let_go();
+            return Ok((print_outcome(Err(Fault::Memory), output)?, viewer));
+        }
+    };
     let mut device = ready.start();
     let mut notes = Notes {
         errors,
         people: Teller::new(telling),
-        recorder: Recorder::new(alloc, io::sink())?,
+        recorder,
     };
-    let taken = take_lines(
-        alloc,
-        &mut device,
-        replay.has_clock,
-        reader,
-        output,
-        &mut notes,
-    );
+    let mut view = View {
+        has_clock: replay.has_clock,
+        viewer,
+    };
+    view.viewer.begin(&device, output);
+    let taken = take_lines(alloc, &mut device, &mut view, reader, output, &mut notes);
     device.let_go();
-    print_replayed(taken, replay, output)
+    Ok((print_replayed(taken, replay, output)?, view.viewer))
 }

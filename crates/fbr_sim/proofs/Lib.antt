@@ -1,1 +1,1 @@
-pub mod Simulated
+pub mod Running

@@ -1,7 +1,10 @@
-//! Room: program. A script on standard input, run on the world of a system's devices.
-//! What is told is what the first world of the system answers line by line; a script that is refused is told by its line.
+//! Room: program. A script on standard input, run on the world of a system's devices, line by line.
+//! What is told is what the first world of the system answers line by line; a script that is refused is told by its line. Of a run that is watched nothing is
+//! promised: it is tested.
 #![tactic(auto)]
 
 mod sim;
+mod watched;
 
-pub use sim::run_input;
+pub use sim::{print_end, run_input};
+pub use watched::{Simulated, run_watched};

@@ -20,7 +20,7 @@ pub use fault::Fault;
 pub use names::Names;
 pub use near::unknown;
 pub use place::{Place, Sort};
-pub use sequences::{Subject, read_story, subjects_in, unknown_block};
+pub use sequences::{read_story, unknown_block};
 pub use story::{
     Action, Arrival, Cause, Expected, Fate, Looked, Sequence, Span, Step, Stimulus, Variable,
     Wanted, WantedWrite,

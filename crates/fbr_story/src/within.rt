@@ -7,16 +7,6 @@ use crate::place::{Place, Sort};
 use fbr_alone::{Alone, EventInput};
 use std::alloc::{AllocError, Global};
 
-// The name of a block within the one instance of a type, which itself has the empty name.
-fn name_within<'a>(place: Place<'a>, around: &Alone) -> Option<&'a str> {
-    let rest = place.inner().strip_prefix(around.instance.as_str())?;
-    if rest.is_empty() {
-        Some(rest)
-    } else {
-        rest.strip_prefix('.')
-    }
-}
-
 // The names of the blocks within a type.
 fn names_within(
     alloc: Global,
@@ -25,7 +15,7 @@ fn names_within(
 ) -> Result<Vec<String>, AllocError> {
     let mut names = Vec::new(alloc);
     for place in places {
-        if let Some(name) = name_within(*place, around) {
+        if let Some(name) = around.within(place.inner()) {
             if !name.is_empty() {
                 names.push(String::from_str(alloc, name)?)?;
             }
@@ -73,7 +63,7 @@ impl<'a> Names<'a> {
             return self.resolve(alloc, Sort::Block, name, at);
         };
         for place in &self.places {
-            if let Some(within) = name_within(*place, around) {
+            if let Some(within) = around.within(place.inner()) {
                 if within == name {
                     return Ok(*place);
                 }
@@ -94,7 +84,7 @@ impl<'a> Names<'a> {
     pub fn meeting(&self) -> Option<Place<'a>> {
         let around = self.alone?;
         for place in &self.places {
-            if place.meets_outside() && name_within(*place, around).is_some() {
+            if place.meets_outside() && around.within(place.inner()).is_some() {
                 return Some(*place);
             }
         }

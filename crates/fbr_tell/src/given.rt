@@ -69,6 +69,16 @@ impl<'a> Given<'a> {
         }
     }
 
+    /// An application and a certificate.
+    pub fn two(app: NamedFile<'a>, cert: NamedFile<'a>) -> Given<'a> {
+        Given {
+            app,
+            cert: Some(cert),
+            rows: None,
+            repeats: None,
+        }
+    }
+
     /// The file of this name, of those that are given.
     pub fn file(self, name: &str) -> Option<NamedFile<'a>> {
         if self.app.name == name {

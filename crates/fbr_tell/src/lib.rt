@@ -10,10 +10,15 @@ mod line;
 mod page;
 mod shallow;
 mod stray;
+mod teller;
 
 pub use colour::paint;
 pub use draw::{Drawing, picture};
 pub use given::{Given, Held, NamedFile};
 pub use line::hint;
-pub use page::{Page, accepted_page, explain, refused_page, write_number};
-pub use shallow::tell_shallow;
+pub use page::{
+    Answer, Page, accepted_page, explain, refused_page, tell_accepted, tell_alone, tell_fault,
+    write_number,
+};
+pub use shallow::{tell_shallow, write_warning};
+pub use teller::Teller;

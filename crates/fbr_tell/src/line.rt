@@ -19,8 +19,8 @@ pub fn hand_out<E: Write>(writing: Writing, errors: &mut E) {
     }
 }
 
-// The file of the certificate that a fault is beside: of rows that are to be kept, where these are at fault.
-fn certificate_of<'a>(fault: &Fault<'_>, given: Given<'a>) -> Option<NamedFile<'a>> {
+/// The file of the certificate that a fault is beside: of rows that are to be kept, where these are at fault.
+pub fn certificate_of<'a>(fault: &Fault<'_>, given: Given<'a>) -> Option<NamedFile<'a>> {
     match (given.cert, fault) {
         (None, Fault::Refused(Refusal::Certificate(_))) => given.rows,
         (cert, _) => cert,

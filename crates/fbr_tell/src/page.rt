@@ -3,14 +3,16 @@
 
 ghost use Rattle.std.specs.Prelude.{◌≤◌, IfSome};
 
-use crate::given::NamedFile;
+use crate::given::{Given, NamedFile};
+use crate::line::certificate_of;
 use crate::stray::stray_in;
+use crate::teller::Teller;
 use fb_find::find;
 use fb_find_rows::NoBound;
 use fb_verdict::{Refusal, check};
 use fb_verified::Verified;
 use fbr_diagnosis::{Asked, Reading, diagnose, diagnose_unbound, meaning_of};
-use fbr_explain::{meaning_parts, tell_bounds, tell_diagnosis};
+use fbr_explain::meaning_parts;
 use fbr_files::Fault;
 use fbr_leaves::{Resolved, system_in};
 use fbr_places::{Named, Writing};
@@ -25,11 +27,11 @@ pub struct Page {
     pub has_notes: bool,
 }
 
-// The verdict that a page is of, and whether there are notes on it.
+/// A verdict that was told, and whether there are notes on it.
 #[derive(Drop)]
-struct Answer<'a> {
-    verdict: Result<(), Fault<'a>>,
-    has_notes: bool,
+pub struct Answer<'a> {
+    pub verdict: Result<(), Fault<'a>>,
+    pub has_notes: bool,
 }
 
 /// Writes what the number of a refusal or a denial says and what to do; false where none of them has it.
@@ -45,45 +47,36 @@ pub fn write_number<W: Write>(number: u16, output: &mut W) -> io::Result<bool> {
     }
 }
 
-// Writes which byte of a file that was not read is the first that is no UTF-8, where it is that.
-fn tell_unread(alloc: Global, file: NamedFile<'_>, writing: &mut Writing) {
-    if let Some(said) = stray_in(alloc, Some(file)) {
-        writing.put(said.as_str());
-        writing.put("\n");
-    }
-}
-
 // What there is to say of a refusal, by what was read of its texts.
-fn tell_read(
+fn tell_read<T: Teller>(
     asked: Asked<'_>,
     refusal: &Refusal,
     reading: &Reading,
-    writing: &mut Writing,
+    teller: &mut T,
 ) -> Result<(), AllocError> {
     let diagnosis = diagnose(asked, refusal, reading)?;
-    tell_diagnosis(&diagnosis, writing);
-    Ok(())
+    teller.diagnosis(asked, &diagnosis)
 }
 
 // What there is to say of a refusal of two texts.
-fn tell_refused(
+fn tell_refused<T: Teller>(
     asked: Asked<'_>,
     refusal: &Refusal,
-    writing: &mut Writing,
+    teller: &mut T,
 ) -> Result<(), AllocError> {
     let reading = Reading::of(asked.alloc, refusal, asked.app.text, asked.cert.text)?;
-    let told = tell_read(asked, refusal, &reading, writing);
+    let told = tell_read(asked, refusal, &reading, teller);
     reading.let_go();
     told
 }
 
 // The same of one that is let go.
-fn explain_refusal<'a>(
+fn explain_refusal<'a, T: Teller>(
     asked: Asked<'_>,
     refusal: Refusal,
-    writing: &mut Writing,
+    teller: &mut T,
 ) -> Result<Answer<'a>, AllocError> {
-    let told = tell_refused(asked, &refusal, writing);
+    let told = tell_refused(asked, &refusal, teller);
     let verdict = Err(Fault::Refused(refusal));
     told?;
     Ok(Answer {
@@ -93,13 +86,13 @@ fn explain_refusal<'a>(
 }
 
 // The bounds of what fits, and notes on the application's text.
-fn explain_bounds<'a>(
+fn explain_bounds<'a, T: Teller>(
     alloc: Global,
     verified: Verified,
     app: Named<'_>,
-    writing: &mut Writing,
+    teller: &mut T,
 ) -> Result<Answer<'a>, AllocError> {
-    let told = tell_bounds(alloc, &verified, app, writing);
+    let told = teller.bounds(alloc, &verified, app);
     verified.let_go();
     Ok(Answer {
         verdict: Ok(()),
@@ -108,52 +101,51 @@ fn explain_bounds<'a>(
 }
 
 // What there is to say of a verdict over two texts.
-fn explain_verdict<'a>(
+fn explain_verdict<'a, T: Teller>(
     asked: Asked<'_>,
     verdict: Result<Verified, Refusal>,
-    writing: &mut Writing,
+    teller: &mut T,
 ) -> Result<Answer<'a>, AllocError> {
     match verdict {
-        Ok(verified) => explain_bounds(asked.alloc, verified, asked.app, writing),
+        Ok(verified) => explain_bounds(asked.alloc, verified, asked.app, teller),
         Err(Refusal::OutOfMemory) => Err(AllocError),
-        Err(refusal) => explain_refusal(asked, refusal, writing),
+        Err(refusal) => explain_refusal(asked, refusal, teller),
     }
 }
 
 // Why there is no certificate of a system, by what was read of it.
-fn tell_reason(
+fn tell_reason<T: Teller>(
     asked: Asked<'_>,
     reason: &NoBound,
     reading: &Reading,
-    writing: &mut Writing,
+    teller: &mut T,
 ) -> Result<(), AllocError> {
     let diagnosis = diagnose_unbound(asked, reason, reading)?;
-    tell_diagnosis(&diagnosis, writing);
-    Ok(())
+    teller.diagnosis(asked, &diagnosis)
 }
 
 // Why there is no certificate of a system.
-fn tell_unbound(
+fn tell_unbound<T: Teller>(
     asked: Asked<'_>,
     reason: &NoBound,
     resolved: Resolved,
-    writing: &mut Writing,
+    teller: &mut T,
 ) -> Result<(), AllocError> {
     let system = resolved.flattened_again(asked.alloc)?;
     let reading = Reading::System(system, None);
-    let told = tell_reason(asked, reason, &reading, writing);
+    let told = tell_reason(asked, reason, &reading, teller);
     reading.let_go();
     told
 }
 
 // The same of a reason that is let go.
-fn explain_unbound<'a>(
+fn explain_unbound<'a, T: Teller>(
     asked: Asked<'_>,
     reason: NoBound,
     resolved: Resolved,
-    writing: &mut Writing,
+    teller: &mut T,
 ) -> Result<Answer<'a>, AllocError> {
-    let told = tell_unbound(asked, &reason, resolved, writing);
+    let told = tell_unbound(asked, &reason, resolved, teller);
     let verdict = Err(Fault::Unbound(reason));
     told?;
     Ok(Answer {
@@ -163,24 +155,24 @@ fn explain_unbound<'a>(
 }
 
 // What there is to say of a system by the certificate that is found of it, or why there is none.
-fn explain_system<'a>(
+fn explain_system<'a, T: Teller>(
     asked: Asked<'_>,
     resolved: Resolved,
     repeats: Option<u8>,
-    writing: &mut Writing,
+    teller: &mut T,
 ) -> Result<Answer<'a>, AllocError>
     requires { IfSome repeats (λ r. 1 ≤ r) }
 {
     match find(asked.alloc, &resolved.typed, repeats) {
         Ok(certificate) => {
             let verdict = check(asked.alloc, resolved.into_typed(), certificate);
-            explain_verdict(asked, verdict, writing)
+            explain_verdict(asked, verdict, teller)
         }
         Err(NoBound::OutOfMemory) => {
             resolved.let_go();
             Err(AllocError)
         }
-        Err(reason) => explain_unbound(asked, reason, resolved, writing),
+        Err(reason) => explain_unbound(asked, reason, resolved, teller),
     }
 }
 
@@ -195,18 +187,18 @@ fn asked_of<'a>(alloc: Global, app: Named<'a>, cert: Named<'a>) -> Asked<'a> {
 }
 
 // What there is to say of an application's text by itself.
-fn explain_alone<'a>(
+fn explain_alone<'a, T: Teller>(
     alloc: Global,
     repeats: Option<u8>,
     app: Named<'_>,
-    writing: &mut Writing,
+    teller: &mut T,
 ) -> Result<Answer<'a>, AllocError>
     requires { IfSome repeats (λ r. 1 ≤ r) }
 {
     let asked = asked_of(alloc, app, app);
     match system_in(alloc, app.text) {
-        Ok(resolved) => explain_system(asked, resolved, repeats, writing),
-        Err(refusal) => explain_verdict(asked, Err(refusal), writing),
+        Ok(resolved) => explain_system(asked, resolved, repeats, teller),
+        Err(refusal) => explain_verdict(asked, Err(refusal), teller),
     }
 }
 
@@ -218,45 +210,85 @@ fn page_of(writing: Writing, has_notes: bool) -> Result<Page, AllocError> {
     }
 }
 
-/// The page of an application whose certificate fits: its bounds, and notes.
+/// Tells of an application whose certificate fits: its bounds, and notes; and whether there are notes.
+pub fn tell_accepted<T: Teller>(
+    alloc: Global,
+    verified: Verified,
+    app: NamedFile<'_>,
+    teller: &mut T,
+) -> Result<bool, AllocError> {
+    match app.named() {
+        Some(app) => {
+            let answer = explain_bounds(alloc, verified, app, teller)?;
+            Ok(answer.has_notes)
+        }
+        None => {
+            verified.let_go();
+            Ok(false)
+        }
+    }
+}
+
+/// The page of an application whose certificate fits.
 pub fn accepted_page(
     alloc: Global,
     verified: Verified,
     app: NamedFile<'_>,
 ) -> Result<Page, AllocError> {
     let mut writing = Writing::new(alloc);
-    match app.named() {
-        Some(app) => {
-            let answer = explain_bounds(alloc, verified, app, &mut writing)?;
-            page_of(writing, answer.has_notes)
+    let has_notes = tell_accepted(alloc, verified, app, &mut writing)?;
+    page_of(writing, has_notes)
+}
+
+// Tells which byte of a file that was not read is the first that is no UTF-8, where it is that; and what the number of a fault says.
+fn tell_number<T: Teller>(alloc: Global, fault: &Fault<'_>, given: Given<'_>, teller: &mut T) {
+    if let Fault::File(name) = fault {
+        if let Some(said) = stray_in(alloc, given.file(name)) {
+            teller.stray(said.as_str());
         }
-        None => {
-            verified.let_go();
-            page_of(writing, false)
-        }
+    }
+    if let Some(meaning) = meaning_of(fault.code()) {
+        teller.meaning(meaning);
     }
 }
 
-// Writes what there is to say of a fault of two files.
-fn tell_fault(
+// Tells why there is no certificate of an application that was read before.
+fn tell_reason_again<T: Teller>(
+    asked: Asked<'_>,
+    reason: &NoBound,
+    teller: &mut T,
+) -> Result<(), AllocError> {
+    match system_in(asked.alloc, asked.app.text) {
+        Ok(resolved) => tell_unbound(asked, reason, resolved, teller),
+        Err(_) => Err(AllocError),
+    }
+}
+
+// Whether ranges are at fault that were to be kept: which statement it is under these is not looked for.
+fn is_kept(reason: &NoBound, given: Given<'_>) -> bool {
+    matches!(reason, NoBound::NoRange(_)) && given.rows.is_some()
+}
+
+/// Tells of a fault of files, which is not want of memory, or of why there is no certificate.
+pub fn tell_fault<T: Teller>(
     alloc: Global,
     fault: &Fault<'_>,
-    app: NamedFile<'_>,
-    cert: NamedFile<'_>,
-    writing: &mut Writing,
+    given: Given<'_>,
+    teller: &mut T,
 ) -> Result<(), AllocError> {
-    if let (Fault::Refused(refusal), Some(app), Some(cert)) = (fault, app.named(), cert.named()) {
-        return tell_refused(asked_of(alloc, app, cert), refusal, writing);
-    }
-    if let Fault::File(name) = fault {
-        tell_unread(alloc, if app.name == *name { app } else { cert }, writing);
-    }
-    if let Some(meaning) = meaning_of(fault.code()) {
-        for part in meaning_parts(meaning) {
-            writing.put(part);
+    let cert = certificate_of(fault, given).unwrap_or(given.app);
+    match (fault, given.app.named(), cert.named()) {
+        (Fault::Refused(refusal), Some(app), Some(cert)) => {
+            tell_refused(asked_of(alloc, app, cert), refusal, teller)
+        }
+        (Fault::Unbound(reason), Some(app), _) if !is_kept(reason, given) => {
+            tell_reason_again(asked_of(alloc, app, app), reason, teller)
+        }
+        _ => {
+            tell_number(alloc, fault, given, teller);
+            Ok(())
         }
     }
-    Ok(())
 }
 
 /// The page of a fault of two files, which is not want of memory.
@@ -267,24 +299,24 @@ pub fn refused_page(
     cert: NamedFile<'_>,
 ) -> Result<Page, AllocError> {
     let mut writing = Writing::new(alloc);
-    tell_fault(alloc, fault, app, cert, &mut writing)?;
+    tell_fault(alloc, fault, Given::two(app, cert), &mut writing)?;
     page_of(writing, false)
 }
 
-// What there is to say of an application by itself.
-fn explain_file<'a>(
+/// Tells of an application by itself: by the certificate that is found, for `repeats`, 1 or more, over all devices too, or of why there is none; and gives the verdict.
+pub fn tell_alone<'a, T: Teller>(
     alloc: Global,
     app: NamedFile<'a>,
     repeats: Option<u8>,
-    writing: &mut Writing,
+    teller: &mut T,
 ) -> Result<Answer<'a>, AllocError>
     requires { IfSome repeats (λ r. 1 ≤ r) }
 {
     match app.text() {
-        Ok(text) => explain_alone(alloc, repeats, text, writing),
+        Ok(text) => explain_alone(alloc, repeats, text, teller),
         Err(Fault::Memory) => Err(AllocError),
         Err(fault) => {
-            tell_fault(alloc, &fault, app, app, writing)?;
+            tell_number(alloc, &fault, Given::of(app), teller);
             Ok(Answer {
                 verdict: Err(fault),
                 has_notes: false,
@@ -302,7 +334,7 @@ pub fn explain<'a>(
     requires { IfSome repeats (λ r. 1 ≤ r) }
 {
     let mut writing = Writing::new(alloc);
-    let answer = explain_file(alloc, app, repeats, &mut writing)?;
+    let answer = tell_alone(alloc, app, repeats, &mut writing)?;
     let page = page_of(writing, answer.has_notes)?;
     Ok((answer.verdict, page))
 }

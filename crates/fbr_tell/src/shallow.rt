@@ -78,16 +78,37 @@ fn write_twice(queue: &Queue<'_>, writing: &mut Writing) {
     }
 }
 
+/// Whether a queue does not take each of its arrivals once at the same time.
+pub fn is_shallow(queue: &Queue<'_>) -> bool {
+    queue.places() > queue.depth
+}
+
+// Writes how many of an arrival fill a queue, and what depth takes each twice.
+fn write_full(queue: &Queue<'_>, arrival: &Arrival, writing: &mut Writing) {
+    writing.put(queue.path);
+    writing.put(": depth ");
+    writing.show(&queue.depth);
+    write_filled(queue, arrival, writing);
+    write_twice(queue, writing);
+}
+
 // Writes the line of a queue.
 fn write_queue(queue: &Queue<'_>, writing: &mut Writing) {
     if let Some(arrival) = largest(queue) {
         writing.put("fbr: ");
-        writing.put(queue.path);
-        writing.put(": depth ");
-        writing.show(&queue.depth);
-        write_filled(queue, arrival, writing);
-        write_twice(queue, writing);
+        write_full(queue, arrival, writing);
         writing.put("\n");
+    }
+}
+
+/// Writes what people are warned of with a queue, where they are; and whether they are.
+pub fn write_warning(queue: &Queue<'_>, writing: &mut Writing) -> bool {
+    match largest(queue) {
+        Some(arrival) if is_shallow(queue) => {
+            write_full(queue, arrival, writing);
+            true
+        }
+        _ => false,
     }
 }
 
@@ -101,7 +122,7 @@ fn write_shallow(
     for device in &verified.flat().devices {
         for resource in &device.resources {
             let queue = queue_in(alloc, verified.certificate(), resource)?;
-            if queue.places() > queue.depth {
+            if is_shallow(&queue) {
                 if count < MOST_TOLD {
                     write_queue(&queue, writing);
                 }

@@ -1,9 +1,8 @@
 //! Value Change Dumps: IEEE 1364-2005, 18.2, with string variables as GTKWave takes them.
 
-use crate::signal::{Owner, Shown, Signal};
-use crate::signals::Signals;
 use crate::value::{word, write_state};
 use fb_words::ElemType;
+use fbr_signals::{Owner, Shown, Signal, Signals};
 use std::io;
 use std::io::Write;
 

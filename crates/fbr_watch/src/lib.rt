@@ -1,26 +1,19 @@
-//! Room: program. Watches a run: which states, variables and queues have changed, in lines for people, as a CSV table or as a Value Change Dump (IEEE 1364).
-//! It looks after each dispatch, arrival and tick. Its memory goes with the size of the plant, and not with the length of the run.
+//! Room: program. Watches a run: what has changed, in lines for people, as a CSV table or a Value Change Dump (IEEE 1364); and what ran when, as a timeline.
+//! It looks after each dispatch, arrival and tick. Its memory goes with the size of the plant, that of a timeline with the length of the run.
 //! No contracts: what it writes is tested.
 #![tactic(auto)]
 
-mod causes;
-mod clock;
 mod dump;
-mod fault;
-mod leaves;
+mod lanes;
 mod lines;
-mod pattern;
-mod search;
-mod signal;
-mod signals;
 mod table;
 #[cfg(test)]
 mod tests;
 mod value;
 mod watcher;
 mod watching;
+mod wish;
 
-pub use fault::Unwatched;
-pub use signals::{Signals, find_signals, find_signals_of};
 pub use watcher::{Form, Watcher};
 pub use watching::{Kept, Watching};
+pub use wish::{Seen, Wish};

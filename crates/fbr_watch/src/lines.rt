@@ -1,7 +1,7 @@
 //! Lines for people and programs.
 
-use crate::signal::Shown;
 use crate::value::{Change, write_spelled, write_state, write_variable};
+use fbr_signals::Shown;
 use std::io;
 use std::io::Write;
 

@@ -1,7 +1,7 @@
 //! Tables of comma-separated values: RFC 4180, with lines that end as those of a text do.
 
-use crate::signal::Shown;
 use crate::value::{Change, word, write_cell, write_variable};
+use fbr_signals::Shown;
 use std::io;
 use std::io::Write;
 

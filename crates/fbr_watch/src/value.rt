@@ -1,8 +1,8 @@
 //! Values of signals, and names of what has them.
 
-use crate::signal::{Shown, Signal};
 use fb_types_blocks::Block;
 use fb_words::ElemType;
+use fbr_signals::{Shown, Signal};
 use std::io;
 use std::io::Write;
 

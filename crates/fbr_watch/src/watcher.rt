@@ -1,17 +1,15 @@
 //! Looks at devices, and writes what has changed.
 
-use crate::causes::{Causes, Turn};
-use crate::clock::Clock;
 use crate::dump::{write_declarations, write_sequence, write_stamp, write_value};
 use crate::lines::{write_beginning, write_line};
-use crate::signal::{Owner, Shown, Signal, Site, Station};
-use crate::signals::Signals;
 use crate::table::{write_columns, write_row};
 use crate::value::Change;
 use fb_device::{Condition, Device, Look, Ran};
+use fbr_signals::{Owner, Shown, Signal, Signals, Site, Station};
+use fbr_timeline::{Causes, Clock, Turn, out_of_memory};
 use std::alloc::{AllocError, Global};
 use std::io;
-use std::io::{ErrorKind, Write};
+use std::io::Write;
 
 /// The form in which changes are written.
 #[derive(Clone, Copy, PartialEq, Eq)]
@@ -54,13 +52,11 @@ pub struct Watcher<'s, 'a> {
     is_dumped: bool,
 }
 
-// The error of a write for which there was no memory.
-fn out_of_memory() -> io::Error {
-    io::Error::from(ErrorKind::OutOfMemory)
-}
-
-// The number of a device's station among those that are watched.
-fn station_of<'x, 'a>(signals: &'x Signals<'a>, number: u16) -> Option<(usize, &'x Station<'a>)> {
+/// The place of a device's station among those that are watched.
+pub(crate) fn station_of<'x, 'a>(
+    signals: &'x Signals<'a>,
+    number: u16,
+) -> Option<(usize, &'x Station<'a>)> {
     for (place, station) in signals.stations.iter().enumerate() {
         if station.number == number {
             return Some((place, station));

@@ -1,17 +1,20 @@
 //! A run that is watched in several forms at once.
 
-use crate::signals::Signals;
+use crate::lanes::look_first;
 use crate::watcher::{Form, Watcher};
 use fb_device::{Device, Ran};
+use fbr_signals::Signals;
+use fbr_timeline::{Timeline, out_of_memory};
 use std::alloc::{AllocError, Global};
 use std::io;
 use std::io::Write;
 
-/// What writes a table or a dump, where one is kept.
+/// What writes a table, a dump or a timeline, where one is kept.
 #[derive(Drop)]
 pub struct Kept<F> {
     pub table: Option<F>,
     pub dump: Option<F>,
+    pub timeline: Option<F>,
 }
 
 /// A watcher, and where it writes.
@@ -21,14 +24,32 @@ struct Recorder<'s, 'a, F> {
     out: F,
 }
 
-/// A run that is watched in up to three forms at once: lines, which go where the caller writes, and a table and a dump, which go where they are kept. A write
-/// that fails is told at the end, and nothing is written behind it.
+/// A timeline, and where it is drawn.
+#[derive(Drop)]
+struct Drawer<'s, 'a, F> {
+    alloc: Global,
+    signals: &'s Signals<'a>,
+    timeline: Timeline,
+    out: F,
+}
+
+/// A run that is watched in up to four forms at once: lines, which go where the caller writes, and a table, a dump and a timeline, which go where they are
+/// kept. A write that fails is told at the end, and nothing is written behind it. A timeline is written at the end.
 #[derive(Drop)]
 pub struct Watching<'s, 'a, F> {
     lines: Option<Watcher<'s, 'a>>,
     table: Option<Recorder<'s, 'a, F>>,
     dump: Option<Recorder<'s, 'a, F>>,
+    timeline: Option<Drawer<'s, 'a, F>>,
     done: io::Result<()>,
+}
+
+// What a note in memory comes to as a write.
+fn noted(done: Result<(), AllocError>) -> io::Result<()> {
+    match done {
+        Ok(()) => Ok(()),
+        Err(_) => Err(out_of_memory()),
+    }
 }
 
 impl<'s, 'a, F: Write + Drop> Recorder<'s, 'a, F> {
@@ -91,6 +112,15 @@ impl<'s, 'a, F: Write + Drop> Recorder<'s, 'a, F> {
     }
 }
 
+impl<F> Drawer<'_, '_, F> {
+    // The first look at a device.
+    fn first(&mut self, number: u16, device: &Device) -> io::Result<()> {
+        let signals = self.signals;
+        let timeline = &mut self.timeline;
+        noted(look_first(self.alloc, signals, number, device, timeline))
+    }
+}
+
 impl<'s, 'a, F: Write + Drop> Watching<'s, 'a, F> {
     /// A run of which nothing is watched.
     pub fn nothing() -> Watching<'s, 'a, F> {
@@ -98,6 +128,7 @@ impl<'s, 'a, F: Write + Drop> Watching<'s, 'a, F> {
             lines: None,
             table: None,
             dump: None,
+            timeline: None,
             done: Ok(()),
         }
     }
@@ -109,7 +140,11 @@ impl<'s, 'a, F: Write + Drop> Watching<'s, 'a, F> {
         has_lines: bool,
         kept: Kept<F>,
     ) -> Result<Watching<'s, 'a, F>, AllocError> {
-        let Kept { table, dump } = kept;
+        let Kept {
+            table,
+            dump,
+            timeline,
+        } = kept;
         let lines = if has_lines {
             Some(Watcher::new(alloc, signals, Form::Lines)?)
         } else {
@@ -119,6 +154,7 @@ impl<'s, 'a, F: Write + Drop> Watching<'s, 'a, F> {
             lines,
             table: Recorder::of(alloc, signals, Form::Table, table)?,
             dump: Recorder::of(alloc, signals, Form::Dump, dump)?,
+            timeline: drawer_of(alloc, signals, timeline),
             done: Ok(()),
         })
     }
@@ -133,6 +169,9 @@ impl<'s, 'a, F: Write + Drop> Watching<'s, 'a, F> {
         }
         if let Some(recorder) = &mut self.dump {
             recorder.begin(sequence)?;
+        }
+        if let Some(drawer) = &mut self.timeline {
+            noted(drawer.timeline.begin(sequence))?;
         }
         Ok(())
     }
@@ -159,6 +198,9 @@ impl<'s, 'a, F: Write + Drop> Watching<'s, 'a, F> {
         }
         if let Some(recorder) = &mut self.dump {
             recorder.first(number, device)?;
+        }
+        if let Some(drawer) = &mut self.timeline {
+            drawer.first(number, device)?;
         }
         Ok(())
     }
@@ -188,6 +230,9 @@ impl<'s, 'a, F: Write + Drop> Watching<'s, 'a, F> {
         }
         if let Some(recorder) = &mut self.dump {
             recorder.ran(number, device, resource, now, ran)?;
+        }
+        if let Some(drawer) = &mut self.timeline {
+            noted(drawer.timeline.ran(number, device, resource, now, ran))?;
         }
         Ok(())
     }
@@ -224,6 +269,9 @@ impl<'s, 'a, F: Write + Drop> Watching<'s, 'a, F> {
         if let Some(recorder) = &mut self.dump {
             recorder.came(number, device, now)?;
         }
+        if let Some(drawer) = &mut self.timeline {
+            noted(drawer.timeline.came(number, device, now))?;
+        }
         Ok(())
     }
 
@@ -234,11 +282,12 @@ impl<'s, 'a, F: Write + Drop> Watching<'s, 'a, F> {
         }
     }
 
-    /// The end of all runs. Gives what a table and a dump were written to, or an error where a write has failed, of any form.
+    /// The end of all runs. Gives what a table, a dump and a timeline were written to, or an error where a write has failed, of any form.
     pub fn end(self) -> io::Result<Kept<F>> {
         let Watching {
             table,
             dump,
+            timeline,
             done,
             ..
         } = self;
@@ -246,6 +295,7 @@ impl<'s, 'a, F: Write + Drop> Watching<'s, 'a, F> {
         Ok(Kept {
             table: end_of(table)?,
             dump: end_of(dump)?,
+            timeline: drawn(timeline)?,
         })
     }
 }
@@ -254,6 +304,40 @@ impl<'s, 'a, F: Write + Drop> Watching<'s, 'a, F> {
 fn end_of<F: Write + Drop>(recorder: Option<Recorder<'_, '_, F>>) -> io::Result<Option<F>> {
     match recorder {
         Some(recorder) => Ok(Some(recorder.end()?)),
+        None => Ok(None),
+    }
+}
+
+// What draws a timeline, where there is something to draw it on.
+fn drawer_of<'s, 'a, F: Write + Drop>(
+    alloc: Global,
+    signals: &'s Signals<'a>,
+    out: Option<F>,
+) -> Option<Drawer<'s, 'a, F>> {
+    match out {
+        Some(out) => Some(Drawer {
+            alloc,
+            signals,
+            timeline: Timeline::new(alloc),
+            out,
+        }),
+        None => None,
+    }
+}
+
+// Draws a timeline, where it is kept.
+fn drawn<F: Write + Drop>(drawer: Option<Drawer<'_, '_, F>>) -> io::Result<Option<F>> {
+    match drawer {
+        Some(drawer) => {
+            let Drawer {
+                timeline,
+                mut out,
+                ..
+            } = drawer;
+            timeline.end(&mut out)?;
+            out.flush()?;
+            Ok(Some(out))
+        }
         None => Ok(None),
     }
 }

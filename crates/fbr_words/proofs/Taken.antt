@@ -33,17 +33,17 @@ pub free_app : (a : App) → a ≡ program → is_simple_and_free a ≡ true
 free_app a e = ap is_simple_and_free e ∙ is_free
 
 -- such words ask for a certificate of this file
-is_bound : request_of (codes "fbr" ∷ codes "bound" ∷ codes "cell.fb" ∷ []) ≡ Some (a_bound (record { app = codes "cell.fb"; repeats = None; into = None; ranges = None; room = None }))
+is_bound : request_of (codes "fbr" ∷ codes "bound" ∷ codes "cell.fb" ∷ []) ≡ Some (a_bound (record { app = codes "cell.fb"; repeats = None; into = None; ranges = None; room = None; json = false }))
 unfolding clap_on_literals
 is_bound = refl
 
 -- and such for one with steps over the network, in a file
-is_into : request_of (codes "fbr" ∷ codes "bound" ∷ codes "cell.fb" ∷ codes "--repeats" ∷ codes "2" ∷ codes "-o" ∷ codes "cell.cert" ∷ []) ≡ Some (a_bound (record { app = codes "cell.fb"; repeats = Some 2; into = Some (codes "cell.cert"); ranges = None; room = None }))
+is_into : request_of (codes "fbr" ∷ codes "bound" ∷ codes "cell.fb" ∷ codes "--repeats" ∷ codes "2" ∷ codes "-o" ∷ codes "cell.cert" ∷ []) ≡ Some (a_bound (record { app = codes "cell.fb"; repeats = Some 2; into = Some (codes "cell.cert"); ranges = None; room = None; json = false }))
 unfolding clap_on_literals
 is_into = refl
 
 -- and such for one with other ranges, and with more room
-is_sought : request_of (codes "fbr" ∷ codes "bound" ∷ codes "cell.fb" ∷ codes "--search" ∷ codes "--room" ∷ codes "2" ∷ []) ≡ Some (a_bound (record { app = codes "cell.fb"; repeats = None; into = None; ranges = Some None; room = Some 2 }))
+is_sought : request_of (codes "fbr" ∷ codes "bound" ∷ codes "cell.fb" ∷ codes "--search" ∷ codes "--room" ∷ codes "2" ∷ []) ≡ Some (a_bound (record { app = codes "cell.fb"; repeats = None; into = None; ranges = Some None; room = Some 2; json = false }))
 unfolding clap_on_literals
 is_sought = refl
 
@@ -53,12 +53,17 @@ unfolding clap_on_literals
 is_uncounted = record { none = refl; no_help = λ h. h; no_version = λ h. h }
 
 -- such words are a check of these files
-is_check : request_of (codes "fbr" ∷ codes "check" ∷ codes "cell.fb" ∷ codes "cell.cert" ∷ []) ≡ Some (a_check (record { app = codes "cell.fb"; cert = codes "cell.cert" }))
+is_check : request_of (codes "fbr" ∷ codes "check" ∷ codes "cell.fb" ∷ codes "cell.cert" ∷ []) ≡ Some (a_check (record { app = codes "cell.fb"; cert = codes "cell.cert"; json = false }))
 unfolding clap_on_literals
 is_check = refl
 
+-- and such one that is printed as JSON
+is_json_check : request_of (codes "fbr" ∷ codes "check" ∷ codes "--json" ∷ codes "cell.fb" ∷ codes "cell.cert" ∷ []) ≡ Some (a_check (record { app = codes "cell.fb"; cert = codes "cell.cert"; json = true }))
+unfolding clap_on_literals
+is_json_check = refl
+
 -- and such are a simulation over them
-is_sim : request_of (codes "fbr" ∷ codes "sim" ∷ codes "cell.fb" ∷ codes "cell.cert" ∷ []) ≡ Some (a_sim (record { app = codes "cell.fb"; cert = codes "cell.cert" }))
+is_sim : request_of (codes "fbr" ∷ codes "sim" ∷ codes "cell.fb" ∷ codes "cell.cert" ∷ []) ≡ Some (a_sim (record { app = codes "cell.fb"; cert = codes "cell.cert"; watched = record { paths = []; dump = None; table = None; timeline = None } }))
 unfolding clap_on_literals
 is_sim = refl
 

@@ -40,17 +40,17 @@ search = record (new_rule (codes "search")) { long = Some (codes "search"); acti
 abbrev pub room : Rule
 room = record (new_rule (codes "room")) { long = Some (codes "room"); action = Some Set; value_names = 1 }
 
--- `bound`, its file, how often datagrams are delivered, the file that is written, which ranges there are, and how much room
+-- `--json`
+abbrev pub json : Rule
+json = record (new_rule (codes "json")) { long = Some (codes "json"); action = Some SetTrue }
+
+-- `bound`, its file, how often datagrams are delivered, the file that is written, which ranges there are, how much room, and `--json`
 abbrev pub bound : App
-bound = with_rule (with_rule (with_rule (with_rule (with_rule (over_file (codes "bound")) repeats) output) ranges) search) room
+bound = with_rule (with_rule (with_rule (with_rule (with_rule (with_rule (over_file (codes "bound")) repeats) output) ranges) search) room) json
 
--- `check` and its two files
+-- `check`, its two files, and `--json`
 abbrev pub check : App
-check = over_files (codes "check")
-
--- `sim` and its two files
-abbrev pub sim : App
-sim = over_files (codes "sim")
+check = with_rule (over_files (codes "check")) json
 
 -- files, as many as are named
 abbrev pub files : Text → Rule
@@ -64,9 +64,9 @@ maybe_file id = new_rule id
 abbrev pub strict : Rule
 strict = record (new_rule (codes "strict")) { long = Some (codes "strict"); action = Some SetTrue }
 
--- `explain`, its file or number, perhaps another file, how often datagrams are delivered, and `--strict`
+-- `explain`, its file or number, perhaps another file, how often datagrams are delivered, `--strict`, and `--json`
 abbrev pub explain : App
-explain = with_rule (with_rule (with_rule (over_file (codes "explain")) (maybe_file (codes "CERT"))) repeats) strict
+explain = with_rule (with_rule (with_rule (with_rule (over_file (codes "explain")) (maybe_file (codes "CERT"))) repeats) strict) json
 
 -- `--flat`
 abbrev pub flat : Rule
@@ -100,15 +100,21 @@ repeated id = record (new_rule id) { long = Some id; action = Some Append; value
 abbrev pub set : Text → Rule
 set id = record (new_rule id) { long = Some id; action = Some SetTrue }
 
--- `play`, its file, the files behind it, what is watched, and the files that are written
-abbrev pub play : App
-play =
-    with_rule (with_rule (with_rule (with_rule (with_rule (over_file (codes "play")) (files (codes "STORY"))) (repeated (codes "watch"))) (number (codes "report")))
-    (number (codes "vcd"))) (number (codes "csv"))
+-- a command with what is watched, and the files into which that is written
+abbrev pub watched_by : App → App
+watched_by app = with_rule (with_rule (with_rule (with_rule app (repeated (codes "watch"))) (number (codes "vcd"))) (number (codes "csv"))) (number (codes "timeline"))
 
--- `replay`, its two files and the record, and what it tells
+-- `sim`, its two files, and what is watched
+abbrev pub sim : App
+sim = watched_by (over_files (codes "sim"))
+
+-- `play`, its file, the files behind it, what is watched, and the file of a report
+abbrev pub play : App
+play = with_rule (watched_by (with_rule (over_file (codes "play")) (files (codes "STORY")))) (number (codes "report"))
+
+-- `replay`, its two files and the record, what it tells, and what is watched
 abbrev pub replay : App
-replay = with_rule (with_rule (with_rule (over_files (codes "replay")) (file (codes "RECORD"))) (set (codes "verbose"))) (set (codes "clock"))
+replay = watched_by (with_rule (with_rule (with_rule (over_files (codes "replay")) (file (codes "RECORD"))) (set (codes "verbose"))) (set (codes "clock")))
 
 -- `serve`, its two files, its device, where it receives, and from whom
 abbrev pub serve_at : App
@@ -159,13 +165,14 @@ into_of rows = into_in (first_of (codes "output") rows)
 -- ---- what `bound` is asked for
 
 -- a certificate of this file, perhaps with steps over the network; the file that is written where there is one; the file whose ranges are kept, or none, where other
--- ranges may be found than those of the rounds; and how often there is room for the largest arrival, where that is said
+-- ranges may be found than those of the rounds; how often there is room for the largest arrival, where that is said; and whether JSON is printed
 pub record Sought : Type 0 where
   pub app : Text
   pub repeats : Option ℕ
   pub into : Option Text
   pub ranges : Option (Option Text)
   pub room : Option ℕ
+  pub json : Bool
 
 abbrev pub is_set : Option Text → Bool
 is_set None = false
@@ -177,45 +184,51 @@ ranges_by (Some name) wish = Some (Some name)
 ranges_by None wish = if wish then Some None else None
 
 -- all of it, where nothing is missing
-abbrev pub sought_with : Option Text → Option (Option ℕ) → Option Text → Option (Option Text) → Option (Option ℕ) → Option Sought
-sought_with (Some app) (Some often) into kept (Some times) = Some (record { app = app; repeats = often; into = into; ranges = kept; room = times })
-sought_with app often into kept times = None
+abbrev pub sought_with : Option Text → Option (Option ℕ) → Option Text → Option (Option Text) → Option (Option ℕ) → Bool → Option Sought
+sought_with (Some app) (Some often) into kept (Some times) printed = Some (record { app = app; repeats = often; into = into; ranges = kept; room = times; json = printed })
+sought_with app often into kept times printed = None
 
 -- what the words of `bound` ask for; nothing where a number is none
 abbrev pub sought_in : List Row → Option Sought
 sought_in rows =
     sought_with (first_of (codes "APP") rows) (repeats_in (first_of (codes "repeats") rows)) (into_of rows)
     (ranges_by (first_of (codes "ranges") rows) (is_set (first_of (codes "search") rows))) (repeats_in (first_of (codes "room") rows))
+    (is_set (first_of (codes "json") rows))
 
--- ---- what `check` and `sim` are asked for
+-- ---- what `check` is asked for
 
--- the files of an application and of a certificate
-pub record Files : Type 0 where
+-- the files of an application and of a certificate, and whether JSON is printed
+pub record Checking : Type 0 where
   pub app : Text
   pub cert : Text
+  pub json : Bool
 
-abbrev pub files_with : Option Text → Option Text → Option Files
-files_with (Some app) (Some cert) = Some (record { app = app; cert = cert })
-files_with app cert = None
+abbrev pub checking_with : Option Text → Option Text → Bool → Option Checking
+checking_with (Some app) (Some cert) printed = Some (record { app = app; cert = cert; json = printed })
+checking_with app cert printed = None
 
-abbrev pub files_in : List Row → Option Files
-files_in rows = files_with (first_of (codes "APP") rows) (first_of (codes "CERT") rows)
+abbrev pub checking_in : List Row → Option Checking
+checking_in rows = checking_with (first_of (codes "APP") rows) (first_of (codes "CERT") rows) (is_set (first_of (codes "json") rows))
 
 -- ---- what `explain` and `draw` are asked for
 
--- a number, or the file of an application; perhaps that of a certificate; how often datagrams are delivered, where that is said; and whether notes count
+-- a number, or the file of an application; perhaps that of a certificate; how often datagrams are delivered, where that is said; whether notes count; and whether
+-- JSON is printed
 pub record Question : Type 0 where
   pub what : Text
   pub cert : Option Text
   pub repeats : Option ℕ
   pub strict : Bool
+  pub json : Bool
 
-abbrev pub question_with : Option Text → Option Text → Option (Option ℕ) → Bool → Option Question
-question_with (Some what) cert (Some often) counts = Some (record { what = what; cert = cert; repeats = often; strict = counts })
-question_with what cert often counts = None
+abbrev pub question_with : Option Text → Option Text → Option (Option ℕ) → Bool → Bool → Option Question
+question_with (Some what) cert (Some often) counts printed = Some (record { what = what; cert = cert; repeats = often; strict = counts; json = printed })
+question_with what cert often counts printed = None
 
 abbrev pub question_in : List Row → Option Question
-question_in rows = question_with (first_of (codes "APP") rows) (first_of (codes "CERT") rows) (repeats_in (first_of (codes "repeats") rows)) (is_set (first_of (codes "strict") rows))
+question_in rows =
+    question_with (first_of (codes "APP") rows) (first_of (codes "CERT") rows) (repeats_in (first_of (codes "repeats") rows)) (is_set (first_of (codes "strict") rows))
+    (is_set (first_of (codes "json") rows))
 
 -- the file of an application, perhaps that of a certificate, how often datagrams are delivered, whether there are no boxes, the block type whose chart is drawn, and
 -- the file that is written
@@ -288,17 +301,7 @@ abbrev pub few_in : {X : Type 0} → (Text → Option X) → Option (List Text) 
 few_in read None = Some []
 few_in read (Some words) = if nat_le (length words) 64 then each_in read words else None
 
--- ---- what `play` is asked for
-
--- the file of an application; those behind it, perhaps that of a certificate first, and stories; the paths that are watched; and the files that are written, where they
--- are: of the report, of a value change dump, and of a table
-pub record Plays : Type 0 where
-  pub app : Text
-  pub files : List Text
-  pub watched : List Text
-  pub report : Option Text
-  pub dump : Option Text
-  pub table : Option Text
+-- ---- what is watched
 
 abbrev pub whole : Text → Option Text
 whole word = Some word
@@ -306,34 +309,73 @@ whole word = Some word
 abbrev pub names_in : Option (List Text) → Option (List Text)
 names_in words = few_in whole words
 
-abbrev pub plays_with : Option Text → Option (List Text) → Option (List Text) → Option Text → Option Text → Option Text → Option Plays
-plays_with (Some app) (Some files) (Some paths) report dump table = Some (record { app = app; files = files; watched = paths; report = report; dump = dump; table = table })
-plays_with app files paths report dump table = None
+-- the paths that are watched, and the files that are written, where they are: a value change dump, a table, and a picture of what ran when
+pub record Watching : Type 0 where
+  pub paths : List Text
+  pub dump : Option Text
+  pub table : Option Text
+  pub timeline : Option Text
+
+abbrev pub watching_with : Option (List Text) → Option Text → Option Text → Option Text → Option Watching
+watching_with (Some paths) dump table timeline = Some (record { paths = paths; dump = dump; table = table; timeline = timeline })
+watching_with None dump table timeline = None
+
+-- nothing where there are more than 64 paths
+abbrev pub watching_in : List Row → Option Watching
+watching_in rows = watching_with (names_in (all_of (codes "watch") rows)) (first_of (codes "vcd") rows) (first_of (codes "csv") rows) (first_of (codes "timeline") rows)
+
+-- ---- what `sim` is asked for
+
+-- the files of an application and of a certificate, and what is watched
+pub record Simulating : Type 0 where
+  pub app : Text
+  pub cert : Text
+  pub watched : Watching
+
+abbrev pub simulating_with : Option Text → Option Text → Option Watching → Option Simulating
+simulating_with (Some app) (Some cert) (Some watched) = Some (record { app = app; cert = cert; watched = watched })
+simulating_with app cert watched = None
+
+abbrev pub simulating_in : List Row → Option Simulating
+simulating_in rows = simulating_with (first_of (codes "APP") rows) (first_of (codes "CERT") rows) (watching_in rows)
+
+-- ---- what `play` is asked for
+
+-- the file of an application; those behind it, perhaps that of a certificate first, and stories; what is watched; and the file of a report, where one is written
+pub record Plays : Type 0 where
+  pub app : Text
+  pub files : List Text
+  pub watched : Watching
+  pub report : Option Text
+
+abbrev pub plays_with : Option Text → Option (List Text) → Option Watching → Option Text → Option Plays
+plays_with (Some app) (Some files) (Some watched) report = Some (record { app = app; files = files; watched = watched; report = report })
+plays_with app files watched report = None
 
 -- what the words of `play` ask for; nothing where there are more than 64 files or paths
 abbrev pub plays_in : List Row → Option Plays
-plays_in rows =
-    plays_with (first_of (codes "APP") rows) (names_in (all_of (codes "STORY") rows)) (names_in (all_of (codes "watch") rows)) (first_of (codes "report") rows)
-    (first_of (codes "vcd") rows) (first_of (codes "csv") rows)
+plays_in rows = plays_with (first_of (codes "APP") rows) (names_in (all_of (codes "STORY") rows)) (watching_in rows) (first_of (codes "report") rows)
 
 -- ---- what `replay` is asked for
 
--- the files of an application, of a certificate and of a record, whether each step is told, and whether lines begin with the clock
+-- the files of an application, of a certificate and of a record, whether each step is told, whether lines begin with the clock, and what is watched
 pub record Replaying : Type 0 where
   pub app : Text
   pub cert : Text
   pub recorded : Text
   pub verbose : Bool
   pub clock : Bool
+  pub watched : Watching
 
-abbrev pub replaying_with : Option Text → Option Text → Option Text → Bool → Bool → Option Replaying
-replaying_with (Some app) (Some cert) (Some recorded) steps timed = Some (record { app = app; cert = cert; recorded = recorded; verbose = steps; clock = timed })
-replaying_with app cert recorded steps timed = None
+abbrev pub replaying_with : Option Text → Option Text → Option Text → Bool → Bool → Option Watching → Option Replaying
+replaying_with (Some app) (Some cert) (Some recorded) steps timed (Some watched) =
+    Some (record { app = app; cert = cert; recorded = recorded; verbose = steps; clock = timed; watched = watched })
+replaying_with app cert recorded steps timed watched = None
 
 abbrev pub replaying_in : List Row → Option Replaying
 replaying_in rows =
     replaying_with (first_of (codes "APP") rows) (first_of (codes "CERT") rows) (first_of (codes "RECORD") rows) (is_set (first_of (codes "verbose") rows))
-    (is_set (first_of (codes "clock") rows))
+    (is_set (first_of (codes "clock") rows)) (watching_in rows)
 
 -- ---- the network of `serve`
 
@@ -410,8 +452,8 @@ service_in rows =
 -- a command, with all that its words say
 pub data Asked : Type 0 where
   a_bound : Sought → Asked
-  a_check : Files → Asked
-  a_sim : Files → Asked
+  a_check : Checking → Asked
+  a_sim : Simulating → Asked
   a_play : Plays → Asked
   an_explain : Question → Asked
   a_draw : Drawing → Asked
@@ -422,8 +464,8 @@ pub data Asked : Type 0 where
 abbrev pub request_in : Text × List Row → Option Asked
 request_in entered =
     if bytes_eq entered.0 (codes "bound") then option_map a_bound (sought_in entered.1)
-    else (if bytes_eq entered.0 (codes "check") then option_map a_check (files_in entered.1)
-    else (if bytes_eq entered.0 (codes "sim") then option_map a_sim (files_in entered.1)
+    else (if bytes_eq entered.0 (codes "check") then option_map a_check (checking_in entered.1)
+    else (if bytes_eq entered.0 (codes "sim") then option_map a_sim (simulating_in entered.1)
     else (if bytes_eq entered.0 (codes "play") then option_map a_play (plays_in entered.1)
     else (if bytes_eq entered.0 (codes "explain") then option_map an_explain (question_in entered.1)
     else (if bytes_eq entered.0 (codes "draw") then option_map a_draw (drawing_in entered.1)
@@ -465,16 +507,20 @@ abbrev pub if_named : Option Text → List Text
 if_named None = []
 if_named (Some name) = name ∷ []
 
+-- the files of what is watched
+abbrev pub kept_by : Watching → List Text
+kept_by w = if_named w.dump ++ (if_named w.table ++ if_named w.timeline)
+
 -- the files that are written, one after another
 abbrev pub written_by : Asked → List Text
 written_by (a_bound q) = if_named q.into
 written_by (a_check q) = []
-written_by (a_sim q) = []
-written_by (a_play q) = if_named q.report ++ (if_named q.dump ++ if_named q.table)
+written_by (a_sim q) = kept_by q.watched
+written_by (a_play q) = if_named q.report ++ kept_by q.watched
 written_by (an_explain q) = []
 written_by (a_draw q) = if_named q.into
 written_by (a_serve q) = if_named (boot_file q.life.boot) ++ if_named q.life.recorded
-written_by (a_replay q) = []
+written_by (a_replay q) = kept_by q.watched
 
 -- none where words ask for nothing
 abbrev pub written_for : Option Asked → List Text

@@ -5,11 +5,13 @@ use Rattle.clap.specs.declared.error.kind.ErrorKind.TheVariants.{DisplayHelp, Di
 use Rattle.fbr_words.specs.declared.bound.Bound.{Bound as BoundRequest}
 use Rattle.fbr_words.specs.declared.bound.Ranges.{Ranges}
 use Rattle.fbr_words.specs.declared.bound.Ranges.TheVariants.{Rounds, Searched, Within}
-use Rattle.fbr_words.specs.declared.files.TwoFiles.{TwoFiles}
+use Rattle.fbr_words.specs.declared.check.Check.{Check as CheckRequest}
 use Rattle.fbr_words.specs.declared.play.Play.{Play as PlayRequest}
 use Rattle.fbr_words.specs.declared.replay.Replay.{Replay as ReplayRequest}
 use Rattle.fbr_words.specs.declared.shown.Explain.{Explain as ExplainRequest}
 use Rattle.fbr_words.specs.declared.shown.Draw.{Draw as DrawRequest}
+use Rattle.fbr_words.specs.declared.sim.Sim.{Sim as SimRequest}
+use Rattle.fbr_words.specs.declared.watched.Watched.{Watched}
 use Rattle.fb_addresses.specs.Addresses.{endpoint_of, parts_of}
 use Rattle.fbr_words.specs.declared.network.Network.{Network as NetworkRequest}
 use Rattle.fbr_words.specs.declared.serve.Boot.{Boot as BootRequest}
@@ -21,7 +23,7 @@ use Rattle.fbr_words.specs.declared.request.Request.{Request}
 use Rattle.fbr_words.specs.declared.request.Request.TheVariants.{Bound, Check, Sim, Play, Explain, Draw, Serve, Replay}
 use Rattle.fbr_words.specs.declared.reading.Misread.{Misread}
 use Rattle.fbr_words.specs.declared.reading.Misread.TheVariants.{Memory, Help, Words, Number}
-use Rattle.fbr_words.specs.Program.{program, Sought, Files, Plays, Question, Drawing, Network, Boot, numbered, in_file, Life, Telling, Service, Replaying, Asked, a_bound, a_check, a_sim, a_play, an_explain, a_draw, a_serve, a_replay, request_of}
+use Rattle.fbr_words.specs.Program.{program, Sought, Checking, Watching, Simulating, Plays, Question, Drawing, Network, Boot, numbered, in_file, Life, Telling, Service, Replaying, Asked, a_bound, a_check, a_sim, a_play, an_explain, a_draw, a_serve, a_replay, request_of}
 
 -- which ranges are wanted: the file that is named, or that there is a search
 abbrev pub ranges_of : Ranges → Option (Option Text)
@@ -30,27 +32,31 @@ ranges_of Searched = Some None
 ranges_of (Within name) = Some (Some name.now)
 
 abbrev pub sought_of : BoundRequest → Sought
-sought_of w = record { app = w.app.now; repeats = w.repeats; into = option_map (λ name. name.now) w.into; ranges = ranges_of w.ranges; room = w.room }
+sought_of w = record { app = w.app.now; repeats = w.repeats; into = option_map (λ name. name.now) w.into; ranges = ranges_of w.ranges; room = w.room; json = w.is_json }
 
-abbrev pub files_of : TwoFiles → Files
-files_of f = record { app = f.app.now; cert = f.cert.now }
+abbrev pub checking_of : CheckRequest → Checking
+checking_of f = record { app = f.app.now; cert = f.cert.now; json = f.is_json }
 
-abbrev pub plays_of : PlayRequest → Plays
-plays_of p =
+abbrev pub watching_of : Watched → Watching
+watching_of w =
     record {
-      app = p.app.now;
-      files = map (λ name. name.now) p.files.items;
-      watched = map (λ path. path.now) p.watched.items;
-      report = option_map (λ name. name.now) p.written.report;
-      dump = option_map (λ name. name.now) p.written.dump;
-      table = option_map (λ name. name.now) p.written.table;
+      paths = map (λ path. path.now) w.paths.items;
+      dump = option_map (λ name. name.now) w.dump;
+      table = option_map (λ name. name.now) w.table;
+      timeline = option_map (λ name. name.now) w.timeline;
     }
 
+abbrev pub simulating_of : SimRequest → Simulating
+simulating_of s = record { app = s.app.now; cert = s.cert.now; watched = watching_of s.watched }
+
+abbrev pub plays_of : PlayRequest → Plays
+plays_of p = record { app = p.app.now; files = map (λ name. name.now) p.files.items; watched = watching_of p.watched; report = option_map (λ name. name.now) p.report }
+
 abbrev pub replaying_of : ReplayRequest → Replaying
-replaying_of r = record { app = r.app.now; cert = r.cert.now; recorded = r.record.now; verbose = r.is_verbose; clock = r.has_clock }
+replaying_of r = record { app = r.app.now; cert = r.cert.now; recorded = r.record.now; verbose = r.is_verbose; clock = r.has_clock; watched = watching_of r.watched }
 
 abbrev pub question_of : ExplainRequest → Question
-question_of q = record { what = q.what.now; cert = option_map (λ name. name.now) q.cert; repeats = q.repeats; strict = q.is_strict }
+question_of q = record { what = q.what.now; cert = option_map (λ name. name.now) q.cert; repeats = q.repeats; strict = q.is_strict; json = q.is_json }
 
 abbrev pub drawing_of : DrawRequest → Drawing
 drawing_of d =
@@ -81,8 +87,8 @@ service_of r = record { app = r.app.now; cert = r.cert.now; device = r.device.no
 
 abbrev pub asked_of : Request → Asked
 asked_of (Bound b) = a_bound (sought_of b)
-asked_of (Check f) = a_check (files_of f)
-asked_of (Sim f) = a_sim (files_of f)
+asked_of (Check f) = a_check (checking_of f)
+asked_of (Sim s) = a_sim (simulating_of s)
 asked_of (Play p) = a_play (plays_of p)
 asked_of (Explain q) = an_explain (question_of q)
 asked_of (Draw d) = a_draw (drawing_of d)

@@ -28,6 +28,8 @@ pub struct Bound<'a> {
     pub ranges: Ranges<'a>,
     /// How often each queue has room for its largest arrival, where that is said.
     pub room: Option<u8>,
+    /// JSON is printed.
+    pub is_json: bool,
 }
 
 // A number of 1 to 255.
@@ -91,5 +93,6 @@ pub fn bound_in<'a>(words: &ArgMatches<'a>) -> Option<Bound<'a>>
         into: into_in(words),
         ranges: ranges_by(given(words, "ranges"), flag(words, "search")),
         room: often_in(words, "room")?,
+        is_json: flag(words, "json"),
     })
 }

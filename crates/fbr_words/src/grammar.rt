@@ -154,6 +154,17 @@ fn room<'a>(alloc: Global) -> Arg<'a>
         .help(help)
 }
 
+// The option `--json`.
+fn json<'a>(alloc: Global) -> Arg<'a>
+    ensures rule { rule_of result ≡ program.json }
+    ensures local { result.global ≡ false }
+{
+    Arg::new(alloc, "json")
+        .long("json")
+        .action(ArgAction::SetTrue)
+        .help("Prints one JSON object for programs in place of text for people")
+}
+
 // The subcommand that finds certificates.
 fn bound<'a>(alloc: Global) -> Result<Command<'a>, AllocError>
     ensures { IfOk result (λ c. app_of c ≡ program.bound) }
@@ -163,7 +174,16 @@ fn bound<'a>(alloc: Global) -> Result<Command<'a>, AllocError>
     let written = with(counted, output(alloc));
     let ranged = with(written, ranges(alloc));
     let searched = with(ranged, search(alloc));
-    with(searched, room(alloc))
+    let roomed = with(searched, room(alloc));
+    with(roomed, json(alloc))
+}
+
+// The subcommand that checks.
+fn checked<'a>(alloc: Global) -> Result<Command<'a>, AllocError>
+    ensures { IfOk result (λ c. app_of c ≡ program.check) }
+{
+    let about = "Checks that a certificate fits an application";
+    with(over_files(alloc, "check", about), json(alloc))
 }
 
 // The option `--strict`.
@@ -189,7 +209,8 @@ fn explained<'a>(alloc: Global) -> Result<Command<'a>, AllocError>
         .arg(file(alloc, "APP", help_app));
     let both = with(alone, maybe_file(alloc, "CERT", help_cert));
     let counted = with(both, repeats(alloc));
-    with(counted, strict(alloc))
+    let noted = with(counted, strict(alloc));
+    with(noted, json(alloc))
 }
 
 // The option `--flat`.
@@ -283,6 +304,33 @@ fn set<'a>(alloc: Global, id: &'a str, help: &'a str) -> Arg<'a>
         .help(help)
 }
 
+// A command with what is watched, and the files into which that is written.
+fn watched<'a>(
+    alloc: Global,
+    command: Result<Command<'a>, AllocError>,
+) -> Result<Command<'a>, AllocError>
+    ensures { (app : App) → IfOk command.entry (λ c. app_of c ≡ app) → IfOk result (λ c. app_of c ≡ program.watched_by app) }
+{
+    let help_watch =
+        "Tells after each dispatch what has changed at this path: an instance, a variable or a resource, or `*` for all; may be given again, at most 64 times";
+    let help_dump =
+        "Writes into this file what has changed, as a value change dump, which GTKWave opens";
+    let help_table = "Writes into this file what has changed, as a table of comma-separated values";
+    let help_timeline = "Draws into this file what ran when, and how full the queues were, as SVG";
+    let named = with(command, repeated(alloc, "watch", "PATH", help_watch));
+    let dumped = with(named, number(alloc, "vcd", "FILE", help_dump));
+    let listed = with(dumped, number(alloc, "csv", "FILE", help_table));
+    with(listed, number(alloc, "timeline", "FILE", help_timeline))
+}
+
+// The subcommand that runs a script.
+fn simulated<'a>(alloc: Global) -> Result<Command<'a>, AllocError>
+    ensures { IfOk result (λ c. app_of c ≡ program.sim) }
+{
+    let about = "Checks two texts, and runs the script on standard input, line by line";
+    watched(alloc, over_files(alloc, "sim", about))
+}
+
 // The subcommand that plays stories.
 fn played<'a>(alloc: Global) -> Result<Command<'a>, AllocError>
     ensures { IfOk result (λ c. app_of c ≡ program.play) }
@@ -290,17 +338,10 @@ fn played<'a>(alloc: Global) -> Result<Command<'a>, AllocError>
     let about = "Plays stories of a plant, and tells which of them came otherwise";
     let help =
         "Stories, whose names end in .story, at most 64; the certificate's text may stand before them";
-    let help_watch =
-        "Tells after each dispatch what has changed at this path: an instance, a variable or a resource, or `*` for all; may be given again, at most 64 times";
     let help_report = "Writes into this file how the sequences went, as JUnit XML";
-    let help_dump =
-        "Writes into this file what has changed, as a value change dump, which GTKWave opens";
-    let help_table = "Writes into this file what has changed, as a table of comma-separated values";
     let named = with(over_file(alloc, "play", about), files(alloc, "STORY", help));
-    let watched = with(named, repeated(alloc, "watch", "PATH", help_watch));
-    let told = with(watched, number(alloc, "report", "FILE", help_report));
-    let dumped = with(told, number(alloc, "vcd", "FILE", help_dump));
-    with(dumped, number(alloc, "csv", "FILE", help_table))
+    let kept = watched(alloc, named);
+    with(kept, number(alloc, "report", "FILE", help_report))
 }
 
 // The subcommand that takes the turns of a record again.
@@ -315,7 +356,8 @@ fn replayed<'a>(alloc: Global) -> Result<Command<'a>, AllocError>
     let both = over_files(alloc, "replay", about);
     let recorded = with(both, file(alloc, "RECORD", help_record));
     let told = with(recorded, set(alloc, "verbose", help_verbose));
-    with(told, set(alloc, "clock", help_clock))
+    let timed = with(told, set(alloc, "clock", help_clock));
+    watched(alloc, timed)
 }
 
 // `serve` with what says where it receives, and from whom.
@@ -385,17 +427,13 @@ fn served<'a>(alloc: Global) -> Result<Command<'a>, AllocError>
 pub fn commands<'a>(alloc: Global) -> Result<Command<'a>, AllocError>
     ensures { IfOk result (λ c. app_of c ≡ program.program) }
 {
-    let about_check = "Checks that a certificate fits an application";
-    let check = over_files(alloc, "check", about_check)?;
-    let about_sim = "Checks two texts, and runs the script on standard input";
-    let sim = over_files(alloc, "sim", about_sim);
     let top = Command::new(alloc, "fbr")
         .about("Proves bounds of function block applications before they run")
         .version(VERSION)
         .subcommand_required(true);
     let finds = with_command(Ok(top), bound(alloc));
-    let checks = with_command(finds, Ok(check));
-    let runs = with_command(checks, sim);
+    let checks = with_command(finds, checked(alloc));
+    let runs = with_command(checks, simulated(alloc));
     let plays = with_command(runs, played(alloc));
     let explains = with_command(plays, explained(alloc));
     let draws = with_command(explains, drawn(alloc));

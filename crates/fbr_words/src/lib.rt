@@ -3,7 +3,7 @@
 #![tactic(auto)]
 
 mod bound;
-mod files;
+mod check;
 mod given;
 mod grammar;
 mod network;
@@ -13,14 +13,18 @@ mod replay;
 mod request;
 mod serve;
 mod shown;
+mod sim;
+mod watched;
 
 pub use bound::{Bound, Ranges};
-pub use files::TwoFiles;
+pub use check::Check;
 pub use grammar::VERSION;
 pub use network::Network;
-pub use play::{Play, Written};
+pub use play::Play;
 pub use reading::{Misread, read_words};
 pub use replay::Replay;
 pub use request::Request;
 pub use serve::{Boot, Life, Serve, Telling};
 pub use shown::{Draw, Explain};
+pub use sim::Sim;
+pub use watched::Watched;

@@ -32,6 +32,20 @@ const UNCOUNTED: &str = "fbr: `--repeats` and `--room` take a number of 1 to 255
 const UNNUMBERED: &str =
     "fbr: an address is PORT, ADDRESS:PORT or [ADDRESS]:PORT with a port of 1 to 65535, and `--from` takes an ADDRESS, 64 of each at most; `--boot` and `--summary` take a number of 32 bits, `--turns` one of 64, `--boot-file` stands in place of `--boot`, and `--sync` stands with `--record`";
 
+// What people are told where there are too many names.
+const TOO_MANY: &str = "fbr: at most 64 stories are taken, and 64 paths of `--watch`";
+
+// What people are told where the words of a subcommand are none of its own.
+fn misfit(name: &str) -> &'static str {
+    if name == "serve" {
+        UNNUMBERED
+    } else if name == "sim" || name == "play" || name == "replay" {
+        TOO_MANY
+    } else {
+        UNCOUNTED
+    }
+}
+
 // The subcommand that the words name, with what they give to it.
 fn entered<'a, 'b>(matches: &'b ArgMatches<'a>) -> Option<(&'a str, &'b ArgMatches<'a>)>
     ensures { option_map (λ sub. (sub.0.now, rows_of (found_of sub.1.now))) result ≡ subcommand_rows_of matches.now }
@@ -48,11 +62,7 @@ fn request<'a>(matches: &ArgMatches<'a>) -> Result<Request<'a>, Misread>
     match entered(matches) {
         Some((name, words)) => match request_in(name, words) {
             Some(request) => Ok(request),
-            None => Err(Misread::Number(if name == "serve" {
-                UNNUMBERED
-            } else {
-                UNCOUNTED
-            })),
+            None => Err(Misread::Number(misfit(name))),
         },
         None => Err(Misread::Number(UNCOUNTED)),
     }

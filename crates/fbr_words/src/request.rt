@@ -6,11 +6,12 @@ ghost use Rattle.fbr_words.specs.Program as program;
 ghost use Rattle.fbr_words.specs.Requests.{asked_of};
 
 use crate::bound::{Bound, bound_in};
-use crate::files::{TwoFiles, files_in};
+use crate::check::{Check, check_in};
 use crate::play::{Play, play_in};
 use crate::replay::{Replay, replay_in};
 use crate::serve::{Serve, serve_in};
 use crate::shown::{Draw, Explain, draw_in, explain_in};
+use crate::sim::{Sim, sim_in};
 use clap::ArgMatches;
 
 /// A command with all that its words say.
@@ -19,9 +20,9 @@ pub enum Request<'a> {
     /// Finds a certificate.
     Bound(Bound<'a>),
     /// Checks one.
-    Check(TwoFiles<'a>),
+    Check(Check<'a>),
     /// Runs a script on a world of devices.
-    Sim(TwoFiles<'a>),
+    Sim(Sim<'a>),
     /// Plays stories on a world of devices.
     Play(Play<'a>),
     /// Tells people of a verdict, or of a number.
@@ -42,15 +43,15 @@ fn bound<'a>(words: &ArgMatches<'a>) -> Option<Request<'a>>
 }
 
 fn check<'a>(words: &ArgMatches<'a>) -> Option<Request<'a>>
-    ensures { option_map asked_of result ≡ option_map program.a_check (program.files_in (rows_of (found_of words.now))) }
+    ensures { option_map asked_of result ≡ option_map program.a_check (program.checking_in (rows_of (found_of words.now))) }
 {
-    Some(Request::Check(files_in(words)?))
+    Some(Request::Check(check_in(words)?))
 }
 
 fn sim<'a>(words: &ArgMatches<'a>) -> Option<Request<'a>>
-    ensures { option_map asked_of result ≡ option_map program.a_sim (program.files_in (rows_of (found_of words.now))) }
+    ensures { option_map asked_of result ≡ option_map program.a_sim (program.simulating_in (rows_of (found_of words.now))) }
 {
-    Some(Request::Sim(files_in(words)?))
+    Some(Request::Sim(sim_in(words)?))
 }
 
 fn play<'a>(words: &ArgMatches<'a>) -> Option<Request<'a>>

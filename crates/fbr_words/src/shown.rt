@@ -10,7 +10,7 @@ use crate::given::{flag, given, into_in};
 use clap::ArgMatches;
 
 /// The number of a refusal or a denial, or else the file of an application; the file of a certificate, where one is named; how often datagrams are delivered,
-/// where that is said; and whether notes count in the status.
+/// where that is said; whether notes count in the status; and whether JSON is printed.
 #[derive(Clone, Copy)]
 pub struct Explain<'a> {
     pub what: &'a str,
@@ -18,6 +18,7 @@ pub struct Explain<'a> {
     /// 1 to 255.
     pub repeats: Option<u8>,
     pub is_strict: bool,
+    pub is_json: bool,
 }
 
 /// A system in a file, with a certificate in another, or else with the one that is found; whether composites are without boxes; the block type whose chart is drawn,
@@ -43,6 +44,7 @@ pub fn explain_in<'a>(words: &ArgMatches<'a>) -> Option<Explain<'a>>
         cert: given(words, "CERT"),
         repeats: often_in(words, "repeats")?,
         is_strict: flag(words, "strict"),
+        is_json: flag(words, "json"),
     })
 }
 

@@ -1,21 +1,16 @@
-use Rattle.std.proofs.Common.{arith}
-use Rattle.std.proofs.lemmas.Iterator.Splits.{YieldsList-from_lines}
-use Rattle.fb_script.proofs.Lines.{start, turn, next, ended, stopped, lines_le}
+use Rattle.fb_script.proofs.Lines.{halted, halts, next, shown, stopped}
+use Rattle.fb_script.specs.Runs.{unreadable}
+use Rattle.fb_script.specs.declared.run.End.TheVariants.{Unreadable}
 use Rattle.fb_script.proofs.run.simulate.Goals as goal
 
-pub loop-line-init : goal.loop-line-init
-loop-line-init g c =
-    start c.args.script.now c.args.world.now (g.W.Write.contents c.args.output.now)
-    (YieldsList-from_lines c.args.script.now (rw c.into_iter-line-iterator.ensures.into_iter_gives c.lines-line-items.ensures.rest)).runs
-
-pub overflow_add-number : goal.overflow_add-number
-overflow_add-number g c = omega (arith, c.loop-line.invariant.counted, lines_le c.args.script.now, c.requires)
-
-pub loop-line-preserved : goal.loop-line-preserved
-loop-line-preserved g c = next (turn c.in-Some.line c.loop-line.invariant c.in-Some.ensures.steps) (rw c.in-Ok-None.field-0-is at c.in-Ok-None.ensures.steps) c.step.ensures.same
+pub returns-in-Err-clause-runs : goal.returns-in-Err-clause-runs
+returns-in-Err-clause-runs g c = halted c.in-Err.end c.loop-number.invariant (halts c.in-Err.end c.in-Err.ensures)
 
 pub returns-in-Ok-Some-clause-runs : goal.returns-in-Ok-Some-clause-runs
-returns-in-Ok-Some-clause-runs g c = stopped c.in-Ok-Some.end (turn {t = c.next.new.self} c.in-Some.line c.loop-line.invariant c.in-Some.ensures.steps) (rw c.in-Ok-Some.field-0-is at c.in-Ok-Some.ensures.steps)
+returns-in-Ok-Some-clause-runs g c = stopped c.in-Ok-Some.end c.loop-number.invariant c.in-Ok.ensures (rw c.in-Ok-Some.field-0-is at c.in-Ok-Some.ensures.steps)
+
+pub loop-number-preserved : goal.loop-number-preserved
+loop-number-preserved g c = shown (next c.loop-number.invariant c.in-Ok.ensures (rw c.in-Ok-None.field-0-is at c.in-Ok-None.ensures.steps) c.step.ensures.same) c.in_ok-show.ensures
 
 pub returns-clause-runs : goal.returns-clause-runs
-returns-clause-runs g c = ended c.loop-line.invariant c.in-None.ensures.steps
+returns-clause-runs g c = halted Unreadable c.loop-number.invariant unreadable

@@ -1,14 +1,12 @@
-use Rattle.std.proofs.Common.{ap}
-use Rattle.std.specs.Prelude.{option_map}
 use Rattle.fbr_words.specs.Requests.{question_of}
-use Rattle.fbr.proofs.Told.{beside_told, verdict_of}
+use Rattle.fbr.specs.Answers.{TellsExplain}
+use Rattle.fbr.proofs.Told.{json_told, text_told}
 use Rattle.fbr.proofs.explain.explain.Goals as goal
 
-pub returns-in-Some-cert-clause-told : goal.returns-in-Some-cert-clause-told
-returns-in-Some-cert-clause-told g c =
-    let before = g.S.Sources.contents c.args.files.now in
-    let what = c.args.request.what.now in
-    let name = c.in-Some-cert.name.now in
-    beside_told (question_of c.args.request) name before (g.W.Write.contents c.args.output.now) (g.W.Write.contents c.explain_two.new.output) c.explain_two.result (ap (option_map (λ x. x.now)) c.in-Some-cert.is)
-    (verdict_of what name c.read_file-app.result.name.now c.read_file-cert.result.name.now (before what) (before name) (g.W.Write.contents c.args.output.now) (g.W.Write.contents c.explain_two.new.output) c.explain_two.result
-    c.read_file-app.ensures.named c.read_file-cert.ensures.named (c.explain_two.ensures.told (before what) (before name) c.read_file-app.ensures.held c.read_file-cert.ensures.held))
+pub returns-then-request-clause-told : goal.returns-then-request-clause-told
+returns-then-request-clause-told g c =
+    json_told c.args.request.is_json (TellsExplain (question_of c.args.request) (g.S.Sources.contents c.args.files.now) (g.W.Write.contents c.args.output.now) (g.W.Write.contents c.explain_json.new.output)) c.explain_json.result c.if-request.true
+
+pub returns-clause-told : goal.returns-clause-told
+returns-clause-told g c =
+    text_told c.args.request.is_json (TellsExplain (question_of c.args.request) (g.S.Sources.contents c.args.files.now) (g.W.Write.contents c.args.output.now) (g.W.Write.contents c.explain_text.new.output)) c.explain_text.result c.explain_text.ensures.told

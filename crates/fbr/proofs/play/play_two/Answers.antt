@@ -1,5 +1,6 @@
 use Rattle.std.proofs.Common.{Ok, Err, refl}
-use Rattle.fbr.proofs.Told.{all_kept, verified_of, stories_played, stories_refused}
+use Rattle.fbr_files.specs.declared.fault.Fault.TheVariants.{Memory}
+use Rattle.fbr.proofs.Told.{all_kept, verified_of, stories_played, stories_refused, told_fault}
 use Rattle.fbr.proofs.play.play_two.Goals as goal
 
 pub returns-in-Ok-play_all-clause-told : goal.returns-in-Ok-play_all-clause-told
@@ -11,6 +12,16 @@ returns-in-Ok-play_all-clause-told g c =
     stories_played one two held_app held_cert c.in-Ok.verified (g.W.Write.contents c.args.output.now) (g.W.Write.contents c.finish.new.output) c.finish.result
     (verified_of one two c.read_file-app.result.name.now c.read_file-cert.result.name.now held_app held_cert (Ok c.in-Ok.verified) c.read_file-app.ensures.named c.read_file-cert.ensures.named (c.in-Ok.ensures held_app held_cert c.read_file-app.ensures.held c.read_file-cert.ensures.held))
     c.finish.ensures.told
+
+pub returns-in-Ok-clause-told : goal.returns-in-Ok-clause-told
+returns-in-Ok-clause-told g c =
+    let one = c.args.both.app.now in
+    let two = c.args.both.cert.now in
+    let held_app = g.S.Sources.contents c.args.files.now one in
+    let held_cert = g.S.Sources.contents c.args.files.now two in
+    stories_played one two held_app held_cert c.in-Ok.verified (g.W.Write.contents c.args.output.now) (g.W.Write.contents c.spent.new.output) c.spent.result
+    (verified_of one two c.read_file-app.result.name.now c.read_file-cert.result.name.now held_app held_cert (Ok c.in-Ok.verified) c.read_file-app.ensures.named c.read_file-cert.ensures.named (c.in-Ok.ensures held_app held_cert c.read_file-app.ensures.held c.read_file-cert.ensures.held))
+    (told_fault Memory (g.W.Write.contents c.args.output.now) (g.W.Write.contents c.spent.new.output) c.spent.result c.spent.ensures.told)
 
 pub returns-clause-told : goal.returns-clause-told
 returns-clause-told g c =

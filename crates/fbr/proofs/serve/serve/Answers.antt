@@ -82,4 +82,3 @@ returns-clause-others g c =
     let before = g.S.Sources.contents c.args.files.now in
     let mid = g.S.Sources.contents c.take_boot.new.files in
     all_more same (boot_file q.life.boot) (if_named q.life.recorded) before mid mid c.take_boot.ensures.others (all_kept same (if_named q.life.recorded) mid mid refl)
-

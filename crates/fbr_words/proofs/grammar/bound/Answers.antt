@@ -15,4 +15,6 @@ returns c =
     let second = c.with-written.ensures one output first c.output.ensures.rule c.output.ensures.local in
     let third = c.with-ranged.ensures two ranges second c.ranges-2.ensures.rule c.ranges-2.ensures.local in
     let fourth = c.with-searched.ensures three program.search third c.search.ensures.rule c.search.ensures.local in
-    c.with.ensures four program.room fourth c.room.ensures.rule c.room.ensures.local
+    let five : App = with_rule four program.room in
+    let fifth = c.with-roomed.ensures four program.room fourth c.room.ensures.rule c.room.ensures.local in
+    c.with.ensures five program.json fifth c.json.ensures.rule c.json.ensures.local

@@ -10,4 +10,5 @@ returns c =
     let app2 : App = with_rule app1 (set (codes "verbose")) in
     let is1 = c.with-recorded.ensures app0 (file (codes "RECORD")) c.over_files-both.ensures c.file.ensures.rule c.file.ensures.local in
     let is2 = c.with-told.ensures app1 (set (codes "verbose")) is1 c.set.ensures.rule c.set.ensures.local in
-    c.with.ensures app2 (set (codes "clock")) is2 c.set-2.ensures.rule c.set-2.ensures.local
+    let is3 = c.with-timed.ensures app2 (set (codes "clock")) is2 c.set-2.ensures.rule c.set-2.ensures.local in
+    c.watched.ensures (with_rule app2 (set (codes "clock"))) is3

@@ -1,0 +1,286 @@
+//! Runs a script on the world of a system's devices, and watches it.
+
+use fb_device::{Answer, Dispatched, Ran, release, share};
+use fb_script::{Asked, End, LineFault, Told, ask, next_text, read_line, tell, tell_dispatched};
+use fb_verified::Verified;
+use fb_world::{Missed, RootSteps, World, WorldAnswer, WorldEvent};
+use fbr_files::Fault;
+use fbr_watch::{Seen, Watching, Wish};
+use std::alloc::{AllocError, Global};
+use std::io;
+use std::io::{BufReader, Read, Write};
+use std::rc::Rc;
+
+/// How a script has ended that was watched, and what was kept of it.
+#[derive(Drop)]
+pub struct Simulated {
+    pub end: End,
+    pub seen: Seen,
+}
+
+impl Simulated {
+    /// Why the script was not run to its end, where it was not.
+    pub fn fault(&self) -> Option<Fault<'static>> {
+        match self.end {
+            End::Done => None,
+            End::Line(number) => Some(Fault::Line(number)),
+            End::Unreadable => Some(Fault::Input),
+            End::OutOfMemory => Some(Fault::Memory),
+        }
+    }
+}
+
+// What watches a world, the moment of each device's clock, and where lines go.
+#[derive(Drop)]
+struct Course<'w, 's, 'a, W> {
+    watching: &'w mut Watching<'s, 'a, Vec<u8>>,
+    moments: Vec<u64>,
+    output: &'w mut W,
+}
+
+// The moment that an event brings to the clock of its device, where it brings one.
+fn moment_in(event: &WorldEvent) -> Option<u64> {
+    match event {
+        WorldEvent::Tick(_, now) => Some(*now),
+        _ => None,
+    }
+}
+
+impl<W: Write> Course<'_, '_, '_, W> {
+    // All devices are seen for the first time.
+    fn begin(&mut self, world: &World) -> Result<(), AllocError> {
+        self.watching.begin(None, self.output);
+        for number in 0..u16::MAX {
+            let Some(device) = world.get(number) else {
+                break;
+            };
+            self.moments.push(0)?;
+            self.watching.first(number, device, self.output);
+        }
+        Ok(())
+    }
+
+    // The moment of the clock of the device of a number.
+    fn moment(&self, device: u16) -> u64 {
+        match self.moments.get(usize::from(device)) {
+            Some(moment) => *moment,
+            None => 0,
+        }
+    }
+
+    // An event happened at the device of a number: its queues are looked at.
+    fn look(&mut self, world: &World, number: u16, event: &WorldEvent) {
+        if let Some(now) = moment_in(event) {
+            if let Some(moment) = self.moments.get_mut(usize::from(number)) {
+                *moment = now;
+            }
+        }
+        let moment = self.moment(number);
+        if let Some(device) = world.get(number) {
+            self.watching.came(number, device, moment, self.output);
+        }
+    }
+
+    // A block ran at the device of a number, at a dispatch of the resource of a number.
+    fn look_at(&mut self, world: &World, number: u16, resource: u16, ran: &Ran) {
+        let moment = self.moment(number);
+        if let Some(device) = world.get(number) {
+            self.watching
+                .ran(number, device, resource, moment, ran, self.output);
+        }
+    }
+
+    // Writes the answer of the device of a number.
+    fn write_answer(
+        &mut self,
+        world: &World,
+        device: u16,
+        answer: &Answer,
+        sent: Option<u64>,
+    ) -> io::Result<()> {
+        match world.get(device) {
+            Some(station) => {
+                let told = tell(station, answer, sent);
+                writeln!(self.output, "{told}")
+            }
+            None => Ok(()),
+        }
+    }
+
+    // An event happens at the device of a number. Gives how the script ends, if it does there.
+    fn happen(
+        &mut self,
+        world: &mut World,
+        device: u16,
+        event: &WorldEvent,
+        line: usize,
+    ) -> io::Result<Option<End>> {
+        let answered = world.step(event);
+        match &answered {
+            Ok(WorldAnswer::Answered(answer, sent)) => {
+                self.write_answer(world, device, answer, *sent)?;
+                self.look(world, device, event);
+                Ok(None)
+            }
+            Ok(WorldAnswer::Unknown) => Ok(Some(End::Line(line))),
+            Err(_) => Ok(Some(End::OutOfMemory)),
+        }
+    }
+
+    // A resource of the device of a number is dispatched. Gives how the script ends, if it does there.
+    fn dispatch(
+        &mut self,
+        world: &mut World,
+        device: u16,
+        resource: u16,
+        line: usize,
+    ) -> io::Result<Option<End>> {
+        let mut answer = Dispatched::Idle;
+        match world.dispatch(device, resource, &mut answer) {
+            Ok(sent) => {
+                if let Some(station) = world.get(device) {
+                    let told = tell_dispatched(station, &answer, sent);
+                    writeln!(self.output, "{told}")?;
+                }
+                if let Dispatched::Ran(ran) = &answer {
+                    self.look_at(world, device, resource, ran);
+                }
+                Ok(None)
+            }
+            Err(Missed::Unknown) => Ok(Some(End::Line(line))),
+            Err(Missed::OutOfMemory) => Ok(Some(End::OutOfMemory)),
+        }
+    }
+
+    // Tells the steps of a root.
+    fn tell_root(&mut self, number: u64, told: RootSteps) -> io::Result<()> {
+        let told = Told::Root {
+            number,
+            steps: told.steps,
+            far: told.far,
+        };
+        writeln!(self.output, "{told}")
+    }
+
+    // Runs a line. Gives how the script ends, if it does there.
+    fn step(
+        &mut self,
+        alloc: Global,
+        world: &mut World,
+        text: &str,
+        line: usize,
+    ) -> io::Result<Option<End>> {
+        let read = match read_line(alloc, text) {
+            Ok(Some(read)) => read,
+            Ok(None) => return Ok(None),
+            Err(LineFault::Form) => return Ok(Some(End::Line(line))),
+            Err(LineFault::OutOfMemory) => return Ok(Some(End::OutOfMemory)),
+        };
+        match ask(world, read) {
+            Asked::Event(device, event) => self.happen(world, device, &event, line),
+            Asked::Dispatch(device, resource) => self.dispatch(world, device, resource, line),
+            Asked::Root(root, told) => {
+                self.tell_root(root, told)?;
+                Ok(None)
+            }
+            Asked::Unknown => Ok(Some(End::Line(line))),
+        }
+    }
+
+    // Runs the lines of a script, in order, up to the first that is bad.
+    fn run<I: Read>(
+        &mut self,
+        alloc: Global,
+        world: &mut World,
+        script: &mut BufReader<I>,
+    ) -> io::Result<End> {
+        let mut line = Vec::new(alloc);
+        for number in 1..usize::MAX {
+            let text = match next_text(script, &mut line) {
+                Ok(text) => text,
+                Err(end) => return Ok(end),
+            };
+            if let Some(end) = self.step(alloc, world, text, number)? {
+                return Ok(end);
+            }
+            if script.buffer().is_empty() {
+                self.output.flush()?;
+            }
+        }
+        Ok(End::Unreadable)
+    }
+}
+
+// Runs a script on a world, and watches it.
+fn run_on<I: Read, W: Write>(
+    alloc: Global,
+    world: &mut World,
+    watching: &mut Watching<'_, '_, Vec<u8>>,
+    input: &mut I,
+    output: &mut W,
+) -> io::Result<End> {
+    let mut script = BufReader::new(alloc, input)?;
+    let mut course = Course {
+        watching,
+        moments: Vec::new(alloc),
+        output,
+    };
+    match course.begin(world) {
+        Ok(()) => course.run(alloc, world, &mut script),
+        Err(_) => Ok(End::OutOfMemory),
+    }
+}
+
+// Runs a script on the first world of what was verified, and watches it.
+fn run_shared<I: Read, W: Write, E: Write>(
+    alloc: Global,
+    shared: &Rc<Verified>,
+    wish: Wish<'_, '_>,
+    input: &mut I,
+    output: &mut W,
+    errors: &mut E,
+) -> io::Result<Result<Simulated, Fault<'static>>> {
+    let signals = match wish.signals(alloc, shared.flat(), None) {
+        Ok(signals) => signals,
+        Err(unwatched) => {
+            return Ok(Err(if unwatched.tell(errors) {
+                Fault::Usage
+            } else {
+                Fault::Memory
+            }));
+        }
+    };
+    let Ok(mut watching) = wish.watching(alloc, &signals) else {
+        return Ok(Err(Fault::Memory));
+    };
+    let Ok(mut world) = World::over(alloc, shared.clone()?) else {
+        return Ok(Err(Fault::Memory));
+    };
+    let ended = run_on(alloc, &mut world, &mut watching, input, output);
+    world.let_go();
+    let end = ended?;
+    Ok(Ok(Simulated {
+        end,
+        seen: Seen::of(alloc, watching)?,
+    }))
+}
+
+/// Runs the script on standard input on the first world of what was verified, line by line, and watches it: behind each answer stand the lines of what has changed
+/// at the paths that are watched. Where a path names nothing, people are told on `errors`, and nothing is run (`Usage`, 63). `print_end` tells how the script ended.
+pub fn run_watched<I: Read, W: Write, E: Write>(
+    alloc: Global,
+    verified: Verified,
+    wish: Wish<'_, '_>,
+    input: &mut I,
+    output: &mut W,
+    errors: &mut E,
+) -> io::Result<Result<Simulated, Fault<'static>>> {
+    match share(alloc, verified) {
+        Ok(shared) => {
+            let ran = run_shared(alloc, &shared, wish, input, output, errors);
+            release(shared);
+            ran
+        }
+        Err(_) => Ok(Err(Fault::Memory)),
+    }
+}

@@ -1,0 +1,29 @@
+//! What the words of `fbr sim` ask for.
+
+ghost use Rattle.std.specs.Prelude.{◌≡◌, option_map};
+ghost use Rattle.clap.specs.Words.{rows_of, found_of};
+ghost use Rattle.fbr_words.specs.Program as program;
+ghost use Rattle.fbr_words.specs.Requests.{simulating_of};
+
+use crate::given::given;
+use crate::watched::{Watched, watched_in};
+use clap::ArgMatches;
+
+/// The files of an application and of its certificate, and what is watched of the world that runs a script.
+#[derive(Drop)]
+pub struct Sim<'a> {
+    pub app: &'a str,
+    pub cert: &'a str,
+    pub watched: Watched<'a>,
+}
+
+/// What is to be simulated; `None` where there are more than 64 paths.
+pub fn sim_in<'a>(words: &ArgMatches<'a>) -> Option<Sim<'a>>
+    ensures { option_map simulating_of result ≡ program.simulating_in (rows_of (found_of words.now)) }
+{
+    Some(Sim {
+        app: given(words, "APP")?,
+        cert: given(words, "CERT")?,
+        watched: watched_in(words)?,
+    })
+}
