@@ -17,7 +17,7 @@ import tempfile
 
 TOP = os.path.dirname(os.path.dirname(os.path.abspath(__file__)))
 MARK = "¦"
-MOST_TEXT, MOST_CERT, MOST_FILE = 1_048_576, 16_777_216, 33_554_432
+MOST_TEXT, MOST_CERT, MOST_FILE, MOST_LINE = 1_048_576, 16_777_216, 33_554_432, 1_048_576
 SECONDS = 60
 
 
@@ -406,9 +406,11 @@ def words(table):
     table.add("a file whose name is no UTF-8", ["check", "hall\udcff.fb", cert], "refused 61 hall\udcff.fb")
     table.add("a file without end", ["check", "/dev/zero", cert], "refused 61 /dev/zero")
     table.add("a folder", ["check", table.folder, cert], f"refused 61 {table.folder}")
-    script = b" " * (MOST_FILE - 1) + b"\n"
-    table.add(f"a script of {MOST_FILE} bytes", ["sim", app, cert], "", stdin=script)
-    table.add("a script of one byte more", ["sim", app, cert], "refused 61 -", stdin=script + b"\n")
+    line = b" " * (MOST_LINE - 1)
+    table.add(f"lines of a script of {MOST_LINE} bytes", ["sim", app, cert], "", stdin=(line + b"\n") * 2 + line)
+    table.add("a line of one byte more", ["sim", app, cert], "refused 61 -", stdin=line + b" \n")
+    table.add("a last line of as many", ["sim", app, cert], "refused 61 -", stdin=line + b" ")
+    table.add("a script that is longer than a file may be", ["sim", app, cert], "", stdin=b"\n" * (MOST_FILE + 1))
 
 
 # A name may stand where these end a list of names; in place of any other word it may not.
