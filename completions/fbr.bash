@@ -2,19 +2,21 @@
 _fbr() {
     local word=${COMP_WORDS[COMP_CWORD]} command=${COMP_WORDS[1]} options
     if [ "$COMP_CWORD" -eq 1 ]; then
-        mapfile -t COMPREPLY < <(compgen -W "bound check sim play explain draw serve replay help --help --version" -- "$word")
+        mapfile -t COMPREPLY < <(compgen -W "bound check sim play explain draw serve replay pack key help --help --version" -- "$word")
         return
     fi
     case $command in
-        bound) options="--repeats --search --ranges --room --json --output --help" ;;
-        explain) options="--repeats --strict --json --help" ;;
-        draw) options="--repeats --flat --chart --output --help" ;;
-        serve) options="--bind --from --turns --until-eof --boot --boot-file --verbose --summary --clock --stop-on-lost-output --record --sync --help" ;;
-        sim) options="--watch --vcd --csv --timeline --help" ;;
-        play) options="--watch --vcd --csv --timeline --report --help" ;;
-        replay) options="--verbose --clock --watch --vcd --csv --timeline --help" ;;
-        check) options="--json --help" ;;
-        help) mapfile -t COMPREPLY < <(compgen -W "bound check sim play explain draw serve replay help" -- "$word") && return ;;
+        bound) options="--with --repeats --search --ranges --room --strict --allow --json --all --output --help" ;;
+        explain) options="--with --repeats --strict --allow --json --all --help" ;;
+        draw) options="--with --repeats --flat --chart --output --help" ;;
+        serve) options="--with --bind --from --turns --until-eof --boot --boot-file --verbose --summary --clock --stop-on-lost-output --record --sync --keys --state --unsealed --help" ;;
+        sim) options="--with --watch --vcd --csv --timeline --json --help" ;;
+        play) options="--with --watch --vcd --csv --timeline --report --json --help" ;;
+        replay) options="--with --verbose --clock --watch --vcd --csv --timeline --json --help" ;;
+        check) options="--with --strict --allow --json --all --help" ;;
+        key) options="--state --help" ;;
+        pack) options="--with --output --help" ;;
+        help) mapfile -t COMPREPLY < <(compgen -W "bound check sim play explain draw serve replay pack key help" -- "$word") && return ;;
     esac
     if [ "${word:0:1}" = - ]; then
         mapfile -t COMPREPLY < <(compgen -W "$options" -- "$word")

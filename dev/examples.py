@@ -11,7 +11,8 @@ Of a wrong plant NAME.out is its refusal by `fbr bound`, or NAME.cert its certif
 refusal by `fbr bound --repeats 2` and mended.repeats.cert what that prints of the mended one; mended.out is what `fbr check NAME.fb mended.cert` prints; where it runs, NAME.script.out is what `fbr sim` prints for NAME.script
 under NAME.cert, and mended.script.out what it prints of the mended one for mended.script under mended.repeats.cert. Beside the .out of a refusal the .err is what
 people are told on standard error; NAME.story and NAME.room.story have sequences that all pass, with the certificate of the same name, and NAME_blocks.story
-sequences of block types alone; beside a certificate whose queues do not take each arrival once the .cert.err is what `fbr bound` and `fbr check` tell them."""
+sequences of block types alone; beside a certificate whose queues do not take each arrival once the .cert.err is what `fbr bound` and `fbr check` tell them, and the .cert.notes how many notes
+these count."""
 import pathlib
 import re
 import subprocess
@@ -44,11 +45,16 @@ class Cases:
         self.text += f"on standard error:\n{out.with_suffix('.err').read_text()}"
 
     def accepted(self, label, words, printed, cert, files):
-        """A case in which this certificate is found or accepted, and beside it what people are told of its queues."""
+        """A case in which this certificate is found or accepted, and beside it what people are told of its queues and notes."""
         self.add(label, words, printed, files)
-        told = cert.with_name(f"{cert.name}.err")
-        if told.exists():
-            self.text += f"on standard error:\n{told.read_text()}"
+        told, notes = cert.with_name(f"{cert.name}.err"), cert.with_name(f"{cert.name}.notes")
+        said = told.read_text() if told.exists() else ""
+        if notes.exists():
+            count = int(notes.read_text())
+            shown = f"'fbr explain {words.partition(' ')[2]}' shows {'it' if count == 1 else 'them'}"
+            said += f"fbr: accepted; {count} note{'' if count == 1 else 's'}: {shown}\n"
+        if said:
+            self.text += f"on standard error:\n{said}"
 
     def add(self, label, words, printed, files=(), script=None):
         self.text += f"==== case {label}\n"

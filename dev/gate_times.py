@@ -2,6 +2,8 @@
 """Tells what each crate of a gate cost, in processor seconds, as a table beside its sizes:
 
   dev/gate_times.py [FOLDER]          runs the gate in a checkout (without it, this one), and prints the table; what the gate says goes to standard error
+  dev/gate_times.py --lines [FOLDER]  the same with a line for each crate in place of the table, as `.ci/run` has it
+  dev/gate_times.py --told LOG [FOLDER]           prints the table from such lines, wherever they are in LOG
   dev/gate_times.py --watch PID FILE  keeps in FILE, as JSON, what the processes below a gate that runs already have taken, until it ends
   dev/gate_times.py --table FILE LOG [FOLDER]     prints the table from such a record and from what that gate said
 
@@ -19,7 +21,10 @@ import sizes
 
 TOP = os.path.dirname(os.path.dirname(os.path.abspath(__file__)))
 TICK = os.sysconf("SC_CLK_TCK")
-PAUSE = 0.25
+PAUSE = 0.5
+LAST = 900
+LINE = re.compile(r"gate: (\w+) (?:passed|failed): (\d+) functions, proof (\d+) s, tests (\d+) s, (\d+) mutants refused (\d+) s, machine code (\d+) s")
+WHOLE = re.compile(r"gate: (?:passed|failed) in (\d+) processor minutes, (\d+) minutes by the clock")
 HEAD = ("Crate", "Functions", "Proof, s", "Tests, s", "Edits", "Edits, s", "Code", "Definitions", "Proofs")
 
 
@@ -56,15 +61,18 @@ def work_of(pid, gate):
 
 
 def look(seen, gate):
-    """Notes the processor seconds that each process of the gate has taken by itself so far."""
+    """Notes the processor seconds that each process of the gate has taken by itself so far, and gives the crates that it works at now."""
+    now = set()
     for pid in filter(str.isdigit, os.listdir("/proc")):
         try:
             work = work_of(pid, gate)
             if work:
                 parts = stat_of(pid)
                 seen[pid, parts[19]] = work, (int(parts[11]) + int(parts[12])) / TICK
+                now.add(work)
         except (OSError, ValueError, IndexError):
             pass
+    return now
 
 
 def whole_of(gate):
@@ -75,17 +83,28 @@ def whole_of(gate):
     return {"processor": sum(map(int, parts[11:15])) / TICK, "clock": clock}
 
 
-def record_of(seen, whole):
+def lanes_of(lanes):
+    """How many works the gate did at once, on the mean of its last quarter of an hour, and which one it did alone at its end, for how many seconds."""
+    if not lanes:
+        return {"last": 0, "alone": 0, "of": ""}
+    end = lanes[-1][0]
+    last = [len(works) for clock, works in lanes if clock > end - LAST]
+    alone = next((clock for clock, works in reversed(lanes) if len(works) > 1), lanes[0][0])
+    names = {f"{crate}'s {kind}" for clock, works in lanes if clock > alone for crate, kind in works}
+    return {"last": sum(last) / len(last), "alone": end - alone, "of": ", ".join(sorted(names))}
+
+
+def record_of(seen, whole, lanes):
     spent = {}
     for (crate, kind), seconds in seen.values():
         spent.setdefault(crate, {}).setdefault(kind, 0)
         spent[crate][kind] += seconds
-    return {"whole": whole, "crates": spent}
+    return {"whole": whole, "crates": spent, "lanes": lanes_of(lanes)}
 
 
 def watch(gate, file=None):
     """Looks at a gate until it ends, and returns the record. It is kept in a file on the way."""
-    seen, whole, kept = {}, {}, 0
+    seen, whole, kept, lanes = {}, {}, 0, []
     while True:
         try:
             if stat_of(gate)[0] == "Z":
@@ -93,14 +112,14 @@ def watch(gate, file=None):
             whole = whole_of(gate)
         except OSError:
             break
-        look(seen, gate)
+        lanes.append((time.monotonic(), frozenset(look(seen, gate))))
         if file and time.monotonic() > kept + 10:
-            keep(file, record_of(seen, whole))
+            keep(file, record_of(seen, whole, lanes))
             kept = time.monotonic()
         time.sleep(PAUSE)
     if file:
-        keep(file, record_of(seen, whole))
-    return record_of(seen, whole)
+        keep(file, record_of(seen, whole, lanes))
+    return record_of(seen, whole, lanes)
 
 
 def keep(file, record):
@@ -124,26 +143,52 @@ def told(said):
     return functions, refused
 
 
-def table(record, said, folder):
+def rows_of(record, said, folder):
+    """For each crate that the gate passed: functions, seconds of its proof and of its tests, edits that are refused, and seconds of these and of its machine code."""
     functions, refused = told(said)
-    print(f"| {' | '.join(HEAD)} |\n|{'---|' * len(HEAD)}")
-    total = [0] * (len(HEAD) - 1)
     for crate in sizes.listed(folder):
         spent = {kind: round(seconds) for kind, seconds in record["crates"].get(crate, {}).items()}
+        if spent or crate in functions:
+            yield crate, functions.get(crate, 0), spent.get("proof", 0), spent.get("tests", 0), refused.get(crate, 0), spent.get("edits", 0), spent.get("machine code", 0)
+
+
+def table(rows, whole, folder):
+    print(f"| {' | '.join(HEAD)} |\n|{'---|' * len(HEAD)}")
+    total, built = [0] * (len(HEAD) - 1), []
+    for crate, *spent, machine in rows:
         code, _, *definitions_and_proofs = sizes.sizes(folder, crate)
-        row = [functions.get(crate, 0), spent.get("proof", 0), spent.get("tests", 0), refused.get(crate, 0), spent.get("edits", 0), code, *definitions_and_proofs]
+        row = [*spent, code, *definitions_and_proofs]
         total = [one + other for one, other in zip(total, row)]
+        built += [f"`{crate}` {machine} s"] if machine else []
         print(f"| `{crate}` | {' | '.join(sizes.shown(it) for it in row)} |")
     print(f"| all | {' | '.join(sizes.shown(it) for it in total)} |")
-    whole = record["whole"]
-    built = {crate: spent["machine code"] for crate, spent in record["crates"].items() if "machine code" in spent}
-    print(f"\n{whole['processor'] / 60:.0f} processor minutes in all, {whole['clock'] / 60:.0f} minutes by the clock.", end=" ")
-    print(f"Machine code, by two compilers: {', '.join(f'`{crate}` {seconds:.0f} s' for crate, seconds in built.items()) or 'none'}.")
+    print(f"\n{whole[0]} processor minutes in all, {whole[1]} minutes by the clock. Machine code, by two compilers: {', '.join(built) or 'none'}.")
 
 
-def gate(folder):
+def minutes(record):
+    return [round(record["whole"][kind] / 60) for kind in ("processor", "clock")]
+
+
+def lines(record, said, folder, passed):
+    failed = {crate for line in said if line.startswith("rt: FAILED:") for crate in line.split()[2:]}
+    for crate, functions, proof, tests, mutants, edits, machine in rows_of(record, said, folder):
+        print(f"gate: {crate} {'failed' if crate in failed else 'passed'}: {functions} functions, proof {proof} s, tests {tests} s, {mutants} mutants refused {edits} s, machine code {machine} s")
+    processor, clock = minutes(record)
+    lanes = record["lanes"]
+    print(f"gate: {'passed' if passed else 'failed'} in {processor} processor minutes, {clock} minutes by the clock", end="; ")
+    print(f"passed {lanes['last']:.1f} at once on the mean of its last quarter of an hour, and at its end {lanes['of'] or 'nothing'} alone for {lanes['alone']:.0f} s")
+
+
+def told_rows(said):
+    """The rows and the whole of a gate that told its lines."""
+    rows = [(it[1], *map(int, it.groups()[1:])) for it in map(LINE.search, said) if it]
+    whole = next(([int(it[1]), int(it[2])] for it in map(WHOLE.search, said) if it), [0, 0])
+    return rows, whole
+
+
+def gate(folder, in_lines):
     said = []
-    job = subprocess.Popen(["rt", "ci"], cwd=folder, stdin=subprocess.DEVNULL, stdout=subprocess.PIPE, stderr=subprocess.STDOUT, text=True, errors="replace")
+    job = subprocess.Popen([".ci/rt", "ci"], cwd=folder, stdin=subprocess.DEVNULL, stdout=subprocess.PIPE, stderr=subprocess.STDOUT, text=True, errors="replace")
 
     def listen():
         for line in job.stdout:
@@ -154,21 +199,35 @@ def gate(folder):
     listener.start()
     record = watch(job.pid)
     listener.join()
-    table(record, said, folder)
-    return job.wait()
+    status = job.wait()
+    if in_lines:
+        lines(record, said, folder, not status)
+    else:
+        table(rows_of(record, said, folder), minutes(record), folder)
+    return status
+
+
+def read(file):
+    with open(file, encoding="utf-8", errors="replace") as it:
+        return it.read()
 
 
 def main(words):
     if words[:1] == ["--watch"] and len(words) == 3:
         watch(int(words[1]), words[2])
         return 0
-    if words[:1] == ["--table"] and len(words) in (3, 4):
-        with open(words[1], encoding="utf-8") as it, open(words[2], encoding="utf-8", errors="replace") as log:
-            table(json.load(it), log.read().splitlines(), words[3] if len(words) > 3 else TOP)
-        return 0
-    if len(words) > 1 or words and not os.path.isdir(words[0]):
-        sys.exit(__doc__)
-    return gate(words[0] if words else TOP)
+    folder = words[-1] if words and os.path.isdir(words[-1]) else TOP
+    match words[: len(words) - (folder != TOP)]:
+        case ["--table", file, log]:
+            record = json.loads(read(file))
+            table(rows_of(record, read(log).splitlines(), folder), minutes(record), folder)
+            return 0
+        case ["--told", log]:
+            table(*told_rows(read(log).splitlines()), folder)
+            return 0
+        case ["--lines"] | [] as asked:
+            return gate(folder, bool(asked))
+    sys.exit(__doc__)
 
 
 if __name__ == "__main__":

@@ -59,6 +59,8 @@ EVENT_CONNECTIONS RST.COLD TO SUB.INIT; SUB.IND TO LAMP.REQ; END_CONNECTIONS
 DATA_CONNECTIONS SUB.RD_1 TO LAMP.SD_1; END_CONNECTIONS
 END_RESOURCE END_DEVICE END_SYSTEM
 """
+# The growths of a sentence of 80 to 160 bytes, which is put together in pieces: to 20 bytes, and then to twice as many three times.
+SENTENCE = 4
 NETWORK_START = "dispatch D1 R\ndispatch D1 R\ndispatch D2 R\ndispatch D2 R\n"
 SEND = "offer D1 1 5\ndispatch D1 R\ndispatch D1 R\n"
 NETWORK_SCRIPT = NETWORK_START + SEND + "deliver 1 D2\ndispatch D2 R\ndispatch D2 R\nroot 3\noffer D1 1 70000\n"
@@ -233,7 +235,8 @@ def read_by(line):
 
 
 def count_lines(program, plants, library):
-    """Growths of a script of N rounds less those of N / 2 rounds: those of the reader, a few of the tables of a world, which grow to twice their size, and none of the devices."""
+    """Growths of a script of N rounds less those of N / 2 rounds: those of the reader, those of the sentence by which people are told of a denied value, a few of the tables of a
+    world, which grow to twice their size, and none of the devices."""
     counter, timer, network = plants
     rounds = 2000
     for what, plant, start, piece in (
@@ -251,8 +254,9 @@ def count_lines(program, plants, library):
         text = [start + "".join(piece.replace("#", str(100 * at)) for at in range(1, count + 1)) for count in (rounds // 2, rounds)]
         half, whole = (grown([program, "sim", plant.app, plant.cert], it, library, "")[0] for it in text)
         reader = sum(map(read_by, piece.splitlines())) * rounds // 2
-        more = whole - half - reader
-        print(f"  {what}: of {rounds // 2} rounds the reader takes {reader}, all the rest {more}")
+        told = SENTENCE * piece.count("70000") * rounds // 2
+        more = whole - half - reader - told
+        print(f"  {what}: of {rounds // 2} rounds the reader takes {reader}, what people are told {told}, all the rest {more}")
         if not 0 <= more <= 5:
             fail(f"{what}: {more} growths in {rounds // 2} rounds beside those of the reader")
 

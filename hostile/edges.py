@@ -383,11 +383,18 @@ def served(table, app, cert):
         table.add(label, ["serve", app, cert, "D", "--bind", str(free_port()), *options], line)
     for bind in ("0", "65536", "127.0.0.1:0", "127.0.0.1:65536", "[::1]:0", "::1:24001", "127.0.0.1", "localhost:24001"):
         table.add(f"--bind {bind}", ["serve", app, cert, "D", "--bind", bind, *brief], at_fault)
-    for bind in ["127.0.0.1:{}", "0.0.0.0:{}"] + (["[::1]:{}", "[::]:{}"] if has_ipv6() else []):
+    for bind in ["127.0.0.1:{}", "127.1.2.3:{}"] + (["[::1]:{}"] if has_ipv6() else []):
         table.add(f"--bind {bind}", ["serve", app, cert, "D", "--bind", bind.format(free_port()), *brief], sums)
+    # Others reach these: it has to be said that nothing is checked.
+    for bind in ["0.0.0.0:{}"] + (["[::]:{}"] if has_ipv6() else []):
+        table.add(f"--bind {bind} --unsealed", ["serve", app, cert, "D", "--bind", bind.format(free_port()), *brief, "--unsealed"], sums)
+        table.add(f"--bind {bind}", ["serve", app, cert, "D", "--bind", bind.format(free_port()), *brief], at_fault)
+    for options in (["--keys", "k"], ["--state", "s"], ["--keys", "k", "--state", "s", "--unsealed"]):
+        table.add(" ".join(options), ["serve", app, cert, "D", "--bind", str(free_port()), *brief, *options], at_fault)
+    table.add("no file of keys", ["serve", app, cert, "D", "--bind", str(free_port()), *brief, "--keys", "/k", "--state", "/s"], "refused 61 /k")
     # Of these two no address of this machine is one.
     for bind in ("192.0.2.1:24001", "[2001:db8::1]:24001"):
-        table.add(f"--bind {bind}", ["serve", app, cert, "D", "--bind", bind, *brief], "refused 62 24001")
+        table.add(f"--bind {bind}", ["serve", app, cert, "D", "--bind", bind, *brief, "--unsealed"], "refused 62 24001")
     for text in ("4294967294", "0", " 5 \n"):
         table.add(f"a boot file with {text!r}", ["serve", app, cert, "D", "--bind", str(free_port()), *brief, "--boot-file", table.file(text)], sums)
     for path in (*map(table.file, ("4294967295", "", "-1", "5 6", "five", b"\xff")), f"{table.folder}/none", table.folder):

@@ -3,6 +3,7 @@
 
 No file that is read is written, by whatever name; a file that is written is whole at every moment, and keeps its mode; other files stay as they are. A script is
 answered line by line, 1,000 lines back and forth."""
+import json
 import os
 import resource
 import shutil
@@ -64,10 +65,12 @@ def kept_apart(program, folder):
     tried += [(f"play a.fb a.story {option} a.story", "") for option in (*options, "--report")]
     tried += [(f"replay a.fb a.cert a.record {option} {name}", "") for option in options for name in ("hard.fb", "link.cert", "inner/../a.record")]
     tried.append(("replay a.fb a.cert - --csv a.cert", ""))
+    tried += [(f"{words} --json", given) for words, given in tried if words.startswith("replay ")]
     for words, given in tried:
         before = {name: read(f"{folder}/{name}") for name in ("a.fb", "a.cert", "a.story", "a.record")}
         ran = run(program, *words.split(), cwd=folder)
-        assert (ran.returncode, ran.stdout, ran.stderr) == (2, "refused 63\n", told), (words, ran)
+        line = f"{json.loads(ran.stdout)['line']}\n" if "--json" in words else ran.stdout
+        assert (ran.returncode, line, ran.stderr) == (2, "refused 63\n", told), (words, ran)
         for name, held in before.items():
             assert read(f"{folder}/{name}") == held, words
 

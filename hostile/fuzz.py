@@ -50,7 +50,7 @@ NONE = b"CERT 1\n"
 # An address that sends nothing here, and options with which a device runs.
 STRANGER = "10.0.0.1"
 OPTIONS = [], ["--verbose"], ["--clock", "--summary", "1"], ["--from", "127.0.0.1"], ["--from", STRANGER, "--verbose"]
-WORDS = "check bound sim serve explain draw help --help --version -h -V --repeats --search --ranges --room --strict --bind --turns --boot --from --until-eof --boot-file --verbose --summary --clock --stop-on-lost-output --flat --chart -- - 0 1 2 255 256 43 -1 4294967296 D x APP CERT".split()
+WORDS = "check bound sim serve explain draw help --help --version -h -V --repeats --search --ranges --room --strict --allow --all --bind --turns --boot --from --until-eof --boot-file --verbose --summary --clock --stop-on-lost-output --flat --chart -- - 0 1 2 255 256 43 -1 4294967296 D x APP CERT".split()
 
 
 class Wrong(Exception):

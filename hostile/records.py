@@ -4,17 +4,23 @@
 Two devices run under load for N seconds (6 without it), and each records what comes to it: offers to their INPUTs, what they send each other, messages of format 2, and
 bytes that are no message, some of them none at all and some longer than a datagram may be. Asked is that a replay of each record prints the same bytes as the device did, that the record of a
 replay of a cut file is a beginning of the whole one's, wherever it is cut, that changed lines are refused with their number or replayed, and never more, that other texts, another device and what
-is no record are refused, that a record is never written over what is there, and that a device goes on when its record cannot be written any more."""
+is no record are refused, that a record is never written over what is there, that a device goes on when its record cannot be written any more, that a replay with `--json` says what one without
+says, in the form of docs/fbr.schema.json, and that all of a turn is there before the next one is given."""
 import argparse
+import json
 import os
 import random
+import re
 import resource
+import select
 import signal
 import socket
 import subprocess
 import sys
 import tempfile
 import time
+
+from verdicts import judged
 
 TOP = os.path.dirname(os.path.dirname(os.path.abspath(__file__)))
 # Two devices: each writes what is offered to it, sends it to the other one, which writes it too, and writes every 20 ms.
@@ -103,6 +109,93 @@ def under_load(program, folder, seconds, rng, wrong):
     if not writes:
         wrong.append("nothing was written")
     return records[0], said[0]
+
+
+def moment(said):
+    """The moment of an object, as people read it."""
+    return f"{said['time'] // 1000}.{said['time'] % 1000:03} s"
+
+
+def source(said):
+    """For whom a datagram was, as people read it."""
+    names = [f"{word} {said[name]}" for name, word in (("input", "INPUT"), ("channel", "channel")) if name in said]
+    return names[0] if names else f"{said['bytes']} bytes"
+
+
+def steps(count):
+    return "1 step" if count == 1 else f"{count} steps"
+
+
+def spoken(said):
+    """The lines that `--verbose` tells of an answer."""
+    at = moment(said)
+    if said["answer"] == "cause":
+        return [f"{at} {source(said)} begins cause {said['cause']}, of at most {steps(said['most'])}"]
+    if said["answer"] == "denied":
+        return [f"{at} {source(said)} denied {said['number']}: {said['says']}"]
+    lines = [f"{at} {said['path']}.{said['event']} of cause {said['cause']}: {steps(said['steps'])}"]
+    lines += [f"{at} sent to channel {said['channel']}"] if "channel" in said else []
+    return lines + ([f"{at} cause {said['cause']} has ended after {said['ended']['steps']} of {steps(said['ended']['most'])}"] if "ended" in said else [])
+
+
+def in_objects(program, record, wrong):
+    """With `--json` a replay says what it says without: what was written and has changed, each answer, and the sums."""
+    status, out, errors = replayed(program, record, "--json", "--watch", "*")
+    *said, report = [json.loads(line) for line in out.splitlines()]
+    check(wrong, "the form of objects", [fault for it in [*said, report] for fault in judged(it)][:3], [])
+    names = ("fired", "received", "denied", "ran", "sent", "lost")
+    sums = {name: sum(it[name] for it in said if it.get("answer") == "turn") for name in names}
+    check(wrong, "the sums of objects", ({name: report[name] for name in names}, status, report["verdict"]), (sums, 0, "done"))
+    begun = next(at for at, it in enumerate(said) if "answer" in it)
+    lines, shown = [], {(it["device"], it["path"]): it for it in said[:begun]}
+    for it in said[begun:]:
+        if "output" in it:
+            lines.append(f"{it['time']} write {it['output']}" + "".join(f" {value}" for value in it["values"]))
+        elif "answer" not in it:
+            wrong.extend(["a change of nothing"] if shown.get((it["device"], it["path"]), {}).get("device") is None else [])
+            value = {True: "TRUE", False: "FALSE"}.get(it.get("value"), it.get("value")) if isinstance(it.get("value"), bool) else it.get("value")
+            value = f"T#{value}ms" if it.get("type") == "TIME" else value
+            rest = f" IN {it['state']}" if "state" in it else f" QUEUE {it['queue']}" if "queue" in it else f" = {value}"
+            lines.append(f"{it['time']} {it['device']}.{it['path']}{rest}")
+    plain = replayed(program, record, "--clock", "--watch", "*")[1].decode().splitlines()[:-1]
+    check(wrong, "what objects say of values", lines, [it if " write " in it else it for it in plain])
+    told = replayed(program, record, "--verbose")[2].decode().splitlines()
+    seconds = re.compile(r"[0-9]+\.999 s [0-9]+ more denied .*")
+    people = [it for it in told if not it.startswith("fbr: ") and not seconds.fullmatch(it)]
+    answers = [line for it in said[begun:] if it.get("answer") in ("cause", "denied", "ran") for line in spoken(it)]
+    # A replay lists ten denials of a number in a second, and objects all.
+    check(wrong, "what objects say of answers", [it for it in answers if " denied " not in it], [it for it in people if " denied " not in it])
+    wrong.extend([f"no object says {it}" for it in set(people) - set(answers)][:3])
+    check(wrong, "denials in objects", sum(" denied " in it for it in answers), report["denied"])
+    print(f"records: {len(said)} objects, {errors.count(10)} lines for people")
+
+
+def taken(job, streams, wanted):
+    """What streams have within ten seconds, once each has as many lines as wanted."""
+    found, end = [b"" for _ in streams], time.monotonic() + 10
+    while any(it.count(b"\n") < count for it, count in zip(found, wanted)) and time.monotonic() < end:
+        for it in select.select(streams, [], [], 0.1)[0]:
+            found[streams.index(it)] += os.read(it.fileno(), 65536)
+    return found
+
+
+def growing(program, record, wrong):
+    """All that comes of a turn is there before the next one is given."""
+    with open(record, "rb") as it:
+        head = it.readline()
+    turn = b"turn %d 46420102000101030000000000000005 -\n"
+    watched = ["--verbose", "--watch", "*"]
+    for words, wanted in ((["--json"], (4, 1)), (["--json", *watched], (4, 3)), (["--verbose"], (0, 3)), (watched, (1, 3))):
+        job = subprocess.Popen([program, "replay", *TEXTS, "-", *words], stdin=subprocess.PIPE, stdout=subprocess.PIPE, stderr=subprocess.PIPE, bufsize=0)
+        job.stdin.write(head)
+        taken(job, [job.stdout, job.stderr], (0, 0))
+        for at in range(1, 4):
+            job.stdin.write(turn % (1000 * at))
+            found = taken(job, [job.stdout, job.stderr], wanted)
+            lines = [it.count(b"\n") >= count for it, count in zip(found, wanted)]
+            check(wrong, f"turn {at} of a record that grows, with {' '.join(words)}", lines, [True, True])
+        job.kill()
+        job.communicate()
 
 
 def cut(program, folder, record, rng, wrong):
@@ -212,6 +305,8 @@ def main():
             it.write(APP)
         subprocess.run([program, "bound", "--room", "3", TEXTS[0], "-o", TEXTS[1]], check=True)
         record, _ = under_load(program, folder, given.seconds, rng, wrong)
+        in_objects(program, record, wrong)
+        growing(program, record, wrong)
         cut(program, folder, record, rng, wrong)
         changed(program, folder, record, rng, wrong)
         others(program, folder, record, wrong)

@@ -1,8 +1,8 @@
 #!/usr/bin/env python3
 """Whether what a program prints with `--json` has the form of docs/fbr.schema.json, and says what it says without: hostile/verdicts.py PROGRAM
 
-It runs `check`, `bound` and `explain` over the examples, over the wrong ones, over texts and certificates that are cut or changed, over each number, and over the files of
-the cases. With python3-jsonschema it also holds its own reading of the schema against that one's."""
+It runs `check`, `bound` and `explain`, also with `--all`, over the examples, over the wrong ones, over texts and certificates that are cut or changed, over each number, and over the files of
+the cases; and `sim` and `play` over the scripts and stories of the examples, as they are and with lines that are changed or cut. With python3-jsonschema it also holds its own reading of the schema against that one's."""
 import json
 import os
 import pathlib
@@ -18,7 +18,13 @@ except ImportError:
 
 TOP = pathlib.Path(__file__).resolve().parent.parent
 SCHEMA = json.loads((TOP / "docs/fbr.schema.json").read_text())
-TYPES = {"object": dict, "array": list, "string": str, "integer": int}
+TYPES = {"object": (dict,), "array": (list,), "string": (str,), "integer": (int,), "boolean": (bool,)}
+
+
+def is_of(value, types):
+    """Whether a value is of a type, or of one of several, or none is said."""
+    names = types if isinstance(types, list) else [types]
+    return types is None or any(type(value) in TYPES[name] for name in names)
 
 
 def faults(value, schema, where="the output"):
@@ -28,7 +34,7 @@ def faults(value, schema, where="the output"):
     found = []
     if "$ref" in schema:
         found += faults(value, SCHEMA["$defs"][schema["$ref"].rpartition("/")[2]], where)
-    if type(value) is not TYPES.get(schema.get("type"), type(value)):
+    if not is_of(value, schema.get("type")):
         return [f"{where} is no {schema['type']}: {value}"]
     is_out = isinstance(value, int) and not schema.get("minimum", value) <= value <= schema.get("maximum", value)
     if is_out or value != schema.get("const", value) or value not in schema.get("enum", [value]):
@@ -53,8 +59,13 @@ def faults(value, schema, where="the output"):
     return found
 
 
-def run(program, *words):
-    return subprocess.run([program, *words], capture_output=True, timeout=120)
+def run(program, *words, script=b""):
+    return subprocess.run([program, *words], capture_output=True, timeout=120, input=script)
+
+
+def byte_in(line):
+    """The byte that the line of a fault of a text names."""
+    return int(line.split()[-1])
 
 
 def compared(said, plain):
@@ -65,10 +76,12 @@ def compared(said, plain):
     told = {"accepted": said.get("certificate", "accepted\n").partition("\n")[0], "refused": said.get("line")}[said["verdict"]]
     found = [] if told == first else [f"{told}, and {first}"]
     if said["command"] == "explain":
-        found += [f"no note {it['name']}" for it in said.get("notes", []) if f"{it['place']['file']}:{it['place']['line']}:{it['place']['column']}: note: {it['says']}\n" not in rest]
+        found += [f"no note {it['name']}" for it in said.get("notes", []) if f"{it['place']['file']}:{it['place']['line']}:{it['place']['column']}: note: {it['says']} [{it['name']}]\n" not in rest]
         found += [] if len(said.get("notes", [])) == rest.count(": note: ") - (said.get("more_notes", 0) > 0) else ["other notes"]
         if "place" in said and not rest.startswith(f"{said['place']['file']}:{said['place']['line']}:{said['place']['column']}\n"):
             found.append("another place")
+    if said["command"] == "explain" and [it["line"] for it in said.get("faults", [])] != sorted({first, *re.findall(r"^refused .*", rest, re.M)} if "faults" in said else [], key=byte_in):
+        found.append("other faults")
     if said.get("certificate", plain.stdout.decode()) != plain.stdout.decode():
         found.append("another certificate")
     return found
@@ -94,12 +107,77 @@ def tried(program, *words):
     if report.stdout.count(b"\n") != 1 or not report.stdout.endswith(b"\n"):
         return [f"{words}: not one line"]
     said = json.loads(report.stdout)
-    found = faults(said, SCHEMA) + compared(said, plain) + placed(said)
-    if jsonschema and jsonschema.Draft202012Validator(SCHEMA).is_valid(said) == bool(faults(said, SCHEMA)):
-        found.append("jsonschema judges otherwise")
+    found = judged(said) + compared(said, plain) + placed(said)
     if (report.returncode, report.stderr) != (plain.returncode, plain.stderr) or said["status"] != report.returncode:
         found.append(f"status {report.returncode} in place of {plain.returncode}, or another standard error")
     return [f"{' '.join(words)}: {it}" for it in found]
+
+
+def judged(said):
+    """What the schema does not allow of a line, and whether jsonschema judges otherwise."""
+    found = faults(said, SCHEMA)
+    if jsonschema and jsonschema.Draft202012Validator(SCHEMA).is_valid(said) == bool(found):
+        found.append("jsonschema judges otherwise")
+    return found
+
+
+def spoken(said):
+    """The line for people of an answer, or of the end of a script."""
+    if "command" in said:
+        return said.get("line")
+    ended = said.get("ended")
+    return {
+        "cause": "cause {cause}",
+        "denied": "{line}",
+        "fired": "fired {timers}",
+        "idle": "idle",
+        "root": "root {root} steps {steps}" + (" of {most}" if "most" in said else ""),
+        "ran": "ran {path}.{event} steps {steps}"
+        + (" write {output}" + "".join(f" {value}" for value in said["values"]) if "output" in said else "")
+        + (" send {datagram}" if "datagram" in said else "")
+        + (" ended {cause} {steps} of {most}".format(**ended) if ended else ""),
+    }[said["answer"]].format(**said)
+
+
+def is_line_of(line, said):
+    """Whether a line for people is that of a change: its moment, and its path with the device or without."""
+    moment, _, rest = line.partition(" ")
+    return moment == str(said["time"]) and any(rest.startswith(path) for path in (said["path"], f"{said['device']}.{said['path']}"))
+
+
+def scripted(program, script, *words):
+    """What is wrong with a script with `--json` beside one without, both watched."""
+    report, plain = (run(program, "sim", *json_word, *words, "--watch", "*", script=script) for json_word in (["--json"], []))
+    lines = [json.loads(line) for line in report.stdout.splitlines()]
+    found = [it for said in lines for it in judged(said)]
+    first = next((at for at, said in enumerate(lines) if "path" not in said or "answer" in said), len(lines))
+    told = [said for said in lines[first:] if said.get("verdict") != "done"]
+    people = plain.stdout.decode().splitlines()
+    if len(told) != len(people):
+        found.append(f"{len(told)} lines, and {len(people)}")
+    for said, line in zip(told, people):
+        if not (is_line_of(line, said) if "time" in said else spoken(said) == line):
+            found.append(f"{said}, and {line}")
+    if (report.returncode, report.stderr) != (plain.returncode, plain.stderr) or lines[-1]["status"] != report.returncode:
+        found.append(f"status {report.returncode} in place of {plain.returncode}, or another standard error")
+    return [f"sim {' '.join(words)}: {it}" for it in found]
+
+
+def played(program, *words):
+    """What is wrong with stories with `--json` beside those without."""
+    report, plain = run(program, "play", "--json", *words), run(program, "play", *words)
+    *sequences, said = [json.loads(line) for line in report.stdout.splitlines()]
+    found = [it for line in [*sequences, said] for it in judged(line)]
+    text = ""
+    for it in sequences:
+        if "failure" in it:
+            text += "{file}:{failure[line]}: {name}: {failure[step]}\n  wanted  {failure[wanted]}\n  came    {failure[came]}\n".format(**it)
+    text += said.get("line", "{passed} passed, {failed} failed".format(**{"passed": 0, "failed": 0, **said})) + "\n"
+    if plain.stdout.decode() != text:
+        found.append(f"{text}, and {plain.stdout.decode()}")
+    if (report.returncode, report.stderr) != (plain.returncode, plain.stderr) or said["status"] != report.returncode:
+        found.append(f"status {report.returncode} in place of {plain.returncode}, or another standard error")
+    return [f"play {' '.join(words)}: {it}" for it in found]
 
 
 def changed(folder, texts):
@@ -125,25 +203,45 @@ def cased():
                 yield tuple(words.split())
 
 
+def ran(program, folder):
+    """What is wrong with scripts and stories of the examples, as they are, and cut or changed; and how many there were."""
+    found, count = [], 0
+    for app in sorted(TOP.glob("examples/**/*.fb")):
+        certs = sorted(app.parent.glob(f"{app.stem}*.cert"))
+        for script in sorted(app.parent.glob(f"{app.stem}*.script")) if certs else []:
+            lines = script.read_bytes().splitlines(keepends=True)
+            for held in (lines, lines[: len(lines) // 2] + [b"offer 9 9\n", b"bytes D 00\n"], [line.replace(b"1", b"2") for line in lines]):
+                found += scripted(program, b"".join(held), str(app), str(certs[0]))
+                count += 1
+        stories = sorted(app.parent.glob(f"{app.stem}*.story")) if certs else []
+        for story in [*stories, *changed(folder, stories)]:
+            found += played(program, str(app), str(certs[0]), str(story))
+            count += 1
+    return found, count
+
+
 def main(program):
     program = os.path.abspath(program)
     runs = [("explain", str(number)) for number in range(1, 70)]
     apps = sorted(TOP.glob("examples/**/*.fb"))
     for app in apps:
-        runs += [("bound", str(app)), ("bound", str(app), "--search"), ("bound", str(app), "--repeats", "2"), ("explain", str(app)), ("explain", str(app), "--strict")]
+        runs += [("bound", str(app)), ("bound", str(app), "--search"), ("bound", str(app), "--repeats", "2"), ("explain", str(app)), ("explain", str(app), "--strict"), ("bound", str(app), "--strict", "--allow", "never-used,never-read")]
         runs += [(word, str(app), str(cert)) for cert in sorted(app.parent.glob("*.cert")) for word in ("check", "explain")]
     with tempfile.TemporaryDirectory() as folder:
         for app in apps:
             certs = sorted(app.parent.glob(f"{app.stem}*.cert"))
-            runs += [("explain", str(file)) for file in changed(pathlib.Path(folder), [app])]
+            runs += [words for file in changed(pathlib.Path(folder), [app]) for words in (("explain", str(file)), ("explain", str(file), "--all"), ("bound", str(file), "--all"))]
             runs += [(word, str(app), str(file)) for file in changed(pathlib.Path(folder), certs[:1]) for word in ("check", "explain")]
         found = [it for words in runs for it in tried(program, *words)]
+        more, count = ran(program, pathlib.Path(folder))
+        found += more
         os.chdir(folder)
         for words in cased():
             runs.append(words)
             found += tried(program, *words)
-    print("\n".join([*found, f"{len(runs)} runs, {len(found)} faults"]))
+    print("\n".join([*found, f"{len(runs) + count} runs, {len(found)} faults"]))
     sys.exit(bool(found))
 
 
-main(*sys.argv[1:])
+if __name__ == "__main__":
+    main(*sys.argv[1:])

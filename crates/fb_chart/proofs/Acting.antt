@@ -23,7 +23,7 @@ use Rattle.fb_model_laws.specs.Shaped.{IsShapely, AreOwn}
 use Rattle.st_exec.specs.declared.command.Procedure.{Procedure}
 use Rattle.st_exec.specs.CodeViews.{code_commands}
 use Rattle.st_exec.specs.Cells.{Form, names_in}
-use Rattle.st_exec.specs.Runs.{IsWithin, AreAmong, Supports}
+use Rattle.st_exec.specs.Runs.{EndsWithin, AreAmong, Supports}
 use Rattle.fb_chart.specs.declared.table.State.{State}
 use Rattle.fb_chart.specs.declared.table.Give.{Give}
 use Rattle.fb_chart.specs.declared.table.Output.{Output}
@@ -103,9 +103,9 @@ numbered_at xs n x at = ap (option_map (λ (p : Procedure). code_commands p.stat
 
 module _ (block : book.Block) (outs : List Output) (most room : ℕ) (start : Moment) (fine : FineFrom block outs most room start) (s : Name) (c : Cells) (a : book.Action) (left : List book.Action) (n : ℕ) (out : List Name)
     (run : Reaches block start (At s c (Acting (a ∷ left)) n out)) (few : most ≤ most_steps) where
-  pub small : IsWithin (10 ^ 12) (work (algorithm_of block a.algorithm) c.own)
+  pub small : EndsWithin (10 ^ 12) (work (algorithm_of block a.algorithm) c.own)
   small = by (work (algorithm_of block a.algorithm) c.own) refl where
-    by : (o : Outcome) → work (algorithm_of block a.algorithm) c.own ≡ o → IsWithin (10 ^ 12) o
+    by : (o : Outcome) → work (algorithm_of block a.algorithm) c.own ≡ o → EndsWithin (10 ^ 12) o
     by (Done values m) e =
         let f = fine (At s (issue_all (Charted block) (emission a.output) (record { own = values; issued = c.issued })) (Acting left) (n + m) (out ++ emission a.output)) (and_then (At s c (Acting (a ∷ left)) n out) _ run (acts s a left c n m out values e)) in
         omega (arith, f.steps, few)

@@ -14,7 +14,7 @@ use Rattle.fb_model.specs.Store.{Cells}
 use Rattle.fb_model.specs.Charts.{Cross, choice, Phase, At, Acting, Settling, settles, Reaches, here, then as and_then, work, algorithm_of, emission, issue_all, actions_of}
 use Rattle.fb_model.proofs.Placed.{apart}
 use Rattle.st_exec.specs.Cells.{Cell, Form, values_of, forms_of}
-use Rattle.st_exec.specs.Runs.{IsWithin}
+use Rattle.st_exec.specs.Runs.{EndsWithin}
 use Rattle.fb_chart.specs.declared.table.Action.{Action}
 use Rattle.fb_chart.specs.declared.table.State.{State}
 use Rattle.fb_chart.specs.declared.table.Output.{Output}
@@ -73,9 +73,9 @@ module _ (c : Chart) (outs : List Output) (own0 issued0 : List Cell) (ready : Is
         subst (λ (fs : List Form). AllByRecursion (CanWork fs) c.code.value.procedures.items) (sym own_forms)
         (all_work (forms_of own0) (block_in c).procedures c.code.value.procedures.items ready.chart.procedures (algorithms_serve (block_in c) (forms_of own0) (forms_of issued0) ready.shaped ready.stores))
 
-    pub small_now : IsWithin (10 ^ 12) (work (numbered c.code.value.procedures.items x.algorithm) (values_of own))
+    pub small_now : EndsWithin (10 ^ 12) (work (numbered c.code.value.procedures.items x.algorithm) (values_of own))
     small_now =
-        subst (λ (a : Option Algorithm). IsWithin (10 ^ 12) (work a (values_of own))) algorithm
+        subst (λ (a : Option Algorithm). EndsWithin (10 ^ 12) (work a (values_of own))) algorithm
         (small (block_in c) outs most room (entered c state (cells_of own0 issued0) before) fine s (cells_of own issued) it.x it.left steps come.outs run few)
 
     optional : IsOptional (names_of outs) it.x.output x.output

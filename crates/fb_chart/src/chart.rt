@@ -10,7 +10,7 @@ ghost use Rattle.fb_model_laws.specs.Leaves.{IsClosedBlock};
 ghost use Rattle.st_exec.specs.CodeViews.{code_term};
 ghost use Rattle.st_exec.specs.Placed.{placed};
 ghost use Rattle.st_exec.specs.Cells.{values_of, forms_of};
-ghost use Rattle.st_exec.specs.Runs.{IsWithin};
+ghost use Rattle.st_exec.specs.Runs.{EndsWithin};
 ghost use Rattle.fb_chart.specs.Views.{named};
 ghost use Rattle.fb_chart.specs.Tables.{IsChart};
 ghost use Rattle.fb_chart.specs.Charting.{block_in, states_in, events_in, outputs_in, most_steps, IsStateNumber, IsReady, CanWork, numbered, is_open_to, chosen, cells_of, entered, begun, FineFrom, HasCome, HasRested};
@@ -79,7 +79,7 @@ fn next_state(chart: &Chart, state: u16, event: Option<u16>, own: &Store) -> Opt
 fn work(procedures: &[Procedure], algorithm: Option<u16>, own: &mut Store) -> u64
     requires within { IfSome algorithm (λ n. n < length procedures.now) }
     requires can { AllByRecursion (CanWork (forms_of own.old)) procedures.now }
-    requires small { IsWithin (10 ^ 12) (runs (numbered procedures.now algorithm) (values_of own.old)) }
+    requires small { EndsWithin (10 ^ 12) (runs (numbered procedures.now algorithm) (values_of own.old)) }
     ensures answers { runs (numbered procedures.now algorithm) (values_of own.old) ≡ Done (values_of own.new) result }
     ensures forms { forms_of own.new ≡ forms_of own.old }
 {

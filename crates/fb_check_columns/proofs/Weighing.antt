@@ -31,7 +31,7 @@ use Rattle.fb_check_columns.specs.Fitting.{ChargeFails, WeightFails}
 use Rattle.fb_lists.proofs.Lists.{all_image, all_source, all_here, any_image}
 use Rattle.fb_check_columns.proofs.Lists.{is_text, bytes_turned, in_at, each_in, all_image_at}
 use Rattle.fb_check_columns.proofs.Known.{state_of, event_names_are, states_in, IsEmitting, IsCrossing, IsTabled}
-use Rattle.fb_check_columns.proofs.Crossings.{IsWithin, each_within, most_within}
+use Rattle.fb_check_columns.proofs.Crossings.{PaysFree, each_within, most_within}
 
 -- ---- numbers and names
 
@@ -136,7 +136,7 @@ module _ (c : Column) (rows : Certificate) (path : Name) (col : cert.Column) (sp
 
   -- what a transition without an event, and one with this event, pays
   abbrev Passing : Name → Transition → Type 0
-  Passing e t = Crossing t × IsWithin c (charge_of c rows path) (weight_of c rows path e) t × EventPays c rows path t
+  Passing e t = Crossing t × PaysFree c (charge_of c rows path) (weight_of c rows path e) t × EventPays c rows path t
 
   abbrev Paid : ℕ → Option (String Global) → Type 0
   Paid need o = elim o [ None ↦ Unit {0} | Some x ↦ Pays (weight_of c rows path (string_bytes x)) need ]
@@ -150,7 +150,7 @@ module _ (c : Column) (rows : Certificate) (path : Name) (col : cert.Column) (sp
   crossing_fits e w t p = λ opens.
       le_along _ _ _ _ (crossing_same t p.0) (sym (weight_same e w)) (named_within e (crossing_need c (Some (charge_of c rows path (string_bytes t.target)))) t.event opens p.1 p.2)
 
-  both : (e : Name) (ts : List Transition) → AllByRecursion Crossing ts → AllByRecursion (IsWithin c (charge_of c rows path) (weight_of c rows path e)) ts → AllByRecursion (EventPays c rows path) ts → AllByRecursion (Passing e) ts
+  both : (e : Name) (ts : List Transition) → AllByRecursion Crossing ts → AllByRecursion (PaysFree c (charge_of c rows path) (weight_of c rows path e)) ts → AllByRecursion (EventPays c rows path) ts → AllByRecursion (Passing e) ts
   both e [] h f g = tt
   both e (t ∷ ts) h f g = ((h.0, f.0, g.0), both e ts h.1 f.1 g.1)
 
@@ -183,7 +183,7 @@ module _ (c : Column) (rows : Certificate) (path : Name) (col : cert.Column) (sp
       let w = input_word e h in (
         subst (λ n. 1 ≤ n) (weight_same e w) f.least,
         most_within c (charge_of c rows path) (weight_of c rows path e) k.transitions.items
-            (all_weaker (Fitting e) (IsWithin c (charge_of c rows path) (weight_of c rows path e)) k.transitions.items (λ t q. λ none. crossing_paid e w t q.0 q.1 (open_is t.event e none)) (fitted e k.transitions.items tables.transitions f.crossings)),
+            (all_weaker (Fitting e) (PaysFree c (charge_of c rows path) (weight_of c rows path e)) k.transitions.items (λ t q. λ none. crossing_paid e w t q.0 q.1 (open_is t.event e none)) (fitted e k.transitions.items tables.transitions f.crossings)),
       )
 
   -- ---- the whole block

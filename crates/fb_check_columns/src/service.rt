@@ -20,6 +20,14 @@ use fb_types_services::Service;
 use fb_types_services::points::INIT;
 use std::alloc::Global;
 
+// A leaf that is a service: its path, the service, and where its outputs lead.
+#[derive(Clone, Copy)]
+struct ServedLeaf<'a> {
+    path: &'a str,
+    service: &'a Service,
+    outputs: &'a [Output],
+}
+
 // What a datagram of a channel has to be paid, which each event input but INIT sends.
 fn datagram(certificate: &Certificate, column: Column, number: u16, event: &str) -> u64
     ensures { result ≡ (if bytes_eq event.now init then 0 else (column_of column (certificate_of certificate.now)).sending number) }
@@ -46,18 +54,22 @@ fn dispatch_pays(
     alloc: Global,
     certificate: &Certificate,
     column: Column,
-    path: &str,
-    service: &Service,
-    outputs: &[Output],
+    leaf: &ServedLeaf,
     event: &str,
 ) -> Result<(), Shortfall>
-    ensures { Names (IsWeight path.now) event.now (DispatchPays column certificate.now path.now (service_of service.now) outputs.now event.now) result }
+    ensures { Names (IsWeight leaf.now.path.now) event.now (DispatchPays column certificate.now leaf.now.path.now (service_of leaf.now.service.now) leaf.now.outputs.now event.now) result }
 {
-    let row = weight(alloc, certificate, column, path, event)?;
-    let load = loads_named(alloc, certificate, column, outputs, service.emitted(event))?;
+    let row = weight(alloc, certificate, column, leaf.path, event)?;
+    let load = loads_named(
+        alloc,
+        certificate,
+        column,
+        leaf.outputs,
+        leaf.service.emitted(event),
+    )?;
     let emitted = plus(Some(column.unit()), load);
-    let sent = sent(certificate, column, service, event);
-    weighed(alloc, path, event, plus(emitted, Some(sent)), row)
+    let sent = sent(certificate, column, leaf.service, event);
+    weighed(alloc, leaf.path, event, plus(emitted, Some(sent)), row)
 }
 
 // The same of each of these events.
@@ -65,15 +77,13 @@ fn dispatches_pay(
     alloc: Global,
     certificate: &Certificate,
     column: Column,
-    path: &str,
-    service: &Service,
-    outputs: &[Output],
+    leaf: &ServedLeaf,
     events: &[&str],
 ) -> Result<(), Shortfall>
-    ensures { MatchResult result (λ u. AllByRecursion (DispatchPays column certificate.now path.now (service_of service.now) outputs.now) (map (λ e. e.now) events.now)) (IsWeight path.now (OneOwes column certificate.now path.now (service_of service.now) outputs.now (map (λ e. e.now) events.now))) }
+    ensures { MatchResult result (λ u. AllByRecursion (DispatchPays column certificate.now leaf.now.path.now (service_of leaf.now.service.now) leaf.now.outputs.now) (map (λ e. e.now) events.now)) (IsWeight leaf.now.path.now (OneOwes column certificate.now leaf.now.path.now (service_of leaf.now.service.now) leaf.now.outputs.now (map (λ e. e.now) events.now))) }
 {
     for event in events {
-        dispatch_pays(alloc, certificate, column, path, service, outputs, *event)?;
+        dispatch_pays(alloc, certificate, column, leaf, *event)?;
     }
     Ok(())
 }
@@ -89,10 +99,15 @@ pub(crate) fn service_pays(
 ) -> Result<(), Shortfall>
     ensures { MatchResult result (λ u. AllByRecursion (DispatchPays column certificate.now path.now (service_of service.now) outputs.now) (service_events (service_of service.now))) (IsWeight path.now (OneOwes column certificate.now path.now (service_of service.now) outputs.now (service_events (service_of service.now)))) }
 {
+    let leaf = ServedLeaf {
+        path,
+        service,
+        outputs,
+    };
     let inputs = service.event_inputs();
-    dispatches_pay(alloc, certificate, column, path, service, outputs, inputs)?;
+    dispatches_pay(alloc, certificate, column, &leaf, inputs)?;
     match service.arrival() {
-        Some(event) => dispatch_pays(alloc, certificate, column, path, service, outputs, event),
+        Some(event) => dispatch_pays(alloc, certificate, column, &leaf, event),
         None => Ok(()),
     }
 }

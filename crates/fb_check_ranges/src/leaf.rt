@@ -1,6 +1,6 @@
 //! When the rows of a leaf are clear.
 
-ghost use Rattle.std.specs.Prelude.{List, OnOk, IfErr, MatchResult};
+ghost use Rattle.std.specs.Prelude.{List, OnOk, IfErr, MatchResult, string_bytes};
 ghost use Rattle.std.specs.List.{AllByRecursion};
 ghost use Rattle.fb_model.specs.Wires as wires;
 ghost use Rattle.fb_model.specs.Ranges.{LeafClears};
@@ -64,20 +64,21 @@ fn runs_clear<'a>(
     Ok(())
 }
 
-// The rows of a basic block are clear.
+// The rows of a leaf that is a basic block are clear.
 fn chart_clear<'a>(
     alloc: Global,
     certificate: &Certificate,
     places: &Places,
     known: &mut Vec<Examined<'a>>,
-    path: &str,
-    inputs: &[Input],
+    leaf: &Leaf,
     block: &'a Rc<Block>,
 ) -> Result<(), Unclear>
     requires { AllByRecursion IsExamined known.old.items }
-    ensures clears { (ls : List tables.Leaf) → ArePlaces ls places.now → MatchResult result (λ u. ChartLies certificate.now path.now ls (source_at inputs.now) block.now.value) (Blames path.now (BlockFails certificate.now path.now ls (source_at inputs.now) block.now.value)) }
+    ensures clears { (ls : List tables.Leaf) → ArePlaces ls places.now → MatchResult result (λ u. ChartLies certificate.now (string_bytes leaf.now.path) ls (source_at leaf.now.inputs.items) block.now.value) (Blames (string_bytes leaf.now.path) (BlockFails certificate.now (string_bytes leaf.now.path) ls (source_at leaf.now.inputs.items) block.now.value)) }
     ensures known { OnOk result (AllByRecursion IsExamined known.new.items) }
 {
+    let path = leaf.path.as_str();
+    let inputs = leaf.inputs.as_slice();
     variables_begin(alloc, certificate, path, inputs, block)?;
     links_lie(alloc, certificate, places, path, inputs, &block.face.inputs)?;
     runs_clear(alloc, certificate, known, path, block)
@@ -97,18 +98,7 @@ pub(crate) fn leaf_clear<'a>(
     ensures known { OnOk result (AllByRecursion IsExamined known.new.items) }
 {
     match &leaf.body {
-        Body::Basic(block) => {
-            let path = leaf.path.as_str();
-            chart_clear(
-                alloc,
-                certificate,
-                places,
-                known,
-                path,
-                leaf.inputs.as_slice(),
-                block,
-            )
-        }
+        Body::Basic(block) => chart_clear(alloc, certificate, places, known, leaf, block),
         Body::Served(_) => Ok(()),
     }
 }

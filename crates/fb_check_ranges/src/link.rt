@@ -92,23 +92,29 @@ fn lies(
     }
 }
 
+// An input of a block: its name, its type, and where it takes its value from, if it is connected.
+#[derive(Clone, Copy)]
+struct LinkedInput<'a> {
+    name: &'a str,
+    of: ElemType,
+    source: Option<&'a Source>,
+}
+
 // What an input takes lies in its row.
 fn link_lies(
     alloc: Global,
     certificate: &Certificate,
     places: &Places,
     path: &str,
-    name: &str,
-    of: ElemType,
-    source: Option<&Source>,
+    input: &LinkedInput,
 ) -> Result<(), Unclear>
-    ensures { (ls : List Leaf) → ArePlaces ls places.now → Names path.now name.now (SourceLies certificate.now ls (row_in certificate.now path.now name.now of) (held (option_map (λ s. s.now) source.entry))) (Lacks Links (SourceLies certificate.now ls (row_in certificate.now path.now name.now of) (held (option_map (λ s. s.now) source.entry)))) result }
+    ensures { (ls : List Leaf) → ArePlaces ls places.now → Names path.now input.now.name.now (SourceLies certificate.now ls (row_in certificate.now path.now input.now.name.now input.now.of) (held (option_map (λ s. s.now) input.now.source))) (Lacks Links (SourceLies certificate.now ls (row_in certificate.now path.now input.now.name.now input.now.of) (held (option_map (λ s. s.now) input.now.source)))) result }
 {
-    let row = row(alloc, certificate, path, name, of)?;
-    if lies(alloc, certificate, places, source, row)? {
+    let row = row(alloc, certificate, path, input.name, input.of)?;
+    if lies(alloc, certificate, places, input.source, row)? {
         Ok(())
     } else {
-        Err(Unclear::Link(joined(alloc, path, name)?))
+        Err(Unclear::Link(joined(alloc, path, input.name)?))
     }
 }
 
@@ -129,15 +135,12 @@ pub(crate) fn links_lie(
         };
         let name = name.as_str();
         let source = source_named(inputs, name);
-        link_lies(
-            alloc,
-            certificate,
-            places,
-            path,
+        let input = LinkedInput {
             name,
-            variable.of_type,
+            of: variable.of_type,
             source,
-        )?;
+        };
+        link_lies(alloc, certificate, places, path, &input)?;
     }
     Ok(())
 }

@@ -15,6 +15,13 @@ use indexmap::IndexMap;
 use st_types::Algo;
 use std::alloc::Global;
 
+// An algorithm of a block, with its name.
+#[derive(Clone, Copy)]
+struct NamedAlgo<'a> {
+    name: &'a str,
+    algo: &'a Algo,
+}
+
 // An algorithm is clear, by an examination in a copy of the rows.
 fn algorithm_clear(
     alloc: Global,
@@ -22,17 +29,16 @@ fn algorithm_clear(
     rows: &Ranges,
     work: &mut Ranges,
     asked: &mut Ranges,
-    name: &str,
-    algo: &Algo,
+    named: &NamedAlgo,
 ) -> Result<(), Unclear>
     requires { spans_of work.old ≡ spans_of rows.now }
-    ensures answer { Names path.now name.now (IsClearAlgorithm (spans_of rows.now) (commands_of algo.now.statements.items)) (AlgorithmFails (spans_of rows.now) (commands_of algo.now.statements.items)) result }
+    ensures answer { Names path.now named.now.name.now (IsClearAlgorithm (spans_of rows.now) (commands_of named.now.algo.now.statements.items)) (AlgorithmFails (spans_of rows.now) (commands_of named.now.algo.now.statements.items)) result }
     ensures rest { OnOk result (spans_of work.new ≡ spans_of rows.now) }
 {
-    match check_algorithm(alloc, algo, rows, work, asked) {
+    match check_algorithm(alloc, named.algo, rows, work, asked) {
         Ok(()) => Ok(()),
-        Err(RangeFault::Leaves) => Err(Unclear::Kept(joined(alloc, path, name)?)),
-        Err(RangeFault::Traps) => Err(Unclear::IndexOrDivisor(joined(alloc, path, name)?)),
+        Err(RangeFault::Leaves) => Err(Unclear::Kept(joined(alloc, path, named.name)?)),
+        Err(RangeFault::Traps) => Err(Unclear::IndexOrDivisor(joined(alloc, path, named.name)?)),
         Err(RangeFault::OutOfMemory) => Err(Unclear::OutOfMemory),
     }
 }
@@ -58,8 +64,10 @@ pub(crate) fn algorithms_clear(
             rows,
             &mut work,
             &mut asked,
-            name.as_str(),
-            algo,
+            &NamedAlgo {
+                name: name.as_str(),
+                algo,
+            },
         )?;
     }
     Ok(())

@@ -15,7 +15,7 @@ use Rattle.fb_verified.specs.declared.verified.Verified.{Verified}
 use Rattle.fb_verdict.specs.declared.refusal.Refusal.TheVariants as checks
 use Rattle.fb_device_state.specs.Sessions.{Session}
 use Rattle.fb_device_state.specs.Machines.{machine_of}
-use Rattle.fb_device.specs.Silence.{IsWithin}
+use Rattle.fb_device.specs.Silence.{CanBegin}
 
 -- the texts are spelled, well typed and fit, the device is one of this name in them, and nothing has happened yet; it begins with this cause and this stamp
 pub record IsLoaded (text certificate name : List ℕ) (first : ℕ) (stamp : Stamp) (s : Session) : Type 0 where
@@ -41,7 +41,7 @@ IsLoadFault text certificate name Limit = ⊥
 abbrev pub IsBeginFault : List ℕ → List ℕ → List ℕ → ℕ → ℕ → Refusal → Type 0
 IsBeginFault text certificate name first next (Checked refusal) = IsLoadFault text certificate name (Checked refusal)
 IsBeginFault text certificate name first next (NoDevice shown) = IsLoadFault text certificate name (NoDevice shown)
-IsBeginFault text certificate name first next Limit = IsWithin first next → ⊥
+IsBeginFault text certificate name first next Limit = CanBegin first next → ⊥
 
 -- the system has a device of this name
 abbrev pub IsThere : System → List ℕ → Type 0

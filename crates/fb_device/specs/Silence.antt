@@ -10,7 +10,7 @@ abbrev pub last_first : ℕ
 last_first = 18446744073709535000
 
 -- a device may begin with this cause and this sequence number
-pub record IsWithin (first next : ℕ) : Type 0 where
+pub record CanBegin (first next : ℕ) : Type 0 where
   pub cause : first ≤ last_first
   pub sequence : 0 < next
 

@@ -26,7 +26,7 @@ use fb_device_state::{Program, Running};
 use fb_verified::Verified;
 use std::marker::Model;
 
-/// A device that runs a checked application. Its calls are written to take no memory, which no clause says.
+/// A device that runs a checked application. Its calls need no memory: whatever one might ask for may be refused, and what it promises holds then too.
 ///
 /// Contracts see it as a session: what was checked, and the book's machine in lists.
 #[derive(Drop)]

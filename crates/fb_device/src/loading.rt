@@ -22,7 +22,7 @@ ghost use Rattle.fb_device_tables.specs.Tables.{AreTables};
 ghost use Rattle.fb_device_state.specs.Machines.{device_in, cert_in, machine_of};
 ghost use Rattle.fb_device.specs.Promises.{IsBounded};
 ghost use Rattle.fb_device.specs.Refusals.{no_memory};
-ghost use Rattle.fb_device.specs.Silence.{last_first, IsWithin};
+ghost use Rattle.fb_device.specs.Silence.{last_first, CanBegin};
 ghost use Rattle.fb_device.specs.declared.refusal.Refusal.TheVariants.{Limit};
 ghost use Rattle.fb_device.specs.Finding.{first_named};
 ghost use Rattle.fb_device.specs.Starting.{upcoming_of, latest_of, first_of, AreEmpty, IsAtRest, IsSetUp};
@@ -335,8 +335,8 @@ fn made_ready(
 
 // Whether a device may begin with this cause and this sequence number.
 fn is_within(first: u64, next: u32) -> bool
-    ensures yes { result ≡ true → IsWithin first next }
-    ensures no { result ≡ false → IsWithin first next → ⊥ }
+    ensures yes { result ≡ true → CanBegin first next }
+    ensures no { result ≡ false → CanBegin first next → ⊥ }
 {
     first <= LAST_FIRST && next > 0
 }
@@ -392,16 +392,15 @@ pub fn load_from(
     ensures loaded { IfOk result (IsLoaded text.now certificate.now device.now first first_stamp) }
     ensures within { IfOk result (λ d. (length text.now ≤ text_limit) × (length certificate.now ≤ most_characters)) }
     ensures refused { IfErr result (IsBeginFault text.now certificate.now device.now first 1) }
-    ensures limit { (IsWithin first 1 → ⊥) → result ≡ Err Limit }
-    ensures accepts { IsWithin first 1 → (source : SourceTree) (system : System) (rows : certs.Certificate) → length text.now ≤ text_limit → length certificate.now ≤ most_characters
+    ensures limit { (CanBegin first 1 → ⊥) → result ≡ Err Limit }
+    ensures accepts { CanBegin first 1 → (source : SourceTree) (system : System) (rows : certs.Certificate) → length text.now ≤ text_limit → length certificate.now ≤ most_characters
         → IsSource text.now source → Elaborates source system → Spells certificate.now rows → certs.Fits system rows
         → ((s : System) → IsSystemOf text.now s → IsThere s device.now) → IfErr result (λ f. f ≡ no_memory) }
 {
-    load_boot(alloc, text, certificate, device, first, 0, 1)
+    load_boot(alloc, text, certificate, device, first, FIRST_STAMP)
 }
 
-/// Loads the device of a name as [`load`] does, with another first cause, and with the boot and the sequence number of its first messages: each PUBLISH of
-/// format 2 begins with both.
+/// Loads the device of a name as [`load`] does, with another first cause, and with the stamp of its first messages: each PUBLISH of format 2 begins with it.
 ///
 /// Refused as `load` refuses, and with `Limit` just where the first cause is above 18446744073709535000 or the sequence number is 0.
 pub fn load_boot(
@@ -410,23 +409,18 @@ pub fn load_boot(
     certificate: &str,
     device: &str,
     first: u64,
-    boot: u32,
-    next: u32,
+    stamp: Stamp,
 ) -> Result<Ready, Refusal>
-    ensures loaded { IfOk result (IsLoaded text.now certificate.now device.now first (record { boot = boot; sequence = next })) }
+    ensures loaded { IfOk result (IsLoaded text.now certificate.now device.now first (stamped_of stamp)) }
     ensures within { IfOk result (λ d. (length text.now ≤ text_limit) × (length certificate.now ≤ most_characters)) }
-    ensures refused { IfErr result (IsBeginFault text.now certificate.now device.now first next) }
-    ensures limit { (IsWithin first next → ⊥) → result ≡ Err Limit }
-    ensures accepts { IsWithin first next → (source : SourceTree) (system : System) (rows : certs.Certificate) → length text.now ≤ text_limit → length certificate.now ≤ most_characters
+    ensures refused { IfErr result (IsBeginFault text.now certificate.now device.now first stamp.sequence) }
+    ensures limit { (CanBegin first stamp.sequence → ⊥) → result ≡ Err Limit }
+    ensures accepts { CanBegin first stamp.sequence → (source : SourceTree) (system : System) (rows : certs.Certificate) → length text.now ≤ text_limit → length certificate.now ≤ most_characters
         → IsSource text.now source → Elaborates source system → Spells certificate.now rows → certs.Fits system rows
         → ((s : System) → IsSystemOf text.now s → IsThere s device.now) → IfErr result (λ f. f ≡ no_memory) }
 {
-    if !is_within(first, next) {
+    if !is_within(first, stamp.sequence) {
         return Err(Refusal::Limit);
     }
-    let stamp = Stamp {
-        boot,
-        sequence: next,
-    };
     loaded(alloc, text, certificate, device, first, stamp)
 }

@@ -8,7 +8,7 @@ ghost use Rattle.fb_device_tables.specs.Filling.{IsShared, IsBlockMade, seat_of,
 
 use crate::body::body;
 use crate::chart::Shared;
-use crate::event::events;
+use crate::event::{Seating, events};
 use crate::seat::Seat;
 use crate::target::outputs;
 use fb_cert::Certificate;
@@ -30,7 +30,12 @@ fn block<'a>(
     ensures known { OnOk result (AllByRecursion IsShared known.new.items) }
 {
     let path = seat.leaf.path.clone()?;
-    let events = events(alloc, certificate, paths, seats, seat)?;
+    let seating = Seating {
+        certificate,
+        paths,
+        seats,
+    };
+    let events = events(alloc, &seating, seat)?;
     let outputs = outputs(alloc, paths, seats, seat, &seat.leaf.outputs)?;
     let body = body(alloc, known, seat.own, &seat.leaf.body)?;
     Ok(Block {

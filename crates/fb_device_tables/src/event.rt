@@ -22,6 +22,14 @@ use fb_types_services::Service;
 use indexmap::IndexSet;
 use std::alloc::{AllocError, Global};
 
+/// What the events of a device are made from: its certificate, and its leaves in their order, by their paths and with where they lie.
+#[derive(Clone, Copy)]
+pub(crate) struct Seating<'a> {
+    pub(crate) certificate: &'a Certificate,
+    pub(crate) paths: &'a IndexSet<String>,
+    pub(crate) seats: &'a [Seat<'a>],
+}
+
 // What a row says, nothing where there is none.
 fn amount(row: Option<Amount>) -> Amount
     ensures steps { result.steps ≡ steps_in row }
@@ -49,19 +57,24 @@ fn far(certificate: &Certificate, path: &str) -> Option<u64>
 // An event of a leaf with its rows and the data inputs of these names.
 fn event(
     alloc: Global,
-    certificate: &Certificate,
-    paths: &IndexSet<String>,
-    seats: &[Seat],
+    seating: &Seating,
     seat: &Seat,
     name: &str,
     carried: &[String],
 ) -> Result<Event, AllocError>
-    ensures { IfOk result (λ e. IsEventMade certificate.now (names_of paths.now) (seats_of seats.now) (seat_of seat.now) (record { name = name.now; carries = map string_bytes carried.now }) e) }
+    ensures { IfOk result (λ e. IsEventMade seating.now.certificate.now (names_of seating.now.paths.now) (seats_of seating.now.seats.now) (seat_of seat.now) (record { name = name.now; carries = map string_bytes carried.now }) e) }
 {
-    let takes = takes(alloc, paths, seats, seat.own, &seat.leaf.inputs, carried)?;
+    let takes = takes(
+        alloc,
+        seating.paths,
+        seating.seats,
+        seat.own,
+        &seat.leaf.inputs,
+        carried,
+    )?;
     let row = joined(alloc, seat.leaf.path.as_str(), name)?;
-    let weight = amount(certificate.weight(row.as_str()));
-    let far = far(certificate, row.as_str());
+    let weight = amount(seating.certificate.weight(row.as_str()));
+    let far = far(seating.certificate, row.as_str());
     Ok(Event {
         name: String::from_str(alloc, name)?,
         steps: weight.steps,
@@ -74,28 +87,18 @@ fn event(
 // These events of a leaf, in order.
 fn charted(
     alloc: Global,
-    certificate: &Certificate,
-    paths: &IndexSet<String>,
-    seats: &[Seat],
+    seating: &Seating,
     seat: &Seat,
     sources: &Events,
 ) -> Result<Vec<Event>, AllocError>
-    ensures { IfOk result (λ v. Each (IsEventMade certificate.now (names_of paths.now) (seats_of seats.now) (seat_of seat.now)) (events_of sources.now) v.items) }
+    ensures { IfOk result (λ v. Each (IsEventMade seating.now.certificate.now (names_of seating.now.paths.now) (seats_of seating.now.seats.now) (seat_of seat.now)) (events_of sources.now) v.items) }
 {
     let mut events = Vec::with_capacity(alloc, sources.len())?;
     for index in 0..sources.len() {
         let Some((name, carried)) = sources.get_index(index) else {
             return Ok(events);
         };
-        events.push(event(
-            alloc,
-            certificate,
-            paths,
-            seats,
-            seat,
-            name.as_str(),
-            carried,
-        )?)?;
+        events.push(event(alloc, seating, seat, name.as_str(), carried)?)?;
     }
     Ok(events)
 }
@@ -103,34 +106,30 @@ fn charted(
 // An event input or arrival of a service.
 fn service_event(
     alloc: Global,
-    certificate: &Certificate,
-    paths: &IndexSet<String>,
-    seats: &[Seat],
+    seating: &Seating,
     seat: &Seat,
     service: &Service,
     name: &str,
 ) -> Result<Event, AllocError>
-    ensures { IsSmall (service_of service.now) → IfOk result (λ e. IsEventMade certificate.now (names_of paths.now) (seats_of seats.now) (seat_of seat.now) (served_with (service_of service.now) name.now) e) }
+    ensures { IsSmall (service_of service.now) → IfOk result (λ e. IsEventMade seating.now.certificate.now (names_of seating.now.paths.now) (seats_of seating.now.seats.now) (seat_of seat.now) (served_with (service_of service.now) name.now) e) }
 {
     let carried = taken(alloc, service, name)?;
-    event(alloc, certificate, paths, seats, seat, name, &carried)
+    event(alloc, seating, seat, name, &carried)
 }
 
 // The event inputs of a service, in order.
 fn service_inputs(
     alloc: Global,
-    certificate: &Certificate,
-    paths: &IndexSet<String>,
-    seats: &[Seat],
+    seating: &Seating,
     seat: &Seat,
     service: &Service,
     names: &[&str],
 ) -> Result<Vec<Event>, AllocError>
-    ensures { IsSmall (service_of service.now) → IfOk result (λ v. Each (IsEventMade certificate.now (names_of paths.now) (seats_of seats.now) (seat_of seat.now)) (map (λ n. served_with (service_of service.now) n.now) names.now) v.items) }
+    ensures { IsSmall (service_of service.now) → IfOk result (λ v. Each (IsEventMade seating.now.certificate.now (names_of seating.now.paths.now) (seats_of seating.now.seats.now) (seat_of seat.now)) (map (λ n. served_with (service_of service.now) n.now) names.now) v.items) }
 {
     let mut events = Vec::new(alloc);
     for name in names {
-        events.push(service_event(alloc, certificate, paths, seats, seat, service, *name)?)?;
+        events.push(service_event(alloc, seating, seat, service, *name)?)?;
     }
     Ok(events)
 }
@@ -138,17 +137,15 @@ fn service_inputs(
 // The arrival of a service, if it has one.
 fn service_arrival(
     alloc: Global,
-    certificate: &Certificate,
-    paths: &IndexSet<String>,
-    seats: &[Seat],
+    seating: &Seating,
     seat: &Seat,
     service: &Service,
 ) -> Result<Option<Event>, AllocError>
-    ensures { IsSmall (service_of service.now) → IfOk result (λ o. IsArrivalMade certificate.now (names_of paths.now) (seats_of seats.now) (seat_of seat.now) (service_of service.now) o) }
+    ensures { IsSmall (service_of service.now) → IfOk result (λ o. IsArrivalMade seating.now.certificate.now (names_of seating.now.paths.now) (seats_of seating.now.seats.now) (seat_of seat.now) (service_of service.now) o) }
 {
     match service.arrival() {
         Some(name) => {
-            let event = service_event(alloc, certificate, paths, seats, seat, service, name)?;
+            let event = service_event(alloc, seating, seat, service, name)?;
             Ok(Some(event))
         }
         None => Ok(None),
@@ -158,17 +155,15 @@ fn service_arrival(
 // The event inputs of a service, and then its arrival.
 fn served(
     alloc: Global,
-    certificate: &Certificate,
-    paths: &IndexSet<String>,
-    seats: &[Seat],
+    seating: &Seating,
     seat: &Seat,
     service: &Service,
 ) -> Result<Vec<Event>, AllocError>
-    ensures { IsSmall (service_of service.now) → IfOk result (λ v. Each (IsEventMade certificate.now (names_of paths.now) (seats_of seats.now) (seat_of seat.now)) (events_with (Serviced (service_of service.now))) v.items) }
+    ensures { IsSmall (service_of service.now) → IfOk result (λ v. Each (IsEventMade seating.now.certificate.now (names_of seating.now.paths.now) (seats_of seating.now.seats.now) (seat_of seat.now)) (events_with (Serviced (service_of service.now))) v.items) }
 {
     let names = service.event_inputs();
-    let mut events = service_inputs(alloc, certificate, paths, seats, seat, service, names)?;
-    match service_arrival(alloc, certificate, paths, seats, seat, service)? {
+    let mut events = service_inputs(alloc, seating, seat, service, names)?;
+    match service_arrival(alloc, seating, seat, service)? {
         Some(event) => {
             events.push(event)?;
             Ok(events)
@@ -180,24 +175,13 @@ fn served(
 /// The event inputs and arrivals of a leaf, in order.
 pub(crate) fn events(
     alloc: Global,
-    certificate: &Certificate,
-    paths: &IndexSet<String>,
-    seats: &[Seat],
+    seating: &Seating,
     seat: &Seat,
 ) -> Result<Vec<Event>, AllocError>
-    ensures { IsSmallKind (kind_of seat.now.leaf.now.body) → IfOk result (λ v. Each (IsEventMade certificate.now (names_of paths.now) (seats_of seats.now) (seat_of seat.now)) (events_with (kind_of seat.now.leaf.now.body)) v.items) }
+    ensures { IsSmallKind (kind_of seat.now.leaf.now.body) → IfOk result (λ v. Each (IsEventMade seating.now.certificate.now (names_of seating.now.paths.now) (seats_of seating.now.seats.now) (seat_of seat.now)) (events_with (kind_of seat.now.leaf.now.body)) v.items) }
 {
     match &seat.leaf.body {
-        Body::Basic(block) => {
-            charted(
-                alloc,
-                certificate,
-                paths,
-                seats,
-                seat,
-                &block.face.event_inputs,
-            )
-        }
-        Body::Served(service) => served(alloc, certificate, paths, seats, seat, service),
+        Body::Basic(block) => charted(alloc, seating, seat, &block.face.event_inputs),
+        Body::Served(service) => served(alloc, seating, seat, service),
     }
 }

@@ -44,7 +44,7 @@ use Rattle.fb_find_rows.specs.declared.fault.NoBound.TheVariants.{OutOfMemory, C
 use Rattle.fb_find_demands.specs.Prices.{AreClear, AreTables, HasClear}
 use Rattle.fb_find.specs.Given.{IsGiven}
 use Rattle.fb_find.specs.Columns.{asked, IsCycle, FulfilsAll}
-use Rattle.fb_find.specs.Bounds.{IsDenied, IsNeverBound, IsNoBound, IsNoBoundAt, IsNoBoundWith, IsNoBoundWithin, IsPathWithin, IsUnclearRun, IsWalk}
+use Rattle.fb_find.specs.Bounds.{IsRuledOut, IsNeverBound, IsNoBound, IsNoBoundAt, IsNoBoundWith, IsNoBoundWithin, IsPathWithin, IsUnclearRun, IsWalk}
 use Rattle.fb_find.specs.Parts.{HasNumbering, HasRanges, HasTables, HaveTables, IsReady, table_in}
 use Rattle.fb_find.proofs.Lists.{zip_length}
 use Rattle.fb_find.proofs.Tabled.{tables_are}
@@ -129,23 +129,23 @@ cycle_told ranges repeats s (Cycle places) h = h
 cycle_told ranges repeats s (NoRange path) h = absurd h
 cycle_told ranges repeats s (Limit resource) h = absurd h
 
-asked_denies : (repeats : Option ℕ) (s : System) (walk : List Node) → IsClosedWalk (asked repeats s) walk → (cert : certs.Certificate) → IsDenied repeats cert → Fits s cert → ⊥
+asked_denies : (repeats : Option ℕ) (s : System) (walk : List Node) → IsClosedWalk (asked repeats s) walk → (cert : certs.Certificate) → IsRuledOut repeats cert → Fits s cert → ⊥
 asked_denies None s walk h cert d fits = walks_exclude s cert walk h fits
 asked_denies (Some r) s walk h cert d fits = networks_exclude s cert d.0 walk h d.1 d.2 fits
 
-walk_denies : (Are : List Range → Type 0) (Fails : String Global → Type 0) (repeats : Option ℕ) (s : System) (fault : NoBound) → IsNoBoundWith Are Fails repeats s fault → IsWalk fault → (cert : certs.Certificate) → IsDenied repeats cert → Fits s cert → ⊥
+walk_denies : (Are : List Range → Type 0) (Fails : String Global → Type 0) (repeats : Option ℕ) (s : System) (fault : NoBound) → IsNoBoundWith Are Fails repeats s fault → IsWalk fault → (cert : certs.Certificate) → IsRuledOut repeats cert → Fits s cert → ⊥
 walk_denies Are Fails repeats s OutOfMemory h w cert d fits = absurd w
 walk_denies Are Fails repeats s (Cycle places) h w cert d fits = asked_denies repeats s (map node_of places.items) h.closed cert d fits
 walk_denies Are Fails repeats s (NoRange path) h w cert d fits = absurd w
 walk_denies Are Fails repeats s (Limit resource) h w cert d fits = absurd w
 
-pub found_denies : (repeats : Option ℕ) (s : System) (fault : NoBound) → IsNoBound repeats s fault → IsWalk fault → (cert : certs.Certificate) → IsDenied repeats cert → Fits s cert → ⊥
+pub found_denies : (repeats : Option ℕ) (s : System) (fault : NoBound) → IsNoBound repeats s fault → IsWalk fault → (cert : certs.Certificate) → IsRuledOut repeats cert → Fits s cert → ⊥
 found_denies repeats s fault h = walk_denies (AreFound s.devices) (λ path. (ranges : List Range) × AreFound s.devices ranges × IsUnclearRun ranges s path) repeats s fault h
 
-pub within_denies : (given : Rows) (repeats : Option ℕ) (s : System) (fault : NoBound) → IsNoBoundWithin given repeats s fault → IsWalk fault → (cert : certs.Certificate) → IsDenied repeats cert → Fits s cert → ⊥
+pub within_denies : (given : Rows) (repeats : Option ℕ) (s : System) (fault : NoBound) → IsNoBoundWithin given repeats s fault → IsWalk fault → (cert : certs.Certificate) → IsRuledOut repeats cert → Fits s cert → ⊥
 within_denies given repeats s fault h = walk_denies (AreTaken (range_rows given.ranges) s.devices) (IsPathWithin given repeats s) repeats s fault h
 
-pub never_denies : (repeats : Option ℕ) (s : System) (fault : NoBound) → IsNeverBound repeats s fault → IsWalk fault → (cert : certs.Certificate) → IsDenied repeats cert → Fits s cert → ⊥
+pub never_denies : (repeats : Option ℕ) (s : System) (fault : NoBound) → IsNeverBound repeats s fault → IsWalk fault → (cert : certs.Certificate) → IsRuledOut repeats cert → Fits s cert → ⊥
 never_denies repeats s fault h = walk_denies (λ rs. ⊥) (λ path. ⊥) repeats s fault h
 
 -- ---- read by other names

@@ -109,10 +109,10 @@ IsWalk (Cycle places) = Unit {0}
 IsWalk (NoRange path) = ⊥
 IsWalk (Limit resource) = ⊥
 
--- the certificates that a walk denies: all; and where it is one of the network, those with a row REPEATS of 1 or more
-abbrev pub IsDenied : Option ℕ → Certificate → Type 0
-IsDenied None cert = Unit {0}
-IsDenied (Some r) cert = (n : ℕ) × (cert.repeats ≡ Some n) × (1 ≤ n)
+-- the certificates that a walk rules out: all; and where it is one of the network, those with a row REPEATS of 1 or more
+abbrev pub IsRuledOut : Option ℕ → Certificate → Type 0
+IsRuledOut None cert = Unit {0}
+IsRuledOut (Some r) cert = (n : ℕ) × (cert.repeats ≡ Some n) × (1 ≤ n)
 
 -- ---- the network alone
 

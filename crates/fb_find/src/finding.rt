@@ -11,11 +11,11 @@ ghost use Rattle.fb_find_laws.specs.Finding.{IsFound, IsFoundWith, IsMadeWith};
 ghost use Rattle.fb_find_ranges.specs.Found.{spelled};
 ghost use Rattle.fb_find.specs.Given.{IsGiven};
 ghost use Rattle.fb_find.specs.Parts.{events_in, states_in, HasNumbering, HaveTables, IsReady};
-ghost use Rattle.fb_find.specs.Bounds.{IsNoBound, IsNoBoundAt, IsWalk, IsDenied};
+ghost use Rattle.fb_find.specs.Bounds.{IsNoBound, IsNoBoundAt, IsWalk, IsRuledOut};
 
 use crate::clear::with_ranges;
 use crate::crowded::leaves;
-use crate::least::with_numbers;
+use crate::least::{Ordered, with_numbers};
 use crate::order;
 use crate::table::tables_in;
 use fb_cert::Certificate;
@@ -53,15 +53,14 @@ fn with_order(
 {
     let certificate = with_ranges(alloc, flat, tables)?;
     match tables_in(alloc, flat, &certificate) {
-        Ok(own) => with_numbers(
-            alloc,
-            flat,
-            repeats,
-            numbering,
-            order,
-            own.as_slice(),
-            certificate,
-        ),
+        Ok(own) => {
+            let ordered = Ordered {
+                flat,
+                numbering,
+                order,
+            };
+            with_numbers(alloc, &ordered, repeats, own.as_slice(), certificate)
+        }
         Err(fault) => {
             certificate.let_go();
             Err(NoBound::from(fault))
@@ -110,7 +109,7 @@ pub fn find(alloc: Global, typed: &Typed, repeats: Option<u8>) -> Result<Certifi
     requires { IfSome repeats (λ r. 1 ≤ r) }
     ensures found { IfOk result (λ c. IsFound repeats (system_of typed.now) (certificate_of c)) }
     ensures refused { IfErr result (IsNoBound repeats (system_of typed.now)) }
-    ensures denies { IfErr result (λ f. IsWalk f → (cert : book.Certificate) → IsDenied repeats cert → Fits (system_of typed.now) cert → ⊥) }
+    ensures denies { IfErr result (λ f. IsWalk f → (cert : book.Certificate) → IsRuledOut repeats cert → Fits (system_of typed.now) cert → ⊥) }
 {
     typed.stands_in_text();
     let flat = leaves(alloc, typed)?;

@@ -29,35 +29,32 @@ pub(crate) const MOST_STEPS: u64 = 1_000_000_000_000;
 /// The most places of a row.
 const MOST_PLACES: u64 = 4096;
 
+/// A system's leaves, the numbers of its nodes, and an order of these that serves all columns.
+#[derive(Clone, Copy)]
+pub(crate) struct Ordered<'a> {
+    pub flat: &'a Flat,
+    pub numbering: &'a Numbering,
+    pub order: &'a [usize],
+}
+
 // The least numbers of the steps column, by the numbers of nodes.
-fn steps(
-    alloc: Global,
-    flat: &Flat,
-    numbering: &Numbering,
-    order: &[usize],
-    tables: &[Ranges],
-) -> Result<Vec<u64>, NoBound>
-    requires { (s : System) × (ranges : List Range) × (repeats : Option ℕ) × IsReady repeats flat.now.devices.items numbering.now order.now s × HasTables s ranges (map spans_of tables.now) }
-    ensures least { (s : System) (ranges : List Range) (repeats : Option ℕ) → IsReady repeats flat.now.devices.items numbering.now order.now s → HasTables s ranges (map spans_of tables.now) → IfOk result (λ v. AreSmallest numbering.now (demands 1 ranges (all_leaves s.devices)) most_steps v.items) }
-    ensures refused { (s : System) (ranges : List Range) (repeats : Option ℕ) → IsReady repeats flat.now.devices.items numbering.now order.now s → HasTables s ranges (map spans_of tables.now) → IfErr result (IsPastFault numbering.now (demands 1 ranges (all_leaves s.devices)) most_steps) }
+fn steps(alloc: Global, ordered: &Ordered, tables: &[Ranges]) -> Result<Vec<u64>, NoBound>
+    requires { (s : System) × (ranges : List Range) × (repeats : Option ℕ) × IsReady repeats ordered.now.flat.now.devices.items ordered.now.numbering.now ordered.now.order.now s × HasTables s ranges (map spans_of tables.now) }
+    ensures least { (s : System) (ranges : List Range) (repeats : Option ℕ) → IsReady repeats ordered.now.flat.now.devices.items ordered.now.numbering.now ordered.now.order.now s → HasTables s ranges (map spans_of tables.now) → IfOk result (λ v. AreSmallest ordered.now.numbering.now (demands 1 ranges (all_leaves s.devices)) most_steps v.items) }
+    ensures refused { (s : System) (ranges : List Range) (repeats : Option ℕ) → IsReady repeats ordered.now.flat.now.devices.items ordered.now.numbering.now ordered.now.order.now s → HasTables s ranges (map spans_of tables.now) → IfErr result (IsPastFault ordered.now.numbering.now (demands 1 ranges (all_leaves s.devices)) most_steps) }
 {
-    let rights = priced_rights(alloc, numbering, flat, tables)?;
-    column(alloc, numbering, order, rights, MOST_STEPS)
+    let rights = priced_rights(alloc, ordered.numbering, ordered.flat, tables)?;
+    column(alloc, ordered.numbering, ordered.order, rights, MOST_STEPS)
 }
 
 // The least numbers of the places column, by the numbers of nodes.
-fn places(
-    alloc: Global,
-    flat: &Flat,
-    numbering: &Numbering,
-    order: &[usize],
-) -> Result<Vec<u64>, NoBound>
-    requires { (s : System) × (repeats : Option ℕ) × IsReady repeats flat.now.devices.items numbering.now order.now s }
-    ensures least { (s : System) (ranges : List Range) (repeats : Option ℕ) → IsReady repeats flat.now.devices.items numbering.now order.now s → IfOk result (λ v. AreSmallest numbering.now (demands 0 ranges (all_leaves s.devices)) most_places v.items) }
-    ensures refused { (s : System) (ranges : List Range) (repeats : Option ℕ) → IsReady repeats flat.now.devices.items numbering.now order.now s → IfErr result (IsPastFault numbering.now (demands 0 ranges (all_leaves s.devices)) most_places) }
+fn places(alloc: Global, ordered: &Ordered) -> Result<Vec<u64>, NoBound>
+    requires { (s : System) × (repeats : Option ℕ) × IsReady repeats ordered.now.flat.now.devices.items ordered.now.numbering.now ordered.now.order.now s }
+    ensures least { (s : System) (ranges : List Range) (repeats : Option ℕ) → IsReady repeats ordered.now.flat.now.devices.items ordered.now.numbering.now ordered.now.order.now s → IfOk result (λ v. AreSmallest ordered.now.numbering.now (demands 0 ranges (all_leaves s.devices)) most_places v.items) }
+    ensures refused { (s : System) (ranges : List Range) (repeats : Option ℕ) → IsReady repeats ordered.now.flat.now.devices.items ordered.now.numbering.now ordered.now.order.now s → IfErr result (IsPastFault ordered.now.numbering.now (demands 0 ranges (all_leaves s.devices)) most_places) }
 {
-    let rights = plain_rights(alloc, numbering, 0, flat)?;
-    column(alloc, numbering, order, rights, MOST_PLACES)
+    let rights = plain_rights(alloc, ordered.numbering, 0, ordered.flat)?;
+    column(alloc, ordered.numbering, ordered.order, rights, MOST_PLACES)
 }
 
 /// The numbers behind the first so many.
@@ -95,29 +92,27 @@ fn add_numbers(
 // Adds the rows CHARGE, WEIGHT and DEPTH, each number the least, and those of the network where datagrams are followed.
 fn add_all(
     alloc: Global,
-    flat: &Flat,
+    ordered: &Ordered,
     repeats: Option<u8>,
-    numbering: &Numbering,
-    order: &[usize],
     tables: &[Ranges],
     certificate: &mut Certificate,
 ) -> Result<(), NoBound>
     requires some { IfSome repeats (λ r. 1 ≤ r) }
-    requires ready { (s : System) × (ranges : List Range) × IsReady repeats flat.now.devices.items numbering.now order.now s × HasTables s ranges (map spans_of tables.now) }
-    ensures made { (s : System) (ranges : List Range) → IsReady repeats flat.now.devices.items numbering.now order.now s → HasTables s ranges (map spans_of tables.now) → HasRanges s ranges (rows_of certificate.old) → OnOk result (IsMadeWith (λ rs. rs ≡ ranges) repeats s (states_in numbering.now) (events_in numbering.now) numbering.now.channels.items (certificate_of certificate.new)) }
-    ensures refused { (s : System) (ranges : List Range) → IsReady repeats flat.now.devices.items numbering.now order.now s → HasTables s ranges (map spans_of tables.now) → HasRanges s ranges (rows_of certificate.old) → IfErr result (IsNoBoundAt ranges repeats s) }
+    requires ready { (s : System) × (ranges : List Range) × IsReady repeats ordered.now.flat.now.devices.items ordered.now.numbering.now ordered.now.order.now s × HasTables s ranges (map spans_of tables.now) }
+    ensures made { (s : System) (ranges : List Range) → IsReady repeats ordered.now.flat.now.devices.items ordered.now.numbering.now ordered.now.order.now s → HasTables s ranges (map spans_of tables.now) → HasRanges s ranges (rows_of certificate.old) → OnOk result (IsMadeWith (λ rs. rs ≡ ranges) repeats s (states_in ordered.now.numbering.now) (events_in ordered.now.numbering.now) ordered.now.numbering.now.channels.items (certificate_of certificate.new)) }
+    ensures refused { (s : System) (ranges : List Range) → IsReady repeats ordered.now.flat.now.devices.items ordered.now.numbering.now ordered.now.order.now s → HasTables s ranges (map spans_of tables.now) → HasRanges s ranges (rows_of certificate.old) → IfErr result (IsNoBoundAt ranges repeats s) }
 {
-    let steps = steps(alloc, flat, numbering, order, tables)?;
-    let places = places(alloc, flat, numbering, order)?;
+    let steps = steps(alloc, ordered, tables)?;
+    let places = places(alloc, ordered)?;
     add_numbers(
         alloc,
-        numbering,
+        ordered.numbering,
         steps.as_slice(),
         places.as_slice(),
         certificate,
     )?;
-    add_depths(alloc, flat, certificate)?;
-    add_network(alloc, flat, repeats, numbering, order, tables, certificate)?;
+    add_depths(alloc, ordered.flat, certificate)?;
+    add_network(alloc, ordered, repeats, tables, certificate)?;
     certificate.stands_in_text();
     Ok(())
 }
@@ -125,28 +120,18 @@ fn add_all(
 /// A certificate with the rows CHARGE, WEIGHT and DEPTH, each number the least, and with those of the network where datagrams are followed.
 pub(crate) fn with_numbers(
     alloc: Global,
-    flat: &Flat,
+    ordered: &Ordered,
     repeats: Option<u8>,
-    numbering: &Numbering,
-    order: &[usize],
     tables: &[Ranges],
     certificate: Certificate,
 ) -> Result<Certificate, NoBound>
     requires some { IfSome repeats (λ r. 1 ≤ r) }
-    requires ready { (s : System) × (ranges : List Range) × IsReady repeats flat.now.devices.items numbering.now order.now s × HasTables s ranges (map spans_of tables.now) }
-    ensures made { (s : System) (ranges : List Range) → IsReady repeats flat.now.devices.items numbering.now order.now s → HasTables s ranges (map spans_of tables.now) → HasRanges s ranges (rows_of certificate) → IfOk result (λ c. IsMadeWith (λ rs. rs ≡ ranges) repeats s (states_in numbering.now) (events_in numbering.now) numbering.now.channels.items (certificate_of c)) }
-    ensures refused { (s : System) (ranges : List Range) → IsReady repeats flat.now.devices.items numbering.now order.now s → HasTables s ranges (map spans_of tables.now) → HasRanges s ranges (rows_of certificate) → IfErr result (IsNoBoundAt ranges repeats s) }
+    requires ready { (s : System) × (ranges : List Range) × IsReady repeats ordered.now.flat.now.devices.items ordered.now.numbering.now ordered.now.order.now s × HasTables s ranges (map spans_of tables.now) }
+    ensures made { (s : System) (ranges : List Range) → IsReady repeats ordered.now.flat.now.devices.items ordered.now.numbering.now ordered.now.order.now s → HasTables s ranges (map spans_of tables.now) → HasRanges s ranges (rows_of certificate) → IfOk result (λ c. IsMadeWith (λ rs. rs ≡ ranges) repeats s (states_in ordered.now.numbering.now) (events_in ordered.now.numbering.now) ordered.now.numbering.now.channels.items (certificate_of c)) }
+    ensures refused { (s : System) (ranges : List Range) → IsReady repeats ordered.now.flat.now.devices.items ordered.now.numbering.now ordered.now.order.now s → HasTables s ranges (map spans_of tables.now) → HasRanges s ranges (rows_of certificate) → IfErr result (IsNoBoundAt ranges repeats s) }
 {
     let mut certificate = certificate;
-    match add_all(
-        alloc,
-        flat,
-        repeats,
-        numbering,
-        order,
-        tables,
-        &mut certificate,
-    ) {
+    match add_all(alloc, ordered, repeats, tables, &mut certificate) {
         Ok(()) => Ok(certificate),
         Err(fault) => {
             certificate.let_go();

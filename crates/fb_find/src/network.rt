@@ -14,29 +14,26 @@ ghost use Rattle.fb_find.specs.Parts.{HasTables, IsReady};
 ghost use Rattle.fb_find.specs.Networks.{with_repeat, with_places, with_network, CanBeFar, CanBePlaced, HasNoNetwork, HasNetwork};
 
 use crate::column;
-use crate::least::{MOST_STEPS, behind};
+use crate::least::{MOST_STEPS, Ordered, behind};
 use fb_cert::{Certificate, Row};
 use fb_find_demands::{Numbering, far_rights};
 use fb_find_rows::{NoBound, add_channels, add_far_states, add_fars};
-use fb_flat::Flat;
 use fb_ranges::Ranges;
 use std::alloc::{AllocError, Global};
 
 // The least numbers of the steps on all devices, by the numbers of nodes.
 fn far(
     alloc: Global,
-    flat: &Flat,
+    ordered: &Ordered,
     repeats: u8,
-    numbering: &Numbering,
-    order: &[usize],
     tables: &[Ranges],
 ) -> Result<Vec<u64>, NoBound>
-    requires { (s : System) × (ranges : List Range) × IsReady (Some repeats) flat.now.devices.items numbering.now order.now s × HasTables s ranges (map spans_of tables.now) }
-    ensures least { (s : System) (ranges : List Range) → IsReady (Some repeats) flat.now.devices.items numbering.now order.now s → HasTables s ranges (map spans_of tables.now) → IfOk result (λ v. AreSmallest numbering.now (network_demands repeats ranges (all_leaves s.devices)) most_steps v.items) }
-    ensures refused { (s : System) (ranges : List Range) → IsReady (Some repeats) flat.now.devices.items numbering.now order.now s → HasTables s ranges (map spans_of tables.now) → IfErr result (IsPastFault numbering.now (network_demands repeats ranges (all_leaves s.devices)) most_steps) }
+    requires { (s : System) × (ranges : List Range) × IsReady (Some repeats) ordered.now.flat.now.devices.items ordered.now.numbering.now ordered.now.order.now s × HasTables s ranges (map spans_of tables.now) }
+    ensures least { (s : System) (ranges : List Range) → IsReady (Some repeats) ordered.now.flat.now.devices.items ordered.now.numbering.now ordered.now.order.now s → HasTables s ranges (map spans_of tables.now) → IfOk result (λ v. AreSmallest ordered.now.numbering.now (network_demands repeats ranges (all_leaves s.devices)) most_steps v.items) }
+    ensures refused { (s : System) (ranges : List Range) → IsReady (Some repeats) ordered.now.flat.now.devices.items ordered.now.numbering.now ordered.now.order.now s → HasTables s ranges (map spans_of tables.now) → IfErr result (IsPastFault ordered.now.numbering.now (network_demands repeats ranges (all_leaves s.devices)) most_steps) }
 {
-    let rights = far_rights(alloc, numbering, repeats, flat, tables)?;
-    column(alloc, numbering, order, rights, MOST_STEPS)
+    let rights = far_rights(alloc, ordered.numbering, repeats, ordered.flat, tables)?;
+    column(alloc, ordered.numbering, ordered.order, rights, MOST_STEPS)
 }
 
 // Adds the row REPEATS.
@@ -91,22 +88,26 @@ fn add_far(
 /// Adds the rows of the network, each number the least, where datagrams are followed, and else none.
 pub(crate) fn add_network(
     alloc: Global,
-    flat: &Flat,
+    ordered: &Ordered,
     repeats: Option<u8>,
-    numbering: &Numbering,
-    order: &[usize],
     tables: &[Ranges],
     certificate: &mut Certificate,
 ) -> Result<(), NoBound>
     requires some { IfSome repeats (λ r. 1 ≤ r) }
-    requires ready { (s : System) × (ranges : List Range) × IsReady repeats flat.now.devices.items numbering.now order.now s × HasTables s ranges (map spans_of tables.now) }
-    ensures added { (s : System) (ranges : List Range) → IsReady repeats flat.now.devices.items numbering.now order.now s → HasTables s ranges (map spans_of tables.now) → HasNoNetwork (rows_of certificate.old) → OnOk result (HasNetwork repeats numbering.now s ranges (rows_of certificate.old) (rows_of certificate.new)) }
-    ensures refused { (s : System) (ranges : List Range) → IsReady repeats flat.now.devices.items numbering.now order.now s → HasTables s ranges (map spans_of tables.now) → IfErr result (IsFarFault repeats numbering.now s ranges) }
+    requires ready { (s : System) × (ranges : List Range) × IsReady repeats ordered.now.flat.now.devices.items ordered.now.numbering.now ordered.now.order.now s × HasTables s ranges (map spans_of tables.now) }
+    ensures added { (s : System) (ranges : List Range) → IsReady repeats ordered.now.flat.now.devices.items ordered.now.numbering.now ordered.now.order.now s → HasTables s ranges (map spans_of tables.now) → HasNoNetwork (rows_of certificate.old) → OnOk result (HasNetwork repeats ordered.now.numbering.now s ranges (rows_of certificate.old) (rows_of certificate.new)) }
+    ensures refused { (s : System) (ranges : List Range) → IsReady repeats ordered.now.flat.now.devices.items ordered.now.numbering.now ordered.now.order.now s → HasTables s ranges (map spans_of tables.now) → IfErr result (IsFarFault repeats ordered.now.numbering.now s ranges) }
 {
     let Some(repeats) = repeats else {
         return Ok(());
     };
-    let numbers = far(alloc, flat, repeats, numbering, order, tables)?;
-    add_far(alloc, repeats, numbering, numbers.as_slice(), certificate)?;
+    let numbers = far(alloc, ordered, repeats, tables)?;
+    add_far(
+        alloc,
+        repeats,
+        ordered.numbering,
+        numbers.as_slice(),
+        certificate,
+    )?;
     Ok(())
 }

@@ -6,7 +6,7 @@ ghost use Rattle.fb_find_demands.specs.Rights.{rights_of};
 ghost use Rattle.fb_find.specs.Columns.{AreSmallest, IsColumn, IsPastFault};
 
 use fb_find_demands::{Numbering, Right, group};
-use fb_find_rows::{NoBound, solved};
+use fb_find_rows::{NoBound, Nodes, solved};
 use std::alloc::Global;
 
 /// The least numbers that meet the demands of a column, in the order of the nodes' numbers, each within the limit; or the resource of a node whose number is above it.
@@ -26,9 +26,11 @@ pub fn column(
     let system = group(alloc, count, rights)?;
     solved(
         alloc,
-        &numbering.states,
-        &numbering.events,
-        numbering.ends.as_slice(),
+        &Nodes {
+            states: &numbering.states,
+            events: &numbering.events,
+            ends: numbering.ends.as_slice(),
+        },
         system.as_slice(),
         order,
         limit,

@@ -8,7 +8,7 @@ ghost use Rattle.fb_cert.specs.Views.{certificate_of, rows_of};
 ghost use Rattle.fb_types.specs.Views.{system_of};
 ghost use Rattle.fb_find_laws.specs.Finding.{IsFoundWithin};
 ghost use Rattle.fb_find.specs.Given.{IsGiven};
-ghost use Rattle.fb_find.specs.Bounds.{IsDenied, IsNoBoundWithin, IsWalk, RowsStand};
+ghost use Rattle.fb_find.specs.Bounds.{IsRuledOut, IsNoBoundWithin, IsWalk, RowsStand};
 
 use crate::crowded::leaves;
 use crate::finding::with_tables;
@@ -74,7 +74,7 @@ pub fn find_within(
     ensures found { IfOk result (λ c. IsFoundWithin (certificate_of ranges.now).ranges repeats (system_of typed.now) (certificate_of c)) }
     ensures stand { IfOk result (λ c. RowsStand (rows_of ranges.now) (rows_of c)) }
     ensures refused { IfErr result (IsNoBoundWithin (rows_of ranges.now) repeats (system_of typed.now)) }
-    ensures denies { IfErr result (λ f. IsWalk f → (cert : book.Certificate) → IsDenied repeats cert → Fits (system_of typed.now) cert → ⊥) }
+    ensures denies { IfErr result (λ f. IsWalk f → (cert : book.Certificate) → IsRuledOut repeats cert → Fits (system_of typed.now) cert → ⊥) }
 {
     typed.stands_in_text();
     let flat = leaves(alloc, typed)?;

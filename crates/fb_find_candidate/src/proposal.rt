@@ -35,11 +35,12 @@ fn range_first(leaf: &Leaf, block: &Block, name: &str, variable: &Variable) -> I
 fn first_line<'a>(
     alloc: Global,
     leaf: &Leaf,
+    block: &Block,
     given: &Certificate,
     name: &'a str,
-    of_type: ElemType,
-    first: Interval,
+    variable: &Variable,
 ) -> Result<Line<'a>, AllocError> {
+    let first = range_first(leaf, block, name, variable);
     let text = joined(alloc, leaf.path.as_str(), name)?;
     let (range, is_given) = match given.range(text.as_str()) {
         Some(range) => (range, true),
@@ -47,7 +48,7 @@ fn first_line<'a>(
     };
     Ok(Line {
         name,
-        of_type,
+        of_type: variable.of_type,
         first,
         range,
         is_given,
@@ -56,22 +57,7 @@ fn first_line<'a>(
     })
 }
 
-// Adds the line of a variable.
-fn add_line<'a>(
-    alloc: Global,
-    leaf: &Leaf,
-    block: &Block,
-    name: &'a str,
-    variable: &Variable,
-    given: &Certificate,
-    lines: &mut Vec<Line<'a>>,
-) -> Result<(), AllocError> {
-    let first = range_first(leaf, block, name, variable);
-    lines.push(first_line(alloc, leaf, given, name, variable.of_type, first)?)?;
-    Ok(())
-}
-
-// Adds those of variables.
+// Adds the lines of variables.
 fn add_lines<'a>(
     alloc: Global,
     leaf: &Leaf,
@@ -84,7 +70,7 @@ fn add_lines<'a>(
         let Some((name, variable)) = variables.get_index(index) else {
             return Ok(());
         };
-        add_line(alloc, leaf, block, name.as_str(), variable, given, lines)?;
+        lines.push(first_line(alloc, leaf, block, given, name.as_str(), variable)?)?;
     }
     Ok(())
 }

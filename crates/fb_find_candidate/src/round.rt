@@ -22,6 +22,13 @@ pub(crate) enum Turn {
     Last,
 }
 
+// A round: what ranges do in it, and the leaves with their tables before it.
+#[derive(Clone, Copy)]
+struct Round<'a> {
+    turn: Turn,
+    near: Near<'a>,
+}
+
 /// What stays in all rounds: the leaves of a device with their numbers, and the landmarks of each.
 #[derive(Clone, Copy)]
 pub(crate) struct Ground<'a> {
@@ -74,16 +81,15 @@ fn ask_leaf(
 
 // A line after a round.
 fn next_line<'a>(
-    turn: Turn,
-    near: Near<'_>,
+    round: Round<'_>,
     leaf: &Leaf,
     asked: &Ranges,
     landmarks: &[i64],
     line: Line<'a>,
 ) -> Line<'a> {
     let source = source_named(leaf.inputs.as_slice(), line.name);
-    let range = fed(near, source, asked.find(line.name));
-    match turn {
+    let range = fed(round.near, source, asked.find(line.name));
+    match round.turn {
         Turn::Grow | Turn::Last => grown(line, range, landmarks),
         Turn::Shrink => shrunk(line, range),
     }
@@ -91,14 +97,13 @@ fn next_line<'a>(
 
 // A line changes by a round; whether its range stays.
 fn change_line(
-    turn: Turn,
-    near: Near<'_>,
+    round: Round<'_>,
     leaf: &Leaf,
     asked: &Ranges,
     landmarks: &[i64],
     line: &mut Line,
 ) -> bool {
-    let changed = next_line(turn, near, leaf, asked, landmarks, *line);
+    let changed = next_line(round, leaf, asked, landmarks, *line);
     let is_still = is_same(line.range, changed.range);
     *line = changed;
     is_still
@@ -106,8 +111,7 @@ fn change_line(
 
 // The lines of a leaf change by what is asked of them; whether their ranges stay.
 fn change_lines(
-    turn: Turn,
-    near: Near<'_>,
+    round: Round<'_>,
     leaf: &Leaf,
     asked: &Ranges,
     landmarks: &[i64],
@@ -116,7 +120,7 @@ fn change_lines(
     let mut are_still = true;
     for index in 0..lines.len() {
         if let Some(line) = lines.get_mut(index) {
-            if !change_line(turn, near, leaf, asked, landmarks, line) {
+            if !change_line(round, leaf, asked, landmarks, line) {
                 are_still = false;
             }
         }
@@ -127,45 +131,44 @@ fn change_lines(
 // So they do, after what their algorithms ask is added.
 fn change_asking(
     alloc: Global,
-    turn: Turn,
-    near: Near<'_>,
+    round: Round<'_>,
     rows: &Ranges,
     landmarks: &[i64],
     asked: &mut Ranges,
     leaf: &mut LeafLines,
 ) -> Result<bool, AllocError> {
-    ask_leaf(alloc, turn, leaf, rows, asked)?;
-    Ok(change_lines(turn, near, leaf.leaf, asked, landmarks, &mut leaf.lines))
+    ask_leaf(alloc, round.turn, leaf, rows, asked)?;
+    Ok(change_lines(round, leaf.leaf, asked, landmarks, &mut leaf.lines))
 }
 
 // They change by what variables have at first, and what algorithms ask.
 fn change_leaf(
     alloc: Global,
-    turn: Turn,
-    near: Near<'_>,
+    round: Round<'_>,
     rows: &Ranges,
     landmarks: &[i64],
     leaf: &mut LeafLines,
 ) -> Result<bool, AllocError> {
     let mut asked = first_table(alloc, leaf.lines.as_slice())?;
-    change_asking(alloc, turn, near, rows, landmarks, &mut asked, leaf)
+    change_asking(alloc, round, rows, landmarks, &mut asked, leaf)
 }
 
 // The lines of leaves change, by the tables of all; whether their ranges stay.
 fn change_all(
     ground: Ground<'_>,
-    turn: Turn,
-    near: Near<'_>,
+    round: Round<'_>,
     all: &mut Vec<LeafLines>,
 ) -> Result<bool, AllocError> {
     let mut are_still = true;
     for index in 0..all.len() {
-        let (Some(rows), Some(landmarks)) = (near.tables.get(index), ground.landmarks.get(index))
-        else {
+        let (Some(rows), Some(landmarks)) = (
+            round.near.tables.get(index),
+            ground.landmarks.get(index),
+        ) else {
             return Ok(are_still);
         };
         if let Some(leaf) = all.get_mut(index) {
-            if !change_leaf(ground.alloc, turn, near, rows, landmarks.as_slice(), leaf)? {
+            if !change_leaf(ground.alloc, round, rows, landmarks.as_slice(), leaf)? {
                 are_still = false;
             }
         }
@@ -198,7 +201,7 @@ fn change_with(
         tables: tables.as_slice(),
         numbers: ground.numbers,
     };
-    change_all(ground, turn, near, all)
+    change_all(ground, Round { turn, near }, all)
 }
 
 /// The lines of leaves change by a round; whether their ranges stay.

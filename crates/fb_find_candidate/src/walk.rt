@@ -9,6 +9,14 @@ use fb_ranges_intervals::{Interval, left_with, most_iterations, taken};
 use st_types::{Counting, TypedArm, TypedBranch, TypedStmt};
 use std::alloc::AllocError;
 
+// A CASE: what its selector may be, its arms, and what runs where no arm does.
+#[derive(Clone, Copy)]
+struct Selection<'a> {
+    selected: Interval,
+    arms: &'a [TypedArm],
+    other: &'a [TypedStmt],
+}
+
 /// The walk through a list of statements.
 #[cycle(walking)]
 pub(crate) fn walk(
@@ -43,9 +51,13 @@ fn walk_one(
             walk_branches(scene, branches, other, &mut ways, way, asked)
         }
         TypedStmt::Case(selector, arms, other) => {
-            let selected = value(selector, &way.ranges);
+            let selection = Selection {
+                selected: value(selector, &way.ranges),
+                arms,
+                other,
+            };
             let mut ways = Vec::new(scene.alloc);
-            walk_arms(scene, selected, arms, other, &mut ways, way, asked)
+            walk_arms(scene, selection, &mut ways, way, asked)
         }
         TypedStmt::For(counting, body) => walk_for(scene, counting, body, way, asked),
     }
@@ -94,23 +106,21 @@ fn walk_branches(
 #[cycle(walking)]
 fn walk_arms(
     scene: Scene<'_>,
-    selected: Interval,
-    arms: &[TypedArm],
-    other: &[TypedStmt],
+    selection: Selection<'_>,
     ways: &mut Vec<Way>,
     way: &mut Way,
     asked: &mut Ranges,
 ) -> Result<(), AllocError> {
-    for arm in arms {
-        if !scene.skips || may_have(&arm.labels, selected) {
+    for arm in selection.arms {
+        if !scene.skips || may_have(&arm.labels, selection.selected) {
             add_way(way, ways)?;
             walk_last(scene, &arm.body, ways, asked)?;
         }
-        if scene.skips && always_has(&arm.labels, selected) {
+        if scene.skips && always_has(&arm.labels, selection.selected) {
             return only_ways(scene.names, ways, way);
         }
     }
-    walk(scene, other, way, asked)?;
+    walk(scene, selection.other, way, asked)?;
     join_ways(scene.names, ways.as_slice(), way)
 }
 

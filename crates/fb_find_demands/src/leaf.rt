@@ -26,26 +26,32 @@ fn procedures(body: &Body) -> Option<&IndexMap<String, Algo>>
     }
 }
 
-/// Adds the demands of a leaf, where a dispatch or a crossing counts `unit`, datagrams are followed or not, and its algorithms cost `prices`, in their order; an
-/// algorithm without a price costs nothing.
+/// What is charged at a leaf: what a dispatch or a crossing counts, whether datagrams are followed, and what its algorithms cost, in their order; an algorithm
+/// without a price costs nothing.
+#[derive(Clone, Copy)]
+pub struct Tariff<'a> {
+    pub unit: u64,
+    pub follows: bool,
+    pub prices: &'a [u64],
+}
+
+/// Adds the demands of a leaf under a tariff.
 pub fn add_leaf(
     alloc: Global,
     numbering: &Numbering,
-    unit: u64,
-    follows: bool,
-    prices: &[u64],
+    tariff: &Tariff,
     leaf: &Leaf,
     rights: &mut Vec<Right>,
 ) -> Result<(), AllocError>
-    ensures { OnOk result (rights_of rights.new.items ≡ rights_of rights.old.items ++ numbered numbering.now (of_kind (leaf_ground unit follows prices.now leaf.now) (kind_of leaf.now.body))) }
+    ensures { OnOk result (rights_of rights.new.items ≡ rights_of rights.old.items ++ numbered numbering.now (of_kind (leaf_ground tariff.now.unit tariff.now.follows tariff.now.prices.now leaf.now) (kind_of leaf.now.body))) }
 {
     let scene = Scene {
         alloc,
         numbering,
-        unit,
-        follows,
+        unit: tariff.unit,
+        follows: tariff.follows,
         procedures: procedures(&leaf.body),
-        prices,
+        prices: tariff.prices,
         path: leaf.path.as_str(),
         outputs: leaf.outputs.as_slice(),
     };

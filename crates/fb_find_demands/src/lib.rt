@@ -25,7 +25,7 @@ pub use channel::add_channels;
 pub use closing::check_walk;
 pub use fb_find_rows::Place;
 pub use grouping::group;
-pub use leaf::add_leaf;
+pub use leaf::{Tariff, add_leaf};
 pub use nodes::numbering;
 pub use numbered::Numbering;
 pub use plain::{network_rights, plain_rights};

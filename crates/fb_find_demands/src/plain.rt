@@ -12,7 +12,7 @@ ghost use Rattle.fb_find_demands.specs.Rights.{numbered, rights_of};
 ghost use Rattle.fb_find_demands.specs.Leaves.{AreClosed, leaf_rights};
 
 use crate::leaves::every_leaf;
-use crate::{Numbering, Right, add_channels, add_leaf};
+use crate::{Numbering, Right, Tariff, add_channels, add_leaf};
 use fb_flat::{Flat, Leaf};
 use std::alloc::{AllocError, Global};
 
@@ -27,8 +27,13 @@ fn plain_leaves(
     ensures { IfOk result (λ v. rights_of v.items ≡ flat_map (leaf_rights numbering.now unit follows []) (map (λ l. l.now) leaves.now)) }
 {
     let mut rights = Vec::new(alloc);
+    let tariff = Tariff {
+        unit,
+        follows,
+        prices: &[],
+    };
     for leaf in leaves {
-        add_leaf(alloc, numbering, unit, follows, &[], *leaf, &mut rights)?;
+        add_leaf(alloc, numbering, &tariff, *leaf, &mut rights)?;
     }
     Ok(rights)
 }

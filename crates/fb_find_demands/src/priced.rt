@@ -16,35 +16,38 @@ ghost use Rattle.fb_find_demands.specs.Prices.{AreClear, AreTables, IsPriced, pr
 use crate::known::Priced;
 use crate::leaves::every_leaf;
 use crate::prices::leaf_prices;
-use crate::{Numbering, Right, add_channels, add_leaf};
+use crate::{Numbering, Right, Tariff, add_channels, add_leaf};
 use fb_flat::{Flat, Leaf};
 use fb_ranges::Ranges;
 use std::alloc::{AllocError, Global};
 
-// Adds the demands of a leaf, where datagrams are followed or not, and its algorithms cost their most steps under a table of ranges.
+// A leaf with its table of ranges, where there is one.
+#[derive(Clone, Copy)]
+struct TabledLeaf<'a> {
+    leaf: &'a Leaf,
+    table: Option<&'a Ranges>,
+}
+
+// Adds the demands of a leaf, where datagrams are followed or not, and its algorithms cost their most steps under its table.
 fn add_priced<'a>(
     alloc: Global,
     numbering: &Numbering,
     follows: bool,
     known: &mut Vec<Priced<'a>>,
-    leaf: &'a Leaf,
-    table: Option<&'a Ranges>,
+    tabled: &TabledLeaf<'a>,
     rights: &mut Vec<Right>,
 ) -> Result<(), AllocError>
     requires { AllByRecursion IsPriced known.old.items }
     ensures known { OnOk result (AllByRecursion IsPriced known.new.items) }
-    ensures rights { OnOk result (rights_of rights.new.items ≡ rights_of rights.old.items ++ priced_leaf numbering.now follows leaf.now (option_map (λ t. spans_of t.now) table.entry)) }
+    ensures rights { OnOk result (rights_of rights.new.items ≡ rights_of rights.old.items ++ priced_leaf numbering.now follows tabled.now.leaf.now (option_map (λ t. spans_of t.now) tabled.now.table)) }
 {
-    let prices = leaf_prices(alloc, known, leaf, table)?;
-    add_leaf(
-        alloc,
-        numbering,
-        1,
+    let prices = leaf_prices(alloc, known, tabled.leaf, tabled.table)?;
+    let tariff = Tariff {
+        unit: 1,
         follows,
-        prices.as_slice(),
-        leaf,
-        rights,
-    )
+        prices: prices.as_slice(),
+    };
+    add_leaf(alloc, numbering, &tariff, tabled.leaf, rights)
 }
 
 // The same of all leaves, each with its table.
@@ -65,8 +68,10 @@ fn priced_leaves(
             numbering,
             follows,
             &mut known,
-            leaves[index],
-            tables.get(index),
+            &TabledLeaf {
+                leaf: leaves[index],
+                table: tables.get(index),
+            },
             &mut rights,
         )?;
     }

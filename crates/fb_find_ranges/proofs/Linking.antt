@@ -6,7 +6,7 @@ use Rattle.std.proofs.lemmas.Bool.Decides.{nat_tests}
 use Rattle.std.proofs.lemmas.List.{length-map, map_push}
 use Rattle.fb_model.specs.Wires as wires
 use Rattle.fb_flat.specs.Leaves.{kind_of}
-use Rattle.fb_find_ranges.specs.Views.{Shared, Link, linked_in, IsKind, AreLinked}
+use Rattle.fb_find_ranges.specs.Views.{Shared, Twin, linked_in, IsKind, AreLinked}
 use Rattle.fb_find_ranges.proofs.Putting.{got}
 
 -- what is read among the first is read among all
@@ -30,17 +30,17 @@ read_last [] y (suc n) x l h = absurd cc
 read_last (z ∷ zs) y zero x l h = absurd (omega (arith, l))
 read_last (z ∷ zs) y (suc n) x l h = read_last zs y n x (omega (arith, l)) h
 
-kind_before : (ls : List Link) (a : Link) (n : ℕ) (kind : wires.Kind) → n < length ls → IsKind ls n kind → IsKind (ls ++ a ∷ []) n kind
+kind_before : (ls : List Twin) (a : Twin) (n : ℕ) (kind : wires.Kind) → n < length ls → IsKind ls n kind → IsKind (ls ++ a ∷ []) n kind
 kind_before ls a n kind l is b h = is b (read_before ls a n b l h)
 
-kind_last : (ls : List Link) (a : Link) → IsKind ls a.1 a.0 → IsKind (ls ++ a ∷ []) a.1 a.0
+kind_last : (ls : List Twin) (a : Twin) → IsKind ls a.1 a.0 → IsKind (ls ++ a ∷ []) a.1 a.0
 kind_last ls a is b h = by (nat_lt a.1 (length ls)) refl where
   by : (t : Bool) → nat_lt a.1 (length ls) ≡ t → b.0 ≡ a.0
   by true e = is b (read_before ls a a.1 b (grind (arith, nat_tests, e)) h)
-  by false e = ap (λ (c : Link). c.0) (read_last ls a a.1 b (grind (arith, nat_tests, e)) h)
+  by false e = ap (λ (c : Twin). c.0) (read_last ls a a.1 b (grind (arith, nat_tests, e)) h)
 
 -- one more leaf
-pub one_linked : (ls : List Link) (a : Link) → AreLinked ls → a.1 ≤ length ls → IsKind ls a.1 a.0 → AreLinked (ls ++ a ∷ [])
+pub one_linked : (ls : List Twin) (a : Twin) → AreLinked ls → a.1 ≤ length ls → IsKind ls a.1 a.0 → AreLinked (ls ++ a ∷ [])
 one_linked ls a all within is n b h = by (nat_lt n (length ls)) refl where
   by : (t : Bool) → nat_lt n (length ls) ≡ t → (b.1 ≤ n) × IsKind (ls ++ a ∷ []) b.1 b.0
   by true e =
@@ -49,7 +49,7 @@ one_linked ls a all within is n b h = by (nat_lt n (length ls)) refl where
       (p.0, kind_before ls a b.1 b.0 (omega (arith, l, p.0)) p.1)
   by false e =
       let l : length ls ≤ n = grind (arith, nat_tests, e) in
-      subst (λ (c : Link). (c.1 ≤ n) × IsKind (ls ++ a ∷ []) c.1 c.0) (sym (read_last ls a n b l h)) (omega (arith, l, within), kind_last ls a is)
+      subst (λ (c : Twin). (c.1 ≤ n) × IsKind (ls ++ a ∷ []) c.1 c.0) (sym (read_last ls a n b l h)) (omega (arith, l, within), kind_last ls a is)
 
 -- the first of them
 pub first_linked : (ss : List Shared) (k : ℕ) → AreLinked (map linked_in ss) → AreLinked (map linked_in (take k ss))
@@ -73,7 +73,7 @@ pub kind_here : (ss : List Shared) (k : ℕ) (s : Shared) (kind : wires.Kind) �
 kind_here ss k s kind is l e = is (linked_in s) (read_here ss k s l e)
 
 pub is_kind : (ss : List Shared) (k : ℕ) (s : Shared) (kind : wires.Kind) → k < length ss → s ≡ get_or ss k s → kind_of s.value.leaf.now.body ≡ kind → IsKind (map linked_in ss) k kind
-is_kind ss k s kind l e is b h = let both : Some b ≡ Some (linked_in s) = h ∙ sym (read_here ss k s l e) in let same : b ≡ linked_in s = cc in ap (λ (c : Link). c.0) same ∙ is
+is_kind ss k s kind l e is b h = let both : Some b ≡ Some (linked_in s) = h ∙ sym (read_here ss k s l e) in let same : b ≡ linked_in s = cc in ap (λ (c : Twin). c.0) same ∙ is
 
 -- there is none
 pub no_kind : (ss : List Shared) (k : ℕ) (kind : wires.Kind) → length ss ≤ k → IsKind (map linked_in ss) k kind

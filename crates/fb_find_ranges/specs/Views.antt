@@ -53,18 +53,18 @@ abbrev pub AreKept : List Shared → Type 0
 AreKept ss = AllByRecursion (λ (s : Shared). IsKept s.value) ss
 
 -- what a leaf is, and the number of one before it that is the same (or its own)
-abbrev pub Link : Type 0
-Link = wires.Kind × ℕ
+abbrev pub Twin : Type 0
+Twin = wires.Kind × ℕ
 
-abbrev pub linked_in : Shared → Link
+abbrev pub linked_in : Shared → Twin
 linked_in s = (kind_of s.value.leaf.now.body, s.value.like)
 
 -- the leaf of this number, if there is one, is that
-abbrev pub IsKind : List Link → ℕ → wires.Kind → Type 0
-IsKind links n kind = (b : Link) → Some b ≡ slice_get links n → b.0 ≡ kind
+abbrev pub IsKind : List Twin → ℕ → wires.Kind → Type 0
+IsKind links n kind = (b : Twin) → Some b ≡ slice_get links n → b.0 ≡ kind
 
-abbrev pub AreLinked : List Link → Type 0
-AreLinked links = (n : ℕ) (a : Link) → Some a ≡ slice_get links n → (a.1 ≤ n) × IsKind links a.1 a.0
+abbrev pub AreLinked : List Twin → Type 0
+AreLinked links = (n : ℕ) (a : Twin) → Some a ≡ slice_get links n → (a.1 ≤ n) × IsKind links a.1 a.0
 
 -- the same block under the same rows
 pub record IsLike (s : LeafRows) (kind : wires.Kind) (rows : List Row) : Type 0 where

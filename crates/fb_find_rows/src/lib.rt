@@ -18,4 +18,4 @@ pub use fault::NoBound;
 pub use order::sorted;
 pub use place::{Place, place_at, places};
 pub use rows::{add_charges, add_weights};
-pub use solving::solved;
+pub use solving::{Nodes, solved};

@@ -14,6 +14,15 @@ use fb_find_graph::{Alternative, Solved, solve};
 use indexmap::IndexSet;
 use std::alloc::{AllocError, Global};
 
+/// The nodes of a system, in the order of their numbers: the rows of its states, behind them those of its events, and behind these the end of each channel by
+/// its path.
+#[derive(Clone, Copy)]
+pub struct Nodes<'a> {
+    pub states: &'a IndexSet<String>,
+    pub events: &'a IndexSet<String>,
+    pub ends: &'a [String],
+}
+
 // The text of a number among the keys of a set, and behind them these texts.
 fn text_behind<'a>(first: &'a IndexSet<String>, behind: &'a [String], number: usize) -> &'a str
     ensures { result.now ≡ slice_index_or (texts_of first.now ++ map string_bytes behind.now) number [] }
@@ -28,28 +37,23 @@ fn text_behind<'a>(first: &'a IndexSet<String>, behind: &'a [String], number: us
 }
 
 // The resource of the text of a number.
-fn resource_at(
-    alloc: Global,
-    states: &IndexSet<String>,
-    events: &IndexSet<String>,
-    ends: &[String],
-    number: usize,
-) -> Result<String, AllocError>
-    ensures { IfOk result (λ s. IsResourceIn (text_at (texts_of states.now) (texts_of events.now) (map string_bytes ends.now) number) (string_bytes s)) }
+fn resource_at(alloc: Global, nodes: &Nodes, number: usize) -> Result<String, AllocError>
+    ensures { IfOk result (λ s. IsResourceIn (text_at (texts_of nodes.now.states.now) (texts_of nodes.now.events.now) (map string_bytes nodes.now.ends.now) number) (string_bytes s)) }
 {
-    match states.get_index(number) {
+    match nodes.states.get_index(number) {
         Some(text) => resource_in(alloc, text.as_str()),
-        None => resource_in(alloc, text_behind(events, ends, number - states.len())),
+        None => {
+            let place = number - nodes.states.len();
+            resource_in(alloc, text_behind(nodes.events, nodes.ends, place))
+        }
     }
 }
 
-/// The least numbers of all places, where states and behind them events have these rows, and behind these there are channels with an end by its path each, each
-/// within the limit; or the resource of a place whose least number is above it, where that of a channel is the resource of its end.
+/// The least numbers of all nodes, each within the limit; or the resource of a node whose least number is above it, where that of a channel is the resource of
+/// its end.
 pub fn solved(
     alloc: Global,
-    states: &IndexSet<String>,
-    events: &IndexSet<String>,
-    ends: &[String],
+    nodes: &Nodes,
     system: &[Vec<Alternative>],
     order: &[usize],
     limit: u64,
@@ -59,12 +63,10 @@ pub fn solved(
     ensures sized { IfOk result (λ v. length v.items ≡ length (system_of system.now)) }
     ensures small { IfOk result (λ v. All (λ n. n ≤ limit) v.items) }
     ensures least { IfOk result (λ v. IsLeast (system_of system.now) (slice_index v.items)) }
-    ensures refused { IfErr result (IsPastLimit (system_of system.now) limit (texts_of states.now) (texts_of events.now) (map string_bytes ends.now)) }
+    ensures refused { IfErr result (IsPastLimit (system_of system.now) limit (texts_of nodes.now.states.now) (texts_of nodes.now.events.now) (map string_bytes nodes.now.ends.now)) }
 {
     match solve(alloc, system, order, limit)? {
         Solved::Numbers(numbers) => Ok(numbers),
-        Solved::Above(place) => Err(NoBound::Limit(resource_at(
-            alloc, states, events, ends, place,
-        )?)),
+        Solved::Above(place) => Err(NoBound::Limit(resource_at(alloc, nodes, place)?)),
     }
 }

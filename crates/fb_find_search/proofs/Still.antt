@@ -6,7 +6,7 @@ use Rattle.fb_model.specs.System.{System}
 use Rattle.fb_model.specs.Certificates.{Certificate, Fits}
 use Rattle.fb_find_rows.specs.declared.fault.NoBound.{NoBound}
 use Rattle.fb_find_rows.specs.declared.fault.NoBound.TheVariants.{OutOfMemory, Cycle, NoRange, Limit}
-use Rattle.fb_find.specs.Bounds.{IsDenied, IsNoBound, IsWalk}
+use Rattle.fb_find.specs.Bounds.{IsRuledOut, IsNoBound, IsWalk}
 use Rattle.fb_find_search.specs.Searching.{IsSearched, IsStill}
 
 pub still_told : (repeats : Option ℕ) (s : System) (path : String Global) → IsNoBound repeats s (NoRange path) → (fault : NoBound) → IsStill path fault → IsNoBound repeats s fault
@@ -15,7 +15,7 @@ still_told repeats s path before (Cycle places) h = absurd h
 still_told repeats s path before (NoRange other) h = subst (λ p. IsNoBound repeats s (NoRange p)) (sym h) before
 still_told repeats s path before (Limit resource) h = absurd h
 
-pub still_denies : (repeats : Option ℕ) (s : System) (path : String Global) (fault : NoBound) → IsStill path fault → IsWalk fault → (cert : Certificate) → IsDenied repeats cert → Fits s cert → ⊥
+pub still_denies : (repeats : Option ℕ) (s : System) (path : String Global) (fault : NoBound) → IsStill path fault → IsWalk fault → (cert : Certificate) → IsRuledOut repeats cert → Fits s cert → ⊥
 still_denies repeats s path OutOfMemory h w cert d fits = absurd w
 still_denies repeats s path (Cycle places) h w cert d fits = absurd h
 still_denies repeats s path (NoRange other) h w cert d fits = absurd w

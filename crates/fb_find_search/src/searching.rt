@@ -5,7 +5,7 @@ ghost use Rattle.fb_model.specs.Certificates as book;
 ghost use Rattle.fb_model.specs.Certificates.{Fits};
 ghost use Rattle.fb_cert.specs.Views.{certificate_of, rows_of};
 ghost use Rattle.fb_types.specs.Views.{system_of};
-ghost use Rattle.fb_find.specs.Bounds.{IsDenied, IsNoBound, IsWalk, RowsStand};
+ghost use Rattle.fb_find.specs.Bounds.{IsRuledOut, IsNoBound, IsWalk, RowsStand};
 ghost use Rattle.fb_find_search.specs.Searching.{AreFirstOf, IsFoundSomehow, IsNoBoundKeeping, IsSearched, IsStill};
 
 use fb_cert::{Certificate, Row};
@@ -133,7 +133,7 @@ pub fn search(alloc: Global, typed: &Typed, repeats: Option<u8>) -> Result<Certi
     ensures found { IfOk result (λ c. IsFoundSomehow repeats (system_of typed.now) (certificate_of c)) }
     ensures own { IfOk result (λ c. IsSearched repeats (system_of typed.now) (certificate_of c)) }
     ensures refused { IfErr result (IsNoBound repeats (system_of typed.now)) }
-    ensures denies { IfErr result (λ f. IsWalk f → (cert : book.Certificate) → IsDenied repeats cert → Fits (system_of typed.now) cert → ⊥) }
+    ensures denies { IfErr result (λ f. IsWalk f → (cert : book.Certificate) → IsRuledOut repeats cert → Fits (system_of typed.now) cert → ⊥) }
 {
     match find(alloc, typed, repeats) {
         Ok(certificate) => Ok(certificate),

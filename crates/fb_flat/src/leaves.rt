@@ -147,22 +147,28 @@ fn outputs(
     }
 }
 
+// The names of a leaf's event outputs, and those of its data inputs.
+#[derive(Clone, Copy)]
+struct FaceNames<'a> {
+    events: &'a [&'a str],
+    inputs: &'a [String],
+}
+
 // Adds a leaf.
 fn add(
     table: &mut Table,
     body: Body,
-    names: &[&str],
-    taken: &[String],
+    face: &FaceNames,
     trail: &Trail,
     around: &Around,
     alloc: Global,
 ) -> Result<(), Stop>
-    ensures added { OnOk result (map leaf_of table.new.leaves.items ≡ map leaf_of table.old.leaves.items ++ record { path = text_of (path_of trail.now); kind = kind_of body; outputs = led (left_by around.now) (map (λ s. s.now) names.now); inputs = fed_by (held_by around.now) (map string_bytes taken.now) } ∷ []) }
-    ensures counted { OnOk result (table.new.left + sum_by (left_count around.now) (map (λ s. s.now) names.now) ≡ table.old.left) }
-    ensures refused { IfErr result (IsStop (table.old.left < sum_by (left_count around.now) (map (λ s. s.now) names.now))) }
+    ensures added { OnOk result (map leaf_of table.new.leaves.items ≡ map leaf_of table.old.leaves.items ++ record { path = text_of (path_of trail.now); kind = kind_of body; outputs = led (left_by around.now) (map (λ s. s.now) face.now.events.now); inputs = fed_by (held_by around.now) (map string_bytes face.now.inputs.now) } ∷ []) }
+    ensures counted { OnOk result (table.new.left + sum_by (left_count around.now) (map (λ s. s.now) face.now.events.now) ≡ table.old.left) }
+    ensures refused { IfErr result (IsStop (table.old.left < sum_by (left_count around.now) (map (λ s. s.now) face.now.events.now))) }
 {
-    let outputs = outputs(names, around, &mut table.left, alloc)?;
-    let inputs = inputs(taken, around, alloc)?;
+    let outputs = outputs(face.events, around, &mut table.left, alloc)?;
+    let inputs = inputs(face.inputs, around, alloc)?;
     let path = text(trail, alloc)?;
     table.leaves.push(Leaf {
         path,
@@ -190,8 +196,10 @@ fn add_block(
     add(
         table,
         Body::Basic(block.clone()?),
-        &names,
-        &taken,
+        &FaceNames {
+            events: &names,
+            inputs: &taken,
+        },
         trail,
         around,
         alloc,
@@ -214,8 +222,10 @@ fn add_service(
     add(
         table,
         Body::Served(service_again(alloc, service)?),
-        service.event_outputs(),
-        &taken,
+        &FaceNames {
+            events: service.event_outputs(),
+            inputs: &taken,
+        },
         trail,
         around,
         alloc,

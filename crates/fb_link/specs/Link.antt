@@ -23,9 +23,9 @@ receipt (Got n) buffer room = Handed room (take n buffer)
 receipt Failed buffer room = Broken
 
 -- what a receive answers fits the buffer
-abbrev pub IsWithin : Received → ℕ → Type 0
-IsWithin (Got n) room = n ≤ room
-IsWithin _ room = Unit {0}
+abbrev pub FitsRoom : Received → ℕ → Type 0
+FitsRoom (Got n) room = n ≤ room
+FitsRoom _ room = Unit {0}
 
 -- by how much an answer raises the count of failures
 abbrev pub failures_of : Received → ℕ

@@ -1,7 +1,7 @@
 //! Links.
 
 ghost use Rattle.std.specs.Prelude.{◌≡◌, ◌+◌, ℕ, length, if◌then◌else◌};
-ghost use Rattle.fb_link.specs.Link.{LinkCall, Sent, receipt, IsWithin, failures_of};
+ghost use Rattle.fb_link.specs.Link.{LinkCall, Sent, receipt, FitsRoom, failures_of};
 ghost use Rattle.fb_link.specs.declared.link.Received.{Received};
 ghost use Rattle.fb_link.specs.declared.link.Received.TheVariants.{Nothing};
 
@@ -36,7 +36,7 @@ pub trait Link {
 
     /// Takes the next datagram into the buffer. What does not fit into it is lost.
     fn receive(&mut self, buffer: &mut [u8]) -> Received
-        ensures within { IsWithin result (length buffer.new) }
+        ensures within { FitsRoom result (length buffer.new) }
         ensures told { steps self.old (receipt result buffer.new (length buffer.old)) self.new }
         ensures counted { count self.new ≡ count self.old + failures_of result }
         ensures spent { count self.old ≡ 18446744073709551615 → (self.new ≡ self.old) × (result ≡ Nothing) };

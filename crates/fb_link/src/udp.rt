@@ -2,7 +2,7 @@
 
 ghost use Rattle.std.specs.Prelude.{◌≡◌, ◌+◌, ◌<◌, ◌≤◌, ℕ, [], length, min, IfOk, IfErr};
 ghost use Rattle.std.specs.Net.Socket.{socket_port};
-ghost use Rattle.fb_link.specs.Link.{receipt, IsWithin};
+ghost use Rattle.fb_link.specs.Link.{receipt, FitsRoom};
 ghost use Rattle.fb_link.specs.Socket.{AreHere, SendsToEach, TakesFrom, UdpStep, ip_number, is_among, is_idle, may_send};
 
 use crate::addresses::{Peers, Senders};
@@ -105,7 +105,7 @@ fn take_from<S: Socket>(
     counted: &mut u64,
     buffer: &mut [u8],
 ) -> Received
-    ensures within { IsWithin result (length buffer.new) }
+    ensures within { FitsRoom result (length buffer.new) }
     ensures told { TakesFrom S.does senders.now counted.old socket.old (receipt result buffer.new (length buffer.old)) counted.new socket.new }
 {
     // Nothing happens here: the proof reads that the count fits.

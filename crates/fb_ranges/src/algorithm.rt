@@ -11,7 +11,7 @@ ghost use Rattle.fb_ranges.specs.Finding.{tell};
 ghost use Rattle.fb_ranges.specs.Views.{spans_of};
 
 use crate::assigned::names_assigned;
-use crate::examination::examine_keeping;
+use crate::examination::{Assigning, examine_keeping};
 use crate::fault::{OutOfMemory, RangeFault};
 use crate::rows::Ranges;
 use crate::told::{Told, answer, most};
@@ -32,7 +32,11 @@ fn examined(
     ensures rest { OnOk result (spans_of work.new ≡ spans_of rows.now) }
 {
     let names = names_assigned(alloc, &algo.statements)?;
-    examine_keeping(alloc, rows, &names, &algo.statements, true, work, asked)
+    let assigning = Assigning {
+        names: &names,
+        body: &algo.statements,
+    };
+    examine_keeping(alloc, rows, &assigning, true, work, asked)
 }
 
 /// Whether an algorithm is clear under the rows of its variables: run from values in the rows, it neither traps nor leaves them.

@@ -31,13 +31,28 @@ use fb_ranges_intervals::{Interval, is_within, left_with, most_iterations, taken
 use st_types::{Counting, TypedArm, TypedBranch, TypedExpr, TypedStmt, VariableName};
 use std::alloc::{AllocError, Global};
 
-// The variable of a FOR, the ranges of the numbers from which and to which it counts, and its step.
+// A FOR: how it counts, and its body.
+#[derive(Clone, Copy)]
+struct Repetition<'a> {
+    counting: &'a Counting,
+    body: &'a [TypedStmt],
+}
+
+// The variable of a FOR, the ranges of the numbers from which and to which it counts, its step, and its body.
 #[derive(Clone, Copy)]
 struct Count<'a> {
     variable: &'a VariableName,
     first: Interval,
     last: Interval,
     step: i64,
+    body: &'a [TypedStmt],
+}
+
+/// Statements, and the variables that they assign.
+#[derive(Clone, Copy)]
+pub(crate) struct Assigning<'a> {
+    pub(crate) names: &'a [&'a VariableName],
+    pub(crate) body: &'a [TypedStmt],
 }
 
 // What is told of statements, and how many of the variables that they assign surely have their rows afterwards: so many of the last.
@@ -158,7 +173,8 @@ fn examine_statement(
             Ok(unsettled(all))
         }
         TypedStmt::For(counting, body) => {
-            examine_for(alloc, rows, counting, body, have_rows, ranges, asked)
+            let repetition = Repetition { counting, body };
+            examine_for(alloc, rows, &repetition, have_rows, ranges, asked)
         }
     }
 }
@@ -279,17 +295,17 @@ fn examine_last(
 fn examine_for(
     alloc: Global,
     rows: &Ranges,
-    counting: &Counting,
-    body: &[TypedStmt],
+    repetition: &Repetition,
     have_rows: bool,
     ranges: &mut Ranges,
     asked: &mut Ranges,
 ) -> Result<Ending, AllocError>
-    requires { have_rows ≡ true → HaveRows (book.assigned_one (counted_command (counting_of counting.now) (commands_of body.now))) (spans_of rows.now) (spans_of ranges.old) }
-    ensures asks { OnOk result (point (spans_of ranges.new) (held (spans_of rows.now) (spans_of asked.new)) ≡ asking.ask_one (spans_of rows.now) (counted_command (counting_of counting.now) (commands_of body.now)) (point (spans_of ranges.old) (held (spans_of rows.now) (spans_of asked.old)))) }
-    ensures tells { IfOk result (λ end. end.told ≡ tell (book.examine_one (spans_of rows.now) (counted_command (counting_of counting.now) (commands_of body.now)) (spans_of ranges.old))) }
-    ensures settled { IfOk result (λ end. LastHaveRows end.settled (book.assigned_one (counted_command (counting_of counting.now) (commands_of body.now))) (spans_of rows.now) (spans_of ranges.new)) }
+    requires { have_rows ≡ true → HaveRows (book.assigned_one (counted_command (counting_of repetition.now.counting.now) (commands_of repetition.now.body.now))) (spans_of rows.now) (spans_of ranges.old) }
+    ensures asks { OnOk result (point (spans_of ranges.new) (held (spans_of rows.now) (spans_of asked.new)) ≡ asking.ask_one (spans_of rows.now) (counted_command (counting_of repetition.now.counting.now) (commands_of repetition.now.body.now)) (point (spans_of ranges.old) (held (spans_of rows.now) (spans_of asked.old)))) }
+    ensures tells { IfOk result (λ end. end.told ≡ tell (book.examine_one (spans_of rows.now) (counted_command (counting_of repetition.now.counting.now) (commands_of repetition.now.body.now)) (spans_of ranges.old))) }
+    ensures settled { IfOk result (λ end. LastHaveRows end.settled (book.assigned_one (counted_command (counting_of repetition.now.counting.now) (commands_of repetition.now.body.now))) (spans_of rows.now) (spans_of ranges.new)) }
 {
+    let counting = repetition.counting;
     let first = range(&counting.first, ranges);
     let last = range(&counting.last, ranges);
     let are_clear = if first.is_clear { last.is_clear } else { false };
@@ -301,8 +317,9 @@ fn examine_for(
         first: first.range,
         last: last.range,
         step: counting.step,
+        body: repetition.body,
     };
-    let end = examine_iterations(alloc, rows, count, body, have_rows, ranges, asked)?;
+    let end = examine_iterations(alloc, rows, count, have_rows, ranges, asked)?;
     Ok(Ending {
         told: trapping(are_clear, end.told),
         settled: end.settled,
@@ -322,22 +339,22 @@ fn examine_iterations(
     alloc: Global,
     rows: &Ranges,
     count: Count<'_>,
-    body: &[TypedStmt],
     have_rows: bool,
     ranges: &mut Ranges,
     asked: &mut Ranges,
 ) -> Result<Ending, AllocError>
     requires some { 0 < book.most_iterations (span_of count.first) (span_of count.last) count.step }
-    requires have { have_rows ≡ true → HaveRows (book.assigned (commands_of body.now)) (spans_of rows.now) (spans_of ranges.old) }
-    ensures asks { OnOk result (point (spans_of ranges.new) (held (spans_of rows.now) (spans_of asked.new)) ≡ asking.asked_loop (book.most_iterations (span_of count.entry.first) (span_of count.entry.last) count.entry.step) (book.assigned (commands_of body.now)) (spans_of rows.now) (asking.ask (spans_of rows.now) (commands_of body.now)) (string_bytes count.entry.variable.now.name) (span_of count.entry.first) (span_of count.entry.last) count.entry.step (point (spans_of ranges.old) (held (spans_of rows.now) (spans_of asked.old)))) }
-    ensures tells { IfOk result (λ end. end.told ≡ tell (book.looped (book.most_iterations (span_of count.entry.first) (span_of count.entry.last) count.entry.step) (book.assigned (commands_of body.now)) (spans_of rows.now) (book.examine (spans_of rows.now) (commands_of body.now)) (string_bytes count.entry.variable.now.name) (span_of count.entry.first) (span_of count.entry.last) count.entry.step (spans_of ranges.old))) }
-    ensures settled { IfOk result (λ end. LastHaveRows end.settled (book.assigned (commands_of body.now)) (spans_of rows.now) (spans_of ranges.new)) }
+    requires have { have_rows ≡ true → HaveRows (book.assigned (commands_of count.body.now)) (spans_of rows.now) (spans_of ranges.old) }
+    ensures asks { OnOk result (point (spans_of ranges.new) (held (spans_of rows.now) (spans_of asked.new)) ≡ asking.asked_loop (book.most_iterations (span_of count.entry.first) (span_of count.entry.last) count.entry.step) (book.assigned (commands_of count.entry.body.now)) (spans_of rows.now) (asking.ask (spans_of rows.now) (commands_of count.entry.body.now)) (string_bytes count.entry.variable.now.name) (span_of count.entry.first) (span_of count.entry.last) count.entry.step (point (spans_of ranges.old) (held (spans_of rows.now) (spans_of asked.old)))) }
+    ensures tells { IfOk result (λ end. end.told ≡ tell (book.looped (book.most_iterations (span_of count.entry.first) (span_of count.entry.last) count.entry.step) (book.assigned (commands_of count.entry.body.now)) (spans_of rows.now) (book.examine (spans_of rows.now) (commands_of count.entry.body.now)) (string_bytes count.entry.variable.now.name) (span_of count.entry.first) (span_of count.entry.last) count.entry.step (spans_of ranges.old))) }
+    ensures settled { IfOk result (λ end. LastHaveRows end.settled (book.assigned (commands_of count.entry.body.now)) (spans_of rows.now) (spans_of ranges.new)) }
 {
     let Count {
         variable,
         first,
         last,
         step,
+        body,
     } = count;
     let iterations = most_iterations(first, last, step);
     let names = names_assigned(alloc, body)?;
@@ -346,7 +363,11 @@ fn examine_iterations(
     let before = ranges.find_at(variable);
     ranges.insert_at(variable, taken(first, last, step, iterations))?;
     let is_apart = !is_among(variable, &names);
-    let told = examine_keeping(alloc, rows, &names, body, is_apart, ranges, asked)?;
+    let assigning = Assigning {
+        names: &names,
+        body,
+    };
+    let told = examine_keeping(alloc, rows, &assigning, is_apart, ranges, asked)?;
     ranges.insert_at(variable, left_with(first, last, step, iterations, before))?;
     Ok(Ending {
         told: iterated(iterations, begins, told),
@@ -362,19 +383,18 @@ fn examine_iterations(
 pub(crate) fn examine_keeping(
     alloc: Global,
     rows: &Ranges,
-    names: &[&VariableName],
-    body: &[TypedStmt],
+    assigning: &Assigning,
     have_rows: bool,
     ranges: &mut Ranges,
     asked: &mut Ranges,
 ) -> Result<Told, AllocError>
-    requires named { names_of names.now ≡ book.assigned (commands_of body.now) }
-    requires have { have_rows ≡ true → HaveRows (book.assigned (commands_of body.now)) (spans_of rows.now) (spans_of ranges.old) }
-    ensures asks { OnOk result (held (spans_of rows.now) (spans_of asked.new) ≡ (let end = asking.ask (spans_of rows.now) (commands_of body.now) (point (spans_of ranges.old) (held (spans_of rows.now) (spans_of asked.old))) in asking.asking_all (names_of names.now) end.spans end.rows)) }
-    ensures tells { IfOk result (λ told. told ≡ tell (book.kept (spans_of rows.now) (names_of names.now) (book.examine (spans_of rows.now) (commands_of body.now) (spans_of ranges.old)))) }
-    ensures rest { OnOk result (spans_of ranges.new ≡ book.reset (names_of names.now) (spans_of rows.now) (spans_of ranges.old)) }
+    requires named { names_of assigning.now.names.now ≡ book.assigned (commands_of assigning.now.body.now) }
+    requires have { have_rows ≡ true → HaveRows (book.assigned (commands_of assigning.now.body.now)) (spans_of rows.now) (spans_of ranges.old) }
+    ensures asks { OnOk result (held (spans_of rows.now) (spans_of asked.new) ≡ (let end = asking.ask (spans_of rows.now) (commands_of assigning.now.body.now) (point (spans_of ranges.old) (held (spans_of rows.now) (spans_of asked.old))) in asking.asking_all (names_of assigning.now.names.now) end.spans end.rows)) }
+    ensures tells { IfOk result (λ told. told ≡ tell (book.kept (spans_of rows.now) (names_of assigning.now.names.now) (book.examine (spans_of rows.now) (commands_of assigning.now.body.now) (spans_of ranges.old)))) }
+    ensures rest { OnOk result (spans_of ranges.new ≡ book.reset (names_of assigning.now.names.now) (spans_of rows.now) (spans_of ranges.old)) }
 {
-    let end = examine(alloc, rows, body, have_rows, ranges, asked)?;
-    let are_kept = settle(names, end.settled, rows, ranges, asked)?;
+    let end = examine(alloc, rows, assigning.body, have_rows, ranges, asked)?;
+    let are_kept = settle(assigning.names, end.settled, rows, ranges, asked)?;
     Ok(keeping(are_kept, end.told))
 }

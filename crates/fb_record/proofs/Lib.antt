@@ -1,2 +1,3 @@
 mod Coming
 mod Spelled
+pub mod Limits

@@ -94,6 +94,11 @@ entry_in [] = None
 entry_in (verb ∷ []) = None
 entry_in (verb ∷ now ∷ words) = if bytes_eq verb (codes "turn") then turn_in now words else None
 
+-- no more came than a turn takes: sixteen datagrams, fewer where a receive failed behind them, and none that is longer than 160 bytes
+pub record IsPlayable (e : Entry) : Type 0 where
+  pub few : is_within (length e.datagrams) e.down ≡ true
+  pub short : AllByRecursion (λ d. length d ≤ 160) e.datagrams
+
 -- what a turn can be: its numbers are of 64 bits and of 8, and no more came than a turn takes
 pub record IsEntry (e : Entry) : Type 0 where
   pub clock : e.now < 18446744073709551616

@@ -1,6 +1,7 @@
 //! Room: device. The queue of a resource with its causes and their credit, what a block emits until it is entered, and the armed timers of a device.
 //! Each call changes exactly what it says; laws read entries, credit and steps off it in the book's words. Timers stand by their moments, then by their blocks.
-//! No call but `new` changes the room that there is for entries, causes, timers and emissions, so none takes memory. Not said: that `new` succeeds, and what a call costs.
+//! No call but `new` changes the room that there is for entries, causes, timers and emissions, and none but `new` needs memory: whatever a call might ask for may be
+//! refused, and what it promises holds then too. Not said: that `new` succeeds, that no call takes memory and gives it back, and what a call costs.
 #![tactic(auto)]
 
 mod armed;

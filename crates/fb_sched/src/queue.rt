@@ -47,7 +47,7 @@ impl Queue {
     {
         let ring = HeapCircularBuffer::with_capacity(alloc, depth)?;
         let reactions = Slab::with_capacity(alloc, depth)?;
-        // A slab promises no less room than is asked for. No call changes the room that is there, and so none takes memory.
+        // A slab promises no less room than is asked for. No call changes the room that is there, and so none needs more.
         if reactions.capacity() != depth {
             return Err(AllocError);
         }

@@ -90,7 +90,7 @@ impl Timers {
         let armed = VecDeque::with_capacity(alloc, count)?;
         let mut moments = Vec::with_capacity(alloc, count)?;
         moments.resize(count, None)?;
-        // Filling promises no less room than there was. No call changes the room that is there, and so none takes memory.
+        // Filling promises no less room than there was. No call changes the room that is there, and so none needs more.
         if moments.capacity() != count {
             return Err(AllocError);
         }

@@ -5,4 +5,4 @@ use Rattle.fb_script.specs.declared.line.LineFault.TheVariants.{OutOfMemory, For
 
 abbrev pub code_of : LineFault → ℕ
 code_of OutOfMemory = 9
-code_of Form = 60
+code_of (Form misread) = 60

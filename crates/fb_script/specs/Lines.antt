@@ -1,5 +1,5 @@
 -- What a line of a script says: this project's profile.
-use Rattle.std.specs.Prelude.{ℕ, ◌==◌, ℤ, ◌&&◌, List, [], ◌∷◌, length, codes, Option, Some, None, if◌then◌else◌}
+use Rattle.std.specs.Prelude.{ℕ, ◌==◌, ℤ, ◌&&◌, ◌||◌, Bool, List, [], ◌∷◌, length, codes, Option, Some, None, if◌then◌else◌}
 use Rattle.std.specs.Str.{bytes_eq}
 use Rattle.fb_numbers.specs.Numbers.{number_in, wide_number_in, value_in}
 
@@ -56,3 +56,8 @@ abbrev pub command_in : List (List ℕ) → Option Command
 command_in (word ∷ second ∷ []) = if bytes_eq word (codes "root") then rooted (wide_number_in second) else None
 command_in (word ∷ second ∷ third ∷ rest) = command_by word second third rest
 command_in ws = None
+
+-- whether a word is one of the five that commands begin with
+abbrev pub is_verb : List ℕ → Bool
+is_verb word =
+    bytes_eq word (codes "offer") || bytes_eq word (codes "deliver") || bytes_eq word (codes "tick") || bytes_eq word (codes "dispatch") || bytes_eq word (codes "root")

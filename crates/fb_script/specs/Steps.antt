@@ -9,19 +9,36 @@ use Rattle.fb_world.specs.Answers.{device_of, event_of, steps_of}
 use Rattle.fb_world.specs.Scenes.{Scene, system_of, cert_of, world_of}
 use Rattle.fb_script.specs.Lines as lines
 use Rattle.fb_script.specs.Lines.{Command}
-use Rattle.fb_script.specs.Playing.{Asks, IsUnknown, Plays, Answers, IsBad}
+use Rattle.fb_script.specs.Playing.{IsNoDevice, IsNoResource, Asks, IsUnknown, Plays, Answers, IsBad}
 use Rattle.fb_script.specs.Texts.{answer_text}
 use Rattle.fb_script.specs.declared.playing.Asked.{Asked}
+use Rattle.fb_script.specs.declared.playing.Missing.{Missing}
+use Rattle.fb_script.specs.declared.playing.Missing.TheVariants as missing
 use Rattle.fb_script.specs.declared.playing.Asked.TheVariants as asked
 use Rattle.fb_script.specs.declared.run.End.{End}
 use Rattle.fb_script.specs.declared.run.End.TheVariants.{Line, OutOfMemory}
 
--- what a command asks of a world: an event at a device that is there, or a root that was opened; else it is unknown
+-- the device that a command names
+abbrev pub device_named : Command → Option (List ℕ)
+device_named (lines.Offer name number values) = Some name
+device_named (lines.Deliver number name) = Some name
+device_named (lines.Tick name now) = Some name
+device_named (lines.Dispatch name resource) = Some name
+device_named (lines.Root number) = None
+
+-- what a command names and is not there
+abbrev pub IsMissing : Scene → Command → Missing → Type 0
+IsMissing s command (missing.Device name) = (device_named command ≡ Some name.now) × IsNoDevice (system_of s) name.now
+IsMissing s command (missing.Resource name resource) = (command ≡ lines.Dispatch name.now resource.now) × IsNoResource (system_of s) name.now resource.now
+IsMissing s command (missing.Datagram number) = ⊥
+IsMissing s command (missing.Root number) = (command ≡ lines.Root number) × (root_steps (cert_of s) (world_of s) number ≡ None)
+
+-- what a command asks of a world: an event at a device that is there, or a root that was opened; else it is unknown, and this is missing
 abbrev pub IsAsked : Scene → Command → Asked → Type 0
 IsAsked s command (asked.Event d event) = (device : Device) × (slice_get (system_of s).devices d ≡ Some device) × (device_of event ≡ d) × Asks (system_of s) command (event_of event)
 IsAsked s command (asked.Dispatch d n) = (device : Device) × (slice_get (system_of s).devices d ≡ Some device) × Asks (system_of s) command (At_device d (A_dispatch n))
 IsAsked s command (asked.Root root told) = (command ≡ lines.Root root) × (root_steps (cert_of s) (world_of s) root ≡ Some (steps_of told))
-IsAsked s command asked.Unknown = IsUnknown (system_of s) (cert_of s) (world_of s) command
+IsAsked s command (asked.Unknown what) = IsUnknown (system_of s) (cert_of s) (world_of s) command × IsMissing s command what
 
 -- a text is written, and a line feed
 abbrev pub IsWritten : List ℕ → Option (List ℕ) → Option (List ℕ) → Type 0

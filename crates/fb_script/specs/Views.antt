@@ -22,18 +22,18 @@ command_of (Root number) = book.Root number
 -- each of the words is a value, or one is none
 abbrev pub AreValues : List (List ℕ) → Result (Vec ℤ Global) LineFault → Type 0
 AreValues ws (Ok values) = values_in ws ≡ Some values.items
-AreValues ws (Err Form) = values_in ws ≡ None
+AreValues ws (Err (Form misread)) = values_in ws ≡ None
 AreValues ws (Err OutOfMemory) = Unit {0}
 
 -- the words are this command, or none
 abbrev pub IsRead : List (List ℕ) → Result Line LineFault → Type 0
 IsRead ws (Ok line) = command_in ws ≡ Some (command_of line)
-IsRead ws (Err Form) = command_in ws ≡ None
+IsRead ws (Err (Form misread)) = command_in ws ≡ None
 IsRead ws (Err OutOfMemory) = Unit {0}
 
 -- there are no words, or they are this command, or none
 abbrev pub IsLine : List (List ℕ) → Result (Option Line) LineFault → Type 0
 IsLine ws (Ok None) = ws ≡ []
 IsLine ws (Ok (Some line)) = command_in ws ≡ Some (command_of line)
-IsLine ws (Err Form) = (ws ≢ []) × (command_in ws ≡ None)
+IsLine ws (Err (Form misread)) = (ws ≢ []) × (command_in ws ≡ None)
 IsLine ws (Err OutOfMemory) = Unit {0}

@@ -1,8 +1,10 @@
 //! Lines of a script.
 
-ghost use Rattle.std.specs.Prelude.{◌≡◌, [], ◌∷◌, codes};
+ghost use Rattle.std.specs.Prelude.{◌≡◌, [], ◌∷◌, codes, if◌then◌else◌};
 ghost use Rattle.fb_model.specs.CertificateText.{words};
+ghost use Rattle.fb_script.specs.Lines.{is_verb};
 ghost use Rattle.fb_script.specs.Views.{texts, AreValues, IsRead, IsLine};
+ghost use Rattle.fb_script.specs.declared.line.Misread.TheVariants.{Count, Verb};
 ghost use Rattle.fb_script.specs.declared.line.LineFault.TheVariants.{OutOfMemory};
 
 use fb_numbers::{read_number, read_value, read_wide_number, words_of};
@@ -38,13 +40,28 @@ pub enum Line<'a> {
     },
 }
 
+/// Why words are no command. A place is that of a word, counted from 1.
+#[derive(Clone, Copy)]
+pub enum Misread {
+    /// The first word is none of `offer`, `deliver`, `tick`, `dispatch` and `root`.
+    Verb,
+    /// There are too few words behind it, or too many.
+    Count,
+    /// The word of this place is no number of 0 to 65535.
+    Number(usize),
+    /// The word of this place is no number of 0 to 18446744073709551615.
+    WideNumber(usize),
+    /// The word of this place is no number of LINT.
+    Value(usize),
+}
+
 /// Why a line is not read.
 #[derive(Clone, Copy)]
 pub enum LineFault {
     /// Memory ran out.
     OutOfMemory,
     /// The words are none of the forms, or one of them is no number that fits.
-    Form,
+    Form(Misread),
 }
 
 impl LineFault {
@@ -56,7 +73,7 @@ impl LineFault {
     {
         match self {
             LineFault::OutOfMemory => 9,
-            LineFault::Form => 60,
+            LineFault::Form(_) => 60,
         }
     }
 }
@@ -84,7 +101,10 @@ fn read_values(alloc: Global, words: &[&str]) -> Result<Vec<i64>, LineFault>
     for word in words {
         match read_value(word) {
             Some(value) => values.push(value)?,
-            None => return Err(LineFault::Form),
+            None => {
+                let place = values.len().saturating_add(4);
+                return Err(LineFault::Form(Misread::Value(place)));
+            }
         }
     }
     Ok(values)
@@ -107,7 +127,7 @@ fn read_offer<'a>(
             }),
             Err(fault) => Err(fault),
         },
-        None => Err(LineFault::Form),
+        None => Err(LineFault::Form(Misread::Number(3))),
     }
 }
 
@@ -116,7 +136,7 @@ fn read_deliver<'a>(number: &str, device: &'a str) -> Result<Line<'a>, LineFault
 {
     match read_wide_number(number) {
         Some(number) => Ok(Line::Deliver { number, device }),
-        None => Err(LineFault::Form),
+        None => Err(LineFault::Form(Misread::WideNumber(2))),
     }
 }
 
@@ -125,7 +145,23 @@ fn read_tick<'a>(device: &'a str, now: &str) -> Result<Line<'a>, LineFault>
 {
     match read_wide_number(now) {
         Some(now) => Ok(Line::Tick { device, now }),
-        None => Err(LineFault::Form),
+        None => Err(LineFault::Form(Misread::WideNumber(3))),
+    }
+}
+
+// What is wrong with words that begin so, if it is no number: their count, or the first of them.
+fn miscounted(word: &str) -> Misread
+    ensures { result ≡ (if is_verb word.now then Count else Verb) }
+{
+    if word == "offer"
+        || word == "deliver"
+        || word == "tick"
+        || word == "dispatch"
+        || word == "root"
+    {
+        Misread::Count
+    } else {
+        Misread::Verb
     }
 }
 
@@ -134,11 +170,11 @@ fn read_two<'a>(word: &str, second: &str) -> Result<Line<'a>, LineFault>
     ensures { IsRead (word.now ∷ second.now ∷ []) result }
 {
     if word != "root" {
-        return Err(LineFault::Form);
+        return Err(LineFault::Form(miscounted(word)));
     }
     match read_wide_number(second) {
         Some(number) => Ok(Line::Root { number }),
-        None => Err(LineFault::Form),
+        None => Err(LineFault::Form(Misread::WideNumber(2))),
     }
 }
 
@@ -167,7 +203,7 @@ fn read_by<'a>(
             resource: third,
         });
     }
-    Err(LineFault::Form)
+    Err(LineFault::Form(miscounted(word)))
 }
 
 // The command that words are.
@@ -177,7 +213,8 @@ fn read_words<'a>(alloc: Global, words: &[&'a str]) -> Result<Line<'a>, LineFaul
     match words {
         [word, second] => read_two(word, second),
         [word, second, third, rest @ ..] => read_by(alloc, word, second, third, rest),
-        _ => Err(LineFault::Form),
+        [word] => Err(LineFault::Form(miscounted(word))),
+        [] => Err(LineFault::Form(Misread::Verb)),
     }
 }
 

@@ -18,9 +18,22 @@ use crate::told::Told;
 use fb_device::{Answer, Device, Dispatched, Ran};
 use fb_world::{RootSteps, World, WorldEvent};
 
+/// What a line names and is not there.
+#[derive(Clone, Copy)]
+pub enum Missing<'a> {
+    /// The system has no device of this name.
+    Device(&'a str),
+    /// The device of the first name has no resource of the second.
+    Resource(&'a str, &'a str),
+    /// No datagram of this number was sent so far.
+    Datagram(u64),
+    /// No root of this number was opened so far.
+    Root(u64),
+}
+
 /// What a line asks of a world.
 #[derive(Drop)]
-pub enum Asked {
+pub enum Asked<'a> {
     /// An event, at the device of a number.
     Event(u16, WorldEvent),
     /// A dispatch, at the device of a number, of the resource of a number.
@@ -28,33 +41,33 @@ pub enum Asked {
     /// The steps of the root of a number.
     Root(u64, RootSteps),
     /// Its device, its resource or its root is unknown.
-    Unknown,
+    Unknown(Missing<'a>),
 }
 
-fn ask_offer(world: &World, name: &str, number: u16, values: Vec<i64>) -> Asked
+fn ask_offer<'a>(world: &World, name: &'a str, number: u16, values: Vec<i64>) -> Asked<'a>
     ensures { IsAsked world.now (book.Offer name.now number values.items) result }
 {
     match world.device(name) {
         Some(device) => Asked::Event(device, WorldEvent::Offer(device, number, values)),
-        None => Asked::Unknown,
+        None => Asked::Unknown(Missing::Device(name)),
     }
 }
 
-fn ask_deliver(world: &World, number: u64, name: &str) -> Asked
+fn ask_deliver<'a>(world: &World, number: u64, name: &'a str) -> Asked<'a>
     ensures { IsAsked world.now (book.Deliver number name.now) result }
 {
     match world.device(name) {
         Some(device) => Asked::Event(device, WorldEvent::Deliver(number, device)),
-        None => Asked::Unknown,
+        None => Asked::Unknown(Missing::Device(name)),
     }
 }
 
-fn ask_tick(world: &World, name: &str, now: u64) -> Asked
+fn ask_tick<'a>(world: &World, name: &'a str, now: u64) -> Asked<'a>
     ensures { IsAsked world.now (book.Tick name.now now) result }
 {
     match world.device(name) {
         Some(device) => Asked::Event(device, WorldEvent::Tick(device, now)),
-        None => Asked::Unknown,
+        None => Asked::Unknown(Missing::Device(name)),
     }
 }
 
@@ -68,29 +81,29 @@ fn resource_of(world: &World, device: u16, name: &str) -> Option<u16>
     }
 }
 
-fn ask_dispatch(world: &World, name: &str, resource: &str) -> Asked
+fn ask_dispatch<'a>(world: &World, name: &'a str, resource: &'a str) -> Asked<'a>
     ensures { IsAsked world.now (book.Dispatch name.now resource.now) result }
 {
     let Some(device) = world.device(name) else {
-        return Asked::Unknown;
+        return Asked::Unknown(Missing::Device(name));
     };
     match resource_of(world, device, resource) {
         Some(resource) => Asked::Dispatch(device, resource),
-        None => Asked::Unknown,
+        None => Asked::Unknown(Missing::Resource(name, resource)),
     }
 }
 
-fn ask_root(world: &World, number: u64) -> Asked
+fn ask_root<'a>(world: &World, number: u64) -> Asked<'a>
     ensures { IsAsked world.now (book.Root number) result }
 {
     match world.root(number) {
         Some(told) => Asked::Root(number, told),
-        None => Asked::Unknown,
+        None => Asked::Unknown(Missing::Root(number)),
     }
 }
 
 /// What a line asks of a world.
-pub fn ask(world: &World, line: Line<'_>) -> Asked
+pub fn ask<'a>(world: &World, line: Line<'a>) -> Asked<'a>
     ensures { IsAsked world.now (command_of line.entry) result }
 {
     match line {

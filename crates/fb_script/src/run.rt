@@ -19,6 +19,7 @@ ghost use Rattle.fb_script.specs.declared.run.End.TheVariants.{Unreadable};
 use crate::line::{Line, LineFault, read_line};
 use crate::playing::{Asked, ask, tell, tell_dispatched};
 use crate::told::Told;
+use crate::witness::{Witness, hear, hear_unknown};
 use fb_device::{Answer, Dispatched};
 use fb_world::{Missed, RootSteps, World, WorldAnswer, WorldEvent};
 use fbr_lines::{Next, next_line};
@@ -101,12 +102,13 @@ fn write_root<W: Write>(root: u64, told: RootSteps, output: &mut W) -> io::Resul
 }
 
 // An event happens at the device of a number, and its answer is written. Gives how the script ends, if it does there.
-fn happen<W: Write>(
+fn happen<W: Write, V: Witness>(
     world: &mut World,
     device: u16,
     event: &WorldEvent,
     number: usize,
     output: &mut W,
+    witness: &mut V,
 ) -> io::Result<Option<End>>
     requires there { (d : Device) × (slice_get (system_of world.old).devices device ≡ Some d) }
     requires device { device_of event.now ≡ device }
@@ -116,10 +118,14 @@ fn happen<W: Write>(
     let answered = world.step(event);
     match &answered {
         Ok(WorldAnswer::Answered(answer, sent)) => {
+            hear(number, event, answer, witness);
             write_answer(world, device, answer, *sent, output)?;
             Ok(None)
         }
-        Ok(WorldAnswer::Unknown) => Ok(Some(End::Line(number))),
+        Ok(WorldAnswer::Unknown) => {
+            hear_unknown(number, event, witness);
+            Ok(Some(End::Line(number)))
+        }
         Err(_) => Ok(Some(End::OutOfMemory)),
     }
 }
@@ -148,41 +154,49 @@ fn dispatch<W: Write>(
 }
 
 // Runs a command, and writes its answer. Gives how the script ends, if it does there.
-fn obey<W: Write>(
+fn obey<W: Write, V: Witness>(
     world: &mut World,
     line: Line<'_>,
     number: usize,
     output: &mut W,
+    witness: &mut V,
 ) -> io::Result<Option<End>>
     ensures obeys { IfOk result (λ end. IsObeyed world.old (command_of line.entry) number (W.contents output.old) (W.contents output.new) end world.new) }
     ensures same { world.new.verified ≡ world.old.verified }
 {
     match ask(world, line) {
-        Asked::Event(device, event) => happen(world, device, &event, number, output),
+        Asked::Event(device, event) => happen(world, device, &event, number, output, witness),
         Asked::Dispatch(device, resource) => dispatch(world, device, resource, number, output),
         Asked::Root(root, told) => {
             write_root(root, told, output)?;
             Ok(None)
         }
-        Asked::Unknown => Ok(Some(End::Line(number))),
+        Asked::Unknown(missing) => {
+            witness.missing(number, missing);
+            Ok(Some(End::Line(number)))
+        }
     }
 }
 
 // Runs a line. Gives how the script ends, if it does there.
-fn step<W: Write>(
+fn step<W: Write, V: Witness>(
     alloc: Global,
     world: &mut World,
     line: &str,
     number: usize,
     output: &mut W,
+    witness: &mut V,
 ) -> io::Result<Option<End>>
     ensures steps { IfOk result (λ end. IsStep world.old line.now number (W.contents output.old) (W.contents output.new) end world.new) }
     ensures same { world.new.verified ≡ world.old.verified }
 {
     match read_line(alloc, line) {
-        Ok(Some(line)) => obey(world, line, number, output),
+        Ok(Some(line)) => obey(world, line, number, output, witness),
         Ok(None) => Ok(None),
-        Err(LineFault::Form) => Ok(Some(End::Line(number))),
+        Err(LineFault::Form(misread)) => {
+            witness.misread(number, line, misread);
+            Ok(Some(End::Line(number)))
+        }
         Err(LineFault::OutOfMemory) => Ok(Some(End::OutOfMemory)),
     }
 }
@@ -232,12 +246,14 @@ fn show<W: Write>(is_waited: bool, output: &mut W) -> io::Result<()>
 }
 
 /// Runs the lines of a script on a world, in order, up to the first that is bad. Each answer is written on a line of its own, and shown before the script is waited
-/// for. The datagrams of all devices are numbered from 1 as they are sent, and come to a device where a line delivers them.
-pub fn simulate<I: Read, W: Write>(
+/// for. The datagrams of all devices are numbered from 1 as they are sent, and come to a device where a line delivers them. The witness is told of lines that are
+/// denied or bad.
+pub fn simulate<I: Read, W: Write, V: Witness>(
     alloc: Global,
     world: &mut World,
     script: &mut BufReader<I>,
     output: &mut W,
+    witness: &mut V,
 ) -> io::Result<End>
     ensures runs { IfOk result (λ end. IsRun world.old (reader_remaining I.remaining script.old) (W.contents output.old) (W.contents output.new) end world.new) }
     ensures same { world.new.verified ≡ world.old.verified }
@@ -248,7 +264,7 @@ pub fn simulate<I: Read, W: Write>(
             Ok(text) => text,
             Err(end) => return Ok(end),
         };
-        match step(alloc, world, text, number, output) {
+        match step(alloc, world, text, number, output, witness) {
             Ok(None) => {}
             Ok(Some(end)) => return Ok(end),
             Err(error) => return Err(error),

@@ -1,6 +1,6 @@
 //! Room: language. Texts of the whole language to source trees.
 //! `parse` answers exactly the tree that the text spells; refused with Syntax it is spelled by none. No text is two trees (`one_source`).
-//! Not said: that every token before the offset of a Syntax can stand where it does.
+//! That every token before the offset of a Syntax can stand where it does, is a law of `fb_text_laws`.
 #![tactic(auto)]
 
 mod block;

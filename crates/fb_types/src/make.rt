@@ -49,6 +49,13 @@ fn basic_type(alloc: Global, source: &BlockTree, chart: &ChartTree) -> Result<Ma
     })
 }
 
+// The declaration of a composite, with the network in it.
+#[derive(Clone, Copy)]
+struct CompositeTree<'a> {
+    source: &'a BlockTree,
+    network: &'a NetworkTree,
+}
+
 // A composite of these instances.
 fn composite(
     alloc: Global,
@@ -121,7 +128,8 @@ fn make<'a>(
     match &source.body {
         BodyTree::Chart(chart) => Ok(basic_type(alloc, source, chart)?),
         BodyTree::Network(network) => {
-            make_composite(alloc, types, memo, path, room, source, network)
+            let tree = CompositeTree { source, network };
+            make_composite(alloc, types, memo, path, room, &tree)
         }
     }
 }
@@ -134,18 +142,17 @@ fn inside<'a>(
     memo: &mut Memo,
     path: &[&'a BlockTree],
     room: usize,
-    source: &'a BlockTree,
-    network: &'a NetworkTree,
+    tree: &CompositeTree<'a>,
 ) -> Result<(Vec<Instance>, usize), Unmade<'a>>
     ensures bounded { IfOk result (λ p. p.1 ≤ room) }
-    ensures made { (bs : List decl.BlockTree) → IsTable bs types.now → IsMemo bs memo.old → IfOk result (λ p. AreParts bs room (trees_of.network_of network.now).instances p.0.items p.1) }
+    ensures made { (bs : List decl.BlockTree) → IsTable bs types.now → IsMemo bs memo.old → IfOk result (λ p. AreParts bs room (trees_of.network_of tree.now.network.now).instances p.0.items p.1) }
     ensures kept { (bs : List decl.BlockTree) → IsTable bs types.now → IsMemo bs memo.old → OnOk result (IsMemo bs memo.new) }
-    ensures refused { (bs : List decl.BlockTree) → IsTable bs types.now → IsMemo bs memo.old → (trees_of.block_of source.now).body ≡ decl.Network (trees_of.network_of network.now) → IsOpen bs (map tree_of path.now) (trees_of.block_of source.now) → IfErr result (IsUnmade bs (suc room) (trees_of.block_of source.now)) }
+    ensures refused { (bs : List decl.BlockTree) → IsTable bs types.now → IsMemo bs memo.old → (trees_of.block_of tree.now.source.now).body ≡ decl.Network (trees_of.network_of tree.now.network.now) → IsOpen bs (map tree_of path.now) (trees_of.block_of tree.now.source.now) → IfErr result (IsUnmade bs (suc room) (trees_of.block_of tree.now.source.now)) }
 {
-    let path = extended(alloc, path, source)?;
-    match parts(alloc, types, memo, &path, room, &network.instances) {
+    let path = extended(alloc, path, tree.source)?;
+    match parts(alloc, types, memo, &path, room, &tree.network.instances) {
         Ok((instances, deep)) => Ok((instances, deep)),
-        Err(unmade) => Err(outer(unmade, source)),
+        Err(unmade) => Err(outer(unmade, tree.source)),
     }
 }
 
@@ -157,20 +164,19 @@ fn make_composite<'a>(
     memo: &mut Memo,
     path: &[&'a BlockTree],
     room: usize,
-    source: &'a BlockTree,
-    network: &'a NetworkTree,
+    tree: &CompositeTree<'a>,
 ) -> Result<Made, Unmade<'a>>
     ensures bounded { IfOk result (λ m. m.deep ≤ room) }
-    ensures made { (bs : List decl.BlockTree) → IsTable bs types.now → IsMemo bs memo.old → (trees_of.block_of source.now).body ≡ decl.Network (trees_of.network_of network.now) → IfOk result (IsTyped bs room (trees_of.block_of source.now)) }
+    ensures made { (bs : List decl.BlockTree) → IsTable bs types.now → IsMemo bs memo.old → (trees_of.block_of tree.now.source.now).body ≡ decl.Network (trees_of.network_of tree.now.network.now) → IfOk result (IsTyped bs room (trees_of.block_of tree.now.source.now)) }
     ensures kept { (bs : List decl.BlockTree) → IsTable bs types.now → IsMemo bs memo.old → OnOk result (IsMemo bs memo.new) }
-    ensures refused { (bs : List decl.BlockTree) → IsTable bs types.now → IsMemo bs memo.old → (trees_of.block_of source.now).body ≡ decl.Network (trees_of.network_of network.now) → IsOpen bs (map tree_of path.now) (trees_of.block_of source.now) → IfErr result (IsUnmade bs room (trees_of.block_of source.now)) }
+    ensures refused { (bs : List decl.BlockTree) → IsTable bs types.now → IsMemo bs memo.old → (trees_of.block_of tree.now.source.now).body ≡ decl.Network (trees_of.network_of tree.now.network.now) → IsOpen bs (map tree_of path.now) (trees_of.block_of tree.now.source.now) → IfErr result (IsUnmade bs room (trees_of.block_of tree.now.source.now)) }
 {
     if room == 0 {
-        return Err(Unmade::TooDeep(source));
+        return Err(Unmade::TooDeep(tree.source));
     }
-    let face = face(alloc, source)?;
-    match inside(alloc, types, memo, path, room - 1, source, network) {
-        Ok((instances, deep)) => Ok(composite(alloc, face, instances, deep + 1, network)?),
+    let face = face(alloc, tree.source)?;
+    match inside(alloc, types, memo, path, room - 1, tree) {
+        Ok((instances, deep)) => Ok(composite(alloc, face, instances, deep + 1, tree.network)?),
         Err(unmade) => Err(unmade),
     }
 }

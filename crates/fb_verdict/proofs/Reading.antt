@@ -17,6 +17,8 @@ use Rattle.fb_cert.specs.declared.fault.CertFault.TheVariants as certs
 use Rattle.fb_cert.specs.Answers.{Refuses, Finds}
 use Rattle.fb_tree.specs.Sources.{IsSource}
 use Rattle.fb_text.specs.Answers.{ReadsText, FindsTree}
+use Rattle.fb_text_laws.specs.Answers.{IsRefusal}
+use Rattle.fb_text_laws.proofs.Answered.{answers_are_so}
 use Rattle.fb_verified.specs.Checked.{Checked, system_in, certificate_in}
 use Rattle.fb_verdict.specs.declared.refusal.Refusal.{Refusal}
 use Rattle.fb_verdict.specs.declared.refusal.Refusal.TheVariants.{OutOfMemory, Text, Typing, Certificate as Spelling, UnknownRow, MissingRow, UnknownChannel, MissingChannel, RangeStart, RangeLink, RangeKept, IndexOrDivisor, Charge, Weight, Depth, Far, Channel}
@@ -41,13 +43,16 @@ typing_fault source (faults.RecursiveComposite at) h = h
 typing_fault source (faults.Limit at) h = h
 typing_fault source (faults.ChannelShape at) h = h
 
+told : (text : List ℕ) (f : TextFault) → IsRefusal text f → IsTextFault text (of_text f)
+told text texts.OutOfMemory h = tt
+told text (texts.BadCharacter at) h = h
+told text (texts.BigNumber at) h = h
+told text texts.TooLong h = h
+told text (texts.Syntax at) h = h
+told text (texts.TooDeep at) h = h
+
 pub text_fault : (text : List ℕ) (f : TextFault) → ReadsText text (Err f) → IsTextFault text (of_text f)
-text_fault text texts.OutOfMemory h = tt
-text_fault text (texts.BadCharacter at) h = h
-text_fault text (texts.BigNumber at) h = h
-text_fault text texts.TooLong h = h
-text_fault text (texts.Syntax at) h = h
-text_fault text (texts.TooDeep at) h = h
+text_fault text f h = told text f (answers_are_so text (Err f) h)
 
 pub certificate_fault : (text : List ℕ) (f : CertFault) → Refuses text f → IsCertificateFault text (of_certificate f)
 certificate_fault text certs.OutOfMemory h = tt

@@ -1,10 +1,10 @@
 -- What a verdict says of the two texts.
-use Rattle.std.specs.Prelude.{ℕ, ◌≡◌, List, Err}
+use Rattle.std.specs.Prelude.{ℕ, ◌≡◌, List}
 use Rattle.fb_model.specs.Declarations.{SourceTree}
 use Rattle.fb_model.specs.Certificates as book
 use Rattle.fb_model.specs.CertificateText.{Spells}
 use Rattle.fb_tree.specs.Sources.{IsSource}
-use Rattle.fb_text.specs.Answers.{ReadsText}
+use Rattle.fb_text_laws.specs.Answers.{IsRefusal}
 use Rattle.fb_types.specs.declared.typed.Configuration.{Configuration}
 use Rattle.fb_types.specs.Views.{system_of, system_offsets, all_offsets}
 use Rattle.fb_types.specs.Beforehand.{IsRefused}
@@ -33,10 +33,10 @@ IsTypingFault source OutOfMemory = Unit {0}
 IsTypingFault source (Typing fault) = IsRefused source fault
 IsTypingFault source other = ⊥
 
--- what is at fault in an application's text: in the text, or in its source tree
+-- what is at fault in an application's text: in its characters or tokens, or in its source tree
 abbrev pub IsTextFault : List ℕ → Refusal → Type 0
 IsTextFault text OutOfMemory = Unit {0}
-IsTextFault text (Text fault) = ReadsText text (Err fault)
+IsTextFault text (Text fault) = IsRefusal text fault
 IsTextFault text (Typing fault) = (source : SourceTree) × IsSource text source × IsTypingFault source (Typing fault)
 IsTextFault text other = ⊥
 

@@ -5,11 +5,13 @@ use Rattle.std.specs.List.{AllByRecursion}
 use Rattle.std.specs.Option.{option_map}
 use Rattle.fb_model.specs.System.{Device}
 use Rattle.fb_model.specs.Certificates.{Certificate, far_of}
-use Rattle.fb_model.specs.CertificateText.{Written, TextRow, repeats, range, charge, weight, depth, far, far_state, channel, IsTextRow, a_repeats, AreTextRows, no_text_row, text_row, certificate_in, IsTold}
+use Rattle.fb_model.specs.CertificateText as texts
+use Rattle.fb_model.specs.CertificateText.{Written, TextRow, repeats, range, charge, weight, depth, far, far_state, channel, IsTextRow, a_repeats, AreTextRows, no_text_row, text_row, certificate_in}
 use Rattle.fb_model.specs.World as book
-use Rattle.fb_model.specs.World.{World, AreWithin}
+use Rattle.fb_model.specs.World.{World, WorldEvent, WorldAnswer, WorldHappens, AreWithin}
 use Rattle.fb_model.proofs.Networks.{fits_pays}
-use Rattle.fb_model_worlds.proofs.Running.{bounds_roots}
+use Rattle.fb_model_worlds.proofs.Running.{measure_event, measure_run, bounds_roots}
+use Rattle.fb_model_causes.proofs.Bounding.{has_arrivals}
 use Rattle.fb_verified.specs.declared.verified.Verified.{Verified}
 use Rattle.fb_verified.specs.Checked as checks
 use Rattle.fb_verified.specs.Checked.{system_in, IsChecked}
@@ -19,10 +21,11 @@ use Rattle.fb_world.specs.declared.station.Root.{Root}
 use Rattle.fb_world.specs.declared.station.Station.{Station}
 use Rattle.fb_world.specs.declared.course.Course.{Course}
 use Rattle.fb_world.specs.Scenes.{root_in, opening_place, world_in}
+use Rattle.fb_world.specs.Laws.{Falls, FallsOver, IsTold}
 use Rattle.fb_world.specs.Keeping.{IsReached, IsRoot, IsKept}
 use Rattle.fb_lists.proofs.Lists.{all_got, within_got, same_at}
 use Rattle.fb_world.proofs.Lists.{some_same, some_none, all_by, got_there}
-use Rattle.fb_world.proofs.Kept.{all_hold, device_stands}
+use Rattle.fb_world.proofs.Kept.{all_hold, reached_sound, device_stands}
 
 few_row : (words : List (List ℕ)) (n : ℕ) → IsTextRow words (repeats n) → n ≤ 255
 few_row words n (a_repeats h) = h.at_most
@@ -41,7 +44,7 @@ few_in (w ∷ ws) (far p n ∷ es) r (text_row i t) e = few_in ws es r t e
 few_in (w ∷ ws) (far_state p n ∷ es) r (text_row i t) e = few_in ws es r t e
 few_in (w ∷ ws) (channel c n ∷ es) r (text_row i t) e = few_in ws es r t e
 
-few_repeats : (cert : Certificate) (r : ℕ) → IsTold cert → cert.repeats ≡ Some r → r ≤ 255
+few_repeats : (cert : Certificate) (r : ℕ) → texts.IsTold cert → cert.repeats ≡ Some r → r ≤ 255
 few_repeats cert r t e = (let s = t.1 in few_in s.others s.entries r s.others_are (ap (λ (c : Certificate). c.repeats) (sym s.certificate_is) ∙ e))
 
 -- the steps of a root that was opened are at most the FAR of its opening, where its datagrams without a stamp were admitted at most so often
@@ -50,6 +53,28 @@ pub root_bounded : (v : Verified) (w : World) → IsChecked v → IsReached (sys
 root_bounded v w c reached r n e low high within =
     bounds_roots (system_in v) (checks.certificate_in v) (all_hold v c) (λ m i. fits_pays (system_in v) (checks.certificate_in v) m (c.fits.far m i)) reached.first reached.is_first reached.events reached.answers w r n e
     (few_repeats (checks.certificate_in v) r c.told e) reached.run low high within
+
+-- ---- what the laws say of events and runs
+
+pub falls : (v : Verified) (old new : World) (e : WorldEvent) (a : WorldAnswer) → IsChecked v → IsReached (system_in v) (checks.certificate_in v) old → WorldHappens (system_in v) (checks.certificate_in v) old e a new → Falls (system_in v) (checks.certificate_in v) old e a new
+falls v old new e a c reached h r i =
+    measure_event (system_in v) (checks.certificate_in v) (all_hold v c) r (fits_pays (system_in v) (checks.certificate_in v) r (c.fits.far r i)) (few_repeats (checks.certificate_in v) r c.told i) old e a new (reached_sound v old c reached) h
+
+pub falls_over : (v : Verified) (old new : World) (es : List WorldEvent) (as' : List WorldAnswer) → IsChecked v → IsReached (system_in v) (checks.certificate_in v) old → FallsOver (system_in v) (checks.certificate_in v) old es as' new
+falls_over v old new es as' c reached r i run =
+    measure_run (system_in v) (checks.certificate_in v) (all_hold v c) r (fits_pays (system_in v) (checks.certificate_in v) r (c.fits.far r i)) (few_repeats (checks.certificate_in v) r c.told i) es as' old new (reached_sound v old c reached) run
+
+-- the roots of a run are its arrivals
+pub reached_told : (v : Verified) (w : World) → IsChecked v → IsReached (system_in v) (checks.certificate_in v) w → IsTold (system_in v) (checks.certificate_in v) w
+reached_told v w c r =
+    record {
+      first = r.first;
+      events = r.events;
+      answers = r.answers;
+      is_first = r.is_first;
+      run = r.run;
+      arrivals = has_arrivals (system_in v) (checks.certificate_in v) (all_hold v c) r.first r.is_first r.events r.answers w r.run;
+    }
 
 pub if_some : (o : Option ℕ) (P Q : ℕ → Type 0) → ((x : ℕ) → P x → Q x) → IfSome o P → IfSome o Q
 if_some None P Q f h = tt

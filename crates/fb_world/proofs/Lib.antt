@@ -9,3 +9,4 @@ pub mod Dispatches
 pub mod Deliveries
 pub mod First
 pub mod Bounds
+pub mod Seldom

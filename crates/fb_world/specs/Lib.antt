@@ -6,3 +6,4 @@ pub mod Keeping
 pub mod Beginning
 pub mod Room
 pub mod Loads
+pub mod Laws

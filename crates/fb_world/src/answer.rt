@@ -41,6 +41,13 @@ pub struct RootSteps {
     pub far: Option<u64>,
 }
 
+/// A datagram without a stamp that a device admitted more often than REPEATS, by its number, and the device by its own.
+#[derive(Clone, Copy)]
+pub struct TooOften {
+    pub datagram: u64,
+    pub device: u16,
+}
+
 /// Memory ran out, or the world has seen 2^64 - 1 dispatches. Nothing has changed.
 #[derive(Clone, Copy)]
 pub struct OutOfMemory;

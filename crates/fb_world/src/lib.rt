@@ -6,12 +6,13 @@
 mod answer;
 mod beginning;
 mod course;
+mod often;
 mod room;
 mod sent;
 mod station;
 mod world;
 
-pub use answer::{Missed, OutOfMemory, RootSteps, WorldAnswer, WorldEvent};
+pub use answer::{Missed, OutOfMemory, RootSteps, TooOften, WorldAnswer, WorldEvent};
 pub use world::World;
 
 // A crate can name a world in a contract only if the types of its fields are exported.

@@ -18,11 +18,13 @@ ghost use Rattle.fb_device.specs.Refusals.{no_memory};
 ghost use Rattle.fb_world.specs.Scenes.{system_of, cert_of, world_of};
 ghost use Rattle.fb_world.specs.Answers.{event_of, device_of, leaves_at, answer_of, answers_of, steps_of, HasWorldPlace, HaveWorldPlaces, HasMissed};
 ghost use Rattle.fb_world.specs.Keeping.{IsReached};
+ghost use Rattle.fb_world.specs.Laws.{Falls, FallsOver, IsTold, IsTooOften};
 ghost use Rattle.fb_world.specs.Loads.{IsWorldOf, IsWorldFault, IsDeviceAt};
 
-use crate::answer::{Missed, OutOfMemory, RootSteps, WorldAnswer, WorldEvent};
+use crate::answer::{Missed, OutOfMemory, RootSteps, TooOften, WorldAnswer, WorldEvent};
 use crate::beginning::first_course;
 use crate::course::Course;
+use crate::often::too_often;
 use crate::station::numbered;
 use fb_device::{Device, Dispatched, Refusal, share};
 use fb_verdict::check_text;
@@ -88,17 +90,20 @@ impl World {
     /// Lets the world go. (A crate that lets it go by itself proves the end of each of its parts anew; this call is proved once.)
     pub fn let_go(self) {}
 
-    /// That a run leads from the first world to this one, so that it is sound, for proofs: nothing is done.
+    /// That a run leads from the first world to this one, so that it is sound, and its roots are the arrivals of this run, for proofs: nothing is done.
     pub fn holds(&self)
         ensures reached { IsReached (system_of self.now) (cert_of self.now) (world_of self.now) }
         ensures sound { IsWorldSound (system_of self.now) (cert_of self.now) (world_of self.now) }
+        ensures told { IsTold (system_of self.now) (cert_of self.now) (world_of self.now) }
     {
         let _ = &self.course;
     }
 
-    /// An event of the book's world. What it may need is reserved first: where memory runs out, nothing has changed.
+    /// An event of the book's world. What it may need is reserved first: where memory runs out, nothing has changed. With REPEATS, the measure of each root
+    /// falls by the steps that are taken, and rises at no delivery that is paid for.
     pub fn step(&mut self, event: &WorldEvent) -> Result<WorldAnswer, OutOfMemory>
         ensures happens { IfOk result (λ a. WorldHappens (system_of self.old) (cert_of self.old) (world_of self.old) (event_of event.now) (answer_of (leaves_at (system_of self.old) (device_of event.now)) a) (world_of self.new)) }
+        ensures falls { IfOk result (λ a. Falls (system_of self.old) (cert_of self.old) (world_of self.old) (event_of event.now) (answer_of (leaves_at (system_of self.old) (device_of event.now)) a) (world_of self.new)) }
         ensures point { IfOk result (HasWorldPlace (leaves_at (system_of self.old) (device_of event.now))) }
         ensures unchanged { OnErr result (self.new ≡ self.old) }
         ensures same { self.new.verified ≡ self.old.verified }
@@ -116,6 +121,7 @@ impl World {
         answer: &mut Dispatched,
     ) -> Result<Option<u64>, Missed>
         ensures happens { IfOk result (λ sent. WorldHappens (system_of self.old) (cert_of self.old) (world_of self.old) (At_device device (A_dispatch resource)) (Answered (dispatched_of (leaves_at (system_of self.old) device) answer.new) sent) (world_of self.new)) }
+        ensures falls { IfOk result (λ sent. Falls (system_of self.old) (cert_of self.old) (world_of self.old) (At_device device (A_dispatch resource)) (Answered (dispatched_of (leaves_at (system_of self.old) device) answer.new) sent) (world_of self.new)) }
         ensures point { IfOk result (λ _. HasPoint (leaves_at (system_of self.old) device) answer.new) }
         ensures missed { IfErr result (λ why. HasMissed (system_of self.old) device why × (self.new ≡ self.old) × (answer.new ≡ answer.old)) }
         ensures same { self.new.verified ≡ self.old.verified }
@@ -132,6 +138,7 @@ impl World {
     /// A list of events, one after another. What all of them may need is reserved first: where memory runs out, nothing has changed.
     pub fn run(&mut self, events: &[WorldEvent]) -> Result<Vec<WorldAnswer>, OutOfMemory>
         ensures run { IfOk result (λ as'. WorldRun (system_of self.old) (cert_of self.old) (world_of self.old) (map event_of events.now) (answers_of (system_of self.old) events.now as'.items) (world_of self.new)) }
+        ensures falls { IfOk result (λ as'. FallsOver (system_of self.old) (cert_of self.old) (world_of self.old) (map event_of events.now) (answers_of (system_of self.old) events.now as'.items) (world_of self.new)) }
         ensures points { IfOk result (λ as'. HaveWorldPlaces (system_of self.old) events.now as'.items) }
         ensures unchanged { OnErr result (self.new ≡ self.old) }
         ensures same { self.new.verified ≡ self.old.verified }
@@ -156,6 +163,18 @@ impl World {
             steps: root.steps.min(u128::from(u64::MAX)) as u64,
             far: root.opening.far,
         })
+    }
+
+    /// A datagram of a root that has no stamp and that a device admitted more than REPEATS times, with this device; `None` where there is none, and just there
+    /// the FAR of the root's opening bounds its steps by what the certificate pays for. `None` too where the certificate has no row REPEATS.
+    pub fn too_often(&self, number: u64) -> Option<TooOften>
+        ensures told { (repeats : ℕ) → (cert_of self.now).repeats ≡ Some repeats → MatchOption result (AreWithin repeats number (world_of self.now).datagrams) (IsTooOften repeats number (world_of self.now).datagrams) }
+        ensures unpaid { (cert_of self.now).repeats ≡ None → result ≡ None }
+    {
+        match self.verified.certificate().repeats() {
+            Some(repeats) => too_often(&self.course.datagrams, number, u16::from(repeats)),
+            None => None,
+        }
     }
 
     /// The number of the device of a name. Letter case has no meaning in it. `None` where there is none.

@@ -4,15 +4,16 @@ ghost use Rattle.std.specs.Prelude.{◌≡◌, ◌≤◌, Some, IfOk, IfSome, op
 ghost use Rattle.fbr_files.specs.Outcomes.{Tells, refusal};
 ghost use Rattle.fbr_files.specs.Writing.{AreApart, LeavesAllBut};
 ghost use Rattle.fbr_words.specs.Requests.{sought_of};
-ghost use Rattle.fbr.specs.Answers.{IsPutOut, OrJson, TellsBound};
+ghost use Rattle.fbr.specs.Answers.{IsPutOut, OrJson, OrNoted, TellsBound};
 
-use crate::given::{Files, tell};
+use crate::given::{Files, named, tell};
 use crate::json::bound_json;
 use crate::misread::misused;
+use crate::noted::{counted, words_of_bound};
 use fbr_check::texts_verified;
 use fbr_files::{Fault, Sources, into_another, print_outcome, print_text, write_into};
 use fbr_find::{RangesFrom, Wanted, read_wanted};
-use fbr_tell::tell_shallow;
+use fbr_tell::{Words, tell_noted, tell_shallow};
 use fbr_words::Bound;
 use std::alloc::Global;
 use std::io;
@@ -49,6 +50,7 @@ pub fn files_of<'b, 'a>(wanted: &'b Wanted<'a>) -> Files<'b, 'a> {
             _ => None,
         },
         repeats: wanted.repeats,
+        is_all: false,
     }
 }
 
@@ -56,6 +58,7 @@ pub fn files_of<'b, 'a>(wanted: &'b Wanted<'a>) -> Files<'b, 'a> {
 fn refuse<'a, W: Write, E: Write>(
     alloc: Global,
     wanted: &Wanted<'a>,
+    is_all: bool,
     fault: Fault<'a>,
     output: &mut W,
     errors: &mut E,
@@ -63,18 +66,29 @@ fn refuse<'a, W: Write, E: Write>(
     ensures told { IfOk result (λ status. Tells (refusal fault.entry) (W.contents output.old) (W.contents output.new) status) }
     ensures status { IfOk result (λ status. status ≤ 4) }
 {
-    tell(alloc, &fault, files_of(wanted), errors);
+    tell(alloc, &fault, files_of(wanted).with_all(is_all), errors);
     print_outcome(Err(fault), output)
 }
 
-// Warns people of queues for which a certificate that was found has no room for each arrival once.
-fn warn<E: Write>(alloc: Global, wanted: &Wanted<'_>, cert: &str, errors: &mut E) {
+// Warns people of queues for which a certificate that was found has no room for each arrival once, and tells them how many notes there are; and whether there are some.
+fn warn<E: Write>(
+    alloc: Global,
+    wanted: &Wanted<'_>,
+    words: Words<'_>,
+    cert: &str,
+    errors: &mut E,
+) -> bool {
     let Ok(app) = wanted.app.text() else {
-        return;
+        return false;
     };
-    if let Ok(verified) = texts_verified(alloc, app, cert) {
-        tell_shallow(alloc, &verified, errors);
-        verified.let_go();
+    match texts_verified(alloc, app, cert) {
+        Ok(verified) => {
+            tell_shallow(alloc, &verified, errors);
+            let has_notes = tell_noted(alloc, &verified, named(&wanted.app), words, errors);
+            verified.let_go();
+            has_notes
+        }
+        Err(_) => false,
     }
 }
 
@@ -85,6 +99,7 @@ fn find<'a, S: Sources, W: Write, E: Write>(
     files: &mut S,
     output: &mut W,
     errors: &mut E,
+    has_notes: &mut bool,
 ) -> io::Result<u8>
     requires { IfSome request.repeats (λ n. 1 ≤ n) }
     ensures told { AreApart (S.same files.old) (sought_of request.entry).into (Some request.entry.app.now)
@@ -95,21 +110,22 @@ fn find<'a, S: Sources, W: Write, E: Write>(
     let wanted = read_wanted(alloc, files, request);
     match wanted.text(alloc) {
         Ok(text) => {
-            warn(alloc, &wanted, &text, errors);
+            *has_notes = warn(alloc, &wanted, words_of_bound(request), &text, errors);
             put_out(files, request.into, text.as_str(), output, errors)
         }
-        Err(fault) => refuse(alloc, &wanted, fault, output, errors),
+        Err(fault) => refuse(alloc, &wanted, request.is_all, fault, output, errors),
     }
 }
 
 // Finds a certificate as it is asked for of the application in a file, and writes its text on `output`, or into the file that is named, or why there is none; on `errors`
-// people are told of a fault, and of queues that do not take each arrival once. The application's own file is not written: such words are at fault.
+// people are told of a fault, of notes, and of queues that do not take each arrival once. The application's own file is not written: such words are at fault.
 fn bound_text<'a, S: Sources, W: Write, E: Write>(
     alloc: Global,
     request: Bound<'a>,
     files: &mut S,
     output: &mut W,
     errors: &mut E,
+    has_notes: &mut bool,
 ) -> io::Result<u8>
     requires { IfSome request.repeats (λ n. 1 ≤ n) }
     ensures told { IfOk result (λ status. TellsBound (sought_of request.entry) (S.same files.old) (S.contents files.old) (S.contents files.new) (W.contents output.old) (W.contents output.new) status) }
@@ -119,10 +135,10 @@ fn bound_text<'a, S: Sources, W: Write, E: Write>(
     if !into_another(files, request.into, Some(request.app)) {
         return misused(CLASH, output, errors);
     }
-    find(alloc, request, files, output, errors)
+    find(alloc, request, files, output, errors, has_notes)
 }
 
-/// The same, or with `--json` a report of it.
+/// The same, or with `--json` a report of it. With `--strict` the status is 1 where there are notes.
 pub fn bound<'a, S: Sources, W: Write, E: Write>(
     alloc: Global,
     request: Bound<'a>,
@@ -131,12 +147,14 @@ pub fn bound<'a, S: Sources, W: Write, E: Write>(
     errors: &mut E,
 ) -> io::Result<u8>
     requires { IfSome request.repeats (λ n. 1 ≤ n) }
-    ensures told { IfOk result (λ status. OrJson request.entry.is_json (TellsBound (sought_of request.entry) (S.same files.old) (S.contents files.old) (S.contents files.new) (W.contents output.old) (W.contents output.new) status)) }
+    ensures told { IfOk result (λ status. OrJson request.entry.is_json (OrNoted request.entry.is_strict (TellsBound (sought_of request.entry) (S.same files.old) (S.contents files.old) (S.contents files.new) (W.contents output.old) (W.contents output.new)) status)) }
     ensures others { LeavesAllBut (S.same files.old) (sought_of request.entry).into (S.contents files.old) (S.contents files.new) }
     ensures status { IfOk result (λ status. status ≤ 4) }
 {
     if request.is_json {
         return bound_json(alloc, request, files, output, errors);
     }
-    bound_text(alloc, request, files, output, errors)
+    let mut has_notes = false;
+    let status = bound_text(alloc, request, files, output, errors, &mut has_notes)?;
+    Ok(counted(request.is_strict, has_notes, status))
 }

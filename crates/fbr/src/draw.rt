@@ -8,7 +8,7 @@ ghost use Rattle.fbr.specs.Answers.{TellsDraw};
 use crate::bound::CLASH;
 use crate::given::{maybe_named, named};
 use crate::misread::misused;
-use fbr_files::{FileText, Sources, into_another, print_outcome, read_file, write_into};
+use fbr_files::{FileText, Sources, into_another, print_outcome, read_app, read_file, write_into};
 use fbr_tell::{Drawing, picture};
 use fbr_words::Draw;
 use std::alloc::Global;
@@ -76,7 +76,7 @@ fn draw_read<'a, S: Sources, W: Write, E: Write>(
     ensures others { LeavesAllBut (S.same files.old) (drawing_of request.entry).into (S.contents files.old) (S.contents files.new) }
     ensures status { IfOk result (λ status. status ≤ 4) }
 {
-    let app = read_file(alloc, files, request.app);
+    let app = read_app(alloc, files, request.app, request.meant);
     let cert = read_maybe(alloc, files, request.cert);
     match picture(alloc, drawing_of(&app, cert.as_ref(), request), errors) {
         Ok(page) => give_page(files, request.into, &page, output, errors),

@@ -5,13 +5,15 @@ use fbr_tell::{Given, Held as Told, NamedFile, hint};
 use std::alloc::Global;
 use std::io::Write;
 
-/// The files that a command read: an application, perhaps a certificate, and perhaps the rows RANGE that are kept; and how often datagrams are delivered.
+/// The files that a command read: an application, perhaps a certificate, and perhaps the rows RANGE that are kept; how often datagrams are delivered; and whether all
+/// faults of the application's text are told.
 #[derive(Clone, Copy)]
 pub struct Files<'b, 'a> {
     pub app: &'b FileText<'a>,
     pub cert: Option<&'b FileText<'a>>,
     pub rows: Option<&'b FileText<'a>>,
     pub repeats: Option<u8>,
+    pub is_all: bool,
 }
 
 impl<'b, 'a> Files<'b, 'a> {
@@ -22,6 +24,7 @@ impl<'b, 'a> Files<'b, 'a> {
             cert: None,
             rows: None,
             repeats: None,
+            is_all: false,
         }
     }
 
@@ -32,7 +35,13 @@ impl<'b, 'a> Files<'b, 'a> {
             cert: Some(cert),
             rows: None,
             repeats: None,
+            is_all: false,
         }
+    }
+
+    /// The same, where all faults of the application's text are told if this is so.
+    pub fn with_all(self, is_all: bool) -> Files<'b, 'a> {
+        Files { is_all, ..self }
     }
 }
 
@@ -47,6 +56,7 @@ pub fn named<'b>(file: &'b FileText<'b>) -> NamedFile<'b> {
     NamedFile {
         name: file.name,
         held,
+        meant: file.meant,
     }
 }
 
@@ -65,6 +75,7 @@ pub fn given_of<'b>(files: Files<'b, 'b>) -> Given<'b> {
         cert: maybe_named(files.cert),
         rows: maybe_named(files.rows),
         repeats: files.repeats,
+        is_all: files.is_all,
     }
 }
 

@@ -15,10 +15,11 @@ use fbr_words::Watched;
 pub const OVERWRITTEN: &str =
     "fbr: what is written would take the place of a file that is read: name another file";
 
-/// What is asked of those who watch a run.
-pub fn wish_of<'b, 'a>(watched: &'b Watched<'a>) -> Wish<'b, 'a> {
+/// What is asked of those who watch a run, for people or for programs.
+pub fn wish_of<'b, 'a>(watched: &'b Watched<'a>, is_json: bool) -> Wish<'b, 'a> {
     Wish {
         paths: watched.paths.as_slice(),
+        is_json,
         has_table: watched.table.is_some(),
         has_dump: watched.dump.is_some(),
         has_timeline: watched.timeline.is_some(),

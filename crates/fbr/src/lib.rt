@@ -11,12 +11,17 @@ mod given;
 mod json;
 mod kept;
 mod misread;
+mod noted;
+mod order;
+mod pack;
 mod piped;
 mod play;
 mod replay;
 mod run;
+mod runs;
 mod serve;
 mod sim;
+mod together;
 
 pub use piped::input_named;
 pub use run::command;

@@ -5,26 +5,28 @@ ghost use Rattle.fbr_files.specs.declared.fault.Fault.TheVariants.{Memory};
 ghost use Rattle.fbr_files.specs.Outcomes.{Tells, refusal};
 ghost use Rattle.fbr_files.specs.Writing.{LeavesAll};
 ghost use Rattle.fbr_words.specs.Program.{a_play, written_by};
-ghost use Rattle.fbr_words.specs.Requests.{plays_of};
+ghost use Rattle.fbr_files.specs.Reading.{held_by};
+ghost use Rattle.fbr_words.specs.Requests.{meant_of, plays_of};
 ghost use Rattle.fbr_play.specs.Scores.{TellsStories};
 ghost use Rattle.fbr.specs.Answers as answers;
-ghost use Rattle.fbr.specs.Answers.{ArePlayedApart, NamesOne, TellsFound, TellsPlayed, TellsPlays};
+ghost use Rattle.fbr.specs.Answers.{ArePlayedApart, NamesOne, OrJson, TellsFound, TellsPlayed, TellsPlays};
 
 use crate::given::{Files, tell};
 use crate::kept::{OVERWRITTEN, is_read, overwrites, put_kept, put_maybe, wish_of};
 use crate::misread::misused;
+use crate::runs::play_json;
 use fbr_check::{files_verified, texts_verified};
-use fbr_files::{Fault, FileText, Sources, print_outcome, read_file};
+use fbr_files::{Fault, FileText, Sources, print_outcome, read_app, read_file};
 use fbr_find::read_wanted;
 use fbr_play::{Played, Score, Stories, play_all, print_end};
 use fbr_watch::Seen;
-use fbr_words::{Bound, Play, Ranges};
+use fbr_words::{Bound, Play};
 use std::alloc::Global;
 use std::io;
 use std::io::{ErrorKind, Write};
 
-// What people are told where no story is named.
-const NO_STORY: &str = "fbr: no story is named, and names of stories end in .story";
+/// What people are told where no story is named.
+pub const NO_STORY: &str = "fbr: no story is named, and names of stories end in .story";
 
 // Whether a file of this name is a story.
 fn is_story(name: &str) -> bool
@@ -33,8 +35,8 @@ fn is_story(name: &str) -> bool
     name.as_bytes().ends_with(b".story")
 }
 
-// The file of the certificate, where one is named before the stories.
-fn cert_in<'a>(files: &[&'a str]) -> Option<&'a str>
+/// The file of the certificate, where one is named before the stories.
+pub fn cert_in<'a>(files: &[&'a str]) -> Option<&'a str>
     ensures { option_map (λ name. name.now) result ≡ answers.cert_in (map (λ name. name.now) files.now) }
 {
     match files {
@@ -43,8 +45,8 @@ fn cert_in<'a>(files: &[&'a str]) -> Option<&'a str>
     }
 }
 
-// The stories behind it.
-fn stories_in<'b, 'a>(files: &'b [&'a str]) -> &'b [&'a str]
+/// The stories behind it.
+pub fn stories_in<'b, 'a>(files: &'b [&'a str]) -> &'b [&'a str]
     ensures { map (λ name. name.now) result.now ≡ answers.stories_in (map (λ name. name.now) files.now) }
 {
     match files {
@@ -53,18 +55,19 @@ fn stories_in<'b, 'a>(files: &'b [&'a str]) -> &'b [&'a str]
     }
 }
 
-// Stories over the application that a file holds, with what is asked for beside them.
-fn stories_of<'t, 'b, 'a>(app: &'t FileText<'_>, request: &'b Play<'a>) -> Stories<'t, 'b, 'a> {
+/// Stories over the application that a file holds, with what is asked for beside them.
+pub fn stories_of<'t, 'b, 'a>(app: &'t FileText<'_>, request: &'b Play<'a>) -> Stories<'t, 'b, 'a> {
     Stories {
         app: app.text().unwrap_or(""),
         names: stories_in(request.files.as_slice()),
-        wish: wish_of(&request.watched),
+        wish: wish_of(&request.watched, request.is_json),
         has_report: request.report.is_some(),
+        is_json: request.is_json,
     }
 }
 
-// Whether one of the files that are written is one that is read.
-fn overwrites_one<S: Sources>(files: &S, request: &Play<'_>) -> bool
+/// Whether one of the files that are written is one that is read.
+pub fn overwrites_one<S: Sources>(files: &S, request: &Play<'_>) -> bool
     ensures apart { result ≡ false → ArePlayedApart (S.same files.now) (plays_of request.now) }
     ensures named { result ≡ true → NamesOne (plays_of request.now) }
 {
@@ -89,8 +92,8 @@ fn put_played<'a, S: Sources>(
     told.and(kept)
 }
 
-// How stories went, once what was kept of them is in its files, where they were played to their end.
-fn outcome_of<'a, S: Sources>(
+/// How stories went, once what was kept of them is in its files, where they were played to their end.
+pub fn outcome_of<'a, S: Sources>(
     files: &mut S,
     request: &Play<'a>,
     played: Played<'a>,
@@ -148,7 +151,6 @@ fn finish<'a, S: Sources, W: Write>(
 // Plays stories over an application and the certificate that is found, where there is one.
 fn play_one<S: Sources, W: Write, E: Write>(
     alloc: Global,
-    app: &str,
     request: &Play<'_>,
     files: &mut S,
     output: &mut W,
@@ -158,15 +160,7 @@ fn play_one<S: Sources, W: Write, E: Write>(
     ensures others { LeavesAll (S.same files.old) (written_by (a_play (plays_of request.now))) (S.contents files.old) (S.contents files.new) }
     ensures status { IfOk result (λ status. status ≤ 4) }
 {
-    let bound = Bound {
-        app,
-        repeats: None,
-        into: None,
-        ranges: Ranges::Rounds,
-        room: None,
-        is_json: false,
-    };
-    let wanted = read_wanted(alloc, files, bound);
+    let wanted = read_wanted(alloc, files, Bound::least(request.app, request.meant, None));
     let verified = match wanted.text(alloc) {
         Ok(text) => match wanted.app.text() {
             Ok(app) => texts_verified(alloc, app, text.as_str()),
@@ -206,11 +200,11 @@ fn play_two<S: Sources, W: Write, E: Write>(
     output: &mut W,
     errors: &mut E,
 ) -> io::Result<u8>
-    ensures told { IfOk result (λ status. TellsPlayed both.entry.app.now both.entry.cert.now (S.contents files.old both.entry.app.now) (S.contents files.old both.entry.cert.now) (W.contents output.old) (W.contents output.new) status) }
+    ensures told { IfOk result (λ status. TellsPlayed both.entry.app.now both.entry.cert.now (held_by (meant_of request.now.meant) (S.contents files.old both.entry.app.now)) (S.contents files.old both.entry.cert.now) (W.contents output.old) (W.contents output.new) status) }
     ensures others { LeavesAll (S.same files.old) (written_by (a_play (plays_of request.now))) (S.contents files.old) (S.contents files.new) }
     ensures status { IfOk result (λ status. status ≤ 4) }
 {
-    let app = read_file(alloc, files, both.app);
+    let app = read_app(alloc, files, both.app, request.meant);
     let cert = read_file(alloc, files, both.cert);
     match files_verified(alloc, &app, &cert) {
         Ok(verified) => {
@@ -228,25 +222,23 @@ fn play_two<S: Sources, W: Write, E: Write>(
     }
 }
 
-/// Plays stories over the application in a file, with the certificate of another, or with the one that is found: what came otherwise than a story says is
-/// written, and at the end how many of their sequences passed and failed. A report, and what has changed, are put into the files that are named for them. Where
-/// the files are refused, their outcome is written and nothing else; on `errors` people are told why.
-pub fn play<S: Sources, W: Write, E: Write>(
+// Plays stories as `play` without `--json`.
+fn play_text<S: Sources, W: Write, E: Write>(
     alloc: Global,
-    request: Play<'_>,
+    request: &Play<'_>,
     files: &mut S,
     output: &mut W,
     errors: &mut E,
 ) -> io::Result<u8>
-    ensures told { IfOk result (λ status. TellsPlays (plays_of request.entry) (S.same files.old) (S.contents files.old) (W.contents output.old) (W.contents output.new) status) }
-    ensures others { LeavesAll (S.same files.old) (written_by (a_play (plays_of request.entry))) (S.contents files.old) (S.contents files.new) }
+    ensures told { IfOk result (λ status. TellsPlays (plays_of request.now) (S.same files.old) (S.contents files.old) (W.contents output.old) (W.contents output.new) status) }
+    ensures others { LeavesAll (S.same files.old) (written_by (a_play (plays_of request.now))) (S.contents files.old) (S.contents files.new) }
     ensures status { IfOk result (λ status. status ≤ 4) }
 {
     let named = request.files.as_slice();
     if stories_in(named).is_empty() {
         return misused(NO_STORY, output, errors);
     }
-    if overwrites_one(files, &request) {
+    if overwrites_one(files, request) {
         return misused(OVERWRITTEN, output, errors);
     }
     match cert_in(named) {
@@ -255,8 +247,28 @@ pub fn play<S: Sources, W: Write, E: Write>(
                 app: request.app,
                 cert,
             };
-            play_two(alloc, both, &request, files, output, errors)
+            play_two(alloc, both, request, files, output, errors)
         }
-        None => play_one(alloc, request.app, &request, files, output, errors),
+        None => play_one(alloc, request, files, output, errors),
     }
+}
+
+/// Plays stories over the application in a file, with the certificate of another, or with the one that is found: what came otherwise than a story says is
+/// written, and at the end how many of their sequences passed and failed, or with `--json` one object that says so. A report, and what has changed, are put into
+/// the files that are named for them. Where the files are refused, their outcome is written and nothing else; on `errors` people are told why.
+pub fn play<S: Sources, W: Write, E: Write>(
+    alloc: Global,
+    request: Play<'_>,
+    files: &mut S,
+    output: &mut W,
+    errors: &mut E,
+) -> io::Result<u8>
+    ensures told { IfOk result (λ status. OrJson request.entry.is_json (TellsPlays (plays_of request.entry) (S.same files.old) (S.contents files.old) (W.contents output.old) (W.contents output.new) status)) }
+    ensures others { LeavesAll (S.same files.old) (written_by (a_play (plays_of request.entry))) (S.contents files.old) (S.contents files.new) }
+    ensures status { IfOk result (λ status. status ≤ 4) }
+{
+    if request.is_json {
+        return play_json(alloc, &request, files, output, errors);
+    }
+    play_text(alloc, &request, files, output, errors)
 }

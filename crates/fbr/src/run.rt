@@ -4,29 +4,40 @@ ghost use Rattle.std.specs.Prelude.{◌≡◌, ◌⊎◌, ◌<◌, ◌≤◌, le
 ghost use Rattle.fbr_files.specs.declared.fault.Fault.TheVariants.{Memory};
 ghost use Rattle.fbr_files.specs.Outcomes.{Tells, TellsUsage, refusal};
 ghost use Rattle.fbr_files.specs.Writing.{LeavesAll};
-ghost use Rattle.fbr_words.specs.Program.{Asked, request_of, written_by, written_for, often_of, IsMisuse};
+ghost use Rattle.fbr_words.specs.Program.{Order, request_of, written_by, written_for, often_of, IsMisuse};
 ghost use Rattle.fbr_words.specs.Requests.{asked_of};
 ghost use Rattle.fbr_check.specs.Verdicts.{TellsInput};
-ghost use Rattle.fbr.specs.Answers.{Answers};
+ghost use Rattle.fbr.specs.Answers.{Answers, AnswersOrder};
 
 use crate::bound::bound;
 use crate::check::{check, check_input};
 use crate::draw::draw;
 use crate::explain::explain;
 use crate::misread::tell_misread;
+use crate::order::follow;
+use crate::pack::pack;
 use crate::play::play;
 use crate::replay::replay;
 use crate::serve::serve;
 use crate::sim::sim;
 use fbr_files::Sources;
+use fbr_seals::make_key;
 use fbr_words::{Request, read_words};
 use std::io;
 use std::io::{Read, Write};
 use std::net::Net;
+use std::random::RandomSource;
 use std::rt::Clock;
 
-// Does what is asked for.
-fn answer<'a, R: AllocGlobal + Clock + Net, S: Sources, I: Read, W: Write, E: Write>(
+/// Does what is asked for.
+pub fn answer<
+    'a,
+    R: AllocGlobal + Clock + Net + RandomSource,
+    S: Sources,
+    I: Read,
+    W: Write,
+    E: Write,
+>(
     rt: &R,
     request: Request<'a>,
     files: &mut S,
@@ -49,11 +60,20 @@ fn answer<'a, R: AllocGlobal + Clock + Net, S: Sources, I: Read, W: Write, E: Wr
         Request::Draw(request) => draw(alloc, request, files, output, errors),
         Request::Serve(request) => serve(rt, request, files, output, errors),
         Request::Replay(request) => replay(alloc, request, files, input, output, errors),
+        Request::Pack(request) => pack(alloc, request, files, output, errors),
+        Request::Key(state) => make_key(rt, state, files, output, errors),
     }
 }
 
 // Reads what the words ask for, and does it.
-fn run_words<'a, R: AllocGlobal + Clock + Net, S: Sources, I: Read, W: Write, E: Write>(
+fn run_words<
+    'a,
+    R: AllocGlobal + Clock + Net + RandomSource,
+    S: Sources,
+    I: Read,
+    W: Write,
+    E: Write,
+>(
     rt: &R,
     words: &'a [&'a str],
     files: &mut S,
@@ -61,14 +81,14 @@ fn run_words<'a, R: AllocGlobal + Clock + Net, S: Sources, I: Read, W: Write, E:
     output: &mut W,
     errors: &mut E,
 ) -> io::Result<u8>
-    ensures answers { (q : Asked) → request_of (map (λ word. word.now) words.now) ≡ Some q
-        → IfOk result (λ status. Answers q (S.same files.old) (S.contents files.old) (S.contents files.new) (I.remaining input.old) (W.contents output.old) (W.contents output.new) status ⊎ Tells (refusal Memory) (W.contents output.old) (W.contents output.new) status) }
+    ensures answers { (q : Order) → request_of (map (λ word. word.now) words.now) ≡ Some q
+        → IfOk result (λ status. AnswersOrder q (S.same files.old) (S.contents files.old) (S.contents files.new) (I.remaining input.old) (W.contents output.old) (W.contents output.new) status ⊎ Tells (refusal Memory) (W.contents output.old) (W.contents output.new) status) }
     ensures usage { IsMisuse (map (λ word. word.now) words.now) → IfOk result (λ status. TellsUsage (W.contents output.old) (W.contents output.new) status) }
     ensures others { LeavesAll (S.same files.old) (written_for (request_of (map (λ word. word.now) words.now))) (S.contents files.old) (S.contents files.new) }
     ensures status { IfOk result (λ status. status ≤ 4) }
 {
     match read_words(rt.alloc(), words) {
-        Ok(request) => answer(rt, request, files, input, output, errors),
+        Ok(order) => follow(rt, order, files, input, output, errors),
         Err(misread) => tell_misread(misread, output, errors),
     }
 }
@@ -79,20 +99,20 @@ fn run_words<'a, R: AllocGlobal + Clock + Net, S: Sources, I: Read, W: Write, E:
 /// Without words, `input` holds an application up to the first line that is exactly `====`, and then its certificate. With `sim` it holds a script.
 /// Each fault is told by one line on `output`: `refused`, its code, and its place where there is one. With `explain` more is written behind that line,
 /// for people, and with `draw` a graph; what they write is not said here, nor what people are told on `errors`.
-pub fn command<'a, R: AllocGlobal + Clock + Net, S: Sources, I: Read, W: Write, E: Write>(
-    rt: &R,
-    words: &'a [&'a str],
-    files: &mut S,
-    input: &mut I,
-    output: &mut W,
-    errors: &mut E,
-) -> u8
+pub fn command<
+    'a,
+    R: AllocGlobal + Clock + Net + RandomSource,
+    S: Sources,
+    I: Read,
+    W: Write,
+    E: Write,
+>(rt: &R, words: &'a [&'a str], files: &mut S, input: &mut I, output: &mut W, errors: &mut E) -> u8
     ensures status { result ≤ 4 }
     // Unless the writer fails, one outcome is told and nothing else: without words that of the input,
     ensures input { length words.now < 2 → TellsInput (I.remaining input.old) (W.contents output.old) (W.contents output.new) result ⊎ (result ≡ 3) }
     // with those that ask for something what answers it, or that memory ran out,
-    ensures answers { (q : Asked) → 2 ≤ length words.now → request_of (map (λ word. word.now) words.now) ≡ Some q
-        → (Answers q (S.same files.old) (S.contents files.old) (S.contents files.new) (I.remaining input.old) (W.contents output.old) (W.contents output.new) result ⊎ Tells (refusal Memory) (W.contents output.old) (W.contents output.new) result) ⊎ (result ≡ 3) }
+    ensures answers { (q : Order) → 2 ≤ length words.now → request_of (map (λ word. word.now) words.now) ≡ Some q
+        → (AnswersOrder q (S.same files.old) (S.contents files.old) (S.contents files.new) (I.remaining input.old) (W.contents output.old) (W.contents output.new) result ⊎ Tells (refusal Memory) (W.contents output.old) (W.contents output.new) result) ⊎ (result ≡ 3) }
     // and that they are at fault where they ask for nothing, and for neither help nor the version.
     ensures usage { 2 ≤ length words.now → IsMisuse (map (λ word. word.now) words.now)
         → TellsUsage (W.contents output.old) (W.contents output.new) result ⊎ (result ≡ 3) }

@@ -1,19 +1,22 @@
 //! `fbr serve`.
 
-ghost use Rattle.std.specs.Prelude.{◌≡◌, ◌≤◌, ◌++◌, IfErr, IfOk, option_map};
+ghost use Rattle.std.specs.Prelude.{◌≡◌, ◌≤◌, ◌++◌, IfErr, IfOk, MatchResult, option_map};
 ghost use Rattle.fbr_files.specs.Outcomes.{Tells, refusal};
-ghost use Rattle.fbr_files.specs.Writing.{LeavesAll, LeavesAllBut};
-ghost use Rattle.fbr_words.specs.Program.{boot_file, if_named};
+ghost use Rattle.fbr_files.specs.Reading.{held_by};
+ghost use Rattle.fbr_files.specs.Writing.{Holdings, LeavesAll, LeavesAllBut};
+ghost use Rattle.fbr_words.specs.Program.{boot_file, if_named, state_file};
 ghost use Rattle.fbr_words.specs.Requests.{service_of};
-ghost use Rattle.fbr_serve.specs.Serving.{HasNoRecord};
+ghost use Rattle.fbr_serve.specs.Serving.{HasNoRecord, HasNoSeals, IsFilesReady, TakesBoot, TakesSeals, seals_of};
 ghost use Rattle.fbr.specs.Answers.{TellsServed};
 
 use crate::given::{Files, tell};
+use fb_device::Ready;
 use fb_record::{Recorder, put_head};
-use fbr_files::{Fault, FileText, Sources, print_outcome, read_file};
+use fbr_files::{Fault, FileText, Sources, print_outcome, read_app, read_file};
+use fbr_seals::{Seals, open_seals};
 use fbr_serve::{load_device, serve_ready, take_boot};
 use fbr_tell::tell_shallow;
-use fbr_words::Serve;
+use fbr_words::{Guard, Serve};
 use std::alloc::Global;
 use std::io;
 use std::io::Write;
@@ -59,10 +62,10 @@ fn refuse_record<W: Write, E: Write>(
 }
 
 // Why a record cannot be begun, by the file that was to hold it.
-fn unrecorded<'a>(record: Option<&'a str>) -> Fault<'a>
-    ensures { HasNoRecord (option_map (λ name. name.now) record.entry) result }
+fn unrecorded<'a>(recorded: Option<&'a str>) -> Fault<'a>
+    ensures { HasNoRecord (option_map (λ name. name.now) recorded.entry) result }
 {
-    match record {
+    match recorded {
         Some(name) => Fault::File(name),
         None => Fault::File("-"),
     }
@@ -111,9 +114,66 @@ fn open_record<'a, S: Sources>(
     }
 }
 
+// The seals of a device, where it is to have some; or why there are none.
+fn open_guard<'a, S: Sources, E: Write>(
+    alloc: Global,
+    serve: &Serve<'a>,
+    files: &mut S,
+    errors: &mut E,
+) -> Result<Option<Seals<S::Keeper>>, Fault<'a>>
+    ensures taken { MatchResult result (λ seals. TakesSeals (service_of serve.now).guard (S.contents files.old) (S.contents files.new) (option_map (seals_of S.Keeper.held) seals)) (HasNoSeals (service_of serve.now).guard) }
+    ensures others { LeavesAllBut (S.same files.old) (state_file (service_of serve.now).guard) (S.contents files.old) (S.contents files.new) }
+    ensures names { S.same files.new ≡ S.same files.old }
+{
+    match serve.guard {
+        Guard::Unsealed => Ok(None),
+        Guard::Sealed(sealing) => {
+            match open_seals(alloc, files, sealing, &serve.network.peers, errors) {
+                Ok(seals) => Ok(Some(seals)),
+                Err(fault) => Err(fault),
+            }
+        }
+    }
+}
+
+// Takes the seals of a device that was loaded, begins its record, and takes its turns; or tells why there are no seals, or is no record.
+fn serve_loaded<R: AllocGlobal + Clock + Net, S: Sources, W: Write, E: Write>(
+    rt: &R,
+    ready: Ready,
+    app: &FileText<'_>,
+    cert: &FileText<'_>,
+    request: &Serve<'_>,
+    boot: u32,
+    files: &mut S,
+    output: &mut W,
+    errors: &mut E,
+) -> io::Result<u8>
+    ensures told { (before : Holdings) → TakesBoot (service_of request.now).life.boot before (S.contents files.old) boot → IsFilesReady (service_of request.now) boot (held_by (service_of request.now).meant (before request.now.app.now)) (before request.now.cert.now) ready
+        → IfOk result (λ status. TellsServed (service_of request.now) (S.same files.old) before (S.contents files.new) (W.contents output.old) (W.contents output.new) status) }
+    ensures others { LeavesAll (S.same files.old) (if_named (state_file (service_of request.now).guard) ++ if_named (service_of request.now).life.recorded) (S.contents files.old) (S.contents files.new) }
+    ensures status { IfOk result (λ status. status ≤ 4) }
+{
+    let alloc = rt.alloc();
+    let seals = match open_guard(alloc, request, files, errors) {
+        Ok(seals) => seals,
+        Err(fault) => {
+            ready.start().let_go();
+            return print_outcome(Err(fault), output);
+        }
+    };
+    match open_record(alloc, app, cert, request, boot, files) {
+        Ok(recorder) => serve_ready(rt, ready, request, seals, output, errors, recorder),
+        Err(fault) => {
+            ready.start().let_go();
+            refuse_record(fault, output, errors)
+        }
+    }
+}
+
 /// Loads the device that is asked for out of two files, takes its turns over UDP, and prints what its OUTPUTs write, and at the end what the turns did in all.
 /// Where there is no boot, the files are refused, the device is unknown or the port is taken, that is written and nothing else; on `errors` people are told
-/// of a fault of the files, and what the device does. The file of the boot gets the next one before anything is sent, and the record is a new file.
+/// of a fault of the files, and what the device does. The file of the boot gets the next one before anything is sent, so does the state file, and the record is a
+/// new file.
 pub fn serve<R: AllocGlobal + Clock + Net, S: Sources, W: Write, E: Write>(
     rt: &R,
     request: Serve<'_>,
@@ -122,11 +182,11 @@ pub fn serve<R: AllocGlobal + Clock + Net, S: Sources, W: Write, E: Write>(
     errors: &mut E,
 ) -> io::Result<u8>
     ensures told { IfOk result (λ status. TellsServed (service_of request.entry) (S.same files.old) (S.contents files.old) (S.contents files.new) (W.contents output.old) (W.contents output.new) status) }
-    ensures others { LeavesAll (S.same files.old) (if_named (boot_file (service_of request.entry).life.boot) ++ if_named (service_of request.entry).life.recorded) (S.contents files.old) (S.contents files.new) }
+    ensures others { LeavesAll (S.same files.old) (if_named (boot_file (service_of request.entry).life.boot) ++ (if_named (state_file (service_of request.entry).guard) ++ if_named (service_of request.entry).life.recorded)) (S.contents files.old) (S.contents files.new) }
     ensures status { IfOk result (λ status. status ≤ 4) }
 {
     let alloc = rt.alloc();
-    let app = read_file(alloc, files, request.app);
+    let app = read_app(alloc, files, request.app, request.meant);
     let cert = read_file(alloc, files, request.cert);
     let boot = match take_boot(alloc, files, request.life.boot) {
         Ok(boot) => boot,
@@ -135,13 +195,9 @@ pub fn serve<R: AllocGlobal + Clock + Net, S: Sources, W: Write, E: Write>(
     match load_device(alloc, &app, &cert, &request, boot) {
         Ok(ready) => {
             tell_shallow(alloc, ready.verified(), errors);
-            match open_record(alloc, &app, &cert, &request, boot, files) {
-                Ok(recorder) => serve_ready(rt, ready, &request, output, errors, recorder),
-                Err(fault) => {
-                    ready.start().let_go();
-                    refuse_record(fault, output, errors)
-                }
-            }
+            serve_loaded(
+                rt, ready, &app, &cert, &request, boot, files, output, errors,
+            )
         }
         Err(fault) => {
             tell(alloc, &fault, Files::two(&app, &cert), errors);

@@ -1,21 +1,11 @@
-//! Room: program. What is told of a text by itself: what could stand at a place, the nearest name, which types meet, and what is noted where it is accepted.
+//! Room: program. What is shared by what is told of a text: its tokens, the kinds of its names, the nearest name, what other languages write, and an advice as a value.
 //! No contracts: what it prints is tested.
 #![tactic(auto)]
 
+pub mod advice;
 pub mod candidates;
-pub mod character;
-pub mod charted;
-pub mod ends;
-pub mod expected;
 pub mod foreign;
-pub mod noted;
-pub mod numbers;
+pub mod kinds;
 pub mod operand;
-pub mod stopped;
-pub mod syntax;
 pub mod tokens;
-pub mod typing;
-pub mod unknown;
-pub mod used;
 pub mod wanted;
-pub mod wired;

@@ -1,7 +1,7 @@
 //! The types of expressions, by their tokens.
 
 use crate::tokens::mark_of;
-use crate::wanted::Place;
+use crate::wanted::Cursor;
 use fb_lex::{Kind, Token};
 use fb_tree::{BlockTree, BodyTree};
 use fb_words::{ElemType, Mark, TYPES};
@@ -88,7 +88,7 @@ fn operand(block: Option<&BlockTree>, token: Option<&Token>) -> Option<Option<El
 /// The types of the two operands of an operator, where each is one token and nothing else stands beside it.
 pub fn operands(
     block: Option<&BlockTree>,
-    place: Place<'_>,
+    place: Cursor<'_>,
 ) -> Option<(Option<ElemType>, Option<ElemType>)> {
     if is_edge(place.before(2)) && is_edge(place.behind(2)) {
         Some((
@@ -116,7 +116,7 @@ fn wider(one: Option<ElemType>, other: Option<ElemType>) -> Option<ElemType> {
 }
 
 /// The type of the expression that begins behind a place; nothing where it is of numbers alone. Indices, and what conversions convert, do not count.
-pub fn expression_type(block: Option<&BlockTree>, place: Place<'_>) -> Option<ElemType> {
+pub fn expression_type(block: Option<&BlockTree>, place: Cursor<'_>) -> Option<ElemType> {
     let mut found = None;
     let mut skipped: usize = 0;
     let mut is_conversion = false;

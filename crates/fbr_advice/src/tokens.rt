@@ -22,13 +22,18 @@ pub fn name_of(token: Option<&Token>) -> Option<&str> {
 
 /// The index of the token that begins at a byte or behind it; how many there are where none does.
 pub fn index_at(tokens: &[Token], at: usize) -> usize {
-    let mut index: usize = 0;
-    for token in tokens {
-        if token.start < at {
-            index = index.saturating_add(1);
+    let mut low: usize = 0;
+    let mut high: usize = tokens.len();
+    for _ in 0..64 {
+        if low < high {
+            let middle = low.saturating_add(high.saturating_sub(low) / 2);
+            match tokens.get(middle) {
+                Some(token) if token.start < at => low = middle.saturating_add(1),
+                _ => high = middle,
+            }
         }
     }
-    index
+    low
 }
 
 /// What closes what a sign or a word opens; nothing where it opens nothing.

@@ -37,14 +37,26 @@ impl Wanted {
     }
 }
 
-/// A token of a text.
+impl Wanted {
+    /// How it is said that something is none.
+    pub fn denied(self) -> &'static str {
+        match self {
+            Wanted::EventInput | Wanted::EventOutput | Wanted::Instance | Wanted::Algorithm => {
+                ", not an "
+            }
+            _ => ", not a ",
+        }
+    }
+}
+
+/// A token of a text, among all its tokens.
 #[derive(Clone, Copy)]
-pub struct Place<'a> {
+pub struct Cursor<'a> {
     pub tokens: &'a [Token],
     pub index: usize,
 }
 
-impl<'a> Place<'a> {
+impl<'a> Cursor<'a> {
     /// The token itself, or the one that stands so many tokens before.
     pub fn before(self, count: usize) -> Option<&'a Token> {
         self.tokens.get(self.index.checked_sub(count)?)
@@ -53,6 +65,16 @@ impl<'a> Place<'a> {
     /// The token that stands so many tokens behind.
     pub fn behind(self, count: usize) -> Option<&'a Token> {
         self.tokens.get(self.index.saturating_add(count))
+    }
+
+    /// The name that is assigned by the `:=` that stands there, of an array where an element is.
+    pub fn target(self) -> Option<&'a Token> {
+        let last = self.before(1)?;
+        if !matches!(mark_of(Some(last)), Some(Mark::RBracket)) {
+            return Some(last);
+        }
+        let open = open_before(self.tokens, self.index.checked_sub(1)?)?;
+        self.tokens.get(open.checked_sub(1)?)
     }
 
     /// The word that begins the section in which it stands, and whether it stands in brackets or parentheses there.

@@ -2,11 +2,12 @@
 
 use fbr::{command, input_named};
 use fbr_cases_language::{Case, ended};
-use fbr_files::{ReadFault, Sources};
+use fbr_files::{Keep, ReadFault, Sources};
 use fbr_tell::paint;
 use std::alloc::{AllocError, Global};
 use std::io;
 use std::net::Net;
+use std::random::RandomSource;
 use std::rt::Clock;
 
 // The bytes of a text. The character that a section `byte 255` holds stands for that byte.
@@ -37,6 +38,20 @@ fn plain(name: &str) -> &str {
     name.strip_prefix("./").unwrap_or(name)
 }
 
+// A file in which a text is kept while a device runs, which a case does not show.
+#[derive(Clone, Copy)]
+struct Unshown;
+
+impl Keep for Unshown {
+    ghost use Rattle.std.specs.Prelude.{None};
+
+    ghost held = { λ _. None };
+
+    fn put(&mut self, _text: &[u8]) -> bool {
+        true
+    }
+}
+
 impl Sources for Held<'_, '_> {
     ghost use Rattle.std.specs.Prelude.{None};
 
@@ -47,6 +62,8 @@ impl Sources for Held<'_, '_> {
     type Reader = io::Cursor<Vec<u8>>;
 
     type Writer = Vec<u8>;
+
+    type Keeper = Unshown;
 
     fn read(&self, alloc: Global, name: &str) -> Result<Vec<u8>, ReadFault> {
         if name == "-" {
@@ -76,6 +93,15 @@ impl Sources for Held<'_, '_> {
         self.written.extend_from_slice(line.as_bytes())?;
         self.written.extend_from_slice(text)?;
         Ok(())
+    }
+
+    // All may read what stands in the folder `open`.
+    fn is_private(&self, name: &str) -> bool {
+        !name.starts_with("open/") && self.read(self.alloc, name).is_ok()
+    }
+
+    fn keeper(&self, _alloc: Global, _name: &str) -> Result<Unshown, AllocError> {
+        Ok(Unshown)
     }
 
     fn open(&self, name: &str) -> io::Result<io::Cursor<Vec<u8>>> {
@@ -132,7 +158,7 @@ fn shown(alloc: Global, case: &Case<'_>, told: &[u8]) -> Result<String, AllocErr
 
 /// The status of a command and what it prints, the files that it writes behind what it prints on standard output, and standard error behind that: its words stand in the section `words`, its standard input in `input`, its files in
 /// a section `file NAME` each, and in `room`, where it is given, how many bytes its output takes before it fails.
-pub fn commands<R: AllocGlobal + Clock + Net>(
+pub fn commands<R: AllocGlobal + Clock + Net + RandomSource>(
     rt: &R,
     case: &Case<'_>,
 ) -> Result<String, AllocError> {

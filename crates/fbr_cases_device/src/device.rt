@@ -4,7 +4,7 @@ use fb_device::{
     Answer, Device, Dispatched, Effect, Opening, Ready, Refusal, Step, load, load_boot, load_from,
 };
 use fb_script::tell;
-use fb_wire::encode;
+use fb_wire::{Stamp, encode};
 use fbr_cases_language::{Case, ended, refused, text_of};
 use std::alloc::{AllocError, Global};
 use std::fmt::Write;
@@ -184,9 +184,11 @@ pub(crate) fn loaded(
         return load_from(alloc, text, certificate, name, first);
     }
     let (boot, next) = halves(rest);
-    let boot = boot.parse::<u32>().unwrap_or(0);
-    let next = next.parse::<u32>().unwrap_or(1);
-    load_boot(alloc, text, certificate, name, first, boot, next)
+    let stamp = Stamp {
+        boot: boot.parse::<u32>().unwrap_or(0),
+        sequence: next.parse::<u32>().unwrap_or(1),
+    };
+    load_boot(alloc, text, certificate, name, first, stamp)
 }
 
 /// What a device answers to the lines of the section `rounds` at the last time, whose first line says how often, and to those of `calls`.

@@ -3,11 +3,11 @@
 use crate::meaning::Meaning;
 use crate::reading::Reading;
 use fbr_faults::Fault;
-use fbr_needs::{Counts, Missing, Queue, RangeLink, RangeStart, Step, Sum};
+use fbr_needs::{Counts, Flood, Missing, Queue, RangeLink, RangeStart, Step, Sum};
 use fbr_places::{Located, Named};
 use std::alloc::Global;
 
-/// Two texts that a diagnosis is of: an application, and a certificate; and whether the finder is asked for numbers and ranges too.
+/// Two texts that a diagnosis is of: an application, and a certificate; and whether the finder is asked for numbers and narrower ranges too.
 #[derive(Clone, Copy)]
 pub struct Asked<'a> {
     pub alloc: Global,
@@ -16,13 +16,24 @@ pub struct Asked<'a> {
     pub is_searched: bool,
 }
 
+/// What is said of a place of a text.
+#[derive(Drop)]
+pub struct Advised {
+    /// What was found, and what could stand there: a sentence a line.
+    pub said: String,
+    /// What to do about this mistake; empty where no more is known than its number says.
+    pub remedy: String,
+    /// Whether the first sentence says it already.
+    pub is_plain: bool,
+}
+
 /// What is needed at a place, and what is there.
 #[derive(Drop)]
 pub enum Finding<'a> {
     /// Nothing more than the number says.
     Nothing,
-    /// Sentences on a text: what was found, and what could stand there.
-    Advice(String),
+    /// What is said of a place of a text.
+    Advice(Advised),
     /// The text of a certificate is that of an application.
     Swapped,
     /// A statement or an operation.
@@ -37,7 +48,9 @@ pub enum Finding<'a> {
     Link(RangeLink<'a>),
     /// A row that is missing.
     Missing(Missing<'a>),
-    /// Places of which each asks for the next.
+    /// An arrival that becomes more events than a queue can hold.
+    Flood(Flood),
+    /// Places of which each triggers the next.
     Walk(Vec<Step<'a>>),
 }
 
@@ -65,6 +78,15 @@ impl<'a> Diagnosis<'a> {
         match &self.finding {
             Finding::Walk(steps) => steps.as_slice(),
             _ => &[],
+        }
+    }
+
+    /// What to do: about this mistake, or else what its number says; empty where there is nothing.
+    pub fn remedy(&self) -> &str {
+        match (&self.finding, self.meaning) {
+            (Finding::Advice(advised), _) if !advised.remedy.is_empty() => advised.remedy.as_str(),
+            (_, Some(meaning)) => meaning.remedy,
+            _ => "",
         }
     }
 }

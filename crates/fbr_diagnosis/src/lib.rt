@@ -3,19 +3,23 @@
 #![tactic(auto)]
 
 mod diagnosis;
+mod heard;
 mod inner;
 mod meaning;
 mod notes;
+mod paths;
 mod place;
 mod reading;
+mod returning;
 mod text;
 mod unbound;
 mod verdict;
 mod wrapped;
 
-pub use diagnosis::{Asked, Diagnosis, Finding};
+pub use diagnosis::{Advised, Asked, Diagnosis, Finding};
 pub use meaning::{Meaning, found_limit, meaning_of};
 pub use notes::notes_of;
+pub use place::byte_in;
 pub use reading::Reading;
 pub use unbound::diagnose_unbound;
 pub use verdict::diagnose;

@@ -128,8 +128,8 @@ pub fn meaning_of(code: u8) -> Option<Meaning> {
             "raise the number",
         ),
         43 => said(
-            "each of these states, events and (with `--repeats`) channels asks for the next, and one of them costs a step: an event that comes to one of them never ends, so no certificate fits, or with `--repeats` none with a row REPEATS",
-            "break the walk: a transition that waits for an event, or an output that is not led back; an E_DELAY ends the walk as well",
+            "an event may go round these places again: each of these states, events and (with `--repeats`) channels triggers the next, and one of them costs a step. The order in which charts go through their states is not looked at, so this also refuses a round that ends by itself, as that of a sequence which waits for its axis. No certificate fits, or with `--repeats` none with a row REPEATS",
+            "break the cycle: let a transition wait for an event from outside, or do not lead the output back; or lead the event through an `E_DELAY(DT := T#0ms)`, which makes each round an event of its own (`examples/handshake`). A START while that delay is armed is swallowed, so use it for one confirm at a time: a client that asks twice at once waits for ever",
         ),
         44 => said(
             "under the ranges that variables can reach it may divide by 0, index past an array or leave the range of a variable",
@@ -137,7 +137,10 @@ pub fn meaning_of(code: u8) -> Option<Meaning> {
         ),
         50 => said("the device has no INPUT of this number", ""),
         51 => said("another number of values than the INPUT has", ""),
-        52 => said("value i, counted from 1, does not fit its type", ""),
+        52 => said(
+            "value i, counted from 1, does not fit its type: BOOL has 0 and 1; SINT -128 to 127, INT -32,768 to 32,767, DINT -2^31 to 2^31 - 1; USINT 0 to 255, UINT 0 to 65,535, UDINT 0 to 2^32 - 1",
+            "",
+        ),
         53 => said(
             "the arrival needs N places of the queue, and F are not held by causes that have not ended: dispatch, and offer again",
             "",
@@ -159,7 +162,7 @@ pub fn meaning_of(code: u8) -> Option<Meaning> {
         ),
         60 => said(
             "this line of the script is no call, or names a device, a resource, a datagram or a root that is not there, or a number does not fit",
-            "mend the line; what stands before it has run",
+            "in a script compare the line with the five forms, `offer DEVICE INPUT VALUE ..`, `deliver DATAGRAM DEVICE`, `tick DEVICE MILLISECONDS`, `dispatch DEVICE RESOURCE` and `root NUMBER`: a word that is none of these five, too few words or too many, a number that is none; then its names with those of the text, and the numbers of datagrams and roots with those that were answered before. The lines before it have run. Standard error says which of these it was",
         ),
         61 => said(
             "not readable, no UTF-8, or more than 33,554,432 bytes",
@@ -170,7 +173,7 @@ pub fn meaning_of(code: u8) -> Option<Meaning> {
             "take another port, or end the other program",
         ),
         63 => said(
-            "the words are no command; `--repeats` or `--room` is given no number of 1 to 255; `fbr draw --chart` is given no basic block type of the text; an address of `fbr serve` is none, or has no port of 1 to 65535; it is given more than 64 peers or senders, a number that is too large, or a boot twice",
+            "the words are no command; `--repeats` or `--room` is given no number of 1 to 255; `--repeats` stands beside a certificate, which has a row REPEATS of its own; a file or `--repeats` stands beside a number that is explained; `fbr draw --chart` is given no basic block type of the text; an address of `fbr serve` is none, or has no port of 1 to 65535; it is given more than 64 peers or senders, a number that is too large, or a boot twice",
             "`fbr --help`",
         ),
         64 => said(

@@ -12,7 +12,7 @@ use fb_ranges::Ranges;
 use fb_types::Typed;
 use fbr_faults::Fault;
 use fbr_leaves::{System, block_in};
-use fbr_needs::steps_of;
+use fbr_needs::{Grounds, flood_of, steps_of};
 use fbr_places::{Declared, Located, declared_at};
 use std::alloc::{AllocError, Global};
 
@@ -59,21 +59,19 @@ fn found_fault(
     Ok(None)
 }
 
-// What is at fault with a range: the statement, where the finder is asked.
+// What is at fault with a range: the statement.
 fn range_finding<'a>(
-    asked: Asked<'_>,
+    alloc: Global,
     flat: Option<&Flat>,
     declared: Option<Declared<'_>>,
     path: &str,
 ) -> Result<Finding<'a>, AllocError> {
-    match (flat, declared) {
-        (Some(flat), Some(declared)) if asked.is_searched => {
-            match found_fault(asked.alloc, flat, declared, path)? {
-                Some(fault) => Ok(Finding::Wrong(fault)),
-                None => Ok(Finding::Nothing),
-            }
-        }
-        _ => Ok(Finding::Nothing),
+    let (Some(flat), Some(declared)) = (flat, declared) else {
+        return Ok(Finding::Nothing);
+    };
+    match found_fault(alloc, flat, declared, path)? {
+        Some(fault) => Ok(Finding::Wrong(fault)),
+        None => Ok(Finding::Nothing),
     }
 }
 
@@ -117,19 +115,30 @@ fn made<'a>(
     }
 }
 
-// The diagnosis of a closed walk.
+// The diagnosis of a closed walk: it stands where its first place leads to the next.
 fn diagnose_walk<'a>(
     asked: Asked<'a>,
     reason: &NoBound,
     places: &'a [Place],
-    flat: Option<&'a Flat>,
+    system: &'a System,
     reading: &'a Reading,
 ) -> Result<Diagnosis<'a>, AllocError> {
-    let finding = match flat {
-        Some(flat) => Finding::Walk(steps_of(asked.alloc, flat, places)?),
-        None => Finding::Nothing,
+    let Some(flat) = &system.flat else {
+        return Ok(made(reason, None, Finding::Nothing, None, reading));
     };
-    Ok(made(reason, None, finding, None, reading))
+    let grounds = Grounds {
+        app: asked.app,
+        file: system.file(),
+        flat,
+    };
+    let steps = steps_of(asked.alloc, grounds, places)?;
+    let mut place = None;
+    for step in &steps {
+        if place.is_none() {
+            place = step.at;
+        }
+    }
+    Ok(made(reason, place, Finding::Walk(steps), None, reading))
 }
 
 // The diagnosis of a range that is not clear.
@@ -144,7 +153,7 @@ fn diagnose_range<'a>(
         Some(_) => declared_at(system.file(), path),
         None => None,
     };
-    let finding = range_finding(asked, system.flat.as_ref(), declared, path)?;
+    let finding = range_finding(asked.alloc, system.flat.as_ref(), declared, path)?;
     let at = match (&finding, declared) {
         (Finding::Wrong(fault), _) => Some(fault.at),
         (_, Some(declared)) => Some(declared.at()),
@@ -158,6 +167,32 @@ fn diagnose_range<'a>(
     Ok(made(reason, place, finding, is_narrower, reading))
 }
 
+// What is above a limit in a resource: the arrival that becomes too many events, if there is one.
+fn limit_finding<'a>(
+    alloc: Global,
+    system: &System,
+    path: &str,
+) -> Result<Finding<'a>, AllocError> {
+    let Some(flat) = &system.flat else {
+        return Ok(Finding::Nothing);
+    };
+    match flood_of(alloc, flat, path)? {
+        Some(flood) => Ok(Finding::Flood(flood)),
+        None => Ok(Finding::Nothing),
+    }
+}
+
+// The path that a limit is told at: of the arrival of a flood, or else of the resource.
+fn limit_path<'a>(finding: &'a Finding<'_>, path: &'a str) -> &'a str {
+    match finding {
+        Finding::Flood(flood) => match flood.chain.first() {
+            Some(link) => link.path.as_str(),
+            None => path,
+        },
+        _ => path,
+    }
+}
+
 // The diagnosis of a resource that is above a limit.
 fn diagnose_limit<'a>(
     asked: Asked<'a>,
@@ -165,12 +200,13 @@ fn diagnose_limit<'a>(
     path: &str,
     system: &'a System,
     reading: &'a Reading,
-) -> Diagnosis<'a> {
-    let place = match declared_at(system.file(), path) {
+) -> Result<Diagnosis<'a>, AllocError> {
+    let finding = limit_finding(asked.alloc, system, path)?;
+    let place = match declared_at(system.file(), limit_path(&finding, path)) {
         Some(declared) => asked.app.at_byte(declared.at()),
         None => None,
     };
-    made(reason, place, Finding::Nothing, None, reading)
+    Ok(made(reason, place, finding, None, reading))
 }
 
 /// Why there is no certificate of a system that was read, where that stands in the application's text, and what to do.
@@ -183,11 +219,9 @@ pub fn diagnose_unbound<'a>(
         return Ok(made(reason, None, Finding::Nothing, None, reading));
     };
     match reason {
-        NoBound::Cycle(places) => {
-            diagnose_walk(asked, reason, places, system.flat.as_ref(), reading)
-        }
+        NoBound::Cycle(places) => diagnose_walk(asked, reason, places, system, reading),
         NoBound::NoRange(path) => diagnose_range(asked, reason, path.as_str(), system, reading),
-        NoBound::Limit(path) => Ok(diagnose_limit(asked, reason, path.as_str(), system, reading)),
+        NoBound::Limit(path) => diagnose_limit(asked, reason, path.as_str(), system, reading),
         NoBound::OutOfMemory => Ok(made(reason, None, Finding::Nothing, None, reading)),
     }
 }

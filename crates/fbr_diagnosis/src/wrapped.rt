@@ -1,81 +1,239 @@
-//! Notes on arithmetic that may wrap.
+//! Notes on arithmetic that may wrap, and on guards that never hold.
 
+use crate::paths::Paths;
 use fb_check_ranges::block_rows;
-use fb_flat::{Leaf, joined};
-use fb_ranges::Ranges;
-use fb_tree::{BodyTree, ChartTree};
-use fb_types_blocks::Block;
+use fb_flat::{Leaf, Source};
+use fb_ranges::{Interval, Ranges, copied};
+use fb_ranges_intervals::whole;
+use fb_tree::{AlgorithmTree, BlockTree, BodyTree, ChartTree};
+use fb_types_blocks::{Block, Variables};
 use fb_verified::Verified;
-use fb_words::Mark;
-use fbr_advice::noted::{NoteKind, Noting, Page};
+use fb_words::{ElemType, Mark};
 use fbr_advice::tokens::{index_at, mark_of, put_spelled};
-use fbr_faults::{Wrap, algorithm_wraps, guard_wraps};
+use fbr_faults::{Wrap, algorithm_wraps, guard_can_hold, guard_wraps};
 use fbr_leaves::block_in;
-use fbr_places::{Declared, declared_at};
-use std::alloc::AllocError;
+use fbr_notes::noted::{NoteKind, Noting, Page};
+use fbr_places::Writing;
+use indexmap::{IndexMap, IndexSet};
+use std::alloc::{AllocError, Global};
 
 // So many are told, and so many of those whose operands have all numbers of a type.
 const TOLD: usize = 15;
 
 const VAGUE: usize = 4;
 
-// Notes what may wrap in the guards of a chart.
-fn chart_wraps(
+// What was found in all instances: operations that may wrap, by the bytes at which they stand; whether a guard can hold, by that of its `[`; and the types that were
+// examined, with the ranges of their variables.
+#[derive(Drop)]
+struct Found {
+    wraps: IndexMap<usize, Wrap>,
+    guards: IndexMap<usize, bool>,
+    examined: IndexSet<String>,
+}
+
+impl Found {
+    // Notes operations. One that is noted before, in another instance, goes on with it.
+    fn add_wraps(&mut self, wraps: &[Wrap]) -> Result<(), AllocError> {
+        for wrap in wraps {
+            let all = match self.wraps.get(&wrap.at) {
+                Some(other) => Wrap {
+                    low: wrap.low.min(other.low),
+                    high: wrap.high.max(other.high),
+                    is_vague: wrap.is_vague && other.is_vague,
+                    ..*wrap
+                },
+                None => *wrap,
+            };
+            self.wraps.insert(wrap.at, all)?;
+        }
+        Ok(())
+    }
+
+    // Notes whether a guard can hold in an instance.
+    fn add_guard(&mut self, at: usize, can_hold: bool) -> Result<(), AllocError> {
+        let before = match self.guards.get(&at) {
+            Some(held) => *held,
+            None => false,
+        };
+        self.guards.insert(at, before || can_hold)?;
+        Ok(())
+    }
+}
+
+// Notes what is so of the guards of a chart: where they may wrap under its rows, and whether they can hold under those in which parameters are free.
+fn chart_found(
+    page: Page<'_>,
     chart: &ChartTree,
     block: &Block,
     rows: &Ranges,
-    found: &mut Vec<Wrap>,
+    freed: &Ranges,
+    found: &mut Found,
 ) -> Result<(), AllocError> {
+    let mut wraps = Vec::new(page.alloc);
     for (source, transition) in chart.transitions.iter().zip(&block.transitions) {
         if let (Some(told), Some(guard)) = (&source.guard, &transition.guard) {
-            guard_wraps(&told.condition, guard, rows, found)?;
+            guard_wraps(&told.condition, guard, rows, &mut wraps)?;
+            let can_hold = guard_can_hold(page.alloc, guard, freed)?;
+            found.add_guard(told.at, can_hold)?;
+        }
+    }
+    found.add_wraps(&wraps)
+}
+
+// Notes what is so in the algorithms of a basic block.
+fn block_found(
+    page: Page<'_>,
+    chart: &ChartTree,
+    block: &Block,
+    rows: &Ranges,
+    found: &mut Found,
+) -> Result<(), AllocError> {
+    let alloc = page.alloc;
+    let mut trees: IndexMap<String, &AlgorithmTree> = IndexMap::new(alloc);
+    for tree in &chart.algorithms {
+        trees.insert(tree.name.text.clone()?, tree)?;
+    }
+    for (name, algo) in &block.procedures {
+        if let Some(tree) = trees.get(name.as_str()) {
+            let mut wraps = Vec::new(alloc);
+            algorithm_wraps(alloc, &tree.body, algo, rows, &mut wraps)?;
+            found.add_wraps(&wraps)?;
         }
     }
     Ok(())
 }
 
-// Notes what may wrap in a basic block: in its algorithms, and in its guards beside its first state.
-fn block_wraps(
-    page: Page<'_>,
-    leaf: &Leaf,
+// Writes the ranges of variables.
+fn put_rows(variables: &Variables, rows: &Ranges, writing: &mut Writing) {
+    for (name, _) in variables {
+        let row = rows.find(name.as_str());
+        writing.put(" ");
+        writing.show(&row.low);
+        writing.put(" ");
+        writing.show(&row.high);
+    }
+}
+
+// A block type with the ranges of its variables, as a text: what is so in one instance is so in all that have the same.
+fn key_of(
+    alloc: Global,
+    tree: &BlockTree,
     block: &Block,
     rows: &Ranges,
-    found: &mut Vec<Wrap>,
-) -> Result<(), AllocError> {
-    let alloc = page.alloc;
-    let path = leaf.path.as_str();
-    for (name, algo) in &block.procedures {
-        let own = joined(alloc, path, name.as_str())?;
-        if let Some(Declared::Algorithm(_, tree)) = declared_at(page.types.file, own.as_str()) {
-            algorithm_wraps(alloc, &tree.body, algo, rows, found)?;
-        }
-    }
-    for name in block.states.keys().take(1) {
-        let own = joined(alloc, path, name.as_str())?;
-        if let Some(Declared::State(tree, _)) = declared_at(page.types.file, own.as_str()) {
-            if let BodyTree::Chart(chart) = &tree.body {
-                chart_wraps(chart, block, rows, found)?;
+) -> Result<String, AllocError> {
+    let mut writing = Writing::new(alloc);
+    writing.put(tree.name.text.as_str());
+    put_rows(&block.face.inputs, rows, &mut writing);
+    put_rows(&block.face.outputs, rows, &mut writing);
+    put_rows(&block.internals, rows, &mut writing);
+    writing.text()
+}
+
+// Gives each BOOL input that holds a constant this constant: no row says it.
+fn hold_constants(leaf: &Leaf, block: &Block, rows: &mut Ranges) -> Result<(), AllocError> {
+    for input in &leaf.inputs {
+        let name = input.name.as_str();
+        if let (Source::Number(number), Some(variable)) = (
+            &input.source,
+            block.face.inputs.get(name),
+        ) {
+            if matches!(variable.of_type, ElemType::Bool) {
+                let only = Interval {
+                    low: *number,
+                    high: *number,
+                };
+                rows.insert(name, only)?;
             }
         }
     }
     Ok(())
 }
 
-// What may wrap in all basic blocks of what was verified, under the ranges of its certificate.
-fn wraps_in(page: Page<'_>, verified: &Verified) -> Result<Vec<Wrap>, AllocError> {
-    let mut found = Vec::new(page.alloc);
+// Rows in which each input that holds a number has all numbers of its type: a type that serves many is not told for the parameters of one.
+fn freed_rows(leaf: &Leaf, block: &Block, rows: &Ranges) -> Result<Ranges, AllocError> {
+    let mut freed = copied(rows)?;
+    for input in &leaf.inputs {
+        let name = input.name.as_str();
+        if let (Source::Number(_), Some(variable)) = (&input.source, block.face.inputs.get(name)) {
+            if !matches!(variable.of_type, ElemType::Bool) {
+                freed.insert(name, whole(variable.of_type))?;
+            }
+        }
+    }
+    Ok(freed)
+}
+
+// Notes what is so in a leaf, if it is a basic block of the text, and none of its type with the same ranges was examined before.
+fn leaf_found(
+    page: Page<'_>,
+    paths: &Paths<'_>,
+    verified: &Verified,
+    leaf: &Leaf,
+    found: &mut Found,
+) -> Result<(), AllocError> {
+    let path = leaf.path.as_str();
+    let (Some(block), Some(instance)) = (block_in(leaf), paths.instance(page.alloc, path)?) else {
+        return Ok(());
+    };
+    let Some(tree) = page.own(instance.of_type.text.as_str()) else {
+        return Ok(());
+    };
+    let BodyTree::Chart(chart) = &tree.body else {
+        return Ok(());
+    };
+    let mut rows = block_rows(page.alloc, verified.certificate(), path, block)?;
+    hold_constants(leaf, block, &mut rows)?;
+    let key = key_of(page.alloc, tree, block, &rows)?;
+    if found.examined.contains(key.as_str()) {
+        return Ok(());
+    }
+    found.examined.insert(key)?;
+    block_found(page, chart, block, &rows, found)?;
+    let freed = freed_rows(leaf, block, &rows)?;
+    chart_found(page, chart, block, &rows, &freed, found)
+}
+
+// What is so in all basic blocks of what was verified, under the ranges of its certificate.
+fn all_found(page: Page<'_>, paths: &Paths<'_>, verified: &Verified) -> Result<Found, AllocError> {
+    let mut found = Found {
+        wraps: IndexMap::new(page.alloc),
+        guards: IndexMap::new(page.alloc),
+        examined: IndexSet::new(page.alloc),
+    };
     for device in &verified.flat().devices {
         for resource in &device.resources {
             for leaf in &resource.leaves {
-                if let Some(block) = block_in(leaf) {
-                    let certificate = verified.certificate();
-                    let rows = block_rows(page.alloc, certificate, leaf.path.as_str(), block)?;
-                    block_wraps(page, leaf, block, &rows, &mut found)?;
-                }
+                leaf_found(page, paths, verified, leaf, &mut found)?;
             }
         }
     }
     Ok(found)
+}
+
+// Writes the notes on guards that hold in no instance.
+fn note_guards(found: &Found, notes: &mut Noting) {
+    for (at, can_hold) in &found.guards {
+        if !*can_hold {
+            notes.begin(NoteKind::GuardNeverHolds, *at);
+            notes.put(
+                "this guard is FALSE under the ranges of the certificate",
+                "",
+                "",
+                "",
+            );
+        }
+    }
+}
+
+// The operations that may wrap and are not silenced.
+fn wraps_told(page: Page<'_>, found: &Found) -> Result<Vec<Wrap>, AllocError> {
+    let mut told = Vec::new(page.alloc);
+    for (at, wrap) in &found.wraps {
+        if !page.quiet.is_quiet(NoteKind::ArithmeticMayWrap, *at) {
+            told.push(*wrap)?;
+        }
+    }
+    Ok(told)
 }
 
 // What an operation is in the text: its operands, with their parentheses, and the operator between them; or the operator alone where that takes more than a line.
@@ -167,14 +325,18 @@ fn note_some(
     most
 }
 
-/// Adds the notes on arithmetic that may wrap, last those on operations of which an operand has all numbers of its type; and tells how many more there are.
+/// Adds the notes on guards that never hold, and on arithmetic that may wrap, last those on operations of which an operand has all numbers of its type; and tells how many
+/// more of these there are.
 pub fn note_wraps(
     page: Page<'_>,
+    paths: &Paths<'_>,
     verified: &Verified,
     notes: &mut Noting,
 ) -> Result<usize, AllocError> {
-    let found = wraps_in(page, verified)?;
-    let told = note_some(page, &found, false, TOLD, notes);
-    let vague = note_some(page, &found, true, VAGUE, notes);
-    Ok(found.len().saturating_sub(told).saturating_sub(vague))
+    let found = all_found(page, paths, verified)?;
+    note_guards(&found, notes);
+    let wraps = wraps_told(page, &found)?;
+    let told = note_some(page, &wraps, false, TOLD, notes);
+    let vague = note_some(page, &wraps, true, VAGUE, notes);
+    Ok(wraps.len().saturating_sub(told).saturating_sub(vague))
 }

@@ -61,14 +61,15 @@ fn times_of(sheet: &Sheet<'_>, channel: &Channel) -> Option<u8> {
     Some(admitted(sheet.picture.certificate?.repeats()?, channel))
 }
 
-// Ends an edge from a channel to where it is received, in red if a walk goes along it, with how often each datagram may be admitted.
+// Ends an edge from a channel to where it is received, in red if a walk goes along it, with how often each datagram may be admitted at its head: for a label in the
+// middle graphviz makes a place of its own, and then does not find places for all devices of some systems.
 fn end_received(times: Option<u8>, is_walked: bool, writing: &mut Writing) {
     let Some(times) = times else {
         writing.put(end_of_edge(is_walked));
         writing.put("\n");
         return;
     };
-    writing.put(" [label=\"×");
+    writing.put(" [headlabel=\"×");
     writing.show(&times);
     writing.put("\", fontname=\"Helvetica\", fontsize=8");
     writing.put(if is_walked { ", color=red];\n" } else { "];\n" });
@@ -87,7 +88,7 @@ fn draw_received(
     writing.show(&from);
     writing.put(" -> n");
     writing.show(&number);
-    writing.put(":head");
+    writing.put(":head:w");
     let is_walked = leaves_channel(sheet.picture.walk, from, leaf.path.as_str());
     end_received(times_of(sheet, channel), is_walked, writing);
 }

@@ -30,22 +30,62 @@ pub fn close_title(writing: &mut Writing) {
     writing.put("    </TABLE>\n  >;\n");
 }
 
-/// Writes a line of a legend in a colour.
-pub fn write_note(color: &str, note: &str, writing: &mut Writing) {
+// Begins a line of a legend in a colour.
+fn open_note(color: &str, writing: &mut Writing) {
     writing.put("      <TR><TD ALIGN=\"LEFT\"><FONT POINT-SIZE=\"9\" COLOR=\"");
     writing.put(color);
     writing.put("\">");
-    writing.put(note);
+}
+
+// Ends a line of a legend.
+fn close_note(writing: &mut Writing) {
     writing.put("</FONT></TD></TR>\n");
 }
 
+/// Writes a line of a legend in a colour.
+pub fn write_note(color: &str, note: &str, writing: &mut Writing) {
+    open_note(color, writing);
+    writing.put(note);
+    close_note(writing);
+}
+
+/// Writes for which refusal the numbers of a certificate are no bounds, or for which one there are none, if that is so.
+pub fn write_refused(
+    alloc: Global,
+    picture: &Picture<'_>,
+    writing: &mut Writing,
+) -> Result<(), AllocError> {
+    let Some(refused) = picture.refused else {
+        return Ok(());
+    };
+    let refused = shown(alloc, refused)?;
+    open_note("red", writing);
+    match picture.certificate {
+        Some(_) => {
+            writing.put("not accepted: ");
+            writing.put(refused.as_str());
+            writing.put("; the numbers are those of the certificate, and no bounds");
+        }
+        None => {
+            writing.put("no numbers, since there is no certificate: ");
+            writing.put(refused.as_str());
+        }
+    }
+    close_note(writing);
+    Ok(())
+}
+
 // Writes what the numbers of a certificate mean.
-fn write_numbers(certificate: &Certificate, writing: &mut Writing) {
-    write_note(
-        "gray40",
-        "at an event: steps / places in the queue, the most that it causes on its device with all that follows",
-        writing,
-    );
+fn write_numbers(certificate: &Certificate, is_refused: bool, writing: &mut Writing) {
+    let note = if is_refused {
+        "at an event: steps / places in the queue, as the certificate says them"
+    } else {
+        "at an event: steps / places in the queue, the most that it causes on its device with all that follows"
+    };
+    write_note("gray40", note, writing);
+    if is_refused {
+        return;
+    }
     if let Some(_) = certificate.repeats() {
         write_note(
             "gray40",
@@ -61,7 +101,7 @@ pub fn write_walk(picture: &Picture<'_>, writing: &mut Writing) {
         return;
     }
     let note =
-        "red: each asks for the next, and one of them costs a step, so that no certificate fits";
+        "red: each triggers the next, and one of them costs a step, so that no certificate fits";
     write_note("red", note, writing);
 }
 
@@ -78,8 +118,9 @@ pub fn write_legend(
         "solid: events; dashed: data; dotted: datagrams; grey: a port without a connection",
         writing,
     );
+    write_refused(alloc, picture, writing)?;
     match picture.certificate {
-        Some(certificate) => write_numbers(certificate, writing),
+        Some(certificate) => write_numbers(certificate, picture.refused.is_some(), writing),
         None => write_walk(picture, writing),
     }
     close_title(writing);

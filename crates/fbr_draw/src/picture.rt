@@ -17,6 +17,8 @@ pub struct Picture<'a> {
     pub file: &'a FileTree,
     /// The certificate whose weights stand at event inputs and arrivals.
     pub certificate: Option<&'a Certificate>,
+    /// For which refusal the certificate's weights are no bounds, or for which one there is no certificate, as its line says it.
+    pub refused: Option<&'a str>,
     /// The places of a walk, drawn in red.
     pub walk: &'a [Step<'a>],
     /// Whether composites are drawn as boxes around what they are made of.

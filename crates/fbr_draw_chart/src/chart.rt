@@ -6,7 +6,7 @@ use crate::state::draw_state;
 use crate::transition::draw_transitions;
 use fb_cert::Certificate;
 use fb_tree::{BlockTree, BodyTree, ChartTree, FileTree};
-use fbr_draw::{Picture, close_title, open_title, write_note, write_walk};
+use fbr_draw::{Picture, close_title, open_title, write_note, write_refused, write_walk};
 use fbr_places::Writing;
 use std::alloc::{AllocError, Global};
 
@@ -41,13 +41,18 @@ fn write_defaults(writing: &mut Writing) {
 }
 
 // Writes what the numbers of a certificate mean.
-fn write_charges(certificate: &Certificate, writing: &mut Writing) {
+fn write_charges(certificate: &Certificate, is_refused: bool, writing: &mut Writing) {
     let note = match certificate.repeats() {
         Some(_) => {
             "below a state: steps / places in the queue, the most that entering it costs in an instance; far: steps on all devices"
         }
         None =>
             "below a state: steps / places in the queue, the most that entering it costs in an instance",
+    };
+    let note = if is_refused {
+        "below a state: steps / places in the queue, as the certificate says them"
+    } else {
+        note
     };
     write_note("gray40", note, writing);
 }
@@ -62,8 +67,11 @@ fn write_legend(chart: &Chart<'_>, writing: &mut Writing) -> Result<(), AllocErr
         "double border: the initial state; beside a state: its algorithms and event outputs; 1. 2.: the order in which its transitions are tried",
         writing,
     );
+    write_refused(chart.alloc, chart.picture, writing)?;
     match chart.picture.certificate {
-        Some(certificate) => write_charges(certificate, writing),
+        Some(certificate) => {
+            write_charges(certificate, chart.picture.refused.is_some(), writing);
+        }
         None => write_walk(chart.picture, writing),
     }
     close_title(writing);

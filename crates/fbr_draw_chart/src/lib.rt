@@ -1,4 +1,4 @@
-//! Room: program. What `fbr draw --chart` writes: the execution control chart of a block type as a graph in DOT, with charges and walks.
+//! Room: program. What `fbr draw --chart` writes: the execution control chart of a block type as a graph in DOT, with charges and cycles.
 //! No contracts: what it writes is tested.
 #![tactic(auto)]
 

@@ -149,11 +149,12 @@ fn tell_resource(
 }
 
 /// Writes the bounds of what fits: how deep each queue is, what each arrival causes at most, how many of it fit at once and beside which others it has no
-/// room, the range of each variable that is not its whole type, and the channels; and notes on the text. Says whether there are notes.
+/// room, the range of each variable that is not its whole type, and the channels; and notes on the text, but for those whose names are allowed. Says whether there are notes.
 pub fn tell_bounds(
     alloc: Global,
     verified: &Verified,
     app: Named<'_>,
+    allowed: &str,
     writing: &mut Writing,
 ) -> Result<bool, AllocError> {
     for device in &verified.flat().devices {
@@ -162,7 +163,7 @@ pub fn tell_bounds(
         }
     }
     tell_channels(alloc, verified, writing)?;
-    let notes = notes_of(alloc, verified, app)?;
-    tell_notes(app, &notes, writing);
+    let notes = notes_of(alloc, verified, app, allowed)?;
+    tell_notes(alloc, app, &notes, writing)?;
     Ok(!notes.places.is_empty())
 }

@@ -1,6 +1,7 @@
 //! What is needed and what is there, told to people.
 
-use crate::walk::tell_walk;
+use crate::flood::{put_flood, tell_flood};
+use crate::walk::{put_walk, tell_walk};
 use fb_ranges::Interval;
 use fbr_diagnosis::Finding;
 use fbr_faults::{tell_fault, tell_numbers};
@@ -199,20 +200,37 @@ fn first_of(said: &str) -> &str {
 }
 
 /// Writes in one line what was found, if it has a line of its own beside what the number says; and whether it has.
-pub fn tell_lead(finding: &Finding<'_>, counts: Option<Counts>, writing: &mut Writing) -> bool {
+pub fn tell_found(finding: &Finding<'_>, counts: Option<Counts>, writing: &mut Writing) -> bool {
     match finding {
         Finding::Nothing => match counts {
             Some(counts) => put_counts(counts, writing),
             None => return false,
         },
-        Finding::Advice(said) => writing.put(first_of(said.as_str())),
+        Finding::Advice(advised) => writing.put(first_of(advised.said.as_str())),
         Finding::Swapped => writing.put(SWAPPED),
         Finding::Wrong(fault) => tell_fault(fault, writing),
         Finding::Sum(sum) => put_sum(sum, writing),
         Finding::Start(start) => put_start(start, writing),
         Finding::Link(link) => put_link(link, writing),
         Finding::Missing(missing) => put_missing(missing, writing),
-        Finding::Queue(_) | Finding::Walk(_) => return false,
+        Finding::Walk(steps) => return put_walk(steps, writing),
+        Finding::Flood(flood) => return put_flood(flood, writing),
+        Finding::Queue(_) => return false,
+    }
+    true
+}
+
+/// Writes in one line what was found, and what to do about this mistake where that is known; and whether there is such a line.
+pub fn tell_lead(finding: &Finding<'_>, counts: Option<Counts>, writing: &mut Writing) -> bool {
+    if !tell_found(finding, counts, writing) {
+        return false;
+    }
+    match finding {
+        Finding::Advice(advised) if !advised.is_plain && !advised.remedy.is_empty() => {
+            writing.put(": ");
+            writing.put(advised.remedy.as_str());
+        }
+        _ => {}
     }
     true
 }
@@ -237,10 +255,11 @@ fn tell_rest(finding: &Finding<'_>, writing: &mut Writing) {
 pub fn tell_finding(finding: &Finding<'_>, counts: Option<Counts>, writing: &mut Writing) {
     match finding {
         Finding::Nothing => {}
-        Finding::Advice(said) => writing.put(said.as_str()),
+        Finding::Advice(advised) => writing.put(advised.said.as_str()),
         Finding::Walk(steps) => tell_walk(steps, writing),
+        Finding::Flood(flood) => tell_flood(flood, writing),
         _ => {
-            tell_lead(finding, None, writing);
+            tell_found(finding, None, writing);
             tell_rest(finding, writing);
         }
     }

@@ -72,20 +72,12 @@ fn is_whole(r: Interval, of: ElemType) -> bool {
     r.low == of.lowest() && r.high == of.highest()
 }
 
-// Notes an operation, where its result may leave its type. One that is noted before, in another instance, goes on with it.
+// Notes an operation, where its result may leave its type.
 fn add(found: &mut Vec<Wrap>, wrap: Wrap) -> Result<(), AllocError> {
     let low = i128::from(wrap.of_type.lowest());
     let high = i128::from(wrap.of_type.highest());
     if low <= wrap.low && wrap.high <= high {
         return Ok(());
-    }
-    for each in found.iter_mut() {
-        if each.at == wrap.at {
-            each.low = each.low.min(wrap.low);
-            each.high = each.high.max(wrap.high);
-            each.is_vague = each.is_vague && wrap.is_vague;
-            return Ok(());
-        }
     }
     found.push(wrap)?;
     Ok(())

@@ -28,9 +28,18 @@ fn list_wraps(
 ) -> Result<(), AllocError> {
     let mut asked = Ranges::new(all.alloc)?;
     for (i, statement) in list.iter().enumerate() {
-        let mut before = copied(ranges)?;
-        examine_one(all.alloc, all.rows, statement, ranges, &mut asked)?;
-        one_wraps(all, statement, lines.line(i), &mut before, found)?;
+        if matches!(
+            statement,
+            TypedStmt::Set(_, _) | TypedStmt::SetElement(_, _, _, _, _)
+        ) {
+            // It narrows nothing, so no copy is needed.
+            one_wraps(all, statement, lines.line(i), ranges, found)?;
+            examine_one(all.alloc, all.rows, statement, ranges, &mut asked)?;
+        } else {
+            let mut before = copied(ranges)?;
+            examine_one(all.alloc, all.rows, statement, ranges, &mut asked)?;
+            one_wraps(all, statement, lines.line(i), &mut before, found)?;
+        }
     }
     Ok(())
 }

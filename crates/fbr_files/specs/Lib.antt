@@ -3,3 +3,4 @@ pub mod Outcomes
 pub mod Codes
 pub mod Reading
 pub mod Writing
+pub mod Placed

@@ -1,5 +1,5 @@
 -- What came of reading a file: this project's profile.
-use Rattle.std.specs.Prelude.{◌≡◌, ℕ, List, Option, string_bytes}
+use Rattle.std.specs.Prelude.{◌≡◌, ℕ, List, Option, None, Some, string_bytes}
 use Rattle.fbr_files.specs.declared.reading.Held.{Held}
 use Rattle.fbr_files.specs.declared.reading.Held.TheVariants.{Text, NoText, Unread, Memory}
 use Rattle.fbr_files.specs.declared.reading.FileText.{FileText}
@@ -11,6 +11,11 @@ IsRead held (Text text) = IsContents held (string_bytes text)
 IsRead held (NoText bytes) = Unit {0}
 IsRead held Unread = Unit {0}
 IsRead held Memory = Unit {0}
+
+-- what counts as held by the file of an application: the text that is meant by it, where there is one
+abbrev pub held_by : Option (List ℕ) → Option (List ℕ) → Option (List ℕ)
+held_by None held = held
+held_by (Some text) held = Some text
 
 -- a file of this name was read, which held this
 pub record IsFile (name : List ℕ) (held : Option (List ℕ)) (file : FileText) : Type 0 where

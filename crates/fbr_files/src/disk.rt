@@ -3,9 +3,9 @@
 ghost use Rattle.std.specs.Prelude.{None};
 
 use crate::reading::read_whole;
-use crate::sources::{ReadFault, Sources};
+use crate::sources::{Keep, ReadFault, Sources};
 use crate::stream::Stream;
-use std::alloc::Global;
+use std::alloc::{AllocError, Global};
 use std::fs::{Metadata, OpenFile, OpenOptions, Permissions};
 use std::io::{BufReader, ErrorKind, Write};
 use std::os::unix::fs::MetadataExt;
@@ -115,7 +115,35 @@ fn replace_old<R: Files>(
     }
 }
 
-impl<R: Files> Sources for Disk<'_, R> {
+// Puts a text at a name, in place of what stands there.
+fn write_whole<R: Files>(files: &R, alloc: Global, name: &str, text: &[u8]) -> io::Result<()> {
+    match fs::metadata(files, name) {
+        Ok(old) if old.is_file() => replace_old(files, alloc, name, &old, text),
+        Err(error)
+            if error.kind() == ErrorKind::NotFound && fs::symlink_metadata(files, name).is_err() =>
+            { replace(files, alloc, name, None, text) }
+        // A terminal, a pipe or a device is written as it is, and what a link without a file leads to is made.
+        _ => fs::write(files, name, text),
+    }
+}
+
+/// A file of the system whose text is replaced again and again.
+#[derive(Drop)]
+pub struct Kept<'a, R: Files> {
+    rt: &'a R,
+    alloc: Global,
+    name: String,
+}
+
+impl<R: Files> Keep for Kept<'_, R> {
+    ghost held = { λ _. None };
+
+    fn put(&mut self, text: &[u8]) -> bool {
+        write_whole(self.rt, self.alloc, self.name.as_str(), text).is_ok()
+    }
+}
+
+impl<'a, R: Files> Sources for Disk<'a, R> {
     ghost contents = { λ _ _. None };
 
     ghost same = { λ _ _ _. None };
@@ -123,6 +151,8 @@ impl<R: Files> Sources for Disk<'_, R> {
     type Reader = BufReader<R::File>;
 
     type Writer = Stream<R::File>;
+
+    type Keeper = Kept<'a, R>;
 
     fn read(&self, alloc: Global, name: &str) -> Result<Vec<u8>, ReadFault> {
         if name == "-" {
@@ -145,16 +175,24 @@ impl<R: Files> Sources for Disk<'_, R> {
     }
 
     fn write(&mut self, name: &str, text: &[u8]) -> io::Result<()> {
+        write_whole(self.rt, self.alloc, name, text)
+    }
+
+    fn is_private(&self, name: &str) -> bool {
         match fs::metadata(self.rt, name) {
-            Ok(old) if old.is_file() => replace_old(self.rt, self.alloc, name, &old, text),
-            Err(error)
-                if error.kind() == ErrorKind::NotFound
-                    && fs::symlink_metadata(self.rt, name).is_err() => {
-                replace(self.rt, self.alloc, name, None, text)
-            }
-            // A terminal, a pipe or a device is written as it is, and what a link without a file leads to is made.
-            _ => fs::write(self.rt, name, text),
+            Ok(known) => known.mode() & 0o077 == 0,
+            Err(_) => false,
         }
+    }
+
+    fn keeper(&self, alloc: Global, name: &str) -> Result<Kept<'a, R>, AllocError> {
+        let mut own = String::new(alloc);
+        own.push_str(name)?;
+        Ok(Kept {
+            rt: self.rt,
+            alloc,
+            name: own,
+        })
     }
 
     fn open(&self, name: &str) -> io::Result<BufReader<R::File>> {

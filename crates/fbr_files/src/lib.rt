@@ -5,15 +5,17 @@
 mod disk;
 mod fault;
 mod outcome;
+mod placed;
 mod reading;
 mod sources;
 mod stream;
 mod writing;
 
-pub use disk::Disk;
+pub use disk::{Disk, Kept};
 pub use fault::Fault;
 pub use outcome::{print_outcome, print_text};
-pub use reading::{FileText, Held, LIMIT, read_file, read_whole};
-pub use sources::{ReadFault, Sources};
+pub use placed::{Placed, print_placed};
+pub use reading::{FileText, Held, LIMIT, read_app, read_file, read_whole};
+pub use sources::{Keep, ReadFault, Sources};
 pub use stream::Stream;
 pub use writing::{into_another, put_text, write_into};

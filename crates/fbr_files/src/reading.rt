@@ -1,11 +1,12 @@
 //! Texts of files, each of which is read once.
 
-ghost use Rattle.std.specs.Prelude.{◌≡◌, ℕ, List, Option, IfOk, IfSome, take, MatchResult, string_bytes};
+ghost use Rattle.std.specs.Prelude.{◌≡◌, ℕ, List, Option, Some, IfOk, IfSome, take, option_map, MatchResult, string_bytes};
 ghost use Rattle.fbr_files.specs.Outcomes.{IsContents, IsReadFault};
-ghost use Rattle.fbr_files.specs.Reading.{IsRead};
+ghost use Rattle.fbr_files.specs.Reading.{IsRead, held_by};
 
 use crate::fault::Fault;
 use crate::sources::{ReadFault, Sources};
+use fbr_texts::Meant;
 use std::alloc::Global;
 use std::io::{ErrorKind, Read};
 
@@ -25,11 +26,12 @@ pub enum Held {
     Memory,
 }
 
-/// A file that was read, by its name.
+/// A file that was read, by its name; and the text that is meant by it, where that is another.
 #[derive(Drop)]
 pub struct FileText<'a> {
     pub name: &'a str,
     pub held: Held,
+    pub meant: Option<Meant<'a>>,
 }
 
 /// Reads all there is, up to one byte more than the limit.
@@ -75,6 +77,37 @@ pub fn read_file<'a, S: Sources>(alloc: Global, files: &S, name: &'a str) -> Fil
     FileText {
         name,
         held: held_in(alloc, files, name),
+        meant: None,
+    }
+}
+
+// What is held in place of a file.
+fn held_as(alloc: Global, text: &str) -> Held
+    ensures { IsRead (Some text.now) result }
+{
+    match String::from_str(alloc, text) {
+        Ok(text) => Held::Text(text),
+        Err(_) => Held::Memory,
+    }
+}
+
+/// Reads the file of an application, or takes the text that is meant by it, where there is one.
+pub fn read_app<'a, S: Sources>(
+    alloc: Global,
+    files: &S,
+    name: &'a str,
+    meant: Option<Meant<'a>>,
+) -> FileText<'a>
+    ensures named { result.name.now ≡ name.now }
+    ensures held { IsRead (held_by (option_map (λ m. m.text.now) meant.entry) (S.contents files.now name.now)) result.held }
+{
+    match meant {
+        Some(meant) => FileText {
+            name,
+            held: held_as(alloc, meant.text),
+            meant: Some(meant),
+        },
+        None => read_file(alloc, files, name),
     }
 }
 

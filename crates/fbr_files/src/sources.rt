@@ -4,7 +4,7 @@ ghost use Rattle.std.specs.Prelude.{◌≡◌, IfErr, IfOk, IfSome, take, option
 ghost use Rattle.fbr_files.specs.Outcomes.{IsContents};
 ghost use Rattle.fbr_files.specs.Writing.{LeavesAllBut};
 
-use std::alloc::Global;
+use std::alloc::{AllocError, Global};
 use std::io;
 use std::io::{Read, Write};
 
@@ -29,6 +29,17 @@ impl ReadFault {
     }
 }
 
+/// A file whose text is replaced, again and again.
+pub trait Keep {
+    /// What the file holds, where that is known.
+    ghost held: { Self → Option (List ℕ) };
+
+    /// Puts a text into the file, in place of what it held, and has it on the disk; or answers that this failed, and then it holds what it held.
+    fn put(&mut self, text: &[u8]) -> bool
+        ensures put { result ≡ true → IsContents (held self.new) text.now }
+        ensures kept { result ≡ false → held self.new ≡ held self.old };
+}
+
 /// Files, by name: those that are read, and those that are written.
 pub trait Sources {
     /// A file that is read bit by bit.
@@ -36,6 +47,9 @@ pub trait Sources {
 
     /// A file that is written bit by bit.
     type Writer: Write + Drop;
+
+    /// A file whose text is replaced again and again.
+    type Keeper: Keep + Drop;
 
     /// What a file of this name holds, where that is known.
     ghost contents: { Self → List ℕ → Option (List ℕ) };
@@ -58,6 +72,12 @@ pub trait Sources {
         ensures kept { IfErr result (λ _. contents self.new name.now ≡ contents self.old name.now) }
         ensures others { (other : List ℕ) → same self.old name.now other ≡ Some false → contents self.new other ≡ contents self.old other }
         ensures names { same self.new ≡ same self.old };
+
+    /// Whether nobody but its owner may read or write a file. One that cannot be looked at is not.
+    fn is_private(&self, name: &str) -> bool;
+
+    /// The file of this name, whose text is replaced from now on; of what that does nothing is said here.
+    fn keeper(&self, alloc: Global, name: &str) -> Result<Self::Keeper, AllocError>;
 
     /// Opens a file that is read bit by bit.
     fn open(&self, name: &str) -> io::Result<Self::Reader>;

@@ -1,5 +1,5 @@
 -- From a certificate to the text that is asked for.
-use Rattle.std.proofs.Common.{◌≡◌, ◌≤◌, ◌<◌, ℕ, List, length, Option, None, Some, Result, Ok, Err, IfOk, refl, sym, subst, inl, inr}
+use Rattle.std.proofs.Common.{◌≡◌, ◌≤◌, ◌<◌, ℕ, List, length, Option, None, Some, Result, Ok, Err, IfOk, true, false, nat_lt, ltb-true, ltb-false, refl, sym, subst, inl, inr}
 use Rattle.std.specs.Prelude.{MatchResult, string_bytes}
 use Rattle.std.specs.declared.string.String.{String}
 use Rattle.std.specs.declared.alloc.Global.{Global}
@@ -7,6 +7,7 @@ use Rattle.fb_model.specs.System.{System}
 use Rattle.fb_model.specs.Certificates.{Fits}
 use Rattle.fb_model.specs.Spelling.{text_limit}
 use Rattle.fb_model.specs.CertificateText.{Spells, most_characters}
+use Rattle.fb_model_lengths.specs.Lengths.{least_length}
 use Rattle.fb_types.specs.declared.typed.Configuration.{Configuration}
 use Rattle.fb_types.specs.Views.{system_of}
 use Rattle.fb_cert.specs.Views.{Rows, book_of}
@@ -17,9 +18,10 @@ use Rattle.fb_verdict.specs.declared.refusal.Refusal.TheVariants as refusals
 use Rattle.fbr_files.specs.declared.fault.Fault.{Fault}
 use Rattle.fbr_files.specs.declared.fault.Fault.TheVariants.{Memory, Input, File, Line, Usage, Refused, Unbound, Device, LinkDown, Socket}
 use Rattle.fbr_files.specs.Outcomes.{IsContents, IsReadFault}
+use Rattle.fbr_files.specs.Reading.{held_by}
 use Rattle.fbr_files.specs.Writing.{Holdings}
 use Rattle.fbr_words.specs.Program.{Sought}
-use Rattle.fbr_find.specs.Bounding.{IsFoundBy, IsRangesFault, IsTextOf, IsTextAsked, IsFitting, IsAccepted, IsSoughtText, IsGivenFault, IsTextFaultAsked, of_ranges, of_length, IsSoughtFault, with_room}
+use Rattle.fbr_find.specs.Bounding.{IsFoundBy, IsRangesFault, IsTextOf, IsTextAsked, IsFitting, IsAccepted, IsSoughtText, IsGivenFault, IsSystemFault, of_rows, of_ranges, IsTextFaultAsked, of_system, of_length, IsSoughtFault, with_room}
 use Rattle.fb_find_room.proofs.Roomy.{book_same}
 use Rattle.fb_find_room.proofs.Fitting.{fits}
 use Rattle.fbr_find.proofs.Found.{fits_found, ranges_memory}
@@ -47,7 +49,7 @@ roomed_fits (Some times) s rows h = subst (Fits s) (sym (book_same times s.devic
 
 -- what is found of the system of a text is asked for of the text, and fits it
 pub asked_of : (q : Sought) (files : Holdings) (app : List ℕ) (typed : Configuration) (r : Result (String Global) Fault) → IsTypedOf app typed → length app ≤ text_limit
-    → MatchResult r (λ text. IsTextOf q files (system_of typed) (string_bytes text)) (IsRangesFault q.ranges q.repeats files (system_of typed))
+    → MatchResult r (λ text. IsTextOf q files (system_of typed) (string_bytes text)) (IsSystemFault q files (system_of typed))
     → MatchResult r (λ text. IsTextAsked q files app (string_bytes text) × IsFitting app (string_bytes text)) (IsTextFaultAsked q files app)
 asked_of q files app typed (Ok text) is short h = (
   record { typed = typed; typed_is = is; short = short; text_is = h },
@@ -62,14 +64,24 @@ asked_of q files app typed (Ok text) is short h = (
     fits = roomed_fits q.room (system_of typed) h.rows (fits_found q.ranges q.repeats files (system_of typed) h.rows h.found);
   },
 )
-asked_of q files app typed (Err f) is short h = of_ranges typed is h
+asked_of q files app typed (Err f) is short h = of_system typed is h
+
+-- the rows that a system must have are too long
+pub long_rows : (q : Sought) (files : Holdings) (s : System) (repeats : Option ℕ) → q.repeats ≡ repeats → nat_lt most_characters (least_length repeats s) ≡ true → IsSystemFault q files s (Refused (refusals.Certificate TooLong))
+long_rows q files s repeats same is = of_rows (subst (λ n. most_characters < least_length n s) (sym same) (ltb-true most_characters (least_length repeats s) is)) refl
+
+-- they are not, and this is what was found
+pub short_rows : (q : Sought) (files : Holdings) (s : System) (repeats : Option ℕ) (r : Result (String Global) Fault) → q.repeats ≡ repeats → nat_lt most_characters (least_length repeats s) ≡ false
+    → MatchResult r (λ text. IsTextOf q files s (string_bytes text)) (IsRangesFault q.ranges q.repeats files s) → MatchResult r (λ text. IsTextOf q files s (string_bytes text)) (IsSystemFault q files s)
+short_rows q files s repeats (Ok text) same is h = h
+short_rows q files s repeats (Err f) same is h = of_ranges (subst (λ n. least_length n s ≤ most_characters) (sym same) (ltb-false most_characters (least_length repeats s) is)) h
 
 -- a text above the limit
 pub too_long : (q : Sought) (files : Holdings) (app text : List ℕ) → IsTextAsked q files app text → most_characters < length text → IsTextFaultAsked q files app (Refused (refusals.Certificate TooLong))
 too_long q files app text h long = of_length text h (refl, long)
 
 -- what is said of what the application's file holds is said of the file
-pub sought_over : (q : Sought) (files : Holdings) (app : List ℕ) (r : Result (String Global) Fault) → IsContents (files q.app) app
+pub sought_over : (q : Sought) (files : Holdings) (app : List ℕ) (r : Result (String Global) Fault) → IsContents (held_by q.meant (files q.app)) app
     → MatchResult r (λ text. IsTextAsked q files app (string_bytes text) × IsAccepted app (string_bytes text)) (IsTextFaultAsked q files app)
     → MatchResult r (λ text. IsSoughtText q files (string_bytes text)) (IsSoughtFault q files)
 sought_over q files app (Ok text) is h = (app, is, h.0, h.1)

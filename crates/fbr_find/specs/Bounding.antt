@@ -7,6 +7,7 @@ use Rattle.fb_model.specs.System.{System}
 use Rattle.fb_model.specs.Certificates as book
 use Rattle.fb_model.specs.Certificates.{Fits}
 use Rattle.fb_model.specs.CertificateText.{Spells, most_characters}
+use Rattle.fb_model_lengths.specs.Lengths.{least_length}
 use Rattle.fb_tree.specs.Sources.{IsSource}
 use Rattle.fb_types.specs.declared.typed.Configuration.{Configuration}
 use Rattle.fb_types.specs.Views.{system_of}
@@ -24,7 +25,7 @@ use Rattle.fb_find_search.specs.Searching.{IsFoundSomehow, IsSearched, IsNoBound
 use Rattle.fbr_files.specs.declared.fault.Fault.{Fault}
 use Rattle.fbr_files.specs.declared.fault.Fault.TheVariants.{Memory, File, Refused, Unbound}
 use Rattle.fbr_files.specs.Outcomes.{IsContents, IsReadFault}
-use Rattle.fbr_files.specs.Reading.{IsFile}
+use Rattle.fbr_files.specs.Reading.{IsFile, held_by}
 use Rattle.fbr_files.specs.Writing.{Holdings}
 use Rattle.fbr_words.specs.Program.{Sought}
 use Rattle.fbr_find.specs.declared.wanted.RangesFrom.{RangesFrom}
@@ -41,7 +42,7 @@ AreRangesRead asked files (Within file) = (name : List ℕ) × (asked ≡ Some (
 
 -- it is what is asked for, and its files were read
 pub record IsReadFor (q : Sought) (files : Holdings) (w : Wanted) : Type 0 where
-  pub app : IsFile q.app (files q.app) w.app
+  pub app : IsFile q.app (held_by q.meant (files q.app)) w.app
   pub ranges : AreRangesRead q.ranges files w.ranges
   pub repeats : q.repeats ≡ w.repeats
   pub room : q.room ≡ w.room
@@ -98,7 +99,7 @@ pub record IsAccepted (app text : List ℕ) : Type 0 where
 
 -- what answers
 abbrev pub IsSoughtText : Sought → Holdings → List ℕ → Type 0
-IsSoughtText q files text = (app : List ℕ) × IsContents (files q.app) app × IsTextAsked q files app text × IsAccepted app text
+IsSoughtText q files text = (app : List ℕ) × IsContents (held_by q.meant (files q.app)) app × IsTextAsked q files app text × IsAccepted app text
 
 -- ---- faults
 
@@ -152,12 +153,17 @@ IsRangesFault (Some (Some name)) repeats files system f = IsKeptFault name (file
 abbrev pub IsLengthFault : List ℕ → Fault → Type 0
 IsLengthFault text f = (f ≡ Refused (refusals.Certificate TooLong)) × (most_characters < length text)
 
--- why there is no text: the application's is at fault, there is no certificate of its system, or it is too long
+-- why there is no text of a system: the rows that it must have are longer than a text may be; and if they are not, there is no certificate
+pub data IsSystemFault (q : Sought) (files : Holdings) (s : System) (f : Fault) : Type 0 where
+  of_rows : most_characters < least_length q.repeats s → f ≡ Refused (refusals.Certificate TooLong) → IsSystemFault q files s f
+  of_ranges : least_length q.repeats s ≤ most_characters → IsRangesFault q.ranges q.repeats files s f → IsSystemFault q files s f
+
+-- why there is no text: the application's is at fault, there is none of its system, or it is too long
 pub data IsTextFaultAsked (q : Sought) (files : Holdings) (app : List ℕ) (f : Fault) : Type 0 where
   of_application : IsTypedFault app f → IsTextFaultAsked q files app f
-  of_ranges : (typed : Configuration) → IsTypedOf app typed → IsRangesFault q.ranges q.repeats files (system_of typed) f → IsTextFaultAsked q files app f
+  of_system : (typed : Configuration) → IsTypedOf app typed → IsSystemFault q files (system_of typed) f → IsTextFaultAsked q files app f
   of_length : (text : List ℕ) → IsTextAsked q files app text → IsLengthFault text f → IsTextFaultAsked q files app f
 
 -- the application's file was not read, or what it holds is at fault so
 abbrev pub IsSoughtFault : Sought → Holdings → Fault → Type 0
-IsSoughtFault q files f = IsReadFault q.app f ⊎ ((app : List ℕ) × IsContents (files q.app) app × IsTextFaultAsked q files app f)
+IsSoughtFault q files f = IsReadFault q.app f ⊎ ((app : List ℕ) × IsContents (held_by q.meant (files q.app)) app × IsTextFaultAsked q files app f)

@@ -13,16 +13,17 @@ ghost use Rattle.fbr_files.specs.Reading.{IsRead, IsFile};
 ghost use Rattle.fbr_files.specs.Writing.{Holdings};
 ghost use Rattle.fbr_words.specs.Program as program;
 ghost use Rattle.fbr_words.specs.Requests.{ranges_of, sought_of};
-ghost use Rattle.fbr_find.specs.Bounding.{AreRangesRead, IsReadFor, HoldsRows, IsGivenFault, IsKeptFault, IsUnboundKeeping, IsUnbound, IsRangesFault, IsTextFaultAsked, IsFoundBy, IsTextOf, IsTextAsked, IsFitting, IsAccepted, IsLengthFault, IsSoughtText, IsSoughtFault, with_room as roomed};
+ghost use Rattle.fbr_find.specs.Bounding.{AreRangesRead, IsReadFor, HoldsRows, IsGivenFault, IsKeptFault, IsUnboundKeeping, IsUnbound, IsRangesFault, IsSystemFault, IsTextFaultAsked, IsFoundBy, IsTextOf, IsTextAsked, IsFitting, IsAccepted, IsLengthFault, IsSoughtText, IsSoughtFault, with_room as roomed};
 
 use crate::finding::{bounded, text_of, typed_in};
 use fb_cert::{CertFault, Certificate, parse_cert};
 use fb_find::find;
+use fb_find_length::rows_are_long;
 use fb_find_room::with_room;
 use fb_find_search::{find_keeping, search};
 use fb_types::Typed;
 use fb_verdict::Refusal;
-use fbr_files::{Fault, FileText, Sources, read_file};
+use fbr_files::{Fault, FileText, Sources, read_app, read_file};
 use fbr_words::{Bound, Ranges};
 use std::alloc::Global;
 
@@ -63,7 +64,7 @@ pub fn read_wanted<'a, S: Sources>(alloc: Global, files: &S, bound: Bound<'a>) -
     ensures { IsReadFor (sought_of bound.entry) (S.contents files.now) result }
 {
     Wanted {
-        app: read_file(alloc, files, bound.app),
+        app: read_app(alloc, files, bound.app, bound.meant),
         ranges: read_ranges(alloc, files, bound.ranges),
         repeats: bound.repeats,
         room: bound.room,
@@ -207,6 +208,18 @@ impl<'a> Wanted<'a> {
         }
     }
 
+    // The same, unless the rows that the system must have are longer than what the checker reads: then nothing is examined.
+    fn text_unless_long(&self, alloc: Global, typed: &Typed) -> Result<String, Fault<'a>>
+        requires { IfSome self.now.repeats (λ r. 1 ≤ r) }
+        ensures { (q : program.Sought) (files : Holdings) → IsReadFor q files self.now
+            → MatchResult result (λ text. IsTextOf q files (system_of typed.now) (string_bytes text)) (IsSystemFault q files (system_of typed.now)) }
+    {
+        if rows_are_long(typed, self.repeats) {
+            return Err(Fault::Refused(Refusal::Certificate(CertFault::TooLong)));
+        }
+        self.text_for(alloc, typed)
+    }
+
     // The text that is wanted of an application's text. It fits.
     fn text_over(&self, alloc: Global, app: &str) -> Result<String, Fault<'a>>
         requires { IfSome self.now.repeats (λ r. 1 ≤ r) }
@@ -215,7 +228,7 @@ impl<'a> Wanted<'a> {
     {
         match typed_in(alloc, app) {
             Ok(typed) => {
-                let text = self.text_for(alloc, &typed);
+                let text = self.text_unless_long(alloc, &typed);
                 typed.let_go();
                 text
             }

@@ -1,13 +1,15 @@
 //! The numbers of a certificate that fits.
 
+use crate::ends::{put_ends, type_list};
 use crate::finding::kind_name;
-use crate::object::{List, Object};
 use fb_cert::{Amount, Certificate};
 use fb_flat::{FlatResource, Leaf, joined};
 use fb_verified::Verified;
+use fb_words::Format;
 use fbr_explain::{Ways, channels_behind, leaves_by_channel};
-use fbr_leaves::{admitted, leaves_in, numbered, received_from};
+use fbr_leaves::{admitted, channel_of, leaves_in, numbered, received_from};
 use fbr_needs::{Arrival, Queue, queue_in};
+use fbr_objects::{List, Object};
 use std::alloc::{AllocError, Global};
 
 // A row of steps and places, and of steps on all devices where there is one.
@@ -152,7 +154,21 @@ fn receiver_object(alloc: Global, verified: &Verified, path: &str, times: Option
     object
 }
 
-// A channel: who sends on it, and where its datagrams come to.
+// Adds the format of a channel and the types of its values, which are those of each of its ends.
+fn put_form(alloc: Global, leaves: &[&Leaf], object: &mut Object) {
+    if let Some(leaf) = leaves.first() {
+        if let Some(channel) = channel_of(leaf) {
+            let format: u64 = match channel.format {
+                Format::First => 1,
+                Format::Second => 2,
+            };
+            object.number("format", format);
+        }
+        object.list("types", type_list(alloc, leaf));
+    }
+}
+
+// A channel: its format and types, who sends on it, and where its datagrams come to.
 fn channel_object(
     alloc: Global,
     verified: &Verified,
@@ -177,6 +193,7 @@ fn channel_object(
     }
     let mut object = Object::new(alloc);
     object.number("number", u64::from(number));
+    put_form(alloc, leaves, &mut object);
     object.maybe_number("far", verified.certificate().channel(number));
     object.list("from", from);
     object.list("to", to);
@@ -193,7 +210,8 @@ fn channel_list(alloc: Global, verified: &Verified) -> Result<List, AllocError> 
     Ok(list)
 }
 
-/// Adds the numbers of a certificate that fits: of events, states and variables, the queue of each resource with its arrivals, and the channels.
+/// Adds the numbers of a certificate that fits: of events, states and variables, the queue of each resource with its arrivals, and the channels; and the INPUTs and
+/// OUTPUTs.
 pub fn put_bounds(
     alloc: Global,
     verified: &Verified,
@@ -208,5 +226,6 @@ pub fn put_bounds(
     object.list("ranges", range_list(alloc, certificate));
     object.list("resources", resource_list(alloc, verified)?);
     object.list("channels", channel_list(alloc, verified)?);
+    put_ends(alloc, verified.flat(), object);
     Ok(())
 }

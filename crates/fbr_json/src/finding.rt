@@ -1,13 +1,13 @@
 //! What is needed and what is there.
 
-use crate::object::{List, Object};
 use crate::places::{put_numbers, put_of, put_range};
 use crate::walk::walk_list;
 use fbr_diagnosis::{Asked, Diagnosis, Finding};
 use fbr_faults::{Fault, Wrong};
 use fbr_needs::{
-    Arrival, ArrivalKind, Cause, Missing, Numbers, Queue, RangeLink, RangeStart, Sum, Term,
+    Arrival, ArrivalKind, Cause, Flood, Missing, Numbers, Queue, RangeLink, RangeStart, Sum, Term,
 };
+use fbr_objects::{List, Object};
 use std::alloc::Global;
 
 // Sentences, a line each.
@@ -125,6 +125,19 @@ fn put_queue(alloc: Global, queue: &Queue<'_>, object: &mut Object) {
     object.list("arrivals", arrival_list(alloc, &queue.arrivals));
 }
 
+// An arrival that becomes more events than a queue can hold, and what follows it.
+fn put_flood(alloc: Global, flood: &Flood, object: &mut Object) {
+    object.text("kind", "flood");
+    let mut list = List::new(alloc);
+    for link in &flood.chain {
+        let mut event = Object::new(alloc);
+        event.text("path", link.path.as_str());
+        event.number("places", link.places);
+        list.object(event);
+    }
+    object.list("chain", list);
+}
+
 // A row RANGE beside what its variable begins with.
 fn put_start(alloc: Global, start: &RangeStart<'_>, object: &mut Object) {
     object.text("kind", "start");
@@ -170,9 +183,9 @@ pub fn finding_object(asked: Asked<'_>, diagnosis: &Diagnosis<'_>) -> Option<Obj
     let mut object = Object::new(alloc);
     match &diagnosis.finding {
         Finding::Nothing => return None,
-        Finding::Advice(said) => {
+        Finding::Advice(advised) => {
             object.text("kind", "sentences");
-            object.list("sentences", sentences(alloc, said.as_str()));
+            object.list("sentences", sentences(alloc, advised.said.as_str()));
         }
         Finding::Swapped => object.text("kind", "swapped-files"),
         Finding::Wrong(fault) => put_fault(alloc, fault, &mut object),
@@ -181,6 +194,7 @@ pub fn finding_object(asked: Asked<'_>, diagnosis: &Diagnosis<'_>) -> Option<Obj
         Finding::Start(start) => put_start(alloc, start, &mut object),
         Finding::Link(link) => put_link(alloc, link, &mut object),
         Finding::Missing(missing) => put_missing(alloc, missing, &mut object),
+        Finding::Flood(flood) => put_flood(alloc, flood, &mut object),
         Finding::Walk(steps) => {
             object.text("kind", "walk");
             object.list("steps", walk_list(asked, diagnosis, steps));

@@ -3,9 +3,9 @@
 #![tactic(auto)]
 
 mod bounds;
+mod ends;
 mod finding;
 mod notes;
-mod object;
 mod places;
 mod report;
 mod walk;

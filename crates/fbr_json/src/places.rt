@@ -1,8 +1,8 @@
 //! Places in texts, and numbers from one to another.
 
-use crate::object::Object;
 use fb_ranges::Interval;
 use fbr_needs::Of;
+use fbr_objects::Object;
 use fbr_places::Located;
 use std::alloc::Global;
 

@@ -3,14 +3,15 @@
 use crate::bounds::put_bounds;
 use crate::finding::finding_object;
 use crate::notes::{put_notes, put_warnings};
-use crate::object::{List, Object};
 use crate::places::put_place;
 use fb_verified::Verified;
 use fbr_diagnosis::{Asked, Diagnosis, Meaning, meaning_of};
-use fbr_explain::{narrower_said, tell_lead};
-use fbr_files::Fault;
+use fbr_explain::{narrower_said, tell_found};
+use fbr_files::{Fault, Placed};
+use fbr_objects::{List, Object};
 use fbr_places::{Named, Writing};
-use fbr_tell::Teller;
+use fbr_tell::{Listener, NamedFile, Teller, tell_all};
+use fbr_texts::Meant;
 use std::alloc::{AllocError, Global};
 
 /// The version of the schema that reports have.
@@ -23,19 +24,26 @@ pub struct Report {
     object: Object,
 }
 
-// What a number says, and what to do, each remedy in a sentence.
-fn put_meaning(alloc: Global, meaning: Option<Meaning>, more: &str, object: &mut Object) {
-    let mut remedies = List::new(alloc);
-    if let Some(meaning) = meaning {
-        object.text("says", meaning.says);
-        if !meaning.remedy.is_empty() {
-            remedies.text(meaning.remedy);
-        }
+// What to do: a remedy, and what more there is to do, each in a sentence.
+fn put_remedies(alloc: Global, remedy: &str, more: &str, object: &mut Object) {
+    let mut list = List::new(alloc);
+    if !remedy.is_empty() {
+        list.text(remedy);
     }
     if !more.is_empty() {
-        remedies.text(more);
+        list.text(more);
     }
-    object.list("remedies", remedies);
+    object.list("remedies", list);
+}
+
+// What a number says, and what to do.
+fn put_meaning(alloc: Global, meaning: Option<Meaning>, object: &mut Object) {
+    let mut remedy = "";
+    if let Some(meaning) = meaning {
+        object.text("says", meaning.says);
+        remedy = meaning.remedy;
+    }
+    put_remedies(alloc, remedy, "", object);
 }
 
 // How many rows are missing and how many are too many.
@@ -55,14 +63,71 @@ fn subject_of(line: &str) -> Option<&str> {
 }
 
 // The line that `check` and `bound` print of a fault, its number, and what stands behind that.
-fn put_line(alloc: Global, fault: &Fault<'_>, object: &mut Object) -> Result<(), AllocError> {
-    let line = format!(in alloc; "{fault}")?;
+fn put_line(
+    alloc: Global,
+    fault: &Fault<'_>,
+    meant: Option<Meant<'_>>,
+    object: &mut Object,
+) -> Result<(), AllocError> {
+    let mut written = Writing::new(alloc);
+    match meant {
+        Some(meant) => written.show(&Placed { fault, meant }),
+        None => written.show(fault),
+    }
+    let line = written.text()?;
     object.text("line", line.as_str());
     object.number("number", u64::from(fault.code()));
     if let Some(subject) = subject_of(line.as_str()) {
         object.text("subject", subject);
     }
     Ok(())
+}
+
+// Where a refusal stands, what was found there, and what to do.
+fn put_diagnosis(asked: Asked<'_>, diagnosis: &Diagnosis<'_>, object: &mut Object) {
+    let alloc = asked.alloc;
+    put_place(alloc, diagnosis.place.as_ref(), object);
+    let mut found = Writing::new(alloc);
+    if tell_found(&diagnosis.finding, diagnosis.counts, &mut found) {
+        object.written("found", found);
+    }
+    if let Some(finding) = finding_object(asked, diagnosis) {
+        object.object("finding", finding);
+    }
+    put_counts(alloc, diagnosis, object);
+    let more = narrower_said(diagnosis.is_narrower);
+    if let Some(meaning) = diagnosis.meaning {
+        object.text("says", meaning.says);
+    }
+    put_remedies(alloc, diagnosis.remedy(), more, object);
+}
+
+// All faults of a text, and whether there are more than these.
+#[derive(Drop)]
+struct Faults {
+    list: List,
+    count: usize,
+    has_more: bool,
+}
+
+impl Listener for Faults {
+    fn fault(
+        &mut self,
+        asked: Asked<'_>,
+        fault: &Fault<'_>,
+        diagnosis: &Diagnosis<'_>,
+    ) -> Result<(), AllocError> {
+        let mut object = Object::new(asked.alloc);
+        put_line(asked.alloc, fault, asked.app.meant, &mut object)?;
+        put_diagnosis(asked, diagnosis, &mut object);
+        self.list.object(object);
+        self.count = self.count.saturating_add(1);
+        Ok(())
+    }
+
+    fn more(&mut self) {
+        self.has_more = true;
+    }
 }
 
 impl Report {
@@ -90,26 +155,71 @@ impl Report {
         object.end()
     }
 
-    /// The report of a verdict, with the status that the program ends with.
+    /// Adds all faults of an application's text, if this one that is told is one of them.
+    pub fn faults(&mut self, fault: &Fault<'_>, app: NamedFile<'_>) -> Result<(), AllocError> {
+        let mut faults = Faults {
+            list: List::new(self.alloc),
+            count: 0,
+            has_more: false,
+        };
+        tell_all(self.alloc, fault, app, true, &mut faults)?;
+        let Faults {
+            list,
+            count,
+            has_more,
+        } = faults;
+        if count > 0 {
+            self.object.list("faults", list);
+        }
+        if has_more {
+            self.object.flag("more_faults", true);
+        }
+        Ok(())
+    }
+
+    /// The report of a verdict, with the status that the program ends with, over a text that is of several files, where there is one.
     pub fn end_verdict(
         self,
         command: &str,
         verdict: &Result<(), Fault<'_>>,
+        meant: Option<Meant<'_>>,
         status: u8,
     ) -> Result<String, AllocError> {
         let mut report = self;
         match verdict {
             Ok(()) => report.end(command, "accepted", status),
             Err(fault) => {
-                put_line(report.alloc, fault, &mut report.object)?;
+                put_line(report.alloc, fault, meant, &mut report.object)?;
                 report.end(command, "refused", status)
             }
         }
     }
 
+    /// Adds what a run did in all, by its name.
+    pub fn sum(&mut self, name: &str, sum: u64) {
+        self.object.number(name, sum);
+    }
+
+    /// The report of a run that came to its end.
+    pub fn end_run(self, command: &str) -> Result<String, AllocError> {
+        self.end(command, "done", 0)
+    }
+
+    /// Adds how many sequences of stories passed and failed.
+    pub fn counts(&mut self, passed: u64, failed: u64) {
+        self.object.number("passed", passed);
+        self.object.number("failed", failed);
+    }
+
+    /// The report of stories that were played to their end.
+    pub fn end_stories(self, is_passed: bool, status: u8) -> Result<String, AllocError> {
+        let verdict = if is_passed { "passed" } else { "failed" };
+        self.end("play", verdict, status)
+    }
+
     /// Adds what a number says and what to do.
     pub fn number(&mut self, code: u8) {
-        put_meaning(self.alloc, meaning_of(code), "", &mut self.object);
+        put_meaning(self.alloc, meaning_of(code), &mut self.object);
     }
 }
 
@@ -132,25 +242,15 @@ impl Teller for Report {
         alloc: Global,
         verified: &Verified,
         app: Named<'_>,
+        allowed: &str,
     ) -> Result<bool, AllocError> {
         put_bounds(alloc, verified, &mut self.object)?;
         put_warnings(alloc, verified, &mut self.object)?;
-        put_notes(alloc, verified, app, &mut self.object)
+        put_notes(alloc, verified, app, allowed, &mut self.object)
     }
 
     fn diagnosis(&mut self, asked: Asked<'_>, diagnosis: &Diagnosis<'_>) -> Result<(), AllocError> {
-        let alloc = asked.alloc;
-        put_place(alloc, diagnosis.place.as_ref(), &mut self.object);
-        let mut found = Writing::new(alloc);
-        if tell_lead(&diagnosis.finding, diagnosis.counts, &mut found) {
-            self.object.written("found", found);
-        }
-        if let Some(finding) = finding_object(asked, diagnosis) {
-            self.object.object("finding", finding);
-        }
-        put_counts(alloc, diagnosis, &mut self.object);
-        let more = narrower_said(diagnosis.is_narrower);
-        put_meaning(alloc, diagnosis.meaning, more, &mut self.object);
+        put_diagnosis(asked, diagnosis, &mut self.object);
         Ok(())
     }
 
@@ -159,7 +259,7 @@ impl Teller for Report {
     }
 
     fn meaning(&mut self, meaning: Meaning) {
-        put_meaning(self.alloc, Some(meaning), "", &mut self.object);
+        put_meaning(self.alloc, Some(meaning), &mut self.object);
     }
 }
 

@@ -1,10 +1,10 @@
 //! Walks, place by place.
 
-use crate::object::{List, Object};
 use crate::places::put_place;
 use fb_find_rows::Place;
 use fbr_diagnosis::{Asked, Diagnosis};
 use fbr_needs::{Step, Way};
+use fbr_objects::{List, Object};
 use fbr_places::{Located, declared_at};
 use std::alloc::Global;
 

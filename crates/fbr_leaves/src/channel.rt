@@ -2,7 +2,7 @@
 
 use fb_flat::{Body, Leaf};
 use fb_types_services::{Channel, Service};
-use fb_words::Format;
+use fb_words::{ElemType, Format};
 
 /// The channel that a leaf sends on.
 pub fn sent_on(leaf: &Leaf) -> Option<&Channel> {
@@ -35,6 +35,19 @@ pub fn number_of(leaf: &Leaf) -> Option<u16> {
     match &leaf.body {
         Body::Served(Service::Input(number, _) | Service::Output(number, _)) => Some(*number),
         _ => Some(channel_of(leaf)?.number),
+    }
+}
+
+/// The types of the values of a service; of a timer and of a block there are none.
+pub fn types_of(leaf: &Leaf) -> &[ElemType] {
+    match &leaf.body {
+        Body::Served(
+            Service::Input(_, types)
+            | Service::Output(_, types)
+            | Service::Publish(_, types)
+            | Service::Subscribe(_, types),
+        ) => types.as_slice(),
+        _ => &[],
     }
 }
 

@@ -7,7 +7,7 @@ mod number;
 mod seen;
 mod system;
 
-pub use channel::{admitted, channel_of, number_of, received_from, sent_on};
+pub use channel::{admitted, channel_of, number_of, received_from, sent_on, types_of};
 pub use number::{Numbers, leaves_in, leaves_of, numbered};
 pub use seen::{block_in, leaf_at, place_at, resource_at};
 pub use system::{Resolved, System, system_again, system_in};

@@ -3,12 +3,14 @@
 #![tactic(auto)]
 
 mod live;
+mod people;
 mod stack;
 
 ghost use Rattle.std.specs.Prelude.{◌≡◌, ◌≤◌, IfOk, MatchResult};
 ghost use Rattle.std.specs.Process.{exit_status};
 
 use crate::live::Live;
+use crate::people::People;
 use fbr::{command, input_named};
 use fbr_files::Disk;
 use fbr_tell::paint;
@@ -126,22 +128,13 @@ fn is_coloured(rt: &HostRuntime) -> bool {
     }
 }
 
-// Writes what is told to people.
-fn tell<W: Write>(told: &[u8], is_coloured: bool, output: &mut W) -> io::Result<()> {
-    if is_coloured {
-        paint(told, output)
-    } else {
-        output.write_all(told)
-    }
-}
-
 // Runs a command that explains at a terminal, and gives the lines that it writes a colour.
-fn explain_in_colour<W: Write>(
+fn explain_in_colour<W: Write, E: Write>(
     rt: &HostRuntime,
     words: &[&str],
     files: &mut Disk<'_, HostRuntime>,
     output: &mut W,
-    errors: &mut Vec<u8>,
+    errors: &mut E,
 ) -> u8
     ensures { result ≤ 4 }
 {
@@ -218,17 +211,18 @@ fn status(rt: &HostRuntime) -> io::Result<u8>
         return serve_live(rt, words, &mut files);
     }
     let mut output = BufWriter::new(rt.alloc(), io::writer(rt))?;
-    let mut errors = Vec::new(alloc);
     let is_coloured = is_coloured(rt);
+    let mut stream = rt.stderr();
+    let is_painted = is_coloured && stream.is_terminal();
+    let mut errors = People::new(alloc, is_painted, &mut stream);
     let status = if is_explained(words) && is_coloured && rt.stdout().is_terminal() {
         explain_in_colour(rt, words, &mut files, &mut output, &mut errors)
     } else {
         command(rt, words, &mut files, &mut input, &mut output, &mut errors)
     };
     let status = outcome(status, output.flush());
-    let mut people = rt.stderr();
-    tell(&errors, is_coloured && people.is_terminal(), &mut people).unwrap_or(());
-    tell_failure(status, &mut people).unwrap_or(());
+    errors.flush().unwrap_or(());
+    tell_failure(status, &mut rt.stderr()).unwrap_or(());
     Ok(status)
 }
 

@@ -1,9 +1,15 @@
 //! Walks, place by place, and how each place leads to the next.
 
+use crate::led::led_at;
 use fb_find_rows::Place;
 use fb_flat::{Flat, Leaf};
-use fbr_leaves::place_at;
+use fb_tree::FileTree;
+use fbr_leaves::{Numbers, leaves_of, numbered};
+use fbr_places::{Located, Named};
 use std::alloc::{AllocError, Global};
+
+// So many places of a walk are looked up in the text: each look-up reads the text up to there.
+const LOCATED: usize = 64;
 
 /// How a place leads to the next one of a walk.
 #[derive(Clone, Copy)]
@@ -25,6 +31,16 @@ pub enum Way<'a> {
 pub struct Step<'a> {
     pub place: &'a Place,
     pub way: Option<Way<'a>>,
+    /// Where the text says how it leads there, of the first places.
+    pub at: Option<Located<'a>>,
+}
+
+/// The text of a walk, its tree, and its leaves.
+#[derive(Clone, Copy)]
+pub struct Grounds<'a> {
+    pub app: Named<'a>,
+    pub file: &'a FileTree,
+    pub flat: &'a Flat,
 }
 
 // The event output of a leaf that leads to the event input of a path.
@@ -40,9 +56,18 @@ fn output_to<'a>(leaf: &'a Leaf, path: &str) -> Option<&'a str> {
     None
 }
 
+// All leaves, by the numbers of their paths.
+#[derive(Clone, Copy)]
+struct Leaves<'a, 'b> {
+    leaves: &'b [&'a Leaf],
+    numbers: &'b Numbers,
+}
+
 // How a place of a leaf leads to an event.
-fn way_to_event<'a>(flat: &'a Flat, from: &str, to: &'a str) -> Option<Way<'a>> {
-    let (leaf, _) = place_at(flat, from)?;
+fn way_to_event<'a>(leaves: Leaves<'a, '_>, from: &str, to: &'a str) -> Option<Way<'a>> {
+    let (path, _) = from.rsplit_once('.')?;
+    let number = leaves.numbers.get(path).copied()?;
+    let leaf: &'a Leaf = *leaves.leaves.get(number)?;
     Some(Way::Emits(output_to(leaf, to)?, to))
 }
 
@@ -60,12 +85,12 @@ fn way_to_state<'a>(from: &Place, to: &'a str) -> Option<Way<'a>> {
 }
 
 // How a place leads to the next one of a walk.
-fn way_to<'a>(flat: &'a Flat, from: &Place, to: &'a Place) -> Option<Way<'a>> {
+fn way_to<'a>(leaves: Leaves<'a, '_>, from: &Place, to: &'a Place) -> Option<Way<'a>> {
     match to {
         Place::State(path) => way_to_state(from, path.as_str()),
         Place::Event(path) => match from {
             Place::State(begin) | Place::Event(begin) => {
-                way_to_event(flat, begin.as_str(), path.as_str())
+                way_to_event(leaves, begin.as_str(), path.as_str())
             }
             Place::Channel(_) => Some(Way::Arrives(path.as_str())),
         },
@@ -73,19 +98,48 @@ fn way_to<'a>(flat: &'a Flat, from: &Place, to: &'a Place) -> Option<Way<'a>> {
     }
 }
 
+// A place of a walk, which leads to the next one.
+fn step_to<'a>(
+    grounds: Grounds<'a>,
+    leaves: Leaves<'a, '_>,
+    place: &'a Place,
+    next: &'a Place,
+    index: usize,
+) -> Step<'a> {
+    let way = way_to(leaves, place, next);
+    let byte = match way {
+        Some(way) if index < LOCATED => led_at(grounds.file, place, next, way),
+        _ => None,
+    };
+    let at = match byte {
+        Some(byte) => grounds.app.at_byte(byte),
+        None => None,
+    };
+    Step { place, way, at }
+}
+
 /// The places of a walk, each with how it leads to the next.
 pub fn steps_of<'a>(
     alloc: Global,
-    flat: &'a Flat,
+    grounds: Grounds<'a>,
     places: &'a [Place],
 ) -> Result<Vec<Step<'a>>, AllocError> {
+    let listed = leaves_of(alloc, grounds.flat)?;
+    let numbers = numbered(alloc, listed.as_slice())?;
+    let leaves = Leaves {
+        leaves: listed.as_slice(),
+        numbers: &numbers,
+    };
     let mut steps = Vec::new(alloc);
     for (index, place) in places.iter().enumerate() {
-        let way = match places.get(index.saturating_add(1)) {
-            Some(next) => way_to(flat, place, next),
-            None => None,
-        };
-        steps.push(Step { place, way })?;
+        steps.push(match places.get(index.saturating_add(1)) {
+            Some(next) => step_to(grounds, leaves, place, next, index),
+            None => Step {
+                place,
+                way: None,
+                at: None,
+            },
+        })?;
     }
     Ok(steps)
 }

@@ -6,6 +6,7 @@ mod around;
 mod declared;
 mod library;
 mod named;
+mod near;
 mod ports;
 mod spot;
 mod tree;
@@ -17,6 +18,7 @@ pub use around::{
 pub use declared::{Declared, declared_at, instance_at, instance_named};
 pub use library::FACES;
 pub use named::{Located, Named, tell_where};
+pub use near::{distance, nearness};
 pub use ports::{Port, Types, port_in, type_named};
 pub use spot::Spot;
 pub use tree::{tokens_of, tree_in, tree_of};

@@ -2,12 +2,14 @@
 
 use crate::spot::Spot;
 use crate::writing::Writing;
+use fbr_texts::Meant;
 
-/// A text, and the name of its file.
+/// A text, and the name of its file; and the files that it is together, where there are several.
 #[derive(Clone, Copy)]
 pub struct Named<'a> {
     pub name: &'a str,
     pub text: &'a str,
+    pub meant: Option<Meant<'a>>,
 }
 
 /// A character of the text of a file.
@@ -18,9 +20,23 @@ pub struct Located<'a> {
     pub spot: Spot<'a>,
 }
 
+// Where a byte of a text of several files stands in its own; nothing where there is none.
+fn located_in(meant: Meant<'_>, byte: usize) -> Option<Located<'_>> {
+    let part = meant.part_at(byte)?;
+    let own = byte.saturating_sub(part.start);
+    let spot = Spot::of_byte(meant.text_of(part), own)?;
+    Some(Located {
+        file: part.name,
+        spot,
+    })
+}
+
 impl<'a> Named<'a> {
-    /// Where a byte of the text stands; nothing where the text is shorter.
+    /// Where a byte of the text stands: in its own file, where the text is of several; nothing where the text is shorter.
     pub fn at_byte(self, byte: usize) -> Option<Located<'a>> {
+        if let Some(meant) = self.meant {
+            return located_in(meant, byte);
+        }
         let file = self.name;
         let spot = Spot::of_byte(self.text, byte)?;
         Some(Located { file, spot })

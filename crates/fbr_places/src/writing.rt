@@ -39,6 +39,14 @@ impl Writing {
         &mut self.bytes
     }
 
+    /// What was written as a text, if memory held all of it and it is one.
+    pub fn text(self) -> Result<String, AllocError> {
+        match String::from_utf8(self.end()?) {
+            Ok(text) => Ok(text),
+            Err(_) => Err(AllocError),
+        }
+    }
+
     /// What was written, if memory held all of it.
     pub fn end(self) -> Result<Vec<u8>, AllocError> {
         let Writing { bytes, is_whole } = self;

@@ -26,6 +26,7 @@ fn certificate_of<'a>(alloc: Global, around: &Alone) -> Result<String, fbr_files
     let app = FileText {
         name: "",
         held: Held::Text(String::from_str(alloc, around.text.as_str())?),
+        meant: None,
     };
     let wanted = Wanted {
         app,

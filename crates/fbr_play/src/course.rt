@@ -1,11 +1,12 @@
 //! The course of a world in a sequence: it is served until nothing is left to do, and time goes on.
 
-use crate::network::{Datagram, Network};
 use crate::seen::{Sight, Sights};
-use fb_device::{Answer, Denied, Dispatched, Effect, Ran};
-use fb_world::{Missed, World, WorldAnswer, WorldEvent};
+use fb_device::{Answer, Denied, Effect, Ran};
+use fb_drain::{Witness, drain};
+use fb_world::{World, WorldAnswer, WorldEvent};
+use fbr_network::{Datagram, Network};
 use fbr_story::{Arrival, Cause};
-use fbr_watch::Watching;
+use fbr_watch::{RanAt, Watching};
 use std::alloc::{AllocError, Global};
 use std::io::Write;
 
@@ -92,9 +93,13 @@ impl<'w, 's, 'a, F: Write + Drop, W: Write> Course<'w, 's, 'a, F, W> {
 
     // What watches it looks at a device after a dispatch.
     fn look(&mut self, world: &World, number: u16, resource: u16, ran: &Ran) {
+        let at = RanAt {
+            resource,
+            now: self.moment,
+            ran,
+        };
         if let Some(device) = world.get(number) {
-            self.watching
-                .ran(number, device, resource, self.moment, ran, self.output);
+            self.watching.ran(number, device, at, self.output);
         }
     }
 
@@ -144,27 +149,11 @@ impl<'w, 's, 'a, F: Write + Drop, W: Write> Course<'w, 's, 'a, F, W> {
 
     // Dispatches a resource until it is idle.
     fn drain(&mut self, world: &mut World, device: u16, resource: u16) -> Result<(), AllocError> {
-        for _ in 0..MOST {
-            if self.is_spent() {
-                break;
-            }
-            let mut answer = Dispatched::Idle;
-            match world.dispatch(device, resource, &mut answer) {
-                Ok(sent) => match &answer {
-                    Dispatched::Ran(ran) => {
-                        self.look(world, device, resource, ran);
-                        self.note(device, ran, sent)?;
-                    }
-                    Dispatched::Idle => break,
-                },
-                Err(Missed::Unknown) => break,
-                Err(Missed::OutOfMemory) => return Err(AllocError),
-            }
-        }
+        let _ = drain(world, device, resource, self)?;
         Ok(())
     }
 
-    // Dispatches all resources of all devices until they are idle.
+    // Dispatches each resource of each device until it is idle, or the stimulus is spent between two of them.
     fn drain_all(&mut self, world: &mut World) -> Result<(), AllocError> {
         for device in 0..self.devices {
             let resources = match world.get(device) {
@@ -172,6 +161,9 @@ impl<'w, 's, 'a, F: Write + Drop, W: Write> Course<'w, 's, 'a, F, W> {
                 None => 0,
             };
             for resource in 0..resources {
+                if self.is_spent() {
+                    return Ok(());
+                }
                 self.drain(world, device, resource)?;
             }
         }
@@ -290,5 +282,20 @@ impl<'w, 's, 'a, F: Write + Drop, W: Write> Course<'w, 's, 'a, F, W> {
             }
             Cause::Time(span) => self.pass(world, *span),
         }
+    }
+}
+
+impl<F: Write + Drop, W: Write> Witness for Course<'_, '_, '_, F, W> {
+    // What watches it looks at the device, and the outside sees what the block did.
+    fn ran(
+        &mut self,
+        world: &World,
+        device: u16,
+        resource: u16,
+        ran: &Ran,
+        sent: Option<u64>,
+    ) -> Result<(), AllocError> {
+        self.look(world, device, resource, ran);
+        self.note(device, ran, sent)
     }
 }

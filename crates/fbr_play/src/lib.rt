@@ -4,8 +4,8 @@
 
 mod blocks;
 mod course;
+mod failure;
 mod looking;
-mod network;
 mod notes;
 mod playing;
 mod report;

@@ -1,5 +1,6 @@
 //! Reports of stories as JUnit XML, which test servers read.
 
+use crate::failure::{Case, Failure};
 use crate::score::Score;
 use fbr_places::Writing;
 use fbr_timeline::{put_attribute, put_escaped};
@@ -37,18 +38,25 @@ fn put_failure(told: &[u8], writing: &mut Writing) {
     writing.put("</failure>\n</testcase>\n");
 }
 
-// The line of a sequence of the story of a file, with what was told if it failed.
-fn written_case(alloc: Global, file: &str, name: &str, told: Option<&[u8]>) -> Writing {
+// The line of a sequence, with what was told if it failed.
+fn written_case(
+    alloc: Global,
+    case: Case<'_>,
+    failure: Option<&Failure>,
+) -> Result<Vec<u8>, AllocError> {
     let mut writing = Writing::new(alloc);
-    let class = file.strip_suffix(".story").unwrap_or(file);
+    let class = case.file.strip_suffix(".story").unwrap_or(case.file);
     writing.put("<testcase");
     put_attribute("classname", class, &mut writing);
-    put_attribute("name", name, &mut writing);
-    match told {
-        Some(told) => put_failure(told, &mut writing),
+    put_attribute("name", case.name, &mut writing);
+    match failure {
+        Some(failure) => {
+            let told = failure.told(alloc, case.file, case.name)?;
+            put_failure(&told, &mut writing);
+        }
         None => writing.put("/>\n"),
     }
-    writing
+    writing.end()
 }
 
 impl Report {
@@ -62,16 +70,15 @@ impl Report {
         }
     }
 
-    /// Adds a sequence of the story of a file, and what was told if it failed.
+    /// Adds a sequence, and the step that failed, if one did.
     pub(crate) fn add(
         &mut self,
-        file: &str,
-        name: &str,
-        told: Option<&[u8]>,
+        case: Case<'_>,
+        failure: Option<&Failure>,
     ) -> Result<(), AllocError> {
         if self.is_asked {
-            let case = written_case(self.alloc, file, name, told).end()?;
-            self.cases.extend_from_slice(&case)?;
+            let written = written_case(self.alloc, case, failure)?;
+            self.cases.extend_from_slice(&written)?;
         }
         Ok(())
     }

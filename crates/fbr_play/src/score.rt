@@ -44,13 +44,21 @@ impl Score {
         }
     }
 
+    /// With a sequence more, which failed or passed.
+    pub(crate) fn after(self, is_failed: bool) -> Score {
+        self.with(Score {
+            passed: if is_failed { 0 } else { 1 },
+            failed: if is_failed { 1 } else { 0 },
+        })
+    }
+
     /// How many sequences were played.
     pub(crate) fn count(self) -> u64 {
         self.passed.saturating_add(self.failed)
     }
 
-    // The program's status: 1 where a sequence failed.
-    fn status(self) -> u8
+    /// The program's status: 1 where a sequence failed.
+    pub fn status(self) -> u8
         ensures said { result ≡ status_of self }
         ensures most { result ≤ 4 }
     {

@@ -14,13 +14,15 @@ use std::alloc::Global;
 use std::io;
 use std::io::Write;
 
-/// Stories by the names of their files, the text of the application that they are of, what is watched, and whether there is to be a report.
+/// Stories by the names of their files, the text of the application that they are of, what is watched, whether there is to be a report, and for whom it is told.
 #[derive(Clone, Copy)]
 pub struct Stories<'t, 'b, 'a> {
     pub app: &'t str,
     pub names: &'b [&'a str],
     pub wish: Wish<'b, 'a>,
     pub has_report: bool,
+    /// Whether programs are told how they went, and not people.
+    pub is_json: bool,
 }
 
 /// How stories went: how many of their sequences passed and failed, or what refused one of them; and what was kept, which is empty where it is not asked for, and
@@ -42,6 +44,23 @@ fn refused<'a>(alloc: Global, fault: Fault<'a>) -> Played<'a> {
     }
 }
 
+// Plays the story of a text, and of the name of its file.
+fn play_text<'b, W: Write, E: Write>(
+    stage: Stage<'_>,
+    name: &'b str,
+    text: &'b str,
+    notes: &mut Notes<'_, '_>,
+    output: &mut W,
+    errors: &mut E,
+) -> io::Result<Result<Score, Unplayed>> {
+    let story = Named {
+        name,
+        text,
+        meant: None,
+    };
+    play_story(stage, story, notes, output, errors)
+}
+
 // Plays the story that a file holds.
 fn play_file<'a, S: Sources, W: Write, E: Write>(
     stage: Stage<'_>,
@@ -54,8 +73,7 @@ fn play_file<'a, S: Sources, W: Write, E: Write>(
     let file = read_file(stage.alloc, files, name);
     match file.text() {
         Ok(text) => {
-            let story = Named { name, text };
-            match play_story(stage, story, notes, output, errors)? {
+            match play_text(stage, name, text, notes, output, errors)? {
                 Ok(score) => Ok(Ok(score)),
                 Err(Unplayed::Memory) => Ok(Err(Fault::Memory)),
                 Err(Unplayed::Line(line)) => Ok(Err(Fault::Line(line))),
@@ -96,7 +114,11 @@ fn kept_of<'a>(
     played: Result<Score, Fault<'a>>,
     notes: Notes<'_, '_>,
 ) -> io::Result<Played<'a>> {
-    let Notes { report, watching } = notes;
+    let Notes {
+        report,
+        watching,
+        ..
+    } = notes;
     let seen = Seen::of(alloc, watching)?;
     match played {
         Ok(score) => Ok(Played {
@@ -122,6 +144,8 @@ fn play_watched<'a, S: Sources, W: Write, E: Write>(
         return Ok(refused(alloc, Fault::Memory));
     };
     let mut notes = Notes {
+        alloc,
+        is_json: stories.is_json,
         report: Report::new(alloc, stories.has_report),
         watching,
     };

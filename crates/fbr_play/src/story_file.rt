@@ -1,6 +1,7 @@
 //! Plays the story of a file.
 
 use crate::blocks::Blocks;
+use crate::failure::{Case, Failure};
 use crate::notes::Notes;
 use crate::playing::play_sequence;
 use crate::score::Score;
@@ -44,7 +45,7 @@ fn text_fault(alloc: Global, fault: TextFault) -> Fault {
         TextFault::BigNumber(at) => Fault::at(alloc, at, &["this number is too big"]),
         TextFault::TooLong => Fault::at(alloc, 0, &["a story has at most 1048576 bytes"]),
         TextFault::Syntax(at) | TextFault::TooDeep(at) => {
-            Fault::at(alloc, at, &["this cannot stand here"])
+            Fault::at(alloc, at, &["this cannot be here"])
         }
     }
 }
@@ -90,18 +91,17 @@ struct Cast<'s, 'n> {
 }
 
 impl<'s> Cast<'s, '_> {
-    // Plays a sequence on the system, or on its block type alone. Gives what people are told of the step that failed, if one did.
+    // Plays a sequence on the system, or on its block type alone. Gives the step that failed, if one did.
     fn play<W: Write>(
         &self,
         sequence: &Sequence<'_>,
         notes: &mut Notes<'_, '_>,
         output: &mut W,
-    ) -> Result<Option<Vec<u8>>, AllocError> {
+    ) -> Result<Option<Failure>, AllocError> {
         let Some(names) = self.names.get(sequence.scope) else {
             return Ok(None);
         };
         let telling = Telling {
-            file: self.file.name,
             text: self.file.text,
             tokens: self.tokens,
             names,
@@ -159,23 +159,12 @@ impl<'s> Cast<'s, '_> {
             let Ok(failure) = self.play(sequence, notes, output) else {
                 return Ok(Err(Unplayed::Memory));
             };
-            let name = self.name_of(sequence);
-            let noted = match &failure {
-                None => {
-                    score.passed = score.passed.saturating_add(1);
-                    notes.report.add(self.file.name, name, None)
-                }
-                Some(told) => {
-                    output.write_all(told)?;
-                    score.failed = score.failed.saturating_add(1);
-                    notes
-                        .report
-                        .add(self.file.name, name, Some(told.as_slice()))
-                }
+            let case = Case {
+                file: self.file.name,
+                name: self.name_of(sequence),
             };
-            if noted.is_err() {
-                return Ok(Err(Unplayed::Memory));
-            }
+            notes.add(case, failure.as_ref(), output)?;
+            score = score.after(failure.is_some());
         }
         match notes.report.end_story(self.file.name, score) {
             Ok(()) => Ok(Ok(score)),

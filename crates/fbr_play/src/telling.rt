@@ -1,6 +1,7 @@
 //! What people are told of a step that failed.
 
 use crate::course::{Course, MOST};
+use crate::failure::Failure;
 use crate::looking::Finding;
 use crate::seen::{Seen, Sight, Sights};
 use fb_lex::{Kind, Token};
@@ -8,10 +9,9 @@ use fbr_places::{Spot, Writing};
 use fbr_story::{Looked, Names, Span, Wanted, show_value};
 use std::alloc::{AllocError, Global};
 
-/// A story that people are told of: the name of its file, its text and tokens, and its names.
+/// A story that people are told of: its text and tokens, and its names.
 #[derive(Clone, Copy)]
 pub(crate) struct Telling<'a, 'n> {
-    pub(crate) file: &'a str,
     pub(crate) text: &'a str,
     pub(crate) tokens: &'a [Token],
     pub(crate) names: &'n Names<'a>,
@@ -117,78 +117,77 @@ impl<'a> Telling<'a, '_> {
         }
     }
 
-    // Writes all that the outside saw.
-    fn put_sights(
+    /// The failure of the step of this text, by what it wants and what came.
+    pub(crate) fn failure(
         &self,
         alloc: Global,
-        sights: &Sights,
-        writing: &mut Writing,
-    ) -> Result<(), AllocError> {
+        said: Span,
+        wanted: Writing,
+        came: Writing,
+    ) -> Result<Failure, AllocError> {
+        let line = match Spot::of_byte(self.text, said.from) {
+            Some(spot) => spot.line,
+            None => 1,
+        };
+        Ok(Failure {
+            line,
+            step: self.line(alloc, said).text()?,
+            wanted: wanted.text()?,
+            came: came.text()?,
+        })
+    }
+
+    /// The text of the story between two bytes, on one line.
+    pub(crate) fn line(&self, alloc: Global, span: Span) -> Writing {
+        let mut writing = Writing::new(alloc);
+        put_line(self.source(span), &mut writing);
+        writing
+    }
+
+    /// What a stimulus wants the outside to see.
+    pub(crate) fn wanted(&self, alloc: Global, wanted: &Option<Wanted>) -> Writing {
+        let mut writing = Writing::new(alloc);
+        match wanted {
+            Some(wanted) => put_wanted(self.source(wanted.said), &mut writing),
+            None => writing.put("nothing DENIED"),
+        }
+        writing
+    }
+
+    /// All that the outside saw.
+    pub(crate) fn seen(&self, alloc: Global, sights: &Sights) -> Result<Writing, AllocError> {
+        let mut writing = Writing::new(alloc);
         if sights.all.is_empty() {
             writing.put("-> ;");
         }
         for (index, seen) in sights.all.iter().enumerate() {
             writing.put(if index == 0 { "-> " } else { " -> " });
-            self.put_sight(alloc, seen, writing)?;
+            self.put_sight(alloc, seen, &mut writing)?;
         }
-        Ok(())
+        Ok(writing)
     }
 
-    /// Writes where a step of a sequence begins, and its text.
-    pub(crate) fn put_step(&self, sequence: Span, said: Span, writing: &mut Writing) {
-        writing.put(self.file);
-        writing.put(":");
-        if let Some(spot) = Spot::of_byte(self.text, said.from) {
-            writing.show(&spot.line);
-        }
-        writing.put(": ");
-        writing.put(self.source(sequence));
-        writing.put(": ");
-        put_line(self.source(said), writing);
-        writing.put("\n  wanted  ");
-    }
-
-    /// Writes what was wanted, and all that the outside saw.
-    pub(crate) fn put_seen(
+    /// What was found where something was looked at.
+    pub(crate) fn found(
         &self,
         alloc: Global,
-        wanted: &Option<Wanted>,
-        sights: &Sights,
-        writing: &mut Writing,
-    ) -> Result<(), AllocError> {
-        match wanted {
-            Some(wanted) => put_wanted(self.source(wanted.said), writing),
-            None => writing.put("nothing DENIED"),
-        }
-        writing.put("\n  came    ");
-        self.put_sights(alloc, sights, writing)?;
-        writing.put("\n");
-        Ok(())
-    }
-
-    /// Writes what was expected, and what was found.
-    pub(crate) fn put_finding(
-        &self,
-        wanted: Span,
         looked: &Looked<'_>,
         finding: Option<Finding>,
-        writing: &mut Writing,
-    ) {
-        put_line(self.source(wanted), writing);
-        writing.put("\n  came    ");
+    ) -> Writing {
+        let mut writing = Writing::new(alloc);
         match (looked, finding) {
             (Looked::Value(variable, _), Some(Finding::Value(value))) => {
-                show_value(variable.of_type, value, writing);
+                show_value(variable.of_type, value, &mut writing);
             }
             (Looked::State(_, block, _), Some(Finding::State(state))) => {
                 if let Some((name, _)) = block.states.get_index(usize::from(state)) {
-                    self.put_name(name.as_str(), writing);
+                    self.put_name(name.as_str(), &mut writing);
                 }
             }
             (_, Some(Finding::Pending(count))) => writing.show(&count),
             _ => {}
         }
-        writing.put("\n");
+        writing
     }
 }
 
@@ -201,23 +200,28 @@ fn put_wanted(text: &str, writing: &mut Writing) {
     }
 }
 
-/// Writes how many steps were wanted, and how many were taken.
-pub(crate) fn put_steps(most: u64, steps: u64, writing: &mut Writing) {
-    writing.put("STEPS <= ");
-    writing.show(&most);
-    writing.put("\n  came    STEPS ");
-    writing.show(&steps);
-    writing.put("\n");
+/// A text, and a number.
+pub(crate) fn counted(alloc: Global, text: &str, number: u64) -> Writing {
+    let mut writing = Writing::new(alloc);
+    writing.put(text);
+    writing.show(&number);
+    writing
 }
 
-/// Writes that a stimulus caused more dispatches than it may.
-pub(crate) fn put_endless<F, W>(course: &Course<'_, '_, '_, F, W>, writing: &mut Writing) {
-    writing.put("an end\n  came    none within ");
-    writing.show(&MOST);
+/// What is said where an end is wanted.
+pub(crate) fn an_end(alloc: Global) -> Writing {
+    let mut writing = Writing::new(alloc);
+    writing.put("an end");
+    writing
+}
+
+/// That a stimulus caused more dispatches than it may.
+pub(crate) fn endless<F, W>(alloc: Global, course: &Course<'_, '_, '_, F, W>) -> Writing {
+    let mut writing = counted(alloc, "none within ", MOST);
     writing.put(" dispatches");
     if let Some(channel) = course.channel {
         writing.put("; the last datagram went to channel ");
         writing.show(&channel);
     }
-    writing.put("\n");
+    writing
 }

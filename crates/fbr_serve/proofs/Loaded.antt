@@ -12,8 +12,9 @@ use Rattle.fbr_files.specs.declared.fault.Fault.{Fault}
 use Rattle.fbr_files.specs.declared.fault.Fault.TheVariants as faults
 use Rattle.fbr_files.specs.Outcomes.{Tells, refusal, IsContents, IsReadFault}
 use Rattle.fbr_words.specs.Program.{Service}
+use Rattle.fbr_files.specs.Reading.{held_by}
 use Rattle.fbr_files.specs.Writing.{Holdings}
-use Rattle.fbr_serve.specs.Serving.{IsStarted, IsTextsReady, IsFilesReady, IsFilesDevice, IsTextsFault, IsFilesFault, TakesBoot, HasNoBoot, TellsDevice, TellsServe, no_boot, no_device, a_device, HasNoRecord, no_record}
+use Rattle.fbr_serve.specs.Serving.{IsStarted, IsTextsReady, IsFilesReady, IsFilesDevice, IsTextsFault, IsFilesFault, TakesBoot, HasNoBoot, SealsAt, TakesSeals, HasNoSeals, TellsBy, TellsServe, no_boot, no_device, no_seals, a_device, HasNoRecord, no_record}
 
 -- ---- the files
 
@@ -87,22 +88,28 @@ started q boot held_app held_cert s t h first v n =
 
 -- ---- what is told
 
-pub refused_served : {E : Type 0} (q : Service) (before after : Holdings) (boot : ℕ) (f : Fault) (old new : Option (List ℕ)) (r : Result ℕ E) → TakesBoot q.life.boot before after boot
-    → IsFilesFault q (before q.app) (before q.cert) f → IfOk r (λ status. Tells (refusal f) old new status) → IfOk r (λ status. TellsServe q before after old new status)
-refused_served q before after boot f old new (Ok status) taken is h = no_device boot taken f is h
-refused_served q before after boot f old new (Err e) taken is h = tt
+pub refused_served : {E : Type 0} (q : Service) (before booted after : Holdings) (boot : ℕ) (f : Fault) (old new : Option (List ℕ)) (r : Result ℕ E) → TakesBoot q.life.boot before booted boot
+    → IsFilesFault q (held_by q.meant (before q.app)) (before q.cert) f → IfOk r (λ status. Tells (refusal f) old new status) → IfOk r (λ status. TellsServe q before booted after old new status)
+refused_served q before booted after boot f old new (Ok status) taken is h = no_device boot taken f is h
+refused_served q before booted after boot f old new (Err e) taken is h = tt
 
-pub unbooted_served : {E : Type 0} (q : Service) (before after : Holdings) (f : Fault) (old new : Option (List ℕ)) (r : Result ℕ E) → HasNoBoot q.life.boot before after f
-    → IfOk r (λ status. Tells (refusal f) old new status) → IfOk r (λ status. TellsServe q before after old new status)
-unbooted_served q before after f old new (Ok status) is h = no_boot f is h
-unbooted_served q before after f old new (Err e) is h = tt
+pub unbooted_served : {E : Type 0} (q : Service) (before booted after : Holdings) (f : Fault) (old new : Option (List ℕ)) (r : Result ℕ E) → HasNoBoot q.life.boot before booted f
+    → IfOk r (λ status. Tells (refusal f) old new status) → IfOk r (λ status. TellsServe q before booted after old new status)
+unbooted_served q before booted after f old new (Ok status) is h = no_boot f is h
+unbooted_served q before booted after f old new (Err e) is h = tt
 
-pub device_served : {E : Type 0} (q : Service) (before after : Holdings) (boot : ℕ) (s : Session) (old new : Option (List ℕ)) (r : Result ℕ E) → TakesBoot q.life.boot before after boot
-    → IsFilesDevice q boot (before q.app) (before q.cert) s → IfOk r (λ status. TellsDevice q s old new status) → IfOk r (λ status. TellsServe q before after old new status)
-device_served q before after boot s old new (Ok status) taken is h = a_device boot taken s is h
-device_served q before after boot s old new (Err e) taken is h = tt
+pub unsealed_served : {E : Type 0} (q : Service) (before booted after : Holdings) (boot : ℕ) (f : Fault) (old new : Option (List ℕ)) (r : Result ℕ E) → TakesBoot q.life.boot before booted boot
+    → HasNoSeals q.guard f → IfOk r (λ status. Tells (refusal f) old new status) → IfOk r (λ status. TellsServe q before booted after old new status)
+unsealed_served q before booted after boot f old new (Ok status) taken is h = no_seals boot taken f is h
+unsealed_served q before booted after boot f old new (Err e) taken is h = tt
 
-pub unrecorded_served : {E : Type 0} (q : Service) (before after : Holdings) (boot : ℕ) (f : Fault) (old new : Option (List ℕ)) (r : Result ℕ E) → TakesBoot q.life.boot before after boot
-    → HasNoRecord q.life.recorded f → IfOk r (λ status. Tells (refusal f) old new status) → IfOk r (λ status. TellsServe q before after old new status)
-unrecorded_served q before after boot f old new (Ok status) taken is h = no_record boot taken f is h
-unrecorded_served q before after boot f old new (Err e) taken is h = tt
+pub device_served : {E : Type 0} (q : Service) (before booted after : Holdings) (boot : ℕ) (a : Option SealsAt) (s : Session) (old new : Option (List ℕ)) (r : Result ℕ E)
+    → TakesBoot q.life.boot before booted boot → TakesSeals q.guard booted after a → IsFilesDevice q boot (held_by q.meant (before q.app)) (before q.cert) s → IfOk r (λ status. TellsBy q a s old new status)
+    → IfOk r (λ status. TellsServe q before booted after old new status)
+device_served q before booted after boot a s old new (Ok status) taken seals is h = a_device boot taken a seals s is h
+device_served q before booted after boot a s old new (Err e) taken seals is h = tt
+
+pub unrecorded_served : {E : Type 0} (q : Service) (before booted after : Holdings) (boot : ℕ) (f : Fault) (old new : Option (List ℕ)) (r : Result ℕ E) → TakesBoot q.life.boot before booted boot
+    → HasNoRecord q.life.recorded f → IfOk r (λ status. Tells (refusal f) old new status) → IfOk r (λ status. TellsServe q before booted after old new status)
+unrecorded_served q before booted after boot f old new (Ok status) taken is h = no_record boot taken f is h
+unrecorded_served q before booted after boot f old new (Err e) taken is h = tt

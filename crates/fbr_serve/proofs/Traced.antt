@@ -63,15 +63,15 @@ module _ {L S : Type 0} (does : S → SocketCall → S → Type 0) (socket : L �
   Step l call m = UdpStep does (peers l) (senders l) (failures l) (strangers l) (socket l) call (strangers m) (socket m) × (peers m ≡ peers l) × (senders m ≡ senders l)
 
   -- what is known of it, once its socket was asked this
-  abbrev over : L → List SocketCall → Over
+  abbrev pub over : L → List SocketCall → Over
   over l asked = record { failures = failures l; strangers = strangers l; asked = asked }
 
   module _ (to : List SocketAddr) (from : List IpAddr) where
     -- a link that keeps these peers and senders
-    abbrev Is : L → Type 0
+    abbrev pub Is : L → Type 0
     Is l = (peers l ≡ to) × (senders l ≡ from)
 
-    calls_traced : (cs : List LinkCall) (l m : L) (before : List SocketCall) → Is l → Chain Step l cs m → (after : List SocketCall) × Chain (LinkAsks to from) (over l before) cs (over m after) × Is m
+    pub calls_traced : (cs : List LinkCall) (l m : L) (before : List SocketCall) → Is l → Chain Step l cs m → (after : List SocketCall) × Chain (LinkAsks to from) (over l before) cs (over m after) × Is m
     calls_traced [] l m before is h = (before, ap (λ x. over x before) h, subst Is h is)
     calls_traced (c ∷ cs) l m before is h =
         let at : UdpStep does to from (failures l) (strangers l) (socket l) c (strangers h.0) (socket h.0) =

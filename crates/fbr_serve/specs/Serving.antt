@@ -1,5 +1,5 @@
 -- Turns of a device over a link, and what `fbr serve` tells: this project's profile.
-use Rattle.std.specs.Prelude.{◌≡◌, ◌≤◌, ℕ, ◌+◌, ◌-◌, ◌⊎◌, ◌==◌, nat_lt, min, Bool, true, false, List, [], ◌∷◌, ◌++◌, length, map, Option, Some, None, Result, Ok, Err, codes, string_bytes, slice_get, slice_index, option_and_then, if◌then◌else◌}
+use Rattle.std.specs.Prelude.{◌≡◌, ◌≤◌, ℕ, ◌+◌, ◌-◌, ◌⊎◌, ◌==◌, nat_lt, min, max, Bool, true, false, List, [], ◌∷◌, ◌++◌, length, map, Option, Some, None, Result, Ok, Err, codes, string_bytes, slice_get, slice_index, option_and_then, if◌then◌else◌}
 use Rattle.std.specs.List.{flat_map, sum_by, AllByRecursion}
 use Rattle.std.specs.Fmt.{decimal}
 use Rattle.std.specs.Str.{trim}
@@ -31,8 +31,13 @@ use Rattle.fbr_files.specs.declared.fault.Fault.{Fault}
 use Rattle.fbr_files.specs.declared.fault.Fault.TheVariants as faults
 use Rattle.fb_numbers.specs.Numbers.{long_number_in}
 use Rattle.fbr_files.specs.Outcomes.{Tells, refusal, IsContents, IsReadFault}
+use Rattle.fbr_files.specs.Reading.{held_by}
 use Rattle.fbr_files.specs.Writing.{Holdings}
-use Rattle.fbr_words.specs.Program.{Boot, numbered, in_file, Life, Network, Telling, Service}
+use Rattle.fb_seal.specs.declared.peers.Peer.{Peer}
+use Rattle.fb_seal.specs.Passing.{Own, SealedStep}
+use Rattle.fbr_seals.specs.declared.seals.Seals.{Seals}
+use Rattle.fbr_seals.specs.Sealing.{Book, TakesState, WritesDown, book_of}
+use Rattle.fbr_words.specs.Program.{Boot, numbered, in_file, Life, Network, Telling, Guard, unsealed, sealed, Service}
 
 -- ---- turns
 
@@ -296,18 +301,111 @@ pub record TellsTurns (q : Service) (s : Session) (old new : Option (List ℕ)) 
 abbrev pub TellsDevice : Service → Session → Option (List ℕ) → Option (List ℕ) → ℕ → Type 0
 TellsDevice q s old new status = Tells (refusal (faults.Socket q.network.bind.port)) old new status ⊎ TellsTurns q s old new status
 
+-- ---- sealed datagrams
+
+-- what a device seals with at the start: its number and its key, the first own counter that it may use and the first that it may not, its peers, the book of its
+-- state file, and where it sends
+pub record SealsAt : Type 0 where
+  pub number : ℕ
+  pub key : List ℕ
+  pub next : ℕ
+  pub reserved : ℕ
+  pub peers : List Peer
+  pub book : Book
+  pub to : List SocketAddr
+
+abbrev pub seals_of : {K : Type 0} → (K → Option (List ℕ)) → Seals K → SealsAt
+seals_of held s =
+    record {
+      number = s.number;
+      key = s.key;
+      next = s.next;
+      reserved = s.reserved;
+      peers = s.peers.items;
+      book = book_of held s.file;
+      to = s.to;
+    }
+
+-- a link that seals, over one over UDP: how many of its calls failed, what it has of its own, its book, and the link below
+pub record SealingLink : Type 0 where
+  pub failures : ℕ
+  pub own : Own
+  pub book : Book
+  pub below : Over
+
+abbrev pub sealed_failures : SealingLink → ℕ
+sealed_failures l = l.failures
+
+-- a call of such a link: what it seals and opens, what it writes down, and what it asks of the link below
+abbrev pub SealedAsks : List SocketAddr → List IpAddr → SealingLink → LinkCall → SealingLink → Type 0
+SealedAsks peers senders l call m = SealedStep (LinkAsks peers senders) WritesDown l.failures l.own l.book l.below call m.own m.book m.below
+
+-- at the start it has dropped nothing, and may use the counters that are written down
+abbrev pub sealed_at : SealsAt → SealingLink
+sealed_at a =
+    record {
+      failures = 0;
+      own = record {
+        number = a.number;
+        key = a.key;
+        next = a.next;
+        reserved = max a.next a.reserved;
+        peers = a.peers;
+        dropped = record { not_sealed = 0; strangers = 0; forged = 0; stale = 0; ahead = 0 };
+      };
+      book = a.book;
+      below = unasked;
+    }
+
+-- a device takes turns over a link that seals, to where its keys say and from the senders that are asked for, and this is told
+pub record TellsSealedTurns (q : Service) (a : SealsAt) (s : Session) (old new : Option (List ℕ)) (status : ℕ) : Type 0 where
+  pub senders : List IpAddr
+  pub from : map parts_of senders ≡ q.network.senders
+  pub all : List TurnAt
+  pub last : Machine
+  pub end : SealingLink
+  pub mid : Option (List ℕ)
+  pub ran : Ran
+  pub served : IsServed (cert_in s) (device_in s) (SealedAsks a.to senders) sealed_failures q.life q.telling (machine_of s) (sealed_at a) old all last end mid ran
+  pub told : TellsStop ran mid new status
+
+-- of a device that has started with seals: that nothing can be bound to the port, or its turns
+abbrev pub TellsSealed : Service → SealsAt → Session → Option (List ℕ) → Option (List ℕ) → ℕ → Type 0
+TellsSealed q a s old new status = Tells (refusal (faults.Socket q.network.bind.port)) old new status ⊎ TellsSealedTurns q a s old new status
+
+-- which of these, by its seals
+abbrev pub TellsBy : Service → Option SealsAt → Session → Option (List ℕ) → Option (List ℕ) → ℕ → Type 0
+TellsBy q None s old new status = TellsDevice q s old new status
+TellsBy q (Some a) s old new status = TellsSealed q a s old new status
+
+-- a device has seals where it is to have some: its counters are taken out of its state file, which has them written down then
+abbrev pub TakesSeals : Guard → Holdings → Holdings → Option SealsAt → Type 0
+TakesSeals unsealed before after (Some a) = ⊥
+TakesSeals unsealed before after None = after ≡ before
+TakesSeals (sealed keys state) before after None = ⊥
+TakesSeals (sealed keys state) before after (Some a) =
+    TakesState (before state) (after state) a.book.state × (a.next + 65536 ≡ a.book.state.own) × (a.reserved ≡ a.book.state.own)
+
+-- there are no seals: a file of keys or the state file cannot be used, or memory ran out
+abbrev pub HasNoSeals : Guard → Fault → Type 0
+HasNoSeals unsealed fault = ⊥
+HasNoSeals (sealed keys state) fault = IsReadFault keys fault ⊎ IsReadFault state fault
+
 -- there is no record: its file is there already or cannot be written, or memory ran out
 abbrev pub HasNoRecord : Option (List ℕ) → Fault → Type 0
 HasNoRecord None fault = IsReadFault (codes "-") fault
 HasNoRecord (Some name) fault = IsReadFault name fault
 
--- what `serve` tells, and what it leaves in files before its record begins
-pub data TellsServe (q : Service) (before after : Holdings) (old new : Option (List ℕ)) (status : ℕ) : Type 0 where
+-- what `serve` tells, and what it leaves in files once its boot is taken, and once its seals are
+pub data TellsServe (q : Service) (before booted after : Holdings) (old new : Option (List ℕ)) (status : ℕ) : Type 0 where
   -- why there is no boot
-  no_boot : (f : Fault) → HasNoBoot q.life.boot before after f → Tells (refusal f) old new status → TellsServe q before after old new status
+  no_boot : (f : Fault) → HasNoBoot q.life.boot before booted f → Tells (refusal f) old new status → TellsServe q before booted after old new status
   -- why there is no such device
-  no_device : (boot : ℕ) → TakesBoot q.life.boot before after boot → (f : Fault) → IsFilesFault q (before q.app) (before q.cert) f → Tells (refusal f) old new status → TellsServe q before after old new status
+  no_device : (boot : ℕ) → TakesBoot q.life.boot before booted boot → (f : Fault) → IsFilesFault q (held_by q.meant (before q.app)) (before q.cert) f → Tells (refusal f) old new status → TellsServe q before booted after old new status
+  -- why there are no seals
+  no_seals : (boot : ℕ) → TakesBoot q.life.boot before booted boot → (f : Fault) → HasNoSeals q.guard f → Tells (refusal f) old new status → TellsServe q before booted after old new status
   -- why there is no record of it
-  no_record : (boot : ℕ) → TakesBoot q.life.boot before after boot → (f : Fault) → HasNoRecord q.life.recorded f → Tells (refusal f) old new status → TellsServe q before after old new status
+  no_record : (boot : ℕ) → TakesBoot q.life.boot before booted boot → (f : Fault) → HasNoRecord q.life.recorded f → Tells (refusal f) old new status → TellsServe q before booted after old new status
   -- what becomes of the device
-  a_device : (boot : ℕ) → TakesBoot q.life.boot before after boot → (s : Session) → IsFilesDevice q boot (before q.app) (before q.cert) s → TellsDevice q s old new status → TellsServe q before after old new status
+  a_device : (boot : ℕ) → TakesBoot q.life.boot before booted boot → (a : Option SealsAt) → TakesSeals q.guard booted after a → (s : Session)
+      → IsFilesDevice q boot (held_by q.meant (before q.app)) (before q.cert) s → TellsBy q a s old new status → TellsServe q before booted after old new status

@@ -1,35 +1,54 @@
 //! Turns that are watched. What is seen in them is tested, and no contract says it.
 
+ghost use Rattle.std.specs.Prelude.{◌≡◌, Bool, false, true};
+ghost use Rattle.fb_device_state.specs.Machines.{device_in, cert_in, machine_of};
+ghost use Rattle.fb_turn.specs.Turns.{Turn};
+ghost use Rattle.fbr_serve.specs.Serving.{IsTaken, EndsTurn};
+
 use crate::notes::Notes;
+use crate::objects::{arrival_object, dispatch_object, turn_object};
 use crate::printing::{When, flushed, print_write};
 use crate::stop::Stop;
 use crate::turns::Taken;
-use fb_device::{Denied, Device, Dispatched, Effect, Ran};
+use fb_device::{Denied, Device, Dispatched, Effect};
 use fb_link::Link;
-use fb_turn::{Watch, turn};
-use fbr_watch::Watching;
+use fb_turn::{LinkDown, Report, Watch, turn};
+use fbr_objects::Object;
+use fbr_watch::{RanAt, Watching};
+use std::alloc::Global;
+use std::io;
 use std::io::Write;
 
 /// What looks at a device in its turns.
 pub trait Look {
+    /// Whether it sees nothing, for proofs.
+    ghost blind: { Self → Bool };
+
     /// Whether it sees nothing.
-    fn is_blind(&self) -> bool;
+    fn is_blind(&self) -> bool
+        ensures { result ≡ blind self.now };
+
+    /// Whether programs are told in objects what happens; then OUTPUTs have no lines.
+    fn is_told(&self) -> bool;
 
     /// The first look at the device.
     fn begin<W: Write>(&mut self, device: &Device, output: &mut W);
 
-    /// A look behind a datagram that came, at a moment in milliseconds.
-    fn came<W: Write>(&mut self, device: &Device, now: u64, output: &mut W);
-
-    /// A look behind a dispatch of a resource, at a moment in milliseconds.
-    fn ran<W: Write>(
+    /// A look behind a datagram that came at a moment in milliseconds, and was answered.
+    fn came<W: Write>(
         &mut self,
         device: &Device,
-        resource: u16,
         now: u64,
-        ran: &Ran,
+        bytes: &[u8],
+        answer: &Result<u64, Denied>,
         output: &mut W,
     );
+
+    /// A look behind a dispatch.
+    fn ran<W: Write>(&mut self, device: &Device, at: RanAt<'_>, output: &mut W);
+
+    /// A turn has ended, at a moment in milliseconds.
+    fn turned<W: Write>(&mut self, now: u64, report: Report, output: &mut W);
 }
 
 /// What sees nothing.
@@ -37,34 +56,83 @@ pub trait Look {
 pub struct Blind;
 
 impl Look for Blind {
+    ghost blind = { λ _. true };
+
     fn is_blind(&self) -> bool {
         true
     }
 
+    fn is_told(&self) -> bool {
+        false
+    }
+
     fn begin<W: Write>(&mut self, _device: &Device, _output: &mut W) {}
 
-    fn came<W: Write>(&mut self, _device: &Device, _now: u64, _output: &mut W) {}
-
-    fn ran<W: Write>(
+    fn came<W: Write>(
         &mut self,
         _device: &Device,
-        _resource: u16,
         _now: u64,
-        _ran: &Ran,
+        _bytes: &[u8],
+        _answer: &Result<u64, Denied>,
         _output: &mut W,
     ) {}
+
+    fn ran<W: Write>(&mut self, _device: &Device, _at: RanAt<'_>, _output: &mut W) {}
+
+    fn turned<W: Write>(&mut self, _now: u64, _report: Report, _output: &mut W) {}
 }
 
-/// What watches a device, and the number of the device.
+/// What watches a device, the number of the device, and whether programs are told what happens.
 #[derive(Drop)]
 pub struct Viewer<'s, 'a> {
-    pub number: u16,
-    pub watching: Watching<'s, 'a, Vec<u8>>,
+    alloc: Global,
+    number: u16,
+    watching: Watching<'s, 'a, Vec<u8>>,
+    is_told: bool,
+    done: io::Result<()>,
+}
+
+impl<'s, 'a> Viewer<'s, 'a> {
+    /// What watches the device of a number, and tells programs what happens if it is to.
+    pub fn new(
+        alloc: Global,
+        number: u16,
+        watching: Watching<'s, 'a, Vec<u8>>,
+        is_told: bool,
+    ) -> Viewer<'s, 'a> {
+        Viewer {
+            alloc,
+            number,
+            watching,
+            is_told,
+            done: Ok(()),
+        }
+    }
+
+    // Writes an object, if all before it were written.
+    fn tell<W: Write>(&mut self, object: Object, output: &mut W) {
+        if self.done.is_ok() {
+            self.done = object.write(output);
+        }
+    }
+
+    /// What has watched; or an error if an object could not be written.
+    pub fn end(self) -> io::Result<Watching<'s, 'a, Vec<u8>>> {
+        let Viewer { watching, done, .. } = self;
+        done?;
+        Ok(watching)
+    }
 }
 
 impl Look for Viewer<'_, '_> {
+    ghost blind = { λ _. false };
+
     fn is_blind(&self) -> bool {
         false
+    }
+
+    fn is_told(&self) -> bool {
+        self.is_told
     }
 
     fn begin<W: Write>(&mut self, device: &Device, output: &mut W) {
@@ -72,20 +140,34 @@ impl Look for Viewer<'_, '_> {
         self.watching.first(self.number, device, output);
     }
 
-    fn came<W: Write>(&mut self, device: &Device, now: u64, output: &mut W) {
+    fn came<W: Write>(
+        &mut self,
+        device: &Device,
+        now: u64,
+        bytes: &[u8],
+        answer: &Result<u64, Denied>,
+        output: &mut W,
+    ) {
+        if self.is_told {
+            let object = arrival_object(self.alloc, device, now, bytes, answer);
+            self.tell(object, output);
+        }
         self.watching.came(self.number, device, now, output);
     }
 
-    fn ran<W: Write>(
-        &mut self,
-        device: &Device,
-        resource: u16,
-        now: u64,
-        ran: &Ran,
-        output: &mut W,
-    ) {
-        self.watching
-            .ran(self.number, device, resource, now, ran, output);
+    fn ran<W: Write>(&mut self, device: &Device, at: RanAt<'_>, output: &mut W) {
+        if self.is_told {
+            let object = dispatch_object(self.alloc, device, at.now, at.ran);
+            self.tell(object, output);
+        }
+        self.watching.ran(self.number, device, at, output);
+    }
+
+    fn turned<W: Write>(&mut self, now: u64, report: Report, output: &mut W) {
+        if self.is_told {
+            let object = turn_object(self.alloc, now, report);
+            self.tell(object, output);
+        }
     }
 }
 
@@ -108,7 +190,7 @@ impl<W: Write, E: Write, F: Write, V: Look> Watch for Looker<'_, '_, '_, W, E, F
         notes
             .people
             .came(&mut notes.errors, now, device, bytes, answer);
-        self.viewer.came(device, now, self.output);
+        self.viewer.came(device, now, bytes, answer, self.output);
     }
 
     fn served(&mut self, device: &Device, answer: &Dispatched, is_taken: bool) {
@@ -116,23 +198,41 @@ impl<W: Write, E: Write, F: Write, V: Look> Watch for Looker<'_, '_, '_, W, E, F
             let now = self.when.now;
             let notes = &mut *self.notes;
             if let Some(Effect::Write(number, values)) = &ran.effect {
-                let printed = print_write(self.output, self.when, *number, values.as_slice());
-                if printed.is_err() {
-                    self.is_lost = true;
-                    notes.people.lost_line();
+                if !self.viewer.is_told() {
+                    let printed = print_write(self.output, self.when, *number, values.as_slice());
+                    if printed.is_err() {
+                        self.is_lost = true;
+                        notes.people.lost_line();
+                    }
                 }
             }
             notes
                 .people
                 .ran(&mut notes.errors, now, device, ran, is_taken);
-            self.viewer
-                .ran(device, self.resource, now, ran, self.output);
+            let at = RanAt {
+                resource: self.resource,
+                now,
+                ran,
+            };
+            self.viewer.ran(device, at, self.output);
         }
         self.resource = self.resource.saturating_add(1);
     }
 }
 
-/// Takes a turn as `take_turn` does, without a record, and looks at the device.
+// Tells that a turn has ended, unless its link failed.
+fn tell_turned<W: Write, V: Look>(
+    viewer: &mut V,
+    now: u64,
+    turned: &Result<Report, LinkDown>,
+    output: &mut W,
+) {
+    if let Ok(report) = turned {
+        viewer.turned(now, *report, output);
+    }
+}
+
+/// Takes a turn as `take_turn` does, without a record, and looks at the device. Whatever is printed or told of it is there when it ends.
 pub(crate) fn look_turn<L: Link, W: Write, E: Write, F: Write, V: Look>(
     device: &mut Device,
     link: &mut L,
@@ -140,7 +240,11 @@ pub(crate) fn look_turn<L: Link, W: Write, E: Write, F: Write, V: Look>(
     output: &mut W,
     notes: &mut Notes<E, F>,
     viewer: &mut V,
-) -> Taken {
+) -> Taken
+    ensures taken { (turn : Turn) × IsTaken (cert_in device.old) (device_in device.old) L.steps L.count (machine_of device.old) link.old (record { now = when.now; turn = turn }) (machine_of device.new) link.new
+        × EndsTurn (device_in device.old) turn result.end }
+    ensures same { (device.new.verified ≡ device.old.verified) × (device.new.number ≡ device.old.number) }
+{
     let mut looker = Looker {
         output,
         notes,
@@ -152,15 +256,22 @@ pub(crate) fn look_turn<L: Link, W: Write, E: Write, F: Write, V: Look>(
     let turned = turn(device, link, &mut looker, when.now);
     let Looker {
         output,
+        notes,
+        viewer,
         is_lost,
         ..
     } = looker;
-    let is_shown = flushed(output);
-    Taken {
-        end: match turned {
-            Ok(report) => Ok(report),
-            Err(_) => Err(Stop::LinkDown),
+    tell_turned(viewer, when.now, &turned, output);
+    let is_lost = !flushed(output) || is_lost;
+    let _ = notes.errors.flush();
+    match turned {
+        Ok(report) => Taken {
+            end: Ok(report),
+            is_lost,
         },
-        is_lost: is_lost || !is_shown,
+        Err(_) => Taken {
+            end: Err(Stop::LinkDown),
+            is_lost,
+        },
     }
 }

@@ -1,13 +1,18 @@
 //! Takes the turns of a record again.
 
-ghost use Rattle.std.specs.Prelude.{◌≡◌, ◌≤◌, IfOk};
+ghost use Rattle.std.specs.Prelude.{◌≡◌, ◌≤◌, ℕ, List, None, Option, Some, IfErr, IfOk, MatchOption};
+ghost use Rattle.std.specs.Io.Buffered.{reader_remaining};
+ghost use Rattle.fb_device_state.specs.Machines.{device_in, cert_in, machine_of};
+ghost use Rattle.fb_record.specs.Records.{Entry as Coming, IsPlayable};
 ghost use Rattle.fb_record.specs.Views as records;
-ghost use Rattle.fbr_serve.specs.Recording.{plays};
+ghost use Rattle.fbr_serve.specs.Serving.{EndsTurn, TurnAt};
+ghost use Rattle.fbr_serve.specs.Recording.{EndsTaken, Retaken, Retakes, entry_said, plays};
 
 use crate::looking::{Look, look_turn};
 use crate::notes::Notes;
-use crate::printing::When;
+use crate::printing::{When, flushed};
 use crate::serve::{load_named, print_served};
+use crate::shapes::Shapes;
 use crate::stop::Stop;
 use crate::sums::Sums;
 use crate::telling::Teller;
@@ -22,10 +27,18 @@ use fbr_lines::{Next, next_line};
 use fbr_words::{Replay, Telling};
 use std::alloc::{AllocError, Global};
 use std::io;
-use std::io::{BufReader, Read, Write};
+use std::io::{BufReader, ErrorKind, Read, Write};
 
 /// The most bytes of a line, its line feed counted: that of a turn has fewer.
 const LONGEST: usize = 8_192;
+
+// Why a line is no turn.
+const TOO_LONG: &str = "this line has more than 8,192 bytes";
+
+const NO_TEXT: &str = "this line is no UTF-8";
+
+const NO_TURN: &str =
+    "this line is no turn: 'turn MILLISECONDS', each datagram in hexadecimal digits, and 'down' if a receive failed";
 
 /// Why the turns of a record are not taken to its end.
 #[derive(Clone, Copy)]
@@ -52,11 +65,21 @@ fn link_of(alloc: Global, entry: Entry, room: usize) -> Result<MemoryLink, Alloc
     MemoryLink::new(alloc, entry.datagrams, room, plan)
 }
 
-// How turns are told: whether lines begin with the clock, and what looks at the device.
+// How turns are told: whether lines begin with the clock, what looks at the device, and why the last line that was read is no turn, if it is none.
 #[derive(Drop)]
 struct View<V> {
     has_clock: bool,
     viewer: V,
+    wrong: &'static str,
+}
+
+// Why a line is no turn that is none.
+fn wrong_in(line: &[u8]) -> &'static str {
+    if str::from_utf8(line).is_ok() {
+        NO_TURN
+    } else {
+        NO_TEXT
+    }
 }
 
 // Takes the turn that a record says.
@@ -67,18 +90,23 @@ fn take_entry<W: Write, E: Write, V: Look>(
     view: &mut View<V>,
     output: &mut W,
     notes: &mut Notes<E, io::Sink>,
-) -> Result<Taken, AllocError> {
+) -> Result<Taken, AllocError>
+    requires { IsPlayable (records.entry_of entry) }
+    ensures taken { IfOk result (λ taken. (x : TurnAt) × Retakes (cert_in device.old) (device_in device.old) (machine_of device.old) (records.entry_of entry) x (machine_of device.new) × EndsTurn (device_in device.old) x.turn taken.end) }
+    ensures unmoved { IfErr result (λ _. device.new ≡ device.old) }
+    ensures same { (device.new.verified ≡ device.old.verified) × (device.new.number ≡ device.old.number) }
+{
     let when = When {
         now: entry.now,
         is_told: view.has_clock,
     };
     let room = usize::from(device.resources());
     let mut link = link_of(alloc, entry, room)?;
-    Ok(if view.viewer.is_blind() {
-        take_turn(device, &mut link, when, output, notes)
-    } else {
-        look_turn(device, &mut link, when, output, notes, &mut view.viewer)
-    })
+    if view.viewer.is_blind() {
+        return Ok(take_turn(device, &mut link, when, output, notes));
+    }
+    let viewer = &mut view.viewer;
+    Ok(look_turn(device, &mut link, when, output, notes, viewer))
 }
 
 // Takes the turn that a line says.
@@ -89,7 +117,12 @@ fn take_line<W: Write, E: Write, V: Look>(
     view: &mut View<V>,
     output: &mut W,
     notes: &mut Notes<E, io::Sink>,
-) -> Result<Option<Taken>, AllocError> {
+) -> Result<Option<Taken>, AllocError>
+    ensures taken { IfOk result (λ found. MatchOption found ((entry_said line.now ≡ None) × (device.new ≡ device.old))
+        (λ taken. (e : Coming) × (x : TurnAt) × (entry_said line.now ≡ Some e) × Retakes (cert_in device.old) (device_in device.old) (machine_of device.old) e x (machine_of device.new) × EndsTurn (device_in device.old) x.turn taken.end)) }
+    ensures unmoved { IfErr result (λ _. device.new ≡ device.old) }
+    ensures same { (device.new.verified ≡ device.old.verified) × (device.new.number ≡ device.old.number) }
+{
     let Ok(text) = str::from_utf8(line) else {
         return Ok(None);
     };
@@ -107,15 +140,24 @@ fn take_lines<R: Read, W: Write, E: Write, V: Look>(
     reader: &mut BufReader<R>,
     output: &mut W,
     notes: &mut Notes<E, io::Sink>,
-) -> Result<Ran, Halt> {
+) -> Result<Ran, Halt>
+    ensures taken { (all : List TurnAt) × (rest : Option (List ℕ)) × Retaken (cert_in device.old) (device_in device.old) (reader_remaining R.remaining reader.old) (machine_of device.old) all rest (machine_of device.new) × EndsTaken all rest result }
+    ensures same { (device.new.verified ≡ device.old.verified) × (device.new.number ≡ device.old.number) }
+{
     let mut line = Vec::new(alloc);
     let mut sums = Sums::none();
     let mut is_lost = false;
     for at in 2..usize::MAX {
         match next_line(reader, &mut line, LONGEST) {
             Next::Whole => {}
-            Next::Last | Next::End => break,
-            Next::TooLong => return Err(Halt::Line(at)),
+            Next::Last | Next::End => {
+                let end = Ok(sums);
+                return Ok(Ran { end, is_lost });
+            }
+            Next::TooLong => {
+                view.wrong = TOO_LONG;
+                return Err(Halt::Line(at));
+            }
             Next::Memory => return Err(Halt::Memory),
             Next::Failed => return Err(Halt::Unreadable),
         }
@@ -130,12 +172,14 @@ fn take_lines<R: Read, W: Write, E: Write, V: Look>(
                     }
                 }
             }
-            Ok(None) => return Err(Halt::Line(at)),
+            Ok(None) => {
+                view.wrong = wrong_in(line.as_slice());
+                return Err(Halt::Line(at));
+            }
             Err(_) => return Err(Halt::Memory),
         }
     }
-    let end = Ok(sums);
-    Ok(Ran { end, is_lost })
+    Err(Halt::Unreadable)
 }
 
 // Tells people what is wrong with the first line of a record.
@@ -229,6 +273,23 @@ pub fn load_recorded<'a, R: Read, E: Write>(
     }
 }
 
+// Tells people why a line is refused, if one is.
+fn tell_halt<E: Write>(
+    taken: &Result<Ran, Halt>,
+    wrong: &str,
+    replay: &Replay<'_>,
+    errors: &mut E,
+) {
+    if let Err(Halt::Line(at)) = taken {
+        let name = if replay.record == "-" {
+            "standard input"
+        } else {
+            replay.record
+        };
+        let _ = writeln!(errors, "fbr: {name}:{at}: refused 60: {wrong}");
+    }
+}
+
 // Prints what the turns of a record did in all, or why they were not taken to its end, and gives the program's status.
 fn print_replayed<W: Write>(
     taken: Result<Ran, Halt>,
@@ -252,6 +313,77 @@ pub struct Replayed<V> {
     pub viewer: V,
 }
 
+// That output could not be written.
+fn lost() -> io::Error {
+    io::Error::from(ErrorKind::WriteZero)
+}
+
+// What the turns of a record did in all, or why they were not taken to its end; an error if a line was lost.
+fn outcome_of<'a>(
+    taken: Result<Ran, Halt>,
+    replay: &Replay<'a>,
+) -> io::Result<Result<Sums, Fault<'a>>> {
+    match taken {
+        Ok(ran) => match ran.end {
+            Ok(sums) => {
+                if ran.is_lost {
+                    Err(lost())
+                } else {
+                    Ok(Ok(sums))
+                }
+            }
+            Err(Stop::LinkDown) => Ok(Err(Fault::LinkDown)),
+            Err(Stop::Output | Stop::Clock) => Err(lost()),
+        },
+        Err(Halt::Line(at)) => Ok(Err(Fault::Line(at))),
+        Err(Halt::Memory) => Ok(Err(Fault::Memory)),
+        Err(Halt::Unreadable) => Ok(Err(Fault::File(replay.record))),
+    }
+}
+
+// Starts a device, and takes the turns of its record again. Gives what they came to, and what has looked.
+fn take_record<R: Read, W: Write, E: Write, V: Look + Drop>(
+    alloc: Global,
+    replayed: Replayed<V>,
+    replay: &Replay<'_>,
+    reader: &mut BufReader<R>,
+    output: &mut W,
+    errors: &mut E,
+) -> (Result<Ran, Halt>, V) {
+    let telling = Telling {
+        is_verbose: replay.is_verbose,
+        summary: None,
+        has_clock: replay.has_clock,
+        is_strict: false,
+    };
+    let Replayed { ready, viewer } = replayed;
+    let shapes = Shapes::of(alloc, ready.verified().flat());
+    let recorder = match Recorder::new(alloc, io::sink()) {
+        Ok(recorder) => recorder,
+        Err(_) => {
+            ready.start().let_go();
+            return (Err(Halt::Memory), viewer);
+        }
+    };
+    let mut device = ready.start();
+    let mut notes = Notes {
+        errors,
+        people: Teller::new(telling, shapes),
+        recorder,
+    };
+    let mut view = View {
+        has_clock: replay.has_clock,
+        viewer,
+        wrong: "",
+    };
+    view.viewer.begin(&device, output);
+    let _ = flushed(output);
+    let taken = take_lines(alloc, &mut device, &mut view, reader, output, &mut notes);
+    device.let_go();
+    tell_halt(&taken, view.wrong, replay, &mut notes.errors);
+    (taken, view.viewer)
+}
+
 /// Starts a device, takes the turns of its record again, and prints what its OUTPUTs write, and at the end what the turns did in all. A last line that was cut is
 /// left out; one that says no turn ends it with 60. Where something looks at the device, the lines of what has changed stand behind each dispatch. Gives the
 /// program's status, and what has looked.
@@ -265,32 +397,20 @@ pub fn replay_ready<R: Read, W: Write, E: Write, V: Look + Drop>(
 ) -> io::Result<(u8, V)>
     ensures status { IfOk result (λ ended. ended.0 ≤ 4) }
 {
-    let telling = Telling {
-        is_verbose: replay.is_verbose,
-        summary: None,
-        has_clock: replay.has_clock,
-        is_strict: false,
-    };
-    let Replayed { ready, viewer } = replayed;
-    let recorder = match Recorder::new(alloc, io::sink()) {
-        Ok(recorder) => recorder,
-        Err(_) => {
-            ready.start().let_go();
-            return Ok((print_outcome(Err(Fault::Memory), output)?, viewer));
-        }
-    };
-    let mut device = ready.start();
-    let mut notes = Notes {
-        errors,
-        people: Teller::new(telling),
-        recorder,
-    };
-    let mut view = View {
-        has_clock: replay.has_clock,
-        viewer,
-    };
-    view.viewer.begin(&device, output);
-    let taken = take_lines(alloc, &mut device, &mut view, reader, output, &mut notes);
-    device.let_go();
-    Ok((print_replayed(taken, replay, output)?, view.viewer))
+    let (taken, viewer) = take_record(alloc, replayed, replay, reader, output, errors);
+    Ok((print_replayed(taken, replay, output)?, viewer))
+}
+
+/// The same, of which nothing is printed but what the one who looks at the device writes. Gives what the turns did in all, or why they were not taken to the end of
+/// the record (`Line`, `LinkDown`, `Memory`, `File`), and what has looked; an error if a line was lost.
+pub fn replay_told<'a, R: Read, W: Write, E: Write, V: Look + Drop>(
+    alloc: Global,
+    replayed: Replayed<V>,
+    replay: &Replay<'a>,
+    reader: &mut BufReader<R>,
+    output: &mut W,
+    errors: &mut E,
+) -> io::Result<(Result<Sums, Fault<'a>>, V)> {
+    let (taken, viewer) = take_record(alloc, replayed, replay, reader, output, errors);
+    Ok((outcome_of(taken, replay)?, viewer))
 }

@@ -1,13 +1,15 @@
 //! Runs a device of two files over UDP.
 
-ghost use Rattle.std.specs.Prelude.{◌≡◌, ◌≤◌, ℕ, List, Option, IfOk, MatchResult, if◌then◌else◌};
-ghost use Rattle.fbr_files.specs.Reading.{IsFile};
+ghost use Rattle.std.specs.Prelude.{◌≡◌, ◌≤◌, ℕ, List, Option, IfOk, MatchResult, if◌then◌else◌, option_map};
+ghost use Rattle.fbr_files.specs.Reading.{IsFile, held_by};
 ghost use Rattle.fbr_files.specs.Writing.{Holdings};
 ghost use Rattle.fbr_words.specs.Requests.{service_of};
 ghost use Rattle.fb_device.specs.Loads.{IsLoaded};
-ghost use Rattle.fbr_serve.specs.Serving.{IsTextsFault, IsTextsReady, IsFilesFault, IsFilesReady, TakesBoot, TellsStop, TellsDevice, TellsServe};
+ghost use Rattle.fbr_serve.specs.Serving.{IsTextsFault, IsTextsReady, IsFilesFault, IsFilesReady, TakesBoot, TakesSeals, TellsBy, TellsStop, TellsDevice, TellsServe, seals_of};
 
 use crate::notes::Notes;
+use crate::sealed::serve_sealed;
+use crate::shapes::Shapes;
 use crate::stop::Stop;
 use crate::sums::Sums;
 use crate::telling::Teller;
@@ -16,12 +18,14 @@ use fb_device::{Device, Ready, Refusal as LoadRefusal, load_boot};
 use fb_link::UdpLink;
 use fb_record::Recorder;
 use fb_verdict::Refusal;
-use fbr_files::{Fault, FileText, print_outcome};
-use fbr_words::Serve;
+use fb_wire::Stamp;
+use fbr_files::{Fault, FileText, Keep, print_outcome};
+use fbr_seals::Seals;
+use fbr_words::{Guard, Serve};
 use std::alloc::Global;
 use std::io;
 use std::io::Write;
-use std::net::Net;
+use std::net::{Net, SocketAddr};
 use std::rt::Clock;
 
 /// The device of this name in two texts, with its boot.
@@ -34,7 +38,7 @@ pub(crate) fn load_named<'a>(
 ) -> Result<Ready, Fault<'a>>
     ensures { MatchResult result (IsLoaded app.now cert.now device.now 1 (record { boot = boot; sequence = 1 })) (IsTextsFault app.now cert.now device.now) }
 {
-    match load_boot(alloc, app, cert, device, 1, boot, 1) {
+    match load_boot(alloc, app, cert, device, 1, Stamp { boot, sequence: 1 }) {
         Ok(ready) => Ok(ready),
         Err(LoadRefusal::Checked(Refusal::OutOfMemory)) => Err(Fault::Memory),
         Err(LoadRefusal::Checked(refusal)) => Err(Fault::Refused(refusal)),
@@ -99,8 +103,26 @@ pub(crate) fn print_served<W: Write>(ran: Ran, output: &mut W) -> io::Result<u8>
     }
 }
 
-// Tells people that a device is ready, and what its certificate supposes of the network.
-fn tell_ready<E: Write>(device: &Device, repeats: Option<u8>, serve: &Serve<'_>, errors: &mut E) {
+// Tells people that nothing is checked of what others send, where others reach the device.
+fn tell_unchecked<E: Write>(serve: &Serve<'_>, errors: &mut E) {
+    if let Guard::Unsealed = serve.guard {
+        if !serve.network.bind.ip().is_loopback() {
+            let _ = writeln!(
+                errors,
+                "fbr: others reach this address, and nothing is checked of what they send: --keys FILE --state FILE takes only what was sealed"
+            );
+        }
+    }
+}
+
+/// Tells people that a device is ready, what is checked of datagrams, and what its certificate supposes of the network.
+pub(crate) fn tell_ready<E: Write>(
+    device: &Device,
+    repeats: Option<u8>,
+    serve: &Serve<'_>,
+    peers: &[SocketAddr],
+    errors: &mut E,
+) {
     let (name, bind) = (device.name(), serve.network.bind);
     let _ = write!(errors, "fbr: {name} receives at {bind}");
     let senders = serve.network.senders.as_slice();
@@ -114,7 +136,6 @@ fn tell_ready<E: Write>(device: &Device, repeats: Option<u8>, serve: &Serve<'_>,
         let _ = write!(errors, " {sender}");
     }
     let _ = write!(errors, ", sends to");
-    let peers = serve.network.peers.as_slice();
     if peers.is_empty() {
         let _ = write!(errors, " nobody");
     }
@@ -123,6 +144,7 @@ fn tell_ready<E: Write>(device: &Device, repeats: Option<u8>, serve: &Serve<'_>,
         let _ = write!(errors, " {peer}");
     }
     let _ = writeln!(errors, "");
+    tell_unchecked(serve, errors);
     if let Some(repeats) = repeats {
         let _ = writeln!(
             errors,
@@ -131,8 +153,8 @@ fn tell_ready<E: Write>(device: &Device, repeats: Option<u8>, serve: &Serve<'_>,
     }
 }
 
-// Tells people why a device ended early, where it did.
-fn tell_end<E: Write>(end: &Result<Sums, Stop>, errors: &mut E) {
+/// Tells people why a device ended early, where it did.
+pub(crate) fn tell_end<E: Write>(end: &Result<Sums, Stop>, errors: &mut E) {
     let _ = match end {
         Ok(_) => Ok(()),
         Err(Stop::LinkDown) => writeln!(errors, "fbr: a receive from the network failed"),
@@ -141,8 +163,8 @@ fn tell_end<E: Write>(end: &Result<Sums, Stop>, errors: &mut E) {
     };
 }
 
-// Tells people of datagrams that came from elsewhere.
-fn tell_strangers<E: Write>(strangers: u64, errors: &mut E) {
+/// Tells people of datagrams that came from elsewhere.
+pub(crate) fn tell_strangers<E: Write>(strangers: u64, errors: &mut E) {
     if strangers > 0 {
         let _ = writeln!(
             errors,
@@ -167,7 +189,7 @@ fn serve_device<R: Clock + Net, W: Write, E: Write, F: Write>(
     let (peers, senders) = (network.peers.as_slice(), network.senders.as_slice());
     match UdpLink::open_at(rt, network.bind, peers, senders) {
         Ok(mut link) => {
-            tell_ready(device, repeats, serve, &mut notes.errors);
+            tell_ready(device, repeats, serve, peers, &mut notes.errors);
             let ran = serve_on(rt, device, &mut link, serve, output, notes);
             tell_strangers(link.strangers(), &mut notes.errors);
             tell_end(&ran.end, &mut notes.errors);
@@ -177,28 +199,55 @@ fn serve_device<R: Clock + Net, W: Write, E: Write, F: Write>(
     }
 }
 
+// Takes the turns of a device over sealed datagrams, or over bare ones.
+fn serve_by<R: Clock + Net, K: Keep + Drop, W: Write, E: Write, F: Write>(
+    rt: &R,
+    device: &mut Device,
+    repeats: Option<u8>,
+    serve: &Serve<'_>,
+    seals: Option<Seals<K>>,
+    output: &mut W,
+    notes: &mut Notes<E, F>,
+) -> io::Result<u8>
+    ensures told { IfOk result (λ status. TellsBy (service_of serve.now) (option_map (seals_of K.held) seals) device.old (W.contents output.old) (W.contents output.new) status) }
+    ensures status { IfOk result (λ status. status ≤ 4) }
+{
+    match seals {
+        Some(seals) => serve_sealed(rt, device, repeats, serve, seals, output, notes),
+        None => serve_device(rt, device, repeats, serve, output, notes),
+    }
+}
+
 /// Starts a device, takes its turns over UDP, and prints what its OUTPUTs write, and at the end what the turns did in all; or that nothing can be bound to its
-/// port. On `errors` people are told what it does, and the recorder records what comes.
-pub fn serve_ready<R: Clock + Net, W: Write, E: Write, F: Write + Drop>(
+/// port. With seals, what it sends is sealed, and what it takes was. On `errors` people are told what it does, and the recorder records what comes.
+pub fn serve_ready<
+    R: AllocGlobal + Clock + Net,
+    K: Keep + Drop,
+    W: Write,
+    E: Write,
+    F: Write + Drop,
+>(
     rt: &R,
     ready: Ready,
     serve: &Serve<'_>,
+    seals: Option<Seals<K>>,
     output: &mut W,
     errors: &mut E,
     recorder: Recorder<F>,
 ) -> io::Result<u8>
-    ensures told { (before after : Holdings) (boot : ℕ) → TakesBoot (service_of serve.now).life.boot before after boot → IsFilesReady (service_of serve.now) boot (before serve.now.app.now) (before serve.now.cert.now) ready
-        → IfOk result (λ status. TellsServe (service_of serve.now) before after (W.contents output.old) (W.contents output.new) status) }
+    ensures told { (before booted after : Holdings) (boot : ℕ) → TakesBoot (service_of serve.now).life.boot before booted boot → IsFilesReady (service_of serve.now) boot (held_by (service_of serve.now).meant (before serve.now.app.now)) (before serve.now.cert.now) ready
+        → TakesSeals (service_of serve.now).guard booted after (option_map (seals_of K.held) seals) → IfOk result (λ status. TellsServe (service_of serve.now) before booted after (W.contents output.old) (W.contents output.new) status) }
     ensures status { IfOk result (λ status. status ≤ 4) }
 {
     let repeats = ready.verified().certificate().repeats();
+    let shapes = Shapes::of(rt.alloc(), ready.verified().flat());
     let mut device = ready.start();
     let mut notes = Notes {
         errors,
-        people: Teller::new(serve.telling),
+        people: Teller::new(serve.telling, shapes),
         recorder,
     };
-    let status = serve_device(rt, &mut device, repeats, serve, output, &mut notes);
+    let status = serve_by(rt, &mut device, repeats, serve, seals, output, &mut notes);
     device.let_go();
     status
 }

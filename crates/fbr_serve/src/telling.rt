@@ -1,5 +1,7 @@
 //! What people are told while a device runs. It is tested, and no contract says it.
 
+use crate::dropping::{Drops, tell_unsealed};
+use crate::shapes::{Misfit, Shapes};
 use crate::stop::Stop;
 use crate::sums::Sums;
 use fb_device::{Denied, Device, Effect, Ended, Ran};
@@ -82,9 +84,9 @@ fn field_of(fault: WireFault) -> &'static str {
     }
 }
 
-// Why something was denied, in words.
+/// Why something was denied, in words, and how a message differs from what is taken.
 #[derive(Clone, Copy)]
-struct Why(Denied);
+pub(crate) struct Why(pub Denied, pub Misfit);
 
 impl fmt::Display for Why {
     fn fmt<W: fmt::Write>(&self, f: &mut fmt::Formatter<W>) -> fmt::Result {
@@ -99,7 +101,10 @@ impl fmt::Display for Why {
                 write!(f, "it is no message ({field})")
             }
             Denied::NoSubscriber => write!(f, "no SUBSCRIBE takes this channel"),
-            Denied::Shape => write!(f, "it has another format, or other values"),
+            Denied::Shape => {
+                let misfit = self.1;
+                write!(f, "{misfit}")
+            }
             Denied::Closed => write!(f, "the SUBSCRIBE is closed"),
             Denied::Stale { boot, sequence } => {
                 write!(f, "it is not later than boot {boot}, number {sequence}")
@@ -122,8 +127,8 @@ pub(crate) struct Past {
     pub sums: Sums,
     /// Whether the device has waited since the last one.
     pub has_waited: bool,
-    /// How many datagrams of strangers were dropped.
-    pub dropped: u64,
+    /// How many datagrams were dropped.
+    pub drops: Drops,
     /// Whether the record has ended, since a line could not be written.
     pub is_unrecorded: bool,
 }
@@ -144,6 +149,7 @@ fn tell_dropped<E: Write>(errors: &mut E, dropped: u64) {
 pub(crate) struct Teller {
     is_verbose: bool,
     second: u64,
+    shapes: Shapes,
     told: [u64; 12],
     denied: [u64; 12],
     lost_lines: u64,
@@ -156,12 +162,13 @@ pub(crate) struct Teller {
 }
 
 impl Teller {
-    /// One who has told nothing yet.
-    pub(crate) fn new(telling: Telling) -> Teller {
+    /// One who has told nothing yet, of a device of a system that takes these.
+    pub(crate) fn new(telling: Telling, shapes: Shapes) -> Teller {
         let seconds = telling.summary.unwrap_or(0);
         Teller {
             is_verbose: telling.is_verbose,
             second: 0,
+            shapes,
             told: [0; KINDS],
             denied: [0; KINDS],
             lost_lines: 0,
@@ -246,8 +253,15 @@ impl Teller {
         }
     }
 
-    // Tells of a denial.
-    fn denied<E: Write>(&mut self, errors: &mut E, now: u64, bytes: &[u8], denied: &Denied) {
+    // Tells of a denial by a device of this name.
+    fn denied<E: Write>(
+        &mut self,
+        errors: &mut E,
+        now: u64,
+        device: &str,
+        bytes: &[u8],
+        denied: &Denied,
+    ) {
         let kind = kind_of(denied);
         if let Some(count) = self.denied.get_mut(kind) {
             *count = count.saturating_add(1);
@@ -255,13 +269,14 @@ impl Teller {
         if self.counts(errors, now, kind) {
             let moment = Moment(now);
             let code = denied.code();
-            let why = Why(*denied);
             let _ = match decode(bytes) {
                 Ok(message) => {
+                    let why = Why(*denied, self.shapes.misfit(device, &message));
                     let whom = For::of(&message);
                     writeln!(errors, "{moment} {whom} denied {code}: {why}")
                 }
                 Err(_) => {
+                    let why = Why(*denied, Misfit::Other);
                     let size = bytes.len();
                     writeln!(errors, "{moment} {size} bytes denied {code}: {why}")
                 }
@@ -285,7 +300,7 @@ impl Teller {
                     Teller::admitted(errors, now, device, bytes, *cause);
                 }
             }
-            Err(denied) => self.denied(errors, now, bytes, denied),
+            Err(denied) => self.denied(errors, now, device.name(), bytes, denied),
         }
     }
 
@@ -397,7 +412,8 @@ impl Teller {
         if let Some(seconds) = self.summary {
             if now >= self.next_summary {
                 self.tell_sums(errors, device, now, &past.sums);
-                tell_dropped(errors, past.dropped);
+                tell_dropped(errors, past.drops.strangers);
+                tell_unsealed(past.drops.unsealed, errors);
                 let step = u64::from(seconds).saturating_mul(1000);
                 self.next_summary = now.saturating_add(step);
             }

@@ -8,6 +8,7 @@ ghost use Rattle.fbr_serve.specs.Serving.{TurnAt, IsTaken, EndsTurn, PrintsTurn,
 ghost use Rattle.fbr_serve.specs.Recording.{Held, Records, RecordsTurn};
 ghost use Rattle.fbr_serve.specs.declared.stop.Stop.TheVariants as stops;
 
+use crate::dropping::Counts;
 use crate::ended::has_ended;
 use crate::notes::Notes;
 use crate::printing::{Printer, When, flushed};
@@ -121,7 +122,7 @@ fn since<R: Clock>(rt: &R, start: Instant) -> Result<u64, Stop>
 /// unless that turn was the last. What comes is recorded, a line a turn, until a line of the record cannot be written.
 ///
 /// People are told what happens. Gives what the turns did in all. They end early where a receive fails, or the clock; and where a line is lost and that is to end them.
-pub(crate) fn serve_on<R: Clock, L: Link, W: Write, E: Write, F: Write>(
+pub(crate) fn serve_on<R: Clock, L: Link + Counts, W: Write, E: Write, F: Write>(
     rt: &R,
     device: &mut Device,
     link: &mut L,
@@ -152,7 +153,7 @@ pub(crate) fn serve_on<R: Clock, L: Link, W: Write, E: Write, F: Write>(
         let past = Past {
             sums,
             has_waited,
-            dropped: link.dropped(),
+            drops: link.drops(),
             is_unrecorded: notes.recorder.is_lost(),
         };
         notes.people.turned(&mut notes.errors, device, now, &past);

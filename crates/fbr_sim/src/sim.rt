@@ -5,6 +5,7 @@ ghost use Rattle.std.specs.Io.Buffered.{reader_remaining};
 ghost use Rattle.fbr_files.specs.declared.fault.Fault.TheVariants.{Memory};
 ghost use Rattle.fbr_sim.specs.Simulation.{TellsEnd, IsFresh, TellsRunFrom, TellsScript};
 
+use crate::causes::Causes;
 use fb_device::share;
 use fb_script::{End, simulate};
 use fb_verified::Verified;
@@ -28,16 +29,17 @@ pub fn print_end<W: Write>(end: End, output: &mut W) -> io::Result<u8>
 }
 
 // Runs a script on a world.
-fn run_world<I: Read, W: Write>(
+fn run_world<I: Read, W: Write, E: Write>(
     alloc: Global,
     world: &mut World,
     script: &mut BufReader<I>,
     output: &mut W,
+    causes: &mut Causes<'_, E>,
 ) -> io::Result<u8>
     ensures told { IfOk result (λ status. TellsRunFrom world.old (reader_remaining I.remaining script.old) (W.contents output.old) (W.contents output.new) status) }
     ensures status { IfOk result (λ status. status ≤ 4) }
 {
-    match simulate(alloc, world, script, output) {
+    match simulate(alloc, world, script, output, causes) {
         Ok(end) => print_end(end, output),
         Err(error) => Err(error),
     }
@@ -58,18 +60,20 @@ fn first_world<'a>(alloc: Global, verified: Verified) -> Result<World, Fault<'a>
 }
 
 // Runs a script on the first world of what was verified.
-fn run_script<I: Read, W: Write>(
+fn run_script<I: Read, W: Write, E: Write>(
     alloc: Global,
     verified: Verified,
     script: &mut BufReader<I>,
     output: &mut W,
+    errors: &mut E,
 ) -> io::Result<u8>
     ensures told { IfOk result (λ status. TellsScript verified (reader_remaining I.remaining script.old) (W.contents output.old) (W.contents output.new) status) }
     ensures status { IfOk result (λ status. status ≤ 4) }
 {
+    let mut causes = Causes::of(alloc, verified.flat(), errors);
     match first_world(alloc, verified) {
         Ok(mut world) => {
-            let ran = run_world(alloc, &mut world, script, output);
+            let ran = run_world(alloc, &mut world, script, output, &mut causes);
             world.let_go();
             ran
         }
@@ -77,18 +81,20 @@ fn run_script<I: Read, W: Write>(
     }
 }
 
-/// Runs the script on standard input on the first world of what was verified, line by line. Each answer is a line, and so is a refusal at its end.
-pub fn run_input<I: Read, W: Write>(
+/// Runs the script on standard input on the first world of what was verified, line by line. Each answer is a line, and so is a refusal at its end. On `errors`
+/// people are told which cause it was, where the number of a line that is denied or bad has several.
+pub fn run_input<I: Read, W: Write, E: Write>(
     alloc: Global,
     verified: Verified,
     input: &mut I,
     output: &mut W,
+    errors: &mut E,
 ) -> io::Result<u8>
     ensures told { IfOk result (λ status. TellsScript verified (I.remaining input.old) (W.contents output.old) (W.contents output.new) status) }
     ensures status { IfOk result (λ status. status ≤ 4) }
 {
     match BufReader::new(alloc, input) {
-        Ok(mut script) => run_script(alloc, verified, &mut script, output),
+        Ok(mut script) => run_script(alloc, verified, &mut script, output, errors),
         Err(_) => {
             verified.let_go();
             print_outcome(Err(Fault::Memory), output)

@@ -1,11 +1,16 @@
-//! Runs a script on the world of a system's devices, and watches it.
+//! Runs a script on the world of a system's devices, and watches it, or tells it to programs.
 
+use crate::causes::Causes;
 use fb_device::{Answer, Dispatched, Ran, release, share};
-use fb_script::{Asked, End, LineFault, Told, ask, next_text, read_line, tell, tell_dispatched};
+use fb_script::{
+    Asked, End, LineFault, Told, Witness, ask, hear, hear_unknown, next_text, read_line, tell,
+    tell_dispatched,
+};
 use fb_verified::Verified;
 use fb_world::{Missed, RootSteps, World, WorldAnswer, WorldEvent};
+use fbr_answers::answer_object;
 use fbr_files::Fault;
-use fbr_watch::{Seen, Watching, Wish};
+use fbr_watch::{RanAt, Seen, Watching, Wish};
 use std::alloc::{AllocError, Global};
 use std::io;
 use std::io::{BufReader, Read, Write};
@@ -30,9 +35,11 @@ impl Simulated {
     }
 }
 
-// What watches a world, the moment of each device's clock, and where lines go.
+// What watches a world, the moment of each device's clock, where lines go, and whether they are for programs.
 #[derive(Drop)]
 struct Course<'w, 's, 'a, W> {
+    alloc: Global,
+    is_json: bool,
     watching: &'w mut Watching<'s, 'a, Vec<u8>>,
     moments: Vec<u64>,
     output: &'w mut W,
@@ -83,10 +90,22 @@ impl<W: Write> Course<'_, '_, '_, W> {
 
     // A block ran at the device of a number, at a dispatch of the resource of a number.
     fn look_at(&mut self, world: &World, number: u16, resource: u16, ran: &Ran) {
-        let moment = self.moment(number);
+        let at = RanAt {
+            resource,
+            now: self.moment(number),
+            ran,
+        };
         if let Some(device) = world.get(number) {
-            self.watching
-                .ran(number, device, resource, moment, ran, self.output);
+            self.watching.ran(number, device, at, self.output);
+        }
+    }
+
+    // Writes an answer on a line.
+    fn write_told(&mut self, told: &Told<'_>) -> io::Result<()> {
+        if self.is_json {
+            answer_object(self.alloc, told).write(self.output)
+        } else {
+            writeln!(self.output, "{told}")
         }
     }
 
@@ -101,28 +120,33 @@ impl<W: Write> Course<'_, '_, '_, W> {
         match world.get(device) {
             Some(station) => {
                 let told = tell(station, answer, sent);
-                writeln!(self.output, "{told}")
+                self.write_told(&told)
             }
             None => Ok(()),
         }
     }
 
     // An event happens at the device of a number. Gives how the script ends, if it does there.
-    fn happen(
+    fn happen<E: Write>(
         &mut self,
         world: &mut World,
         device: u16,
         event: &WorldEvent,
         line: usize,
+        causes: &mut Causes<'_, E>,
     ) -> io::Result<Option<End>> {
         let answered = world.step(event);
         match &answered {
             Ok(WorldAnswer::Answered(answer, sent)) => {
+                hear(line, event, answer, causes);
                 self.write_answer(world, device, answer, *sent)?;
                 self.look(world, device, event);
                 Ok(None)
             }
-            Ok(WorldAnswer::Unknown) => Ok(Some(End::Line(line))),
+            Ok(WorldAnswer::Unknown) => {
+                hear_unknown(line, event, causes);
+                Ok(Some(End::Line(line)))
+            }
             Err(_) => Ok(Some(End::OutOfMemory)),
         }
     }
@@ -140,7 +164,7 @@ impl<W: Write> Course<'_, '_, '_, W> {
             Ok(sent) => {
                 if let Some(station) = world.get(device) {
                     let told = tell_dispatched(station, &answer, sent);
-                    writeln!(self.output, "{told}")?;
+                    self.write_told(&told)?;
                 }
                 if let Dispatched::Ran(ran) = &answer {
                     self.look_at(world, device, resource, ran);
@@ -159,40 +183,48 @@ impl<W: Write> Course<'_, '_, '_, W> {
             steps: told.steps,
             far: told.far,
         };
-        writeln!(self.output, "{told}")
+        self.write_told(&told)
     }
 
     // Runs a line. Gives how the script ends, if it does there.
-    fn step(
+    fn step<E: Write>(
         &mut self,
         alloc: Global,
         world: &mut World,
         text: &str,
         line: usize,
+        causes: &mut Causes<'_, E>,
     ) -> io::Result<Option<End>> {
         let read = match read_line(alloc, text) {
             Ok(Some(read)) => read,
             Ok(None) => return Ok(None),
-            Err(LineFault::Form) => return Ok(Some(End::Line(line))),
+            Err(LineFault::Form(misread)) => {
+                causes.misread(line, text, misread);
+                return Ok(Some(End::Line(line)));
+            }
             Err(LineFault::OutOfMemory) => return Ok(Some(End::OutOfMemory)),
         };
         match ask(world, read) {
-            Asked::Event(device, event) => self.happen(world, device, &event, line),
+            Asked::Event(device, event) => self.happen(world, device, &event, line, causes),
             Asked::Dispatch(device, resource) => self.dispatch(world, device, resource, line),
             Asked::Root(root, told) => {
                 self.tell_root(root, told)?;
                 Ok(None)
             }
-            Asked::Unknown => Ok(Some(End::Line(line))),
+            Asked::Unknown(missing) => {
+                causes.missing(line, missing);
+                Ok(Some(End::Line(line)))
+            }
         }
     }
 
     // Runs the lines of a script, in order, up to the first that is bad.
-    fn run<I: Read>(
+    fn run<I: Read, E: Write>(
         &mut self,
         alloc: Global,
         world: &mut World,
         script: &mut BufReader<I>,
+        causes: &mut Causes<'_, E>,
     ) -> io::Result<End> {
         let mut line = Vec::new(alloc);
         for number in 1..usize::MAX {
@@ -200,7 +232,7 @@ impl<W: Write> Course<'_, '_, '_, W> {
                 Ok(text) => text,
                 Err(end) => return Ok(end),
             };
-            if let Some(end) = self.step(alloc, world, text, number)? {
+            if let Some(end) = self.step(alloc, world, text, number, causes)? {
                 return Ok(end);
             }
             if script.buffer().is_empty() {
@@ -212,21 +244,25 @@ impl<W: Write> Course<'_, '_, '_, W> {
 }
 
 // Runs a script on a world, and watches it.
-fn run_on<I: Read, W: Write>(
+fn run_on<I: Read, W: Write, E: Write>(
     alloc: Global,
     world: &mut World,
+    is_json: bool,
     watching: &mut Watching<'_, '_, Vec<u8>>,
     input: &mut I,
     output: &mut W,
+    causes: &mut Causes<'_, E>,
 ) -> io::Result<End> {
-    let mut script = BufReader::new(alloc, input)?;
+    let mut script = BufReader::new(alloc, &mut *input)?;
     let mut course = Course {
+        alloc,
+        is_json,
         watching,
         moments: Vec::new(alloc),
         output,
     };
     match course.begin(world) {
-        Ok(()) => course.run(alloc, world, &mut script),
+        Ok(()) => course.run(alloc, world, &mut script, causes),
         Err(_) => Ok(End::OutOfMemory),
     }
 }
@@ -256,7 +292,16 @@ fn run_shared<I: Read, W: Write, E: Write>(
     let Ok(mut world) = World::over(alloc, shared.clone()?) else {
         return Ok(Err(Fault::Memory));
     };
-    let ended = run_on(alloc, &mut world, &mut watching, input, output);
+    let mut causes = Causes::of(alloc, shared.flat(), errors);
+    let ended = run_on(
+        alloc,
+        &mut world,
+        wish.is_json,
+        &mut watching,
+        input,
+        output,
+        &mut causes,
+    );
     world.let_go();
     let end = ended?;
     Ok(Ok(Simulated {
@@ -266,7 +311,7 @@ fn run_shared<I: Read, W: Write, E: Write>(
 }
 
 /// Runs the script on standard input on the first world of what was verified, line by line, and watches it: behind each answer stand the lines of what has changed
-/// at the paths that are watched. Where a path names nothing, people are told on `errors`, and nothing is run (`Usage`, 63). `print_end` tells how the script ended.
+/// at the paths that are watched. Answers and changes are lines for people, or objects for programs. Where a path names nothing, people are told on `errors`, and nothing is run (`Usage`, 63). `print_end` tells how the script ended.
 pub fn run_watched<I: Read, W: Write, E: Write>(
     alloc: Global,
     verified: Verified,

@@ -19,7 +19,7 @@ mod within;
 pub use fault::Fault;
 pub use names::Names;
 pub use near::unknown;
-pub use place::{Place, Sort};
+pub use place::{NumberedLeaf, Sort};
 pub use sequences::{read_story, unknown_block};
 pub use story::{
     Action, Arrival, Cause, Expected, Fate, Looked, Sequence, Span, Step, Stimulus, Variable,

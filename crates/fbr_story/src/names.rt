@@ -2,7 +2,7 @@
 
 use crate::fault::Fault;
 use crate::near::{unknown, unknown_behind};
-use crate::place::{Place, Sort, is_joined, parts, short};
+use crate::place::{NumberedLeaf, Sort, is_joined, parts, short};
 use fb_flat::Flat;
 use fbr_alone::Alone;
 use fbr_places::Writing;
@@ -12,15 +12,21 @@ use std::alloc::{AllocError, Global};
 #[derive(Clone, Copy)]
 enum Found<'a> {
     Nothing,
-    One(Place<'a>),
-    Several(Place<'a>, Place<'a>),
+    One(NumberedLeaf<'a>),
+    Several(NumberedLeaf<'a>, NumberedLeaf<'a>),
 }
 
 // That a name stands for two instances.
-fn ambiguous(alloc: Global, at: usize, name: &str, one: Place<'_>, other: Place<'_>) -> Fault {
+fn ambiguous(
+    alloc: Global,
+    at: usize,
+    name: &str,
+    one: NumberedLeaf<'_>,
+    other: NumberedLeaf<'_>,
+) -> Fault {
     let mut writing = Writing::new(alloc);
     writing.put(name);
-    writing.put(" stands for two: write ");
+    writing.put(" is ambiguous: write ");
     writing.put(one.leaf.path.as_str());
     writing.put(" or ");
     writing.put(other.leaf.path.as_str());
@@ -45,7 +51,7 @@ fn none_of(alloc: Global, name: &str, sort: &str) -> Writing {
 /// The names of a system, or of a block type alone in the system that is made around it.
 #[derive(Drop)]
 pub struct Names<'a> {
-    pub(crate) places: Vec<Place<'a>>,
+    pub(crate) places: Vec<NumberedLeaf<'a>>,
     flat: &'a Flat,
     pub(crate) alone: Option<&'a Alone>,
 }
@@ -62,7 +68,7 @@ impl<'a> Names<'a> {
             let mut block: usize = 0;
             for resource in &device.resources {
                 for leaf in &resource.leaves {
-                    places.push(Place {
+                    places.push(NumberedLeaf {
                         device: short(number),
                         block: short(block),
                         leaf,
@@ -89,7 +95,7 @@ impl<'a> Names<'a> {
     }
 
     // Whether a name stands for an instance.
-    fn is_called(&self, place: Place<'_>, name: &str) -> bool {
+    fn is_called(&self, place: NumberedLeaf<'_>, name: &str) -> bool {
         let Some((device, resource, inner)) = parts(place.leaf.path.as_str()) else {
             return false;
         };
@@ -121,7 +127,7 @@ impl<'a> Names<'a> {
     }
 
     // Whether another resource of the device has an instance of the same name.
-    fn is_shared(&self, place: Place<'_>) -> bool {
+    fn is_shared(&self, place: NumberedLeaf<'_>) -> bool {
         for other in &self.places {
             if other.device == place.device
                 && other.block != place.block
@@ -134,7 +140,7 @@ impl<'a> Names<'a> {
     }
 
     /// The shortest name of an instance, in upper case.
-    pub fn shortest(&self, alloc: Global, place: Place<'_>) -> Result<String, AllocError> {
+    pub fn shortest(&self, alloc: Global, place: NumberedLeaf<'_>) -> Result<String, AllocError> {
         let mut text = String::new(alloc);
         if let Some((device, resource, _)) = parts(place.leaf.path.as_str()) {
             if !self.has_one_device() {
@@ -190,7 +196,7 @@ impl<'a> Names<'a> {
         sort: Sort,
         name: &str,
         at: usize,
-    ) -> Result<Place<'a>, Fault> {
+    ) -> Result<NumberedLeaf<'a>, Fault> {
         match (self.find(sort, name), self.find(Sort::Block, name)) {
             (Found::One(place), _) => Ok(place),
             (Found::Several(one, other), _) => Err(ambiguous(alloc, at, name, one, other)),
@@ -206,7 +212,7 @@ impl<'a> Names<'a> {
     }
 
     /// The OUTPUT of a number at a device.
-    pub fn output(&self, device: u16, output: u16) -> Option<Place<'a>> {
+    pub fn output(&self, device: u16, output: u16) -> Option<NumberedLeaf<'a>> {
         for place in &self.places {
             if place.device == device && Sort::Output.has(place.leaf) {
                 if let Some((number, _)) = place.port() {

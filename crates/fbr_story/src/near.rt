@@ -1,9 +1,8 @@
 //! Names that stand for nothing, and the nearest that there is.
 
 use crate::fault::Fault;
-use fbr_places::Writing;
+use fbr_places::{Writing, distance, nearness};
 use std::alloc::{AllocError, Global};
-use strsim::osa_distance;
 
 // So many names are told where none is near.
 const MOST_NAMES: usize = 8;
@@ -23,16 +22,19 @@ fn nearest<'n>(
     wanted: &str,
 ) -> Result<Option<&'n str>, AllocError> {
     let mut found = None;
-    let mut limit: usize = if wanted.len() < 4 { 2 } else { 3 };
+    let mut limit = nearness(wanted);
     for name in names {
-        let distance = if is_end(name.as_str(), wanted) {
-            0
+        let near = if is_end(name.as_str(), wanted) {
+            Some(0)
         } else {
-            osa_distance(alloc, name.as_str(), wanted)?
+            distance(alloc, name.as_str(), wanted, limit)?
         };
-        if distance < limit {
-            limit = distance;
-            found = Some(name.as_str());
+        match near {
+            Some(distance) if distance < limit => {
+                limit = distance;
+                found = Some(name.as_str());
+            }
+            _ => {}
         }
     }
     Ok(found)

@@ -6,7 +6,7 @@ use fb_words::ElemType;
 
 /// An instance of a basic block or a service: the numbers of its device and its block, and what it is.
 #[derive(Clone, Copy)]
-pub struct Place<'a> {
+pub struct NumberedLeaf<'a> {
     pub device: u16,
     pub block: u16,
     pub leaf: &'a Leaf,
@@ -64,7 +64,7 @@ pub fn short(number: usize) -> u16 {
     u16::try_from(number).unwrap_or(u16::MAX)
 }
 
-impl<'a> Place<'a> {
+impl<'a> NumberedLeaf<'a> {
     /// The number of an INPUT or OUTPUT, and the types of its values.
     pub fn port(self) -> Option<(u16, &'a [ElemType])> {
         match &self.leaf.body {

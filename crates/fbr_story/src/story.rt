@@ -1,6 +1,6 @@
 //! Stories as they are read: sequences of steps, in which each name stands for what it names.
 
-use crate::place::Place;
+use crate::place::NumberedLeaf;
 use fb_types_blocks::Block;
 use fb_words::ElemType;
 
@@ -115,7 +115,7 @@ pub enum Looked<'a> {
     /// Whether a variable has a value.
     Value(Variable<'a>, i64),
     /// Whether a block is in the state of a number.
-    State(Place<'a>, &'a Block, u16),
+    State(NumberedLeaf<'a>, &'a Block, u16),
     /// Whether so many entries are pending at the resource of a number, at the device of a number.
     Queue(u16, u16, u64),
 }
@@ -123,7 +123,7 @@ pub enum Looked<'a> {
 /// A variable of a block, or the element of an array at an index.
 #[derive(Drop)]
 pub struct Variable<'a> {
-    pub place: Place<'a>,
+    pub place: NumberedLeaf<'a>,
     pub name: String,
     pub of_type: ElemType,
     /// How many elements stand before it.

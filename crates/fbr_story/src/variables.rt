@@ -2,7 +2,7 @@
 
 use crate::fault::Fault;
 use crate::near::unknown;
-use crate::place::Place;
+use crate::place::NumberedLeaf;
 use fb_flat::Body;
 use fb_types_blocks::{Block, Variables};
 use fb_words::ElemType;
@@ -33,7 +33,7 @@ fn declared_of(block: &Block, name: &str) -> Option<Declared> {
 }
 
 // What a variable of an instance is declared as.
-fn declaration_at(place: Place<'_>, name: &str) -> Option<Declared> {
+fn declaration_at(place: NumberedLeaf<'_>, name: &str) -> Option<Declared> {
     match &place.leaf.body {
         Body::Basic(block) => declared_of(block, name),
         Body::Served(service) => {
@@ -57,7 +57,7 @@ fn add_names(variables: &Variables, names: &mut Vec<String>) -> Result<(), Alloc
 }
 
 // The names of the variables of an instance.
-fn names_of(alloc: Global, place: Place<'_>) -> Result<Vec<String>, AllocError> {
+fn names_of(alloc: Global, place: NumberedLeaf<'_>) -> Result<Vec<String>, AllocError> {
     match &place.leaf.body {
         Body::Basic(block) => {
             let mut names = Vec::new(alloc);
@@ -80,7 +80,7 @@ fn names_of(alloc: Global, place: Place<'_>) -> Result<Vec<String>, AllocError> 
 /// What the variable of an instance is declared as that has a name. People are told of the instance by its path.
 pub(crate) fn find_variable(
     alloc: Global,
-    place: Place<'_>,
+    place: NumberedLeaf<'_>,
     path: &str,
     name: &str,
     at: usize,
@@ -109,7 +109,7 @@ fn states_of(alloc: Global, block: &Block) -> Result<Vec<String>, AllocError> {
 /// The block of an instance, and the number of its state that has a name.
 pub(crate) fn find_state<'a>(
     alloc: Global,
-    place: Place<'a>,
+    place: NumberedLeaf<'a>,
     path: &str,
     name: &str,
     at: usize,

@@ -3,14 +3,14 @@
 use crate::fault::Fault;
 use crate::names::Names;
 use crate::near::unknown;
-use crate::place::{Place, Sort};
+use crate::place::{NumberedLeaf, Sort};
 use fbr_alone::{Alone, EventInput};
 use std::alloc::{AllocError, Global};
 
 // The names of the blocks within a type.
 fn names_within(
     alloc: Global,
-    places: &[Place<'_>],
+    places: &[NumberedLeaf<'_>],
     around: &Alone,
 ) -> Result<Vec<String>, AllocError> {
     let mut names = Vec::new(alloc);
@@ -27,7 +27,7 @@ fn names_within(
 // That no block within a type has a name. A composite has no variables and states of its own.
 fn none_within(
     alloc: Global,
-    places: &[Place<'_>],
+    places: &[NumberedLeaf<'_>],
     around: &Alone,
     name: &str,
     at: usize,
@@ -58,7 +58,12 @@ impl<'a> Names<'a> {
     }
 
     /// The block that a name at a byte stands for. Of a block type alone it is a name within the type, and the empty one is the type's instance.
-    pub(crate) fn block(&self, alloc: Global, name: &str, at: usize) -> Result<Place<'a>, Fault> {
+    pub(crate) fn block(
+        &self,
+        alloc: Global,
+        name: &str,
+        at: usize,
+    ) -> Result<NumberedLeaf<'a>, Fault> {
         let Some(around) = self.alone else {
             return self.resolve(alloc, Sort::Block, name, at);
         };
@@ -73,7 +78,7 @@ impl<'a> Names<'a> {
     }
 
     /// What people are told in the place of a block's path: of a block type alone its name.
-    pub(crate) fn told(&self, place: Place<'a>) -> &'a str {
+    pub(crate) fn told(&self, place: NumberedLeaf<'a>) -> &'a str {
         match self.alone {
             Some(_) => place.inner(),
             None => place.leaf.path.as_str(),
@@ -81,7 +86,7 @@ impl<'a> Names<'a> {
     }
 
     /// A service within a block type alone that meets the outside by itself.
-    pub fn meeting(&self) -> Option<Place<'a>> {
+    pub fn meeting(&self) -> Option<NumberedLeaf<'a>> {
         let around = self.alone?;
         for place in &self.places {
             if place.meets_outside() && around.within(place.inner()).is_some() {

@@ -8,9 +8,10 @@ use crate::given::{Given, NamedFile};
 use crate::line::{hand_out, hint};
 use fb_cert::{CertFault, Certificate, parse_cert};
 use fb_find::find;
+use fb_find_length::rows_are_long;
 use fb_find_rows::NoBound;
 use fb_types::Typed;
-use fb_verdict::Refusal;
+use fb_verdict::{Refusal, check_text};
 use fbr_diagnosis::{Asked, Reading, diagnose_unbound};
 use fbr_draw::{Picture, draw};
 use fbr_draw_chart::draw_chart;
@@ -19,6 +20,7 @@ use fbr_leaves::{Resolved, System, system_in};
 use fbr_needs::Step;
 use fbr_places::Writing;
 use std::alloc::{AllocError, Global};
+use std::fmt::Display;
 use std::io::Write;
 
 /// What is drawn of a system: the weights of the certificate in a second file, or else of the one that is found, or the walk for which there is none; whether
@@ -37,8 +39,7 @@ pub struct Drawing<'a> {
 struct Drawn<'a> {
     asked: Asked<'a>,
     system: &'a System,
-    chart: Option<&'a str>,
-    boxes: bool,
+    drawing: Drawing<'a>,
 }
 
 // Writes the picture of a system or of a chart in it, and says whether there is what is to be drawn.
@@ -48,7 +49,7 @@ fn write_picture(
     writing: &mut Writing,
 ) -> Result<bool, AllocError> {
     let alloc = drawn.asked.alloc;
-    match (drawn.chart, &drawn.system.flat) {
+    match (drawn.drawing.chart, &drawn.system.flat) {
         (Some(name), _) => draw_chart(alloc, picture, name, writing),
         (None, Some(flat)) => {
             draw(alloc, flat, picture, writing)?;
@@ -63,6 +64,7 @@ fn write_picture(
 fn page_of<E: Write>(
     drawn: Drawn<'_>,
     certificate: Option<&Certificate>,
+    refused: Option<&str>,
     walk: &[Step<'_>],
     errors: &mut E,
 ) -> Result<Option<Vec<u8>>, AllocError> {
@@ -70,8 +72,9 @@ fn page_of<E: Write>(
         app: drawn.asked.app,
         file: drawn.system.file(),
         certificate,
+        refused,
         walk,
-        boxes: drawn.boxes,
+        boxes: drawn.drawing.boxes,
     };
     let mut writing = Writing::new(drawn.asked.alloc);
     if write_picture(drawn, &picture, &mut writing)? {
@@ -104,7 +107,12 @@ fn named_certificate<'a>(alloc: Global, file: NamedFile<'a>) -> Result<Certifica
     }
 }
 
-// The certificate that is found of a system.
+// That the certificate of a system is too long.
+fn too_long<'a>() -> Fault<'a> {
+    Fault::Refused(Refusal::Certificate(CertFault::TooLong))
+}
+
+// The certificate that is found of a system, unless its rows alone are too long.
 fn found_certificate<'a>(
     alloc: Global,
     typed: &Typed,
@@ -112,11 +120,48 @@ fn found_certificate<'a>(
 ) -> Result<Certificate, Fault<'a>>
     requires { IfSome repeats (λ r. 1 ≤ r) }
 {
+    if rows_are_long(typed, repeats) {
+        return Err(too_long());
+    }
     match find(alloc, typed, repeats) {
         Ok(certificate) => Ok(certificate),
         Err(NoBound::OutOfMemory) => Err(Fault::Memory),
         Err(reason) => Err(Fault::Unbound(reason)),
     }
+}
+
+// A refusal as its line says it.
+fn line_of<D: Display>(alloc: Global, refusal: &D) -> Result<String, AllocError> {
+    let mut writing = Writing::new(alloc);
+    writing.show(refusal);
+    writing.text()
+}
+
+// Tells people of a picture whose numbers are no bounds, or which has none, and for which refusal.
+fn tell_refused<E: Write>(
+    alloc: Global,
+    drawing: Drawing<'_>,
+    so: &str,
+    line: &str,
+    errors: &mut E,
+) {
+    let mut told = Writing::new(alloc);
+    told.put("fbr: ");
+    told.put(so);
+    told.put(line);
+    told.put("; 'fbr explain ");
+    told.put(drawing.app.name);
+    if let Some(cert) = drawing.cert {
+        told.put(" ");
+        told.put(cert.name);
+    }
+    drawing.app.put_with(&mut told);
+    if let Some(repeats) = drawing.repeats {
+        told.put(" --repeats ");
+        told.show(&repeats);
+    }
+    told.put("' says more\n");
+    hand_out(told, errors);
 }
 
 // The page of a system with the walk for which it has no certificate, or why else it has none.
@@ -126,8 +171,87 @@ fn draw_unbound<E: Write>(
     reading: &Reading,
     errors: &mut E,
 ) -> Result<Option<Vec<u8>>, AllocError> {
+    let alloc = drawn.asked.alloc;
+    let line = line_of(alloc, reason)?;
     let diagnosis = diagnose_unbound(drawn.asked, reason, reading)?;
-    page_of(drawn, None, diagnosis.walk(), errors)
+    let walk = diagnosis.walk();
+    let refused = if walk.is_empty() {
+        Some(line.as_str())
+    } else {
+        None
+    };
+    let page = page_of(drawn, None, refused, walk, errors)?;
+    if page.is_some() {
+        let so = "drawn without numbers, since there is no certificate: ";
+        tell_refused(alloc, drawn.drawing, so, line.as_str(), errors);
+    }
+    Ok(page)
+}
+
+// The page of a chart in a system whose certificate is too long: without numbers.
+fn draw_long<E: Write>(drawn: Drawn<'_>, errors: &mut E) -> Result<Option<Vec<u8>>, AllocError> {
+    let line = line_of(drawn.asked.alloc, &too_long())?;
+    let page = page_of(drawn, None, Some(line.as_str()), &[], errors)?;
+    if page.is_some() {
+        let so = "drawn without numbers, since the certificate is too long: ";
+        tell_refused(drawn.asked.alloc, drawn.drawing, so, line.as_str(), errors);
+    }
+    Ok(page)
+}
+
+// Why the certificate that is drawn is not accepted, as its line says it, if it is not.
+fn refused_line(drawn: Drawn<'_>) -> Result<Option<String>, AllocError> {
+    let Some(cert) = drawn.drawing.cert else {
+        return Ok(None);
+    };
+    let Some(cert) = cert.named() else {
+        return Ok(None);
+    };
+    let alloc = drawn.asked.alloc;
+    match check_text(alloc, drawn.asked.app.text, cert.text) {
+        Ok(verified) => {
+            verified.let_go();
+            Ok(None)
+        }
+        Err(Refusal::OutOfMemory) => Err(AllocError),
+        Err(refusal) => Ok(Some(line_of(alloc, &refusal)?)),
+    }
+}
+
+// The page of a system with the numbers of a certificate.
+fn draw_certificate<E: Write>(
+    drawn: Drawn<'_>,
+    certificate: &Certificate,
+    errors: &mut E,
+) -> Result<Option<Vec<u8>>, AllocError> {
+    let Some(line) = refused_line(drawn)? else {
+        return page_of(drawn, Some(certificate), None, &[], errors);
+    };
+    let page = page_of(drawn, Some(certificate), Some(line.as_str()), &[], errors)?;
+    if page.is_some() {
+        let so = "drawn with the numbers of a certificate that is not accepted: ";
+        tell_refused(drawn.asked.alloc, drawn.drawing, so, line.as_str(), errors);
+    }
+    Ok(page)
+}
+
+// Whether a fault is that a certificate is too long.
+fn is_too_long(fault: &Fault<'_>) -> bool {
+    match fault {
+        Fault::Refused(refusal) => match refusal {
+            Refusal::Certificate(CertFault::TooLong) => true,
+            _ => false,
+        },
+        _ => false,
+    }
+}
+
+// The files of a drawing.
+fn given_of<'a>(drawing: Drawing<'a>) -> Given<'a> {
+    match drawing.cert {
+        Some(cert) => Given::two(drawing.app, cert),
+        None => Given::of(drawing.app),
+    }
 }
 
 // The page of a system with what is known of its bounds.
@@ -139,14 +263,20 @@ fn draw_bounds<'a, E: Write>(
 ) -> Result<Vec<u8>, Fault<'a>> {
     match bounds {
         Ok(certificate) => {
-            let page = page_of(drawn, Some(&certificate), &[], errors);
+            let page = draw_certificate(drawn, &certificate, errors);
             certificate.let_go();
             unless_none(page)
         }
         Err(Fault::Unbound(reason)) => {
             unless_none(draw_unbound(drawn, &reason, reading, errors))
         }
-        Err(fault) => Err(fault),
+        Err(fault) => {
+            if drawn.drawing.cert.is_none() && is_too_long(&fault) {
+                return unless_none(draw_long(drawn, errors));
+            }
+            hint(drawn.asked.alloc, &fault, given_of(drawn.drawing), errors);
+            Err(fault)
+        }
     }
 }
 
@@ -169,10 +299,14 @@ fn draw_read<'a, E: Write>(
     let drawn = Drawn {
         asked,
         system,
-        chart: drawing.chart,
-        boxes: drawing.boxes,
+        drawing,
     };
     draw_bounds(drawn, bounds, reading, errors)
+}
+
+// Whether a picture of all blocks is wanted whose certificate, which none is given for, would be too long.
+fn is_long(typed: &Typed, drawing: Drawing<'_>) -> bool {
+    drawing.cert.is_none() && drawing.chart.is_none() && rows_are_long(typed, drawing.repeats)
 }
 
 // The page of a system.
@@ -184,6 +318,10 @@ fn draw_system<'a, E: Write>(
 ) -> Result<Vec<u8>, Fault<'a>>
     requires { IfSome drawing.repeats (λ r. 1 ≤ r) }
 {
+    if is_long(&resolved.typed, drawing) {
+        resolved.let_go();
+        return told(asked.alloc, too_long(), drawing, errors);
+    }
     match resolved.flattened(asked.alloc) {
         Ok(system) => {
             let reading = Reading::System(system, None);

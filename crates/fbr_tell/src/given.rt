@@ -1,7 +1,8 @@
 //! What words name, and what was read of it.
 
 use fbr_files::Fault;
-use fbr_places::Named;
+use fbr_places::{Named, Writing};
+use fbr_texts::Meant;
 
 /// What was read of a file.
 #[derive(Clone, Copy)]
@@ -16,11 +17,12 @@ pub enum Held<'a> {
     Memory,
 }
 
-/// A file that words name, and what was read of it.
+/// A file that words name, and what was read of it; and the files that its text is together, where there are several.
 #[derive(Clone, Copy)]
 pub struct NamedFile<'a> {
     pub name: &'a str,
     pub held: Held<'a>,
+    pub meant: Option<Meant<'a>>,
 }
 
 impl<'a> NamedFile<'a> {
@@ -30,6 +32,7 @@ impl<'a> NamedFile<'a> {
             Held::Text(text) => Ok(Named {
                 name: self.name,
                 text,
+                meant: self.meant,
             }),
             Held::Bytes(_) | Held::Nothing => Err(Fault::File(self.name)),
             Held::Memory => Err(Fault::Memory),
@@ -42,20 +45,37 @@ impl<'a> NamedFile<'a> {
             Held::Text(text) => Some(Named {
                 name: self.name,
                 text,
+                meant: self.meant,
             }),
             _ => None,
         }
     }
+
+    /// Writes the words of the files before it, each behind `--with`, where there are some.
+    pub fn put_with(self, writing: &mut Writing) {
+        let Some(meant) = self.meant else {
+            return;
+        };
+        let (_, before) = match meant.parts.split_last() {
+            Some(parts) => parts,
+            None => return,
+        };
+        for part in before {
+            writing.put(" --with ");
+            writing.put(part.name);
+        }
+    }
 }
 
-/// What a command was given: an application, and the certificate that is named beside it; or the file whose rows RANGE a certificate keeps; and how often
-/// datagrams are delivered, where that is said.
+/// What a command was given: an application, and the certificate that is named beside it; or the file whose rows RANGE a certificate keeps; how often datagrams are
+/// delivered, where that is said; and whether all faults of the application's text are told.
 #[derive(Clone, Copy)]
 pub struct Given<'a> {
     pub app: NamedFile<'a>,
     pub cert: Option<NamedFile<'a>>,
     pub rows: Option<NamedFile<'a>>,
     pub repeats: Option<u8>,
+    pub is_all: bool,
 }
 
 impl<'a> Given<'a> {
@@ -66,6 +86,7 @@ impl<'a> Given<'a> {
             cert: None,
             rows: None,
             repeats: None,
+            is_all: false,
         }
     }
 
@@ -76,6 +97,7 @@ impl<'a> Given<'a> {
             cert: Some(cert),
             rows: None,
             repeats: None,
+            is_all: false,
         }
     }
 

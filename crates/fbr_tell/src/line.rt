@@ -1,15 +1,20 @@
 //! What people are told on standard error where something is refused: one line. It is tested, and no contract says it. Where memory runs out it says
 //! less, or is left out: standard output and the status are what counts.
 
+use crate::all::{Listener, MORE, tell_all};
+use crate::devices::put_devices;
 use crate::given::{Given, NamedFile};
-use crate::stray::stray_in;
+use crate::stray::{AS_UTF8, stray_in};
 use fb_find_rows::NoBound;
 use fb_verdict::Refusal;
-use fbr_diagnosis::{Asked, Diagnosis, Reading, diagnose, found_limit, meaning_of};
+use fbr_diagnosis::{
+    Asked, Diagnosis, Reading, diagnose, diagnose_unbound, found_limit, meaning_of,
+};
 use fbr_explain::tell_lead;
-use fbr_files::Fault;
-use fbr_places::Writing;
-use std::alloc::Global;
+use fbr_files::{Fault, Placed};
+use fbr_leaves::system_again;
+use fbr_places::{Named, Writing};
+use std::alloc::{AllocError, Global};
 use std::io::Write;
 
 /// Hands out what people are told, whole or not at all.
@@ -36,9 +41,13 @@ fn write_more(fault: &Fault<'_>, given: Given<'_>, writing: &mut Writing) {
                 writing.put(" ");
                 writing.put(cert.name);
             }
+            given.app.put_with(writing);
             if let Some(repeats) = given.repeats {
                 writing.put(" --repeats ");
                 writing.show(&repeats);
+            }
+            if given.is_all {
+                writing.put(" --all");
             }
         }
         _ => writing.show(&fault.code()),
@@ -61,12 +70,25 @@ fn write_end(fault: &Fault<'_>, given: Given<'_>, writing: &mut Writing) {
     writing.put("' says more\n");
 }
 
-// Writes the line of a fault that stands at no place of a text: its outcome, what is said of it, and which words say more.
-fn write_line(fault: &Fault<'_>, said: &str, given: Given<'_>, writing: &mut Writing) {
+// Writes the words of a fault, as they are printed.
+fn put_fault(fault: &Fault<'_>, given: Given<'_>, writing: &mut Writing) {
+    match given.app.meant {
+        Some(meant) => writing.show(&Placed { fault, meant }),
+        None => writing.show(fault),
+    }
+}
+
+// Begins the line of a fault that stands at no place of a text: its outcome, and what is said of it.
+fn write_start(fault: &Fault<'_>, said: &str, given: Given<'_>, writing: &mut Writing) {
     writing.put("fbr: ");
-    writing.show(fault);
+    put_fault(fault, given, writing);
     writing.put(": ");
     writing.put(said);
+}
+
+// Writes the whole line, with which words say more.
+fn write_line(fault: &Fault<'_>, said: &str, given: Given<'_>, writing: &mut Writing) {
+    write_start(fault, said, given, writing);
     write_end(fault, given, writing);
 }
 
@@ -83,7 +105,7 @@ fn write_place(
     writing.put("fbr: ");
     place.put(writing);
     writing.put(": ");
-    writing.show(fault);
+    put_fault(fault, given, writing);
     writing.put(": ");
     if !tell_lead(&diagnosis.finding, diagnosis.counts, writing) {
         writing.put(said(fault));
@@ -148,12 +170,17 @@ fn write_unread(
     writing: &mut Writing,
 ) {
     match stray_in(alloc, given.file(name)) {
-        Some(stray) => write_line(fault, stray.as_str(), given, writing),
+        Some(stray) => {
+            write_start(fault, stray.as_str(), given, writing);
+            writing.put(": ");
+            writing.put(AS_UTF8);
+            write_end(fault, given, writing);
+        }
         None => write_line(fault, said(fault), given, writing),
     }
 }
 
-// Writes the line of a fault of a script, by its number.
+// Writes the line of a script that could not be read on, by its number.
 fn write_script(code: u8, writing: &mut Writing) {
     writing.put("fbr: standard input: refused ");
     writing.show(&code);
@@ -177,12 +204,65 @@ fn write_kept(fault: &Fault<'_>, name: &str, writing: &mut Writing) {
     );
 }
 
+// Writes the line of why there is no certificate at its place, by what was read of the text again; and whether it has one.
+fn write_reason(
+    alloc: Global,
+    reason: &NoBound,
+    app: Named<'_>,
+    fault: &Fault<'_>,
+    given: Given<'_>,
+    writing: &mut Writing,
+) -> bool {
+    let asked = Asked {
+        alloc,
+        app,
+        cert: app,
+        is_searched: false,
+    };
+    let Ok(Some(system)) = system_again(alloc, app.text) else {
+        return false;
+    };
+    let reading = Reading::System(system, None);
+    let is_told = match diagnose_unbound(asked, reason, &reading) {
+        Ok(diagnosis) => write_place(&diagnosis, fault, given, writing),
+        Err(_) => false,
+    };
+    reading.let_go();
+    is_told
+}
+
 // Writes the line of why there is no certificate.
-fn write_unbound(reason: &NoBound, fault: &Fault<'_>, given: Given<'_>, writing: &mut Writing) {
-    match (reason, given.rows) {
-        (NoBound::NoRange(_), Some(rows)) => write_kept(fault, rows.name, writing),
-        _ => write_line(fault, said(fault), given, writing),
+fn write_unbound(
+    alloc: Global,
+    reason: &NoBound,
+    fault: &Fault<'_>,
+    given: Given<'_>,
+    writing: &mut Writing,
+) {
+    if let (NoBound::NoRange(_), Some(rows)) = (reason, given.rows) {
+        write_kept(fault, rows.name, writing);
+        return;
     }
+    let is_told = match (reason, given.app.named()) {
+        (NoBound::OutOfMemory, _) => false,
+        (_, Some(app)) => write_reason(alloc, reason, app, fault, given, writing),
+        (_, None) => false,
+    };
+    if !is_told {
+        write_line(fault, said(fault), given, writing);
+    }
+}
+
+// Writes the line of a device that the system has not: which it has.
+fn write_device(alloc: Global, fault: &Fault<'_>, given: Given<'_>, writing: &mut Writing) {
+    writing.put("fbr: ");
+    writing.show(fault);
+    writing.put(": ");
+    match given.app.named() {
+        Some(app) => put_devices(alloc, app.text, writing),
+        None => writing.put(said(fault)),
+    }
+    write_end(fault, given, writing);
 }
 
 // Writes the line of a fault, if it is more than want of memory, and is not said by its number alone.
@@ -190,17 +270,57 @@ fn write_hint(alloc: Global, fault: &Fault<'_>, given: Given<'_>, writing: &mut 
     match fault {
         Fault::Refused(Refusal::OutOfMemory) => {}
         Fault::Refused(refusal) => write_refused(alloc, refusal, fault, given, writing),
-        Fault::Unbound(reason) => write_unbound(reason, fault, given, writing),
+        Fault::Unbound(reason) => write_unbound(alloc, reason, fault, given, writing),
+        Fault::Device(_) => write_device(alloc, fault, given, writing),
         Fault::File(name) => write_unread(alloc, name, fault, given, writing),
-        Fault::Line(_) | Fault::Input => write_script(fault.code(), writing),
-        Fault::Memory | Fault::Usage | Fault::Device(_) | Fault::LinkDown | Fault::Socket(_) => {}
+        Fault::Input => write_script(fault.code(), writing),
+        Fault::Line(_) | Fault::Memory | Fault::Usage | Fault::LinkDown | Fault::Socket(_) => {}
     }
 }
 
-/// Tells people why a command was refused, in one line: of the two texts and their files, or of the script of `sim`. Nothing is told of want of memory, nor of words
-/// and links.
+// The lines of further faults, and what a command was given.
+#[derive(Drop)]
+struct Lines<'a> {
+    given: Given<'a>,
+    writing: Writing,
+}
+
+impl Listener for Lines<'_> {
+    fn fault(
+        &mut self,
+        _asked: Asked<'_>,
+        fault: &Fault<'_>,
+        diagnosis: &Diagnosis<'_>,
+    ) -> Result<(), AllocError> {
+        if !write_place(diagnosis, fault, self.given, &mut self.writing) {
+            write_line(fault, said(fault), self.given, &mut self.writing);
+        }
+        Ok(())
+    }
+
+    fn more(&mut self) {
+        self.writing.put("fbr: ");
+        self.writing.put(MORE);
+    }
+}
+
+// Writes the lines of the further faults of an application's text.
+fn with_further(alloc: Global, fault: &Fault<'_>, given: Given<'_>, writing: Writing) -> Writing {
+    let mut lines = Lines { given, writing };
+    // Where memory runs out, what was told is told.
+    let _ = tell_all(alloc, fault, given.app, false, &mut lines);
+    let Lines { given: _, writing } = lines;
+    writing
+}
+
+/// Tells people why a command was refused, in one line: of the two texts and their files, or of a script that could not be read on; and where it is asked for, all
+/// further faults of the application's text in a line each. Nothing is told of want of memory, nor of words and links, nor of a line of a script: who reads it tells
+/// why it is bad.
 pub fn hint<E: Write>(alloc: Global, fault: &Fault<'_>, given: Given<'_>, errors: &mut E) {
     let mut writing = Writing::new(alloc);
     write_hint(alloc, fault, given, &mut writing);
+    if given.is_all {
+        writing = with_further(alloc, fault, given, writing);
+    }
     hand_out(writing, errors);
 }

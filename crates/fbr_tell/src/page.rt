@@ -3,16 +3,20 @@
 
 ghost use Rattle.std.specs.Prelude.{◌≤◌, IfSome};
 
+use crate::all::{Listener, MORE, tell_all};
 use crate::given::{Given, NamedFile};
 use crate::line::certificate_of;
-use crate::stray::stray_in;
+use crate::noted::tell_unknown;
+use crate::stray::{AS_UTF8, stray_in};
 use crate::teller::Teller;
+use fb_cert::CertFault;
 use fb_find::find;
+use fb_find_length::rows_are_long;
 use fb_find_rows::NoBound;
 use fb_verdict::{Refusal, check};
 use fb_verified::Verified;
-use fbr_diagnosis::{Asked, Reading, diagnose, diagnose_unbound, meaning_of};
-use fbr_explain::meaning_parts;
+use fbr_diagnosis::{Asked, Diagnosis, Meaning, Reading, diagnose, diagnose_unbound, meaning_of};
+use fbr_explain::{meaning_parts, tell_short};
 use fbr_files::Fault;
 use fbr_leaves::{Resolved, system_in};
 use fbr_places::{Named, Writing};
@@ -90,9 +94,10 @@ fn explain_bounds<'a, T: Teller>(
     alloc: Global,
     verified: Verified,
     app: Named<'_>,
+    allowed: &str,
     teller: &mut T,
 ) -> Result<Answer<'a>, AllocError> {
-    let told = teller.bounds(alloc, &verified, app);
+    let told = teller.bounds(alloc, &verified, app, allowed);
     verified.let_go();
     Ok(Answer {
         verdict: Ok(()),
@@ -104,10 +109,11 @@ fn explain_bounds<'a, T: Teller>(
 fn explain_verdict<'a, T: Teller>(
     asked: Asked<'_>,
     verdict: Result<Verified, Refusal>,
+    allowed: &str,
     teller: &mut T,
 ) -> Result<Answer<'a>, AllocError> {
     match verdict {
-        Ok(verified) => explain_bounds(asked.alloc, verified, asked.app, teller),
+        Ok(verified) => explain_bounds(asked.alloc, verified, asked.app, allowed, teller),
         Err(Refusal::OutOfMemory) => Err(AllocError),
         Err(refusal) => explain_refusal(asked, refusal, teller),
     }
@@ -159,14 +165,19 @@ fn explain_system<'a, T: Teller>(
     asked: Asked<'_>,
     resolved: Resolved,
     repeats: Option<u8>,
+    allowed: &str,
     teller: &mut T,
 ) -> Result<Answer<'a>, AllocError>
     requires { IfSome repeats (λ r. 1 ≤ r) }
 {
+    if rows_are_long(&resolved.typed, repeats) {
+        resolved.let_go();
+        return explain_refusal(asked, Refusal::Certificate(CertFault::TooLong), teller);
+    }
     match find(asked.alloc, &resolved.typed, repeats) {
         Ok(certificate) => {
             let verdict = check(asked.alloc, resolved.into_typed(), certificate);
-            explain_verdict(asked, verdict, teller)
+            explain_verdict(asked, verdict, allowed, teller)
         }
         Err(NoBound::OutOfMemory) => {
             resolved.let_go();
@@ -191,14 +202,15 @@ fn explain_alone<'a, T: Teller>(
     alloc: Global,
     repeats: Option<u8>,
     app: Named<'_>,
+    allowed: &str,
     teller: &mut T,
 ) -> Result<Answer<'a>, AllocError>
     requires { IfSome repeats (λ r. 1 ≤ r) }
 {
     let asked = asked_of(alloc, app, app);
     match system_in(alloc, app.text) {
-        Ok(resolved) => explain_system(asked, resolved, repeats, teller),
-        Err(refusal) => explain_verdict(asked, Err(refusal), teller),
+        Ok(resolved) => explain_system(asked, resolved, repeats, allowed, teller),
+        Err(refusal) => explain_verdict(asked, Err(refusal), allowed, teller),
     }
 }
 
@@ -210,16 +222,17 @@ fn page_of(writing: Writing, has_notes: bool) -> Result<Page, AllocError> {
     }
 }
 
-/// Tells of an application whose certificate fits: its bounds, and notes; and whether there are notes.
+/// Tells of an application whose certificate fits: its bounds, and notes but for those whose names are allowed; and whether there are notes.
 pub fn tell_accepted<T: Teller>(
     alloc: Global,
     verified: Verified,
     app: NamedFile<'_>,
+    allowed: &str,
     teller: &mut T,
 ) -> Result<bool, AllocError> {
     match app.named() {
         Some(app) => {
-            let answer = explain_bounds(alloc, verified, app, teller)?;
+            let answer = explain_bounds(alloc, verified, app, allowed, teller)?;
             Ok(answer.has_notes)
         }
         None => {
@@ -229,26 +242,36 @@ pub fn tell_accepted<T: Teller>(
     }
 }
 
-/// The page of an application whose certificate fits.
+/// The page of an application whose certificate fits, without notes whose names are allowed.
 pub fn accepted_page(
     alloc: Global,
     verified: Verified,
     app: NamedFile<'_>,
+    allowed: &str,
 ) -> Result<Page, AllocError> {
     let mut writing = Writing::new(alloc);
-    let has_notes = tell_accepted(alloc, verified, app, &mut writing)?;
+    let has_notes = tell_accepted(alloc, verified, app, allowed, &mut writing)?;
+    tell_unknown(allowed, &mut writing);
     page_of(writing, has_notes)
 }
 
 // Tells which byte of a file that was not read is the first that is no UTF-8, where it is that; and what the number of a fault says.
 fn tell_number<T: Teller>(alloc: Global, fault: &Fault<'_>, given: Given<'_>, teller: &mut T) {
+    let mut remedy = "";
     if let Fault::File(name) = fault {
         if let Some(said) = stray_in(alloc, given.file(name)) {
             teller.stray(said.as_str());
+            remedy = AS_UTF8;
         }
     }
     if let Some(meaning) = meaning_of(fault.code()) {
-        teller.meaning(meaning);
+        teller.meaning(match remedy {
+            "" => meaning,
+            _ => Meaning {
+                says: meaning.says,
+                remedy,
+            },
+        });
     }
 }
 
@@ -291,15 +314,47 @@ pub fn tell_fault<T: Teller>(
     }
 }
 
-/// The page of a fault of two files, which is not want of memory.
+// Pages of further faults.
+#[derive(Drop)]
+struct Pages {
+    writing: Writing,
+}
+
+impl Listener for Pages {
+    fn fault(
+        &mut self,
+        _asked: Asked<'_>,
+        fault: &Fault<'_>,
+        diagnosis: &Diagnosis<'_>,
+    ) -> Result<(), AllocError> {
+        self.writing.put("\n");
+        self.writing.show(fault);
+        self.writing.put("\n");
+        tell_short(diagnosis, &mut self.writing);
+        Ok(())
+    }
+
+    fn more(&mut self) {
+        self.writing.put("\n");
+        self.writing.put(MORE);
+    }
+}
+
+/// The page of a fault of files, which is not want of memory, or of why there is no certificate; behind it, where it is asked for, short ones of all further faults of the
+/// application's text.
 pub fn refused_page(
     alloc: Global,
     fault: &Fault<'_>,
-    app: NamedFile<'_>,
-    cert: NamedFile<'_>,
+    given: Given<'_>,
 ) -> Result<Page, AllocError> {
     let mut writing = Writing::new(alloc);
-    tell_fault(alloc, fault, Given::two(app, cert), &mut writing)?;
+    tell_fault(alloc, fault, given, &mut writing)?;
+    if given.is_all {
+        let mut pages = Pages { writing };
+        tell_all(alloc, fault, given.app, false, &mut pages)?;
+        let Pages { writing } = pages;
+        return page_of(writing, false);
+    }
     page_of(writing, false)
 }
 
@@ -308,12 +363,13 @@ pub fn tell_alone<'a, T: Teller>(
     alloc: Global,
     app: NamedFile<'a>,
     repeats: Option<u8>,
+    allowed: &str,
     teller: &mut T,
 ) -> Result<Answer<'a>, AllocError>
     requires { IfSome repeats (λ r. 1 ≤ r) }
 {
     match app.text() {
-        Ok(text) => explain_alone(alloc, repeats, text, teller),
+        Ok(text) => explain_alone(alloc, repeats, text, allowed, teller),
         Err(Fault::Memory) => Err(AllocError),
         Err(fault) => {
             tell_number(alloc, &fault, Given::of(app), teller);
@@ -323,18 +379,4 @@ pub fn tell_alone<'a, T: Teller>(
             })
         }
     }
-}
-
-/// The verdict over an application by the certificate that is found, for `repeats`, 1 or more, over all devices too, or why there is none; and its page.
-pub fn explain<'a>(
-    alloc: Global,
-    app: NamedFile<'a>,
-    repeats: Option<u8>,
-) -> Result<(Result<(), Fault<'a>>, Page), AllocError>
-    requires { IfSome repeats (λ r. 1 ≤ r) }
-{
-    let mut writing = Writing::new(alloc);
-    let answer = tell_alone(alloc, app, repeats, &mut writing)?;
-    let page = page_of(writing, answer.has_notes)?;
-    Ok((answer.verdict, page))
 }

@@ -4,6 +4,9 @@ use crate::given::{Held, NamedFile};
 use fbr_places::Spot;
 use std::alloc::Global;
 
+/// What to do about a file that is no UTF-8.
+pub const AS_UTF8: &str = "save the file as UTF-8";
+
 // The first byte that is no UTF-8, in one sentence.
 fn stray_byte(alloc: Global, bytes: &[u8]) -> Option<String> {
     let at = str::from_utf8(bytes).err()?.valid_up_to();

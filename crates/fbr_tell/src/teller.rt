@@ -8,12 +8,13 @@ use std::alloc::{AllocError, Global};
 
 /// What is told of a verdict, part by part.
 pub trait Teller {
-    /// Tells the bounds of what fits, and the notes on its text; and whether there are notes.
+    /// Tells the bounds of what fits, and the notes on its text but for those whose names are allowed; and whether there are notes.
     fn bounds(
         &mut self,
         alloc: Global,
         verified: &Verified,
         app: Named<'_>,
+        allowed: &str,
     ) -> Result<bool, AllocError>;
 
     /// Tells where a refusal stands, what was found there, and what to do.
@@ -32,8 +33,9 @@ impl Teller for Writing {
         alloc: Global,
         verified: &Verified,
         app: Named<'_>,
+        allowed: &str,
     ) -> Result<bool, AllocError> {
-        tell_bounds(alloc, verified, app, self)
+        tell_bounds(alloc, verified, app, allowed, self)
     }
 
     fn diagnosis(

@@ -43,21 +43,21 @@ fn name_of(
     Ok(name)
 }
 
-// Adds the lane of a resource in which something is watched.
+// Adds the lane of a resource of the device of the station at a place, if something is watched in it.
 fn add_lane(
     alloc: Global,
     signals: &Signals<'_>,
-    station: usize,
-    number: u16,
+    place: usize,
     device: &Device,
     resource: u16,
     timeline: &mut Timeline,
 ) -> Result<(), AllocError> {
-    if let Some(fill) = device.fill_of(resource) {
-        if is_watched(signals, station, fill.name) {
-            let name = name_of(alloc, signals, device.name(), fill.name)?;
-            timeline.add(number, resource, fill.depth, name)?;
-        }
+    let (Some(station), Some(fill)) = (signals.stations.get(place), device.fill_of(resource)) else {
+        return Ok(());
+    };
+    if is_watched(signals, place, fill.name) {
+        let name = name_of(alloc, signals, device.name(), fill.name)?;
+        timeline.add(station.number, resource, fill.depth, name)?;
     }
     Ok(())
 }
@@ -74,7 +74,7 @@ pub(crate) fn look_first(
         return Ok(());
     };
     for resource in 0..device.resources() {
-        add_lane(alloc, signals, station, number, device, resource, timeline)?;
+        add_lane(alloc, signals, station, device, resource, timeline)?;
     }
     timeline.first(number, device, station == 0)
 }

@@ -1,4 +1,5 @@
-//! Room: program. Watches a run: what has changed, in lines for people, as a CSV table or a Value Change Dump (IEEE 1364); and what ran when, as a timeline.
+//! Room: program. Watches a run: what has changed, in lines for people or for programs, as a CSV table or a Value Change Dump (IEEE 1364); and what ran when, as a
+//! timeline.
 //! It looks after each dispatch, arrival and tick. Its memory goes with the size of the plant, that of a timeline with the length of the run.
 //! No contracts: what it writes is tested.
 #![tactic(auto)]
@@ -6,6 +7,7 @@
 mod dump;
 mod lanes;
 mod lines;
+mod objects;
 mod table;
 #[cfg(test)]
 mod tests;
@@ -14,6 +16,6 @@ mod watcher;
 mod watching;
 mod wish;
 
-pub use watcher::{Form, Watcher};
+pub use watcher::{Form, RanAt, Watcher};
 pub use watching::{Kept, Watching};
 pub use wish::{Seen, Wish};

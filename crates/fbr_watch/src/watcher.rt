@@ -2,6 +2,7 @@
 
 use crate::dump::{write_declarations, write_sequence, write_stamp, write_value};
 use crate::lines::{write_beginning, write_line};
+use crate::objects::{write_change, write_run};
 use crate::table::{write_columns, write_row};
 use crate::value::Change;
 use fb_device::{Condition, Device, Look, Ran};
@@ -17,10 +18,20 @@ pub enum Form {
     /// Lines for people and programs: `TIME PATH.VARIABLE = VALUE`, `TIME PATH IN STATE`, `TIME RESOURCE QUEUE COUNT`. The values at the beginning of a run
     /// have none.
     Lines,
+    /// Lines for programs, a JSON object each, as `docs/JSON.md` says, also of the values at the beginning of a run.
+    Objects,
     /// Comma-separated values, with a row for each first value and each change.
     Table,
     /// A Value Change Dump.
     Dump,
+}
+
+/// A dispatch that is looked at: the resource, the moment of the device's clock in milliseconds, and what ran.
+#[derive(Clone, Copy)]
+pub struct RanAt<'r> {
+    pub resource: u16,
+    pub now: u64,
+    pub ran: &'r Ran,
 }
 
 /// What is known of a signal: where its variable lies, and its value when it was looked at last.
@@ -122,7 +133,7 @@ impl<'s, 'a> Watcher<'s, 'a> {
     fn write_head<W: Write>(&mut self, out: &mut W) -> io::Result<()> {
         let has_sequences = self.sequence.is_some();
         match self.form {
-            Form::Lines => Ok(()),
+            Form::Lines | Form::Objects => Ok(()),
             Form::Table => write_columns(has_sequences, out),
             Form::Dump => {
                 write_declarations(self.signals, has_sequences, out)?;
@@ -136,6 +147,7 @@ impl<'s, 'a> Watcher<'s, 'a> {
     fn write_name<W: Write>(&mut self, name: &str, out: &mut W) -> io::Result<()> {
         match self.form {
             Form::Lines => write_beginning(name, out),
+            Form::Objects => write_run(self.alloc, name, out),
             Form::Table => Ok(()),
             Form::Dump => {
                 self.stamp(out)?;
@@ -204,6 +216,7 @@ impl<'s, 'a> Watcher<'s, 'a> {
         };
         match self.form {
             Form::Lines => write_line(change, self.now, signals.is_alone, out),
+            Form::Objects => write_change(self.alloc, change, self.now, out),
             Form::Table => match &self.sequence {
                 Some(sequence) => write_row(change, self.now, Some(sequence.as_str()), out),
                 None => write_row(change, self.now, None, out),
@@ -407,26 +420,24 @@ impl<'s, 'a> Watcher<'s, 'a> {
         }
     }
 
-    /// Looks at the device of a number after a dispatch of a resource, at a moment of its clock in milliseconds: at the block that ran, and at the resource.
+    /// Looks at the device of a number after a dispatch: at the block that ran, and at the resource.
     pub fn ran<W: Write>(
         &mut self,
         number: u16,
         device: &Device,
-        resource: u16,
-        now: u64,
-        ran: &Ran,
+        at: RanAt<'_>,
         out: &mut W,
     ) -> io::Result<()> {
         let signals = self.signals;
-        self.step(now);
+        self.step(at.now);
         let Some((_, station)) = station_of(signals, number) else {
             return Ok(());
         };
-        let block = station.blocks.get(usize::from(ran.block)).copied();
+        let block = station.blocks.get(usize::from(at.ran.block)).copied();
         self.look_at(block.unwrap_or(None), device, None, out)?;
-        let home = station.resources.get(usize::from(resource)).copied();
+        let home = station.resources.get(usize::from(at.resource)).copied();
         let place = home.unwrap_or(None);
-        let steps = self.steps_of(place, ran)?;
+        let steps = self.steps_of(place, at.ran)?;
         self.look_at(place, device, steps, out)
     }
 

@@ -1,8 +1,8 @@
 //! A run that is watched in several forms at once.
 
 use crate::lanes::look_first;
-use crate::watcher::{Form, Watcher};
-use fb_device::{Device, Ran};
+use crate::watcher::{Form, RanAt, Watcher};
+use fb_device::Device;
 use fbr_signals::Signals;
 use fbr_timeline::{Timeline, out_of_memory};
 use std::alloc::{AllocError, Global};
@@ -82,16 +82,9 @@ impl<'s, 'a, F: Write + Drop> Recorder<'s, 'a, F> {
     }
 
     // A look after a dispatch.
-    fn ran(
-        &mut self,
-        number: u16,
-        device: &Device,
-        resource: u16,
-        now: u64,
-        ran: &Ran,
-    ) -> io::Result<()> {
+    fn ran(&mut self, number: u16, device: &Device, at: RanAt<'_>) -> io::Result<()> {
         let Recorder { watcher, out } = self;
-        watcher.ran(number, device, resource, now, ran, out)
+        watcher.ran(number, device, at, out)
     }
 
     // A look after a tick or an arrival.
@@ -133,11 +126,11 @@ impl<'s, 'a, F: Write + Drop> Watching<'s, 'a, F> {
         }
     }
 
-    /// Watches signals, with lines or without, and in the forms for which there is something to write to.
+    /// Watches signals, with lines of a form or without, and in the forms for which there is something to write to.
     pub fn new(
         alloc: Global,
         signals: &'s Signals<'a>,
-        has_lines: bool,
+        lines: Option<Form>,
         kept: Kept<F>,
     ) -> Result<Watching<'s, 'a, F>, AllocError> {
         let Kept {
@@ -145,10 +138,9 @@ impl<'s, 'a, F: Write + Drop> Watching<'s, 'a, F> {
             dump,
             timeline,
         } = kept;
-        let lines = if has_lines {
-            Some(Watcher::new(alloc, signals, Form::Lines)?)
-        } else {
-            None
+        let lines = match lines {
+            Some(form) => Some(Watcher::new(alloc, signals, form)?),
+            None => None,
         };
         Ok(Watching {
             lines,
@@ -217,38 +209,29 @@ impl<'s, 'a, F: Write + Drop> Watching<'s, 'a, F> {
         &mut self,
         number: u16,
         device: &Device,
-        resource: u16,
-        now: u64,
-        ran: &Ran,
+        at: RanAt<'_>,
         output: &mut W,
     ) -> io::Result<()> {
         if let Some(watcher) = &mut self.lines {
-            watcher.ran(number, device, resource, now, ran, output)?;
+            watcher.ran(number, device, at, output)?;
         }
         if let Some(recorder) = &mut self.table {
-            recorder.ran(number, device, resource, now, ran)?;
+            recorder.ran(number, device, at)?;
         }
         if let Some(recorder) = &mut self.dump {
-            recorder.ran(number, device, resource, now, ran)?;
+            recorder.ran(number, device, at)?;
         }
         if let Some(drawer) = &mut self.timeline {
-            noted(drawer.timeline.ran(number, device, resource, now, ran))?;
+            let timeline = &mut drawer.timeline;
+            noted(timeline.ran(number, device, at.resource, at.now, at.ran))?;
         }
         Ok(())
     }
 
-    /// Looks at the device of a number after a dispatch of a resource, as [`Watcher::ran`] says.
-    pub fn ran<W: Write>(
-        &mut self,
-        number: u16,
-        device: &Device,
-        resource: u16,
-        now: u64,
-        ran: &Ran,
-        output: &mut W,
-    ) {
+    /// Looks at the device of a number after a dispatch, as [`Watcher::ran`] says.
+    pub fn ran<W: Write>(&mut self, number: u16, device: &Device, at: RanAt<'_>, output: &mut W) {
         if self.done.is_ok() {
-            self.done = self.ran_all(number, device, resource, now, ran, output);
+            self.done = self.ran_all(number, device, at, output);
         }
     }
 

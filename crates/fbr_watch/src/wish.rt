@@ -1,5 +1,6 @@
 //! What is asked to be watched of a run.
 
+use crate::watcher::Form;
 use crate::watching::{Kept, Watching};
 use fb_flat::Flat;
 use fbr_signals::{Signals, Unwatched, find_signals, find_signals_of};
@@ -11,6 +12,8 @@ use std::io;
 #[derive(Clone, Copy)]
 pub struct Wish<'b, 'p> {
     pub paths: &'b [&'p str],
+    /// Whether the lines are for programs.
+    pub is_json: bool,
     pub has_table: bool,
     pub has_dump: bool,
     pub has_timeline: bool,
@@ -52,6 +55,17 @@ impl Wish<'_, '_> {
         self.has_table || self.has_dump || self.has_timeline
     }
 
+    // The form of the lines, where there are some.
+    fn lines(self) -> Option<Form> {
+        if self.paths.is_empty() {
+            None
+        } else if self.is_json {
+            Some(Form::Objects)
+        } else {
+            Some(Form::Lines)
+        }
+    }
+
     /// The signals that are watched, of all devices or of the one of a number.
     pub fn signals<'a>(
         self,
@@ -77,7 +91,7 @@ impl Wish<'_, '_> {
             dump: sink(alloc, self.has_dump),
             timeline: sink(alloc, self.has_timeline),
         };
-        Watching::new(alloc, signals, !self.paths.is_empty(), sinks)
+        Watching::new(alloc, signals, self.lines(), sinks)
     }
 }
 

@@ -3,11 +3,13 @@
 ghost use Rattle.std.specs.Prelude.{◌≡◌, ◌≤◌, Option, IfSome, option_map, codes};
 ghost use Rattle.clap.specs.Words.{rows_of, found_of, first_of};
 ghost use Rattle.fbr_words.specs.Program as program;
-ghost use Rattle.fbr_words.specs.Requests.{ranges_of, sought_of};
+ghost use Rattle.fbr_words.specs.Requests.{meant_of, ranges_of, sought_of};
+ghost use Rattle.fbr_words.specs.Program.{least_sought};
 
 use crate::given::{flag, given, into_in};
 use clap::ArgMatches;
 use fb_numbers::read_number;
+use fbr_texts::Meant;
 
 /// Which ranges a certificate gets: those of the finder's rounds; others where nothing is clear under these; or such as keep the rows RANGE of a file.
 #[derive(Clone, Copy)]
@@ -22,14 +24,43 @@ pub enum Ranges<'a> {
 #[derive(Clone, Copy)]
 pub struct Bound<'a> {
     pub app: &'a str,
+    /// The text that it is with block types before it, where there are some. Words alone say none.
+    pub meant: Option<Meant<'a>>,
     /// 1 to 255.
     pub repeats: Option<u8>,
     pub into: Option<&'a str>,
     pub ranges: Ranges<'a>,
     /// How often each queue has room for its largest arrival, where that is said.
     pub room: Option<u8>,
+    /// Notes count in the status.
+    pub is_strict: bool,
+    /// The names of notes that are allowed, with commas between them.
+    pub allowed: Option<&'a str>,
     /// JSON is printed.
     pub is_json: bool,
+    /// All faults of the application's text are told.
+    pub is_all: bool,
+}
+
+impl<'a> Bound<'a> {
+    /// A request for the certificate with the least numbers, for `repeats`, 1 or more, over all devices too.
+    pub fn least(app: &'a str, meant: Option<Meant<'a>>, repeats: Option<u8>) -> Bound<'a>
+        ensures asked { sought_of result ≡ least_sought app.now (meant_of meant.entry) repeats }
+        ensures often { result.repeats ≡ repeats }
+    {
+        Bound {
+            app,
+            meant,
+            repeats,
+            into: None,
+            ranges: Ranges::Rounds,
+            room: None,
+            is_strict: false,
+            allowed: None,
+            is_json: false,
+            is_all: false,
+        }
+    }
 }
 
 // A number of 1 to 255.
@@ -44,8 +75,8 @@ fn small(number: Option<u16>) -> Option<u8>
     }
 }
 
-// How often, where the word says it; nothing where it is no number of 1 to 255.
-fn often(word: Option<&str>) -> Option<Option<u8>>
+/// How often, where the word says it; nothing where it is no number of 1 to 255.
+pub fn often(word: Option<&str>) -> Option<Option<u8>>
     ensures value { result ≡ program.repeats_in (option_map (λ text. text.now) word.entry) }
     ensures some { IfSome result (λ r. IfSome r (λ n. 1 ≤ n)) }
 {
@@ -89,10 +120,14 @@ pub fn bound_in<'a>(words: &ArgMatches<'a>) -> Option<Bound<'a>>
 {
     Some(Bound {
         app: given(words, "APP")?,
+        meant: None,
         repeats: often_in(words, "repeats")?,
         into: into_in(words),
         ranges: ranges_by(given(words, "ranges"), flag(words, "search")),
         room: often_in(words, "room")?,
+        is_strict: flag(words, "strict"),
+        allowed: given(words, "allow"),
         is_json: flag(words, "json"),
+        is_all: flag(words, "all"),
     })
 }

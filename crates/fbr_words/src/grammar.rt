@@ -55,13 +55,40 @@ fn with_command<'a>(
     }
 }
 
-// A subcommand that wants a file.
+// An option that may be given again, each time with a value.
+fn repeated<'a>(alloc: Global, id: &'a str, value: &'a str, help: &'a str) -> Arg<'a>
+    ensures rule { rule_of result ≡ program.repeated id.now }
+    ensures local { result.global ≡ false }
+{
+    Arg::new(alloc, id)
+        .long(id)
+        .action(ArgAction::Append)
+        .value_name(value)
+        .help(help)
+}
+
+// A subcommand that wants a file, of which help says this, and takes files of block types before it.
+fn over_named<'a>(
+    alloc: Global,
+    name: &'a str,
+    about: &'a str,
+    help: &'a str,
+) -> Result<Command<'a>, AllocError>
+    ensures { IfOk result (λ c. app_of c ≡ program.over_file name.now) }
+{
+    let help_with =
+        "Puts the block types of this file before the application; may be given again, at most 64 times";
+    let alone = Command::new(alloc, name)
+        .about(about)
+        .arg(file(alloc, "APP", help));
+    with(alone, repeated(alloc, "with", "FILE", help_with))
+}
+
+// A subcommand that wants the file of an application.
 fn over_file<'a>(alloc: Global, name: &'a str, about: &'a str) -> Result<Command<'a>, AllocError>
     ensures { IfOk result (λ c. app_of c ≡ program.over_file name.now) }
 {
-    Command::new(alloc, name)
-        .about(about)
-        .arg(file(alloc, "APP", "The application's text"))
+    over_named(alloc, name, about, "The application's text")
 }
 
 // A subcommand that wants two files.
@@ -92,7 +119,7 @@ fn repeats<'a>(alloc: Global) -> Arg<'a>
     ensures local { result.global ≡ false }
 {
     let help =
-        "Bounds the steps on all devices too, where each datagram is delivered at most R times to a device (1 to 255)";
+        "Bounds the steps on all devices too, if each datagram is delivered at most R times to a device (1 to 255)";
     Arg::new(alloc, "repeats")
         .long("repeats")
         .action(ArgAction::Set)
@@ -110,7 +137,7 @@ fn output<'a>(alloc: Global) -> Arg<'a>
         .short('o')
         .action(ArgAction::Set)
         .value_name("FILE")
-        .help("Writes into this file in place of standard output, where nothing is refused")
+        .help("Writes into this file instead of standard output, if nothing is refused")
 }
 
 // The option `--ranges`.
@@ -135,9 +162,7 @@ fn search<'a>(alloc: Global) -> Arg<'a>
     Arg::new(alloc, "search")
         .long("search")
         .action(ArgAction::SetTrue)
-        .help(
-            "Tries harder where an index or a divisor is refused with 44: looks for narrower ranges",
-        )
+        .help("Tries harder if an index or a divisor is refused with 44: looks for narrower ranges")
 }
 
 // The option `--room`.
@@ -162,7 +187,43 @@ fn json<'a>(alloc: Global) -> Arg<'a>
     Arg::new(alloc, "json")
         .long("json")
         .action(ArgAction::SetTrue)
-        .help("Prints one JSON object for programs in place of text for people")
+        .help("Prints JSON for programs, an object on a line, in place of text for people")
+}
+
+// The option `--strict`.
+fn strict<'a>(alloc: Global) -> Arg<'a>
+    ensures rule { rule_of result ≡ program.strict }
+    ensures local { result.global ≡ false }
+{
+    Arg::new(alloc, "strict")
+        .long("strict")
+        .action(ArgAction::SetTrue)
+        .help("Ends with status 1 if there are notes")
+}
+
+// The option `--allow`.
+fn allow<'a>(alloc: Global) -> Arg<'a>
+    ensures rule { rule_of result ≡ program.allow }
+    ensures local { result.global ≡ false }
+{
+    Arg::new(alloc, "allow")
+        .long("allow")
+        .action(ArgAction::Set)
+        .value_name("NAMES")
+        .help("Silences the notes of these names, separated by commas")
+}
+
+// The option `--all`.
+fn all<'a>(alloc: Global) -> Arg<'a>
+    ensures rule { rule_of result ≡ program.every }
+    ensures local { result.global ≡ false }
+{
+    Arg::new(alloc, "all")
+        .long("all")
+        .action(ArgAction::SetTrue)
+        .help(
+            "Tells all faults of the application's text, 100 at most, and not the first one alone",
+        )
 }
 
 // The subcommand that finds certificates.
@@ -175,7 +236,10 @@ fn bound<'a>(alloc: Global) -> Result<Command<'a>, AllocError>
     let ranged = with(written, ranges(alloc));
     let searched = with(ranged, search(alloc));
     let roomed = with(searched, room(alloc));
-    with(roomed, json(alloc))
+    let noted = with(roomed, strict(alloc));
+    let allowed = with(noted, allow(alloc));
+    let printed = with(allowed, json(alloc));
+    with(printed, all(alloc))
 }
 
 // The subcommand that checks.
@@ -183,18 +247,10 @@ fn checked<'a>(alloc: Global) -> Result<Command<'a>, AllocError>
     ensures { IfOk result (λ c. app_of c ≡ program.check) }
 {
     let about = "Checks that a certificate fits an application";
-    with(over_files(alloc, "check", about), json(alloc))
-}
-
-// The option `--strict`.
-fn strict<'a>(alloc: Global) -> Arg<'a>
-    ensures rule { rule_of result ≡ program.strict }
-    ensures local { result.global ≡ false }
-{
-    Arg::new(alloc, "strict")
-        .long("strict")
-        .action(ArgAction::SetTrue)
-        .help("Ends with status 1 too where there are notes")
+    let noted = with(over_files(alloc, "check", about), strict(alloc));
+    let allowed = with(noted, allow(alloc));
+    let printed = with(allowed, json(alloc));
+    with(printed, all(alloc))
 }
 
 // The subcommand that explains.
@@ -204,13 +260,13 @@ fn explained<'a>(alloc: Global) -> Result<Command<'a>, AllocError>
     let about = "Explains the verdict over an application, or the number of a refusal";
     let help_app = "The application's text, or a number";
     let help_cert = "The certificate's text; without it the one that is found";
-    let alone = Command::new(alloc, "explain")
-        .about(about)
-        .arg(file(alloc, "APP", help_app));
+    let alone = over_named(alloc, "explain", about, help_app);
     let both = with(alone, maybe_file(alloc, "CERT", help_cert));
     let counted = with(both, repeats(alloc));
     let noted = with(counted, strict(alloc));
-    with(noted, json(alloc))
+    let allowed = with(noted, allow(alloc));
+    let printed = with(allowed, json(alloc));
+    with(printed, all(alloc))
 }
 
 // The option `--flat`.
@@ -221,7 +277,7 @@ fn flat<'a>(alloc: Global) -> Arg<'a>
     Arg::new(alloc, "flat")
         .long("flat")
         .action(ArgAction::SetTrue)
-        .help("Draws what composites are made of without boxes around it")
+        .help("Draws the blocks within composites without boxes around them")
 }
 
 // The option `--chart`.
@@ -281,18 +337,6 @@ fn peers<'a>(alloc: Global) -> Arg<'a>
         .help("The addresses that it sends to, as PORT, ADDRESS:PORT or [ADDRESS]:PORT, at most 64")
 }
 
-// An option that may be given again, each time with a value.
-fn repeated<'a>(alloc: Global, id: &'a str, value: &'a str, help: &'a str) -> Arg<'a>
-    ensures rule { rule_of result ≡ program.repeated id.now }
-    ensures local { result.global ≡ false }
-{
-    Arg::new(alloc, id)
-        .long(id)
-        .action(ArgAction::Append)
-        .value_name(value)
-        .help(help)
-}
-
 // An option without a value.
 fn set<'a>(alloc: Global, id: &'a str, help: &'a str) -> Arg<'a>
     ensures rule { rule_of result ≡ program.set id.now }
@@ -312,7 +356,7 @@ fn watched<'a>(
     ensures { (app : App) → IfOk command.entry (λ c. app_of c ≡ app) → IfOk result (λ c. app_of c ≡ program.watched_by app) }
 {
     let help_watch =
-        "Tells after each dispatch what has changed at this path: an instance, a variable or a resource, or `*` for all; may be given again, at most 64 times";
+        "Prints after each dispatch what has changed at this path: an instance, a variable or a resource, or `*` for all; may be given up to 64 times";
     let help_dump =
         "Writes into this file what has changed, as a value change dump, which GTKWave opens";
     let help_table = "Writes into this file what has changed, as a table of comma-separated values";
@@ -328,36 +372,39 @@ fn simulated<'a>(alloc: Global) -> Result<Command<'a>, AllocError>
     ensures { IfOk result (λ c. app_of c ≡ program.sim) }
 {
     let about = "Checks two texts, and runs the script on standard input, line by line";
-    watched(alloc, over_files(alloc, "sim", about))
+    let kept = watched(alloc, over_files(alloc, "sim", about));
+    with(kept, json(alloc))
 }
 
 // The subcommand that plays stories.
 fn played<'a>(alloc: Global) -> Result<Command<'a>, AllocError>
     ensures { IfOk result (λ c. app_of c ≡ program.play) }
 {
-    let about = "Plays stories of a plant, and tells which of them came otherwise";
+    let about = "Plays stories of a plant, and reports what went another way";
     let help =
-        "Stories, whose names end in .story, at most 64; the certificate's text may stand before them";
+        "Stories, whose names end in .story, at most 64; the certificate's text may be given before them";
     let help_report = "Writes into this file how the sequences went, as JUnit XML";
     let named = with(over_file(alloc, "play", about), files(alloc, "STORY", help));
     let kept = watched(alloc, named);
-    with(kept, number(alloc, "report", "FILE", help_report))
+    let reported = with(kept, number(alloc, "report", "FILE", help_report));
+    with(reported, json(alloc))
 }
 
 // The subcommand that takes the turns of a record again.
 fn replayed<'a>(alloc: Global) -> Result<Command<'a>, AllocError>
     ensures { IfOk result (λ c. app_of c ≡ program.replay) }
 {
-    let about = "Takes the turns of a recorded device again, and prints what its OUTPUTs write";
+    let about = "Repeats the turns of a recorded device, and prints what its OUTPUTs write";
     let help_record = "The record that `serve` wrote; `-` is standard input";
     let help_verbose =
-        "Tells on standard error of each arrival, each dispatch, what is sent, and each cause that has ended";
+        "Reports each arrival, each dispatch, what is sent, and each cause that has ended on standard error";
     let help_clock = "Lines of OUTPUTs begin with the milliseconds of the device's clock";
     let both = over_files(alloc, "replay", about);
     let recorded = with(both, file(alloc, "RECORD", help_record));
     let told = with(recorded, set(alloc, "verbose", help_verbose));
     let timed = with(told, set(alloc, "clock", help_clock));
-    watched(alloc, timed)
+    let kept = watched(alloc, timed);
+    with(kept, json(alloc))
 }
 
 // `serve` with what says where it receives, and from whom.
@@ -368,8 +415,7 @@ fn served_at<'a>(alloc: Global) -> Result<Command<'a>, AllocError>
     let help_device = "The name of the device";
     let help_bind =
         "Where it receives: PORT of 127.0.0.1, ADDRESS:PORT of IPv4, or [ADDRESS]:PORT of IPv6";
-    let help_from =
-        "Takes datagrams from this IP address only; may be given again, at most 64 times";
+    let help_from = "Takes datagrams from this IP address only; may be given up to 64 times";
     let both = over_files(alloc, "serve", about);
     let device = with(both, file(alloc, "DEVICE", help_device));
     let bound = with(device, needed_number(alloc, "bind", "ADDRESS", help_bind));
@@ -382,9 +428,9 @@ fn served_for<'a>(alloc: Global) -> Result<Command<'a>, AllocError>
 {
     let help_turns =
         "Ends after so many turns: 16 datagrams are received at most, and each resource is dispatched once";
-    let help_eof = "Ends where standard input does";
+    let help_eof = "Ends when standard input ends";
     let help_boot =
-        "The boot that its messages of format 2 are stamped with, 0 where none is given; let it grow with each start";
+        "The boot that its messages of format 2 are stamped with, 0 if none is given; let it grow with each start";
     let help_file =
         "Takes the boot from this file, and puts the next one there before anything is sent";
     let counted = with(served_at(alloc), number(alloc, "turns", "N", help_turns));
@@ -407,20 +453,54 @@ fn served_by<'a>(alloc: Global) -> Result<Command<'a>, AllocError>
     with(recorded, set(alloc, "sync", help_sync))
 }
 
+// `serve` with what says what is checked.
+fn served_with<'a>(alloc: Global) -> Result<Command<'a>, AllocError>
+    ensures { IfOk result (λ c. app_of c ≡ program.serve_with) }
+{
+    let help_keys =
+        "Seals what it sends, and takes only what the devices of this file sealed, each datagram once";
+    let help_state = "Holds the counters of sealed datagrams over restarts; `fbr key` begins it";
+    let help_unsealed =
+        "Checks nothing of what is received, at an address that others reach and without `--keys`";
+    let keyed = with(served_by(alloc), number(alloc, "keys", "FILE", help_keys));
+    let stated = with(keyed, number(alloc, "state", "FILE", help_state));
+    with(stated, set(alloc, "unsealed", help_unsealed))
+}
+
+// The subcommand that makes a key.
+fn keyed<'a>(alloc: Global) -> Result<Command<'a>, AllocError>
+    ensures { IfOk result (λ c. app_of c ≡ program.key) }
+{
+    let about = "Prints a new key, of 64 hexadecimal digits, from the system's random source";
+    let help_state =
+        "Begins this new file too, in which a device's counters survive restarts; a new state goes with a new key";
+    Command::new(alloc, "key")
+        .about(about)
+        .arg(number(alloc, "state", "FILE", help_state))
+}
+
 // The subcommand that runs a device over UDP.
 fn served<'a>(alloc: Global) -> Result<Command<'a>, AllocError>
     ensures { IfOk result (λ c. app_of c ≡ program.serve) }
 {
     let help_verbose =
-        "Tells on standard error of each arrival, each dispatch, what is sent, and each cause that has ended";
-    let help_summary = "Tells the sums on standard error every N seconds";
+        "Reports each arrival, each dispatch, what is sent, and each cause that has ended on standard error";
+    let help_summary = "Prints the totals on standard error every N seconds";
     let help_clock = "Lines of OUTPUTs begin with the milliseconds of the device's clock";
-    let help_strict = "Ends where a line cannot be written, in place of counting it";
-    let told = with(served_by(alloc), set(alloc, "verbose", help_verbose));
+    let help_strict = "Ends if a line cannot be written, instead of counting it";
+    let told = with(served_with(alloc), set(alloc, "verbose", help_verbose));
     let summed = with(told, number(alloc, "summary", "N", help_summary));
     let timed = with(summed, set(alloc, "clock", help_clock));
     let ending = with(timed, set(alloc, "stop-on-lost-output", help_strict));
     with(ending, peers(alloc))
+}
+
+// The subcommand that writes the text of an application.
+fn packed<'a>(alloc: Global) -> Result<Command<'a>, AllocError>
+    ensures { IfOk result (λ c. app_of c ≡ program.pack) }
+{
+    let about = "Prints the one text that the application is with the block types of `--with`";
+    with(over_file(alloc, "pack", about), output(alloc))
 }
 
 /// All of them.
@@ -438,5 +518,7 @@ pub fn commands<'a>(alloc: Global) -> Result<Command<'a>, AllocError>
     let explains = with_command(plays, explained(alloc));
     let draws = with_command(explains, drawn(alloc));
     let serves = with_command(draws, served(alloc));
-    with_command(serves, replayed(alloc))
+    let replays = with_command(serves, replayed(alloc));
+    let packs = with_command(replays, packed(alloc));
+    with_command(packs, keyed(alloc))
 }

@@ -4,10 +4,13 @@ ghost use Rattle.std.specs.Prelude.{◌≡◌, ◌≢◌, ◌≤◌, map, option
 ghost use Rattle.std.specs.Prelude.{List};
 ghost use Rattle.clap.specs.Words.{Text, HasKind, rows_of, found_of, fault_of, subcommand_rows_of};
 ghost use Rattle.fbr_words.specs.Program as program;
-ghost use Rattle.fbr_words.specs.Requests.{asked_of, IsNumber, IsMisread};
+ghost use Rattle.fbr_words.specs.Requests.{asked_of, order_of, IsNumber, IsMisread};
 
 use crate::grammar::commands;
-use crate::request::{Request, request_in};
+use crate::guard::is_unguarded;
+use crate::order::{Order, order_in};
+use crate::shown::{UNCOUNTED, misfit_in};
+use crate::watched::names_in;
 use clap::error::ErrorKind;
 use clap::{ArgMatches, Error};
 use std::alloc::Global;
@@ -21,24 +24,36 @@ pub enum Misread {
     Help(Error),
     /// They are none of the program's, and the error tells why.
     Words(Error),
-    /// A number or a port in them is none, and this says which there can be.
+    /// A number or a port in them is none, or they do not go together, and this says which there can be.
     Number(&'static str),
 }
-
-// What people are told where the number behind `--repeats` or `--room` is none.
-const UNCOUNTED: &str = "fbr: `--repeats` and `--room` take a number of 1 to 255";
 
 // What people are told where a number or an address of `serve` is none.
 const UNNUMBERED: &str =
     "fbr: an address is PORT, ADDRESS:PORT or [ADDRESS]:PORT with a port of 1 to 65535, and `--from` takes an ADDRESS, 64 of each at most; `--boot` and `--summary` take a number of 32 bits, `--turns` one of 64, `--boot-file` stands in place of `--boot`, and `--sync` stands with `--record`";
 
+// What people are told where nothing is said of what is checked.
+const UNGUARDED: &str =
+    "fbr: others reach this address, and nothing would be checked of what they send. `--keys FILE --state FILE` takes only what the devices of a file sealed; `--unsealed` takes what anybody sends. `--keys` and `--state` stand together, and without `--unsealed`";
+
 // What people are told where there are too many names.
 const TOO_MANY: &str = "fbr: at most 64 stories are taken, and 64 paths of `--watch`";
 
+// What people are told where there are too many files.
+const TOO_MANY_FILES: &str = "fbr: at most 64 files are taken behind `--with`";
+
 // What people are told where the words of a subcommand are none of its own.
-fn misfit(name: &str) -> &'static str {
-    if name == "serve" {
-        UNNUMBERED
+fn misfit(name: &str, words: &ArgMatches<'_>) -> &'static str {
+    if names_in(words, "with").is_none() {
+        TOO_MANY_FILES
+    } else if name == "explain" || name == "draw" {
+        misfit_in(words, name == "explain")
+    } else if name == "serve" {
+        if is_unguarded(words) {
+            UNGUARDED
+        } else {
+            UNNUMBERED
+        }
     } else if name == "sim" || name == "play" || name == "replay" {
         TOO_MANY
     } else {
@@ -54,15 +69,15 @@ fn entered<'a, 'b>(matches: &'b ArgMatches<'a>) -> Option<(&'a str, &'b ArgMatch
 }
 
 // What matched words ask for.
-fn request<'a>(matches: &ArgMatches<'a>) -> Result<Request<'a>, Misread>
-    ensures asked { MatchResult result (λ r. option_and_then program.request_in (subcommand_rows_of matches.now) ≡ Some (asked_of r)) (λ _. option_and_then program.request_in (subcommand_rows_of matches.now) ≡ None) }
-    ensures some { IfOk result (λ r. IfSome (program.often_of (asked_of r)) (λ n. 1 ≤ n)) }
+fn order<'a>(matches: &ArgMatches<'a>) -> Result<Order<'a>, Misread>
+    ensures asked { MatchResult result (λ o. option_and_then program.order_in (subcommand_rows_of matches.now) ≡ Some (order_of o)) (λ _. option_and_then program.order_in (subcommand_rows_of matches.now) ≡ None) }
+    ensures some { IfOk result (λ o. IfSome (program.often_of (asked_of o.request)) (λ n. 1 ≤ n)) }
     ensures number { IfErr result IsNumber }
 {
     match entered(matches) {
-        Some((name, words)) => match request_in(name, words) {
-            Some(request) => Ok(request),
-            None => Err(Misread::Number(misfit(name))),
+        Some((name, words)) => match order_in(name, words) {
+            Some(order) => Ok(order),
+            None => Err(Misread::Number(misfit(name, words))),
         },
         None => Err(Misread::Number(UNCOUNTED)),
     }
@@ -80,9 +95,9 @@ fn unmatched(error: Error) -> Misread
 }
 
 /// What words ask for, of which the first is the program's own name.
-pub fn read_words<'a>(alloc: Global, words: &'a [&'a str]) -> Result<Request<'a>, Misread>
-    ensures asked { IfOk result (λ r. program.request_of (map (λ word. word.now) words.now) ≡ Some (asked_of r)) }
-    ensures some { IfOk result (λ r. IfSome (program.often_of (asked_of r)) (λ n. 1 ≤ n)) }
+pub fn read_words<'a>(alloc: Global, words: &'a [&'a str]) -> Result<Order<'a>, Misread>
+    ensures asked { IfOk result (λ o. program.request_of (map (λ word. word.now) words.now) ≡ Some (order_of o)) }
+    ensures some { IfOk result (λ o. IfSome (program.often_of (asked_of o.request)) (λ n. 1 ≤ n)) }
     ensures misread { IfErr result (IsMisread (map (λ word. word.now) words.now)) }
 {
     let command = match commands(alloc) {
@@ -90,7 +105,7 @@ pub fn read_words<'a>(alloc: Global, words: &'a [&'a str]) -> Result<Request<'a>
         Err(_) => return Err(Misread::Memory),
     };
     match command.try_get_matches_from(words) {
-        Ok(matches) => request(&matches),
+        Ok(matches) => order(&matches),
         Err(error) => Err(unmatched(error)),
     }
 }

@@ -8,11 +8,14 @@ ghost use Rattle.fbr_words.specs.Requests.{replaying_of};
 use crate::given::{flag, given};
 use crate::watched::{Watched, watched_in};
 use clap::ArgMatches;
+use fbr_texts::Meant;
 
-/// The files of an application, of its certificate, and of a record of one of its devices, and what is told and watched.
+/// The files of an application, of its certificate, and of a record of one of its devices, what is told and watched, and whether it is told as JSON.
 #[derive(Drop)]
 pub struct Replay<'a> {
     pub app: &'a str,
+    /// The text that it is with block types before it, where there are some. Words alone say none.
+    pub meant: Option<Meant<'a>>,
     pub cert: &'a str,
     pub record: &'a str,
     /// Each arrival, dispatch, end and send.
@@ -20,6 +23,7 @@ pub struct Replay<'a> {
     /// The lines of OUTPUTs begin with the device's clock.
     pub has_clock: bool,
     pub watched: Watched<'a>,
+    pub is_json: bool,
 }
 
 /// What is to be replayed; `None` where there are more than 64 paths.
@@ -28,10 +32,12 @@ pub fn replay_in<'a>(words: &ArgMatches<'a>) -> Option<Replay<'a>>
 {
     Some(Replay {
         app: given(words, "APP")?,
+        meant: None,
         cert: given(words, "CERT")?,
         record: given(words, "RECORD")?,
         is_verbose: flag(words, "verbose"),
         has_clock: flag(words, "clock"),
         watched: watched_in(words)?,
+        is_json: flag(words, "json"),
     })
 }

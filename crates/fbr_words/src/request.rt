@@ -1,18 +1,21 @@
 //! What the program is asked for.
 
-ghost use Rattle.std.specs.Prelude.{◌≡◌, ◌≤◌, IfSome, option_map};
-ghost use Rattle.clap.specs.Words.{rows_of, found_of};
+ghost use Rattle.std.specs.Prelude.{◌≡◌, ◌≤◌, IfSome, codes, option_map};
+ghost use Rattle.clap.specs.Words.{first_of, found_of, rows_of};
 ghost use Rattle.fbr_words.specs.Program as program;
 ghost use Rattle.fbr_words.specs.Requests.{asked_of};
 
 use crate::bound::{Bound, bound_in};
 use crate::check::{Check, check_in};
+use crate::given::given;
+use crate::pack::{Pack, pack_in};
 use crate::play::{Play, play_in};
 use crate::replay::{Replay, replay_in};
 use crate::serve::{Serve, serve_in};
 use crate::shown::{Draw, Explain, draw_in, explain_in};
 use crate::sim::{Sim, sim_in};
 use clap::ArgMatches;
+use fbr_texts::Meant;
 
 /// A command with all that its words say.
 #[derive(Drop)]
@@ -33,6 +36,10 @@ pub enum Request<'a> {
     Serve(Serve<'a>),
     /// Takes the turns of a record again.
     Replay(Replay<'a>),
+    /// Writes the text that an application is.
+    Pack(Pack<'a>),
+    /// Makes a key, and begins the state of this file, where one is named.
+    Key(Option<&'a str>),
 }
 
 fn bound<'a>(words: &ArgMatches<'a>) -> Option<Request<'a>>
@@ -87,6 +94,18 @@ fn replay<'a>(words: &ArgMatches<'a>) -> Option<Request<'a>>
     Some(Request::Replay(replay_in(words)?))
 }
 
+fn pack<'a>(words: &ArgMatches<'a>) -> Option<Request<'a>>
+    ensures { option_map asked_of result ≡ option_map program.a_pack (program.packing_in (rows_of (found_of words.now))) }
+{
+    Some(Request::Pack(pack_in(words)?))
+}
+
+fn key<'a>(words: &ArgMatches<'a>) -> Request<'a>
+    ensures { asked_of result ≡ program.a_key (first_of (codes "state") (rows_of (found_of words.now))) }
+{
+    Request::Key(given(words, "state"))
+}
+
 /// What a subcommand of this name asks for with its words; `None` where a number or an address is none.
 pub fn request_in<'a>(name: &str, words: &ArgMatches<'a>) -> Option<Request<'a>>
     ensures asked { option_map asked_of result ≡ program.request_in (name.now, rows_of (found_of words.now)) }
@@ -108,7 +127,83 @@ pub fn request_in<'a>(name: &str, words: &ArgMatches<'a>) -> Option<Request<'a>>
         serve(words)
     } else if name == "replay" {
         replay(words)
+    } else if name == "pack" {
+        pack(words)
+    } else if name == "key" {
+        Some(key(words))
     } else {
         None
+    }
+}
+
+// A request of the text that is meant.
+fn over<'a>(request: Request<'a>, meant: Meant<'a>) -> Request<'a>
+    ensures { asked_of result ≡ program.over meant.entry.text.now (asked_of request.entry) }
+{
+    match request {
+        Request::Sim(mut sim) => {
+            sim.meant = Some(meant);
+            Request::Sim(sim)
+        }
+        Request::Play(mut play) => {
+            play.meant = Some(meant);
+            Request::Play(play)
+        }
+        Request::Serve(mut serve) => {
+            serve.meant = Some(meant);
+            Request::Serve(serve)
+        }
+        Request::Replay(mut replay) => {
+            replay.meant = Some(meant);
+            Request::Replay(replay)
+        }
+        Request::Bound(mut bound) => {
+            bound.meant = Some(meant);
+            Request::Bound(bound)
+        }
+        Request::Check(mut check) => {
+            check.meant = Some(meant);
+            Request::Check(check)
+        }
+        Request::Explain(mut explain) => {
+            explain.meant = Some(meant);
+            Request::Explain(explain)
+        }
+        Request::Draw(mut draw) => {
+            draw.meant = Some(meant);
+            Request::Draw(draw)
+        }
+        Request::Pack(mut pack) => {
+            pack.meant = Some(meant);
+            Request::Pack(pack)
+        }
+        Request::Key(state) => Request::Key(state),
+    }
+}
+
+impl<'a> Request<'a> {
+    /// The file of the application, or the number that is explained; a key has none.
+    pub fn app(&self) -> &'a str
+        ensures { result.now ≡ program.app_of (asked_of self.now) }
+    {
+        match self {
+            Request::Bound(request) => request.app,
+            Request::Check(request) => request.app,
+            Request::Sim(request) => request.app,
+            Request::Play(request) => request.app,
+            Request::Explain(request) => request.what,
+            Request::Draw(request) => request.app,
+            Request::Serve(request) => request.app,
+            Request::Replay(request) => request.app,
+            Request::Pack(request) => request.app,
+            Request::Key(_) => "",
+        }
+    }
+
+    /// The same of the text that is meant by the application.
+    pub fn over(self, meant: Meant<'a>) -> Request<'a>
+        ensures { asked_of result ≡ program.over meant.entry.text.now (asked_of self.entry) }
+    {
+        over(self, meant)
     }
 }

@@ -6,9 +6,11 @@ ghost use Rattle.fbr_words.specs.Program as program;
 ghost use Rattle.fbr_words.specs.Requests.{boot_of, life_of, network_of, service_of, telling_of};
 
 use crate::given::{flag, given};
+use crate::guard::{Guard, guard_in};
 use crate::network::{Network, network_in};
 use clap::ArgMatches;
 use fb_numbers::{read_long_number, read_wide_number};
+use fbr_texts::Meant;
 
 /// Where the boot comes from that messages of format 2 are stamped with.
 #[derive(Clone, Copy)]
@@ -46,15 +48,18 @@ pub struct Telling {
     pub is_strict: bool,
 }
 
-/// A device of two files, the network that it is part of, how long it runs, and what it tells.
+/// A device of two files, the network that it is part of, how long it runs, what it tells, and what is checked of datagrams.
 #[derive(Drop)]
 pub struct Serve<'a> {
     pub app: &'a str,
+    /// The text that it is with block types before it, where there are some. Words alone say none.
+    pub meant: Option<Meant<'a>>,
     pub cert: &'a str,
     pub device: &'a str,
     pub network: Network,
     pub life: Life<'a>,
     pub telling: Telling,
+    pub guard: Guard<'a>,
 }
 
 // The boot: a number, a file, or 0 where neither is given; both are none.
@@ -96,10 +101,10 @@ fn seconds_by(word: Option<&str>) -> Option<Option<u32>>
 }
 
 // Whether each line of a record goes to the disk, which is nothing where there is no record.
-fn synced_by(record: Option<&str>, is_synced: bool) -> Option<bool>
-    ensures { result ≡ program.synced_by (option_map (λ name. name.now) record.entry) is_synced }
+fn synced_by(recorded: Option<&str>, is_synced: bool) -> Option<bool>
+    ensures { result ≡ program.synced_by (option_map (λ name. name.now) recorded.entry) is_synced }
 {
-    match record {
+    match recorded {
         Some(_) => Some(is_synced),
         None => { if is_synced { None } else { Some(false) } }
     }
@@ -130,17 +135,19 @@ fn telling_in(words: &ArgMatches<'_>) -> Option<Telling>
     })
 }
 
-/// What is asked for; `None` where a number or an address is none, there are more than 64 peers or senders, a boot is given twice, or `--sync` without
-/// `--record`.
+/// What is asked for; `None` where a number or an address is none, there are more than 64 peers or senders, a boot is given twice, `--sync` without
+/// `--record`, or nothing is said of what is checked at an address that others reach.
 pub fn serve_in<'a>(words: &ArgMatches<'a>) -> Option<Serve<'a>>
     ensures { option_map service_of result ≡ program.service_in (rows_of (found_of words.now)) }
 {
     Some(Serve {
         app: given(words, "APP")?,
+        meant: None,
         cert: given(words, "CERT")?,
         device: given(words, "DEVICE")?,
         life: life_in(words)?,
         telling: telling_in(words)?,
+        guard: guard_in(words)?,
         network: network_in(words)?,
     })
 }

@@ -5,16 +5,20 @@ ghost use Rattle.clap.specs.Words.{rows_of, found_of};
 ghost use Rattle.fbr_words.specs.Program as program;
 ghost use Rattle.fbr_words.specs.Requests.{simulating_of};
 
-use crate::given::given;
+use crate::given::{flag, given};
 use crate::watched::{Watched, watched_in};
 use clap::ArgMatches;
+use fbr_texts::Meant;
 
-/// The files of an application and of its certificate, and what is watched of the world that runs a script.
+/// The files of an application and of its certificate, what is watched of the world that runs a script, and whether answers are printed as JSON.
 #[derive(Drop)]
 pub struct Sim<'a> {
     pub app: &'a str,
+    /// The text that it is with block types before it, where there are some. Words alone say none.
+    pub meant: Option<Meant<'a>>,
     pub cert: &'a str,
     pub watched: Watched<'a>,
+    pub is_json: bool,
 }
 
 /// What is to be simulated; `None` where there are more than 64 paths.
@@ -23,7 +27,9 @@ pub fn sim_in<'a>(words: &ArgMatches<'a>) -> Option<Sim<'a>>
 {
     Some(Sim {
         app: given(words, "APP")?,
+        meant: None,
         cert: given(words, "CERT")?,
         watched: watched_in(words)?,
+        is_json: flag(words, "json"),
     })
 }

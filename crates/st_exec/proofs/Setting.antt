@@ -13,7 +13,7 @@ use Rattle.st_exec.specs.Forms.{Form, size_of, slot_in}
 use Rattle.st_exec.specs.CodeViews.{code_term, code_command}
 use Rattle.st_exec.specs.Placed.{placed_stmt}
 use Rattle.st_exec.specs.Cells.{shape_in}
-use Rattle.st_exec.specs.Runs.{IsWithin, SupportsOne}
+use Rattle.st_exec.specs.Runs.{EndsWithin, SupportsOne}
 use Rattle.st_exec.proofs.Serving.{set_served, part_served}
 use Rattle.st_exec.proofs.Runs.{index_within}
 use Rattle.st_exec.proofs.Writing.{index_within as index_below}
@@ -63,9 +63,9 @@ module _ (fs : List Form) (c : CodeStmt) (right : placed_stmt fs c ≡ true) whe
     pub element_slot : slot_in fs (string_bytes x) ≡ s
     element_slot = array_slot fs c right x s low high i e is
 
-    module _ (limit : ℕ) (small : IsWithin limit (run_one (code_command c) values)) where
+    module _ (limit : ℕ) (small : EndsWithin limit (run_one (code_command c) values)) where
       pub element_within : (low ≤ℤ index) × (index ≤ℤ high)
-      element_within = index_within limit 1 values (string_bytes x) low high index number (subst (IsWithin limit) runs small)
+      element_within = index_within limit 1 values (string_bytes x) low high index number (subst (EndsWithin limit) runs small)
 
       -- the element has a slot
       pub element_room : s + unsigned_abs (index -ℤ low) < size_of fs

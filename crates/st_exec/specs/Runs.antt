@@ -9,9 +9,9 @@ use Rattle.fb_model.specs.Shapes.{Shape, CommandFits, AlgorithmFits, written_one
 use Rattle.st_exec.specs.Cells.{Form, shape_in, names_in}
 
 -- the run is done within n steps
-abbrev pub IsWithin : ℕ → Outcome → Type 0
-IsWithin n (Done after m) = m ≤ n
-IsWithin n Trap = ⊥
+abbrev pub EndsWithin : ℕ → Outcome → Type 0
+EndsWithin n (Done after m) = m ≤ n
+EndsWithin n Trap = ⊥
 
 -- each of these names is among the others
 abbrev pub AreAmong : List Name → List Name → Type 0

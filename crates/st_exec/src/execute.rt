@@ -7,7 +7,7 @@ ghost use Rattle.st_exec.specs.Forms.{plain_slot};
 ghost use Rattle.st_exec.specs.CodeViews.{code_command, code_commands, code_choices, code_cases};
 ghost use Rattle.st_exec.specs.Placed.{placed_stmt, placed_branch, placed_arm, placed_all, all_true};
 ghost use Rattle.st_exec.specs.Cells.{values_of, forms_of, shape_of, IsDeclared};
-ghost use Rattle.st_exec.specs.Runs.{IsWithin, Supports, SupportsOne};
+ghost use Rattle.st_exec.specs.Runs.{EndsWithin, Supports, SupportsOne};
 
 use crate::arithmetic::is_zero;
 use crate::evaluate::eval;
@@ -21,7 +21,7 @@ use crate::{CodeArm, CodeBranch, CodeCounting, CodeStmt, Procedure};
 pub fn exec(procedure: &Procedure, store: &mut Store) -> u64
     requires placed { placed_all (forms_of store.old) procedure.now.statements.items ≡ true }
     requires serves { Supports (forms_of store.old) (code_commands procedure.now.statements.items) }
-    requires small { IsWithin (10 ^ 12) (run (code_commands procedure.now.statements.items) (values_of store.old)) }
+    requires small { EndsWithin (10 ^ 12) (run (code_commands procedure.now.statements.items) (values_of store.old)) }
     ensures answers { run (code_commands procedure.now.statements.items) (values_of store.old) ≡ Done (values_of store.new) result }
     ensures unchanged { forms_of store.new ≡ forms_of store.old }
 {
@@ -33,7 +33,7 @@ pub fn exec(procedure: &Procedure, store: &mut Store) -> u64
 fn run_list(list: &[CodeStmt], store: &mut Store) -> u64
     requires placed { placed_all (forms_of store.old) list.now ≡ true }
     requires serves { Supports (forms_of store.old) (code_commands list.now) }
-    requires small { IsWithin (10 ^ 12) (run (code_commands list.now) (values_of store.old)) }
+    requires small { EndsWithin (10 ^ 12) (run (code_commands list.now) (values_of store.old)) }
     ensures answers { run (code_commands list.now) (values_of store.old) ≡ Done (values_of store.new) result }
     ensures unchanged { forms_of store.new ≡ forms_of store.old }
 {
@@ -48,7 +48,7 @@ fn run_list(list: &[CodeStmt], store: &mut Store) -> u64
 fn run_statement(statement: &CodeStmt, store: &mut Store) -> u64
     requires placed { placed_stmt (forms_of store.old) statement.now ≡ true }
     requires serves { SupportsOne (forms_of store.old) (code_command statement.now) }
-    requires small { IsWithin (10 ^ 12) (run_one (code_command statement.now) (values_of store.old)) }
+    requires small { EndsWithin (10 ^ 12) (run_one (code_command statement.now) (values_of store.old)) }
     ensures answers { run_one (code_command statement.now) (values_of store.old) ≡ Done (values_of store.new) result }
     ensures unchanged { forms_of store.new ≡ forms_of store.old }
 {
@@ -82,7 +82,7 @@ fn run_statement(statement: &CodeStmt, store: &mut Store) -> u64
 fn run_branches(list: &[CodeBranch], rest: &[CodeStmt], store: &mut Store) -> u64
     requires placed { (all_true (map (placed_branch (forms_of store.old)) list.now) && placed_all (forms_of store.old) rest.now) ≡ true }
     requires serves { SupportsOne (forms_of store.old) (choose (code_choices list.now) (code_commands rest.now)) }
-    requires small { IsWithin (10 ^ 12) (run_choices (code_choices list.now) (values_of store.old) (run (code_commands rest.now) (values_of store.old))) }
+    requires small { EndsWithin (10 ^ 12) (run_choices (code_choices list.now) (values_of store.old) (run (code_commands rest.now) (values_of store.old))) }
     ensures answers { run_choices (code_choices list.now) (values_of store.old) (run (code_commands rest.now) (values_of store.old)) ≡ Done (values_of store.new) result }
     ensures unchanged { forms_of store.new ≡ forms_of store.old }
 {
@@ -99,7 +99,7 @@ fn run_branches(list: &[CodeBranch], rest: &[CodeStmt], store: &mut Store) -> u6
 fn run_arms(number: i64, list: &[CodeArm], rest: &[CodeStmt], store: &mut Store) -> u64
     requires placed { (all_true (map (placed_arm (forms_of store.old)) list.now) && placed_all (forms_of store.old) rest.now) ≡ true }
     requires serves { SupportsOne (forms_of store.old) (match_on (constant number) (code_cases list.now) (code_commands rest.now)) }
-    requires small { IsWithin (10 ^ 12) (run_cases (code_cases list.now) number (values_of store.old) (run (code_commands rest.now) (values_of store.old))) }
+    requires small { EndsWithin (10 ^ 12) (run_cases (code_cases list.now) number (values_of store.old) (run (code_commands rest.now) (values_of store.old))) }
     ensures answers { run_cases (code_cases list.now) number (values_of store.old) (run (code_commands rest.now) (values_of store.old)) ≡ Done (values_of store.new) result }
     ensures unchanged { forms_of store.new ≡ forms_of store.old }
 {
@@ -125,7 +125,7 @@ fn run_iterations(
     requires plain { shape_of store.old (string_bytes counting.now.variable) ≡ None }
     requires declared { IsDeclared store.old (string_bytes counting.now.variable) }
     requires serves { Supports (forms_of store.old) (code_commands body.now) }
-    requires small { IsWithin (10 ^ 12) (iterations (iteration_count first last counting.now.step) (run (code_commands body.now)) (string_bytes counting.now.variable) first counting.now.step (values_of store.old)) }
+    requires small { EndsWithin (10 ^ 12) (iterations (iteration_count first last counting.now.step) (run (code_commands body.now)) (string_bytes counting.now.variable) first counting.now.step (values_of store.old)) }
     ensures answers { iterations (iteration_count first last counting.now.step) (run (code_commands body.now)) (string_bytes counting.now.variable) first counting.now.step (values_of store.old) ≡ Done (values_of store.new) result }
     ensures unchanged { forms_of store.new ≡ forms_of store.old }
 {

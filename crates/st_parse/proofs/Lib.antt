@@ -1,3 +1,4 @@
+pub mod Short
 pub mod Literals
 pub mod ExpressionSound
 pub mod ExpressionComplete

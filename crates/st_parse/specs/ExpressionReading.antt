@@ -92,6 +92,14 @@ unfoldable pub level_at : Read Expression → ℕ → Read Expression
 level_at operand zero = operand
 level_at operand (suc level) = chain_at level (level_at operand level)
 
+-- what an operand becomes with the operators below a level that stand behind it
+unfoldable pub chained_at : Read Expression → ℕ → Expression → Read Expression
+chained_at operand zero x ts = Ok (x, ts)
+chained_at operand (suc level) x ts = do
+  y ← chained_at operand level x ts
+  links ← links_at level (level_at operand level) y.1
+  Ok (grouped y.0 links.0, links.1)
+
 -- ---- operands
 
 -- what stands behind the mark that opens one more nesting, where so many more are allowed

@@ -2,7 +2,7 @@
 
 ghost use Rattle.std.specs.Prelude.{◌≡◌};
 ghost use Rattle.fb_lex.specs.Views.{tokens_of};
-ghost use Rattle.st_parse.specs.ExpressionReading.{role, operator_at, begins_link};
+ghost use Rattle.st_parse.specs.ExpressionReading.{role, operator_at, begins_link, continues};
 
 use fb_lex::{Kind, Token};
 use fb_words::{Mark, Operator};
@@ -68,4 +68,20 @@ pub fn begins_link(tokens: &[Token], level: u8) -> bool
     ensures { result ≡ begins_link level (tokens_of tokens.now) }
 {
     operator_at(tokens, level).is_some()
+}
+
+/// Whether an expression that ends before these tokens may go on with the next one: an operator, or a mark that opens an index or arguments.
+pub fn continues(tokens: &[Token]) -> bool
+    ensures { result ≡ continues (tokens_of tokens.now) }
+{
+    match tokens {
+        [] => false,
+        [token, ..] => match &token.kind {
+            Kind::Mark(mark) => match role_of(*mark) {
+                Role::Infix(_, _) | Role::Opener => true,
+                Role::Other => false,
+            },
+            _ => false,
+        },
+    }
 }

@@ -1,23 +1,22 @@
 //! Reading expressions from left to right.
 
-ghost use Rattle.std.specs.Prelude.{◌≡◌, ◌≤◌, ◌<◌, suc, IfOk};
+ghost use Rattle.std.specs.Prelude.{◌≤◌, ◌<◌, ◌≡◌, suc, IfOk};
 ghost use Rattle.fb_lex.specs.Views.{tokens_of};
-ghost use Rattle.fb_model.specs.StructuredText.{grouped};
 ghost use Rattle.fb_model.specs.StructuredTextGrammar.{levels, most_nested};
 ghost use Rattle.fb_read.specs.Answers.{Gives};
 ghost use Rattle.fb_tree.specs.Words.{word_of};
 ghost use Rattle.fb_read.specs.Reading.{list_at};
 ghost use Rattle.fb_words.specs.declared.mark.Mark.TheVariants as m;
 ghost use Rattle.fb_tree.specs.Algorithms.{expr_of, exprs_of, link_of, links_of};
-ghost use Rattle.st_parse.specs.ExpressionReading.{level_at, nested_at, links_at, link_at, opened_at, negative_at, inverse_at, parentheses_at, element_at, call_at, named_at, unnamed_at, expression_at};
+ghost use Rattle.st_parse.specs.ExpressionReading.{level_at, chained_at, nested_at, links_at, link_at, opened_at, negative_at, inverse_at, parentheses_at, element_at, call_at, named_at, unnamed_at, expression_at};
 
 use crate::constant::{literal, number};
-use crate::operator::{begins_link, operator_at};
+use crate::operator::{begins_link, continues, operator_at};
 use fb_lex::Token;
 use fb_read::{Stop, begins_name, begins_number, expect, next_is, next_offset, read_name};
 use fb_tree::{Expr, Link, Name};
 use fb_words::Mark;
-use std::alloc::{AllocError, Global};
+use std::alloc::Global;
 
 /// How many levels operators have.
 const LEVELS: u8 = 7;
@@ -36,16 +35,6 @@ pub fn expression(alloc: Global, tokens: &[Token]) -> Result<(Expr, &[Token]), S
     expression_below(alloc, tokens, LEVELS, MOST_NESTED)
 }
 
-// Operators of one level behind their first operand, which stays alone where there are none.
-fn chained(alloc: Global, first: Expr, links: Vec<Link>) -> Result<Expr, AllocError>
-    ensures { IfOk result (λ x. expr_of x ≡ grouped (expr_of first) (links_of links.items)) }
-{
-    if links.is_empty() {
-        return Ok(first);
-    }
-    Ok(Expr::Chain(Box::new(alloc, first)?, links))
-}
-
 // What stands behind the mark that opens one more nesting, and how many more may be opened there.
 fn opened(tokens: &[Token], mark: Mark, depth: u32) -> Result<(&[Token], u32), Stop>
     ensures rest { Gives (λ x. tokens_of x.0.now) result (opened_at mark depth (tokens_of tokens.now)) }
@@ -60,9 +49,9 @@ fn opened(tokens: &[Token], mark: Mark, depth: u32) -> Result<(&[Token], u32), S
     Ok((&tokens[1..], depth - 1))
 }
 
-// An expression whose operators are below a level; at 0 it is an operand. So many more nestings may be opened in it.
+// An expression whose operators are below a level; at 0 it is an operand, and so it is at each level where no operator stands behind it.
+// So many more nestings may be opened in it.
 #[cycle(read)]
-#[tactic(auto, unfolding(crate::specs::ExpressionReading::level_at, crate::specs::ExpressionReading::chain_at))]
 fn expression_below(
     alloc: Global,
     tokens: &[Token],
@@ -72,12 +61,35 @@ fn expression_below(
     requires { level ≤ 7 }
     ensures { Gives (λ x. (expr_of x.0, tokens_of x.1.now)) result (level_at (nested_at (suc depth)) level (tokens_of tokens.now)) }
 {
-    if level == 0 {
-        return operand(alloc, tokens, depth);
+    let (first, rest) = operand(alloc, tokens, depth)?;
+    if !continues(rest) {
+        return Ok((first, rest));
     }
-    let (first, rest) = expression_below(alloc, tokens, level - 1, depth)?;
+    chained(alloc, first, rest, level, depth)
+}
+
+// What an operand becomes with the operators below a level that stand behind it.
+#[cycle(read)]
+#[tactic(auto, unfolding(crate::specs::ExpressionReading::chained_at))]
+fn chained(
+    alloc: Global,
+    first: Expr,
+    tokens: &[Token],
+    level: u8,
+    depth: u32,
+) -> Result<(Expr, &[Token]), Stop>
+    requires { level ≤ 7 }
+    ensures { Gives (λ x. (expr_of x.0, tokens_of x.1.now)) result (chained_at (nested_at (suc depth)) level (expr_of first) (tokens_of tokens.now)) }
+{
+    if level == 0 {
+        return Ok((first, tokens));
+    }
+    let (whole, rest) = chained(alloc, first, tokens, level - 1, depth)?;
+    if !begins_link(rest, level - 1) {
+        return Ok((whole, rest));
+    }
     let (links, rest) = links(alloc, rest, level - 1, depth)?;
-    Ok((chained(alloc, first, links)?, rest))
+    Ok((Expr::Chain(Box::new(alloc, whole)?, links), rest))
 }
 
 // Operators of a level with their second operands, while one stands next.

@@ -6,7 +6,7 @@ use Rattle.std.proofs.lemmas.Option.{slice_get-get_or}
 use Rattle.fb_model.specs.Language.{Done}
 use Rattle.fb_model.specs.Charts.{work as runs, actions_of, Acting}
 use Rattle.st_exec.specs.Cells.{values_of, forms_of}
-use Rattle.st_exec.specs.Runs.{IsWithin}
+use Rattle.st_exec.specs.Runs.{EndsWithin}
 use Rattle.fb_chart.specs.declared.table.Action.{Action}
 use Rattle.fb_chart.specs.declared.table.ChartCode.{ChartCode}
 use Rattle.fb_chart.specs.Views.{named}
@@ -77,7 +77,7 @@ work-steps-requires-clause-small g c =
     let v = c.loop-action.invariant in
     let d = drop_at items i x (slice_get-get_or items i none c.loop-action-test.true) in
     let each = subst (Each (IsAction (block_in k) (outputs_in k)) v.0) d v.1 in
-    subst (λ ps. IsWithin (10 ^ 12) (runs (numbered ps x.algorithm) (values_of c.loop-action.own))) (sym (c.deref-in-loop-action-2.ensures.value ∙ ap (λ (y : ChartCode). y.procedures.items) c.deref-in-loop-action.ensures))
+    subst (λ ps. EndsWithin (10 ^ 12) (runs (numbered ps x.algorithm) (values_of c.loop-action.own))) (sym (c.deref-in-loop-action-2.ensures.value ∙ ap (λ (y : ChartCode). y.procedures.items) c.deref-in-loop-action.ensures))
     (small_now k c.args.invocation.now.outputs.now c.args.own.now c.args.issued.now c.requires.ready c.args.state c.args.before c.args.invocation.now.most (g.E.Emit.room c.args.emit.now) c.requires.few c.requires.fine (g.E.Emit.sent c.args.emit.now)
     c.loop-action.own c.loop-action.issued v.0 c.loop-action.steps (g.E.Emit.sent c.loop-action.emit) v.2 v.3 v.4 x (drop (i + 1) items) each)
 

@@ -9,7 +9,7 @@ use Rattle.fb_check_columns.proofs.service.dispatch_pays.Goals as goal
 
 pub returns : goal.returns
 returns c =
-    let total = sum_by (load_at c.args.column c.args.certificate.now c.args.outputs.now) (can_emit (service_of c.args.service.now) c.args.event.now) in
+    let total = sum_by (load_at c.args.column c.args.certificate.now c.args.leaf.now.outputs.now) (can_emit (service_of c.args.leaf.now.service.now) c.args.event.now) in
     let unit = unit_of c.args.column in
     let load : IsSum c.in_ok-load.load total = rw c.emitted.ensures at c.in_ok-load.ensures.value in
     let paid = c.weighed.ensures (unit + total + c.sent-sent.result) (c.plus.ensures (unit + total) c.sent-sent.result (c.plus-emitted.ensures unit total c.unit.ensures.value load) refl) in

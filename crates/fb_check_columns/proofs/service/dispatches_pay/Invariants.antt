@@ -5,4 +5,4 @@ use Rattle.fb_check_columns.specs.Paying.{DispatchPays}
 use Rattle.fb_check_columns.proofs.service.dispatches_pay.Given as goal
 
 abbrev pub invariant-loop-event : goal.invariant-loop-event
-invariant-loop-event l = AllByRecursion (DispatchPays l.column l.certificate l.path (service_of l.service) l.outputs) (take l.event-index (map (λ e. e.now) l.events))
+invariant-loop-event l = AllByRecursion (DispatchPays l.column l.certificate l.leaf.path.now (service_of l.leaf.service.now) l.leaf.outputs.now) (take l.event-index (map (λ e. e.now) l.events))

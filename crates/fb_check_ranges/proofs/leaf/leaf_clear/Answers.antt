@@ -9,12 +9,10 @@ pub returns-in-Basic-clause-clears : goal.returns-in-Basic-clause-clears
 returns-in-Basic-clause-clears c =
     λ ls bs b places are known is k.
     let kind = ap kind_of (sym {A = Body} c.in-Basic.is) ∙ is.kind in
-    let exact = rw (c.as_str-path.ensures.value, c.as_slice.ensures.value) at (c.chart_clear.ensures.clears ls places) in
-    accepted _ _ _ c.chart_clear.result exact (clears c.args.certificate.now c.args.leaf.now c.in-Basic.block.value ls bs b kind are known is k)
+    accepted _ _ _ c.chart_clear.result (c.chart_clear.ensures.clears ls places) (clears c.args.certificate.now c.args.leaf.now c.in-Basic.block.value ls bs b kind are known is k)
 
 pub returns-in-Basic-clause-refused : goal.returns-in-Basic-clause-refused
 returns-in-Basic-clause-refused c =
     λ ls bs b places are known is k.
     let kind = ap kind_of (sym {A = Body} c.in-Basic.is) ∙ is.kind in
-    let exact = rw (c.as_str-path.ensures.value, c.as_slice.ensures.value) at (c.chart_clear.ensures.clears ls places) in
-    refused _ _ _ c.chart_clear.result exact (says c.args.certificate.now c.args.leaf.now c.in-Basic.block.value ls bs b kind are known is k)
+    refused _ _ _ c.chart_clear.result (c.chart_clear.ensures.clears ls places) (says c.args.certificate.now c.args.leaf.now c.in-Basic.block.value ls bs b kind are known is k)

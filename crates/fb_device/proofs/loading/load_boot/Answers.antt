@@ -12,7 +12,7 @@ pub loaded-requires : goal.loaded-requires
 loaded-requires c = (c.is_within.ensures.yes c.if-not-is_within.false).cause
 
 pub returns-clause-refused : goal.returns-clause-refused
-returns-clause-refused c = IfErr-weaker c.loaded.result _ _ (λ f h. begin_fault c.args.text.now c.args.certificate.now c.args.device.now c.args.first c.args.next f h) c.loaded.ensures.refused
+returns-clause-refused c = IfErr-weaker c.loaded.result _ _ (λ f h. begin_fault c.args.text.now c.args.certificate.now c.args.device.now c.args.first c.args.stamp.sequence f h) c.loaded.ensures.refused
 
 pub returns-clause-limit : goal.returns-clause-limit
 returns-clause-limit c = λ n. absurd (n (c.is_within.ensures.yes c.if-not-is_within.false))

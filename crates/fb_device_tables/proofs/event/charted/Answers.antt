@@ -7,7 +7,7 @@ use Rattle.fb_device_tables.proofs.event.charted.Goals as goal
 
 pub loop-index-preserved : goal.loop-index-preserved
 loop-index-preserved c =
-    let made = IsEventMade c.args.certificate.now (names_of c.args.paths.now) (seats_of c.args.seats.now) (seat_of c.args.seat.now) in
+    let made = IsEventMade c.args.seating.now.certificate.now (names_of c.args.seating.now.paths.now) (seats_of c.args.seating.now.seats.now) (seat_of c.args.seat.now) in
     let e = c.in_ok-event.field-0 in
     let g = got_at (λ p. event_of (string_bytes p.0) p.1.items) c.args.sources.now.entries c.loop-index.index (c.in-Some.name.now, c.in-Some.carried.now) c.in-Some.ensures.entry in
     let here = subst (λ (x : Name). made (record { name = x; carries = map string_bytes c.deref.result.now }) e) c.as_str.ensures.value c.in_ok-event.ensures in

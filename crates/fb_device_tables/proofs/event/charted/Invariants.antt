@@ -5,4 +5,4 @@ use Rattle.fb_device_tables.specs.Filling.{IsEventMade, seat_of, seats_of}
 use Rattle.fb_device_tables.proofs.event.charted.Given as goal
 
 abbrev pub invariant-loop-index : goal.invariant-loop-index
-invariant-loop-index l = Each (IsEventMade l.certificate (names_of l.paths) (seats_of l.seats) (seat_of l.seat)) (take l.index (events_of l.sources)) l.events.items
+invariant-loop-index l = Each (IsEventMade l.seating.certificate.now (names_of l.seating.paths.now) (seats_of l.seating.seats.now) (seat_of l.seat)) (take l.index (events_of l.sources)) l.events.items

@@ -14,7 +14,7 @@ pub returns-in_ok-push-in-Some : goal.returns-in_ok-push-in-Some
 returns-in_ok-push-in-Some c =
     λ small.
     let s = service_of c.args.service.now in
-    let made = IsEventMade c.args.certificate.now (names_of c.args.paths.now) (seats_of c.args.seats.now) (seat_of c.args.seat.now) in
+    let made = IsEventMade c.args.seating.now.certificate.now (names_of c.args.seating.now.paths.now) (seats_of c.args.seating.now.seats.now) (seat_of c.args.seat.now) in
     let names = map (λ n. n.now) c.event_inputs-names.result.now in
     let es = c.in_ok-events.events.items in
     let inputs : Each made (map (served_with s) names) es = subst (λ (vs : List book.Event). Each made vs es) (served_borrowed s c.event_inputs-names.result.now) (c.in_ok-events.ensures small) in
@@ -26,7 +26,7 @@ pub returns-in-None : goal.returns-in-None
 returns-in-None c =
     λ small.
     let s = service_of c.args.service.now in
-    let made = IsEventMade c.args.certificate.now (names_of c.args.paths.now) (seats_of c.args.seats.now) (seat_of c.args.seat.now) in
+    let made = IsEventMade c.args.seating.now.certificate.now (names_of c.args.seating.now.paths.now) (seats_of c.args.seating.now.seats.now) (seat_of c.args.seat.now) in
     let names = map (λ n. n.now) c.event_inputs-names.result.now in
     let es = c.in_ok-events.events.items in
     let inputs : Each made (map (served_with s) names) es = subst (λ (vs : List book.Event). Each made vs es) (served_borrowed s c.event_inputs-names.result.now) (c.in_ok-events.ensures small) in

@@ -7,4 +7,4 @@ use Rattle.fb_device_tables.proofs.event.service_inputs.Given as goal
 
 abbrev pub invariant-loop-name : goal.invariant-loop-name
 invariant-loop-name l =
-    IsSmall (service_of l.service) → Each (IsEventMade l.certificate (names_of l.paths) (seats_of l.seats) (seat_of l.seat)) (take l.name-index (map (λ n. served_with (service_of l.service) n.now) l.names)) l.events.items
+    IsSmall (service_of l.service) → Each (IsEventMade l.seating.certificate.now (names_of l.seating.paths.now) (seats_of l.seating.seats.now) (seat_of l.seat)) (take l.name-index (map (λ n. served_with (service_of l.service) n.now) l.names)) l.events.items

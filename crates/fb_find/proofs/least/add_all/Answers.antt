@@ -6,9 +6,9 @@ use Rattle.fb_find.proofs.least.add_all.Goals as goal
 
 pub returns-clause-made : goal.returns-clause-made
 returns-clause-made c = λ s ranges ready t has.
-    let fs = c.args.flat.now.devices.items in
-    let n = c.args.numbering.now in
-    let order = c.args.order.now in
+    let fs = c.args.ordered.now.flat.now.devices.items in
+    let n = c.args.ordered.now.numbering.now in
+    let order = c.args.ordered.now.order.now in
     let a = c.in_ok-steps.ensures.least s ranges c.args.repeats ready t in
     let b = c.in_ok-places.ensures.least s ranges c.args.repeats ready in
     let steps = c.in_ok-steps.steps.items in
@@ -23,18 +23,18 @@ returns-clause-made c = λ s ranges ready t has.
 pub returns-in_err-steps-clause-refused : goal.returns-in_err-steps-clause-refused
 returns-in_err-steps-clause-refused c = λ s ranges ready t has.
     let p = err_from_is_err_and c.from_residual.result c.from_residual.ensures.1 in
-    rw (p.1, p.2) (steps_past c.args.repeats c.args.flat.now.devices.items c.args.numbering.now c.args.order.now s ready ranges (rows_of c.args.certificate.now) has c.in_err-steps.field-0.0 (c.in_err-steps.ensures.refused s ranges c.args.repeats ready t))
+    rw (p.1, p.2) (steps_past c.args.repeats c.args.ordered.now.flat.now.devices.items c.args.ordered.now.numbering.now c.args.ordered.now.order.now s ready ranges (rows_of c.args.certificate.now) has c.in_err-steps.field-0.0 (c.in_err-steps.ensures.refused s ranges c.args.repeats ready t))
 
 pub returns-in_err-places-clause-refused : goal.returns-in_err-places-clause-refused
 returns-in_err-places-clause-refused c = λ s ranges ready t has.
     let p = err_from_is_err_and c.from_residual-in_err-places.result c.from_residual-in_err-places.ensures.1 in
-    rw (p.1, p.2) (places_past c.args.repeats c.args.flat.now.devices.items c.args.numbering.now c.args.order.now s ready ranges (rows_of c.args.certificate.now) has c.in_err-places.field-0.0 (c.in_err-places.ensures.refused s ranges c.args.repeats ready))
+    rw (p.1, p.2) (places_past c.args.repeats c.args.ordered.now.flat.now.devices.items c.args.ordered.now.numbering.now c.args.ordered.now.order.now s ready ranges (rows_of c.args.certificate.now) has c.in_err-places.field-0.0 (c.in_err-places.ensures.refused s ranges c.args.repeats ready))
 
 pub returns-in_err-add_depths-clause-refused : goal.returns-in_err-add_depths-clause-refused
 returns-in_err-add_depths-clause-refused c = λ s ranges ready t has.
-    let fs = c.args.flat.now.devices.items in
-    let n = c.args.numbering.now in
-    let order = c.args.order.now in
+    let fs = c.args.ordered.now.flat.now.devices.items in
+    let n = c.args.ordered.now.numbering.now in
+    let order = c.args.ordered.now.order.now in
     let a = c.in_ok-steps.ensures.least s ranges c.args.repeats ready t in
     let b = c.in_ok-places.ensures.least s ranges c.args.repeats ready in
     let steps = c.in_ok-steps.steps.items in
@@ -50,4 +50,4 @@ returns-in_err-add_depths-clause-refused c = λ s ranges ready t has.
 pub returns-in_err-add_network-clause-refused : goal.returns-in_err-add_network-clause-refused
 returns-in_err-add_network-clause-refused c = λ s ranges ready t has.
     let p = err_from_is_err_and c.from_residual-in_err-add_network.result c.from_residual-in_err-add_network.ensures.1 in
-    rw (p.1, p.2) (far_past c.args.repeats c.args.flat.now.devices.items c.args.numbering.now c.args.order.now s ready ranges (rows_of c.args.certificate.now) has c.in_err-add_network.field-0.0 (c.in_err-add_network.ensures.refused s ranges ready t))
+    rw (p.1, p.2) (far_past c.args.repeats c.args.ordered.now.flat.now.devices.items c.args.ordered.now.numbering.now c.args.ordered.now.order.now s ready ranges (rows_of c.args.certificate.now) has c.in_err-add_network.field-0.0 (c.in_err-add_network.ensures.refused s ranges ready t))

@@ -11,16 +11,16 @@ column-requires-clause-demands c =
     let s = c.requires.0 in
     let repeats = c.requires.1 in
     let ready = c.requires.2 in
-    let fs = c.args.flat.now.devices.items in
+    let fs = c.args.ordered.now.flat.now.devices.items in
     let none : List Range = [] in
-    (demands 0 none (all_leaves s.devices), column_of repeats fs c.args.numbering.now c.args.order.now s ready 0 none (rights_of c.in_ok-rights.rights.items) (c.in_ok-rights.ensures.places s ready.numbering.numbered.given.tables (closed repeats fs c.args.numbering.now c.args.order.now s ready) refl none))
+    (demands 0 none (all_leaves s.devices), column_of repeats fs c.args.ordered.now.numbering.now c.args.ordered.now.order.now s ready 0 none (rights_of c.in_ok-rights.rights.items) (c.in_ok-rights.ensures.places s ready.numbering.numbered.given.tables (closed repeats fs c.args.ordered.now.numbering.now c.args.ordered.now.order.now s ready) refl none))
 
 pub returns-clause-least : goal.returns-clause-least
 returns-clause-least c = λ s ranges repeats ready.
-    let fs = c.args.flat.now.devices.items in
-    c.column.ensures.least (demands 0 ranges (all_leaves s.devices)) (column_of repeats fs c.args.numbering.now c.args.order.now s ready 0 ranges (rights_of c.in_ok-rights.rights.items) (c.in_ok-rights.ensures.places s ready.numbering.numbered.given.tables (closed repeats fs c.args.numbering.now c.args.order.now s ready) refl ranges))
+    let fs = c.args.ordered.now.flat.now.devices.items in
+    c.column.ensures.least (demands 0 ranges (all_leaves s.devices)) (column_of repeats fs c.args.ordered.now.numbering.now c.args.ordered.now.order.now s ready 0 ranges (rights_of c.in_ok-rights.rights.items) (c.in_ok-rights.ensures.places s ready.numbering.numbered.given.tables (closed repeats fs c.args.ordered.now.numbering.now c.args.ordered.now.order.now s ready) refl ranges))
 
 pub returns-clause-refused : goal.returns-clause-refused
 returns-clause-refused c = λ s ranges repeats ready.
-    let fs = c.args.flat.now.devices.items in
-    c.column.ensures.refused (demands 0 ranges (all_leaves s.devices)) (column_of repeats fs c.args.numbering.now c.args.order.now s ready 0 ranges (rights_of c.in_ok-rights.rights.items) (c.in_ok-rights.ensures.places s ready.numbering.numbered.given.tables (closed repeats fs c.args.numbering.now c.args.order.now s ready) refl ranges))
+    let fs = c.args.ordered.now.flat.now.devices.items in
+    c.column.ensures.refused (demands 0 ranges (all_leaves s.devices)) (column_of repeats fs c.args.ordered.now.numbering.now c.args.ordered.now.order.now s ready 0 ranges (rights_of c.in_ok-rights.rights.items) (c.in_ok-rights.ensures.places s ready.numbering.numbered.given.tables (closed repeats fs c.args.ordered.now.numbering.now c.args.ordered.now.order.now s ready) refl ranges))

@@ -8,9 +8,9 @@ use Rattle.fb_find.proofs.network.add_network.Goals as goal
 
 pub returns-clause-added : goal.returns-clause-added
 returns-clause-added c = λ s ranges ready t none.
-    let fs = c.args.flat.now.devices.items in
-    let n = c.args.numbering.now in
-    let o = c.args.order.now in
+    let fs = c.args.ordered.now.flat.now.devices.items in
+    let n = c.args.ordered.now.numbering.now in
+    let o = c.args.ordered.now.order.now in
     let r = c.in-Some.repeats in
     let is : c.args.repeats ≡ Some r = c.in-Some.is in
     let here : IsReady (Some r) fs n o s = subst (λ k. IsReady k fs n o s) is ready in

@@ -18,7 +18,7 @@ abbrev pub decreases-walk_branches : goal.decreases-walk_branches
 decreases-walk_branches l = 5 * max (most branch_size l.branches.now) (most stmt_size l.other.now) + 4
 
 abbrev pub decreases-walk_arms : goal.decreases-walk_arms
-decreases-walk_arms l = 5 * max (most arm_size l.arms.now) (most stmt_size l.other.now) + 4
+decreases-walk_arms l = 5 * max (most arm_size l.selection.arms.now) (most stmt_size l.selection.other.now) + 4
 
 abbrev pub decreases-walk_for : goal.decreases-walk_for
 decreases-walk_for l = 5 * most stmt_size l.body.now + 4

@@ -29,10 +29,10 @@ asks n unit follows prices l names path outputs kind old new a p o k =
 
 pub returns-in-Basic : goal.returns-in-Basic
 returns-in-Basic c =
-    asks c.args.numbering.now c.args.unit c.args.follows c.args.prices.now c.args.leaf.now (names_among c.procedures.result) c.as_str.result.now c.as_slice.result.now (Charted (block_of c.deref.result.now)) (rights_of c.args.rights.now.items) (rights_of c.add_chart.new.rights.items)
+    asks c.args.numbering.now c.args.tariff.now.unit c.args.tariff.now.follows c.args.tariff.now.prices.now c.args.leaf.now (names_among c.procedures.result) c.as_str.result.now c.as_slice.result.now (Charted (block_of c.deref.result.now)) (rights_of c.args.rights.now.items) (rights_of c.add_chart.new.rights.items)
     c.procedures.ensures c.as_str.ensures.value c.as_slice.ensures.value (ap (λ (b : Block). Charted (block_of b)) c.deref.ensures ∙ sym (ap {A = Body} kind_of c.in-Basic.is)) c.add_chart.result c.add_chart.ensures
 
 pub returns-in-Served : goal.returns-in-Served
 returns-in-Served c =
-    asks c.args.numbering.now c.args.unit c.args.follows c.args.prices.now c.args.leaf.now (names_among c.procedures.result) c.as_str.result.now c.as_slice.result.now (Serviced (service_of c.in-Served.service)) (rights_of c.args.rights.now.items) (rights_of c.add_service.new.rights.items)
+    asks c.args.numbering.now c.args.tariff.now.unit c.args.tariff.now.follows c.args.tariff.now.prices.now c.args.leaf.now (names_among c.procedures.result) c.as_str.result.now c.as_slice.result.now (Serviced (service_of c.in-Served.service)) (rights_of c.args.rights.now.items) (rights_of c.add_service.new.rights.items)
     c.procedures.ensures c.as_str.ensures.value c.as_slice.ensures.value (sym (ap {A = Body} kind_of c.in-Served.is)) c.add_service.result c.add_service.ensures

@@ -1,7 +1,7 @@
 use Rattle.std.proofs.Common.{◌∙◌, List, map, sym, ap, subst, take_all}
 use Rattle.fb_lists.proofs.Lists.{all_here}
 use Rattle.fb_find_ranges.specs.Lines.{next_lined}
-use Rattle.fb_find_ranges.specs.Views.{AreLinked, IsKept, IsKind, Link, Shared, lined_in, linked_in, tabled_in}
+use Rattle.fb_find_ranges.specs.Views.{AreLinked, IsKept, IsKind, Twin, Shared, lined_in, linked_in, tabled_in}
 use Rattle.fb_find_ranges.proofs.Entries.{next_added}
 use Rattle.fb_flat.specs.Leaves.{kind_of}
 use Rattle.fb_find_ranges.proofs.Linking.{first_linked, named_kind}
@@ -18,7 +18,7 @@ next_leaf-requires-clause-links c =
 pub next_leaf-requires-clause-kind : goal.next_leaf-requires-clause-kind
 next_leaf-requires-clause-kind c =
     let s = c.leaf-item.result in
-    subst (λ (ls : List Link). IsKind ls s.value.like (kind_of s.value.leaf.now.body)) (sym (ap (λ (xs : List Shared). map linked_in xs) c.as_slice.ensures.value ∙ c.loop-leaf.invariant.2))
+    subst (λ (ls : List Twin). IsKind ls s.value.like (kind_of s.value.leaf.now.body)) (sym (ap (λ (xs : List Shared). map linked_in xs) c.as_slice.ensures.value ∙ c.loop-leaf.invariant.2))
     (named_kind c.args.leaves.now c.loop-leaf.leaf-index s c.requires.links c.loop-leaf-test.true c.leaf-item.is)
 
 pub loop-leaf-preserved : goal.loop-leaf-preserved

@@ -1,4 +1,4 @@
-use Rattle.std.proofs.Common.{◌≡◌, ℤ, List, Option, true, false, not, ◌++◌, ◌<◌, ◌≤◌, ◌+◌, refl, map, sym, ap, ap₂, subst, ◌∙◌, arith, drop, to_z, of_z, w64}
+use Rattle.std.proofs.Common.{◌≡◌, ℤ, List, Option, true, false, not, ◌++◌, ◌<◌, ◌≤◌, ◌+◌, refl, rules, map, sym, ap, ap₂, subst, ◌∙◌, arith, drop, to_z, of_z, w64}
 use Rattle.std.specs.Prelude.{if◌then◌else◌, string_bytes}
 use Rattle.std.specs.Borrow.{Bor}
 use Rattle.st_types.specs.declared.term.VariableName.{VariableName}
@@ -337,18 +337,18 @@ examine_iterations-iterated-requires t c =
 
 pub examine_for-returns-then-most_iterations-eq0-clause-settled : goal.examine_for-returns-then-most_iterations-eq0-clause-settled
 examine_for-returns-then-most_iterations-eq0-clause-settled t c =
-    none_known c.unsettled.result.settled (assigned_one (counted_command (counting_of c.args.counting.now) (commands_of c.args.body.now))) (spans_of c.args.rows.now) (spans_of c.args.ranges.now) c.unsettled.ensures.settled
+    none_known c.unsettled.result.settled (assigned_one (counted_command (counting_of c.args.repetition.now.counting.now) (commands_of c.args.repetition.now.body.now))) (spans_of c.args.rows.now) (spans_of c.args.ranges.now) c.unsettled.ensures.settled
 
 pub examine_for-returns-clause-settled : goal.examine_for-returns-clause-settled
 examine_for-returns-clause-settled t c =
-    let counting = counting_of c.args.counting.now in
-    own_last (is_idle counting.plain counting.first counting.last counting.step) c.in_ok-end.end.settled counting.variable (assigned (commands_of c.args.body.now)) (spans_of c.args.rows.now) (spans_of c.examine_iterations.new.ranges) c.in_ok-end.ensures.settled
+    let counting = counting_of c.args.repetition.now.counting.now in
+    own_last (is_idle counting.plain counting.first counting.last counting.step) c.in_ok-end.end.settled counting.variable (assigned (commands_of c.args.repetition.now.body.now)) (spans_of c.args.rows.now) (spans_of c.examine_iterations.new.ranges) c.in_ok-end.ensures.settled
 
 pub examine_iterations-settle-requires : goal.examine_iterations-settle-requires
 examine_iterations-settle-requires t c =
     let rows = spans_of c.args.rows.now in
     let s = spans_of c.args.ranges.now in
-    let xs = assigned (commands_of c.args.body.now) in
+    let xs = assigned (commands_of c.args.count.body.now) in
     let listed = ap names_of c.deref-2.ensures.value ∙ c.in_ok-names.ensures in
     let named = ap names_of c.deref.ensures.value ∙ c.in_ok-names.ensures in
     subst (λ (ys : List Name). LastHaveRows c.all_or_none-settled.result ys rows s) (sym listed) (if_named c.args.have_rows c.all_or_none-settled.result c.deref.result.now xs rows s named c.all_or_none-settled.ensures c.requires.have)
@@ -358,7 +358,7 @@ examine_iterations-examine_keeping-requires t c =
     let rows = spans_of c.args.rows.now in
     let spans = spans_of c.args.ranges.now in
     let x = string_bytes c.args.count.variable.now.name in
-    let xs = assigned (commands_of c.args.body.now) in
+    let xs = assigned (commands_of c.args.count.body.now) in
     let same = c.in_ok-begins.ensures.rest ∙ ap (λ ys. reset ys rows spans) (ap names_of c.deref-2.ensures.value ∙ c.in_ok-names.ensures) in
     let tells = c.is_among-is_apart.ensures ∙ ap (is_in x) (ap names_of c.deref-3.ensures.value ∙ c.in_ok-names.ensures) in (
       omega arith,
@@ -375,7 +375,7 @@ examine_iterations-returns-clause-settled t c =
     let own = span_of c.taken.result in
     let left = span_of c.left_with.result in
     let x = string_bytes c.args.count.variable.now.name in
-    let xs = assigned (commands_of c.args.body.now) in
+    let xs = assigned (commands_of c.args.count.body.now) in
     let same = c.in_ok-begins.ensures.rest ∙ ap (λ ys. reset ys rows spans) (ap names_of c.deref-2.ensures.value ∙ c.in_ok-names.ensures) in
     let tells = c.is_among-is_apart.ensures ∙ ap (is_in x) (ap names_of c.deref-3.ensures.value ∙ c.in_ok-names.ensures) in
     let names = ap names_of c.deref-4.ensures.value ∙ c.in_ok-names.ensures in
@@ -400,8 +400,8 @@ examine_iterations-returns-clause-asks t c =
     let own = span_of c.taken.result in
     let left = span_of c.left_with.result in
     let x = string_bytes c.args.count.variable.now.name in
-    let f = ask rows (commands_of c.args.body.now) in
-    let xs = assigned (commands_of c.args.body.now) in
+    let f = ask rows (commands_of c.args.count.body.now) in
+    let xs = assigned (commands_of c.args.count.body.now) in
     let n = c.most_iterations-iterations.result in
     let named = ap names_of c.deref-2.ensures.value ∙ c.in_ok-names.ensures in
     let k : to_z w64 (of_z w64 c.args.count.step) ≡ c.args.count.step = omega (arith, ints) in
@@ -431,8 +431,8 @@ examine_iterations-returns-clause-tells t c =
     let base = spans_of c.settle.new.ranges in
     let own = span_of c.taken.result in
     let x = string_bytes c.args.count.variable.now.name in
-    let body = examine rows (commands_of c.args.body.now) in
-    let xs = assigned (commands_of c.args.body.now) in
+    let body = examine rows (commands_of c.args.count.body.now) in
+    let xs = assigned (commands_of c.args.count.body.now) in
     let n = c.most_iterations-iterations.result in
     let named = ap names_of c.deref-2.ensures.value ∙ c.in_ok-names.ensures in
     let k : to_z w64 (of_z w64 c.args.count.step) ≡ c.args.count.step = omega (arith, ints) in
@@ -450,26 +450,32 @@ examine_iterations-returns-clause-tells t c =
     ∙ ap (λ m. tell (looped m xs rows body x r s c.args.count.step spans)) iterations
 
 pub examine_keeping-returns-clause-asks : goal.examine_keeping-returns-clause-asks
-examine_keeping-returns-clause-asks t c = c.in_ok-are_kept.ensures.asks ∙ ap (λ (p : Asked). asking_all (names_of c.args.names.now) p.spans p.rows) c.in_ok-end.ensures.asks
+examine_keeping-returns-clause-asks t c = c.in_ok-are_kept.ensures.asks ∙ ap (λ (p : Asked). asking_all (names_of c.args.assigning.now.names.now) p.spans p.rows) c.in_ok-end.ensures.asks
 
 pub examine_keeping-returns-clause-tells : goal.examine_keeping-returns-clause-tells
 examine_keeping-returns-clause-tells t c =
     let rows = spans_of c.args.rows.now in
-    let a = commands_of c.args.body.now in
+    let a = commands_of c.args.assigning.now.body.now in
     let begin = spans_of c.args.ranges.now in
     let after = spans_of c.examine.new.ranges in
     let found = examine rows a begin in
     let end = subst (Ends found) (sym (ap (λ (p : Asked). p.spans) c.in_ok-end.ensures.asks)) (ends rows a (point begin (held rows (spans_of c.args.asked.now)))) in
-    told_kept rows (names_of c.args.names.now) found after c.in_ok-end.end.told c.keeping.result c.in_ok-are_kept.are_kept end c.in_ok-end.ensures.tells c.in_ok-are_kept.ensures.kept c.keeping.ensures
+    told_kept rows (names_of c.args.assigning.now.names.now) found after c.in_ok-end.end.told c.keeping.result c.in_ok-are_kept.are_kept end c.in_ok-end.ensures.tells c.in_ok-are_kept.ensures.kept c.keeping.ensures
 
 pub examine_keeping-returns-clause-rest : goal.examine_keeping-returns-clause-rest
 examine_keeping-returns-clause-rest t c =
     let rows = spans_of c.args.rows.now in
-    let a = commands_of c.args.body.now in
-    let xs = names_of c.args.names.now in
+    let a = commands_of c.args.assigning.now.body.now in
+    let xs = names_of c.args.assigning.now.names.now in
     let begin = spans_of c.args.ranges.now in
     let after = spans_of c.examine.new.ranges in
     let besides : Besides xs begin after =
     subst (λ (ys : List Name). Besides ys begin after) (sym c.requires.named)
     (subst (λ (u : Spans). Besides (assigned a) begin u) (sym (ap (λ (p : Asked). p.spans) c.in_ok-end.ensures.asks)) (all_besides rows a (point begin (held rows (spans_of c.args.asked.now))))) in
     c.in_ok-are_kept.ensures.rest ∙ reset_besides xs rows begin after besides
+
+pub examine_for-examine_iterations-requires : goal.examine_for-examine_iterations-requires
+examine_for-examine_iterations-requires t c =
+    let many : 0 < c.most_iterations.result = search rules in
+    let some = subst (λ m. 0 < m) c.most_iterations.ensures many in
+    (omega arith, (some, λ e. search rules))

@@ -37,13 +37,13 @@ abbrev pub decreases-examine_way : goal.decreases-examine_way
 decreases-examine_way l = 5 * most stmt_size l.body.now + 2
 
 abbrev pub decreases-examine_for : goal.decreases-examine_for
-decreases-examine_for l = 5 * most stmt_size l.body.now + 4
+decreases-examine_for l = 5 * most stmt_size l.repetition.now.body.now + 4
 
 abbrev pub decreases-examine_iterations : goal.decreases-examine_iterations
-decreases-examine_iterations l = 5 * most stmt_size l.body.now + 3
+decreases-examine_iterations l = 5 * most stmt_size l.count.body.now + 3
 
 abbrev pub decreases-examine_keeping : goal.decreases-examine_keeping
-decreases-examine_keeping l = 5 * most stmt_size l.body.now + 2
+decreases-examine_keeping l = 5 * most stmt_size l.assigning.now.body.now + 2
 
 abbrev pub invariant-examine-loop-statement : goal.invariant-examine-loop-statement
 invariant-examine-loop-statement l =

@@ -75,20 +75,20 @@ make_composite-returns-in_err-composite-in-Ok-clause-refused t c = λ bs table m
     let p = err_from_is_err_and c.from_residual-in_err-composite-in-Ok.result c.from_residual-in_err-composite-in-Ok.ensures.1 in
     let f = c.in_ok-face.face in
     rw (p.1, p.2)
-    (c.in_err-composite-in-Ok.ensures.refused bs (trees_of.block_of c.args.source.now) (declared_in f.inputs) (declared_in f.outputs) (c.args.room - 1) c.in-Ok.deep
+    (c.in_err-composite-in-Ok.ensures.refused bs (trees_of.block_of c.args.tree.now.source.now) (declared_in f.inputs) (declared_in f.outputs) (c.args.room - 1) c.in-Ok.deep
     (record { composite = e; face = c.in_ok-face.ensures.found; distinct = c.in_ok-face.ensures.distinct; parts = c.in-Ok.ensures.made bs table memo }))
 
 pub make_composite-returns-in_ok-composite-in-Ok-clause-made : goal.make_composite-returns-in_ok-composite-in-Ok-clause-made
 make_composite-returns-in_ok-composite-in-Ok-clause-made t c = λ bs table memo e.
     let f = c.in_ok-face.face in
-    let b = trees_of.block_of c.args.source.now in
+    let b = trees_of.block_of c.args.tree.now.source.now in
     let one = c.in_ok-composite-in-Ok.ensures.made bs b (declared_in f.inputs) (declared_in f.outputs) (c.args.room - 1) c.in-Ok.deep
     (record { composite = e; face = c.in_ok-face.ensures.found; distinct = c.in_ok-face.ensures.distinct; parts = c.in-Ok.ensures.made bs table memo }) (omega arith) in
     subst (λ d. IsTyped bs d b c.in_ok-composite-in-Ok.field-0) (omega (arith, c.if-room-eq0.false)) one
 
 pub make_composite-returns-in-Err-clause-refused : goal.make_composite-returns-in-Err-clause-refused
 make_composite-returns-in-Err-clause-refused t c = λ bs table memo e opened.
-    subst (λ d. IsUnmade bs d (trees_of.block_of c.args.source.now) c.in-Err.unmade) (omega (arith, c.if-room-eq0.false)) (c.in-Err.ensures.refused bs table memo e opened)
+    subst (λ d. IsUnmade bs d (trees_of.block_of c.args.tree.now.source.now) c.in-Err.unmade) (omega (arith, c.if-room-eq0.false)) (c.in-Err.ensures.refused bs table memo e opened)
 
 pub inside-returns-in_err-path-clause-refused : goal.inside-returns-in_err-path-clause-refused
 inside-returns-in_err-path-clause-refused t c = λ bs table memo e opened.
@@ -100,12 +100,12 @@ inside-returns-in-Ok-clause-made t c = λ bs table memo. subst (λ l. AreParts b
 
 pub inside-returns-clause-refused : goal.inside-returns-clause-refused
 inside-returns-clause-refused t c = λ bs table memo e opened.
-    let b = trees_of.block_of c.args.source.now in
-    let w = trees_of.network_of c.args.network.now in
+    let b = trees_of.block_of c.args.tree.now.source.now in
+    let w = trees_of.network_of c.args.tree.now.network.now in
     let path = map tree_of c.args.path.now in
     let same : map tree_of c.deref.result.now ≡ path ++ b ∷ [] = ap (map tree_of) c.deref.ensures.value ∙ c.in_ok-path.ensures in
     let leads = subst (λ l. LeadsTo bs l w.instances) (sym same) (leads_more bs path b w opened e) in
-    halted bs path (suc c.args.room) c.args.room b w c.args.source c.in-Err.unmade c.outer.result opened e refl refl
+    halted bs path (suc c.args.room) c.args.room b w c.args.tree.now.source c.in-Err.unmade c.outer.result opened e refl refl
     (subst (λ l. HaltsAt bs l c.args.room w.instances c.in-Err.unmade) same
     (subst (λ l. HaltsAt bs (map tree_of c.deref.result.now) c.args.room (map trees_of.instance_of l) c.in-Err.unmade) c.deref-2.ensures.value (c.in-Err.ensures.refused bs table memo (subst (λ l. LeadsTo bs (map tree_of c.deref.result.now) (map trees_of.instance_of l)) (sym c.deref-2.ensures.value) leads)))) c.outer.ensures.fault c.outer.ensures.deep
 

@@ -17,4 +17,10 @@ returns c =
     let fourth = c.with-searched.ensures three program.search third c.search.ensures.rule c.search.ensures.local in
     let five : App = with_rule four program.room in
     let fifth = c.with-roomed.ensures four program.room fourth c.room.ensures.rule c.room.ensures.local in
-    c.with.ensures five program.json fifth c.json.ensures.rule c.json.ensures.local
+    let six : App = with_rule five program.strict in
+    let sixth = c.with-noted.ensures five program.strict fifth c.strict.ensures.rule c.strict.ensures.local in
+    let seven : App = with_rule six program.allow in
+    let seventh = c.with-allowed.ensures six program.allow sixth c.allow.ensures.rule c.allow.ensures.local in
+    let eight : App = with_rule seven program.json in
+    let eighth = c.with-printed.ensures seven program.json seventh c.json.ensures.rule c.json.ensures.local in
+    c.with.ensures eight program.every eighth c.all.ensures.rule c.all.ensures.local

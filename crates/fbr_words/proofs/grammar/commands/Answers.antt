@@ -1,6 +1,6 @@
 use Rattle.std.proofs.Common.{◌≡◌, refl, rules}
 use Rattle.clap.specs.Words.{App, app_of, with_subcommand}
-use Rattle.fbr_words.specs.Program.{bound, check, sim, play, explain, draw, serve, replay, top}
+use Rattle.fbr_words.specs.Program.{bound, check, sim, play, explain, draw, serve, replay, pack, key, top}
 use Rattle.fbr_words.proofs.grammar.commands.Goals as goal
 
 pub returns : goal.returns
@@ -20,4 +20,8 @@ returns c =
     let sixth = c.with_command-draws.ensures five draw fifth c.drawn.ensures refl in
     let seven : App = with_subcommand six serve.top in
     let seventh = c.with_command-serves.ensures six serve sixth c.served.ensures refl in
-    c.with_command.ensures seven replay seventh c.replayed.ensures refl
+    let eight : App = with_subcommand seven replay.top in
+    let eighth = c.with_command-replays.ensures seven replay seventh c.replayed.ensures refl in
+    let nine : App = with_subcommand eight pack.top in
+    let ninth = c.with_command-packs.ensures eight pack eighth c.packed.ensures refl in
+    c.with_command.ensures nine key ninth c.keyed.ensures refl

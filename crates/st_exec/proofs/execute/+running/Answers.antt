@@ -4,7 +4,7 @@ use Rattle.fb_model.specs.Language.{run, run_one, more, value_of, is_zero, label
 use Rattle.st_exec.specs.CodeViews.{code_command, code_commands, code_term, code_choices, code_cases}
 use Rattle.st_types.proofs.Gathering.{drop_step, drop_all}
 use Rattle.st_exec.specs.Cells.{Form, values_of, forms_of}
-use Rattle.st_exec.specs.Runs.{Supports, SupportsOne, IsWithin}
+use Rattle.st_exec.specs.Runs.{Supports, SupportsOne, EndsWithin}
 use denote.Param.Weighed.{most, at_most}
 use Rattle.fb_model.specs.TypedText.{constant, choose, match_on}
 use Rattle.st_exec.proofs.command.CodeStmt.TheLaws.{the_size as stmt_size}
@@ -69,9 +69,9 @@ run_arms-run_list-requires-2 t c =
     subst (λ l. SupportsOne (forms_of c.loop-arm.store) (match_on (constant k) (code_cases l) (code_commands c.args.rest.now))) n c.loop-arm.invariant.serves in
     let e : run (code_commands c.args.rest.now) V ≡ run_cases (code_cases c.args.list.now) k V0 (run (code_commands c.args.rest.now) V0) =
     ap (λ l. run_cases (code_cases l) k V (run (code_commands c.args.rest.now) V)) (sym n) ∙ c.loop-arm.invariant.left in
-    let h : IsWithin (10 ^ 12) (run_cases (code_cases c.args.list.now) k V0 (run (code_commands c.args.rest.now) V0)) =
-    subst (λ z. IsWithin (10 ^ 12) (run_cases (code_cases c.args.list.now) z V0 (run (code_commands c.args.rest.now) V0))) (sym q) c.requires.small in
-    (omega (arith, c.decreases), (and_second (all_true (map (placed_arm (forms_of c.loop-arm.store)) (drop c.loop-arm.arm-index c.args.list.now))) (placed_all (forms_of c.loop-arm.store) c.args.rest.now) c.loop-arm.invariant.slots, (no_case_served (forms_of c.loop-arm.store) (constant k) (code_commands c.args.rest.now) s, subst (λ x. IsWithin (10 ^ 12) x) (sym e) h)))
+    let h : EndsWithin (10 ^ 12) (run_cases (code_cases c.args.list.now) k V0 (run (code_commands c.args.rest.now) V0)) =
+    subst (λ z. EndsWithin (10 ^ 12) (run_cases (code_cases c.args.list.now) z V0 (run (code_commands c.args.rest.now) V0))) (sym q) c.requires.small in
+    (omega (arith, c.decreases), (and_second (all_true (map (placed_arm (forms_of c.loop-arm.store)) (drop c.loop-arm.arm-index c.args.list.now))) (placed_all (forms_of c.loop-arm.store) c.args.rest.now) c.loop-arm.invariant.slots, (no_case_served (forms_of c.loop-arm.store) (constant k) (code_commands c.args.rest.now) s, subst (λ x. EndsWithin (10 ^ 12) x) (sym e) h)))
 
 pub run_branches-run_list-requires-2 : goal.run_branches-run_list-requires-2
 run_branches-run_list-requires-2 t c =
@@ -82,7 +82,7 @@ run_branches-run_list-requires-2 t c =
     subst (λ l. SupportsOne (forms_of c.loop-branch.store) (choose (code_choices l) (code_commands c.args.rest.now))) n c.loop-branch.invariant.serves in
     let e : run (code_commands c.args.rest.now) V ≡ run_choices (code_choices c.args.list.now) V0 (run (code_commands c.args.rest.now) V0) =
     ap (λ l. run_choices (code_choices l) V (run (code_commands c.args.rest.now) V)) (sym n) ∙ c.loop-branch.invariant.left in
-    (omega (arith, c.decreases), (and_second (all_true (map (placed_branch (forms_of c.loop-branch.store)) (drop c.loop-branch.branch-index c.args.list.now))) (placed_all (forms_of c.loop-branch.store) c.args.rest.now) c.loop-branch.invariant.slots, (other_served (forms_of c.loop-branch.store) (code_commands c.args.rest.now) s, subst (λ x. IsWithin (10 ^ 12) x) (sym e) c.requires.small)))
+    (omega (arith, c.decreases), (and_second (all_true (map (placed_branch (forms_of c.loop-branch.store)) (drop c.loop-branch.branch-index c.args.list.now))) (placed_all (forms_of c.loop-branch.store) c.args.rest.now) c.loop-branch.invariant.slots, (other_served (forms_of c.loop-branch.store) (code_commands c.args.rest.now) s, subst (λ x. EndsWithin (10 ^ 12) x) (sym e) c.requires.small)))
 
 pub run_arms-run_list-requires : goal.run_arms-run_list-requires
 run_arms-run_list-requires t c =
@@ -94,10 +94,10 @@ run_arms-run_list-requires t c =
     let e = arm_taken c.args.list.now c.loop-arm.arm-index c.arm-item.result c.loop-arm-test.true c.arm-item.is (to_z w64 (of_z w64 c.args.number)) c.deref-then-is_labelled.result.now c.deref-then-is_labelled.ensures.value V (run (code_commands c.args.rest.now) V) _ c.loop-arm.invariant.left z in
     let s = arm_serves c.args.list.now c.loop-arm.arm-index c.arm-item.result c.loop-arm-test.true c.arm-item.is (to_z w64 (of_z w64 c.args.number)) c.deref-then-is_labelled.result.now c.deref-then-is_labelled.ensures.value (forms_of c.loop-arm.store) (code_commands c.args.rest.now) c.loop-arm.invariant.serves in
     let w = arm_smaller c.args.list.now c.loop-arm.arm-index c.arm-item.result c.loop-arm-test.true c.arm-item.is (to_z w64 (of_z w64 c.args.number)) c.deref-then-is_labelled.result.now c.deref-then-is_labelled.ensures.value t (omega (arith, c.decreases)) in
-    let h : IsWithin (10 ^ 12) (run_cases (code_cases c.args.list.now) (to_z w64 (of_z w64 c.args.number)) V0 (run (code_commands c.args.rest.now) V0)) =
-    subst (λ k. IsWithin (10 ^ 12) (run_cases (code_cases c.args.list.now) k V0 (run (code_commands c.args.rest.now) V0))) (sym q) c.requires.small in
+    let h : EndsWithin (10 ^ 12) (run_cases (code_cases c.args.list.now) (to_z w64 (of_z w64 c.args.number)) V0 (run (code_commands c.args.rest.now) V0)) =
+    subst (λ k. EndsWithin (10 ^ 12) (run_cases (code_cases c.args.list.now) k V0 (run (code_commands c.args.rest.now) V0))) (sym q) c.requires.small in
     let p = item_before (placed_arm (forms_of c.loop-arm.store)) c.args.list.now c.loop-arm.arm-index c.arm-item.result c.loop-arm-test.true c.arm-item.is (placed_all (forms_of c.loop-arm.store) c.args.rest.now) c.loop-arm.invariant.slots in
-    (w, (arm_placed (forms_of c.loop-arm.store) c.arm-item.result c.deref-then-is_labelled.result.now c.deref-then-is_labelled.ensures.value p, (s, subst (λ x. IsWithin (10 ^ 12) x) (sym e) h)))
+    (w, (arm_placed (forms_of c.loop-arm.store) c.arm-item.result c.deref-then-is_labelled.result.now c.deref-then-is_labelled.ensures.value p, (s, subst (λ x. EndsWithin (10 ^ 12) x) (sym e) h)))
 
 pub run_arms-returns-then-is_labelled-clause-answers : goal.run_arms-returns-then-is_labelled-clause-answers
 run_arms-returns-then-is_labelled-clause-answers t c =
@@ -130,7 +130,7 @@ run_branches-run_list-requires t c =
     let s = branch_serves c.args.list.now c.loop-branch.branch-index c.branch-item.result c.loop-branch-test.true c.branch-item.is (forms_of c.loop-branch.store) (code_commands c.args.rest.now) c.loop-branch.invariant.serves c.deref.result.now c.deref.ensures.value in
     let w = branch_smaller c.args.list.now c.loop-branch.branch-index c.branch-item.result c.loop-branch-test.true c.branch-item.is c.deref.result.now c.deref.ensures.value t (omega (arith, c.decreases)) in
     let p = item_before (placed_branch (forms_of c.loop-branch.store)) c.args.list.now c.loop-branch.branch-index c.branch-item.result c.loop-branch-test.true c.branch-item.is (placed_all (forms_of c.loop-branch.store) c.args.rest.now) c.loop-branch.invariant.slots in
-    (w, (branch_placed (forms_of c.loop-branch.store) c.branch-item.result c.deref.result.now c.deref.ensures.value p, (s, subst (λ x. IsWithin (10 ^ 12) x) (sym e) c.requires.small)))
+    (w, (branch_placed (forms_of c.loop-branch.store) c.branch-item.result c.deref.result.now c.deref.ensures.value p, (s, subst (λ x. EndsWithin (10 ^ 12) x) (sym e) c.requires.small)))
 
 pub run_branches-returns-then-not-is_zero-clause-answers : goal.run_branches-returns-then-not-is_zero-clause-answers
 run_branches-returns-then-not-is_zero-clause-answers t c =
@@ -164,7 +164,7 @@ run_statement-run_branches-requires t c =
     let g = ap stmt_size c.in-If.is in
     let d = ap (most branch_size) c.deref.ensures.value in
     let e = ap (most stmt_size) c.deref-in-If.ensures.value in
-    let h : IsWithin (10 ^ 12) (run_one (choose (code_choices bs) (code_commands rest)) V) = subst (λ x. IsWithin (10 ^ 12) (run_one x V)) is c.requires.small in
+    let h : EndsWithin (10 ^ 12) (run_one (choose (code_choices bs) (code_commands rest)) V) = subst (λ x. EndsWithin (10 ^ 12) (run_one x V)) is c.requires.small in
     (omega (arith, a, b, g, d, e, c.decreases), (if_placed (forms_of c.args.store.now) c.args.statement.now c.requires.placed c.in-If.branches c.in-If.rest c.in-If.is bs rest c.deref.ensures.value c.deref-in-If.ensures.value, (subst (SupportsOne (forms_of c.args.store.now)) is c.requires.serves, within_more (10 ^ 12) 1 _ h)))
 
 pub run_statement-run_arms-requires : goal.run_statement-run_arms-requires
@@ -181,7 +181,7 @@ run_statement-run_arms-requires t c =
     let g = ap stmt_size c.in-Case.is in
     let d = ap (most arm_size) c.deref-in-Case.ensures.value in
     let e = ap (most stmt_size) c.deref-in-Case-2.ensures.value in
-    let h : IsWithin (10 ^ 12) (run_one (match_on (code_term c.in-Case.selector) (code_cases as') (code_commands rest)) V) = subst (λ x. IsWithin (10 ^ 12) (run_one x V)) is c.requires.small in
+    let h : EndsWithin (10 ^ 12) (run_one (match_on (code_term c.in-Case.selector) (code_cases as') (code_commands rest)) V) = subst (λ x. EndsWithin (10 ^ 12) (run_one x V)) is c.requires.small in
     let s = selected_served (forms_of c.args.store.now) (code_term c.in-Case.selector) (to_z w64 (of_z w64 c.eval-selector.result)) (code_cases as') (code_commands rest) (subst (SupportsOne (forms_of c.args.store.now)) is c.requires.serves) in
     let i = given_within (10 ^ 12) (value_of (code_term c.in-Case.selector) V) (to_z w64 (of_z w64 c.eval-selector.result)) (λ v. more 1 (run_cases (code_cases as') v V (run (code_commands rest) V))) (c.eval-selector.ensures ∙ ap Some (sym q)) h in
     (omega (arith, a, b, g, d, e, c.decreases), (arms_placed (forms_of c.args.store.now) c.args.statement.now c.requires.placed c.in-Case.selector c.in-Case.arms c.in-Case.rest c.in-Case.is as' rest c.deref-in-Case.ensures.value c.deref-in-Case-2.ensures.value, (s, within_more (10 ^ 12) 1 _ i)))

@@ -1,4 +1,4 @@
-use Rattle.std.proofs.Common.{◌≡◌, ◌<◌, ◌≤◌, ◌++◌, ◌∷◌, [], length, suc, Err, sym, ap, ◌∙◌, arith}
+use Rattle.std.proofs.Common.{◌≡◌, ◌<◌, ◌≤◌, ◌-◌, ◌++◌, ◌∷◌, [], length, suc, Err, sym, ap, ◌∙◌, arith}
 use Rattle.std.proofs.lemmas.Result.{err_from_is_err_and}
 use Rattle.std.proofs.lemmas.List.{map_push, length-map}
 use Rattle.fb_words.specs.declared.mark.Mark.TheVariants as m
@@ -9,7 +9,35 @@ use Rattle.fb_read.proofs.Lists.{while_goes_on, while_fails, while_stops, while_
 use Rattle.fb_read.proofs.Fronts.{skipped}
 use Rattle.fb_tree.specs.Algorithms.{expr_of, exprs_of, link_of, links_of}
 use Rattle.st_parse.specs.ExpressionReading.{begins_link, link_at, links_at, level_at, nested_at}
+use Rattle.st_parse.proofs.Short.{alone, gives_as, first_fails, first_read, level_ends, level_fails}
 use Rattle.st_parse.proofs.reading.+read.Goals as goal
+
+pub expression_below-returns-in_err-first : goal.expression_below-returns-in_err-first
+expression_below-returns-in_err-first t c =
+    let p = err_from_is_err_and c.from_residual.result c.from_residual.ensures.1 in
+    rw (p.1, p.2) (first_fails (nested_at (suc c.args.depth)) c.args.level (tokens_of c.args.tokens.now) c.in_err-first.field-0.0 c.in_err-first.ensures)
+
+pub expression_below-returns-then-not-continues : goal.expression_below-returns-then-not-continues
+expression_below-returns-then-not-continues t c =
+    let operand = nested_at (suc c.args.depth) in
+    let x = expr_of c.in_ok-first.first in
+    let rest = tokens_of c.in_ok-first.rest.now in
+    first_read operand c.args.level (tokens_of c.args.tokens.now) rest x c.in_ok-first.ensures ∙ alone operand c.args.level x rest (sym c.continues.ensures ∙ c.if-not-continues.true)
+
+pub expression_below-returns : goal.expression_below-returns
+expression_below-returns t c =
+    gives_as _ c.chained.result _ _ (first_read (nested_at (suc c.args.depth)) c.args.level (tokens_of c.args.tokens.now) (tokens_of c.in_ok-first.rest.now) (expr_of c.in_ok-first.first) c.in_ok-first.ensures) c.chained.ensures
+
+pub chained-returns-then-not-begins_link : goal.chained-returns-then-not-begins_link
+chained-returns-then-not-begins_link t c =
+    let above : c.args.level ≡ suc (c.args.level - 1) = omega (arith, c.if-level-eq0.false) in
+    level_ends (nested_at (suc c.args.depth)) c.args.level (c.args.level - 1) (expr_of c.args.first) (expr_of c.in_ok-whole.whole) (tokens_of c.args.tokens.now) (tokens_of c.in_ok-whole.rest.now) above c.in_ok-whole.ensures (sym c.begins_link.ensures ∙ c.if-not-begins_link.true)
+
+pub chained-returns-in_err-links : goal.chained-returns-in_err-links
+chained-returns-in_err-links t c =
+    let above : c.args.level ≡ suc (c.args.level - 1) = omega (arith, c.if-level-eq0.false) in
+    let p = err_from_is_err_and c.from_residual-in_err-links.result c.from_residual-in_err-links.ensures.1 in
+    rw (p.1, p.2) (level_fails (nested_at (suc c.args.depth)) c.args.level (c.args.level - 1) (expr_of c.args.first) (expr_of c.in_ok-whole.whole) (tokens_of c.args.tokens.now) (tokens_of c.in_ok-whole.rest.now) c.in_err-links.field-0.0 above c.in_ok-whole.ensures c.in_err-links.ensures)
 
 pub links-returns-then-not-begins_link : goal.links-returns-then-not-begins_link
 links-returns-then-not-begins_link t c =

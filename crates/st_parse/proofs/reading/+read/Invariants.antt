@@ -20,6 +20,9 @@ decreases-link l = 64 * l.depth + 4 * l.level + 27
 abbrev pub decreases-expression_below : goal.decreases-expression_below
 decreases-expression_below l = 64 * l.depth + 4 * l.level + 26
 
+abbrev pub decreases-chained : goal.decreases-chained
+decreases-chained l = 64 * l.depth + 4 * l.level + 25
+
 abbrev pub decreases-operand : goal.decreases-operand
 decreases-operand l = 64 * l.depth + 20
 

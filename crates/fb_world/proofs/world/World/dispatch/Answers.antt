@@ -7,12 +7,18 @@ use Rattle.fb_device_dispatch.specs.Answers.{dispatched_of}
 use Rattle.fb_world.specs.declared.course.Course.{Course}
 use Rattle.fb_world.specs.Scenes.{Scene, scene_of, system_of, cert_of, world_of, world_in}
 use Rattle.fb_world.specs.Answers.{leaves_at}
+use Rattle.fb_world.specs.Laws.{Falls}
+use Rattle.fb_world.proofs.Bounds.{falls}
 use Rattle.fb_world.proofs.Kept.{count_same, scene_same, kept_same, kept_more}
 use Rattle.fb_world.proofs.world.World.dispatch.Goals as goal
 
 -- what happens from a course is what happens in its scene
 in_scene : (v : Verified) (s : Scene) (old new : Course) (e : WorldEvent) (a : System → WorldAnswer) → scene_of v old ≡ s → WorldHappens (system_in v) (certificate_in v) (world_in v old) e (a (system_in v)) (world_in v new) → WorldHappens (system_of s) (cert_of s) (world_of s) e (a (system_of s)) (world_in v new)
 in_scene v s old new e a is h = subst (λ (t : Scene). WorldHappens (system_of t) (cert_of t) (world_of t) e (a (system_of t)) (world_in v new)) is h
+
+-- and what the laws say of it
+falls_scene : (v : Verified) (s : Scene) (old new : Course) (e : WorldEvent) (a : System → WorldAnswer) → scene_of v old ≡ s → Falls (system_in v) (certificate_in v) (world_in v old) e (a (system_in v)) (world_in v new) → Falls (system_of s) (cert_of s) (world_of s) e (a (system_of s)) (world_in v new)
+falls_scene v s old new e a is h = subst (λ (t : Scene). Falls (system_of t) (cert_of t) (world_of t) e (a (system_of t)) (world_in v new)) is h
 
 pub invariant_of-self-in-Err : goal.invariant_of-self-in-Err
 invariant_of-self-in-Err c = kept_same c.self.inside.verified.value c.self.inside.course c.reserve_dispatch.new.self c.reserve_dispatch.ensures.same c.self.invariant
@@ -43,6 +49,14 @@ returns-in-Ok-clause-happens c =
     let k = kept_same c.self.inside.verified.value c.self.inside.course c.reserve_dispatch.new.self c.reserve_dispatch.ensures.same c.self.invariant in
     in_scene c.self.inside.verified.value c.args.self.now c.reserve_dispatch.new.self c.dispatch.new.self (At_device c.args.device (A_dispatch c.args.resource)) (λ system. Answered (dispatched_of (leaves_at system c.args.device) c.dispatch.new.answer) c.dispatch.result)
     (scene_same c.self.inside.verified.value c.self.inside.course c.reserve_dispatch.new.self c.reserve_dispatch.ensures.same ∙ c.self.view_is) (c.dispatch.ensures.goes c.self.inside.verified.value k).happens
+
+pub returns-in-Ok-clause-falls : goal.returns-in-Ok-clause-falls
+returns-in-Ok-clause-falls c =
+    let k = kept_same c.self.inside.verified.value c.self.inside.course c.reserve_dispatch.new.self c.reserve_dispatch.ensures.same c.self.invariant in
+    falls_scene c.self.inside.verified.value c.args.self.now c.reserve_dispatch.new.self c.dispatch.new.self (At_device c.args.device (A_dispatch c.args.resource)) (λ system. Answered (dispatched_of (leaves_at system c.args.device) c.dispatch.new.answer) c.dispatch.result)
+    (scene_same c.self.inside.verified.value c.self.inside.course c.reserve_dispatch.new.self c.reserve_dispatch.ensures.same ∙ c.self.view_is)
+    (falls c.self.inside.verified.value (world_in c.self.inside.verified.value c.reserve_dispatch.new.self) (world_in c.self.inside.verified.value c.dispatch.new.self) (At_device c.args.device (A_dispatch c.args.resource))
+    (Answered (dispatched_of (leaves_at (system_in c.self.inside.verified.value) c.args.device) c.dispatch.new.answer) c.dispatch.result) k.checked k.reached (c.dispatch.ensures.goes c.self.inside.verified.value k).happens)
 
 pub returns-in-Ok-clause-point : goal.returns-in-Ok-clause-point
 returns-in-Ok-clause-point c = rw (← c.self.view_is) (c.dispatch.ensures.point c.self.inside.verified.value (kept_same c.self.inside.verified.value c.self.inside.course c.reserve_dispatch.new.self c.reserve_dispatch.ensures.same c.self.invariant))

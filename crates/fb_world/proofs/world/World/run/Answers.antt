@@ -4,6 +4,7 @@ use Rattle.fb_verified.specs.Checked.{system_in, certificate_in}
 use Rattle.fb_world.specs.declared.answer.WorldAnswer.{WorldAnswer}
 use Rattle.fb_world.specs.Scenes.{Scene, world_of, world_in}
 use Rattle.fb_world.specs.Answers.{event_of, answers_of, HaveWorldPlaces}
+use Rattle.fb_world.proofs.Bounds.{falls_over}
 use Rattle.fb_world.proofs.Kept.{scene_same, kept_same, on_err}
 use Rattle.fb_world.proofs.world.World.run.Goals as goal
 
@@ -26,6 +27,11 @@ returns-clause-run c =
     rw (← c.self.view_is) (subst (λ (xs : List WorldAnswer). WorldRun (system_in c.self.inside.verified.value) (certificate_in c.self.inside.verified.value) (world_in c.self.inside.verified.value c.self.inside.course) (map event_of c.args.events.now) (answers_of (system_in c.self.inside.verified.value) c.args.events.now xs) (world_in c.self.inside.verified.value c.happen_all.new.self)) (sym is)
     (subst (λ (s : Scene). WorldRun (system_in c.self.inside.verified.value) (certificate_in c.self.inside.verified.value) (world_of s) (map event_of c.args.events.now) (answers_of (system_in c.self.inside.verified.value) c.args.events.now r.0) (world_in c.self.inside.verified.value c.happen_all.new.self))
     (scene_same c.self.inside.verified.value c.self.inside.course c.reserve.new.self c.reserve.ensures.same) r.3))
+
+pub returns-clause-falls : goal.returns-clause-falls
+returns-clause-falls c =
+    rw (← c.self.view_is) (falls_over c.self.inside.verified.value (world_in c.self.inside.verified.value c.self.inside.course) (world_in c.self.inside.verified.value c.happen_all.new.self) (map event_of c.args.events.now)
+    (answers_of (system_in c.self.inside.verified.value) c.args.events.now c.happen_all.new.answers.items) c.self.invariant.checked c.self.invariant.reached)
 
 pub returns-clause-points : goal.returns-clause-points
 returns-clause-points c =

@@ -1,0 +1,3 @@
+mod Growing
+mod Entries
+mod Spoken

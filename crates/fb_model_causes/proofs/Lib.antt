@@ -1,0 +1,10 @@
+pub mod Lists
+pub mod Belonging
+pub mod Putting
+pub mod Tied
+pub mod Opening
+pub mod Serving
+pub mod Taking
+pub mod First
+pub mod Running
+pub mod Bounding

@@ -1,0 +1,9 @@
+pub mod Truths
+pub mod Charts
+pub mod Faults
+pub mod Reading
+pub mod Admitting
+pub mod Dispatching
+pub mod Running
+pub mod Differing
+pub mod Answering

@@ -1,0 +1,9 @@
+mod Admitting
+mod Counters
+mod Dropping
+mod Extending
+mod Masks
+mod Padding
+mod Replays
+mod Spelling
+mod Windows

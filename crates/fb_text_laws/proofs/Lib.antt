@@ -1,0 +1,14 @@
+pub mod Lexemes
+pub mod Placed
+pub mod Cuts
+pub mod Fronts
+pub mod Steps
+pub mod Items
+pub mod Words
+pub mod Expressions
+pub mod Statements
+pub mod Declarations
+pub mod Texts
+pub mod Whole
+pub mod Places
+pub mod Answered

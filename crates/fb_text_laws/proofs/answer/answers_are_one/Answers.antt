@@ -1,0 +1,5 @@
+use Rattle.fb_text_laws.proofs.Answered.{answers_are_one}
+use Rattle.fb_text_laws.proofs.answer.answers_are_one.Goals as goal
+
+pub returns : goal.returns
+returns c = answers_are_one

@@ -1,0 +1,155 @@
+//! The types that instances may have, by their interfaces alone.
+
+use crate::charts::type_chart;
+use crate::faces::face_of;
+use fb_tree::{BlockTree, BodyTree};
+use fb_types_blocks::{Face, TypeFault, face};
+use fb_types_events::event_blocks;
+use fb_types_networks::{Body, Network};
+use fbr_recovery_text::{Found, Reading};
+use indexmap::{IndexMap, IndexSet};
+use std::alloc::{AllocError, Global};
+use std::mem;
+use std::rc::Rc;
+
+/// The types of a text and the event blocks behind them, by their names: of two types of one name the first.
+#[derive(Drop)]
+pub(crate) struct Types {
+    faces: Vec<Rc<Face>>,
+    numbers: IndexMap<String, usize>,
+    /// A network of nothing: which instances a composite has is not asked for.
+    inside: Rc<Network>,
+}
+
+/// What an instance is, and the number of its type where it has one.
+#[derive(Drop)]
+pub(crate) struct Part {
+    pub(crate) body: Body,
+    pub(crate) number: Option<usize>,
+}
+
+// Whether a name is that of a service, which no declared type may have.
+fn is_service(name: &str) -> bool {
+    matches!(
+        name,
+        "INPUT" | "OUTPUT" | "PUBLISH" | "SUBSCRIBE" | "E_DELAY" | "E_CYCLE" | "E_RESTART"
+    )
+}
+
+impl Types {
+    // None.
+    fn none(alloc: Global) -> Result<Types, AllocError> {
+        let inside = Network {
+            instances: Vec::new(alloc),
+            events: Vec::new(alloc),
+            values: Vec::new(alloc),
+        };
+        Ok(Types {
+            faces: Vec::new(alloc),
+            numbers: IndexMap::new(alloc),
+            inside: Rc::new(alloc, inside)?,
+        })
+    }
+
+    // Adds a type, and tells whether there was none of its name.
+    fn add(&mut self, alloc: Global, name: &String, face: Face) -> Result<bool, AllocError> {
+        let number = self.faces.len();
+        self.faces.push(Rc::new(alloc, face)?)?;
+        if self.numbers.contains_key(name.as_str()) {
+            return Ok(false);
+        }
+        self.numbers.insert(name.clone()?, number)?;
+        Ok(true)
+    }
+
+    // Adds a type of a text, and types its chart where it has one.
+    fn add_own(
+        &mut self,
+        alloc: Global,
+        block: &BlockTree,
+        found: &mut Found<'_>,
+    ) -> Result<(), AllocError> {
+        let mut names = IndexSet::new(alloc);
+        let face = face_of(alloc, block, &mut names, found)?;
+        if let BodyTree::Chart(chart) = &block.body {
+            type_chart(alloc, block, chart, &face, &mut names, found)?;
+        }
+        let name = &block.name;
+        let is_new = self.add(alloc, &name.text, face)?;
+        if name.text.is_empty() {
+            return Ok(());
+        }
+        if !is_new || is_service(name.text.as_str()) {
+            found.typing(TypeFault::DuplicateName(name.at))?;
+        }
+        if !is_new && !found.types.contains(name.text.as_str()) {
+            found.types.insert(name.text.clone()?)?;
+        }
+        Ok(())
+    }
+
+    // Adds the event blocks that are there beforehand.
+    fn add_given(&mut self, alloc: Global, blocks: &[BlockTree]) -> Result<(), AllocError> {
+        for block in blocks {
+            match face(alloc, block) {
+                Ok(face) => {
+                    self.add(alloc, &block.name.text, face)?;
+                }
+                Err(_) => return Err(AllocError),
+            }
+        }
+        Ok(())
+    }
+
+    /// The types of declarations, of which the charts are typed too.
+    pub(crate) fn of(
+        alloc: Global,
+        blocks: &[BlockTree],
+        readings: &mut [Reading],
+        found: &mut Found<'_>,
+    ) -> Result<Types, AllocError> {
+        let mut types = Types::none(alloc)?;
+        for (block, reading) in blocks.iter().zip(readings.iter_mut()) {
+            let none = IndexSet::new(alloc);
+            let before = found.begin(mem::replace(&mut reading.doubts, none));
+            drop(before);
+            found.is_nameless = reading.is_nameless;
+            types.add_own(alloc, block, found)?;
+            let none = IndexSet::new(alloc);
+            reading.doubts = found.begin(none);
+        }
+        match event_blocks(alloc) {
+            Ok(library) => {
+                let added = types.add_given(alloc, &library.tree().blocks);
+                library.let_go();
+                added?;
+                Ok(types)
+            }
+            Err(_) => Err(AllocError),
+        }
+    }
+
+    /// The number of the type of a name.
+    pub(crate) fn number(&self, name: &str) -> Option<usize> {
+        self.numbers.get(name).copied()
+    }
+
+    /// The interface of a type.
+    pub(crate) fn face(&self, number: usize) -> Option<&Face> {
+        match self.faces.get(number) {
+            Some(face) => Some(&**face),
+            None => None,
+        }
+    }
+
+    /// What an instance of a type is; nothing where there is no such type.
+    pub(crate) fn body(&self, number: usize) -> Result<Option<Body>, AllocError> {
+        match self.faces.get(number) {
+            Some(face) => {
+                let inside = self.inside.clone()?;
+                Ok(Some(Body::Composite(face.clone()?, inside)))
+            }
+            None => Ok(None),
+        }
+    }
+}

@@ -1,0 +1,4 @@
+pub mod Parts
+pub mod Fronts
+pub mod Once
+pub mod Joining

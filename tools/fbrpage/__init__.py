@@ -1,0 +1,1 @@
+"""Shows a running device in the browser, out of its record (docs/PAGE.md)."""
