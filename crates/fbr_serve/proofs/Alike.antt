@@ -9,7 +9,8 @@ use Rattle.fb_model_replay.proofs.Running.{run_once}
 use Rattle.fb_link.specs.Link.{LinkCall}
 use Rattle.fb_record.specs.Records.{Entry}
 use Rattle.fb_turn.specs.Turns.{Receipt, Service, Turn, answers_of, delivery, each_once, effect_of, events_of, is_cut, writes, writes_for}
-use Rattle.fbr_serve.specs.Serving.{TurnAt, Turns, IsTaken, IsWhole, IsCutOff, lines_of, turn_lines, write_line}
+use Rattle.fbr_notices.specs.Sums.{TurnAt}
+use Rattle.fbr_serve.specs.Serving.{Turns, IsTaken, IsWhole, IsCutOff, lines_of, turn_lines, write_line}
 use Rattle.fbr_serve.specs.Recording.{IsEnded, entry_of}
 
 -- ---- answers

@@ -10,9 +10,10 @@ use Rattle.fb_model.specs.System.{Device}
 use Rattle.fb_model.specs.Certificates.{Certificate}
 use Rattle.fb_model.specs.Devices.{Machine}
 use Rattle.fb_turn.specs.declared.turning.Report.{Report}
-use Rattle.fbr_serve.specs.declared.stop.Stop.{Stop}
-use Rattle.fbr_serve.specs.declared.stop.Stop.TheVariants as stops
-use Rattle.fbr_serve.specs.Serving.{TurnAt, EndsTurn, IsTaken}
+use Rattle.fbr_notices.specs.declared.stop.Stop.{Stop}
+use Rattle.fbr_notices.specs.declared.stop.Stop.TheVariants as stops
+use Rattle.fbr_notices.specs.Sums.{TurnAt}
+use Rattle.fbr_serve.specs.Serving.{EndsTurn, IsTaken}
 use Rattle.fbr_serve.specs.Recording.{IsEnded, Retakes, entry_of, plays}
 
 -- ---- a receive

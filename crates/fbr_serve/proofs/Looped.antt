@@ -19,11 +19,12 @@ use Rattle.fb_device_state.specs.Machines.{device_at, device_in, cert_in, machin
 use Rattle.fb_turn.specs.Turns.{Turn, Receipt, Service as Dispatch, Chain, Sight, IsTurn, coming, serving, sights_of, writes, report_of, link_calls_of}
 use Rattle.fb_turn.specs.declared.turning.Report.{Report}
 use Rattle.fbr_words.specs.Program.{Life, Telling, Service}
-use Rattle.fbr_serve.specs.declared.sums.Sums.{Sums}
-use Rattle.fbr_serve.specs.declared.stop.Stop.{Stop}
-use Rattle.fbr_serve.specs.declared.stop.Stop.TheVariants as stops
+use Rattle.fbr_notices.specs.declared.sums.Sums.{Sums}
+use Rattle.fbr_notices.specs.declared.stop.Stop.{Stop}
+use Rattle.fbr_notices.specs.declared.stop.Stop.TheVariants as stops
 use Rattle.fbr_serve.specs.declared.turns.Ran.{Ran}
-use Rattle.fbr_serve.specs.Serving.{TurnAt, Anything, IsTaken, Turns, IsWhole, IsCutOff, capped, sums_of, with_report, write_line, turn_lines, lines_of, sight_lines, EndsTurn, PrintsTurn, EndsCutOff, EndAs, Prints, EndsByOutput, IsServed, Over, LinkAsks, failed_in, unasked, AreOf, TellsStop, TellsTurns}
+use Rattle.fbr_notices.specs.Sums.{TurnAt, capped, sums_of, with_report}
+use Rattle.fbr_serve.specs.Serving.{Anything, IsTaken, Turns, IsWhole, IsCutOff, write_line, turn_lines, lines_of, sight_lines, EndsTurn, PrintsTurn, EndsCutOff, EndAs, Prints, EndsByOutput, IsServed, Over, LinkAsks, failed_in, unasked, AreOf, TellsStop, TellsTurns}
 use Rattle.fbr_serve.specs.Recording.{Held, Records, RecordsTurn}
 use Rattle.fbr_serve.proofs.Recorded.{none_recorded, more_recorded}
 use Rattle.fbr_serve.proofs.Served.{more_lines, more_sums, more_turns, takes_none, takes_more}

@@ -5,7 +5,7 @@ use Rattle.std.specs.Io.KnownBytes.{Appends}
 use Rattle.std.proofs.lemmas.Grind.{flat_map-append}
 use Rattle.fb_record.specs.Records.{end_text, line_of, start_text, words_text}
 use Rattle.fb_turn.specs.Turns.{Turn, Receipt, Service as Dispatch, Chain, Sight, coming, serving, sights_of, is_cut}
-use Rattle.fbr_serve.specs.Serving.{TurnAt}
+use Rattle.fbr_notices.specs.Sums.{TurnAt}
 use Rattle.fbr_serve.specs.Recording.{Held, RecordsTurn, Records, entry_of, record_line, sight_word}
 use Rattle.fbr_serve.proofs.Served.{takes_none, takes_more}
 

@@ -22,7 +22,8 @@ use Rattle.fb_device_state.specs.Machines.{device_in, cert_in, machine_of}
 use Rattle.fbr_words.specs.Program.{Service}
 use Rattle.fbr_seals.specs.Sealing.{Book, WritesDown}
 use Rattle.fbr_serve.specs.declared.turns.Ran.{Ran}
-use Rattle.fbr_serve.specs.Serving.{TurnAt, IsTaken, Turns, Over, LinkAsks, SealingLink, SealedAsks, SealsAt, sealed_at, sealed_failures, TellsSealedTurns, TellsStop}
+use Rattle.fbr_notices.specs.Sums.{TurnAt}
+use Rattle.fbr_serve.specs.Serving.{IsTaken, Turns, Over, LinkAsks, SealingLink, SealedAsks, SealsAt, sealed_at, sealed_failures, TellsSealedTurns, TellsStop}
 use Rattle.fbr_serve.proofs.Traced.{Is, Step, calls_traced, over}
 use Rattle.fbr_serve.proofs.Looped.{Out, Served}
 

@@ -11,10 +11,11 @@ use Rattle.fbr_lines.specs.declared.reading.Next.TheVariants.{Last, End}
 use Rattle.fb_record.specs.Records.{Entry, entry_in}
 use Rattle.fb_turn.specs.Turns.{Turn, report_of}
 use Rattle.fb_turn.specs.declared.turning.Report.{Report}
-use Rattle.fbr_serve.specs.declared.stop.Stop.{Stop}
-use Rattle.fbr_serve.specs.declared.stop.Stop.TheVariants as stops
-use Rattle.fbr_serve.specs.declared.sums.Sums.{Sums}
-use Rattle.fbr_serve.specs.Serving.{TurnAt, EndsTurn, IsCutOff, sums_of, with_report}
+use Rattle.fbr_notices.specs.declared.stop.Stop.{Stop}
+use Rattle.fbr_notices.specs.declared.stop.Stop.TheVariants as stops
+use Rattle.fbr_notices.specs.declared.sums.Sums.{Sums}
+use Rattle.fbr_notices.specs.Sums.{TurnAt, sums_of, with_report}
+use Rattle.fbr_serve.specs.Serving.{EndsTurn, IsCutOff}
 use Rattle.fbr_serve.specs.Recording.{IsOver, Retaken, more, Retakes, entry_said}
 use Rattle.fbr_serve.proofs.Served.{more_sums}
 

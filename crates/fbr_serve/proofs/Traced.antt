@@ -10,7 +10,8 @@ use Rattle.fb_model.specs.Devices.{Machine}
 use Rattle.fb_link.specs.Link.{LinkCall, Handed, Silent, Broken, Sent}
 use Rattle.fb_link.specs.Socket.{SocketCall, SentTo, Took, Missed, SendsToEach, DropsEach, Receives, TakesFrom, Asks, UdpStep}
 use Rattle.fb_turn.specs.Turns.{Chain, IsTurn, link_calls_of}
-use Rattle.fbr_serve.specs.Serving.{TurnAt, IsTaken, Turns, Traced, Over, LinkAsks, failed_in}
+use Rattle.fbr_notices.specs.Sums.{TurnAt}
+use Rattle.fbr_serve.specs.Serving.{IsTaken, Turns, Traced, Over, LinkAsks, failed_in}
 
 module _ {S : Type 0} (does : S → SocketCall → S → Type 0) where
   sends_traced : (bytes : List ℕ) (peers : List SocketAddr) (s : S) (ok : Bool) (t : S) (before : List SocketCall) → SendsToEach does bytes peers s ok t → (after : List SocketCall) × SendsToEach Traced bytes peers before ok after

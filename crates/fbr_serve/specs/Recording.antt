@@ -13,10 +13,11 @@ use Rattle.fb_turn.specs.Turns.{Turn, Sight, Came, Served, is_cut}
 use Rattle.fbr_lines.specs.Reading.{TakesLast, TakesLine, TakesPart}
 use Rattle.fbr_serve.specs.declared.replay.Halt.{Halt}
 use Rattle.fbr_serve.specs.declared.replay.Halt.TheVariants.{Line, Memory as Spent, Unreadable}
-use Rattle.fbr_serve.specs.declared.stop.Stop.{Stop}
-use Rattle.fbr_serve.specs.declared.sums.Sums.{Sums}
+use Rattle.fbr_notices.specs.declared.stop.Stop.{Stop}
+use Rattle.fbr_notices.specs.declared.sums.Sums.{Sums}
 use Rattle.fbr_serve.specs.declared.turns.Ran.{Ran}
-use Rattle.fbr_serve.specs.Serving.{TurnAt, IsTaken, IsWhole, IsCutOff, sums_of}
+use Rattle.fbr_notices.specs.Sums.{TurnAt, sums_of}
+use Rattle.fbr_serve.specs.Serving.{IsTaken, IsWhole, IsCutOff}
 
 -- what came in a turn
 abbrev pub entry_of : TurnAt → Entry

@@ -1,6 +1,6 @@
 -- Turns of a device over a link, and what `fbr serve` tells: this project's profile.
-use Rattle.std.specs.Prelude.{◌≡◌, ◌≤◌, ℕ, ◌+◌, ◌-◌, ◌⊎◌, ◌==◌, nat_lt, min, max, Bool, true, false, List, [], ◌∷◌, ◌++◌, length, map, Option, Some, None, Result, Ok, Err, codes, string_bytes, slice_get, slice_index, option_and_then, if◌then◌else◌}
-use Rattle.std.specs.List.{flat_map, sum_by, AllByRecursion}
+use Rattle.std.specs.Prelude.{◌≡◌, ◌≤◌, ℕ, ◌+◌, ◌-◌, ◌⊎◌, ◌==◌, nat_lt, max, Bool, true, false, List, [], ◌∷◌, ◌++◌, length, map, Option, Some, None, Result, Ok, Err, codes, string_bytes, slice_get, slice_index, option_and_then, if◌then◌else◌}
+use Rattle.std.specs.List.{flat_map, AllByRecursion}
 use Rattle.std.specs.Fmt.{decimal}
 use Rattle.std.specs.Str.{trim}
 use Rattle.std.specs.Io.KnownBytes.{Appends}
@@ -23,9 +23,10 @@ use Rattle.fb_device_state.specs.Sessions.{Session}
 use Rattle.fb_device_state.specs.Machines.{device_in, cert_in, machine_of}
 use Rattle.fb_device.specs.Loads.{IsLoaded, IsUnknown}
 use Rattle.fb_script.specs.Texts.{write_text}
-use Rattle.fbr_serve.specs.declared.stop.Stop.{Stop}
-use Rattle.fbr_serve.specs.declared.stop.Stop.TheVariants as stops
-use Rattle.fbr_serve.specs.declared.sums.Sums.{Sums}
+use Rattle.fbr_notices.specs.declared.stop.Stop.{Stop}
+use Rattle.fbr_notices.specs.declared.stop.Stop.TheVariants as stops
+use Rattle.fbr_notices.specs.declared.sums.Sums.{Sums}
+use Rattle.fbr_notices.specs.Sums.{TurnAt, sums_of, sums_text}
 use Rattle.fbr_serve.specs.declared.turns.Ran.{Ran}
 use Rattle.fbr_files.specs.declared.fault.Fault.{Fault}
 use Rattle.fbr_files.specs.declared.fault.Fault.TheVariants as faults
@@ -40,11 +41,6 @@ use Rattle.fbr_seals.specs.Sealing.{Book, TakesState, WritesDown, book_of}
 use Rattle.fbr_words.specs.Program.{Boot, numbered, in_file, Life, Network, Telling, Guard, unsealed, sealed, Service}
 
 -- ---- turns
-
--- a turn, and the moment of it in milliseconds
-pub record TurnAt : Type 0 where
-  pub now : ℕ
-  pub turn : Turn
 
 -- one who watches and tells nothing
 abbrev pub Anything : Unit {0} → Sight → Unit {0} → Type 0
@@ -69,50 +65,6 @@ pub record IsWhole (device : Device) (turn : Turn) : Type 0 where
 pub record IsCutOff (turn : Turn) : Type 0 where
   pub cut : turn.close ≡ Cut
   pub none : turn.services ≡ []
-
--- ---- what they did in all
-
-abbrev pub report_at : TurnAt → Report
-report_at x = report_of x.turn
-
--- a count of 64 bits stays where it can rise no more
-abbrev pub capped : ℕ → ℕ
-capped n = min n 18446744073709551615
-
-abbrev pub sums_of : List TurnAt → Sums
-sums_of all =
-    record {
-      fired = capped (sum_by (λ x. (report_at x).fired) all);
-      received = capped (sum_by (λ x. (report_at x).received) all);
-      denied = capped (sum_by (λ x. (report_at x).denied) all);
-      ran = capped (sum_by (λ x. (report_at x).ran) all);
-      sent = capped (sum_by (λ x. (report_at x).sent) all);
-      lost = capped (sum_by (λ x. (report_at x).lost) all);
-    }
-
--- with one report more
-abbrev pub with_report : Sums → Report → Sums
-with_report s r =
-    record {
-      fired = capped (s.fired + r.fired);
-      received = capped (s.received + r.received);
-      denied = capped (s.denied + r.denied);
-      ran = capped (s.ran + r.ran);
-      sent = capped (s.sent + r.sent);
-      lost = capped (s.lost + r.lost);
-    }
-
--- `fired 0 received 1 denied 0`
-abbrev pub came_text : Sums → List ℕ
-came_text s = codes "fired " ++ decimal s.fired ++ codes " received " ++ decimal s.received ++ codes " denied " ++ decimal s.denied
-
--- `ran 3 sent 1 lost 0`
-abbrev pub went_text : Sums → List ℕ
-went_text s = codes "ran " ++ decimal s.ran ++ codes " sent " ++ decimal s.sent ++ codes " lost " ++ decimal s.lost
-
--- `fired 0 received 1 denied 0 ran 3 sent 1 lost 0`
-abbrev pub sums_text : Sums → List ℕ
-sums_text s = came_text s ++ codes " " ++ went_text s
 
 -- ---- what they print
 

@@ -5,7 +5,8 @@ ghost use Rattle.std.specs.List.{AllByRecursion};
 ghost use Rattle.fb_model.specs.System.{Device};
 ghost use Rattle.fb_model.specs.Certificates.{Certificate};
 ghost use Rattle.fb_model.specs.Devices.{Machine};
-ghost use Rattle.fbr_serve.specs.Serving.{TurnAt, Turns, lines_of};
+ghost use Rattle.fbr_notices.specs.Sums.{TurnAt};
+ghost use Rattle.fbr_serve.specs.Serving.{Turns, lines_of};
 ghost use Rattle.fbr_serve.specs.Recording.{IsEnded, entry_of};
 
 use fb_link::Link;

@@ -5,20 +5,14 @@
 #![tactic(auto)]
 
 mod boot;
-mod dropping;
 mod ended;
 mod law;
 mod looking;
 mod notes;
-mod objects;
 mod printing;
 mod replay;
 mod sealed;
 mod serve;
-mod shapes;
-mod stop;
-mod sums;
-mod telling;
 mod turns;
 mod waiting;
 
@@ -27,4 +21,3 @@ pub use law::replays_are_alike;
 pub use looking::{Blind, Look, Viewer};
 pub use replay::{Replayed, Subject, load_recorded, replay_ready, replay_told};
 pub use serve::{load_device, serve_ready};
-pub use sums::Sums;

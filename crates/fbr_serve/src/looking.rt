@@ -6,13 +6,12 @@ ghost use Rattle.fb_turn.specs.Turns.{Turn};
 ghost use Rattle.fbr_serve.specs.Serving.{IsTaken, EndsTurn};
 
 use crate::notes::Notes;
-use crate::objects::{arrival_object, dispatch_object, turn_object};
 use crate::printing::{When, flushed, print_write};
-use crate::stop::Stop;
 use crate::turns::Taken;
 use fb_device::{Denied, Device, Dispatched, Effect};
 use fb_link::Link;
 use fb_turn::{LinkDown, Report, Watch, turn};
+use fbr_notices::{Stop, arrival_object, dispatch_object, turn_object};
 use fbr_objects::Object;
 use fbr_watch::{RanAt, Watching};
 use std::alloc::Global;

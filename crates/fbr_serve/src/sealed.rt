@@ -4,7 +4,6 @@ ghost use Rattle.std.specs.Prelude.{◌≡◌, ◌≤◌, IfOk};
 ghost use Rattle.fbr_words.specs.Requests.{service_of};
 ghost use Rattle.fbr_serve.specs.Serving.{TellsSealed, seals_of};
 
-use crate::dropping::{Counts, tell_unsealed};
 use crate::notes::Notes;
 use crate::serve::{print_served, tell_end, tell_ready, tell_strangers};
 use crate::turns::serve_on;
@@ -12,6 +11,7 @@ use fb_device::Device;
 use fb_link::UdpLink;
 use fb_seal::SealedLink;
 use fbr_files::{Fault, Keep, print_outcome};
+use fbr_notices::{Counts, tell_unsealed};
 use fbr_seals::Seals;
 use fbr_words::Serve;
 use std::io;

@@ -9,10 +9,6 @@ ghost use Rattle.fbr_serve.specs.Serving.{IsTextsFault, IsTextsReady, IsFilesFau
 
 use crate::notes::Notes;
 use crate::sealed::serve_sealed;
-use crate::shapes::Shapes;
-use crate::stop::Stop;
-use crate::sums::Sums;
-use crate::telling::Teller;
 use crate::turns::{Ran, serve_on};
 use fb_device::{Device, Ready, Refusal as LoadRefusal, load_boot};
 use fb_link::UdpLink;
@@ -20,6 +16,7 @@ use fb_record::Recorder;
 use fb_verdict::Refusal;
 use fb_wire::Stamp;
 use fbr_files::{Fault, FileText, Keep, print_outcome};
+use fbr_notices::{Shapes, Stop, Sums, Teller};
 use fbr_seals::Seals;
 use fbr_words::{Guard, Serve};
 use std::alloc::Global;

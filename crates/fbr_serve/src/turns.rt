@@ -4,21 +4,19 @@ ghost use Rattle.std.specs.Prelude.{◌≡◌, ◌≤◌, ◌+◌, ℕ, List, fa
 ghost use Rattle.fb_device_state.specs.Machines.{device_in, cert_in, machine_of};
 ghost use Rattle.fb_turn.specs.Turns.{Turn};
 ghost use Rattle.fbr_words.specs.Requests.{life_of, telling_of};
-ghost use Rattle.fbr_serve.specs.Serving.{TurnAt, IsTaken, EndsTurn, PrintsTurn, IsServed};
+ghost use Rattle.fbr_notices.specs.Sums.{TurnAt};
+ghost use Rattle.fbr_serve.specs.Serving.{IsTaken, EndsTurn, PrintsTurn, IsServed};
 ghost use Rattle.fbr_serve.specs.Recording.{Held, Records, RecordsTurn};
-ghost use Rattle.fbr_serve.specs.declared.stop.Stop.TheVariants as stops;
+ghost use Rattle.fbr_notices.specs.declared.stop.Stop.TheVariants as stops;
 
-use crate::dropping::Counts;
 use crate::ended::has_ended;
 use crate::notes::Notes;
 use crate::printing::{Printer, When, flushed};
-use crate::stop::Stop;
-use crate::sums::Sums;
-use crate::telling::Past;
 use crate::waiting::rest;
 use fb_device::Device;
 use fb_link::Link;
 use fb_turn::{Report, turn};
+use fbr_notices::{Counts, Past, Stop, Sums};
 use fbr_words::Serve;
 use std::io::Write;
 use std::rt::Clock;

@@ -1,7 +1,7 @@
 use Rattle.std.proofs.Common.{◌≡◌, length, refl, rules}
 use Rattle.fb_record.specs.Views.{entry_of}
 use Rattle.fb_device_state.specs.Machines.{device_in, cert_in, machine_of}
-use Rattle.fbr_serve.specs.Serving.{TurnAt}
+use Rattle.fbr_notices.specs.Sums.{TurnAt}
 use Rattle.fbr_serve.proofs.Handing.{retaken}
 use Rattle.fbr_serve.proofs.replay.take_entry.Goals as goal
 

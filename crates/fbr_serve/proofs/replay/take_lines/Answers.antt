@@ -3,7 +3,8 @@ use Rattle.std.specs.Io.Buffered.{reader_remaining}
 use Rattle.fb_device_state.specs.Machines.{device_in, cert_in, machine_of}
 use Rattle.fb_turn.proofs.Turned.{along}
 use Rattle.fbr_serve.specs.declared.turns.Taken.{Taken}
-use Rattle.fbr_serve.specs.Serving.{TurnAt, EndsTurn}
+use Rattle.fbr_notices.specs.Sums.{TurnAt}
+use Rattle.fbr_serve.specs.Serving.{EndsTurn}
 use Rattle.fbr_serve.specs.Recording.{none, Retakes}
 use Rattle.fbr_serve.proofs.Taking.{one_more, over, stopped, summed}
 use Rattle.fbr_serve.proofs.replay.take_lines.Goals as goal

@@ -1,7 +1,7 @@
 use Rattle.std.proofs.Common.{◌≡◌, ◌+◌, List, length}
 use Rattle.std.specs.Io.Buffered.{reader_remaining}
 use Rattle.fb_device_state.specs.Machines.{device_in, cert_in, machine_of}
-use Rattle.fbr_serve.specs.Serving.{TurnAt, sums_of}
+use Rattle.fbr_notices.specs.Sums.{TurnAt, sums_of}
 use Rattle.fbr_serve.specs.Recording.{Retaken}
 use Rattle.fbr_serve.proofs.replay.take_lines.Given as goal
 

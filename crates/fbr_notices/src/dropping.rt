@@ -6,7 +6,7 @@ use std::io::Write;
 
 /// How many datagrams a link has dropped so far.
 #[derive(Clone, Copy)]
-pub(crate) struct Drops {
+pub struct Drops {
     /// Their senders are not named by `--from`.
     pub strangers: u64,
     /// They were not sealed, or not so that they are taken.
@@ -14,7 +14,7 @@ pub(crate) struct Drops {
 }
 
 /// A link that counts what it drops, by the reason.
-pub(crate) trait Counts {
+pub trait Counts {
     /// The counts so far.
     fn drops(&self) -> Drops;
 }
@@ -47,7 +47,7 @@ fn is_none(dropped: &Dropped) -> bool {
 }
 
 /// Tells which datagrams were dropped that were not sealed as they have to be, where some were.
-pub(crate) fn tell_unsealed<E: Write>(unsealed: Option<Dropped>, errors: &mut E) {
+pub fn tell_unsealed<E: Write>(unsealed: Option<Dropped>, errors: &mut E) {
     if let Some(dropped) = unsealed {
         if !is_none(&dropped) {
             let (bare, unknown, forged) = (dropped.not_sealed, dropped.strangers, dropped.forged);

@@ -33,7 +33,7 @@ fn put_most(device: &Device, cause: u64, object: &mut Object) {
 }
 
 /// What became of a datagram that came at a moment.
-pub(crate) fn arrival_object(
+pub fn arrival_object(
     alloc: Global,
     device: &Device,
     now: u64,
@@ -73,7 +73,7 @@ fn told_of<'a>(device: &'a Device, ran: &'a Ran) -> Told<'a> {
 }
 
 /// A block that ran, at a moment.
-pub(crate) fn dispatch_object(alloc: Global, device: &Device, now: u64, ran: &Ran) -> Object {
+pub fn dispatch_object(alloc: Global, device: &Device, now: u64, ran: &Ran) -> Object {
     let mut object = answer_object(alloc, &told_of(device, ran));
     object.number("time", now);
     put_most(device, ran.cause, &mut object);
@@ -84,7 +84,7 @@ pub(crate) fn dispatch_object(alloc: Global, device: &Device, now: u64, ran: &Ra
 }
 
 /// A turn that has ended, at a moment.
-pub(crate) fn turn_object(alloc: Global, now: u64, report: Report) -> Object {
+pub fn turn_object(alloc: Global, now: u64, report: Report) -> Object {
     let mut object = Object::new(alloc);
     object.text("answer", "turn");
     object.number("time", now);

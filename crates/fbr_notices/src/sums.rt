@@ -1,7 +1,7 @@
 //! What turns did, in all.
 
 ghost use Rattle.std.specs.Prelude.{◌≡◌, []};
-ghost use Rattle.fbr_serve.specs.Serving.{sums_of, with_report};
+ghost use Rattle.fbr_notices.specs.Sums.{sums_of, with_report};
 
 use fb_turn::Report;
 use std::fmt;
@@ -23,7 +23,7 @@ struct Came(Sums);
 
 impl fmt::Display for Came {
     ghost use Rattle.std.specs.Prelude.{Some};
-    ghost use Rattle.fbr_serve.specs.Serving.{came_text};
+    ghost use Rattle.fbr_notices.specs.Sums.{came_text};
 
     ghost output = { λ c. Some (came_text c.0) };
 
@@ -45,7 +45,7 @@ struct Went(Sums);
 
 impl fmt::Display for Went {
     ghost use Rattle.std.specs.Prelude.{Some};
-    ghost use Rattle.fbr_serve.specs.Serving.{went_text};
+    ghost use Rattle.fbr_notices.specs.Sums.{went_text};
 
     ghost output = { λ w. Some (went_text w.0) };
 
@@ -64,7 +64,7 @@ impl fmt::Display for Went {
 /// `fired 0 received 1 denied 0 ran 3 sent 1 lost 0`
 impl fmt::Display for Sums {
     ghost use Rattle.std.specs.Prelude.{Some};
-    ghost use Rattle.fbr_serve.specs.Serving.{sums_text};
+    ghost use Rattle.fbr_notices.specs.Sums.{sums_text};
 
     ghost output = { λ s. Some (sums_text s) };
 
@@ -77,7 +77,7 @@ impl fmt::Display for Sums {
 
 impl Sums {
     /// Before the first turn.
-    pub(crate) fn none() -> Sums
+    pub fn none() -> Sums
         ensures { result ≡ sums_of [] }
     {
         Sums {
@@ -91,7 +91,7 @@ impl Sums {
     }
 
     /// With one turn more. A sum stays where it can rise no more.
-    pub(crate) fn with(self, report: Report) -> Sums
+    pub fn with(self, report: Report) -> Sums
         ensures { result ≡ with_report self report }
     {
         Sums {

@@ -25,13 +25,13 @@ struct Station {
 
 /// What the devices of a system take.
 #[derive(Drop)]
-pub(crate) struct Shapes {
+pub struct Shapes {
     stations: Vec<Station>,
 }
 
 /// How a message differs from what is taken.
 #[derive(Clone, Copy)]
-pub(crate) enum Misfit {
+pub enum Misfit {
     /// It has the one format, and the other is taken.
     Format,
     /// It has so many values, and so many are taken.
@@ -128,7 +128,7 @@ impl Shape {
 
 impl Shapes {
     /// Those of a system; none if memory runs out.
-    pub(crate) fn of(alloc: Global, flat: &Flat) -> Shapes {
+    pub fn of(alloc: Global, flat: &Flat) -> Shapes {
         let stations = match stations_in(alloc, flat) {
             Ok(stations) => stations,
             Err(_) => Vec::new(alloc),
@@ -137,7 +137,7 @@ impl Shapes {
     }
 
     /// How a message to a device differs from what is taken there.
-    pub(crate) fn misfit(&self, device: &str, message: &Message) -> Misfit {
+    pub fn misfit(&self, device: &str, message: &Message) -> Misfit {
         for station in &self.stations {
             if station.name.as_str() == device {
                 for shape in &station.shapes {

@@ -86,7 +86,7 @@ fn field_of(fault: WireFault) -> &'static str {
 
 /// Why something was denied, in words, and how a message differs from what is taken.
 #[derive(Clone, Copy)]
-pub(crate) struct Why(pub Denied, pub Misfit);
+pub struct Why(pub Denied, pub Misfit);
 
 impl fmt::Display for Why {
     fn fmt<W: fmt::Write>(&self, f: &mut fmt::Formatter<W>) -> fmt::Result {
@@ -123,7 +123,7 @@ fn kind_of(denied: &Denied) -> usize {
 
 /// What turns came to so far.
 #[derive(Clone, Copy)]
-pub(crate) struct Past {
+pub struct Past {
     pub sums: Sums,
     /// Whether the device has waited since the last one.
     pub has_waited: bool,
@@ -146,7 +146,7 @@ fn tell_dropped<E: Write>(errors: &mut E, dropped: u64) {
 /// Tells people of a device on standard error: each denial and each datagram that was not taken, at most ten of a kind in a second, and more where that is
 /// asked for.
 #[derive(Drop)]
-pub(crate) struct Teller {
+pub struct Teller {
     is_verbose: bool,
     second: u64,
     shapes: Shapes,
@@ -163,7 +163,7 @@ pub(crate) struct Teller {
 
 impl Teller {
     /// One who has told nothing yet, of a device of a system that takes these.
-    pub(crate) fn new(telling: Telling, shapes: Shapes) -> Teller {
+    pub fn new(telling: Telling, shapes: Shapes) -> Teller {
         let seconds = telling.summary.unwrap_or(0);
         Teller {
             is_verbose: telling.is_verbose,
@@ -285,7 +285,7 @@ impl Teller {
     }
 
     /// A datagram came, and this was answered.
-    pub(crate) fn came<E: Write>(
+    pub fn came<E: Write>(
         &mut self,
         errors: &mut E,
         now: u64,
@@ -323,7 +323,7 @@ impl Teller {
     }
 
     /// A block ran, and the link took what it sent, if it sent something.
-    pub(crate) fn ran<E: Write>(
+    pub fn ran<E: Write>(
         &mut self,
         errors: &mut E,
         now: u64,
@@ -378,12 +378,12 @@ impl Teller {
     }
 
     /// A line could not be written.
-    pub(crate) fn lost_line(&mut self) {
+    pub fn lost_line(&mut self) {
         self.lost_lines = self.lost_lines.saturating_add(1);
     }
 
     /// Tells, once, that the record could not be written any more.
-    pub(crate) fn unrecorded<E: Write>(&mut self, errors: &mut E) {
+    pub fn unrecorded<E: Write>(&mut self, errors: &mut E) {
         if !self.is_unrecorded {
             self.is_unrecorded = true;
             let _ = writeln!(
@@ -394,13 +394,7 @@ impl Teller {
     }
 
     /// A turn begins, behind turns that did this. The time since the one before is that turn's, unless the device waited then.
-    pub(crate) fn turned<E: Write>(
-        &mut self,
-        errors: &mut E,
-        device: &Device,
-        now: u64,
-        past: &Past,
-    ) {
+    pub fn turned<E: Write>(&mut self, errors: &mut E, device: &Device, now: u64, past: &Past) {
         self.enter(errors, now);
         if past.is_unrecorded {
             self.unrecorded(errors);
@@ -451,12 +445,7 @@ impl Teller {
     }
 
     /// Tells what was left to tell, as the device ends: of the last second, the sums where they are told at all, and of lines that were lost.
-    pub(crate) fn close<E: Write>(
-        &mut self,
-        errors: &mut E,
-        device: &Device,
-        end: &Result<Sums, Stop>,
-    ) {
+    pub fn close<E: Write>(&mut self, errors: &mut E, device: &Device, end: &Result<Sums, Stop>) {
         let last = self.last_turn;
         self.enter(errors, u64::MAX);
         if let Ok(sums) = end {
