@@ -3,24 +3,9 @@
 //! (9, 61, 62, or status 3), and what help, `explain` and `draw` write.
 #![tactic(auto)]
 
-mod bound;
-mod check;
-mod draw;
-mod explain;
-mod given;
-mod json;
-mod kept;
-mod misread;
-mod noted;
 mod order;
-mod pack;
 mod piped;
-mod play;
-mod replay;
 mod run;
-mod runs;
-mod serve;
-mod sim;
 mod together;
 
 pub use piped::input_named;

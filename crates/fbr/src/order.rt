@@ -13,14 +13,11 @@ ghost use Rattle.fbr.specs.Answers as answers;
 ghost use Rattle.fbr.specs.Answers.{AnswersOrder, AnswersTogether, NamesWritten, TellsFirst, TellsOutcome};
 ghost use Rattle.fbr.specs.Together.{IsJoined};
 
-use crate::explain::explain_placed;
-use crate::given::named;
-use crate::json::{clash_told, print_told, refused};
-use crate::kept::{OVERWRITTEN, is_read, overwrites};
-use crate::misread::misused;
 use crate::run::answer;
 use crate::together::{Stopped, joined_of, typing_fault};
 use fbr_files::{Fault, FileText, Sources, print_placed};
+use fbr_runs::{OVERWRITTEN, is_read, overwrites};
+use fbr_static::{clash_told, explain_placed, misused, named, print_told, refused};
 use fbr_tell::{Given, Held, NamedFile, hint};
 use fbr_texts::{Joined, Meant, Part};
 use fbr_words::{Order, Request};

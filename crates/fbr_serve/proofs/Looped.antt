@@ -1,4 +1,5 @@
 -- Turns of a device one after another, and what is told of them.
+use Rattle.std.proofs.KnownBytes.{Appends-nil, Appends-trans}
 use Rattle.std.proofs.Common.{◌≡◌, ◌≤◌, ◌<◌, ◌+◌, ◌*◌, ℕ, Bool, true, false, not, List, [], ◌∷◌, ◌++◌, length, map, refl, sym, ap, ap₂, subst, ◌∙◌, arith, append_assoc, append-nil, length-append, Option, Some, None, Result, Ok, Err, IfOk}
 use Rattle.std.specs.List.{flat_map, sum_by, AllByRecursion}
 use Rattle.std.specs.Io.KnownBytes.{Appends, Keeps}
@@ -27,7 +28,7 @@ use Rattle.fbr_notices.specs.Sums.{TurnAt, capped, sums_of, with_report}
 use Rattle.fbr_serve.specs.Serving.{Anything, IsTaken, Turns, IsWhole, IsCutOff, write_line, turn_lines, lines_of, sight_lines, EndsTurn, PrintsTurn, EndsCutOff, EndAs, Prints, EndsByOutput, IsServed, Over, LinkAsks, failed_in, unasked, AreOf, TellsStop, TellsTurns}
 use Rattle.fbr_serve.specs.Recording.{Held, Records, RecordsTurn}
 use Rattle.fbr_serve.proofs.Recorded.{none_recorded, more_recorded}
-use Rattle.fbr_serve.proofs.Served.{more_lines, more_sums, more_turns, takes_none, takes_more}
+use Rattle.fbr_serve.proofs.Served.{more_lines, more_sums, more_turns}
 use Rattle.fbr_serve.proofs.Traced.{Step, turns_traced}
 
 -- ---- the loop
@@ -88,7 +89,7 @@ module _ {L : Type 0} (calls : L → LinkCall → L → Type 0) (count : L → �
         as_many = refl;
         whole = tt;
         sums_are = e;
-        printed = λ _. takes_none old.printed;
+        printed = λ _. Appends-nil old.printed;
         recorded = none_recorded old.recorded;
         verified = refl;
         number = refl;
@@ -108,7 +109,7 @@ module _ {L : Type 0} (calls : L → LinkCall → L → Type 0) (count : L → �
         as_many = length-append h.all (x ∷ []) ∙ ap (λ i. i + 1) h.as_many;
         whole = all_append (λ y. IsWhole (device_in first) y.turn) h.all (x ∷ []) h.whole (whole, tt);
         sums_are = e ∙ ap₂ with_report h.sums_are d.ends.1 ∙ sym (more_sums h.all x);
-        printed = λ is. subst (Appends old.printed new.printed) (sym (more_lines telling.clock h.all x)) (takes_more old.printed mid.printed new.printed (lines_of telling.clock h.all) (turn_lines telling.clock x) (h.printed (none is).0) (d.printed (none is).1));
+        printed = λ is. subst (Appends old.printed new.printed) (sym (more_lines telling.clock h.all x)) (Appends-trans old.printed mid.printed new.printed (lines_of telling.clock h.all) (turn_lines telling.clock x) (h.printed (none is).0) (d.printed (none is).1));
         recorded = more_recorded old.recorded mid.recorded new.recorded h.all x h.recorded d.recorded;
         verified = d.verified ∙ h.verified;
         number = d.number ∙ h.number;
@@ -155,7 +156,7 @@ module _ {L : Type 0} (calls : L → LinkCall → L → Type 0) (count : L → �
       turns = more_turns (cert_in first) (device_in first) calls count (machine_of first) l h.all (machine_of now) m x (machine_of then) o h.turns (again calls count first now m x then o h.verified h.number d.taken)
 
       printed : Prints telling.clock old.printed new.printed all either
-      printed = λ e. subst (Appends old.printed new.printed) (sym (more_lines telling.clock h.all x)) (takes_more old.printed mid.printed new.printed (lines_of telling.clock h.all) (turn_lines telling.clock x) (h.printed (none e).0) (d.printed (none e).1))
+      printed = λ e. subst (Appends old.printed new.printed) (sym (more_lines telling.clock h.all x)) (Appends-trans old.printed mid.printed new.printed (lines_of telling.clock h.all) (turn_lines telling.clock x) (h.printed (none e).0) (d.printed (none e).1))
 
       recorded : Records old.recorded new.recorded all
       recorded = more_recorded old.recorded mid.recorded new.recorded h.all x h.recorded d.recorded

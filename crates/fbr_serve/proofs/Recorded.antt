@@ -1,4 +1,5 @@
 -- What a turn writes into its record.
+use Rattle.std.proofs.KnownBytes.{Appends-nil, Appends-trans}
 use Rattle.std.proofs.Common.{◌≡◌, ℕ, Bool, true, false, List, [], ◌∷◌, ◌++◌, map, refl, sym, ap, ap₂, subst, ◌∙◌, append_assoc, append-nil, Option}
 use Rattle.std.specs.List.{flat_map}
 use Rattle.std.specs.Io.KnownBytes.{Appends}
@@ -7,7 +8,6 @@ use Rattle.fb_record.specs.Records.{end_text, line_of, start_text, words_text}
 use Rattle.fb_turn.specs.Turns.{Turn, Receipt, Service as Dispatch, Chain, Sight, coming, serving, sights_of, is_cut}
 use Rattle.fbr_notices.specs.Sums.{TurnAt}
 use Rattle.fbr_serve.specs.Recording.{Held, RecordsTurn, Records, entry_of, record_line, sight_word}
-use Rattle.fbr_serve.proofs.Served.{takes_none, takes_more}
 
 -- ---- two things that each step does
 
@@ -76,14 +76,14 @@ turn_recorded held s0 s1 s2 s3 l0 l1 l2 l3 begun grown x down same1 begins same2
 -- ---- the lines of turns
 
 pub none_recorded : (old : Held) → Records old old []
-none_recorded old = λ e. (e, takes_none old.bytes)
+none_recorded old = λ e. (e, Appends-nil old.bytes)
 
 pub more_recorded : (old mid new : Held) (xs : List TurnAt) (x : TurnAt) → Records old mid xs → RecordsTurn mid new x → Records old new (xs ++ x ∷ [])
 more_recorded old mid new xs x h k = λ e.
     let last = k e in
     let before = h last.0 in
     let lines : flat_map record_line (xs ++ x ∷ []) ≡ flat_map record_line xs ++ record_line x = flat_map-append record_line xs (x ∷ []) ∙ ap (λ t. flat_map record_line xs ++ t) (append-nil (record_line x)) in
-    (before.0, subst (λ t. Appends old.bytes new.bytes t) (sym lines) (takes_more old.bytes mid.bytes new.bytes (flat_map record_line xs) (record_line x) before.1 last.1))
+    (before.0, subst (λ t. Appends old.bytes new.bytes t) (sym lines) (Appends-trans old.bytes mid.bytes new.bytes (flat_map record_line xs) (record_line x) before.1 last.1))
 
 -- what is said of a recorder is said of the same one by other names
 pub at_last : {S : Type 0} (held : S → Option (List ℕ)) (old : Held) (s t : S) (l m : Bool) (x : TurnAt) → t ≡ s → m ≡ l → RecordsTurn old (record { bytes = held s; lost = l }) x → RecordsTurn old (record { bytes = held t; lost = m }) x

@@ -1,4 +1,5 @@
 -- Turns of a device, and what they print.
+use Rattle.std.proofs.KnownBytes.{Appends-nil, Appends-trans}
 use Rattle.std.proofs.Common.{◌≡◌, ◌≤◌, ◌<◌, ◌+◌, ◌*◌, ℕ, Bool, true, false, not, List, [], ◌∷◌, ◌++◌, length, map, refl, sym, ap, ap₂, subst, ◌∙◌, arith, append_assoc, append-nil, length-append, Option, Some, None, Result, Ok, Err, IfOk}
 use Rattle.std.specs.List.{flat_map, sum_by, AllByRecursion}
 use Rattle.std.specs.Io.KnownBytes.{Appends, Keeps}
@@ -25,24 +26,6 @@ use Rattle.fbr_notices.specs.declared.stop.Stop.TheVariants as stops
 use Rattle.fbr_serve.specs.declared.turns.Ran.{Ran}
 use Rattle.fbr_notices.specs.Sums.{TurnAt, capped, sums_of, with_report}
 use Rattle.fbr_serve.specs.Serving.{Anything, IsTaken, Turns, IsWhole, IsCutOff, write_line, turn_lines, lines_of, sight_lines, EndsTurn, PrintsTurn, EndsCutOff, EndAs, Prints, EndsByOutput, IsServed, Over, LinkAsks, failed_in, unasked, AreOf, TellsStop, TellsTurns}
-
--- ---- bytes that a writer takes
-
-pub takes_none : (o : Option (List ℕ)) → Appends o o []
-takes_none None = tt
-takes_none (Some xs) = sym (append-nil xs)
-
-pub takes_more : (a b c : Option (List ℕ)) (x y : List ℕ) → Appends a b x → Appends b c y → Appends a c (x ++ y)
-takes_more None b c x y h k = tt
-takes_more (Some xs) None c x y h k = absurd h
-takes_more (Some xs) (Some ys) None x y h k = absurd k
-takes_more (Some xs) (Some ys) (Some zs) x y h k = k ∙ (ap (λ t. t ++ y) h ∙ append_assoc xs x y)
-
-pub takes_kept : (a b c : Option (List ℕ)) (x : List ℕ) → Appends a b x → Keeps b c → Appends a c x
-takes_kept None b c x h k = tt
-takes_kept (Some xs) None c x h k = absurd h
-takes_kept (Some xs) (Some ys) None x h k = absurd k
-takes_kept (Some xs) (Some ys) (Some zs) x h k = k ∙ h
 
 -- ---- one turn
 
@@ -73,12 +56,12 @@ Puts name now timed lost held p text q = (name q ≡ name p) × (now q ≡ now p
 pub puts_all : {P N : Type 0} (name : P → N) (now : P → ℕ) (timed : P → Bool) (lost : P → Bool) (held : P → Option (List ℕ)) (clock : Bool) (moment : ℕ) (all : List Sight) (p q : P) → timed p ≡ clock → now p ≡ moment
     → Chain (λ a x b. Puts name now timed lost held a (sight_lines (timed a) (now a) x) b) p all q → lost q ≡ false → (lost p ≡ false) × Appends (held p) (held q) (flat_map (sight_lines clock moment) all)
 puts_all name now timed lost held clock moment [] p q c m h e =
-    (ap lost h ∙ e, subst (λ b. Appends (held p) (held b) []) h (takes_none (held p)))
+    (ap lost h ∙ e, subst (λ b. Appends (held p) (held b) []) h (Appends-nil (held p)))
 puts_all name now timed lost held clock moment (x ∷ xs) p q c m h e =
     let rest = puts_all name now timed lost held clock moment xs h.0 q (h.1.2 ∙ c) (h.1.1 ∙ m) h.2 e in
     let first = h.1.3 rest.0 in
     let here : Appends (held p) (held h.0) (sight_lines clock moment x) = subst (λ b. Appends (held p) (held h.0) (sight_lines b moment x)) c (subst (λ n. Appends (held p) (held h.0) (sight_lines (timed p) n x)) m first.1) in
-    (first.0, takes_more (held p) (held h.0) (held q) (sight_lines clock moment x) (flat_map (sight_lines clock moment) xs) here rest.1)
+    (first.0, Appends-trans (held p) (held h.0) (held q) (sight_lines clock moment x) (flat_map (sight_lines clock moment) xs) here rest.1)
 
 pub puts_name : {P N : Type 0} (name : P → N) (now : P → ℕ) (timed : P → Bool) (lost : P → Bool) (held : P → Option (List ℕ)) (all : List Sight) (p q : P)
     → Chain (λ a x b. Puts name now timed lost held a (sight_lines (timed a) (now a) x) b) p all q → name q ≡ name p

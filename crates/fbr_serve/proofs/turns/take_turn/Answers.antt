@@ -1,3 +1,4 @@
+use Rattle.std.proofs.KnownBytes.{Appends-kept}
 use Rattle.std.proofs.Common.{◌≡◌, ◌∙◌, false, true, length, subst, refl, sym, ap, rules}
 use Rattle.std.specs.Prelude.{is_err}
 use Rattle.std.specs.Io.KnownBytes.{Appends}
@@ -6,7 +7,7 @@ use Rattle.fb_turn.specs.Turns.{IsTold, is_cut, sights_of}
 use Rattle.fbr_notices.specs.Sums.{TurnAt}
 use Rattle.fbr_serve.specs.Serving.{PrintsTurn, sight_lines, turn_lines}
 use Rattle.fbr_serve.specs.Recording.{RecordsTurn, sight_word}
-use Rattle.fbr_serve.proofs.Served.{Puts, any_watch, puts_all, puts_name, takes_kept, turn_prints}
+use Rattle.fbr_serve.proofs.Served.{Puts, any_watch, puts_all, puts_name, turn_prints}
 use Rattle.fbr_serve.proofs.Recorded.{Grows, at_last, firsts, seconds, grows_all, turn_recorded}
 use Rattle.fbr_serve.proofs.turns.take_turn.Goals as goal
 
@@ -23,7 +24,7 @@ returns-in-Ok-clause-taken g c =
     let name = puts_name (λ p. p.output.ghost_name) (λ p. p.when.now) (λ p. p.when.is_told) (λ p. p.is_lost) (λ p. g.W.Write.contents p.output.now) (sights_of e.0) _ watch prints in
     let printed : PrintsTurn c.args.when.is_told (g.W.Write.contents c.args.output.now) (g.W.Write.contents c.flushed.new.output) x c.either-is_lost.result = λ none.
     let puts = puts_all (λ p. p.output.ghost_name) (λ p. p.when.now) (λ p. p.when.is_told) (λ p. p.is_lost) (λ p. g.W.Write.contents p.output.now) c.args.when.is_told c.args.when.now (sights_of e.0) _ watch refl refl prints (c.either-is_lost.ensures none).1 in
-    takes_kept (g.W.Write.contents c.args.output.now) (g.W.Write.contents watch.output.now) (g.W.Write.contents c.flushed.new.output) (turn_lines c.args.when.is_told x)
+    Appends-kept (g.W.Write.contents c.args.output.now) (g.W.Write.contents watch.output.now) (g.W.Write.contents c.flushed.new.output) (turn_lines c.args.when.is_told x)
     (subst (Appends (g.W.Write.contents c.args.output.now) (g.W.Write.contents watch.output.now)) (turn_prints c.args.when.is_told c.args.when.now e.0) puts.1) c.flushed.ensures in
     let grown = grows_all (λ p. p.notes.ghost_name) (λ p. p.notes.now.recorder.stream) (λ p. p.notes.now.recorder.is_lost) (λ p. p.notes.now.recorder.line.items) (sights_of e.0) _ watch notes in
     let same = grown.0 in
@@ -50,7 +51,7 @@ returns-in-Err-clause-taken g c =
     let name = puts_name (λ p. p.output.ghost_name) (λ p. p.when.now) (λ p. p.when.is_told) (λ p. p.is_lost) (λ p. g.W.Write.contents p.output.now) (sights_of e.0) _ watch prints in
     let printed : PrintsTurn c.args.when.is_told (g.W.Write.contents c.args.output.now) (g.W.Write.contents c.flushed.new.output) x c.either-is_lost.result = λ none.
     let puts = puts_all (λ p. p.output.ghost_name) (λ p. p.when.now) (λ p. p.when.is_told) (λ p. p.is_lost) (λ p. g.W.Write.contents p.output.now) c.args.when.is_told c.args.when.now (sights_of e.0) _ watch refl refl prints (c.either-is_lost.ensures none).1 in
-    takes_kept (g.W.Write.contents c.args.output.now) (g.W.Write.contents watch.output.now) (g.W.Write.contents c.flushed.new.output) (turn_lines c.args.when.is_told x)
+    Appends-kept (g.W.Write.contents c.args.output.now) (g.W.Write.contents watch.output.now) (g.W.Write.contents c.flushed.new.output) (turn_lines c.args.when.is_told x)
     (subst (Appends (g.W.Write.contents c.args.output.now) (g.W.Write.contents watch.output.now)) (turn_prints c.args.when.is_told c.args.when.now e.0) puts.1) c.flushed.ensures in
     let grown = grows_all (λ p. p.notes.ghost_name) (λ p. p.notes.now.recorder.stream) (λ p. p.notes.now.recorder.is_lost) (λ p. p.notes.now.recorder.line.items) (sights_of e.0) _ watch notes in
     let same = grown.0 in

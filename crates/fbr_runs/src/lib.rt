@@ -1,0 +1,16 @@
+//! Room: program. The commands of `fbr` that run devices: `sim`, `play`, `replay` and `serve`; and the files in which something of a run is kept.
+//! What is told at the end is true of the run, and no file is written but those that the words name. Not said: what of a run is shown on the way, and what JSON says.
+#![tactic(auto)]
+
+mod kept;
+mod play;
+mod replay;
+mod runs;
+mod serve;
+mod sim;
+
+pub use kept::{OVERWRITTEN, is_read, overwrites};
+pub use play::play;
+pub use replay::replay;
+pub use serve::serve;
+pub use sim::sim;
