@@ -77,6 +77,16 @@ fn word_of(request: &Request<'_>) -> &'static str {
     }
 }
 
+// Whether all faults of the application's text are told.
+fn wants_all(request: &Request<'_>) -> bool {
+    match request {
+        Request::Bound(request) => request.is_all,
+        Request::Check(request) => request.is_all,
+        Request::Explain(request) => request.is_all,
+        _ => false,
+    }
+}
+
 // Whether a file that is to be written is one of those whose block types stand before the application.
 fn overwrites_one<S: Sources>(files: &S, request: &Request<'_>, name: &str, names: &[&str]) -> bool
     ensures { result ≡ true → NamesWritten (asked_of request.now) }
@@ -132,6 +142,10 @@ fn refuse<W: Write, E: Write>(
     ensures status { IfOk result (λ status. status ≤ 4) }
 {
     let is_page = explains(request);
+    let given = Given {
+        is_all: wants_all(request),
+        ..given
+    };
     if is_json(request) {
         let command = word_of(request);
         if !is_page {
