@@ -8,8 +8,6 @@ mod pattern;
 mod search;
 mod signal;
 mod signals;
-#[cfg(test)]
-mod tests;
 
 pub use fault::Unwatched;
 pub use signal::{Owner, Shown, Signal, Site, Station};

@@ -7,8 +7,6 @@ mod clock;
 mod columns;
 mod lane;
 mod picture;
-#[cfg(test)]
-mod tests;
 mod timeline;
 mod xml;
 

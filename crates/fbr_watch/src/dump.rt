@@ -18,8 +18,8 @@ $comment A millisecond of the device's clock has 1000 us: within it each dispatc
 $timescale 1 us $end
 ";
 
-/// Writes the identifier of a number: its digits, the lowest first.
-pub(crate) fn write_identifier<W: Write>(number: usize, out: &mut W) -> io::Result<()> {
+// Writes the identifier of a number: its digits, the lowest first.
+fn write_identifier<W: Write>(number: usize, out: &mut W) -> io::Result<()> {
     let mut left = number;
     for _ in 0..LONGEST {
         let digit = u8::try_from(left % CHARACTERS).unwrap_or(0);

@@ -9,8 +9,6 @@ mod lanes;
 mod lines;
 mod objects;
 mod table;
-#[cfg(test)]
-mod tests;
 mod value;
 mod watcher;
 mod watching;

@@ -10,8 +10,8 @@ fn is_quoted(field: &str) -> bool {
     field.contains(',') || field.contains('"') || field.contains('\n') || field.contains('\r')
 }
 
-/// Writes a field, in quotes where it has to be.
-pub(crate) fn write_field<W: Write>(field: &str, out: &mut W) -> io::Result<()> {
+// Writes a field, in quotes where it has to be.
+fn write_field<W: Write>(field: &str, out: &mut W) -> io::Result<()> {
     if !is_quoted(field) {
         return out.write_all(field.as_bytes());
     }
