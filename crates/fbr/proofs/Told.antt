@@ -20,8 +20,8 @@ use Rattle.fbr_texts.specs.Parts.{Start}
 use Rattle.fbr_find.specs.Bounding.{IsSoughtText, IsSoughtFault, IsTypedFault}
 use Rattle.fbr_serve.proofs.Served.{takes_more}
 use Rattle.fbr_sim.specs.Simulation.{TellsScript}
-use Rattle.fbr_play.specs.Scores.{TellsEnd as TellsLast, TellsStories}
-use Rattle.fbr_play.specs.declared.score.Score.{Score}
+use Rattle.fbr_score.specs.Scores.{TellsEnd as TellsLast, TellsStories}
+use Rattle.fbr_score.specs.declared.score.Score.{Score}
 use Rattle.fbr_serve.specs.Serving.{TellsServe}
 use Rattle.fbr.specs.Together.{IsJoined, IsJoinFault}
 use Rattle.fbr.specs.Answers.{OrJson, IsCounted, OrNoted, IsClash, IsPutOut, written, TellsBound, a_clash, a_text, no_text, Begins, IsAloneOutcome, TellsAlone, TellsVerdict, TellsBeside, TellsExplain, is_plain, AreKeptApart, TellsSimulated, TellsSim, cert_in, TellsPlayed, TellsFound, TellsWith, ArePlayedApart, TellsPlays, TellsServed, TellsPack, packs_itself, packs, packs_none, Answers, NamesWritten, TellsFirst, TellsOutcome, json_of, explains, AnswersTogether, writes_one, joins_none, types_none, answers_one, AnswersOver}

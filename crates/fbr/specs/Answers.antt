@@ -16,7 +16,7 @@ use Rattle.clap.specs.Words.{Text}
 use Rattle.fbr_find.specs.Bounding.{IsSoughtText, IsSoughtFault, IsTypedFault}
 use Rattle.fbr_texts.specs.Parts.{Start}
 use Rattle.fbr_sim.specs.Simulation.{TellsScript}
-use Rattle.fbr_play.specs.Scores.{TellsStories}
+use Rattle.fbr_score.specs.Scores.{TellsStories}
 use Rattle.fbr_seals.specs.Making.{TellsKey}
 use Rattle.fbr_serve.specs.Serving.{TellsServe}
 use Rattle.fbr.specs.Together.{IsJoined, IsJoinFault}

@@ -7,7 +7,7 @@ ghost use Rattle.fbr_files.specs.Writing.{LeavesAll};
 ghost use Rattle.fbr_words.specs.Program.{a_play, written_by};
 ghost use Rattle.fbr_files.specs.Reading.{held_by};
 ghost use Rattle.fbr_words.specs.Requests.{meant_of, plays_of};
-ghost use Rattle.fbr_play.specs.Scores.{TellsStories};
+ghost use Rattle.fbr_score.specs.Scores.{TellsStories};
 ghost use Rattle.fbr.specs.Answers as answers;
 ghost use Rattle.fbr.specs.Answers.{ArePlayedApart, NamesOne, OrJson, TellsFound, TellsPlayed, TellsPlays};
 
@@ -18,7 +18,8 @@ use crate::runs::play_json;
 use fbr_check::{files_verified, texts_verified};
 use fbr_files::{Fault, FileText, Sources, print_outcome, read_app, read_file};
 use fbr_find::read_wanted;
-use fbr_play::{Played, Score, Stories, play_all, print_end};
+use fbr_play::{Played, Stories, play_all};
+use fbr_score::{Score, print_end};
 use fbr_watch::Seen;
 use fbr_words::{Bound, Play};
 use std::alloc::Global;
