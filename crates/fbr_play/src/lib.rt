@@ -3,15 +3,9 @@
 #![tactic(auto)]
 
 mod blocks;
-mod course;
-mod failure;
-mod looking;
 mod notes;
-mod playing;
 mod report;
-mod seen;
 mod stories;
 mod story_file;
-mod telling;
 
 pub use stories::{Played, Stories, play_all};

@@ -1,6 +1,6 @@
 //! Reports of stories as JUnit XML, which test servers read.
 
-use crate::failure::{Case, Failure};
+use fbr_course::{Case, Failure};
 use fbr_places::Writing;
 use fbr_score::Score;
 use fbr_timeline::{put_attribute, put_escaped};
