@@ -1,7 +1,7 @@
 //! What is told and kept of stories: how their sequences went, a report, and what has changed.
 
-use crate::failure::{Case, Failure};
 use crate::report::Report;
+use fbr_course::{Case, Failure};
 use fbr_watch::Watching;
 use std::alloc::Global;
 use std::io;

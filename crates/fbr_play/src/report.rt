@@ -1,8 +1,8 @@
 //! Reports of stories as JUnit XML, which test servers read.
 
-use crate::failure::{Case, Failure};
-use crate::score::Score;
+use fbr_course::{Case, Failure};
 use fbr_places::Writing;
+use fbr_score::Score;
 use fbr_timeline::{put_attribute, put_escaped};
 use std::alloc::{AllocError, Global};
 

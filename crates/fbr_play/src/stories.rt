@@ -2,12 +2,12 @@
 
 use crate::notes::Notes;
 use crate::report::Report;
-use crate::score::Score;
 use crate::story_file::{Stage, Unplayed, play_story};
 use fb_device::{release, share};
 use fb_verified::Verified;
 use fbr_files::{Fault, Sources, read_file};
 use fbr_places::Named;
+use fbr_score::Score;
 use fbr_signals::Signals;
 use fbr_watch::{Seen, Wish};
 use std::alloc::Global;

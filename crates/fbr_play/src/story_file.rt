@@ -1,15 +1,13 @@
 //! Plays the story of a file.
 
 use crate::blocks::Blocks;
-use crate::failure::{Case, Failure};
 use crate::notes::Notes;
-use crate::playing::play_sequence;
-use crate::score::Score;
-use crate::telling::Telling;
 use fb_lex::{TextFault, Token, lex};
 use fb_verified::Verified;
 use fbr_alone::subjects_in;
+use fbr_course::{Case, Failure, Telling, play_sequence};
 use fbr_places::{Named, Spot, Writing, tell_where};
+use fbr_score::Score;
 use fbr_story::{Fault, Names, Sequence, Span, read_story};
 use fbr_watch::Watching;
 use std::alloc::{AllocError, Global};

@@ -1,16 +1,12 @@
 //! Room: program. Error recovery: all faults of a text, and none that only follows from another one.
-//! Each declaration is read, typed and wired by itself, and in it each statement, state, transition, instance and connection.
+//! Each declaration is read, typed (`fbr_recovery_types`) and wired by itself, and in it each statement, state, transition, instance and connection.
 //! No contracts: what it finds is tested.
 #![tactic(auto)]
 
-mod charts;
-mod faces;
 mod networks;
 mod numbers;
 mod recovered;
 mod rings;
-mod types;
-mod variables;
 
 pub use fbr_recovery_text::{Mistake, part_around};
 pub use recovered::{Recovered, recover};

@@ -1,13 +1,12 @@
 //! Networks, instance by instance and connection by connection.
 
-use crate::types::{Part, Types};
-use crate::variables::declare;
 use fb_tree::{ConnectionTree, InstanceTree, Name, NetworkTree, PortTree};
 use fb_types_blocks::{Face, TypeFault};
 use fb_types_networks::{Body, Instance, Parameter, plain, served};
 use fb_types_services::{Channel, Service};
 use fb_words::{ElemType, Format};
 use fbr_recovery_text::{Found, Reading};
+use fbr_recovery_types::{Part, Types, declare};
 use indexmap::{IndexMap, IndexSet};
 use st_types::widens;
 use std::alloc::{AllocError, Global};

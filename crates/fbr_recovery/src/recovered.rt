@@ -3,14 +3,13 @@
 use crate::networks::Beside;
 use crate::numbers::tell_numbers;
 use crate::rings::tell_rings;
-use crate::types::Types;
-use crate::variables::declare;
 use fb_lex::Token;
 use fb_tree::{BlockTree, BodyTree, DeviceTree, FileTree, SystemTree};
 use fb_types_blocks::TypeFault;
 use fbr_recovery_text::{
     Found, Lexed, MOST, Mistake, Reading, Text, mistake_of, read_text, read_tokens,
 };
+use fbr_recovery_types::{Types, declare};
 use indexmap::IndexSet;
 use std::alloc::{AllocError, Global};
 

@@ -1,9 +1,9 @@
 //! Composites inside themselves.
 
-use crate::types::Types;
 use fb_tree::{BlockTree, BodyTree, InstanceTree};
 use fb_types_blocks::TypeFault;
 use fbr_recovery_text::Found;
+use fbr_recovery_types::Types;
 use std::alloc::{AllocError, Global};
 
 // A type on the way, and how many of its instances were looked at.

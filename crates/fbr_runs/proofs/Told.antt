@@ -10,8 +10,8 @@ use Rattle.fbr_files.specs.Writing.{Sameness, Holdings, LeavesAllBut, LeavesAll}
 use Rattle.fbr_words.specs.Program.{Watching, Simulating, Plays, Service, if_named, state_file}
 use Rattle.fbr_check.specs.Verdicts.{IsVerified}
 use Rattle.fbr_sim.specs.Simulation.{TellsScript}
-use Rattle.fbr_play.specs.Scores.{TellsEnd as TellsLast, TellsStories}
-use Rattle.fbr_play.specs.declared.score.Score.{Score}
+use Rattle.fbr_score.specs.Scores.{TellsEnd as TellsLast, TellsStories}
+use Rattle.fbr_score.specs.declared.score.Score.{Score}
 use Rattle.fbr_serve.specs.Serving.{TellsServe}
 use Rattle.fbr_runs.specs.Runs.{is_plain, AreKeptApart, TellsSimulated, TellsSim, cert_in, TellsPlayed, TellsFound, TellsWith, ArePlayedApart, TellsPlays, TellsServed}
 use Rattle.fbr_static.proofs.Told.{all_more, all_one}

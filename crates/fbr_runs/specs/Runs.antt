@@ -10,7 +10,7 @@ use Rattle.fbr_files.specs.Writing.{Sameness, Holdings, AreApart, LeavesAllBut}
 use Rattle.fbr_words.specs.Program.{Watching, Simulating, Plays, Replaying, Service, state_file}
 use Rattle.fbr_check.specs.Verdicts.{IsFilesOutcome, IsVerified}
 use Rattle.fbr_sim.specs.Simulation.{TellsScript}
-use Rattle.fbr_play.specs.Scores.{TellsStories}
+use Rattle.fbr_score.specs.Scores.{TellsStories}
 use Rattle.fbr_serve.specs.Serving.{TellsServe}
 use Rattle.fbr_static.specs.Told.{OrJson}
 

@@ -1,7 +1,7 @@
 //! How sequences went, in all.
 
 ghost use Rattle.std.specs.Prelude.{◌≡◌, ◌≤◌, IfOk};
-ghost use Rattle.fbr_play.specs.Scores.{TellsEnd, TellsScore, status_of};
+ghost use Rattle.fbr_score.specs.Scores.{TellsEnd, TellsScore, counted, no_score, status_of, with_score, with_sequence};
 
 use fbr_files::{Fault, print_outcome};
 use std::io::Write;
@@ -17,7 +17,7 @@ pub struct Score {
 /// `12 passed, 1 failed`
 impl fmt::Display for Score {
     ghost use Rattle.std.specs.Prelude.{Some};
-    ghost use Rattle.fbr_play.specs.Scores.{score_text};
+    ghost use Rattle.fbr_score.specs.Scores.{score_text};
 
     ghost output = { λ s. Some (score_text s) };
 
@@ -29,7 +29,9 @@ impl fmt::Display for Score {
 
 impl Score {
     /// Before the first sequence.
-    pub(crate) fn none() -> Score {
+    pub fn none() -> Score
+        ensures { result ≡ no_score }
+    {
         Score {
             passed: 0,
             failed: 0,
@@ -37,7 +39,9 @@ impl Score {
     }
 
     /// With the sequences of another story. A count stays where it can rise no more.
-    pub(crate) fn with(self, other: Score) -> Score {
+    pub fn with(self, other: Score) -> Score
+        ensures { result ≡ with_score self other }
+    {
         Score {
             passed: self.passed.saturating_add(other.passed),
             failed: self.failed.saturating_add(other.failed),
@@ -45,15 +49,19 @@ impl Score {
     }
 
     /// With a sequence more, which failed or passed.
-    pub(crate) fn after(self, is_failed: bool) -> Score {
+    pub fn after(self, is_failed: bool) -> Score
+        ensures { result ≡ with_sequence self is_failed }
+    {
         self.with(Score {
             passed: if is_failed { 0 } else { 1 },
             failed: if is_failed { 1 } else { 0 },
         })
     }
 
-    /// How many sequences were played.
-    pub(crate) fn count(self) -> u64 {
+    /// How many sequences were played. The count stays where it can rise no more.
+    pub fn count(self) -> u64
+        ensures { result ≡ counted self }
+    {
         self.passed.saturating_add(self.failed)
     }
 

@@ -11,10 +11,10 @@ use std::alloc::{AllocError, Global};
 
 /// A story that people are told of: its text and tokens, and its names.
 #[derive(Clone, Copy)]
-pub(crate) struct Telling<'a, 'n> {
-    pub(crate) text: &'a str,
-    pub(crate) tokens: &'a [Token],
-    pub(crate) names: &'n Names<'a>,
+pub struct Telling<'a, 'n> {
+    pub text: &'a str,
+    pub tokens: &'a [Token],
+    pub names: &'n Names<'a>,
 }
 
 // Writes a text in one line.

@@ -1,10 +1,30 @@
 -- How stories went, and what is told of it: this project's profile.
-use Rattle.std.specs.Prelude.{◌≡◌, ℕ, nat_lt, List, [], ◌∷◌, ◌++◌, Option, Result, Ok, Err, codes, if◌then◌else◌}
+use Rattle.std.specs.Prelude.{◌≡◌, ℕ, ◌+◌, nat_lt, min, Bool, List, [], ◌∷◌, ◌++◌, Option, Result, Ok, Err, codes, if◌then◌else◌}
 use Rattle.std.specs.Fmt.{decimal}
 use Rattle.std.specs.Io.KnownBytes.{Appends}
 use Rattle.fbr_files.specs.declared.fault.Fault.{Fault}
 use Rattle.fbr_files.specs.Outcomes.{Tells, refusal}
-use Rattle.fbr_play.specs.declared.score.Score.{Score}
+use Rattle.fbr_score.specs.declared.score.Score.{Score}
+
+-- a count of 64 bits stays where it can rise no more
+abbrev pub capped : ℕ → ℕ
+capped n = min n 18446744073709551615
+
+-- before the first sequence
+abbrev pub no_score : Score
+no_score = record { passed = 0; failed = 0 }
+
+-- with the sequences of another story
+abbrev pub with_score : Score → Score → Score
+with_score s t = record { passed = capped (s.passed + t.passed); failed = capped (s.failed + t.failed) }
+
+-- with a sequence more, which failed or passed
+abbrev pub with_sequence : Score → Bool → Score
+with_sequence s failed = with_score s (record { passed = if failed then 0 else 1; failed = if failed then 1 else 0 })
+
+-- how many sequences were played
+abbrev pub counted : Score → ℕ
+counted s = capped (s.passed + s.failed)
 
 -- `12 passed, 1 failed`
 abbrev pub score_text : Score → List ℕ

@@ -14,7 +14,7 @@ use std::rc::Rc;
 
 /// The types of a text and the event blocks behind them, by their names: of two types of one name the first.
 #[derive(Drop)]
-pub(crate) struct Types {
+pub struct Types {
     faces: Vec<Rc<Face>>,
     numbers: IndexMap<String, usize>,
     /// A network of nothing: which instances a composite has is not asked for.
@@ -23,9 +23,9 @@ pub(crate) struct Types {
 
 /// What an instance is, and the number of its type where it has one.
 #[derive(Drop)]
-pub(crate) struct Part {
-    pub(crate) body: Body,
-    pub(crate) number: Option<usize>,
+pub struct Part {
+    pub body: Body,
+    pub number: Option<usize>,
 }
 
 // Whether a name is that of a service, which no declared type may have.
@@ -102,7 +102,7 @@ impl Types {
     }
 
     /// The types of declarations, of which the charts are typed too.
-    pub(crate) fn of(
+    pub fn of(
         alloc: Global,
         blocks: &[BlockTree],
         readings: &mut [Reading],
@@ -130,12 +130,12 @@ impl Types {
     }
 
     /// The number of the type of a name.
-    pub(crate) fn number(&self, name: &str) -> Option<usize> {
+    pub fn number(&self, name: &str) -> Option<usize> {
         self.numbers.get(name).copied()
     }
 
     /// The interface of a type.
-    pub(crate) fn face(&self, number: usize) -> Option<&Face> {
+    pub fn face(&self, number: usize) -> Option<&Face> {
         match self.faces.get(number) {
             Some(face) => Some(&**face),
             None => None,
@@ -143,7 +143,7 @@ impl Types {
     }
 
     /// What an instance of a type is; nothing where there is no such type.
-    pub(crate) fn body(&self, number: usize) -> Result<Option<Body>, AllocError> {
+    pub fn body(&self, number: usize) -> Result<Option<Body>, AllocError> {
         match self.faces.get(number) {
             Some(face) => {
                 let inside = self.inside.clone()?;

@@ -6,7 +6,7 @@ use std::alloc::{AllocError, Global};
 
 /// A step that failed: its line in the story, counted from 1, its text, what it wants and what came, each on one line.
 #[derive(Drop)]
-pub(crate) struct Failure {
+pub struct Failure {
     pub(crate) line: usize,
     pub(crate) step: String,
     pub(crate) wanted: String,
@@ -15,19 +15,14 @@ pub(crate) struct Failure {
 
 /// A sequence that was played: the file of its story, and its name.
 #[derive(Clone, Copy)]
-pub(crate) struct Case<'a> {
-    pub(crate) file: &'a str,
-    pub(crate) name: &'a str,
+pub struct Case<'a> {
+    pub file: &'a str,
+    pub name: &'a str,
 }
 
 impl Failure {
     /// What people are told of it, in a sequence of the story of a file.
-    pub(crate) fn told(
-        &self,
-        alloc: Global,
-        file: &str,
-        sequence: &str,
-    ) -> Result<Vec<u8>, AllocError> {
+    pub fn told(&self, alloc: Global, file: &str, sequence: &str) -> Result<Vec<u8>, AllocError> {
         let mut writing = Writing::new(alloc);
         writing.put(file);
         writing.put(":");
@@ -57,7 +52,7 @@ impl Failure {
 
 impl Case<'_> {
     /// What programs are told of it, and of the step that failed, if one did.
-    pub(crate) fn object(&self, alloc: Global, failure: Option<&Failure>) -> Object {
+    pub fn object(&self, alloc: Global, failure: Option<&Failure>) -> Object {
         let mut object = Object::new(alloc);
         object.text("file", self.file);
         object.text("name", self.name);

@@ -12,7 +12,7 @@ use std::alloc::{AllocError, Global};
 const ELEMENTS: i128 = 1024;
 
 /// Declares a name, unless there is one already; and whether there was none.
-pub(crate) fn declare(
+pub fn declare(
     names: &mut IndexSet<String>,
     name: &Name,
     found: &mut Found<'_>,

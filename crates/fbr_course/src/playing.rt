@@ -174,7 +174,7 @@ impl Scene<'_> {
 }
 
 /// Plays a sequence on a fresh world. Gives the step that failed, if one did.
-pub(crate) fn play_sequence<F: Write + Drop, W: Write>(
+pub fn play_sequence<F: Write + Drop, W: Write>(
     alloc: Global,
     verified: &Rc<Verified>,
     telling: &Telling<'_, '_>,
