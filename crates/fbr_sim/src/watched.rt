@@ -79,7 +79,8 @@ impl<W: Write> Course<'_, '_, '_, W> {
     fn look(&mut self, world: &World, number: u16, event: &WorldEvent) {
         if let Some(now) = moment_in(event) {
             if let Some(moment) = self.moments.get_mut(usize::from(number)) {
-                *moment = now;
+                // A clock does not go back.
+                *moment = now.max(*moment);
             }
         }
         let moment = self.moment(number);
