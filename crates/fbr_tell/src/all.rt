@@ -81,10 +81,13 @@ fn tell_in<L: Listener>(
         is_searched: false,
     };
     let mut diagnosis = diagnose(asked, refusal, reading)?;
-    diagnosis.place = match &diagnosis.place {
-        Some(place) => told.app.at_byte(place.spot.byte),
-        None => None,
-    };
+    // Of a text of several files the place is in its own file already.
+    if told.app.meant.is_none() {
+        diagnosis.place = match &diagnosis.place {
+            Some(place) => told.app.at_byte(place.spot.byte),
+            None => None,
+        };
+    }
     listener.fault(asked, fault, &diagnosis)
 }
 

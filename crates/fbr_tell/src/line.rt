@@ -14,6 +14,7 @@ use fbr_explain::tell_lead;
 use fbr_files::{Fault, Placed};
 use fbr_leaves::system_again;
 use fbr_places::{Named, Writing};
+use fbr_texts::Meant;
 use std::alloc::{AllocError, Global};
 use std::io::Write;
 
@@ -70,9 +71,9 @@ fn write_end(fault: &Fault<'_>, given: Given<'_>, writing: &mut Writing) {
     writing.put("' says more\n");
 }
 
-// Writes the words of a fault, as they are printed.
-fn put_fault(fault: &Fault<'_>, given: Given<'_>, writing: &mut Writing) {
-    match given.app.meant {
+/// Writes the words of a fault, as they are printed.
+pub(crate) fn put_fault(fault: &Fault<'_>, meant: Option<Meant<'_>>, writing: &mut Writing) {
+    match meant {
         Some(meant) => writing.show(&Placed { fault, meant }),
         None => writing.show(fault),
     }
@@ -81,7 +82,7 @@ fn put_fault(fault: &Fault<'_>, given: Given<'_>, writing: &mut Writing) {
 // Begins the line of a fault that stands at no place of a text: its outcome, and what is said of it.
 fn write_start(fault: &Fault<'_>, said: &str, given: Given<'_>, writing: &mut Writing) {
     writing.put("fbr: ");
-    put_fault(fault, given, writing);
+    put_fault(fault, given.app.meant, writing);
     writing.put(": ");
     writing.put(said);
 }
@@ -105,7 +106,7 @@ fn write_place(
     writing.put("fbr: ");
     place.put(writing);
     writing.put(": ");
-    put_fault(fault, given, writing);
+    put_fault(fault, given.app.meant, writing);
     writing.put(": ");
     if !tell_lead(&diagnosis.finding, diagnosis.counts, writing) {
         writing.put(said(fault));

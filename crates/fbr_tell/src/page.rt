@@ -5,7 +5,7 @@ ghost use Rattle.std.specs.Prelude.{◌≤◌, IfSome};
 
 use crate::all::{Listener, MORE, tell_all};
 use crate::given::{Given, NamedFile};
-use crate::line::certificate_of;
+use crate::line::{certificate_of, put_fault};
 use crate::noted::tell_unknown;
 use crate::stray::{AS_UTF8, stray_in};
 use crate::teller::Teller;
@@ -323,12 +323,12 @@ struct Pages {
 impl Listener for Pages {
     fn fault(
         &mut self,
-        _asked: Asked<'_>,
+        asked: Asked<'_>,
         fault: &Fault<'_>,
         diagnosis: &Diagnosis<'_>,
     ) -> Result<(), AllocError> {
         self.writing.put("\n");
-        self.writing.show(fault);
+        put_fault(fault, asked.app.meant, &mut self.writing);
         self.writing.put("\n");
         tell_short(diagnosis, &mut self.writing);
         Ok(())
