@@ -8,5 +8,5 @@ mod numbers;
 mod recovered;
 mod rings;
 
-pub use fbr_recovery_text::{Mistake, part_around};
+pub use fbr_recovery_found::{Mistake, part_around};
 pub use recovered::{Recovered, recover};

@@ -4,7 +4,7 @@ use fb_tree::{BlockTree, BodyTree, DeviceTree, InstanceTree};
 use fb_types_blocks::TypeFault;
 use fb_types_services::{Channel, Service, served};
 use fb_words::{ElemType, Format};
-use fbr_recovery_text::Found;
+use fbr_recovery_found::Found;
 use fbr_recovery_types::Types;
 use indexmap::{IndexMap, IndexSet};
 use std::alloc::{AllocError, Global};

@@ -6,9 +6,8 @@ use crate::rings::tell_rings;
 use fb_lex::Token;
 use fb_tree::{BlockTree, BodyTree, DeviceTree, FileTree, SystemTree};
 use fb_types_blocks::TypeFault;
-use fbr_recovery_text::{
-    Found, Lexed, MOST, Mistake, Reading, Text, mistake_of, read_text, read_tokens,
-};
+use fbr_recovery_found::{Found, Lexed, MOST, Mistake, mistake_of, read_tokens};
+use fbr_recovery_text::{Reading, Text, read_text};
 use fbr_recovery_types::{Types, declare};
 use indexmap::IndexSet;
 use std::alloc::{AllocError, Global};

@@ -2,7 +2,7 @@
 
 use fb_tree::{BlockTree, BodyTree, InstanceTree};
 use fb_types_blocks::TypeFault;
-use fbr_recovery_text::Found;
+use fbr_recovery_found::Found;
 use fbr_recovery_types::Types;
 use std::alloc::{AllocError, Global};
 

@@ -1,7 +1,5 @@
 //! Reading of block types, part by part.
 
-use crate::found::Found;
-use crate::piece::Internal;
 use crate::reader::Reader;
 use fb_read::Stop;
 use fb_text::Item;
@@ -10,6 +8,7 @@ use fb_tree::{
     NetworkTree, StateTree, TransitionTree, VariableTree,
 };
 use fb_words::Mark;
+use fbr_recovery_found::{Found, Internal};
 use std::alloc::{AllocError, Global};
 
 /// The parts of a network, as far as they were read.

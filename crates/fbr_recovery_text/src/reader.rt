@@ -1,12 +1,11 @@
 //! Reading that goes on behind a fault.
 
-use crate::found::Found;
-use crate::piece::Piece;
 use fb_lex::Token;
 use fb_read::{Stop, begins_name, read_name};
 use fb_tree::Name;
 use fb_words::Mark;
 use fbr_advice::tokens::{closer_of, mark_of};
+use fbr_recovery_found::{Found, Piece};
 use std::alloc::{AllocError, Global};
 
 /// Where reading is in the tokens of a text, of which a declaration is read.

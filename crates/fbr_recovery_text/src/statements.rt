@@ -1,12 +1,12 @@
 //! Reading of algorithms, statement by statement.
 
-use crate::found::Found;
 use crate::reader::{Reader, stopped_in};
 use fb_read::{Stop, read_name};
 use fb_text::Item;
 use fb_tree::{AlgorithmTree, Name, Stmt};
 use fb_words::Mark;
 use fbr_advice::tokens::{mark_of, name_of};
+use fbr_recovery_found::Found;
 use st_parse::body;
 use std::alloc::AllocError;
 

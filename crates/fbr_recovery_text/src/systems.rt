@@ -1,11 +1,11 @@
 //! Reading of systems, device by device.
 
 use crate::blocks::Wired;
-use crate::found::Found;
 use crate::reader::Reader;
 use fb_read::next_offset;
 use fb_tree::{DeviceTree, Name, ResourceTree, SystemTree};
 use fb_words::Mark;
+use fbr_recovery_found::Found;
 use std::alloc::AllocError;
 
 // In which order the parts of a resource are.

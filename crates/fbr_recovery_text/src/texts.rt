@@ -1,13 +1,12 @@
 //! Reading of whole texts, declaration by declaration.
 
-use crate::around::begins;
 use crate::blocks::rank_of;
-use crate::found::Found;
 use crate::reader::Reader;
 use fb_lex::Token;
 use fb_read::read_name;
 use fb_tree::{BlockTree, FileTree, Name, SystemTree};
 use fb_words::Mark;
+use fbr_recovery_found::{Found, begins};
 use indexmap::IndexSet;
 use std::alloc::{AllocError, Global};
 

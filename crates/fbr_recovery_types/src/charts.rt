@@ -3,7 +3,7 @@
 use crate::variables::{declare, known, variables_of};
 use fb_tree::{AlgorithmTree, BlockTree, ChartTree, StateTree, Stmt, TransitionTree};
 use fb_types_blocks::{Face, TypeFault, Variables, basic};
-use fbr_recovery_text::Found;
+use fbr_recovery_found::Found;
 use indexmap::{IndexMap, IndexSet};
 use st_types::{Scope, TypingFault, Variable, resolve_algorithm, resolve_condition};
 use std::alloc::{AllocError, Global};

@@ -3,7 +3,7 @@
 use crate::variables::{declare, known, variables_of};
 use fb_tree::{BlockTree, EventTree};
 use fb_types_blocks::{Events, Face, TypeFault, Variables};
-use fbr_recovery_text::Found;
+use fbr_recovery_found::Found;
 use indexmap::{IndexMap, IndexSet};
 use std::alloc::{AllocError, Global};
 

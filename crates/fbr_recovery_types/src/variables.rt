@@ -3,7 +3,7 @@
 use fb_tree::{BoundsTree, Constant, Literal, Name, VariableTree};
 use fb_types_blocks::{TypeFault, Variable, Variables, constant, insert};
 use fb_words::ElemType;
-use fbr_recovery_text::Found;
+use fbr_recovery_found::Found;
 use indexmap::{IndexMap, IndexSet};
 use st_types::signed;
 use std::alloc::{AllocError, Global};

@@ -12,7 +12,7 @@ use st_parse::integer;
 use std::alloc::Global;
 
 /// An item of a section.
-pub(crate) trait Piece: Drop {
+pub trait Piece: Drop {
     /// Whether it declares names.
     fn declares() -> bool;
 
@@ -82,8 +82,8 @@ impl Piece for ConnectionTree {
 
 /// Internal variables of one type, which may be arrays.
 #[derive(Drop)]
-pub(crate) struct Internal {
-    pub(crate) tree: VariableTree,
+pub struct Internal {
+    pub tree: VariableTree,
 }
 
 // The lowest and the highest index of an array, behind ARRAY.

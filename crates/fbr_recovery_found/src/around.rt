@@ -6,7 +6,7 @@ use fbr_advice::tokens::{index_at, mark_of};
 use std::alloc::{AllocError, Global};
 
 /// Whether the token of a number begins a declaration: before a sign such a word is there in place of a name, unless a declaration has ended.
-pub(crate) fn begins(tokens: &[Token], index: usize) -> bool {
+pub fn begins(tokens: &[Token], index: usize) -> bool {
     let is_behind = match index.checked_sub(1) {
         Some(before) => matches!(mark_of(tokens.get(before)), Some(Mark::EndFunctionBlock)),
         None => true,
