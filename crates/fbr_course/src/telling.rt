@@ -5,8 +5,9 @@ use crate::failure::Failure;
 use crate::looking::Finding;
 use crate::seen::{Seen, Sight, Sights};
 use fb_lex::{Kind, Token};
+use fbr_names::Names;
 use fbr_places::{Spot, Writing};
-use fbr_story::{Looked, Names, Span, Wanted, show_value};
+use fbr_story::{Looked, Span, Wanted, show_value};
 use std::alloc::{AllocError, Global};
 
 /// A story that people are told of: its text and tokens, and its names.

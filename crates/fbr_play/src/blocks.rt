@@ -6,8 +6,9 @@ use fbr_alone::{Alone, BEFORE_PATHS, Found, Subject, alone_in};
 use fbr_check::texts_verified;
 use fbr_files::{FileText, Held};
 use fbr_find::{RangesFrom, Wanted};
+use fbr_names::{Fault, Names};
 use fbr_places::Writing;
-use fbr_story::{Fault, Names, unknown_block};
+use fbr_story::unknown_block;
 use std::alloc::{AllocError, Global};
 use std::rc::Rc;
 

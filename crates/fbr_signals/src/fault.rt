@@ -1,6 +1,6 @@
 //! Why something cannot be watched.
 
-use fbr_story::Fault;
+use fbr_names::Fault;
 use std::alloc::{AllocError, AllocFailed};
 use std::io::Write;
 

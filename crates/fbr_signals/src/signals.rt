@@ -4,7 +4,7 @@ use crate::fault::Unwatched;
 use crate::search::Search;
 use crate::signal::{Owner, Signal, Station};
 use fb_flat::Flat;
-use fbr_story::unknown;
+use fbr_names::unknown;
 use std::alloc::{AllocError, Global};
 
 /// What is watched of a system, or of one of its devices.

@@ -1,11 +1,10 @@
 //! Reads what an event of a block type alone carries: the values in their order, or each behind its name.
 
-use crate::fault::Fault;
-use crate::near::unknown;
 use crate::reading::Reader;
 use crate::values::{read_value, read_values};
 use fb_words::Mark;
 use fbr_alone::{Argument, EventInput};
+use fbr_names::{Fault, unknown};
 use fbr_places::Writing;
 use std::alloc::{AllocError, Global};
 

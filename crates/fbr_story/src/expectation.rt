@@ -1,11 +1,10 @@
 //! Reads what is to be looked at.
 
-use crate::fault::Fault;
 use crate::reading::Reader;
 use crate::story::{Expected, Looked, Variable};
 use crate::values::read_value;
-use crate::variables::{Declared, find_state, find_variable};
 use fb_words::{ElemType, Mark};
+use fbr_names::{Declared, Fault, find_state, find_variable};
 
 // The queue of a resource, behind QUEUE, and how many entries are to be pending.
 fn read_queue<'a>(reader: &mut Reader<'a>) -> Result<Expected<'a>, Fault> {

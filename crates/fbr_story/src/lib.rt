@@ -4,22 +4,12 @@
 
 mod arguments;
 mod expectation;
-mod fault;
-mod names;
-mod near;
-mod place;
 mod reading;
 mod sequences;
 mod stimulus;
 mod story;
 mod values;
-mod variables;
-mod within;
 
-pub use fault::Fault;
-pub use names::Names;
-pub use near::unknown;
-pub use place::{NumberedLeaf, Sort};
 pub use sequences::{read_story, unknown_block};
 pub use story::{
     Action, Arrival, Cause, Expected, Fate, Looked, Sequence, Span, Step, Stimulus, Variable,

@@ -1,10 +1,9 @@
 //! The tokens of a story, one after another.
 
-use crate::fault::Fault;
-use crate::names::Names;
 use crate::story::Span;
 use fb_lex::{Kind, Token};
 use fb_words::Mark;
+use fbr_names::{Fault, Names};
 use std::alloc::Global;
 
 /// The tokens of a story, how many of them are read, and what its names stand for: those of its system first, and then those of each block type that it

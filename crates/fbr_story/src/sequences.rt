@@ -1,15 +1,13 @@
 //! Reads whole stories.
 
 use crate::expectation::read_expected;
-use crate::fault::Fault;
-use crate::names::Names;
-use crate::near::unknown;
 use crate::reading::Reader;
 use crate::stimulus::read_stimulus;
 use crate::story::{Action, Fate, Sequence, Span, Step};
 use fb_lex::Token;
 use fb_words::Mark;
 use fbr_alone::Subject;
+use fbr_names::{Fault, Names, unknown};
 use std::alloc::Global;
 
 // The fate of the next datagram, if a step says one.

@@ -1,15 +1,13 @@
 //! Reads stimuli, and what they are to make the outside see.
 
 use crate::arguments::{all_of, read_arguments};
-use crate::fault::Fault;
-use crate::place::Sort;
 use crate::reading::Reader;
 use crate::story::{Arrival, Cause, Stimulus, Wanted, WantedWrite};
 use crate::values::{read_value, read_values};
-use crate::within::find_event;
 use fb_lex::Kind;
 use fb_words::{ElemType, Mark};
 use fbr_alone::Alone;
+use fbr_names::{Fault, Sort, find_event};
 use std::alloc::Global;
 
 // An instance of a sort with its values in brackets: the numbers of its device and of itself, and the values.

@@ -1,8 +1,8 @@
 //! Stories as they are read: sequences of steps, in which each name stands for what it names.
 
-use crate::place::NumberedLeaf;
 use fb_types_blocks::Block;
 use fb_words::ElemType;
+use fbr_names::NumberedLeaf;
 
 /// What becomes of a datagram in place of being delivered once, in its turn.
 #[derive(Clone, Copy)]

@@ -1,9 +1,9 @@
 //! Values of the types of the language.
 
-use crate::fault::Fault;
 use crate::reading::Reader;
 use fb_lex::Kind;
 use fb_words::{ElemType, Mark};
+use fbr_names::Fault;
 use fbr_places::Writing;
 
 // A number of a sign and a size.

@@ -10,9 +10,9 @@ use std::alloc::{AllocError, Global};
 
 /// What a variable of a block is declared as: its type, and the lowest and the highest index of an array.
 #[derive(Clone, Copy)]
-pub(crate) struct Declared {
-    pub(crate) of_type: ElemType,
-    pub(crate) bounds: Option<(i64, i64)>,
+pub struct Declared {
+    pub of_type: ElemType,
+    pub bounds: Option<(i64, i64)>,
 }
 
 // A variable of one of these declarations.
@@ -78,7 +78,7 @@ fn names_of(alloc: Global, place: NumberedLeaf<'_>) -> Result<Vec<String>, Alloc
 }
 
 /// What the variable of an instance is declared as that has a name. People are told of the instance by its path.
-pub(crate) fn find_variable(
+pub fn find_variable(
     alloc: Global,
     place: NumberedLeaf<'_>,
     path: &str,
@@ -107,7 +107,7 @@ fn states_of(alloc: Global, block: &Block) -> Result<Vec<String>, AllocError> {
 }
 
 /// The block of an instance, and the number of its state that has a name.
-pub(crate) fn find_state<'a>(
+pub fn find_state<'a>(
     alloc: Global,
     place: NumberedLeaf<'a>,
     path: &str,

@@ -58,12 +58,7 @@ impl<'a> Names<'a> {
     }
 
     /// The block that a name at a byte stands for. Of a block type alone it is a name within the type, and the empty one is the type's instance.
-    pub(crate) fn block(
-        &self,
-        alloc: Global,
-        name: &str,
-        at: usize,
-    ) -> Result<NumberedLeaf<'a>, Fault> {
+    pub fn block(&self, alloc: Global, name: &str, at: usize) -> Result<NumberedLeaf<'a>, Fault> {
         let Some(around) = self.alone else {
             return self.resolve(alloc, Sort::Block, name, at);
         };
@@ -78,7 +73,7 @@ impl<'a> Names<'a> {
     }
 
     /// What people are told in the place of a block's path: of a block type alone its name.
-    pub(crate) fn told(&self, place: NumberedLeaf<'a>) -> &'a str {
+    pub fn told(&self, place: NumberedLeaf<'a>) -> &'a str {
         match self.alone {
             Some(_) => place.inner(),
             None => place.leaf.path.as_str(),
@@ -98,7 +93,7 @@ impl<'a> Names<'a> {
 }
 
 /// The event input of a block type alone that a name at a byte stands for.
-pub(crate) fn find_event<'a>(
+pub fn find_event<'a>(
     alloc: Global,
     around: &'a Alone,
     name: &str,

@@ -53,7 +53,8 @@ fn none_of(alloc: Global, name: &str, sort: &str) -> Writing {
 pub struct Names<'a> {
     pub(crate) places: Vec<NumberedLeaf<'a>>,
     flat: &'a Flat,
-    pub(crate) alone: Option<&'a Alone>,
+    /// The block type, where it was made around one.
+    pub alone: Option<&'a Alone>,
 }
 
 impl<'a> Names<'a> {
