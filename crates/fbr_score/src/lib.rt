@@ -1,5 +1,5 @@
 //! Room: program. How sequences of stories went, in all, and the line and the status that say so.
-//! `print_end` tells exactly how many sequences passed and failed, with status 1 if one failed; counts are added exactly, and stay where they can rise no more.
+//! `print_end` tells exactly how many sequences passed and failed, with status 1 if one failed. A count that can rise no more stays where it is.
 #![tactic(auto)]
 
 mod score;
