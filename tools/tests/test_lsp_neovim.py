@@ -64,7 +64,7 @@ class Neovim(parts.Folder):
         return found
 
     def test_fault_and_mended(self):
-        """A fault is shown at its line, and none is after it was mended; `gd` goes to a declaration, and `K` shows its numbers."""
+        """A fault is shown at its line by one server, and none is after it was mended; `gd` goes to a declaration, and `K` shows its numbers."""
         right = (parts.TOP / "examples/wrong/division/mended.fb").read_text(encoding="utf-8")
         wrong = right.replace("(* ", "(* ä 🙂 ", 1).replace("Display.REQ;", "(* 🙂 *) Disply.REQ;")
         self.assertEqual(wrong.count("Disply"), 1)
@@ -85,6 +85,7 @@ class Neovim(parts.Folder):
             vim.cmd("normal K")
             wait("the hover", float)
             said.hover = vim.api.nvim_buf_get_lines(vim.api.nvim_win_get_buf(float()), 0, -1, false)
+            said.servers = #(vim.lsp.get_clients or vim.lsp.get_active_clients)()
             """,
             "init.vim",
             line_of_page("set runtimepath"),
@@ -97,6 +98,7 @@ class Neovim(parts.Folder):
         self.assertIn("did you mean DISPLAY?", fault["message"])
         self.assertEqual(found["mended"], [])
         self.assertEqual([it["line"] for it in found["again"]], [found["line"]])
+        self.assertEqual(found["servers"], 1)
         hover = "\n".join(found["hover"])
         self.assertIn("event input of RATE", hover)
         self.assertIn("When the text was last accepted:", hover)

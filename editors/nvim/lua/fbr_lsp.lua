@@ -39,7 +39,11 @@ function M.attach(buffer)
     vim.lsp.start(config, { bufnr = buffer })
     return
   end
-  if not running or vim.lsp.client_is_stopped(running) then
+  if not running then
+    -- client_is_stopped would say so of a server that is not ready yet, and a buffer comes here again when its type is set again.
+    config.on_exit = function()
+      running = nil
+    end
     running = vim.lsp.start_client(config)
   end
   if running then
