@@ -276,7 +276,7 @@ fn tell_halt<E: Write>(
     taken: &Result<Ran, Halt>,
     wrong: &str,
     replay: &Replay<'_>,
-    errors: &mut E,
+    notes: &mut Notes<E, io::Sink>,
 ) {
     if let Err(Halt::Line(at)) = taken {
         let name = if replay.record == "-" {
@@ -284,7 +284,7 @@ fn tell_halt<E: Write>(
         } else {
             replay.record
         };
-        let _ = writeln!(errors, "fbr: {name}:{at}: refused 60: {wrong}");
+        let _ = writeln!(notes.errors, "fbr: {name}:{at}: refused 60: {wrong}");
     }
 }
 
@@ -378,7 +378,7 @@ fn take_record<R: Read, W: Write, E: Write, V: Look + Drop>(
     let _ = flushed(output);
     let taken = take_lines(alloc, &mut device, &mut view, reader, output, &mut notes);
     device.let_go();
-    tell_halt(&taken, view.wrong, replay, &mut notes.errors);
+    tell_halt(&taken, view.wrong, replay, &mut notes);
     (taken, view.viewer)
 }
 
