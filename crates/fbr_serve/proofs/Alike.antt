@@ -1,5 +1,5 @@
 -- Turns of a device in which the same came.
-use Rattle.std.proofs.Common.{◌≡◌, ◌⊎◌, inl, inr, ℕ, ◌+◌, Bool, true, false, List, [], ◌∷◌, ◌++◌, map, length, Option, refl, sym, ap, ap₂, subst, ◌∙◌, arith}
+use Rattle.std.proofs.Common.{◌≡◌, inl, inr, ℕ, ◌+◌, Bool, true, false, List, [], ◌∷◌, ◌++◌, map, length, refl, sym, ap, ap₂, subst, ◌∙◌, arith}
 use Rattle.std.specs.List.{AllByRecursion, flat_map}
 use Rattle.fb_model.specs.System.{Device}
 use Rattle.fb_model.specs.Certificates.{Certificate}
@@ -10,7 +10,7 @@ use Rattle.fb_link.specs.Link.{LinkCall}
 use Rattle.fb_record.specs.Records.{Entry}
 use Rattle.fb_turn.specs.Turns.{Receipt, Service, Turn, answers_of, delivery, each_once, effect_of, events_of, is_cut, writes, writes_for}
 use Rattle.fbr_notices.specs.Sums.{TurnAt}
-use Rattle.fbr_serve.specs.Serving.{Turns, IsTaken, IsWhole, IsCutOff, lines_of, turn_lines, write_line}
+use Rattle.fbr_serve.specs.Serving.{Turns, IsTaken, lines_of, turn_lines, write_line}
 use Rattle.fbr_serve.specs.Recording.{IsEnded, entry_of}
 
 -- ---- answers

@@ -1,5 +1,5 @@
 -- The device that is asked for, and what is told of it.
-use Rattle.std.proofs.Common.{◌≡◌, ◌≤◌, ◌<◌, ◌∙◌, ℕ, ◌⊎◌, inl, inr, List, [], refl, sym, ap, subst, arith, Option, Some, None, Result, Ok, Err, IfOk}
+use Rattle.std.proofs.Common.{◌≡◌, ◌∙◌, ℕ, inl, inr, List, [], sym, ap, subst, Option, Some, None, Result, Ok, Err, IfOk}
 use Rattle.std.specs.Prelude.{slice_get, MatchResult}
 use Rattle.fb_model.specs.System.{Device}
 use Rattle.fb_model.specs.Messages.{Stamp}
@@ -7,14 +7,14 @@ use Rattle.fb_model.specs.Devices.{silent, at_first}
 use Rattle.fb_verified.specs.Checked.{system_in}
 use Rattle.fb_verdict.specs.Verdicts.{IsOfTexts}
 use Rattle.fb_device_state.specs.Sessions.{Session}
-use Rattle.fb_device_state.specs.Machines.{device_at, device_in, machine_of}
+use Rattle.fb_device_state.specs.Machines.{device_in, machine_of}
 use Rattle.fbr_files.specs.declared.fault.Fault.{Fault}
 use Rattle.fbr_files.specs.declared.fault.Fault.TheVariants as faults
 use Rattle.fbr_files.specs.Outcomes.{Tells, refusal, IsContents, IsReadFault}
 use Rattle.fbr_words.specs.Program.{Service}
 use Rattle.fbr_files.specs.Reading.{held_by}
 use Rattle.fbr_files.specs.Writing.{Holdings}
-use Rattle.fbr_serve.specs.Serving.{IsStarted, IsTextsReady, IsFilesReady, IsFilesDevice, IsTextsFault, IsFilesFault, TakesBoot, HasNoBoot, SealsAt, TakesSeals, HasNoSeals, TellsBy, TellsServe, no_boot, no_device, no_seals, a_device, HasNoRecord, no_record}
+use Rattle.fbr_serve.specs.Serving.{IsTextsReady, IsFilesReady, IsFilesDevice, IsTextsFault, IsFilesFault, TakesBoot, HasNoBoot, SealsAt, TakesSeals, HasNoSeals, TellsBy, TellsServe, no_boot, no_device, no_seals, a_device, HasNoRecord, no_record}
 
 -- ---- the files
 

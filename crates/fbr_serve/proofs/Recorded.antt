@@ -1,13 +1,13 @@
 -- What a turn writes into its record.
 use Rattle.std.proofs.KnownBytes.{Appends-nil, Appends-trans}
-use Rattle.std.proofs.Common.{◌≡◌, ℕ, Bool, true, false, List, [], ◌∷◌, ◌++◌, map, refl, sym, ap, ap₂, subst, ◌∙◌, append_assoc, append-nil, Option}
+use Rattle.std.proofs.Common.{◌≡◌, ℕ, Bool, false, List, [], ◌∷◌, ◌++◌, map, refl, sym, ap, ap₂, subst, ◌∙◌, append_assoc, append-nil, Option}
 use Rattle.std.specs.List.{flat_map}
 use Rattle.std.specs.Io.KnownBytes.{Appends}
 use Rattle.std.proofs.lemmas.Grind.{flat_map-append}
-use Rattle.fb_record.specs.Records.{end_text, line_of, start_text, words_text}
+use Rattle.fb_record.specs.Records.{end_text, start_text, words_text}
 use Rattle.fb_turn.specs.Turns.{Turn, Receipt, Service as Dispatch, Chain, Sight, coming, serving, sights_of, is_cut}
 use Rattle.fbr_notices.specs.Sums.{TurnAt}
-use Rattle.fbr_serve.specs.Recording.{Held, RecordsTurn, Records, entry_of, record_line, sight_word}
+use Rattle.fbr_serve.specs.Recording.{Held, RecordsTurn, Records, record_line, sight_word}
 
 -- ---- two things that each step does
 

@@ -1,31 +1,18 @@
 -- Turns of a device, and what they print.
 use Rattle.std.proofs.KnownBytes.{Appends-nil, Appends-trans}
-use Rattle.std.proofs.Common.{◌≡◌, ◌≤◌, ◌<◌, ◌+◌, ◌*◌, ℕ, Bool, true, false, not, List, [], ◌∷◌, ◌++◌, length, map, refl, sym, ap, ap₂, subst, ◌∙◌, arith, append_assoc, append-nil, length-append, Option, Some, None, Result, Ok, Err, IfOk}
-use Rattle.std.specs.List.{flat_map, sum_by, AllByRecursion}
-use Rattle.std.specs.Io.KnownBytes.{Appends, Keeps}
+use Rattle.std.proofs.Common.{◌≡◌, ◌+◌, ℕ, Bool, true, false, not, List, [], ◌∷◌, ◌++◌, map, refl, sym, ap, subst, ◌∙◌, arith, append-nil, Option}
+use Rattle.std.specs.List.{flat_map, sum_by}
+use Rattle.std.specs.Io.KnownBytes.{Appends}
 use Rattle.std.proofs.lemmas.List.Sums.{sum_by_push}
 use Rattle.std.proofs.lemmas.Grind.{flat_map-append}
-use Rattle.fb_model.proofs.Lists.{all_append}
 use Rattle.fb_model.specs.System.{Device}
 use Rattle.fb_model.specs.Certificates.{Certificate}
 use Rattle.fb_model.specs.Devices.{Machine}
-use Rattle.std.specs.declared.net.ip_addr.IpAddr.{IpAddr}
-use Rattle.std.specs.declared.net.socket_addr.SocketAddr.{SocketAddr}
 use Rattle.fb_link.specs.Link.{LinkCall}
-use Rattle.fb_link.specs.Socket.{SocketCall}
-use Rattle.fb_verified.specs.Checked.{system_in, certificate_in}
-use Rattle.fb_verified.specs.declared.verified.Verified.{Verified}
-use Rattle.fb_device_state.specs.Sessions.{Session}
-use Rattle.fb_device_state.specs.Machines.{device_at, device_in, cert_in, machine_of}
-use Rattle.fb_turn.specs.Turns.{Turn, Receipt, Service as Dispatch, Chain, Sight, IsTurn, coming, serving, sights_of, writes, report_of, link_calls_of}
-use Rattle.fb_turn.specs.declared.turning.Report.{Report}
-use Rattle.fbr_words.specs.Program.{Life, Telling, Service}
+use Rattle.fb_turn.specs.Turns.{Turn, Receipt, Service as Dispatch, Chain, Sight, IsTurn, coming, serving, sights_of, writes, report_of}
 use Rattle.fbr_notices.specs.declared.sums.Sums.{Sums}
-use Rattle.fbr_notices.specs.declared.stop.Stop.{Stop}
-use Rattle.fbr_notices.specs.declared.stop.Stop.TheVariants as stops
-use Rattle.fbr_serve.specs.declared.turns.Ran.{Ran}
 use Rattle.fbr_notices.specs.Sums.{TurnAt, capped, sums_of, with_report}
-use Rattle.fbr_serve.specs.Serving.{Anything, IsTaken, Turns, IsWhole, IsCutOff, write_line, turn_lines, lines_of, sight_lines, EndsTurn, PrintsTurn, EndsCutOff, EndAs, Prints, EndsByOutput, IsServed, Over, LinkAsks, failed_in, unasked, AreOf, TellsStop, TellsTurns}
+use Rattle.fbr_serve.specs.Serving.{Anything, IsTaken, Turns, write_line, turn_lines, lines_of, sight_lines}
 
 -- ---- one turn
 

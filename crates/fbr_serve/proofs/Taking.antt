@@ -1,5 +1,5 @@
 -- Turns that are taken of the lines of a record.
-use Rattle.std.proofs.Common.{◌≡◌, ◌⊎◌, inl, inr, ℕ, Bool, true, false, if◌then◌else◌, List, [], ◌∷◌, ◌++◌, Option, None, Some, Result, Ok, Err, refl, sym, ap, ap₂, subst, ◌∙◌}
+use Rattle.std.proofs.Common.{◌≡◌, ◌⊎◌, inl, inr, ℕ, true, false, if◌then◌else◌, List, [], ◌∷◌, ◌++◌, Option, None, Some, Err, sym, ap, ap₂, subst, ◌∙◌}
 use Rattle.std.specs.Str.{is_utf8}
 use Rattle.fb_model.specs.CertificateText.{words}
 use Rattle.fb_model.specs.System.{Device}

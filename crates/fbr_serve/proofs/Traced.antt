@@ -1,6 +1,5 @@
 -- What a link over UDP asks of a socket, call by call, whatever the socket tells.
-use Rattle.std.proofs.Common.{◌≡◌, ◌<◌, ℕ, Bool, true, false, List, [], ◌∷◌, ◌++◌, length, refl, sym, ap, subst, ◌∙◌, inl, inr, arith}
-use Rattle.std.specs.declared.io.ErrorKind.{ErrorKind}
+use Rattle.std.proofs.Common.{◌≡◌, ℕ, Bool, List, [], ◌∷◌, ◌++◌, length, refl, ap, subst, ◌∙◌, inl, inr, arith}
 use Rattle.std.specs.declared.net.ip_addr.IpAddr.{IpAddr}
 use Rattle.std.specs.declared.net.socket_addr.SocketAddr.{SocketAddr}
 use Rattle.std.proofs.lemmas.Bool.{cases_lt}
@@ -9,7 +8,7 @@ use Rattle.fb_model.specs.Certificates.{Certificate}
 use Rattle.fb_model.specs.Devices.{Machine}
 use Rattle.fb_link.specs.Link.{LinkCall, Handed, Silent, Broken, Sent}
 use Rattle.fb_link.specs.Socket.{SocketCall, SentTo, Took, Missed, SendsToEach, DropsEach, Receives, TakesFrom, Asks, UdpStep}
-use Rattle.fb_turn.specs.Turns.{Chain, IsTurn, link_calls_of}
+use Rattle.fb_turn.specs.Turns.{Chain, link_calls_of}
 use Rattle.fbr_notices.specs.Sums.{TurnAt}
 use Rattle.fbr_serve.specs.Serving.{IsTaken, Turns, Traced, Over, LinkAsks, failed_in}
 

@@ -1,10 +1,10 @@
-use Rattle.std.proofs.Common.{◌≡◌, ◌≤◌, ◌<◌, ◌+◌, true, arith, refl, sym, subst, ◌∙◌, ap, rules}
+use Rattle.std.proofs.Common.{◌+◌, arith, refl, sym, subst}
 use Rattle.fb_device_state.specs.Machines.{device_in}
 use Rattle.fbr_words.specs.Requests.{life_of, telling_of}
 use Rattle.fbr_notices.specs.Sums.{TurnAt}
 use Rattle.fbr_serve.specs.Serving.{EndsTurn}
 use Rattle.fbr_notices.specs.declared.stop.Stop.TheVariants as stops
-use Rattle.fbr_serve.proofs.Looped.{Out, Served, at_start, one_more, all_taken, no_clock, output_lost, last_turn}
+use Rattle.fbr_serve.proofs.Looped.{Served, at_start, one_more, no_clock, output_lost, last_turn}
 use Rattle.fbr_serve.proofs.turns.serve_on.Goals as goal
 
 pub returns-in-Err-clause-served : goal.returns-in-Err-clause-served

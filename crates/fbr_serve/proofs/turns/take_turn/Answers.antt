@@ -1,5 +1,5 @@
 use Rattle.std.proofs.KnownBytes.{Appends-kept}
-use Rattle.std.proofs.Common.{◌≡◌, ◌∙◌, false, true, length, subst, refl, sym, ap, rules}
+use Rattle.std.proofs.Common.{◌∙◌, length, subst, refl, sym, ap, rules}
 use Rattle.std.specs.Prelude.{is_err}
 use Rattle.std.specs.Io.KnownBytes.{Appends}
 use Rattle.fb_device_state.specs.Machines.{device_in}
