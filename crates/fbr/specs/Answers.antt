@@ -13,8 +13,8 @@ use Rattle.fbr_find.specs.Bounding.{IsTypedFault}
 use Rattle.fbr_texts.specs.Parts.{Start}
 use Rattle.fbr_seals.specs.Making.{TellsKey}
 use Rattle.fbr.specs.Together.{IsJoined, IsJoinFault}
-use Rattle.fbr_static.specs.Told.{Begins, OrJson, OrNoted, TellsBound, TellsDraw, TellsExplain, TellsPack}
-use Rattle.fbr_runs.specs.Runs.{NamesKept, NamesOne, TellsPlays, TellsReplay, TellsServed, TellsSim}
+use Rattle.fbr_static.specs.Tellings.{Begins, OrJson, OrNoted, TellsBound, TellsDraw, TellsExplain, TellsPack}
+use Rattle.fbr_runs.specs.Running.{NamesKept, NamesOne, TellsPlays, TellsReplay, TellsServed, TellsSim}
 
 -- ---- all
 

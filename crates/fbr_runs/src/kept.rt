@@ -4,8 +4,8 @@ ghost use Rattle.std.specs.Prelude.{◌≡◌, ◌∷◌, false, true, IsSome, m
 ghost use Rattle.fbr_files.specs.Writing.{LeavesAll, LeavesAllBut};
 ghost use Rattle.fbr_words.specs.Program.{kept_by};
 ghost use Rattle.fbr_words.specs.Requests.{watching_of};
-ghost use Rattle.fbr_runs.specs.Runs as runs;
-ghost use Rattle.fbr_runs.specs.Runs.{AllApart, AreKeptApart, NamesKept};
+ghost use Rattle.fbr_runs.specs.Running as runs;
+ghost use Rattle.fbr_runs.specs.Running.{AllApart, AreKeptApart, NamesKept};
 
 use fbr_files::{Fault, Sources, into_another, put_text};
 use fbr_watch::{Seen, Wish};

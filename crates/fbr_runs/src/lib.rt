@@ -3,14 +3,14 @@
 #![tactic(auto)]
 
 mod kept;
-mod play;
-mod replay;
-mod runs;
-mod serve;
-mod sim;
+mod playing;
+mod replaying;
+mod reporting;
+mod serving;
+mod simulating;
 
 pub use kept::{OVERWRITTEN, is_read, overwrites};
-pub use play::play;
-pub use replay::replay;
-pub use serve::serve;
-pub use sim::sim;
+pub use playing::play;
+pub use replaying::replay;
+pub use serving::serve;
+pub use simulating::sim;

@@ -4,7 +4,7 @@ ghost use Rattle.std.specs.Prelude.{◌≡◌, ◌≤◌, IfOk, IfSome, option_m
 ghost use Rattle.fbr_files.specs.Writing.{LeavesAllBut};
 ghost use Rattle.fbr_words.specs.Requests.{sought_of};
 
-use crate::bound::{CLASH, files_of, put_out};
+use crate::bounding::{CLASH, files_of, put_out};
 use crate::given::{Files, given_of, named, tell};
 use crate::noted::{counted, words_of_bound, words_of_check};
 use fb_numbers::read_number;

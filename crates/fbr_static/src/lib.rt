@@ -2,21 +2,21 @@
 //! What is told first is true of what was read, and no file is written but the one that the words name. Not said: what `explain`, `draw` and JSON write.
 #![tactic(auto)]
 
-mod bound;
-mod check;
-mod draw;
-mod explain;
+mod bounding;
+mod checking;
+mod drawing;
+mod explaining;
 mod given;
 mod json;
 mod misread;
 mod noted;
-mod pack;
+mod packing;
 
-pub use bound::bound;
-pub use check::{check, check_input};
-pub use draw::draw;
-pub use explain::{explain, explain_placed};
+pub use bounding::bound;
+pub use checking::{check, check_input};
+pub use drawing::draw;
+pub use explaining::{explain, explain_placed};
 pub use given::{Files, given_of, named, tell};
 pub use json::{Told, clash_told, print_memory, print_told, refused};
 pub use misread::{misused, tell_misread};
-pub use pack::pack;
+pub use packing::pack;

@@ -1,7 +1,7 @@
 //! Notes on what is accepted: which words show them, and how they count in the status.
 
 ghost use Rattle.std.specs.Prelude.{◌≤◌};
-ghost use Rattle.fbr_static.specs.Told.{IsCounted};
+ghost use Rattle.fbr_static.specs.Tellings.{IsCounted};
 
 use fbr_tell::Words;
 use fbr_words::{Bound, Check, Ranges};

@@ -7,7 +7,7 @@ use Rattle.fbr_texts.specs.Parts.{start_of}
 use Rattle.fbr_words.specs.Program.{app_of, often_of, over, written_by}
 use Rattle.fbr_words.specs.Requests.{asked_of}
 use Rattle.fbr.specs.Answers.{TellsOutcome}
-use Rattle.fbr_static.proofs.Told.{all_kept}
+use Rattle.fbr_static.proofs.Tellings.{all_kept}
 use Rattle.fbr.proofs.Told.{often_over, together_answered, together_untyped, written_over}
 use Rattle.fbr.proofs.order.answer_joined.Goals as goal
 

@@ -2,7 +2,7 @@ use Rattle.std.proofs.Common.{map, refl, string_bytes, subst}
 use Rattle.fbr_texts.specs.Parts.{start_of}
 use Rattle.fbr_words.specs.Requests.{asked_of}
 use Rattle.fbr.specs.Together.{IsJoined, IsJoinFault}
-use Rattle.fbr_static.proofs.Told.{all_kept}
+use Rattle.fbr_static.proofs.Tellings.{all_kept}
 use Rattle.fbr.proofs.Told.{together_unjoined}
 use Rattle.fbr.proofs.order.answer_together.Goals as goal
 

@@ -1,5 +1,5 @@
 use Rattle.std.proofs.Common.{refl}
-use Rattle.fbr_static.proofs.Told.{all_kept}
+use Rattle.fbr_static.proofs.Tellings.{all_kept}
 use Rattle.fbr.proofs.order.follow.Goals as goal
 
 pub returns-then-overwrites_one-clause-others : goal.returns-then-overwrites_one-clause-others

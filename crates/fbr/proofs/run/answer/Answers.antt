@@ -2,7 +2,7 @@ use Rattle.std.proofs.Common.{subst, sym}
 use Rattle.fbr_files.specs.Writing.{LeavesAll}
 use Rattle.fbr_words.specs.Program.{written_by}
 use Rattle.fbr_words.specs.Requests.{asked_of, drawing_of, packing_of, sought_of}
-use Rattle.fbr_static.proofs.Told.{all_one}
+use Rattle.fbr_static.proofs.Tellings.{all_one}
 use Rattle.fbr.proofs.run.answer.Goals as goal
 
 pub returns-in-Bound-clause-others : goal.returns-in-Bound-clause-others

@@ -5,7 +5,7 @@ use Rattle.fbr_files.specs.Writing.{LeavesAll}
 use Rattle.fbr_words.specs.Program.{request_of, written_for}
 use Rattle.fbr_words.specs.Requests.{order_of}
 use Rattle.fbr.specs.Answers.{AnswersOrder}
-use Rattle.fbr_static.proofs.Told.{all_kept}
+use Rattle.fbr_static.proofs.Tellings.{all_kept}
 use Rattle.fbr.proofs.Told.{misread_asked, misuse_asked, same_asked}
 use Rattle.fbr.proofs.run.run_words.Goals as goal
 

@@ -1,6 +1,6 @@
 use Rattle.std.proofs.Common.{drop, map}
 use Rattle.std.specs.Prelude.{option_map}
-use Rattle.fbr_runs.specs.Runs.{AllApart}
+use Rattle.fbr_runs.specs.Running.{AllApart}
 use Rattle.fbr_runs.proofs.kept.is_read.Given as goal
 
 -- what is written is none of those that were looked at

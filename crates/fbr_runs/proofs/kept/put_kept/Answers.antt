@@ -1,7 +1,7 @@
 use Rattle.std.proofs.Common.{subst, ◌∙◌}
 use Rattle.std.specs.Prelude.{option_map}
 use Rattle.fbr_files.specs.Writing.{LeavesAllBut}
-use Rattle.fbr_runs.proofs.Told.{three_left}
+use Rattle.fbr_runs.proofs.Running.{three_left}
 use Rattle.fbr_runs.proofs.kept.put_kept.Goals as goal
 
 pub returns-clause-others : goal.returns-clause-others

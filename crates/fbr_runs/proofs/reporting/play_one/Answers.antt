@@ -1,0 +1,6 @@
+use Rattle.std.proofs.Common.{refl}
+use Rattle.fbr_static.proofs.Tellings.{all_kept}
+use Rattle.fbr_runs.proofs.reporting.play_one.Goals as goal
+
+pub returns-clause-others : goal.returns-clause-others
+returns-clause-others g c = all_kept (g.S.Sources.same c.args.files.now) _ (g.S.Sources.contents c.args.files.now) (g.S.Sources.contents c.args.files.now) refl
