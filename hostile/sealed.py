@@ -1,10 +1,11 @@
 #!/usr/bin/env python3
 """Sealed datagrams under attack: hostile/sealed.py PROGRAM [--seed N] [--count N]
 
-A device runs with keys and a state, and gets N datagrams (20,000 without it) that a stranger has: cut, changed in a byte or more, forged under another key, with another peer's number, sent again,
-out of order, without a seal, with counters up to 2^64 - 1; and between them those of a friend. Asked is that just the friend's are taken, each once, that the counts of what was dropped, with what found
-no room in the socket, add up to what was sent, and that memory stays flat. Then the device is killed and started again: nothing that was recorded is taken once more, and what it sends has counters above all before. At last its state file is
-cut behind each byte, changed in each, and missing, and its keys are for others to read: it is refused (61), and told why."""
+A device runs with keys and a state, and gets N datagrams (20,000 without it) that a stranger has: cut, changed in a byte or more, forged under another key,
+with another peer's number, sent again, out of order, without a seal, with counters up to 2^64 - 1; and between them those of a friend. Asked is that just the
+friend's are taken, each once, that the counts of what was dropped, with what found no room in the socket, add up to what was sent, and that memory stays
+flat. Then the device is killed and started again: nothing that was recorded is taken once more, and what it sends has counters above all before. At last its
+state file is cut behind each byte, changed in each, and missing, and its keys are for others to read: it is refused (61), and told why."""
 import argparse
 import os
 import random
@@ -141,7 +142,8 @@ class Device:
         raise Wrong(f"64 datagrams of the friend were dropped after a restart: {self.told()[-500:]}")
 
     def stop(self, is_paced=True):
-        """Ends the device; the writes are the friend's values, as many as were taken if they came in a burst, and the counts add up. Those of what was dropped, and what the system lost."""
+        """Ends the device; the writes are the friend's values, as many as were taken if they came in a burst, and the counts add up: how many were dropped
+        for each reason, and how many found no room in the socket."""
         lost = self.lost()
         self.job.stdin.close()
         if self.job.wait(WAIT):

@@ -645,7 +645,8 @@ class OfSeals(Bench):
                 changed = bytearray(sealed)
                 changed[at] ^= 1 << bit
                 self.gateway.hear_device(bytes(changed), RIGHT)
-        for it in (sealed, sealed, message, sealed[:-1], b"", seal(bytes(32), 2, 9, message), seal(self.keys[9], 9, 9, message), seal(self.keys[2], 2, 2**64 - 1, message)):
+        forged = seal(bytes(32), 2, 9, message), seal(self.keys[9], 9, 9, message), seal(self.keys[2], 2, 2**64 - 1, message)
+        for it in (sealed, sealed, message, sealed[:-1], b"", *forged):
             self.gateway.hear_device(it, RIGHT)
         self.gateway.hear_device(sealed, ("127.0.0.1", 24003))
         self.assertEqual(len(self.to_groups), 1)
