@@ -1,10 +1,11 @@
 #!/usr/bin/env python3
 """Sealed datagrams under attack: hostile/sealed.py PROGRAM [--seed N] [--count N]
 
-A device runs with keys and a state, and gets N datagrams (20,000 without it) that a stranger has: cut, changed in a byte or more, forged under another key, with another peer's number, sent again,
-out of order, without a seal, with counters up to 2^64 - 1; and between them those of a friend. Asked is that just the friend's are taken, each once, that the counts of what was dropped add up to what was
-sent, and that memory stays flat. Then the device is killed and started again: nothing that was recorded is taken once more, and what it sends has counters above all before. At last its state file is
-cut behind each byte, changed in each, and missing, and its keys are for others to read: it is refused (61), and told why."""
+A device runs with keys and a state, and gets N datagrams (20,000 without it) that a stranger has: cut, changed in a byte or more, forged under another key,
+with another peer's number, sent again, out of order, without a seal, with counters up to 2^64 - 1; and between them those of a friend. Asked is that just the
+friend's are taken, each once, that the counts of what was dropped, with what found no room in the socket, add up to what was sent, and that memory stays
+flat. Then the device is killed and started again: nothing that was recorded is taken once more, and what it sends has counters above all before. At last its
+state file is cut behind each byte, changed in each, and missing, and its keys are for others to read: it is refused (61), and told why."""
 import argparse
 import os
 import random
@@ -30,6 +31,7 @@ END_RESOURCE END_DEVICE END_SYSTEM
 """
 OWN, FRIEND, OTHER = 1, 2, 3
 WAIT = 5.0
+REASONS = "not sealed", "of an unknown number", "under another key", "taken before or too old", "not written down"
 DROPPED = re.compile(r"^fbr: dropped so far: not sealed (\d+), of an unknown number (\d+), under another key (\d+), taken before or too old (\d+), not written down (\d+)$", re.M)
 
 
@@ -140,7 +142,9 @@ class Device:
         raise Wrong(f"64 datagrams of the friend were dropped after a restart: {self.told()[-500:]}")
 
     def stop(self, is_paced=True):
-        """Ends the device; the writes are the friend's values, as many as were taken if they came in a burst, and the counts add up."""
+        """Ends the device; the writes are the friend's values, as many as were taken if they came in a burst, and the counts add up: how many were dropped
+        for each reason, and how many found no room in the socket."""
+        lost = self.lost()
         self.job.stdin.close()
         if self.job.wait(WAIT):
             raise Wrong(f"the device ended with {self.job.returncode}: {self.told()}")
@@ -150,9 +154,9 @@ class Device:
             raise Wrong(f"written were {writes[-3:]} and {len(writes)} in all, and taken {self.taken[-3:]} and {len(self.taken)}")
         found = DROPPED.findall(self.told().decode())
         dropped = sum(map(int, found[-1])) if found else 0
-        if dropped + len(self.taken) != self.sent:
-            raise Wrong(f"{self.sent} were sent, {len(self.taken)} taken and {dropped} dropped: {found[-1:]}")
-        return found[-1] if found else ()
+        if dropped + len(self.taken) + lost != self.sent:
+            raise Wrong(f"{self.sent} were sent, {len(self.taken)} taken, {dropped} dropped and {lost} lost: {found[-1:]}")
+        return dict(zip(REASONS, found[-1] if found else ())), lost
 
     def written(self):
         """The values that were written so far."""
@@ -162,6 +166,11 @@ class Device:
     def kill(self):
         self.job.kill()
         self.job.wait(WAIT)
+
+    def lost(self):
+        """How many datagrams found no room in the socket of the device, as the system counts them."""
+        with open("/proc/net/udp") as it:
+            return sum(int(line.split()[-1]) for line in it if line.split()[1].endswith(f":{self.port:04X}"))
 
     def memory(self):
         with open(f"/proc/{self.job.pid}/status") as it:
@@ -197,6 +206,7 @@ def strange(device):
 
 def under_attack(device, count):
     """Strangers' datagrams, and a friend's between them."""
+    start = time.monotonic()
     device.start()
     for _ in range(20):
         device.friend()
@@ -205,11 +215,13 @@ def under_attack(device, count):
         device.send(strange(device))
         if at % 50 == 49:
             device.friend()
-    grown = device.memory() - first
-    if grown > 512:
-        raise Wrong(f"memory grew by {grown} KiB")
-    counts = device.stop()
-    print(f"sealed: {count} strange datagrams, {len(device.taken)} of a friend taken, dropped {' '.join(counts)}, memory {grown:+d} KiB")
+    last = device.memory()
+    if last - first > 512:
+        raise Wrong(f"memory grew from {first} to {last} KiB")
+    dropped, lost = device.stop()
+    says = ", ".join(f"{reason} {number}" for reason, number in dropped.items())
+    print(f"sealed: {count} strange datagrams and {len(device.taken)} of a friend, which were taken; {says}; lost in the socket {lost}")
+    print(f"sealed: memory from {first} to {last} KiB, {time.monotonic() - start:.1f} s")
 
 
 def overtaken(device):

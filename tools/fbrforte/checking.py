@@ -29,7 +29,7 @@ def no_end(line: ChannelLine, kind: str, ends: list[End]) -> str:
     return f"the text has no {kind} of channel {line.number}; channels with one: {there}"
 
 
-def line_fault(line: ChannelLine, ends: list[End], has_state: bool) -> str:
+def line_fault(line: ChannelLine, ends: list[End], has_boot: bool) -> str:
     """What is wrong with a line, with the ends of its channel; empty where nothing is."""
     first = ends[0]
     publishing = [it.path for it in ends if it.kind == "PUBLISH"]
@@ -39,12 +39,12 @@ def line_fault(line: ChannelLine, ends: list[End], has_state: bool) -> str:
         return ""
     if publishing:
         return f"{line.name} has FORMAT 2, and its one PUBLISH is {publishing[0]}: the gateway cannot be a second one"
-    if not has_state:
-        return f"{line.name} has FORMAT 2 in the text: --state FILE is missing, by which its stamps grow over restarts"
+    if not has_boot:
+        return f"{line.name} has FORMAT 2 in the text: --boot-file FILE is missing, by which its stamps grow over restarts"
     return ""
 
 
-def plan_line(plan: Plan, line: ChannelLine, ends: list[End], has_state: bool) -> None:
+def plan_line(plan: Plan, line: ChannelLine, ends: list[End], has_boot: bool) -> None:
     """Adds the route of a line to the plan, or what is wrong with it."""
     kind = "PUBLISH" if line.is_published else "SUBSCRIBE"
     of_channel = [it for it in ends if it.channel == line.number]
@@ -52,7 +52,7 @@ def plan_line(plan: Plan, line: ChannelLine, ends: list[End], has_state: bool) -
     if not wanted:
         plan.faults.append(Fault(line.line, no_end(line, kind, ends)))
         return
-    if fault := line_fault(line, of_channel, has_state):
+    if fault := line_fault(line, of_channel, has_boot):
         plan.faults.append(Fault(line.line, fault))
         return
     named = tuple(it for it in plan.table.devices if it.name in wanted)
@@ -65,14 +65,14 @@ def plan_line(plan: Plan, line: ChannelLine, ends: list[End], has_state: bool) -
     plan.routes.append(Route(line, of_channel[0].format, named))
 
 
-def planned(table: Table, devices: list[str], ends: list[End], has_state: bool) -> Plan:
-    """What the gateway does by this table, with the devices and the ends of the text. `has_state` is whether --state was given."""
+def planned(table: Table, devices: list[str], ends: list[End], has_boot: bool) -> Plan:
+    """What the gateway does by this table, with the devices and the ends of the text. `has_boot` is whether a boot file was given."""
     plan = Plan(table)
     for it in table.devices:
         if it.name not in devices:
             plan.faults.append(Fault(it.line, f"the text has no device {it.name}; it has {', '.join(devices)}"))
     for line in table.channels:
-        plan_line(plan, line, ends, has_state)
+        plan_line(plan, line, ends, has_boot)
     if not plan.faults:
         used = {device.name for route in plan.routes for device in route.devices}
         plan.notes += [f"{table.name}:{it.line}: {it.name} has no end of a channel of this table" for it in table.devices if it.name not in used]

@@ -6,6 +6,8 @@ from dataclasses import dataclass, field
 from fbrio.datagrams import Message, NoMessage, Stamp, decoded, encoded
 from fbrio.values import Values, types_text
 from fbrio.words import Address
+from fbrseal.keys import BadKeys
+from fbrseal.sealer import Dropped, Sealer
 
 from . import encoding
 from .checking import Plan
@@ -13,7 +15,7 @@ from .encoding import Unfit
 from .lines import DeviceLine, Route, address_text
 from .stamps import BootError, Stamps
 
-STRANGER, NO_MESSAGE, NOT_SENT = "from a stranger", "no message", "could not be sent"
+STRANGER, NO_MESSAGE, NOT_SENT, NOT_SEALED = "from a stranger", "no message", "could not be sent", "could not be sealed"
 
 
 @dataclass
@@ -45,7 +47,7 @@ def unlike(message: Message, route: Route) -> tuple[str, str]:
 
 class Gateway:
     """The routes of a plan. `tell` tells people, `to_device` and `to_group` send and answer whether the system took it, `stamps` are there if a channel of
-    format 2 goes to devices."""
+    format 2 goes to devices, and `sealer` if what devices send and get is sealed."""
 
     def __init__(
         self,
@@ -54,7 +56,9 @@ class Gateway:
         tell: Callable[[str], None],
         to_device: Callable[[DeviceLine, bytes], bool],
         to_group: Callable[[Address, bytes], bool],
+        sealer: Sealer | None = None,
     ) -> None:
+        self.sealer = sealer
         self.plan, self.stamps, self.tell, self.to_device, self.to_group = plan, stamps, tell, to_device, to_group
         self.published = {it.line.number: it for it in plan.routes if it.line.is_published}
         self.at_address = {it.address: it for it in plan.table.devices}
@@ -82,7 +86,10 @@ class Gateway:
         counts = self.of_device[device]
         counts.came += 1
         try:
-            message = decoded(datagram)
+            message = decoded(self.sealer.opened(datagram) if self.sealer else datagram)
+        except Dropped as why:
+            self.drop(counts, str(why), f"{device.name} at {where}", f"sent what does not open{f' ({why.__cause__})' if why.__cause__ else ''}")
+            return
         except NoMessage as why:
             self.drop(counts, NO_MESSAGE, f"{device.name} at {where}", f"sent {why}")
             return
@@ -155,6 +162,11 @@ class Gateway:
             self.drop(counts, "no stamp", line.way, str(why))
             return
         datagram = encoded(Message(line.number, line.types, values, stamp))
+        try:
+            datagram = self.sealer.seal(datagram) if self.sealer else datagram
+        except BadKeys as why:
+            self.drop(counts, NOT_SEALED, line.way, str(why))
+            return
         is_taken = True
         for it in route.devices:
             if self.to_device(it, datagram):

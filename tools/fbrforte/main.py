@@ -9,6 +9,8 @@ from fbrio.checking import Refused, too_old, verdict
 from fbrio.lines import Fault
 from fbrio.starting import NothingStarts, read_file
 from fbrio.telling import Teller
+from fbrseal.keys import BadKeys
+from fbrseal.sealer import Sealer
 from fbrtools.program import NoProgram, find
 
 from .checking import Plan, planned
@@ -19,7 +21,7 @@ from .stamps import BootError, Stamps
 from .table import read_table
 
 NAME = "fbr-forte"
-USAGE = "fbr-forte [--check] [--state FILE] [--summary SECONDS] TABLE APP CERT"
+USAGE = "fbr-forte [--check] [--keys FILE --state FILE] [--boot-file FILE] [--summary SECONDS] TABLE APP CERT"
 
 
 class Parser(argparse.ArgumentParser):
@@ -49,9 +51,18 @@ def read_words(words: list[str]) -> argparse.Namespace:
     parser.add_argument("app", metavar="APP", help="the application")
     parser.add_argument("certificate", metavar="CERT", help="its certificate")
     parser.add_argument("--check", action="store_true", help="holds the table against the text, says how each line was understood, and starts nothing")
-    parser.add_argument("--state", metavar="FILE", help="a file with the boot of the next start, for channels of format 2")
+    parser.add_argument("--keys", metavar="FILE", help="seals what goes to devices, and takes only what the devices of this file sealed (docs/KEYS.md)")
+    parser.add_argument("--state", metavar="FILE", help="with --keys, the counters of sealed datagrams over restarts; without, the same as --boot-file")
+    parser.add_argument("--boot-file", metavar="FILE", dest="boot", help="a file with the boot of the next start, for channels of format 2")
     parser.add_argument("--summary", metavar="SECONDS", type=seconds, default=60.0, help="how often the totals are printed: 60 if it is not given")
-    return parser.parse_args(words)
+    found = parser.parse_args(words)
+    if found.keys is not None and found.state is None:
+        parser.error("--keys needs --state FILE, which holds the counters of sealed datagrams")
+    if found.keys is None and found.state is not None:
+        if found.boot is not None:
+            parser.error("--state without --keys is the boot file, and so is --boot-file")
+        found.boot, found.state = found.state, None
+    return found
 
 
 def located(table: str, fault: Fault) -> str:
@@ -73,7 +84,7 @@ def checked(words: argparse.Namespace) -> Plan:
     table, faults = read_table(words.table, read_file(words.table, NAME))
     says, status, notes, plan = [], 2, [], Plan(table)
     try:
-        plan = planned(table, *known([find()], words), words.state is not None)
+        plan = planned(table, *known([find()], words), words.boot is not None)
         faults, notes = faults + plan.faults, plan.notes
     except NoProgram as why:
         says, status = [f"{NAME}: {why}"], 3
@@ -84,7 +95,7 @@ def checked(words: argparse.Namespace) -> Plan:
     return plan
 
 
-def described(plan: Plan) -> list[str]:
+def described(plan: Plan, is_sealed: bool) -> list[str]:
     """Each line of the table as it was understood, and what the devices need."""
     table = plan.table
     lines = [f"{table.name}:{it.line.line}: {it.described}" for it in plan.routes]
@@ -93,21 +104,23 @@ def described(plan: Plan) -> list[str]:
         needs = f"needs a peer with an address of this machine and the port {table.bind[1]}, and that address in --from if it has a --from"
     else:
         needs = f"needs the peer {address_text(table.bind)}, and --from {host} if it has a --from"
+    needs += "; its file of keys needs a line for the gateway, in which this address may stand instead" if is_sealed else ""
     for it in table.devices:
         lines.append(f"{table.name}:{it.line}: {it.name} is served by --bind {address_text(it.address)}; it {needs}")
     return lines
 
 
 def start(plan: Plan, words: argparse.Namespace, teller: Teller) -> None:
-    """Runs the gateway until it is ended; NothingStarts where its stamps would not grow."""
+    """Runs the gateway until it is ended; NothingStarts where it cannot seal as it was asked to, or its stamps would not grow."""
     try:
-        stamps = Stamps(words.state) if plan.is_stamping else None
-    except BootError as why:
+        sealer = None if words.keys is None else Sealer.of_files(words.keys, words.state)
+        stamps = Stamps(words.boot) if plan.is_stamping else None
+    except (BadKeys, BootError) as why:
         raise NothingStarts([f"{NAME}: {why}"], 3) from why
 
     async def run() -> None:
         """Runs it in the loop."""
-        await Running(plan, stamps, teller, words.summary).run()
+        await Running(plan, stamps, sealer, teller, words.summary).run()
 
     asyncio.run(run())
 
@@ -122,7 +135,7 @@ def main(words: list[str]) -> int:
         for it in plan.notes:
             teller.say(it)
         if asked.check:
-            for line in described(plan):
+            for line in described(plan, asked.keys is not None):
                 teller.write(line)
         else:
             start(plan, asked, teller)

@@ -5,6 +5,7 @@ import signal
 
 from fbrio.faults import Faults
 from fbrio.telling import Teller, counted
+from fbrseal.sealer import Sealer
 
 from .checking import Plan
 from .gateway import Gateway
@@ -16,13 +17,13 @@ from .stamps import Stamps
 class Running:
     """A gateway with its sockets. It is made in a running loop. The sums come every `every` seconds."""
 
-    def __init__(self, plan: Plan, stamps: Stamps | None, teller: Teller, every: float) -> None:
+    def __init__(self, plan: Plan, stamps: Stamps | None, sealer: Sealer | None, teller: Teller, every: float) -> None:
         self.plan, self.teller, self.every = plan, teller, every
         self.loop = asyncio.get_running_loop()
         self.over = asyncio.Event()
         self.faults = Faults(teller.tell, self.loop.time)
         table = plan.table
-        self.gateway = Gateway(plan, stamps, teller.tell, self.to_device, lambda group, datagram: self.groups.send(group, datagram))
+        self.gateway = Gateway(plan, stamps, teller.tell, self.to_device, lambda group, datagram: self.groups.send(group, datagram), sealer)
         self.devices = DevicesLink(table.bind, self.gateway.hear_device, self.faults)
         self.groups = PublishLink(table.interface, self.faults)
         self.heard = [
@@ -30,7 +31,7 @@ class Running:
             for it in plan.routes
             if not it.line.is_published
         ]
-        self.boot = f", boot {stamps.boot}" if stamps else ""
+        self.extra = (f", boot {stamps.boot}" if stamps else "") + (f", sealed as number {sealer.keys.own}" if sealer else "")
 
     def to_device(self, device: DeviceLine, datagram: bytes) -> bool:
         """Sends to a device; whether the system took it."""
@@ -54,7 +55,7 @@ class Running:
         for it in links:
             it.open()
         ways = f"{len(self.plan.routes) - len(self.heard)} to FORTE, {len(self.heard)} from FORTE"
-        self.teller.tell(f"devices send to {address_text(self.plan.table.bind)}; {ways}{self.boot}")
+        self.teller.tell(f"devices send to {address_text(self.plan.table.bind)}; {ways}{self.extra}")
         while not self.over.is_set():
             try:
                 await asyncio.wait_for(self.over.wait(), self.every)

@@ -2,11 +2,15 @@
 import collections
 from dataclasses import dataclass, field
 
-from .keys import Keys, read_keys
+from .keys import BadKeys, Keys, read_keys
 from .state import LAST, StateFile
 from .tags import is_tagged, said_in, seal
 
 WINDOW = 64
+
+
+class Dropped(Exception):
+    """A datagram is dropped; its text is the reason, in the words by which `fbr serve` counts it."""
 
 
 @dataclass
@@ -42,27 +46,42 @@ class Sealer:
         return cls(read_keys(keys), StateFile(state))
 
     def seal(self, datagram: bytes) -> bytes:
-        """A datagram, sealed with the next counter."""
+        """A datagram, sealed with the next counter; BadKeys where there is none."""
         return seal(self.keys.own_key, self.keys.own, self.state.take(), datagram)
 
     def open(self, sealed: bytes) -> bytes | None:
         """The datagram that a peer sealed; None where bytes are dropped, which is counted."""
+        try:
+            return self.opened(sealed)
+        except Dropped as why:
+            self.counts[str(why)] += 1
+            return None
+
+    def opened(self, sealed: bytes) -> bytes:
+        """The datagram that a peer sealed, which is taken once; Dropped where bytes are dropped."""
         said = said_in(sealed)
         if said is None:
-            self.counts["not sealed"] += 1
-            return None
+            raise Dropped("not sealed")
         number, counter, datagram = said
         known = [key for sender, key in self.keys.others if sender == number]
         key = next((it for it in known if is_tagged(it, sealed)), None)
         if key is None:
-            self.counts["under another key" if known else "of an unknown number"] += 1
-            return None
+            raise Dropped("under another key" if known else "of an unknown number")
         window = self.windows[number, key]
-        if counter >= window.upto and counter < LAST:
-            window.upto = min(counter + WINDOW, LAST)
-            self.state.allow(number, key, window.upto)
-        if counter >= window.upto or not window.is_fresh(counter):
-            self.counts["taken before or too old"] += 1
-            return None
+        if counter >= window.upto:
+            self.allow(window, number, key, counter)
+        if not window.is_fresh(counter):
+            raise Dropped("taken before or too old")
         window.take(counter)
         return datagram
+
+    def allow(self, window: Window, number: int, key: bytes, counter: int) -> None:
+        """Writes down that a peer may use a counter and those behind it; Dropped where that cannot be."""
+        upto = min(counter + WINDOW, LAST)
+        if counter >= upto:
+            raise Dropped("not written down")
+        try:
+            self.state.allow(number, key, upto)
+        except BadKeys as why:
+            raise Dropped("not written down") from why
+        window.upto = upto

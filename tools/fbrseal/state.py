@@ -47,29 +47,32 @@ class StateFile:
                 return int(own), entries
         raise BadKeys(f"{self.path}: the state file is damaged or cut; `fbr key --state FILE`, with another name, begins a new one, with a new key")
 
-    def write(self) -> None:
-        """Has the state on the disk, in place of the one before."""
+    def write(self, own: int, entries: dict[tuple[int, str], int]) -> None:
+        """Has a state on the disk, in place of the one before; BadKeys where that cannot be, and then the one before is in force."""
         beside = f"{self.path}.new"
-        with open(beside, "w", encoding="utf-8", newline="") as file:
-            file.write(state_text(self.own, self.entries))
-            file.flush()
-            os.fsync(file.fileno())
-        os.replace(beside, self.path)
-        folder = os.open(os.path.dirname(os.path.abspath(self.path)), os.O_RDONLY)
         try:
-            os.fsync(folder)
-        finally:
-            os.close(folder)
+            with open(beside, "w", encoding="utf-8", newline="") as file:
+                file.write(state_text(own, entries))
+                file.flush()
+                os.fsync(file.fileno())
+            os.replace(beside, self.path)
+            folder = os.open(os.path.dirname(os.path.abspath(self.path)), os.O_RDONLY)
+            try:
+                os.fsync(folder)
+            finally:
+                os.close(folder)
+        except OSError as why:
+            raise BadKeys(f"{self.path}: the state file cannot be written: {why.strerror}") from why
+        self.own, self.entries = own, entries
 
     def reserve(self) -> None:
-        """Writes down the next own counters."""
+        """Writes down the next own counters; BadKeys where none are left, or they cannot be written."""
         if self.own + STEP > LAST:
             raise BadKeys(f"{self.path}: no counters are left")
-        self.own += STEP
-        self.write()
+        self.write(self.own + STEP, self.entries)
 
     def take(self) -> int:
-        """The next own counter, which is written down."""
+        """The next own counter, which is written down; BadKeys where it cannot be."""
         if self.next >= self.own:
             self.reserve()
         self.next += 1
@@ -80,6 +83,5 @@ class StateFile:
         return self.entries.get((number, mark_of(key)), 0)
 
     def allow(self, number: int, key: bytes, upto: int) -> None:
-        """Writes down that a peer may use the counters below one."""
-        self.entries[number, mark_of(key)] = max(upto, self.upto(number, key))
-        self.write()
+        """Writes down that a peer may use the counters below one; BadKeys where it cannot be."""
+        self.write(self.own, {**self.entries, (number, mark_of(key)): max(upto, self.upto(number, key))})

@@ -20,6 +20,9 @@ import forte_peer
 import parts
 from parts import waited
 
+from fbrseal.sealer import Sealer  # noqa: E402  (parts has set the path)
+from fbrseal.tags import said_in, seal  # noqa: E402
+
 DATA = parts.DATA / "forte"
 APP, TABLE, GATEWAY = DATA / "exchange.fb", DATA / "exchange.table", parts.TOOLS / "fbr-forte"
 PYTHON = "/usr/bin/python3"
@@ -89,7 +92,7 @@ class Inside(unittest.TestCase):
     def setUp(self):
         self.folder = tempfile.mkdtemp()
         self.addCleanup(shutil.rmtree, self.folder)
-        self.state, self.certificate = f"{self.folder}/state", f"{self.folder}/exchange.cert"
+        self.state, self.certificate, self.plant = f"{self.folder}/state", f"{self.folder}/exchange.cert", {}
         with open(self.state, "w", encoding="ascii") as file:
             file.write("7\n")
         subprocess.run([parts.program(), "bound", str(APP), "--room", "40", "-o", self.certificate], check=True, capture_output=True)
@@ -107,12 +110,12 @@ class Inside(unittest.TestCase):
         self.assertTrue(found.tells(f"fbr: {name.upper()} receives at .*"), found.errors)
         return found
 
-    def gateway(self, text=None):
-        """A gateway that runs, with the table of the example or another one."""
+    def gateway(self, text=None, words=None):
+        """A gateway that runs, with the table of the example or another one, and with its boot file, or with other words."""
         name = f"{self.folder}/table"
         with open(name, "w", encoding="utf-8") as file:
             file.write(text or TABLE.read_text(encoding="utf-8"))
-        found = self.running(PYTHON, GATEWAY, "--state", self.state, "--summary", "1", name, APP, self.certificate)
+        found = self.running(PYTHON, GATEWAY, *(words or ("--state", self.state)), "--summary", "1", name, APP, self.certificate)
         self.assertTrue(found.tells(r"fbr-forte: devices send to .*"), found.errors)
         return found
 
@@ -181,6 +184,120 @@ class Inside(unittest.TestCase):
             self.assertTrue(waited(lambda: right.output) and (value == 5 or right.tells(r".* s channel 8 denied 64: .*")), right.errors)
             self.assertEqual(gateway.end(), 0)
         self.assertEqual(right.output, ["write 1 5"])
+
+    def seals(self, name, own, addresses):
+        """The words for keys of a device of the plant; its file of keys and its state are made. Others have the addresses that are given, or none."""
+        keys, state = f"{self.folder}/{name}.keys", f"{self.folder}/{name}.begin"
+        if not self.plant:
+            for number in (1, 2, 3, 9):
+                made = subprocess.run([parts.program(), "key", "--state", f"{self.folder}/state{number}"], check=True, capture_output=True, text=True)
+                self.plant[number] = made.stdout.strip()
+        os.replace(f"{self.folder}/state{own}", state)
+        with open(keys, "w", encoding="ascii") as file:
+            file.write(f"own {own}\n" + "".join(f"{number} {addresses.get(number, '-')} {key}\n" for number, key in self.plant.items()))
+        os.chmod(keys, 0o600)
+        return "--keys", keys, "--state", state
+
+    def sealing(self, name, own, port):
+        """A device of the plant that the test plays: what seals for it, and its socket."""
+        _, keys, _, state = self.seals(name, own, {})
+        link = socket.socket(socket.AF_INET, socket.SOCK_DGRAM)
+        self.addCleanup(link.close)
+        link.bind(("127.0.0.1", port))
+        link.settimeout(PATIENCE)
+        return Sealer.of_files(keys, state), link
+
+    def test_sealed_both_ways_beside_kills(self):
+        """RIGHT has keys, and names the gateway in its file of keys alone; the gateway is killed twice, and goes on."""
+        words = ("serve", APP, self.certificate, "Right", "--bind", 24002, "--until-eof", "--summary", "1")
+        right = self.running(parts.program(), *words, *self.seals("right", 2, {9: "127.0.0.1:24010"}))
+        self.assertTrue(right.tells("fbr: RIGHT receives at .*"), right.errors)
+        client, link = self.sealing("client", 3, 24003)
+        own, peer = (*self.seals("gateway", 9, {}), "--boot-file", self.state), self.peer(("239.192.0.11", 61499))
+        for boot in (7, 8, 9):
+            gateway = self.gateway(words=own)
+            self.assertTrue(gateway.tells(rf"fbr-forte: devices send to .*, boot {boot}, sealed as number 9"), gateway.errors)
+            peer.send("239.192.0.8", 61500, forte_peer.spelled([("INT", boot)]))
+            self.assertTrue(waited(lambda: f"write 1 {boot}" in right.output), (right.output, right.errors, gateway.errors))
+            # After a kill up to 63 are dropped, since the gateway may have taken them before (docs/KEYS.md).
+            for _ in range(63 if boot > 7 else 0):
+                link.sendto(client.seal(b"FB\1\2\0\2\0"), ("127.0.0.1", 24002))
+                time.sleep(0.005)
+            while self.hears(peer, "239.192.0.11", 0.5) is not None:
+                continue
+            for _ in range(10):
+                link.sendto(client.seal(b"FB\1\2\0\2\0"), ("127.0.0.1", 24002))
+                self.assertEqual(self.hears(peer, "239.192.0.11"), [], gateway.errors)
+            self.assertEqual(gateway.end(signal.SIGKILL), -signal.SIGKILL)
+        self.assertEqual(right.output, ["write 1 7", "write 1 8", "write 1 9"])
+        self.assertFalse([it for it in right.errors if "dropped so far" in it or "denied" in it and "denied none" not in it], right.errors)
+        self.without_its_state(own)
+
+    def without_its_state(self, words):
+        """A gateway whose state file is lost, cut or open to others does not start, and begins none."""
+        _, keys, _, state, *_ = words
+        command = [PYTHON, GATEWAY, *words, f"{self.folder}/table", APP, self.certificate]
+        with open(state, encoding="ascii") as file:
+            whole = file.read()
+        for text, says in ((None, "the state file cannot be read; `fbr key --state FILE` begins one"), (whole[:-9], "the state file is damaged or cut")):
+            os.remove(state)
+            if text is not None:
+                with open(state, "w", encoding="ascii") as file:
+                    file.write(text)
+            done = subprocess.run(command, capture_output=True, text=True, timeout=PATIENCE)
+            self.assertEqual((done.returncode, done.stdout), (3, ""), done.stderr)
+            self.assertTrue(done.stderr.startswith(f"fbr-forte: {state}: {says}"), done.stderr)
+            self.assertEqual(os.path.exists(state), text is not None)
+            with open(state, "w", encoding="ascii") as file:
+                file.write(whole)
+        os.chmod(keys, 0o640)
+        done = subprocess.run(command, capture_output=True, text=True, timeout=PATIENCE)
+        self.assertEqual((done.returncode, done.stderr), (3, f"fbr-forte: {keys} holds keys: nobody but its owner may read or write it (chmod 600)\n"))
+
+    def test_what_is_not_sealed_as_it_has_to_be(self):
+        """The test is RIGHT: what it sealed goes to the group once, and the rest is dropped and counted, before a restart of the gateway and after it."""
+        right, link = self.sealing("right", 2, 24002)
+        own, peer, at = (*self.seals("gateway", 9, {}), "--boot-file", self.state), self.peer(("239.192.0.11", 61499)), ("127.0.0.1", 24010)
+        gateway = self.gateway(words=own)
+        bell = b"FB\1\1\0\x0b\0"
+        recorded = [right.seal(bell) for _ in range(3)]
+        forged = recorded[0][:-1] + bytes([recorded[0][-1] ^ 1])
+        for it in (*recorded, *recorded, bell, forged, seal(bytes(32), 2, 999, bell), seal(right.keys.own_key, 4, 999, bell), right.seal(b"FB")):
+            link.sendto(it, at)
+        self.assertEqual([self.hears(peer, "239.192.0.11", 0.5 if it == 3 else PATIENCE) for it in range(4)], [[], [], [], None])
+        peer.send("239.192.0.12", 61499, b"\x05")
+        sealed = link.recv(256)
+        self.assertEqual(right.open(sealed), b"FB\1\1\0\x0c\0")
+        dropped = {"taken before or too old": 3, "not sealed": 1, "under another key": 2, "of an unknown number": 1, "no message": 1}
+        self.assertTrue(gateway.tells(r"fbr-forte: RIGHT at .*: 11 came, 1 went, 8 dropped .*"), gateway.errors)
+        self.assertEqual(gateway.end(), 0)
+        self.assertEqual(self.counts(gateway, "RIGHT at 127.0.0.1:24002"), (11, 1, dropped))
+        told = [it for it in gateway.errors if "sent what does not open; dropped" in it]
+        self.assertEqual(len(told), 4, gateway.errors)
+        gateway = self.gateway(words=own)
+        for it in recorded:
+            link.sendto(it, at)
+        self.assertTrue(gateway.tells(r"fbr-forte: RIGHT at .*: 3 came, 0 went, 3 dropped \(3 taken before or too old\)"), gateway.errors)
+        self.assertIsNone(self.hears(peer, "239.192.0.11", 0.5))
+        for _ in range(64):
+            link.sendto(right.seal(bell), at)
+        self.assertEqual(self.hears(peer, "239.192.0.11"), [])
+        peer.send("239.192.0.12", 61499, b"\x05")
+        self.assertGreater(said_in(link.recv(256))[1], said_in(sealed)[1])
+        self.assertEqual(gateway.end(), 0)
+
+    def test_a_gateway_without_keys(self):
+        """A device with keys drops what it sends, and it takes nothing of what the device sends."""
+        words = ("serve", APP, self.certificate, "Right", "--bind", 24002, "--until-eof", "--summary", "1")
+        right = self.running(parts.program(), *words, *self.seals("right", 2, {9: "127.0.0.1:24010"}))
+        self.assertTrue(right.tells("fbr: RIGHT receives at .*"), right.errors)
+        client, link = self.sealing("client", 3, 24003)
+        gateway, peer = self.gateway(), self.peer()
+        peer.send("239.192.0.12", 61499, b"\x05")
+        self.assertTrue(right.tells(r"fbr: dropped so far: not sealed 1, .*"), right.errors)
+        link.sendto(client.seal(b"FB\1\2\0\2\0"), ("127.0.0.1", 24002))
+        self.assertTrue(gateway.tells(r"fbr-forte: RIGHT at .*: 1 came, 1 went, 1 dropped \(1 no message\)"), gateway.errors)
+        self.assertEqual(right.output, [])
 
     def test_all_types_both_ways(self):
         """The bounds of each type, and events without values."""

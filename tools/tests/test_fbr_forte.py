@@ -7,6 +7,7 @@ import random
 import struct
 import subprocess
 import sys
+import tempfile
 import unittest
 from unittest import mock
 
@@ -28,6 +29,10 @@ from fbrio.datagrams import Message, NoMessage, decoded, encoded  # noqa: E402
 from fbrio.faults import Faults  # noqa: E402
 from fbrio.lines import Fault  # noqa: E402
 from fbrio.values import TYPES  # noqa: E402
+from fbrseal.keys import Keys, Peer  # noqa: E402
+from fbrseal.sealer import Sealer  # noqa: E402
+from fbrseal.state import StateFile, state_text  # noqa: E402
+from fbrseal.tags import said_in, seal  # noqa: E402
 
 DATA = parts.DATA / "forte"
 APP, TABLE = DATA / "exchange.fb", DATA / "exchange.table"
@@ -335,18 +340,18 @@ class OfTables(parts.Folder):
         says = f"fbr-forte: {self.folder}/old is too old: its `explain --json` does not say which types there are"
         self.assertEqual((str(found.exception), found.exception.status), (says, 3))
 
-    def faults(self, text, has_state=True):
+    def faults(self, text, has_boot=True):
         """What is wrong with a table beside the text, and what is told."""
         table, faults = read_table("t", text)
         self.assertEqual(faults, [])
-        plan = planned(table, explained()["devices"], ends(), has_state)
+        plan = planned(table, explained()["devices"], ends(), has_boot)
         return plan.faults, plan.notes
 
     def test_faults_beside_a_text(self):
         text = "bind 5\ndevice Robot 6\ndevice Right 7\nCHANNEL 8 INT publish 239.0.0.1:5\nCHANNEL 7 INT subscribe 239.0.0.2:5\n"
         text += "CHANNEL 9 INT publish 239.0.0.3:5\nCHANNEL 7 INT BOOL TIME publish 239.0.0.4:5 microseconds\nCHANNEL 8 INT subscribe 239.0.0.5:5"
         self.assertEqual(
-            self.faults(text, has_state=False),
+            self.faults(text, has_boot=False),
             (
                 [
                     Fault(2, "the text has no device ROBOT; it has LEFT, RIGHT"),
@@ -354,7 +359,7 @@ class OfTables(parts.Folder):
                     Fault(5, "the text has no SUBSCRIBE of channel 7; channels with one: 8, 10, 12"),
                     Fault(6, f"CHANNEL 9 (RIGHT.R.WIDE) is {','.join(WIDE)} in the text, not INT"),
                     Fault(7, "CHANNEL 7 has its PUBLISH in LEFT: add a line `device LEFT ADDRESS:PORT`"),
-                    Fault(8, "CHANNEL 8 has FORMAT 2 in the text: --state FILE is missing, by which its stamps grow over restarts"),
+                    Fault(8, "CHANNEL 8 has FORMAT 2 in the text: --boot-file FILE is missing, by which its stamps grow over restarts"),
                 ],
                 [],
             ),
@@ -449,14 +454,14 @@ class Bench(unittest.TestCase):
         self.gateway = self.made(TABLE.read_text(encoding="utf-8"))
         self.routes = {(it.line.number, it.line.is_published): it for it in self.gateway.of_route}
 
-    def made(self, text):
+    def made(self, text, sealer=None):
         """A gateway of a table."""
         table, faults = read_table("t", text)
         plan = planned(table, explained()["devices"], ends(), True)
         self.assertEqual((faults, plan.faults), ([], []))
         given = mock.Mock()
         given.next.side_effect = ((9, at) for at in range(1, 10**9))
-        return Gateway(plan, given, self.told.append, self.to_device, self.to_group)
+        return Gateway(plan, given, self.told.append, self.to_device, self.to_group, sealer)
 
     def to_device(self, device, datagram):
         """Takes a datagram for a device."""
@@ -591,6 +596,114 @@ class OfWays(Bench):
         self.gateway.stamps.next.side_effect = BootError("state: No space left on device")
         self.gateway.hear_group(self.routes[8, False], bytes.fromhex("43 00 01"), FORTE)
         self.assertEqual((self.counts(8, False), self.to_devices), ((1, 0, {"no stamp": 1}), []))
+
+
+class OfSeals(Bench):
+    """A gateway with keys, 9 of the plant, between RIGHT, which is 2, and a group."""
+
+    def setUp(self):
+        super().setUp()
+        kept = tempfile.TemporaryDirectory()
+        self.addCleanup(kept.cleanup)
+        self.folder = kept.name
+        self.keys = {number: bytes([number]) * 32 for number in (2, 3, 9)}
+        for number in self.keys:
+            with open(f"{self.folder}/{number}", "w", encoding="ascii") as file:
+                file.write(state_text(0, {}))
+        self.right = self.sealer(2)
+        self.start()
+
+    def sealer(self, number):
+        """That of a device of the plant."""
+        peers = tuple(Peer(it, None, (key,)) for it, key in self.keys.items())
+        return Sealer(Keys(number, peers), StateFile(f"{self.folder}/{number}"))
+
+    def start(self):
+        """The gateway begins, or begins again with what its state file holds."""
+        self.gateway = self.made(TABLE.read_text(encoding="utf-8"), self.sealer(9))
+        self.routes = {(it.line.number, it.line.is_published): it for it in self.gateway.of_route}
+
+    def of_right(self):
+        """What came from RIGHT's address, and what was dropped of it."""
+        counts = self.gateway.of_device[self.gateway.at_address[RIGHT]]
+        return counts.came, dict(counts.dropped)
+
+    def test_both_ways(self):
+        for _ in range(200):
+            self.gateway.hear_device(self.right.seal(encoded(Message(11, (), ()))), RIGHT)
+            self.gateway.hear_group(self.routes[8, False], bytes.fromhex("43 ff fe"), FORTE)
+        self.assertEqual(self.to_groups, [(("239.192.0.11", 61499), b"\x05")] * 200)
+        opened = [self.right.opened(datagram) for name, datagram in self.to_devices if name == "RIGHT"]
+        self.assertEqual(opened, [encoded(Message(8, types("INT"), (-2,), (9, it))) for it in range(1, 201)])
+        self.assertEqual((self.of_right(), self.told), ((200, {}), []))
+
+    def test_what_does_not_open(self):
+        message = encoded(Message(11, (), ()))
+        sealed = self.right.seal(message)
+        for at in range(len(sealed)):
+            for bit in range(8):
+                changed = bytearray(sealed)
+                changed[at] ^= 1 << bit
+                self.gateway.hear_device(bytes(changed), RIGHT)
+        forged = seal(bytes(32), 2, 9, message), seal(self.keys[9], 9, 9, message), seal(self.keys[2], 2, 2**64 - 1, message)
+        for it in (sealed, sealed, message, sealed[:-1], b"", *forged):
+            self.gateway.hear_device(it, RIGHT)
+        self.gateway.hear_device(sealed, ("127.0.0.1", 24003))
+        self.assertEqual(len(self.to_groups), 1)
+        came, dropped = self.of_right()
+        expected = {"not sealed": 16 + 2, "of an unknown number": 15 + 1, "under another key": 8 * len(sealed) - 31 + 2}
+        self.assertEqual((came, dropped), (8 * len(sealed) + 8, {**expected, "taken before or too old": 1, "not written down": 1}))
+        self.assertEqual(self.gateway.of_others.dropped, {"from a stranger": 1})
+        behind = "dropped, and further ones are only counted"
+        for reason in dropped:
+            self.assertIn(f"RIGHT at 127.0.0.1:24002: sent what does not open; {behind} ({reason})", self.told)
+
+    def test_what_was_recorded(self):
+        """It is not taken again, also after restarts; and both ends go on."""
+        recorded, own = [], []
+        for _ in range(3):
+            recorded += [self.right.seal(encoded(Message(11, (), ()))) for _ in range(70)]
+            for it in recorded[-70:] * 2:
+                self.gateway.hear_device(it, RIGHT)
+            self.gateway.hear_group(self.routes[12, False], b"\x05", FORTE)
+            before = len(self.to_groups)
+            self.right.opened(self.to_devices[-1][1])
+            own.append(self.to_devices[-1][1])
+            self.start()
+            for it in recorded:
+                self.gateway.hear_device(it, RIGHT)
+            self.assertEqual((len(self.to_groups), self.of_right()), (before, (len(recorded), {"taken before or too old": len(recorded)})))
+            # What the restart rules out is at most 63 of RIGHT's.
+            lost = 0
+            while len(self.to_groups) == before:
+                self.gateway.hear_device(self.right.seal(encoded(Message(11, (), ()))), RIGHT)
+                lost += 1
+            self.assertLessEqual(lost, 64)
+        counters = [said_in(it)[1] for it in own]
+        self.assertEqual(counters, sorted(set(counters)))
+
+    def test_a_disk_that_is_full(self):
+        """Nothing is sealed or opened by a counter that was not written down, and afterwards the gateway goes on."""
+        first = self.right.seal(encoded(Message(11, (), ())))
+        self.gateway.sealer.state.next = self.gateway.sealer.state.own
+        with mock.patch("os.fsync", side_effect=OSError(28, "No space left on device")):
+            for _ in range(2):
+                self.gateway.hear_device(first, RIGHT)
+                self.gateway.hear_group(self.routes[12, False], b"\x05", FORTE)
+        self.assertEqual((self.to_groups, self.to_devices), ([], []))
+        self.assertEqual((self.of_right(), self.counts(12, False)), ((2, {"not written down": 2}), (2, 0, {"could not be sealed": 2})))
+        full = f"{self.folder}/9: the state file cannot be written: No space left on device"
+        behind = "dropped, and further ones are only counted"
+        self.assertEqual(
+            self.told,
+            [
+                f"RIGHT at 127.0.0.1:24002: sent what does not open ({full}); {behind} (not written down)",
+                f"CHANNEL 12 from 239.192.0.12:61499: {full}; {behind} (could not be sealed)",
+            ],
+        )
+        self.gateway.hear_device(first, RIGHT)
+        self.gateway.hear_group(self.routes[12, False], b"\x05", FORTE)
+        self.assertEqual((len(self.to_groups), len(self.to_devices)), (1, 1))
 
 
 class Clock:
@@ -789,11 +902,45 @@ class OfWords(parts.Folder):
             self.answer("--state", "state", TABLE, APP, self.certificate), (3, [], ["fbr-forte: state: it has to hold a number below 4294967295"])
         )
 
+    def test_keys_that_cannot_be_used(self):
+        """Files of keys and states that are none start nothing, and a lost state is not begun again."""
+        words = ("--keys", "keys", "--state", "seals", "--boot-file", "state", TABLE, APP, self.certificate)
+        self.put("keys", f"own 9\n9 - {'1' * 64}\n2 - {'2' * 64}\n")
+        (self.folder / "keys").chmod(0o640)
+        says = "fbr-forte: keys holds keys: nobody but its owner may read or write it (chmod 600)"
+        self.assertEqual(self.answer(*words), (3, [], [says]))
+        (self.folder / "keys").chmod(0o600)
+        says = "fbr-forte: seals: the state file cannot be read; `fbr key --state FILE` begins one, with the new key that belongs to it"
+        self.assertEqual(self.answer(*words), (3, [], [says]))
+        self.assertFalse((self.folder / "seals").exists())
+        whole = state_text(0, {})
+        for text in ("", whole[:-2], whole.replace("own 0", "own 1")):
+            self.put("seals", text)
+            status, output, errors = self.answer(*words)
+            self.assertEqual((status, output, len(errors)), (3, [], 1), errors)
+            self.assertIn("the state file is damaged or cut", errors[0])
+            self.assertEqual(self.get("seals"), text)
+        self.assertEqual(self.answer("--keys", "", "--state", "seals", "--boot-file", "state", TABLE, APP, self.certificate)[0], 3)
+        self.assertEqual(self.get("state"), "7\n")
+
+    def test_a_check_with_keys(self):
+        """It opens no file of keys, and says what devices need."""
+        words = ("--check", "--keys", "none", "--state", "none", "--boot-file", "state", TABLE, APP, self.certificate)
+        status, output, errors = self.answer(*words)
+        self.assertEqual((status, errors), (0, []))
+        needs = "it needs the peer 127.0.0.1:24010, and --from 127.0.0.1 if it has a --from"
+        needs += "; its file of keys needs a line for the gateway, in which this address may stand instead"
+        self.assertEqual(output[-1], f"{TABLE}:5: RIGHT is served by --bind 127.0.0.1:24002; {needs}")
+
     def test_words_that_are_none(self):
-        usage = "usage: fbr-forte [--check] [--state FILE] [--summary SECONDS] TABLE APP CERT"
+        usage = "usage: fbr-forte [--check] [--keys FILE --state FILE] [--boot-file FILE] [--summary SECONDS] TABLE APP CERT"
         self.assertEqual(self.answer(), (2, [], ["fbr-forte: the following arguments are required: TABLE, APP, CERT", usage]))
         self.assertEqual(self.answer("--summary", "0", "a", "b", "c"), (2, [], ["fbr-forte: argument --summary: invalid seconds value: '0'", usage]))
         self.assertEqual(self.answer("--fast", "a", "b", "c"), (2, [], ["fbr-forte: unrecognized arguments: --fast", usage]))
+        alone = "fbr-forte: --keys needs --state FILE, which holds the counters of sealed datagrams"
+        self.assertEqual(self.answer("--keys", "", "--boot-file", "b", "a", "b", "c"), (2, [], [alone, usage]))
+        twice = "fbr-forte: --state without --keys is the boot file, and so is --boot-file"
+        self.assertEqual(self.answer("--state", "s", "--boot-file", "s", "a", "b", "c"), (2, [], [twice, usage]))
         status, output, errors = self.answer("--help")
         self.assertEqual((status, output[0], errors), (0, usage, []))
 

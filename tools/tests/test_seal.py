@@ -2,6 +2,7 @@
 import os
 import tempfile
 import unittest
+from unittest import mock
 
 import parts  # noqa: F401  (it sets the path)
 
@@ -92,7 +93,24 @@ class SealTest(unittest.TestCase):
         self.assertIsNone(again.open(DATAGRAM))
         self.assertIsNone(again.open(seal(KEY, 5, 1, DATAGRAM)))
         self.assertIsNone(again.open(seal(KEY, 1, 2**64 - 1, DATAGRAM)))
-        self.assertEqual(again.counts["taken before or too old"], 101)
+        self.assertEqual((again.counts["taken before or too old"], again.counts["not written down"]), (100, 1))
+
+    def test_what_cannot_be_written_down(self) -> None:
+        """With a full disk no counter is used and none is taken; with room again both go on behind what was used."""
+        keys = self.put("keys", f"own 1\n1 - {KEY.hex()}\n2 - {OTHER.hex()}\n")
+        one = Sealer.of_files(keys, self.state("state"))
+        used = [one.state.take() for _ in range(STEP)]
+        with mock.patch("os.fsync", side_effect=OSError(28, "No space left on device")):
+            for _ in range(3):
+                with self.assertRaisesRegex(BadKeys, "the state file cannot be written: No space left on device"):
+                    one.seal(DATAGRAM)
+                self.assertIsNone(one.open(seal(OTHER, 2, 7, DATAGRAM)))
+            with self.assertRaisesRegex(BadKeys, "No space left on device"):
+                Sealer.of_files(keys, os.path.join(self.folder, "state"))
+        self.assertEqual(one.counts, {"not written down": 3})
+        self.assertEqual(one.open(seal(OTHER, 2, 7, DATAGRAM)), DATAGRAM)
+        self.assertEqual(one.state.take(), used[-1] + 1)
+        self.assertEqual(StateFile(os.path.join(self.folder, "state")).next, 2 * STEP)
 
 
 if __name__ == "__main__":
