@@ -68,6 +68,13 @@ def byte_in(line):
     return int(line.split()[-1])
 
 
+def same_faults(lines, told):
+    """Whether these are the lines that people are told, in the order of the text; that of several files, which lines name, is not looked at."""
+    if not all(it.split()[-1].isdigit() for it in told):
+        return set(lines) == told
+    return lines == sorted(told, key=byte_in)
+
+
 def compared(said, plain):
     """What the report says otherwise than the text for people."""
     first, _, rest = plain.stdout.decode().partition("\n")
@@ -80,7 +87,8 @@ def compared(said, plain):
         found += [] if len(said.get("notes", [])) == rest.count(": note: ") - (said.get("more_notes", 0) > 0) else ["other notes"]
         if "place" in said and not rest.startswith(f"{said['place']['file']}:{said['place']['line']}:{said['place']['column']}\n"):
             found.append("another place")
-    if said["command"] == "explain" and [it["line"] for it in said.get("faults", [])] != sorted({first, *re.findall(r"^refused .*", rest, re.M)} if "faults" in said else [], key=byte_in):
+    faults = {first, *re.findall(r"^refused .*", rest, re.M)} if "faults" in said else set()
+    if said["command"] == "explain" and not same_faults([it["line"] for it in said.get("faults", [])], faults):
         found.append("other faults")
     if said.get("certificate", plain.stdout.decode()) != plain.stdout.decode():
         found.append("another certificate")

@@ -195,6 +195,64 @@ fn is_typed(alloc: Global, block: &BlockTree, chart: &ChartTree) -> Result<bool,
     }
 }
 
+// Adds what algorithms and guards read, and may write: inputs, outputs and internals.
+fn fill(scope: &mut Scope, face: &Face, internals: &Variables) -> Result<(), AllocError> {
+    enlarge(scope, &face.inputs, false)?;
+    enlarge(scope, &face.outputs, true)?;
+    enlarge(scope, internals, true)
+}
+
+// All that they read.
+fn scope_of(alloc: Global, face: &Face, internals: &Variables) -> Result<Scope, AllocError> {
+    let mut scope = IndexMap::new(alloc);
+    fill(&mut scope, face, internals)?;
+    Ok(scope)
+}
+
+// Types the parts of a chart, whose states have these names. (Each of these functions has one value to end, since each exit ends all that a function has.)
+fn type_among(
+    alloc: Global,
+    chart: &ChartTree,
+    face: &Face,
+    scope: &Scope,
+    states: &IndexSet<String>,
+    found: &mut Found<'_>,
+) -> Result<(), AllocError> {
+    let algorithms = algorithm_names(alloc, &chart.algorithms, found)?;
+    let names = Known {
+        alloc,
+        face,
+        scope,
+        states,
+        algorithms: &algorithms,
+    };
+    names.type_parts(chart, found)
+}
+
+// Types the parts of a chart, whose statements read and write these variables.
+fn type_scoped(
+    alloc: Global,
+    chart: &ChartTree,
+    face: &Face,
+    scope: &Scope,
+    found: &mut Found<'_>,
+) -> Result<(), AllocError> {
+    let states = state_names(alloc, &chart.states, found)?;
+    type_among(alloc, chart, face, scope, &states, found)
+}
+
+// Types the parts of a chart, which has these internals.
+fn type_with(
+    alloc: Global,
+    chart: &ChartTree,
+    face: &Face,
+    internals: &Variables,
+    found: &mut Found<'_>,
+) -> Result<(), AllocError> {
+    let scope = scope_of(alloc, face, internals)?;
+    type_scoped(alloc, chart, face, &scope, found)
+}
+
 /// Types the chart of a basic block type with this interface, which declares these names. It is typed part by part where it is not whole, or not well typed.
 pub(crate) fn type_chart(
     alloc: Global,
@@ -209,18 +267,5 @@ pub(crate) fn type_chart(
     }
     tell_limits(chart, found)?;
     let internals = variables_of(alloc, &chart.internals, usize::MAX, names, found)?;
-    let states = state_names(alloc, &chart.states, found)?;
-    let algorithms = algorithm_names(alloc, &chart.algorithms, found)?;
-    let mut scope = IndexMap::new(alloc);
-    enlarge(&mut scope, &face.inputs, false)?;
-    enlarge(&mut scope, &face.outputs, true)?;
-    enlarge(&mut scope, &internals, true)?;
-    let names = Known {
-        alloc,
-        face,
-        scope: &scope,
-        states: &states,
-        algorithms: &algorithms,
-    };
-    names.type_parts(chart, found)
+    type_with(alloc, chart, face, &internals, found)
 }
