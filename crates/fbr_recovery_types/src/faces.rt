@@ -44,6 +44,21 @@ fn events_of(
     Ok(events)
 }
 
+// Adds the variables and then the events of an interface, which has none yet.
+fn fill(
+    alloc: Global,
+    block: &BlockTree,
+    names: &mut IndexSet<String>,
+    found: &mut Found<'_>,
+    face: &mut Face,
+) -> Result<(), AllocError> {
+    face.inputs = variables_of(alloc, &block.inputs, PORTS, names, found)?;
+    face.outputs = variables_of(alloc, &block.outputs, PORTS, names, found)?;
+    face.event_inputs = events_of(alloc, &block.event_inputs, &face.inputs, found)?;
+    face.event_outputs = events_of(alloc, &block.event_outputs, &face.outputs, found)?;
+    Ok(())
+}
+
 /// The interface of a block type, without what the events are WITH, and the names that it declares.
 pub(crate) fn face_of(
     alloc: Global,
@@ -53,14 +68,12 @@ pub(crate) fn face_of(
 ) -> Result<Face, AllocError> {
     declare_events(&block.event_inputs, names, found)?;
     declare_events(&block.event_outputs, names, found)?;
-    let inputs = variables_of(alloc, &block.inputs, PORTS, names, found)?;
-    let outputs = variables_of(alloc, &block.outputs, PORTS, names, found)?;
-    let event_inputs = events_of(alloc, &block.event_inputs, &inputs, found)?;
-    let event_outputs = events_of(alloc, &block.event_outputs, &outputs, found)?;
-    Ok(Face {
-        event_inputs,
-        event_outputs,
-        inputs,
-        outputs,
-    })
+    let mut face = Face {
+        event_inputs: IndexMap::new(alloc),
+        event_outputs: IndexMap::new(alloc),
+        inputs: IndexMap::new(alloc),
+        outputs: IndexMap::new(alloc),
+    };
+    fill(alloc, block, names, found, &mut face)?;
+    Ok(face)
 }

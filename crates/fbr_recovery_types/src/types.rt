@@ -2,7 +2,7 @@
 
 use crate::charts::type_chart;
 use crate::faces::face_of;
-use fb_tree::{BlockTree, BodyTree};
+use fb_tree::{BlockTree, BodyTree, Name};
 use fb_types_blocks::{Face, TypeFault, face};
 use fb_types_events::event_blocks;
 use fb_types_networks::{Body, Network};
@@ -35,6 +35,42 @@ fn is_service(name: &str) -> bool {
         name,
         "INPUT" | "OUTPUT" | "PUBLISH" | "SUBSCRIBE" | "E_DELAY" | "E_CYCLE" | "E_RESTART"
     )
+}
+
+// Types the chart of a block type, where it has one.
+fn type_own(
+    alloc: Global,
+    block: &BlockTree,
+    face: &Face,
+    names: &mut IndexSet<String>,
+    found: &mut Found<'_>,
+) -> Result<(), AllocError> {
+    match &block.body {
+        BodyTree::Chart(chart) => type_chart(alloc, block, chart, face, names, found),
+        _ => Ok(()),
+    }
+}
+
+// The interface of a block type, whose chart is typed where it has one.
+fn typed_face(alloc: Global, block: &BlockTree, found: &mut Found<'_>) -> Result<Face, AllocError> {
+    let mut names = IndexSet::new(alloc);
+    let face = face_of(alloc, block, &mut names, found)?;
+    type_own(alloc, block, &face, &mut names, found)?;
+    Ok(face)
+}
+
+// Tells of the name of a block type, if there was one of its name before, or it is that of a service.
+fn tell_name(name: &Name, is_new: bool, found: &mut Found<'_>) -> Result<(), AllocError> {
+    if name.text.is_empty() {
+        return Ok(());
+    }
+    if !is_new || is_service(name.text.as_str()) {
+        found.typing(TypeFault::DuplicateName(name.at))?;
+    }
+    if !is_new && !found.types.contains(name.text.as_str()) {
+        found.types.insert(name.text.clone()?)?;
+    }
+    Ok(())
 }
 
 impl Types {
@@ -70,21 +106,27 @@ impl Types {
         block: &BlockTree,
         found: &mut Found<'_>,
     ) -> Result<(), AllocError> {
-        let mut names = IndexSet::new(alloc);
-        let face = face_of(alloc, block, &mut names, found)?;
-        if let BodyTree::Chart(chart) = &block.body {
-            type_chart(alloc, block, chart, &face, &mut names, found)?;
-        }
-        let name = &block.name;
-        let is_new = self.add(alloc, &name.text, face)?;
-        if name.text.is_empty() {
-            return Ok(());
-        }
-        if !is_new || is_service(name.text.as_str()) {
-            found.typing(TypeFault::DuplicateName(name.at))?;
-        }
-        if !is_new && !found.types.contains(name.text.as_str()) {
-            found.types.insert(name.text.clone()?)?;
+        let face = typed_face(alloc, block, found)?;
+        let is_new = self.add(alloc, &block.name.text, face)?;
+        tell_name(&block.name, is_new, found)
+    }
+
+    // Adds the types of declarations.
+    fn add_all(
+        &mut self,
+        alloc: Global,
+        blocks: &[BlockTree],
+        readings: &mut [Reading],
+        found: &mut Found<'_>,
+    ) -> Result<(), AllocError> {
+        for (block, reading) in blocks.iter().zip(readings.iter_mut()) {
+            let none = IndexSet::new(alloc);
+            let before = found.begin(mem::replace(&mut reading.doubts, none));
+            drop(before);
+            found.is_nameless = reading.is_nameless;
+            self.add_own(alloc, block, found)?;
+            let none = IndexSet::new(alloc);
+            reading.doubts = found.begin(none);
         }
         Ok(())
     }
@@ -102,6 +144,18 @@ impl Types {
         Ok(())
     }
 
+    // Adds the event blocks of the library.
+    fn add_library(&mut self, alloc: Global) -> Result<(), AllocError> {
+        match event_blocks(alloc) {
+            Ok(library) => {
+                let added = self.add_given(alloc, &library.tree().blocks);
+                library.let_go();
+                added
+            }
+            Err(_) => Err(AllocError),
+        }
+    }
+
     /// The types of declarations, of which the charts are typed too.
     pub fn of(
         alloc: Global,
@@ -110,24 +164,9 @@ impl Types {
         found: &mut Found<'_>,
     ) -> Result<Types, AllocError> {
         let mut types = Types::none(alloc)?;
-        for (block, reading) in blocks.iter().zip(readings.iter_mut()) {
-            let none = IndexSet::new(alloc);
-            let before = found.begin(mem::replace(&mut reading.doubts, none));
-            drop(before);
-            found.is_nameless = reading.is_nameless;
-            types.add_own(alloc, block, found)?;
-            let none = IndexSet::new(alloc);
-            reading.doubts = found.begin(none);
-        }
-        match event_blocks(alloc) {
-            Ok(library) => {
-                let added = types.add_given(alloc, &library.tree().blocks);
-                library.let_go();
-                added?;
-                Ok(types)
-            }
-            Err(_) => Err(AllocError),
-        }
+        types.add_all(alloc, blocks, readings, found)?;
+        types.add_library(alloc)?;
+        Ok(types)
     }
 
     /// The number of the type of a name.
