@@ -41,11 +41,20 @@ enum End {
     Wrong(TypeFault),
 }
 
-// The instances of a network, where these are known, and the data inputs that have a value.
+// The names of the instances of a network, what these are where that is known, and the data inputs that have a value.
 #[derive(Drop)]
 struct Site {
+    names: IndexSet<String>,
     parts: IndexMap<String, Option<Part>>,
     taken: IndexSet<String>,
+}
+
+impl Site {
+    // Puts in what the instance of a name is.
+    fn put(&mut self, name: &String, part: Option<Part>) -> Result<(), AllocError> {
+        self.parts.insert(name.clone()?, part)?;
+        Ok(())
+    }
 }
 
 // The name of a port.
@@ -201,34 +210,70 @@ impl<'a> Beside<'a> {
         }
     }
 
+    // The number of the declared type of an instance; nothing where there is none, or more than one.
+    fn declared(
+        self,
+        tree: &InstanceTree,
+        found: &mut Found<'_>,
+    ) -> Result<Option<usize>, AllocError> {
+        let name = tree.of_type.text.as_str();
+        if found.types.contains(name) {
+            return Ok(None);
+        }
+        let number = self.types.number(name);
+        if number.is_none() {
+            found.typing(TypeFault::UnknownName(tree.of_type.at))?;
+        }
+        Ok(number)
+    }
+
+    // What an instance of a type of a number is.
+    fn numbered(self, number: usize) -> Result<Option<Part>, AllocError> {
+        match self.types.body(number)? {
+            Some(body) => {
+                let number = Some(number);
+                Ok(Some(Part { body, number }))
+            }
+            None => Ok(None),
+        }
+    }
+
+    // What an instance of a type of a number is, and its parameters.
+    fn numbered_part(
+        self,
+        number: usize,
+        tree: &InstanceTree,
+        found: &mut Found<'_>,
+    ) -> Result<(Option<Part>, Vec<Parameter>), AllocError> {
+        let Some(body) = self.types.body(number)? else {
+            return Ok((None, Vec::new(self.alloc)));
+        };
+        let parameters = self.parameters(number, tree, body, found)?;
+        let part = self.numbered(number)?;
+        Ok((part, parameters))
+    }
+
     // What an instance of a declared type is, and its parameters.
     fn declared_part(
         self,
         tree: &InstanceTree,
         found: &mut Found<'_>,
     ) -> Result<(Option<Part>, Vec<Parameter>), AllocError> {
-        let none = Vec::new(self.alloc);
-        let name = tree.of_type.text.as_str();
-        let Some(number) = self.types.number(name) else {
-            if !found.types.contains(name) {
-                found.typing(TypeFault::UnknownName(tree.of_type.at))?;
-            }
-            return Ok((None, none));
-        };
-        if found.types.contains(name) {
-            return Ok((None, none));
+        match self.declared(tree, found)? {
+            Some(number) => self.numbered_part(number, tree, found),
+            None => Ok((None, Vec::new(self.alloc))),
         }
-        let Some(body) = self.types.body(number)? else {
-            return Ok((None, none));
-        };
-        let parameters = self.parameters(number, tree, body, found)?;
-        match self.types.body(number)? {
-            Some(body) => {
-                let number = Some(number);
-                Ok((Some(Part { body, number }), parameters))
-            }
-            None => Ok((None, parameters)),
-        }
+    }
+
+    // What an instance of a service is whose parameters are at fault.
+    fn service_part(self, tree: &InstanceTree) -> Result<Option<Part>, AllocError> {
+        Ok(match service_named(self.alloc, tree)? {
+            Some(service) => Some(Part {
+                body: Body::Served(service),
+                number: None,
+            }),
+            None => None,
+        })
     }
 
     // What an instance is, and its parameters.
@@ -252,13 +297,7 @@ impl<'a> Beside<'a> {
             Ok(None) => self.declared_part(tree, found),
             Err(fault) => {
                 found.typing(fault)?;
-                let part = match service_named(self.alloc, tree)? {
-                    Some(service) => Some(Part {
-                        body: Body::Served(service),
-                        number: None,
-                    }),
-                    None => None,
-                };
+                let part = self.service_part(tree)?;
                 Ok((part, Vec::new(self.alloc)))
             }
         }
@@ -272,27 +311,54 @@ impl<'a> Beside<'a> {
         }
     }
 
+    // Tells of the name of an instance, takes the data inputs that its parameters give a value, and answers whether it is the first of its name.
+    fn tell_instance(
+        self,
+        tree: &InstanceTree,
+        parameters: &[Parameter],
+        site: &mut Site,
+        found: &mut Found<'_>,
+    ) -> Result<bool, AllocError> {
+        let name = tree.name.text.as_str();
+        if self.is_around(name) {
+            found.typing(TypeFault::DuplicateName(tree.name.at))?;
+            found.doubt(name)?;
+        }
+        if !declare(&mut site.names, &tree.name, found)? {
+            return Ok(false);
+        }
+        for parameter in parameters {
+            let port = port_name(self.alloc, name, parameter.name.as_str())?;
+            site.taken.insert(port)?;
+        }
+        Ok(true)
+    }
+
+    // Adds an instance.
+    fn add_instance(
+        self,
+        tree: &InstanceTree,
+        site: &mut Site,
+        found: &mut Found<'_>,
+    ) -> Result<(), AllocError> {
+        let (part, parameters) = self.part(tree, found)?;
+        let is_first = self.tell_instance(tree, &parameters, site, found)?;
+        drop(parameters);
+        if is_first {
+            site.put(&tree.name.text, part)?;
+        }
+        Ok(())
+    }
+
     // The instances of a network.
     fn site(self, network: &NetworkTree, found: &mut Found<'_>) -> Result<Site, AllocError> {
         let mut site = Site {
+            names: IndexSet::new(self.alloc),
             parts: IndexMap::new(self.alloc),
             taken: IndexSet::new(self.alloc),
         };
-        let mut names = IndexSet::new(self.alloc);
         for tree in &network.instances {
-            let name = tree.name.text.as_str();
-            let (part, parameters) = self.part(tree, found)?;
-            if self.is_around(name) {
-                found.typing(TypeFault::DuplicateName(tree.name.at))?;
-                found.doubt(name)?;
-            }
-            if declare(&mut names, &tree.name, found)? {
-                for parameter in &parameters {
-                    let port = port_name(self.alloc, name, parameter.name.as_str())?;
-                    site.taken.insert(port)?;
-                }
-                site.parts.insert(tree.name.text.clone()?, part)?;
-            }
+            self.add_instance(tree, &mut site, found)?;
         }
         Ok(site)
     }
@@ -403,6 +469,22 @@ impl<'a> Beside<'a> {
         }
     }
 
+    // Wires the connections of a network.
+    fn connect(
+        self,
+        network: &NetworkTree,
+        site: &mut Site,
+        found: &mut Found<'_>,
+    ) -> Result<(), AllocError> {
+        for tree in &network.events {
+            self.event(site, tree, found)?;
+        }
+        for tree in &network.values {
+            self.value(site, tree, found)?;
+        }
+        Ok(())
+    }
+
     /// Wires a network.
     pub(crate) fn wire(
         self,
@@ -415,12 +497,6 @@ impl<'a> Beside<'a> {
         if network.instances.is_empty() && !is_whole {
             return Ok(());
         }
-        for tree in &network.events {
-            self.event(&site, tree, found)?;
-        }
-        for tree in &network.values {
-            self.value(&mut site, tree, found)?;
-        }
-        Ok(())
+        self.connect(network, &mut site, found)
     }
 }
