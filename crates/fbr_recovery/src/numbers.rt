@@ -1,6 +1,6 @@
 //! Numbers of services and shapes of channels, of the devices of a system.
 
-use fb_tree::{BlockTree, BodyTree, DeviceTree, InstanceTree};
+use fb_tree::{BlockTree, BodyTree, DeviceTree, InstanceTree, ResourceTree};
 use fb_types_blocks::TypeFault;
 use fb_types_services::{Channel, Service, served};
 use fb_words::{ElemType, Format};
@@ -53,6 +53,47 @@ impl<'a> Around<'a> {
         }
     }
 
+    // Passes an instance of the last of these rows, and opens the one inside it, or leaves that row.
+    fn step(
+        self,
+        rows: &mut Vec<Row<'a>>,
+        leaves: &mut Vec<&'a InstanceTree>,
+    ) -> Result<(), AllocError> {
+        let Some(row) = rows.pop() else {
+            return Ok(());
+        };
+        let Some(instance) = row.instances.get(row.passed) else {
+            return Ok(());
+        };
+        rows.push(Row {
+            instances: row.instances,
+            passed: row.passed.saturating_add(1),
+        })?;
+        leaves.push(instance)?;
+        if let Some(instances) = self.inside(instance) {
+            rows.push(Row {
+                instances,
+                passed: 0,
+            })?;
+        }
+        Ok(())
+    }
+
+    // Walks on to the end of these rows: each instance is passed, and each network left.
+    fn walk(
+        self,
+        rows: &mut Vec<Row<'a>>,
+        leaves: &mut Vec<&'a InstanceTree>,
+    ) -> Result<(), AllocError> {
+        for _ in 0..INSTANCES.saturating_mul(2) {
+            if rows.is_empty() {
+                break;
+            }
+            self.step(rows, leaves)?;
+        }
+        Ok(())
+    }
+
     // The instances of a network and those inside them, in text order, as many as there may be.
     fn leaves(
         self,
@@ -64,26 +105,7 @@ impl<'a> Around<'a> {
             instances,
             passed: 0,
         })?;
-        // Each instance is passed, and each network left.
-        for _ in 0..INSTANCES.saturating_mul(2) {
-            let Some(row) = rows.pop() else {
-                break;
-            };
-            if let Some(instance) = row.instances.get(row.passed) {
-                rows.push(Row {
-                    instances: row.instances,
-                    passed: row.passed.saturating_add(1),
-                })?;
-                leaves.push(instance)?;
-                if let Some(instances) = self.inside(instance) {
-                    rows.push(Row {
-                        instances,
-                        passed: 0,
-                    })?;
-                }
-            }
-        }
-        Ok(())
+        self.walk(&mut rows, leaves)
     }
 }
 
@@ -165,6 +187,83 @@ fn tell_service(
     }
 }
 
+// Tells what is wrong with the number of an instance, where it is a service.
+fn tell_leaf(
+    alloc: Global,
+    leaf: &InstanceTree,
+    numbers: &mut Numbers,
+    shapes: &mut IndexMap<u16, Shape>,
+    found: &mut Found<'_>,
+) -> Result<(), AllocError> {
+    match served(alloc, leaf) {
+        Ok(Some(service)) => tell_service(&service, leaf.name.at, numbers, shapes, found),
+        Ok(None) => Ok(()),
+        Err(TypeFault::OutOfMemory) => Err(AllocError),
+        Err(_) => Ok(()),
+    }
+}
+
+// Tells what is wrong with the numbers of instances.
+fn tell_leaves(
+    alloc: Global,
+    leaves: &[&InstanceTree],
+    numbers: &mut Numbers,
+    shapes: &mut IndexMap<u16, Shape>,
+    found: &mut Found<'_>,
+) -> Result<(), AllocError> {
+    for leaf in leaves {
+        tell_leaf(alloc, leaf, numbers, shapes, found)?;
+    }
+    Ok(())
+}
+
+impl Around<'_> {
+    // Tells what is wrong with the numbers of a resource.
+    fn tell_resource(
+        self,
+        resource: &ResourceTree,
+        numbers: &mut Numbers,
+        shapes: &mut IndexMap<u16, Shape>,
+        found: &mut Found<'_>,
+    ) -> Result<(), AllocError> {
+        let mut leaves = Vec::new(self.alloc);
+        self.leaves(&resource.network.instances, &mut leaves)?;
+        tell_leaves(self.alloc, &leaves, numbers, shapes, found)
+    }
+
+    // Tells what is wrong with the numbers of resources of one device.
+    fn tell_resources(
+        self,
+        resources: &[ResourceTree],
+        numbers: &mut Numbers,
+        shapes: &mut IndexMap<u16, Shape>,
+        found: &mut Found<'_>,
+    ) -> Result<(), AllocError> {
+        for resource in resources {
+            self.tell_resource(resource, numbers, shapes, found)?;
+        }
+        Ok(())
+    }
+
+    // Tells what is wrong with the numbers of devices.
+    fn tell_devices(
+        self,
+        devices: &[DeviceTree],
+        shapes: &mut IndexMap<u16, Shape>,
+        found: &mut Found<'_>,
+    ) -> Result<(), AllocError> {
+        for device in devices {
+            let mut numbers = Numbers {
+                inputs: IndexSet::new(self.alloc),
+                outputs: IndexSet::new(self.alloc),
+                channels: IndexSet::new(self.alloc),
+            };
+            self.tell_resources(&device.resources, &mut numbers, shapes, found)?;
+        }
+        Ok(())
+    }
+}
+
 /// Tells numbers that two services of a device have, and ends of channels that differ.
 pub(crate) fn tell_numbers(
     alloc: Global,
@@ -179,26 +278,5 @@ pub(crate) fn tell_numbers(
         types,
     };
     let mut shapes = IndexMap::new(alloc);
-    for device in devices {
-        let mut numbers = Numbers {
-            inputs: IndexSet::new(alloc),
-            outputs: IndexSet::new(alloc),
-            channels: IndexSet::new(alloc),
-        };
-        for resource in &device.resources {
-            let mut leaves = Vec::new(alloc);
-            around.leaves(&resource.network.instances, &mut leaves)?;
-            for leaf in &leaves {
-                match served(alloc, leaf) {
-                    Ok(Some(service)) => {
-                        tell_service(&service, leaf.name.at, &mut numbers, &mut shapes, found)?;
-                    }
-                    Ok(None) => {}
-                    Err(TypeFault::OutOfMemory) => return Err(AllocError),
-                    Err(_) => {}
-                }
-            }
-        }
-    }
-    Ok(())
+    around.tell_devices(devices, &mut shapes, found)
 }

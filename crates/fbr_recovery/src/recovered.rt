@@ -101,27 +101,62 @@ fn tell_composites(
     Ok(())
 }
 
-// Adds the faults of types of what was read.
-fn tell_types(alloc: Global, text: &mut Text, found: &mut Found<'_>) -> Result<(), AllocError> {
+// Adds the faults of what has these types.
+fn tell_with<'x>(
+    alloc: Global,
+    text: &'x Text,
+    types: &'x Types,
+    found: &mut Found<'_>,
+) -> Result<(), AllocError> {
     let blocks = &text.file.blocks;
     let system = &text.file.system;
-    let types = Types::of(alloc, blocks, &mut text.blocks, found)?;
-    tell_composites(alloc, blocks, &types, &text.blocks, found)?;
+    tell_composites(alloc, blocks, types, &text.blocks, found)?;
     let before = found.begin(IndexSet::new(alloc));
     drop(before);
-    tell_rings(alloc, blocks, &types, found)?;
+    tell_rings(alloc, blocks, types, found)?;
     begin(&text.system, found)?;
     let beside = Beside {
         alloc,
-        types: &types,
+        types,
         readings: &text.blocks,
         face: None,
     };
     tell_system(beside, system, text.system.is_whole, found)?;
-    tell_numbers(alloc, blocks, &types, &system.devices, found)
+    tell_numbers(alloc, blocks, types, &system.devices, found)
 }
 
-// Adds all faults of tokens of a text of so many bytes, and gives its tree.
+// Adds the faults of types of what was read.
+fn tell_types(alloc: Global, text: &mut Text, found: &mut Found<'_>) -> Result<(), AllocError> {
+    let types = Types::of(alloc, &text.file.blocks, &mut text.blocks, found)?;
+    tell_with(alloc, text, &types, found)
+}
+
+// Adds all faults of the tokens of a text of so many bytes, and gives its tree.
+fn read_and_tell(
+    alloc: Global,
+    tokens: &[Token],
+    length: usize,
+    found: &mut Found<'_>,
+) -> Result<FileTree, AllocError> {
+    let mut text = read_text(alloc, tokens, length, found)?;
+    let told = tell_types(alloc, &mut text, found);
+    let Text {
+        file,
+        blocks,
+        system,
+    } = text;
+    drop(blocks);
+    drop(system);
+    match told {
+        Ok(()) => Ok(file),
+        Err(_) => {
+            file.let_go();
+            Err(AllocError)
+        }
+    }
+}
+
+// The same, with the places of these faults behind others.
 fn tell_all(
     alloc: Global,
     tokens: &[Token],
@@ -139,17 +174,8 @@ fn tell_all(
         told: IndexSet::new(alloc),
         types: IndexSet::new(alloc),
     };
-    let mut text = read_text(alloc, tokens, length, &mut found)?;
-    let told = tell_types(alloc, &mut text, &mut found);
-    places.append(&mut found.places)?;
-    let Text {
-        file,
-        blocks,
-        system,
-    } = text;
-    drop(blocks);
-    drop(system);
-    match told {
+    let file = read_and_tell(alloc, tokens, length, &mut found)?;
+    match places.append(&mut found.places) {
         Ok(()) => Ok(file),
         Err(_) => {
             file.let_go();
@@ -183,6 +209,48 @@ fn in_order(
     Ok((mistakes, false))
 }
 
+// The tree of a text that has these tokens, its faults in their order, and whether there are more than are told.
+fn told_of(
+    alloc: Global,
+    read: &Lexed,
+    length: usize,
+    places: &mut Vec<(usize, u8)>,
+    first: (u8, usize),
+) -> Result<(FileTree, Vec<Mistake>, bool), AllocError> {
+    let file = tell_all(alloc, &read.tokens, length, &read.broken, places)?;
+    match in_order(alloc, places, first) {
+        Ok((mistakes, has_more)) => Ok((file, mistakes, has_more)),
+        Err(_) => {
+            file.let_go();
+            Err(AllocError)
+        }
+    }
+}
+
+// What there is of a text that was lexed so.
+fn recover_lexed(
+    alloc: Global,
+    read: Lexed,
+    length: usize,
+    places: &mut Vec<(usize, u8)>,
+    first: (u8, usize),
+) -> Result<Recovered, AllocError> {
+    let (file, mistakes, has_more) = told_of(alloc, &read, length, places, first)?;
+    let Lexed {
+        tokens,
+        mended,
+        broken,
+    } = read;
+    drop(broken);
+    Ok(Recovered {
+        tokens,
+        file,
+        mended,
+        mistakes,
+        has_more,
+    })
+}
+
 /// All faults of a text, in its order, and what there is of it beside them; nothing where it is too long. The number and the place of one are known, which is among them.
 ///
 /// Each part of the text is read and typed a fixed number of times, however many faults there are: only statements at fault are typed again for each IF, CASE and FOR around
@@ -193,26 +261,11 @@ pub fn recover(
     first: (u8, usize),
 ) -> Result<Option<Recovered>, AllocError> {
     let mut places = Vec::new(alloc);
-    let Some(read) = read_tokens(alloc, text, &mut places)? else {
-        return Ok(None);
-    };
-    let Lexed {
-        tokens,
-        mended,
-        broken,
-    } = read;
-    let file = tell_all(alloc, &tokens, text.len(), &broken, &mut places)?;
-    match in_order(alloc, &mut places, first) {
-        Ok((mistakes, has_more)) => Ok(Some(Recovered {
-            tokens,
-            file,
-            mended,
-            mistakes,
-            has_more,
-        })),
-        Err(_) => {
-            file.let_go();
-            Err(AllocError)
+    match read_tokens(alloc, text, &mut places)? {
+        Some(read) => {
+            let recovered = recover_lexed(alloc, read, text.len(), &mut places, first)?;
+            Ok(Some(recovered))
         }
+        None => Ok(None),
     }
 }
