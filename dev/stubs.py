@@ -22,6 +22,8 @@ Traps:
 - A function with a promise that no body keeps is let through in the crates that stand in.
 - `rt must-fail` and `rt ci` do not run over stand-ins (dev/edits.py tries edits over them), and a program over them stops at the first call.
 - `rt check` in a crate whose libraries are not built first reads all their sources, for minutes.
+- Of crates after --real none may stand on another one: run the script once for each.
+- A crate is checked whole before it is handed in: the functions that changed are not enough, since what calls them may be taken no more.
 """
 import argparse
 import functools
