@@ -155,7 +155,5 @@ class TableReader(LinesReader):
 def read_table(name: str, text: str) -> tuple[Table, list[Fault]]:
     """The table of this text, and all its faults."""
     reader = TableReader(name)
-    reader.read(text)
-    if not reader.faults:
-        reader.finish()
-    return reader.table, reader.faults
+    faults = reader.faults_of(text)
+    return reader.table, faults

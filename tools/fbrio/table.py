@@ -230,6 +230,17 @@ class LinesReader:
                 except BadLine as why:
                     self.faults.append(Fault(line, str(why)))
 
+    def finish(self) -> None:
+        """What only the whole table can tell."""
+        raise NotImplementedError
+
+    def faults_of(self, text: str) -> list[Fault]:
+        """All faults of a text: those of its lines, or if it has none, those of the whole table."""
+        self.read(text)
+        if not self.faults:
+            self.finish()
+        return self.faults
+
 
 class TableReader(LinesReader):
     """Reads a table of INPUTs and OUTPUTs."""
@@ -280,7 +291,5 @@ def words_of(line: str) -> list[str]:
 def read_table(name: str, text: str) -> tuple[Table, list[Fault]]:
     """The table of this text, and all its faults."""
     reader = TableReader(name)
-    reader.read(text)
-    if not reader.faults:
-        reader.finish()
-    return reader.table, reader.faults
+    faults = reader.faults_of(text)
+    return reader.table, faults
