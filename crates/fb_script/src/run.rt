@@ -168,6 +168,7 @@ fn obey<W: Write, V: Witness>(
         Asked::Event(device, event) => happen(world, device, &event, number, output, witness),
         Asked::Dispatch(device, resource) => dispatch(world, device, resource, number, output),
         Asked::Root(root, told) => {
+            witness.asked(root);
             write_root(root, told, output)?;
             Ok(None)
         }
@@ -247,7 +248,7 @@ fn show<W: Write>(is_waited: bool, output: &mut W) -> io::Result<()>
 
 /// Runs the lines of a script on a world, in order, up to the first that is bad. Each answer is written on a line of its own, and shown before the script is waited
 /// for. The datagrams of all devices are numbered from 1 as they are sent, and come to a device where a line delivers them. The witness is told of lines that are
-/// denied or bad.
+/// denied or bad, and of the roots that lines ask for.
 pub fn simulate<I: Read, W: Write, V: Witness>(
     alloc: Global,
     world: &mut World,

@@ -1,11 +1,11 @@
-//! Who is told why a line was denied, or is bad.
+//! Who is told why a line was denied, or is bad, and which roots are asked for.
 
 use crate::line::Misread;
 use crate::playing::Missing;
 use fb_device::{Answer, Denied};
 use fb_world::WorldEvent;
 
-/// Who is told why a line was denied, or is bad: what the answer says by a number alone. Nothing is promised of what it does, and no answer depends on it.
+/// Who is told why a line was denied, or is bad: what the answer says by a number alone; and of which roots a line asks. Nothing is promised of what it does, and no answer depends on it.
 pub trait Witness {
     /// The event of the line of this number was denied, before its answer is written.
     fn denied(&mut self, number: usize, event: &WorldEvent, why: &Denied);
@@ -15,6 +15,9 @@ pub trait Witness {
 
     /// The line of this number names what is not there.
     fn missing(&mut self, number: usize, what: Missing<'_>);
+
+    /// A line asks for the steps of this root, which was opened.
+    fn asked(&mut self, root: u64);
 }
 
 /// Tells a witness of an answer, if it is a denial.

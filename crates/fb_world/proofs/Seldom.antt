@@ -1,13 +1,14 @@
 -- Datagrams that were admitted too often, and the others.
-use Rattle.std.proofs.Common.{◌≡◌, ℕ, zero, suc, ◌+◌, ◌<◌, ◌≤◌, List, [], ◌∷◌, map, drop, slice_get, Option, Some, None, sym, ◌∙◌, ap, subst, arith}
+use Rattle.std.proofs.Common.{◌≡◌, ◌⊎◌, inl, inr, ⊎_elim, ℕ, zero, suc, ◌+◌, ◌<◌, ◌≤◌, List, [], ◌∷◌, length, map, drop, slice_get, Option, Some, None, sym, ◌∙◌, ap, subst, absurd, arith}
 use Rattle.std.specs.Prelude.{MatchOption, slice_index_or}
 use Rattle.std.specs.Option.{option_map}
 use Rattle.std.specs.List.{AllByRecursion}
-use Rattle.std.proofs.lemmas.Option.{slice_get-map}
+use Rattle.std.proofs.lemmas.Option.{same_Some, slice_get-map}
 use Rattle.fb_model.specs.World.{AreWithin, datagram_numbered}
+use Rattle.fb_model.specs.World.{Datagram as book}
 use Rattle.fb_world.specs.declared.sent.Sent.{Sent}
 use Rattle.fb_world.specs.Scenes.{datagram_of}
-use Rattle.fb_world.specs.Laws.{IsOften, IsSeldom}
+use Rattle.fb_world.specs.Laws.{AreSeldom, IsOften, IsSeldom}
 
 at_most : (most : ℕ) (xs : List ℕ) → AllByRecursion (λ n. n ≤ most) xs → (d : ℕ) → slice_index_or xs d 0 ≤ most
 at_most most [] h d = omega arith
@@ -36,3 +37,27 @@ from_here most root (x ∷ xs) (suc at) g e s h = from_here most root xs at g e 
 -- where one was not admitted too often, it is the rest that tells
 pub further : (most root : ℕ) (gs : List Sent) (at : ℕ) (g : Sent) → slice_get gs at ≡ Some g → IsSeldom most root (datagram_of g) → AreWithin most root (map datagram_of (drop (at + 1) gs)) → AreWithin most root (map datagram_of (drop at gs))
 further most root gs at g e s h = from_here most root gs at g e s (subst (λ k. AreWithin most root (map datagram_of (drop k gs))) (let i : at + 1 ≡ suc at = omega arith in i) h)
+
+-- ---- one after another
+
+at_or_before : (k n : ℕ) → k < suc n → (k ≡ n) ⊎ (k < n)
+at_or_before zero zero h = inl cc
+at_or_before zero (suc n) h = inr (omega arith)
+at_or_before (suc k) zero h = absurd (omega (arith, h))
+at_or_before (suc k) (suc n) h = ⊎_elim (λ e. inl (ap suc e)) (λ l. inr (omega (arith, l))) (at_or_before k n (omega (arith, h)))
+
+-- no number is between two that follow each other
+pub none_between : (most n : ℕ) (gs : List Sent) → AreSeldom most n (n + 1) (map datagram_of gs)
+none_between most n gs = λ k g a b e. absurd (omega (arith, a, b))
+
+is_the_one : (most at k : ℕ) (gs : List Sent) (g : Sent) (x : book) → slice_get gs at ≡ Some g → IsSeldom most g.root (datagram_of g) → k ≡ at + 1 → datagram_numbered (map datagram_of gs) k ≡ Some x
+    → IsSeldom most x.root x
+is_the_one most at k gs g x e s i h =
+    let same : datagram_of g ≡ x = same_Some (datagram_of g) x (sym (numbered_so gs at g e) ∙ (ap (datagram_numbered (map datagram_of gs)) (sym i) ∙ h)) in
+    subst (λ (y : book). IsSeldom most y.root y) same s
+
+-- with the next one, where it was not admitted more often either
+pub with_next : (most behind at : ℕ) (gs : List Sent) (g : Sent) → slice_get gs at ≡ Some g → IsSeldom most g.root (datagram_of g) → AreSeldom most behind (at + 1) (map datagram_of gs)
+    → AreSeldom most behind (at + 1 + 1) (map datagram_of gs)
+with_next most behind at gs g e s h =
+    λ k x a b i. ⊎_elim (λ same. is_the_one most at k gs g x e s same i) (λ below. h k x a below i) (at_or_before k (at + 1) (omega (arith, b)))

@@ -41,9 +41,10 @@ pub struct RootSteps {
     pub far: Option<u64>,
 }
 
-/// A datagram without a stamp that a device admitted more often than REPEATS, by its number, and the device by its own.
+/// A datagram without a stamp that a device admitted more often than REPEATS, by its number, with its root, and the device by its own number.
 #[derive(Clone, Copy)]
 pub struct TooOften {
+    pub root: u64,
     pub datagram: u64,
     pub device: u16,
 }

@@ -1,10 +1,10 @@
 //! Whether datagrams were admitted more often than their certificate pays for.
 
-ghost use Rattle.std.specs.Prelude.{ℕ, ◌≡◌, ◌<◌, ◌≤◌, Some, MatchOption, map, length, slice_get};
+ghost use Rattle.std.specs.Prelude.{ℕ, ◌≡◌, ◌+◌, ◌<◌, ◌≤◌, Some, MatchOption, map, length, slice_get};
 ghost use Rattle.std.specs.List.{AllByRecursion};
 ghost use Rattle.fb_model.specs.World.{AreWithin};
 ghost use Rattle.fb_world.specs.Scenes.{datagram_of};
-ghost use Rattle.fb_world.specs.Laws.{IsOften, IsSeldom, IsTooOften};
+ghost use Rattle.fb_world.specs.Laws.{AreSeldom, IsNextOften, IsOften, IsSeldom, IsTooOften};
 
 use crate::answer::TooOften;
 use crate::sent::Sent;
@@ -43,6 +43,27 @@ pub fn too_often(datagrams: &[Sent], root: u64, most: u16) -> Option<TooOften>
         match device_of(&datagrams[at], root, most) {
             Some(device) => {
                 return Some(TooOften {
+                    root,
+                    datagram: at as u64 + 1,
+                    device,
+                });
+            }
+            None => {}
+        }
+    }
+    None
+}
+
+/// The first datagram behind so many that has no stamp and that a device admitted more than so often, with its root, and the first such device.
+pub fn next_too_often(datagrams: &[Sent], behind: usize, most: u16) -> Option<TooOften>
+    ensures { MatchOption result (AreSeldom most behind (length datagrams.now + 1) (map datagram_of datagrams.now)) (IsNextOften most behind (map datagram_of datagrams.now)) }
+{
+    for at in behind..datagrams.len() {
+        let root = datagrams[at].root;
+        match device_of(&datagrams[at], root, most) {
+            Some(device) => {
+                return Some(TooOften {
+                    root,
                     datagram: at as u64 + 1,
                     device,
                 });

@@ -1,6 +1,6 @@
 //! A world of devices.
 
-ghost use Rattle.std.specs.Prelude.{ℕ, ◌≡◌, ◌≤◌, ◌<◌, true, false, length, map, Some, None, IfSome, IfOk, IfErr, OnErr, MatchOption, slice_get};
+ghost use Rattle.std.specs.Prelude.{ℕ, ◌≡◌, ◌≤◌, ◌<◌, true, false, length, map, ◌+◌, Some, None, IfSome, IfOk, IfErr, OnErr, MatchOption, slice_get};
 ghost use Rattle.std.specs.List.{AllByRecursion};
 ghost use Rattle.std.specs.Option.{option_map};
 ghost use Rattle.fb_model.specs.Spelling.{text_limit};
@@ -18,13 +18,13 @@ ghost use Rattle.fb_device.specs.Refusals.{no_memory};
 ghost use Rattle.fb_world.specs.Scenes.{system_of, cert_of, world_of};
 ghost use Rattle.fb_world.specs.Answers.{event_of, device_of, leaves_at, answer_of, answers_of, steps_of, HasWorldPlace, HaveWorldPlaces, HasMissed};
 ghost use Rattle.fb_world.specs.Keeping.{IsReached};
-ghost use Rattle.fb_world.specs.Laws.{Falls, FallsOver, IsTold, IsTooOften};
+ghost use Rattle.fb_world.specs.Laws.{AreSeldom, Falls, FallsOver, IsNextOften, IsTold, IsTooOften};
 ghost use Rattle.fb_world.specs.Loads.{IsWorldOf, IsWorldFault, IsDeviceAt};
 
 use crate::answer::{Missed, OutOfMemory, RootSteps, TooOften, WorldAnswer, WorldEvent};
 use crate::beginning::first_course;
 use crate::course::Course;
-use crate::often::too_often;
+use crate::often::{next_too_often, too_often};
 use crate::station::numbered;
 use fb_device::{Device, Dispatched, Refusal, share};
 use fb_verdict::check_text;
@@ -173,6 +173,22 @@ impl World {
     {
         match self.verified.certificate().repeats() {
             Some(repeats) => too_often(&self.course.datagrams, number, u16::from(repeats)),
+            None => None,
+        }
+    }
+
+    /// The first datagram behind the one of a number, or with 0 of all, that has no stamp and that a device admitted more than REPEATS times, with its root, and the
+    /// first such device. `None` where there is none behind it, or where the certificate has no row REPEATS.
+    pub fn next_too_often(&self, behind: u64) -> Option<TooOften>
+        ensures told { (repeats : ℕ) → (cert_of self.now).repeats ≡ Some repeats → MatchOption result (AreSeldom repeats behind (length (world_of self.now).datagrams + 1) (world_of self.now).datagrams) (IsNextOften repeats behind (world_of self.now).datagrams) }
+        ensures unpaid { (cert_of self.now).repeats ≡ None → result ≡ None }
+    {
+        match self.verified.certificate().repeats() {
+            Some(repeats) => next_too_often(
+                &self.course.datagrams,
+                behind as usize,
+                u16::from(repeats),
+            ),
             None => None,
         }
     }

@@ -188,10 +188,10 @@ module _ {M L S K : Type 0} (does : S → SocketCall → S → Type 0) (socket :
         (rest.0, (h.0, seen h.1 one.0, one.1, rest.1))
 
   -- turns over a link that seals, to these addresses, which has done nothing yet
-  pub seals_told : {E : Type 0} (q : Service) (a : SealsAt) (s : Session) (l : M) (old : Out) (t : Session) (m : M) (mid : Out) (ran : Ran) (new : Option (List ℕ)) (r : Result ℕ E)
-      → Served SealStep failed q.life q.telling s l old t m mid ran → seen l [] ≡ sealed_at a → peers (below l) ≡ a.to → map parts_of (senders (below l)) ≡ q.network.senders
+  pub seals_told : {E C : Type 0} (tells : C → ℕ → C → Type 0) (q : Service) (a : SealsAt) (s : Session) (l : M) (c : C) (old : Out) (t : Session) (m : M) (mid : Out) (ran : Ran) (new : Option (List ℕ)) (r : Result ℕ E)
+      → Served SealStep failed tells q.life q.telling s l c old t m mid ran → seen l [] ≡ sealed_at a → peers (below l) ≡ a.to → map parts_of (senders (below l)) ≡ q.network.senders
       → IfOk r (λ status. TellsStop ran mid.printed new status) → IfOk r (λ status. TellsSealedTurns q a s old.printed new status)
-  seals_told q a s l old t m mid ran new (Ok status) h first to from told =
+  seals_told tells q a s l c old t m mid ran new (Ok status) h first to from told =
       let traced = seal_turns a.to (senders (below l)) (cert_in s) (device_in s) (machine_of s) l h.0 (machine_of t) m [] (to, refl) h.1.turns in
       record {
         senders = senders (below l);
@@ -209,4 +209,4 @@ module _ {M L S K : Type 0} (does : S → SocketCall → S → Type 0) (socket :
         };
         told = told;
       }
-  seals_told q a s l old t m mid ran new (Err e) h first to from told = tt
+  seals_told tells q a s l c old t m mid ran new (Err e) h first to from told = tt

@@ -56,6 +56,11 @@ Turns cert device calls count s l [] t m = (s ≡ t) × (l ≡ m)
 Turns {L} cert device calls count s l (x ∷ xs) t m =
     (between : Machine) × (link : L) × IsTaken cert device calls count s l x between link × Turns cert device calls count between link xs t m
 
+-- a clock told the moments of these turns, one look at it for each
+abbrev pub IsTimed : {C : Type 0} → (C → ℕ → C → Type 0) → C → List TurnAt → C → Type 0
+IsTimed tells c [] d = c ≡ d
+IsTimed {C} tells c (x ∷ xs) d = (between : C) × tells c x.now between × IsTimed tells between xs d
+
 -- a turn in which no receive failed: each resource was dispatched once
 pub record IsWhole (device : Device) (turn : Turn) : Type 0 where
   pub uncut : is_cut turn.close ≡ false

@@ -13,6 +13,7 @@ mod printing;
 mod replay;
 mod sealed;
 mod serve;
+mod timer;
 mod turns;
 mod waiting;
 

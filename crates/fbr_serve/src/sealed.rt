@@ -6,6 +6,7 @@ ghost use Rattle.fbr_serve.specs.Serving.{TellsSealed, seals_of};
 
 use crate::notes::Notes;
 use crate::serve::{print_served, tell_end, tell_ready, tell_strangers};
+use crate::timer::SystemTimer;
 use crate::turns::serve_on;
 use fb_device::Device;
 use fb_link::UdpLink;
@@ -56,7 +57,8 @@ pub(crate) fn serve_sealed<R: Clock + Net, K: Keep + Drop, W: Write, E: Write, F
             tell_sealed(number, peers.len(), &mut notes.errors);
             let mut link = SealedLink::over(link, file, number, key, next, peers);
             link.reserve(reserved);
-            let ran = serve_on(rt, device, &mut link, serve, output, notes);
+            let mut timer = SystemTimer::of(rt);
+            let ran = serve_on(&mut timer, device, &mut link, serve, output, notes);
             let drops = link.drops();
             tell_strangers(drops.strangers, &mut notes.errors);
             tell_unsealed(drops.unsealed, &mut notes.errors);

@@ -9,6 +9,7 @@ ghost use Rattle.fbr_serve.specs.Serving.{IsTextsFault, IsTextsReady, IsFilesFau
 
 use crate::notes::Notes;
 use crate::sealed::serve_sealed;
+use crate::timer::SystemTimer;
 use crate::turns::{Ran, serve_on};
 use fb_device::{Device, Ready, Refusal as LoadRefusal, load_boot};
 use fb_link::UdpLink;
@@ -187,7 +188,8 @@ fn serve_device<R: Clock + Net, W: Write, E: Write, F: Write>(
     match UdpLink::open_at(rt, network.bind, peers, senders) {
         Ok(mut link) => {
             tell_ready(device, repeats, serve, peers, &mut notes.errors);
-            let ran = serve_on(rt, device, &mut link, serve, output, notes);
+            let mut timer = SystemTimer::of(rt);
+            let ran = serve_on(&mut timer, device, &mut link, serve, output, notes);
             tell_strangers(link.strangers(), &mut notes.errors);
             tell_end(&ran.end, &mut notes.errors);
             print_served(ran, output)

@@ -1,17 +1,17 @@
 //! Turns of a device over a link, one after another, and what they did in all.
 
-ghost use Rattle.std.specs.Prelude.{◌≡◌, ◌≤◌, ◌+◌, ℕ, List, false, true, IfErr};
+ghost use Rattle.std.specs.Prelude.{◌≡◌, ◌≤◌, ◌+◌, ℕ, List, false, true};
 ghost use Rattle.fb_device_state.specs.Machines.{device_in, cert_in, machine_of};
 ghost use Rattle.fb_turn.specs.Turns.{Turn};
 ghost use Rattle.fbr_words.specs.Requests.{life_of, telling_of};
 ghost use Rattle.fbr_notices.specs.Sums.{TurnAt};
-ghost use Rattle.fbr_serve.specs.Serving.{IsTaken, EndsTurn, PrintsTurn, IsServed};
+ghost use Rattle.fbr_serve.specs.Serving.{IsTaken, EndsTurn, PrintsTurn, IsServed, IsTimed};
 ghost use Rattle.fbr_serve.specs.Recording.{Held, Records, RecordsTurn};
-ghost use Rattle.fbr_notices.specs.declared.stop.Stop.TheVariants as stops;
 
 use crate::ended::has_ended;
 use crate::notes::Notes;
 use crate::printing::{Printer, When, flushed};
+use crate::timer::Timer;
 use crate::waiting::rest;
 use fb_device::Device;
 use fb_link::Link;
@@ -19,8 +19,6 @@ use fb_turn::{Report, turn};
 use fbr_notices::{Counts, Past, Stop, Sums};
 use fbr_words::Serve;
 use std::io::Write;
-use std::rt::Clock;
-use std::time::Instant;
 
 /// What turns came to: their sums, or why they ended early; and whether a line was lost.
 #[derive(Clone, Copy)]
@@ -105,23 +103,13 @@ pub(crate) fn take_turn<L: Link, W: Write, E: Write, F: Write>(
     }
 }
 
-// The milliseconds since a moment, as far as a clock counts.
-fn since<R: Clock>(rt: &R, start: Instant) -> Result<u64, Stop>
-    ensures { IfErr result (λ stop. stop ≡ stops.Clock) }
-{
-    match start.elapsed(rt) {
-        Ok(elapsed) => Ok(u64::try_from(elapsed.as_millis()).unwrap_or(u64::MAX)),
-        Err(_) => Err(Stop::Clock),
-    }
-}
-
-/// Takes turns of a device over a link, at the milliseconds since this call, as many as there are to be, or until standard input ends where that is to end it, and
+/// Takes turns of a device over a link, each at the moment that a timer tells, as many as there are to be, or until standard input ends where that is to end it, and
 /// prints what it writes, a line each: `write NUMBER VALUES`. Behind a turn that found nothing to do it waits for the link, or until the next timer is due,
 /// unless that turn was the last. What comes is recorded, a line a turn, until a line of the record cannot be written.
 ///
 /// People are told what happens. Gives what the turns did in all. They end early where a receive fails, or the clock; and where a line is lost and that is to end them.
-pub(crate) fn serve_on<R: Clock, L: Link + Counts, W: Write, E: Write, F: Write>(
-    rt: &R,
+pub(crate) fn serve_on<T: Timer, L: Link + Counts, W: Write, E: Write, F: Write>(
+    timer: &mut T,
     device: &mut Device,
     link: &mut L,
     serve: &Serve<'_>,
@@ -129,22 +117,19 @@ pub(crate) fn serve_on<R: Clock, L: Link + Counts, W: Write, E: Write, F: Write>
     notes: &mut Notes<E, F>,
 ) -> Ran
     ensures served { (all : List TurnAt) × IsServed (cert_in device.old) (device_in device.old) L.steps L.count (life_of serve.now.life) (telling_of serve.now.telling) (machine_of device.old) link.old (W.contents output.old) all (machine_of device.new) link.new (W.contents output.new) result
-        × Records (record { bytes = F.contents notes.old.recorder.stream; lost = notes.old.recorder.is_lost }) (record { bytes = F.contents notes.new.recorder.stream; lost = notes.new.recorder.is_lost }) all }
+        × Records (record { bytes = F.contents notes.old.recorder.stream; lost = notes.old.recorder.is_lost }) (record { bytes = F.contents notes.new.recorder.stream; lost = notes.new.recorder.is_lost }) all
+        × ((clock : T) × IsTimed T.tells timer.old all clock) }
     ensures same { (device.new.verified ≡ device.old.verified) × (device.new.number ≡ device.old.number) }
 {
     let (life, telling) = (serve.life, serve.telling);
     let mut sums = Sums::none();
     let mut is_lost = false;
     let mut has_waited = false;
-    let start = match Instant::now(rt) {
-        Ok(start) => start,
-        Err(_) => return ended(Err(Stop::Clock), is_lost, device, notes),
-    };
     for turn in 0..life.turns {
         if life.until_eof && has_ended() {
             return ended(Ok(sums), is_lost, device, notes);
         }
-        let now = match since(rt, start) {
+        let now = match timer.since() {
             Ok(now) => now,
             Err(stop) => return ended(Err(stop), is_lost, device, notes),
         };

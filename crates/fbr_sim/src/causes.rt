@@ -1,4 +1,4 @@
-//! Why a line of a script was denied, or is bad, where its number has several causes. It is tested, and no contract says it.
+//! Why a line of a script was denied, or is bad, where its number has several causes, and which roots are not bounded by FAR. It is tested, and no contract says it.
 
 use crate::station::{Station, put_name, stations_of};
 use fb_device::Denied;
@@ -6,19 +6,22 @@ use fb_flat::Flat;
 use fb_numbers::words_of;
 use fb_script::{Misread, Missing, Witness};
 use fb_words::ElemType;
-use fb_world::WorldEvent;
+use fb_world::{TooOften, World, WorldEvent};
 use fbr_places::Writing;
+use indexmap::IndexSet;
 use std::alloc::Global;
 use std::io::Write;
 
 // A word that is longer is not told.
 const LONGEST: usize = 64;
 
-/// Who tells people, on standard error, which cause it was.
+/// Who tells people, on standard error, which cause it was, and which roots are not bounded.
 #[derive(Drop)]
 pub(crate) struct Causes<'e, E> {
     alloc: Global,
     stations: Vec<Station>,
+    /// The roots that lines have asked for, and of which nothing is told yet.
+    roots: IndexSet<u64>,
     errors: &'e mut E,
 }
 
@@ -126,6 +129,7 @@ impl<'e, E: Write> Causes<'e, E> {
         Causes {
             alloc,
             stations,
+            roots: IndexSet::new(alloc),
             errors,
         }
     }
@@ -206,6 +210,39 @@ impl<'e, E: Write> Causes<'e, E> {
         }
     }
 
+    // Tells that a datagram of a root came more often than REPEATS says.
+    fn tell_often(&mut self, often: TooOften) {
+        let mut writing = Writing::new(self.alloc);
+        writing.put("fbr: root ");
+        writing.show(&often.root);
+        writing.put(": FAR does not bound its steps, because ");
+        match self.stations.get(usize::from(often.device)) {
+            Some(station) => writing.put(station.name.as_str()),
+            None => writing.put("a device"),
+        }
+        writing.put(" admitted datagram ");
+        writing.show(&often.datagram);
+        writing.put(" more often than REPEATS says");
+        self.hand_out(writing);
+    }
+
+    /// Tells, once for each root that a line asked for, that its FAR is no bound, if one of its datagrams without a stamp was admitted more often than REPEATS says.
+    pub(crate) fn tell_unbound(&mut self, world: &World) {
+        let mut behind = 0;
+        for _ in 0..usize::MAX {
+            if self.roots.is_empty() {
+                return;
+            }
+            let Some(often) = world.next_too_often(behind) else {
+                return;
+            };
+            behind = often.datagram;
+            if self.roots.swap_remove(&often.root) {
+                self.tell_often(often);
+            }
+        }
+    }
+
     // The type of a value of an INPUT of the device of a number.
     fn type_of(&self, device: u16, input: u16, place: u16) -> Option<ElemType> {
         self.stations
@@ -246,5 +283,9 @@ impl<E: Write> Witness for Causes<'_, E> {
         writing.put("refused 60: ");
         self.put_missing(what, &mut writing);
         self.refuse(writing);
+    }
+
+    fn asked(&mut self, root: u64) {
+        let _ = self.roots.insert(root);
     }
 }

@@ -74,6 +74,7 @@ fn run_script<I: Read, W: Write, E: Write>(
     match first_world(alloc, verified) {
         Ok(mut world) => {
             let ran = run_world(alloc, &mut world, script, output, &mut causes);
+            causes.tell_unbound(&world);
             world.let_go();
             ran
         }

@@ -209,6 +209,7 @@ impl<W: Write> Course<'_, '_, '_, W> {
             Asked::Event(device, event) => self.happen(world, device, &event, line, causes),
             Asked::Dispatch(device, resource) => self.dispatch(world, device, resource, line),
             Asked::Root(root, told) => {
+                causes.asked(root);
                 self.tell_root(root, told)?;
                 Ok(None)
             }
@@ -303,6 +304,7 @@ fn run_shared<I: Read, W: Write, E: Write>(
         output,
         &mut causes,
     );
+    causes.tell_unbound(&world);
     world.let_go();
     let end = ended?;
     Ok(Ok(Simulated {

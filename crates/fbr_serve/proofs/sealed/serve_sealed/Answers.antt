@@ -14,7 +14,7 @@ returns-in-Ok-clause-told g c =
     IfOk-weaker c.print_served.result _ _ (λ status h. inr h)
     (seals_told _ (λ l. l.socket) (λ l. l.peers) (λ l. l.senders) (λ l. l.failures) (λ l. l.strangers) (book_of g.K.Keep.held) (λ m. m.failures)
     (λ m. record { number = m.number; key = m.key; next = m.next; reserved = m.reserved; peers = m.peers.items; dropped = m.dropped }) (λ m. m.ledger) (λ m. m.link)
-    (service_of c.args.serve.now) (seals_of g.K.Keep.held c.args.seals) c.args.device.now c.reserve.new.self
+    _ (service_of c.args.serve.now) (seals_of g.K.Keep.held c.args.seals) c.args.device.now c.reserve.new.self c.of-timer.result
     (record { printed = g.W.Write.contents c.args.output.now; recorded = record { bytes = g.F.Write.contents c.args.notes.now.recorder.stream; lost = c.args.notes.now.recorder.is_lost } })
     c.serve_on-ran.new.device c.serve_on-ran.new.link
     (record { printed = g.W.Write.contents c.serve_on-ran.new.output; recorded = record { bytes = g.F.Write.contents c.serve_on-ran.new.notes.recorder.stream; lost = c.serve_on-ran.new.notes.recorder.is_lost } })
