@@ -13,7 +13,7 @@ use Rattle.fb_verified.specs.declared.verified.Verified.{Verified}
 use Rattle.fb_verified.specs.Checked.{system_in, certificate_in}
 use Rattle.fb_device_state.specs.Sessions.{Session}
 use Rattle.fb_device_state.specs.Machines.{device_at, device_in, cert_in, machine_of}
-use Rattle.fb_world.specs.Scenes.{Scene, system_of, cert_of, world_of}
+use Rattle.fb_world_course.specs.Scenes.{Scene, system_of, cert_of, world_of}
 use Rattle.fb_world.specs.Loads.{IsDeviceAt}
 use Rattle.fb_drain.specs.Draining.{HasRun, weight_at, IsServed, IsIdle, AreTold, IsDrained, HasStopped, IsSoundAt, WasTold, IsOneServed}
 

@@ -3,8 +3,8 @@
 ghost use Rattle.std.specs.Prelude.{◌≡◌, IfOk, OnErr};
 ghost use Rattle.fb_model.specs.World.{Answered};
 ghost use Rattle.fb_device_dispatch.specs.Answers.{dispatched_of};
-ghost use Rattle.fb_world.specs.Scenes.{system_of, cert_of, world_of};
-ghost use Rattle.fb_world.specs.Answers.{leaves_at};
+ghost use Rattle.fb_world_course.specs.Scenes.{system_of, cert_of, world_of};
+ghost use Rattle.fb_world_course.specs.Answers.{leaves_at};
 ghost use Rattle.fb_drain.specs.Draining.{IsDrained, HasStopped, IsSoundAt, WasTold, IsOneServed};
 
 use crate::witness::Witness;

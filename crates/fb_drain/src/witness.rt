@@ -4,8 +4,8 @@ ghost use Rattle.std.specs.Prelude.{OnOk};
 ghost use Rattle.fb_model.specs.World.{WorldAnswer, Answered};
 ghost use Rattle.fb_device_dispatch.specs.declared.answer.Dispatched.TheVariants as variants;
 ghost use Rattle.fb_device_dispatch.specs.Answers.{dispatched_of};
-ghost use Rattle.fb_world.specs.Scenes.{system_of};
-ghost use Rattle.fb_world.specs.Answers.{leaves_at};
+ghost use Rattle.fb_world_course.specs.Scenes.{system_of};
+ghost use Rattle.fb_world_course.specs.Answers.{leaves_at};
 
 use fb_device::Ran;
 use fb_world::World;

@@ -8,7 +8,7 @@ use Rattle.fb_model.specs.World as book
 use Rattle.fb_model.specs.World.{Datagram, Local, At_device, Deliver_datagram, World, Answered, WorldHappens}
 use Rattle.fb_model.specs.Certificates.{Certificate}
 use Rattle.fb_world.specs.Answers.{steps_of}
-use Rattle.fb_world.specs.Scenes.{Scene, system_of, cert_of, world_of}
+use Rattle.fb_world_course.specs.Scenes.{Scene, system_of, cert_of, world_of}
 use Rattle.fb_world.specs.declared.answer.RootSteps.{RootSteps}
 use Rattle.fb_script.specs.Lines.{Command, Offer, Deliver, Tick, Dispatch, Root}
 use Rattle.fb_script.specs.Playing.{Asks, IsUnknown, Plays}

@@ -5,7 +5,7 @@ use Rattle.fb_model.specs.System.{System}
 use Rattle.fb_model.specs.Certificates.{Certificate}
 use Rattle.fb_model.specs.World.{World}
 use Rattle.fb_verified.specs.Checked.{system_in, certificate_in}
-use Rattle.fb_world.specs.Scenes.{Scene, system_of, cert_of, world_of}
+use Rattle.fb_world_course.specs.Scenes.{Scene, system_of, cert_of, world_of}
 use Rattle.fb_script.specs.Playing.{Answers, IsBad}
 use Rattle.fb_script.specs.Runs.{HaltsAt, IsLine, Runs, done, memory, unreadable, bad, blank, answered, IsRun}
 use Rattle.fb_script.specs.Steps.{IsStep}

@@ -7,7 +7,7 @@ use Rattle.fb_model.specs.System.{System}
 use Rattle.fb_model.specs.Certificates.{Certificate}
 use Rattle.fb_model.specs.World.{World}
 use Rattle.fb_model.specs.CertificateText.{words}
-use Rattle.fb_world.specs.Scenes.{Scene, system_of, cert_of, world_of}
+use Rattle.fb_world_course.specs.Scenes.{Scene, system_of, cert_of, world_of}
 use Rattle.fb_script.specs.Playing.{Answers, IsBad}
 use Rattle.fb_script.specs.declared.run.End.{End}
 use Rattle.fb_script.specs.declared.run.End.TheVariants.{Done, Line, Unreadable, OutOfMemory}

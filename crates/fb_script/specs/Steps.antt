@@ -5,8 +5,9 @@ use Rattle.fb_model.specs.System.{Device}
 use Rattle.fb_model.specs.Devices.{Answer}
 use Rattle.fb_model.specs.World.{WorldEvent, At_device, A_dispatch, Answered, Unknown, WorldHappens, root_steps}
 use Rattle.fb_model.specs.CertificateText.{words}
-use Rattle.fb_world.specs.Answers.{device_of, event_of, steps_of}
-use Rattle.fb_world.specs.Scenes.{Scene, system_of, cert_of, world_of}
+use Rattle.fb_world_course.specs.Answers.{device_of, event_of}
+use Rattle.fb_world.specs.Answers.{steps_of}
+use Rattle.fb_world_course.specs.Scenes.{Scene, system_of, cert_of, world_of}
 use Rattle.fb_script.specs.Lines as lines
 use Rattle.fb_script.specs.Lines.{Command}
 use Rattle.fb_script.specs.Playing.{IsNoDevice, IsNoResource, Asks, IsUnknown, Plays, Answers, IsBad}

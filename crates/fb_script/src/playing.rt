@@ -7,7 +7,7 @@ ghost use Rattle.fb_device_state.specs.Machines.{device_in};
 ghost use Rattle.fb_device.specs.Answers.{answer_of, HasPlace, IsNumberOf, IsNoNumber};
 ghost use Rattle.fb_device_dispatch.specs.Answers.{dispatched_of, HasPoint};
 ghost use Rattle.fb_device_dispatch.specs.declared.answer.Dispatched.TheVariants as dispatched;
-ghost use Rattle.fb_world.specs.Scenes.{system_of};
+ghost use Rattle.fb_world_course.specs.Scenes.{system_of};
 ghost use Rattle.fb_script.specs.Lines as book;
 ghost use Rattle.fb_script.specs.Views.{command_of};
 ghost use Rattle.fb_script.specs.Steps.{IsAsked};
@@ -16,7 +16,8 @@ ghost use Rattle.fb_script.specs.Texts.{told_text, answer_text};
 use crate::line::Line;
 use crate::told::Told;
 use fb_device::{Answer, Device, Dispatched, Ran};
-use fb_world::{RootSteps, World, WorldEvent};
+use fb_world::{RootSteps, World};
+use fb_world_course::WorldEvent;
 
 /// What a line names and is not there.
 #[derive(Clone, Copy)]

@@ -17,15 +17,15 @@ use Rattle.fb_verified.specs.Checked as checks
 use Rattle.fb_verified.specs.Checked.{system_in, IsChecked}
 use Rattle.fb_verified.specs.Lookups.{is_same_path}
 use Rattle.fb_device_state.specs.Machines.{device_in}
-use Rattle.fb_world.specs.declared.station.Root.{Root}
-use Rattle.fb_world.specs.declared.station.Station.{Station}
-use Rattle.fb_world.specs.declared.course.Course.{Course}
-use Rattle.fb_world.specs.Scenes.{root_in, opening_place, world_in}
+use Rattle.fb_world_course.specs.declared.station.Root.{Root}
+use Rattle.fb_world_course.specs.declared.station.Station.{Station}
+use Rattle.fb_world_course.specs.declared.course.Course.{Course}
+use Rattle.fb_world_course.specs.Scenes.{root_in, opening_place, world_in}
 use Rattle.fb_world.specs.Laws.{Falls, FallsOver, IsTold}
-use Rattle.fb_world.specs.Keeping.{IsReached, IsRoot, IsKept}
+use Rattle.fb_world_course.specs.Keeping.{IsReached, IsRoot, IsKept}
 use Rattle.fb_lists.proofs.Lists.{all_got, within_got, same_at}
-use Rattle.fb_world.proofs.Lists.{some_same, some_none, all_by, got_there}
-use Rattle.fb_world.proofs.Kept.{all_hold, reached_sound, device_stands}
+use Rattle.fb_world_course.proofs.Lists.{some_same, some_none, all_by, got_there}
+use Rattle.fb_world_course.proofs.Kept.{all_hold, reached_sound, device_stands}
 
 few_row : (words : List (List ℕ)) (n : ℕ) → IsTextRow words (repeats n) → n ≤ 255
 few_row words n (a_repeats h) = h.at_most

@@ -6,8 +6,8 @@ use Rattle.std.specs.List.{AllByRecursion}
 use Rattle.std.proofs.lemmas.Option.{same_Some, slice_get-map}
 use Rattle.fb_model.specs.World.{AreWithin, datagram_numbered}
 use Rattle.fb_model.specs.World.{Datagram as book}
-use Rattle.fb_world.specs.declared.sent.Sent.{Sent}
-use Rattle.fb_world.specs.Scenes.{datagram_of}
+use Rattle.fb_world_course.specs.declared.sent.Sent.{Sent}
+use Rattle.fb_world_course.specs.Scenes.{datagram_of}
 use Rattle.fb_world.specs.Laws.{AreSeldom, IsOften, IsSeldom}
 
 at_most : (most : ℕ) (xs : List ℕ) → AllByRecursion (λ n. n ≤ most) xs → (d : ℕ) → slice_index_or xs d 0 ≤ most

@@ -6,7 +6,7 @@ use Rattle.fb_device.specs.declared.refusal.Refusal.{Refusal}
 use Rattle.fb_device.specs.declared.refusal.Refusal.TheVariants.{Checked, NoDevice, Limit}
 use Rattle.fb_device_state.specs.Sessions.{Session}
 use Rattle.fb_device_state.specs.Machines.{machine_of}
-use Rattle.fb_world.specs.Scenes.{Scene, system_of, world_of}
+use Rattle.fb_world_course.specs.Scenes.{Scene, system_of, world_of}
 
 -- the texts are spelled, well typed and fit, and the world is the first one of their system
 pub record IsWorldOf (text certificate : List ℕ) (s : Scene) : Type 0 where

@@ -4,21 +4,8 @@
 #![tactic(auto)]
 
 mod answer;
-mod beginning;
-mod course;
 mod often;
-mod room;
-mod sent;
-mod station;
 mod world;
 
-pub use answer::{Missed, OutOfMemory, RootSteps, TooOften, WorldAnswer, WorldEvent};
+pub use answer::{Missed, RootSteps, TooOften};
 pub use world::World;
-
-// A crate can name a world in a contract only if the types of its fields are exported.
-#[doc(hidden)]
-pub use course::Course;
-#[doc(hidden)]
-pub use sent::Sent;
-#[doc(hidden)]
-pub use station::{Root, Station};

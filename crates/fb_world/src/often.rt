@@ -3,11 +3,11 @@
 ghost use Rattle.std.specs.Prelude.{ℕ, ◌≡◌, ◌+◌, ◌<◌, ◌≤◌, Some, MatchOption, map, length, slice_get};
 ghost use Rattle.std.specs.List.{AllByRecursion};
 ghost use Rattle.fb_model.specs.World.{AreWithin};
-ghost use Rattle.fb_world.specs.Scenes.{datagram_of};
+ghost use Rattle.fb_world_course.specs.Scenes.{datagram_of};
 ghost use Rattle.fb_world.specs.Laws.{AreSeldom, IsNextOften, IsOften, IsSeldom, IsTooOften};
 
 use crate::answer::TooOften;
-use crate::sent::Sent;
+use fb_world_course::Sent;
 
 // The first of these counts that is more than so much.
 fn first_above(counts: &[u16], most: u16) -> Option<u16>
@@ -64,7 +64,7 @@ pub fn next_too_often(datagrams: &[Sent], behind: usize, most: u16) -> Option<To
             Some(device) => {
                 return Some(TooOften {
                     root,
-                    datagram: at as u64 + 1,
+                    datagram: 1 + at as u64,
                     device,
                 });
             }

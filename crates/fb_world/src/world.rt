@@ -15,20 +15,21 @@ ghost use Rattle.fb_model_worlds.specs.Worlds.{IsWorldSound};
 ghost use Rattle.fb_tree.specs.Sources.{IsSource};
 ghost use Rattle.fb_verified.specs.Lookups.{is_same_path};
 ghost use Rattle.fb_device.specs.Refusals.{no_memory};
-ghost use Rattle.fb_world.specs.Scenes.{system_of, cert_of, world_of};
-ghost use Rattle.fb_world.specs.Answers.{event_of, device_of, leaves_at, answer_of, answers_of, steps_of, HasWorldPlace, HaveWorldPlaces, HasMissed};
-ghost use Rattle.fb_world.specs.Keeping.{IsReached};
+ghost use Rattle.fb_world_course.specs.Scenes.{system_of, cert_of, world_of};
+ghost use Rattle.fb_world_course.specs.Answers.{event_of, device_of, leaves_at, answer_of, answers_of, HasWorldPlace, HaveWorldPlaces};
+ghost use Rattle.fb_world.specs.Answers.{steps_of, HasMissed};
+ghost use Rattle.fb_world_course.specs.Keeping.{IsReached};
 ghost use Rattle.fb_world.specs.Laws.{AreSeldom, Falls, FallsOver, IsNextOften, IsTold, IsTooOften};
 ghost use Rattle.fb_world.specs.Loads.{IsWorldOf, IsWorldFault, IsDeviceAt};
 
-use crate::answer::{Missed, OutOfMemory, RootSteps, TooOften, WorldAnswer, WorldEvent};
-use crate::beginning::first_course;
-use crate::course::Course;
+use crate::answer::{Missed, RootSteps, TooOften};
 use crate::often::{next_too_often, too_often};
-use crate::station::numbered;
 use fb_device::{Device, Dispatched, Refusal, share};
 use fb_verdict::check_text;
 use fb_verified::Verified;
+use fb_world_course::{
+    Course, OutOfMemory, WorldAnswer, WorldEvent, first_course, numbered,
+};
 use std::alloc::Global;
 use std::marker::Model;
 use std::rc::Rc;
@@ -46,8 +47,8 @@ pub struct World {
 impl Model for World {
     ghost use Rattle.std.specs.Coded.{codes};
     ghost use Rattle.fb_verified.specs.contracts.verified.Verified as checked;
-    ghost use Rattle.fb_world.specs.Scenes.{Scene, scene_of};
-    ghost use Rattle.fb_world.specs.Keeping.{IsKept};
+    ghost use Rattle.fb_world_course.specs.Scenes.{Scene, scene_of};
+    ghost use Rattle.fb_world_course.specs.Keeping.{IsKept};
 
     ghost Value = { Scene };
 

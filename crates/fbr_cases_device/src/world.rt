@@ -2,7 +2,8 @@
 
 use crate::device::{halves, numbers, small};
 use fb_script::{Told, tell};
-use fb_world::{OutOfMemory, RootSteps, World, WorldAnswer, WorldEvent};
+use fb_world::{RootSteps, World};
+use fb_world_course::{OutOfMemory, WorldAnswer, WorldEvent};
 use fbr_cases_language::{Case, ended, refused, text_of};
 use std::alloc::{AllocError, Global};
 use std::fmt::Write;

@@ -3,7 +3,8 @@
 use crate::seen::{Sight, Sights};
 use fb_device::{Answer, Denied, Effect, Ran};
 use fb_drain::{Witness, drain};
-use fb_world::{World, WorldAnswer, WorldEvent};
+use fb_world::World;
+use fb_world_course::{WorldAnswer, WorldEvent};
 use fbr_network::{Datagram, Network};
 use fbr_story::{Arrival, Cause};
 use fbr_watch::{RanAt, Watching};

@@ -2,7 +2,7 @@
 use Rattle.std.proofs.Common.{ℕ, List, Option, Result, Ok, Err, IfOk}
 use Rattle.fb_verified.specs.declared.verified.Verified.{Verified}
 use Rattle.fbr_sim.specs.Simulation.{TellsEnd, IsFresh, TellsScript, a_run, TellsRunFrom}
-use Rattle.fb_world.specs.Scenes.{Scene}
+use Rattle.fb_world_course.specs.Scenes.{Scene}
 use Rattle.fb_script.specs.Runs.{IsRun}
 use Rattle.fb_script.specs.declared.run.End.{End}
 

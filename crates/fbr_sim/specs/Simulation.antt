@@ -3,7 +3,7 @@ use Rattle.std.specs.Prelude.{◌≡◌, ℕ, List, [], Option}
 use Rattle.std.specs.Io.KnownBytes.{Appends}
 use Rattle.fb_verified.specs.declared.verified.Verified.{Verified}
 use Rattle.fb_model.specs.World.{IsFirst}
-use Rattle.fb_world.specs.Scenes.{Scene, system_of, world_of}
+use Rattle.fb_world_course.specs.Scenes.{Scene, system_of, world_of}
 use Rattle.fb_script.specs.Runs.{IsRun}
 use Rattle.fb_script.specs.declared.run.End.{End}
 use Rattle.fb_script.specs.declared.run.End.TheVariants as ends

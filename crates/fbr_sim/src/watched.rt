@@ -7,7 +7,8 @@ use fb_script::{
     tell_dispatched,
 };
 use fb_verified::Verified;
-use fb_world::{Missed, RootSteps, World, WorldAnswer, WorldEvent};
+use fb_world::{Missed, RootSteps, World};
+use fb_world_course::{WorldAnswer, WorldEvent};
 use fbr_answers::answer_object;
 use fbr_files::Fault;
 use fbr_watch::{RanAt, Seen, Watching, Wish};

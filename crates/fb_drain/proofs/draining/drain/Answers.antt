@@ -1,5 +1,5 @@
 use Rattle.std.proofs.Common.{◌∙◌, subst, false, true}
-use Rattle.fb_world.specs.Scenes.{system_of, cert_of, world_of}
+use Rattle.fb_world_course.specs.Scenes.{system_of, cert_of, world_of}
 use Rattle.fb_drain.specs.Draining.{HasStopped, IsOneServed}
 use Rattle.fb_drain.proofs.Served.{stops_more, one_more, drained, on_err, along}
 use Rattle.fb_drain.proofs.draining.drain.Goals as goal

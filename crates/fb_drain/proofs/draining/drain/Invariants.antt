@@ -1,6 +1,6 @@
 use Rattle.std.proofs.Common.{◌≡◌, List}
 use Rattle.fb_model.specs.World.{WorldAnswer}
-use Rattle.fb_world.specs.Scenes.{system_of, cert_of, world_of}
+use Rattle.fb_world_course.specs.Scenes.{system_of, cert_of, world_of}
 use Rattle.fb_drain.specs.Draining.{IsServed, AreTold}
 use Rattle.fb_drain.proofs.draining.drain.Given as goal
 

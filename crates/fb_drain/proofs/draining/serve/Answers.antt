@@ -3,8 +3,8 @@ use Rattle.fb_model.specs.World.{Answered}
 use Rattle.fb_verified.specs.declared.verified.Verified.{Verified}
 use Rattle.fb_verified.specs.Checked.{system_in}
 use Rattle.fb_device_dispatch.specs.Answers.{dispatched_of}
-use Rattle.fb_world.specs.Scenes.{system_of, cert_of, world_of}
-use Rattle.fb_world.specs.Answers.{leaves_at}
+use Rattle.fb_world_course.specs.Scenes.{system_of, cert_of, world_of}
+use Rattle.fb_world_course.specs.Answers.{leaves_at}
 use Rattle.fb_drain.specs.Draining.{WasTold}
 use Rattle.fb_drain.proofs.Served.{dispatch_stops, one_served, if_ok, on_err}
 use Rattle.fb_drain.proofs.draining.serve.Goals as goal

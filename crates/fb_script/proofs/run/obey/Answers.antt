@@ -1,5 +1,5 @@
 use Rattle.fb_model.specs.World.{At_device, A_dispatch}
-use Rattle.fb_world.specs.Answers.{event_of}
+use Rattle.fb_world_course.specs.Answers.{event_of}
 use Rattle.fb_script.specs.Views.{command_of}
 use Rattle.fb_script.proofs.Commands.{if_obeyed, root_told}
 use Rattle.fb_script.proofs.run.obey.Goals as goal

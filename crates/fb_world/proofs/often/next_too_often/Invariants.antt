@@ -1,5 +1,5 @@
 use Rattle.std.proofs.Common.{◌+◌, map}
-use Rattle.fb_world.specs.Scenes.{datagram_of}
+use Rattle.fb_world_course.specs.Scenes.{datagram_of}
 use Rattle.fb_world.specs.Laws.{AreSeldom}
 use Rattle.fb_world.proofs.often.next_too_often.Given as goal
 

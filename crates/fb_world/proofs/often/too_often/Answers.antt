@@ -1,6 +1,6 @@
 use Rattle.std.proofs.Common.{length, refl}
 use Rattle.std.proofs.lemmas.Option.{slice_get_read}
-use Rattle.fb_world.specs.Scenes.{datagram_of}
+use Rattle.fb_world_course.specs.Scenes.{datagram_of}
 use Rattle.fb_world.proofs.Seldom.{numbered_so, further}
 use Rattle.fb_world.proofs.often.too_often.Goals as goal
 

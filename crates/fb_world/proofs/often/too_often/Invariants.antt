@@ -1,6 +1,6 @@
 use Rattle.std.proofs.Common.{drop, map}
 use Rattle.fb_model.specs.World.{AreWithin}
-use Rattle.fb_world.specs.Scenes.{datagram_of}
+use Rattle.fb_world_course.specs.Scenes.{datagram_of}
 use Rattle.fb_world.proofs.often.too_often.Given as goal
 
 -- no datagram so far was admitted more often

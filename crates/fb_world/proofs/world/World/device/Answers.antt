@@ -3,7 +3,7 @@ use Rattle.std.specs.Prelude.{MatchOption}
 use Rattle.std.specs.List.{AllByRecursion}
 use Rattle.fb_verified.specs.Lookups.{is_same_path}
 use Rattle.fb_device_state.specs.Machines.{device_in}
-use Rattle.fb_world.specs.declared.station.Station.{Station}
+use Rattle.fb_world_course.specs.declared.station.Station.{Station}
 use Rattle.fb_world.proofs.Bounds.{named_so}
 use Rattle.fb_world.proofs.world.World.device.Goals as goal
 

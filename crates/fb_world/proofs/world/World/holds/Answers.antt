@@ -1,6 +1,6 @@
-use Rattle.fb_world.specs.Scenes.{world_in}
+use Rattle.fb_world_course.specs.Scenes.{world_in}
 use Rattle.fb_world.proofs.Bounds.{reached_told}
-use Rattle.fb_world.proofs.Kept.{reached_sound}
+use Rattle.fb_world_course.proofs.Kept.{reached_sound}
 use Rattle.fb_world.proofs.world.World.holds.Goals as goal
 
 pub returns-clause-sound : goal.returns-clause-sound

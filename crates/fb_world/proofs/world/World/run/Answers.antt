@@ -1,11 +1,11 @@
 use Rattle.std.proofs.Common.{◌≡◌, ◌++◌, List, map, subst, sym, ◌∙◌, ap}
 use Rattle.fb_model.specs.World.{WorldRun}
 use Rattle.fb_verified.specs.Checked.{system_in, certificate_in}
-use Rattle.fb_world.specs.declared.answer.WorldAnswer.{WorldAnswer}
-use Rattle.fb_world.specs.Scenes.{Scene, world_of, world_in}
-use Rattle.fb_world.specs.Answers.{event_of, answers_of, HaveWorldPlaces}
+use Rattle.fb_world_course.specs.declared.answer.WorldAnswer.{WorldAnswer}
+use Rattle.fb_world_course.specs.Scenes.{Scene, world_of, world_in}
+use Rattle.fb_world_course.specs.Answers.{event_of, answers_of, HaveWorldPlaces}
 use Rattle.fb_world.proofs.Bounds.{falls_over}
-use Rattle.fb_world.proofs.Kept.{scene_same, kept_same, on_err}
+use Rattle.fb_world_course.proofs.Kept.{scene_same, kept_same, on_err}
 use Rattle.fb_world.proofs.world.World.run.Goals as goal
 
 pub invariant_of-self : goal.invariant_of-self

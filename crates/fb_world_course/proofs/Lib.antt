@@ -1,0 +1,10 @@
+pub mod Lists
+pub mod Worlds
+pub mod Openings
+pub mod Stations
+pub mod Kept
+pub mod Arrivals
+pub mod Rooms
+pub mod Dispatches
+pub mod Deliveries
+pub mod First
