@@ -1,62 +1,90 @@
 //! The finder that keeps given ranges, and the one that tries harder.
 
-ghost use Rattle.std.specs.Prelude.{◌≡◌, ◌≤◌, IfErr, IfOk, IfSome};
+ghost use Rattle.std.specs.Prelude.{◌≡◌, ◌≤◌, [], true, IfErr, IfOk, IfSome};
+ghost use Rattle.fb_model.specs.Names.{is_in};
 ghost use Rattle.fb_model.specs.Certificates as book;
 ghost use Rattle.fb_model.specs.Certificates.{Fits};
 ghost use Rattle.fb_cert.specs.Views.{certificate_of, rows_of};
 ghost use Rattle.fb_types.specs.Views.{system_of};
+ghost use Rattle.fb_types_blocks.specs.Views.{names_of};
+ghost use Rattle.fb_check_rows.specs.Members.{gathered};
+ghost use Rattle.fb_check_rows.specs.Texts.{texts_of};
+ghost use Rattle.fb_check_rows.specs.declared.kind.RowKind.TheVariants.{Range};
 ghost use Rattle.fb_find.specs.Bounds.{IsRuledOut, IsNoBound, IsWalk, RowsStand};
-ghost use Rattle.fb_find_search.specs.Searching.{AreFirstOf, IsFoundSomehow, IsNoBoundKeeping, IsSearched, IsStill};
+ghost use Rattle.fb_find_search.specs.Searching.{AreFirstOf, IsFoundSomehow, IsNoBoundKeeping, IsRanged, IsSearched, IsStill};
 
 use fb_cert::{Certificate, Row};
+use fb_check_rows::{RowKind, required};
 use fb_find::{find, find_within};
 use fb_find_candidate::candidate;
 use fb_find_rows::NoBound;
-use fb_flat::flatten;
+use fb_flat::{Flat, flatten};
 use fb_types::{TypeFault, Typed};
+use indexmap::IndexSet;
 use std::alloc::{AllocError, Global};
 
-// Rows RANGE that are proposed with those that are given; none, where there are no leaves.
-fn proposed(alloc: Global, typed: &Typed, given: &Certificate) -> Result<Certificate, AllocError> {
-    match flatten(alloc, typed) {
-        Ok(flat) => {
-            let ranges = candidate(alloc, &flat, given);
-            flat.let_go();
-            ranges
-        }
-        Err(TypeFault::OutOfMemory) => Err(AllocError),
-        Err(_) => Ok(Certificate::new(alloc)),
-    }
-}
-
-// Adds the rows RANGE of another certificate at the end, where their paths are new.
-fn add_ranges(alloc: Global, more: &Certificate, rows: &mut Certificate) -> Result<(), AllocError>
-    ensures { AreFirstOf (rows_of rows.old) (rows_of rows.new) }
+// Adds those rows RANGE of another certificate at the end that are of these paths and new.
+fn add_ranges(
+    alloc: Global,
+    more: &Certificate,
+    paths: &IndexSet<String>,
+    rows: &mut Certificate,
+) -> Result<(), AllocError>
+    ensures { AreFirstOf (λ path. is_in path (names_of paths.now) ≡ true) (rows_of rows.old) (rows_of rows.new) }
 {
     for index in 0..more.range_count() {
         let Some((path, interval)) = more.range_at(index) else {
             return Ok(());
         };
-        rows.add(alloc, Row::Range(path, interval))?;
+        if paths.contains(path) {
+            rows.add(alloc, Row::Range(path, interval))?;
+        }
     }
     Ok(())
 }
 
-// The rows that are given, and after them those RANGE of another certificate.
-fn with_more(
+// Adds those rows RANGE of another certificate at the end that are of leaves.
+fn add_proposed(
     alloc: Global,
-    given: Certificate,
+    flat: &Flat,
     more: &Certificate,
-) -> Result<Certificate, AllocError>
-    ensures { IfOk result (λ c. AreFirstOf (rows_of given) (rows_of c)) }
+    rows: &mut Certificate,
+) -> Result<(), AllocError>
+    ensures { AreFirstOf (λ path. is_in path (texts_of Range flat.now.devices.items) ≡ true) (rows_of rows.old) (rows_of rows.new) }
 {
-    let mut rows = given;
-    match add_ranges(alloc, more, &mut rows) {
-        Ok(()) => Ok(rows),
-        Err(error) => {
-            rows.let_go();
-            Err(error)
+    match required(alloc, RowKind::Range, flat) {
+        Ok(paths) => add_ranges(alloc, more, &paths, rows),
+        Err(_) => Err(AllocError),
+    }
+}
+
+// Proposes rows RANGE of leaves, and adds them at the end.
+fn propose(alloc: Global, flat: &Flat, rows: &mut Certificate) -> Result<(), AllocError>
+    ensures { AreFirstOf (λ path. is_in path (texts_of Range flat.now.devices.items) ≡ true) (rows_of rows.old) (rows_of rows.new) }
+{
+    match candidate(alloc, flat, rows) {
+        Ok(more) => {
+            let added = add_proposed(alloc, flat, &more, rows);
+            more.let_go();
+            added
         }
+        Err(error) => Err(error),
+    }
+}
+
+// Adds rows RANGE that are proposed with those that there are; none, where there are no leaves.
+fn add_more(alloc: Global, typed: &Typed, rows: &mut Certificate) -> Result<(), AllocError>
+    ensures { AreFirstOf (IsRanged (system_of typed.now)) (rows_of rows.old) (rows_of rows.new) }
+{
+    typed.stands_in_text();
+    match flatten(alloc, typed) {
+        Ok(flat) => {
+            let added = propose(alloc, &flat, rows);
+            flat.let_go();
+            added
+        }
+        Err(TypeFault::OutOfMemory) => Err(AllocError),
+        Err(_) => Ok(()),
     }
 }
 
@@ -66,16 +94,13 @@ fn with_proposed(
     typed: &Typed,
     given: Certificate,
 ) -> Result<Certificate, AllocError>
-    ensures { IfOk result (λ c. AreFirstOf (rows_of given) (rows_of c)) }
+    ensures { IfOk result (λ c. AreFirstOf (IsRanged (system_of typed.now)) (rows_of given) (rows_of c)) }
 {
-    match proposed(alloc, typed, &given) {
-        Ok(more) => {
-            let rows = with_more(alloc, given, &more);
-            more.let_go();
-            rows
-        }
+    let mut rows = given;
+    match add_more(alloc, typed, &mut rows) {
+        Ok(()) => Ok(rows),
         Err(error) => {
-            given.let_go();
+            rows.let_go();
             Err(error)
         }
     }
@@ -84,7 +109,7 @@ fn with_proposed(
 /// A certificate in which each row RANGE of another stands; the other ranges are proposed. Every other number is the least of all certificates with these ranges that
 /// fit, as `find` has it.
 ///
-/// Refused as by `find_within` under the rows that are given with those that are proposed behind them.
+/// Refused as by `find_within` under the rows that are given with those that are proposed behind them, each of a variable of the system.
 pub fn find_keeping(
     alloc: Global,
     typed: &Typed,

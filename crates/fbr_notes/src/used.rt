@@ -43,6 +43,22 @@ fn use_behind(before: Option<Mark>, found: Use) -> Use {
     }
 }
 
+// Notes that a name is used behind a token.
+fn add_use(
+    alloc: Global,
+    uses: &mut IndexMap<String, Use>,
+    name: &str,
+    before: Option<Mark>,
+) -> Result<(), AllocError> {
+    match uses.get_mut(name) {
+        Some(found) => *found = use_behind(before, *found),
+        None => {
+            uses.insert(String::from_str(alloc, name)?, use_behind(before, UNUSED))?;
+        }
+    }
+    Ok(())
+}
+
 // How names are used by the algorithms and guards of the declaration that begins with these tokens.
 fn uses_in(alloc: Global, tokens: &[Token]) -> Result<IndexMap<String, Use>, AllocError> {
     let mut uses = IndexMap::new(alloc);
@@ -62,8 +78,7 @@ fn uses_in(alloc: Global, tokens: &[Token]) -> Result<IndexMap<String, Use>, All
             _ => {
                 let is_variable = is_code && !matches!(before, Some(Mark::Algorithm));
                 if let (true, Some(name)) = (is_variable, name_of(Some(token))) {
-                    let found = uses.get(name).copied().unwrap_or(UNUSED);
-                    uses.insert(String::from_str(alloc, name)?, use_behind(before, found))?;
+                    add_use(alloc, &mut uses, name, before)?;
                 }
             }
         }
