@@ -3,7 +3,8 @@
 
   dev/gate_times.py [FOLDER]          runs the gate in a checkout (without it, this one), and prints the table; what the gate says goes to standard error
   dev/gate_times.py --lines [FOLDER]  the same with a line for each crate in place of the table, as `.ci/run` has it
-  dev/gate_times.py --told LOG [FOLDER]           prints the table from such lines, wherever they are in LOG
+  dev/gate_times.py --told LOG.. [FOLDER]         prints the table from such lines, wherever they are in one LOG; or in several, of
+                                                  one gate that was cut off and begun again: of each crate its most seconds, and the minutes of all
   dev/gate_times.py --watch PID FILE  keeps in FILE, as JSON, what the processes below a gate that runs already have taken, until it ends
   dev/gate_times.py --table FILE LOG [FOLDER]     prints the table from such a record and from what that gate said
 
@@ -179,11 +180,16 @@ def lines(record, said, folder, passed):
     print(f"passed {lanes['last']:.1f} at once on the mean of its last quarter of an hour, and at its end {lanes['of'] or 'nothing'} alone for {lanes['alone']:.0f} s")
 
 
-def told_rows(said):
-    """The rows and the whole of a gate that told its lines."""
-    rows = [(it[1], *map(int, it.groups()[1:])) for it in map(LINE.search, said) if it]
-    whole = next(([int(it[1]), int(it[2])] for it in map(WHOLE.search, said) if it), [0, 0])
-    return rows, whole
+def told_rows(runs, folder):
+    """The rows and the whole of gates that told their lines: of each crate the greatest seconds of each kind, since what one run has kept the next one does not do."""
+    rows, whole = {}, [0, 0]
+    for said in runs:
+        for it in filter(None, map(LINE.search, said)):
+            before = rows.get(it[1], (0,) * (len(it.groups()) - 1))
+            rows[it[1]] = tuple(map(max, before, map(int, it.groups()[1:])))
+        for it in filter(None, map(WHOLE.search, said)):
+            whole = [one + int(other) for one, other in zip(whole, it.groups())]
+    return [(crate, *rows[crate]) for crate in sizes.listed(folder) if crate in rows], whole
 
 
 def gate(folder, in_lines):
@@ -222,8 +228,8 @@ def main(words):
             record = json.loads(read(file))
             table(rows_of(record, read(log).splitlines(), folder), minutes(record), folder)
             return 0
-        case ["--told", log]:
-            table(*told_rows(read(log).splitlines()), folder)
+        case ["--told", _, *_] as asked:
+            table(*told_rows([read(log).splitlines() for log in asked[1:]], folder), folder)
             return 0
         case ["--lines"] | [] as asked:
             return gate(folder, bool(asked))
