@@ -38,6 +38,19 @@ all_as : (Is Are : Name → Type 0) → ((path : Name) → Is path → Are path)
 all_as Is Are f [] h = tt
 all_as Is Are f (x ∷ xs) h = (f x.0 h.0, all_as Is Are f xs h.1)
 
+both_all : (P : Name × Span → Type 0) (xs ys : Table Span) → AllByRecursion P xs → AllByRecursion P ys → AllByRecursion P (xs ++ ys)
+both_all P [] ys h k = k
+both_all P (x ∷ xs) ys h k = (h.0, both_all P xs ys h.1 k)
+
+-- others behind others
+pub first_then : (Is : Name → Type 0) (given mid new : Rows) → AreFirstOf Is given mid → AreFirstOf Is mid new → AreFirstOf Is given new
+first_then Is given mid new one two =
+    (
+      one.0 ++ two.0,
+      two.1 ∙ (ap (λ (xs : Table Span). xs ++ two.0) one.1 ∙ append_assoc given.ranges one.0 two.0),
+      both_all (λ r. Is r.0) one.0 two.0 one.2 two.2,
+    )
+
 -- paths that are so are so in other words
 pub first_as : (Is Are : Name → Type 0) (given new : Rows) → ((path : Name) → Is path → Are path) → AreFirstOf Is given new → AreFirstOf Are given new
 first_as Is Are given new f first = (first.0, first.1, all_as Is Are f first.0 first.2)

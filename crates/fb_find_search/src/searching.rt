@@ -19,9 +19,29 @@ use fb_find::{find, find_within};
 use fb_find_candidate::candidate;
 use fb_find_rows::NoBound;
 use fb_flat::{Flat, flatten};
+use fb_ranges_intervals::Interval;
 use fb_types::{TypeFault, Typed};
 use indexmap::IndexSet;
 use std::alloc::{AllocError, Global};
+
+// Adds a row RANGE at the end, if it is of one of these paths, and new.
+fn add_range(
+    alloc: Global,
+    row: (&str, Interval),
+    paths: &IndexSet<String>,
+    rows: &mut Certificate,
+) -> Result<(), AllocError>
+    ensures { AreFirstOf (λ path. is_in path (names_of paths.now) ≡ true) (rows_of rows.old) (rows_of rows.new) }
+{
+    let (path, interval) = row;
+    if !paths.contains(path) {
+        return Ok(());
+    }
+    match rows.add(alloc, Row::Range(path, interval)) {
+        Ok(_) => Ok(()),
+        Err(error) => Err(error),
+    }
+}
 
 // Adds those rows RANGE of another certificate at the end that are of these paths and new.
 fn add_ranges(
@@ -33,12 +53,10 @@ fn add_ranges(
     ensures { AreFirstOf (λ path. is_in path (names_of paths.now) ≡ true) (rows_of rows.old) (rows_of rows.new) }
 {
     for index in 0..more.range_count() {
-        let Some((path, interval)) = more.range_at(index) else {
+        let Some(row) = more.range_at(index) else {
             return Ok(());
         };
-        if paths.contains(path) {
-            rows.add(alloc, Row::Range(path, interval))?;
-        }
+        add_range(alloc, row, paths, rows)?;
     }
     Ok(())
 }
