@@ -1,7 +1,7 @@
 -- Rows that are given stand first, and so they stand in what is found within all.
 use Rattle.std.proofs.Common.{◌≡◌, ℕ, ℤ, Bool, true, false, Option, List, [], ◌∷◌, ◌++◌, Result, Ok, Err, IfOk, refl, ap, ◌∙◌, append_assoc, subst, if◌then◌else◌}
 use Rattle.std.specs.Prelude.{IfErr}
-use Rattle.fb_model.specs.Names.{Name, is_in}
+use Rattle.fb_model.specs.Names.{Name}
 use Rattle.std.specs.List.{AllByRecursion}
 use Rattle.fb_model.specs.Spans.{Span, span}
 use Rattle.fb_model.specs.CertificateText.{range}
