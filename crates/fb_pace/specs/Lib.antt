@@ -1,0 +1,3 @@
+pub mod Bucket
+pub mod Buckets
+pub mod Rates
