@@ -4,7 +4,8 @@
 A device runs with keys and a state, and gets N datagrams (20,000 without it) that a stranger has: cut, changed in a byte or more, forged under another key,
 with another peer's number, sent again, out of order, without a seal, with counters up to 2^64 - 1; and between them those of a friend. Asked is that just the
 friend's are taken, each once, that the counts of what was dropped, with what found no room in the socket, add up to what was sent, and that memory stays
-flat. Then the device is killed and started again: nothing that was recorded is taken once more, and what it sends has counters above all before. At last its
+flat. Then that friend sends far more than its rate allows, beside another one that keeps to its own: of the first no more than the rate is taken, of the second
+all is, and the counts add up. Then the device is killed and started again: nothing that was recorded is taken once more, and what it sends has counters above all before. At last its
 state file is cut behind each byte, changed in each, and missing, and its keys are for others to read: it is refused (61), and told why."""
 import argparse
 import os
@@ -31,8 +32,8 @@ END_RESOURCE END_DEVICE END_SYSTEM
 """
 OWN, FRIEND, OTHER = 1, 2, 3
 WAIT = 5.0
-REASONS = "not sealed", "of an unknown number", "under another key", "taken before or too old", "not written down"
-DROPPED = re.compile(r"^fbr: dropped so far: not sealed (\d+), of an unknown number (\d+), under another key (\d+), taken before or too old (\d+), not written down (\d+)$", re.M)
+REASONS = "not sealed", "of an unknown number", "under another key", "taken before or too old", "not written down", "above their rate"
+DROPPED = re.compile("^fbr: dropped so far: " + ", ".join(rf"{it} (\d+)" for it in REASONS) + "$", re.M)
 
 
 class Wrong(Exception):
@@ -59,8 +60,13 @@ class Device:
         self.put("app", APP)
         self.run("bound", self.path("app"), "--room", "32", "-o", self.path("cert"))
         self.run("key", "--state", self.path("state"))
-        friend = f"127.0.0.1:{self.link.getsockname()[1]}"
-        lines = [f"own {OWN}", f"{OWN} - {self.keys[OWN].hex()}", f"{FRIEND} {friend} {self.keys[FRIEND].hex()}", f"{OTHER} - {self.keys[OTHER].hex()}"]
+        self.put_keys()
+
+    def put_keys(self, friend="", other=""):
+        """Writes the file of keys, with these rates of the others."""
+        key = {number: it.hex() for number, it in self.keys.items()}
+        address = f"127.0.0.1:{self.link.getsockname()[1]}"
+        lines = [f"own {OWN}", f"{OWN} - {key[OWN]}", f"{FRIEND} {address} {key[FRIEND]} {friend}", f"{OTHER} - {key[OTHER]} {other}"]
         self.put("keys", "\n".join(lines) + "\n", 0o600)
 
     def path(self, name):
@@ -243,6 +249,39 @@ def overtaken(device):
     device.stop(is_paced=False)
 
 
+def flooded(device):
+    """A friend that sends far above its rate costs another one nothing, which keeps to its own: at most one datagram in ten milliseconds, each sent when the
+    one before was answered, so that of any of them in a row at most one comes too soon."""
+    device.put_keys("50/s burst 10", "200/s burst 4")
+    device.start()
+    device.reach()
+    start, kept = time.monotonic(), []
+    for at in range(200):
+        for _ in range(40):
+            device.value += 1
+            device.counter += 1
+            device.send(seal(device.keys[FRIEND], FRIEND, device.counter, offer(device.value)))
+        due, value = time.monotonic() + 0.01, 1_000_000 + at
+        device.send(seal(device.keys[OTHER], OTHER, at + 1, offer(value)))
+        if not device.answered(value):
+            raise Wrong(f"a datagram of one within its rate was not taken, the one after {at}: {device.told()[-500:]}")
+        kept.append(value)
+        time.sleep(max(0, due - time.monotonic()))
+    while select.select([device.link], [], [], 0.2)[0]:
+        device.heard.append(said_in(device.link.recv(2048))[1])
+    seconds = time.monotonic() - start
+    device.taken = device.written()
+    others = [it for it in device.taken if it >= 1_000_000]
+    many = len(device.taken) - len(others)
+    if others != kept or many > 12 + 50 * seconds:
+        raise Wrong(f"of one within its rate {len(others)} of {len(kept)} were taken, and of one above it {many} in {seconds:.1f} s")
+    dropped, lost = device.stop(is_paced=False)
+    if not int(dropped["above their rate"]):
+        raise Wrong(f"none was above its rate: {dropped}")
+    device.put_keys()
+    print(f"sealed: {len(kept)} datagrams within a rate, all taken, beside 8000 above one, of which {many} were taken in {seconds:.1f} s; {dropped['above their rate']} dropped, lost in the socket {lost}")
+
+
 def over_restarts(device):
     """What was recorded is not taken after the device was killed, nor what it may have taken; and the friend goes on. Own counters only grow."""
     for _ in range(3):
@@ -301,6 +340,7 @@ def main():
         try:
             under_attack(device, asked.count)
             overtaken(device)
+            flooded(device)
             over_restarts(device)
             bad_files(device)
         except Wrong as why:

@@ -48,6 +48,25 @@ class SealTest(unittest.TestCase):
         keys = read_keys(self.put("keys", f"# a plant\n\nown 1\n1 - {KEY.hex()}\n2 10.0.0.2:24001 {other} {KEY.hex()}\r\n"))
         self.assertEqual((keys.own, keys.own_key, keys.others), (1, KEY, [(2, OTHER), (2, KEY)]))
 
+    def test_rates(self) -> None:
+        key = KEY.hex()
+        for rate in ("100/s", "1/s burst 1", "1000000/s burst 65535", "0100/s burst 020"):
+            for keys in (key, f"{key} {OTHER.hex()}"):
+                with self.subTest(f"{keys} {rate}"):
+                    self.assertEqual(len(read_keys(self.put("keys", f"own 1\n1 - {keys} {rate}\n")).peers[0].keys), len(keys.split()))
+
+    def test_rates_that_are_none(self) -> None:
+        key = KEY.hex()
+        for rate in (
+            "0/s", "1000001/s", "1/s burst", "1/s burst 0", "1/s burst 65536", "1/s 20", "1/s burst 1 2", "1/s 2/s", f"1/s {key}", f"{key} {key}", f"{key} 1/m",
+            f"{key} 0/s", f"{key} 1/s burst +1", "4294967295/s",
+        ):
+            with self.subTest(rate), self.assertRaisesRegex(BadKeys, "line 2: a line is"):
+                read_keys(self.put("keys", f"own 1\n1 - {key} {rate}\n"))
+        for word in ("/s", "+1/s", "4294967296/s", "1/S"):
+            with self.subTest(word), self.assertRaisesRegex(BadKeys, "a key is neither 64"):
+                read_keys(self.put("keys", f"own 1\n1 - {key} {word}\n"))
+
     def test_keys_that_are_none(self) -> None:
         line = f"1 - {KEY.hex()}\n"
         for text, why in (

@@ -8,6 +8,8 @@ use Rattle.hex.specs.declared.error.FromHexError.{FromHexError}
 use Rattle.fb_model.specs.CertificateText.{words}
 use Rattle.fb_addresses.specs.Addresses.{Endpoint, endpoint_in}
 use Rattle.fb_numbers.specs.Numbers.{number_in}
+use Rattle.fb_pace.specs.declared.rate.Rate.{Rate}
+use Rattle.fb_keys.specs.Rates.{per_second, rate_in}
 use Rattle.fb_keys.specs.declared.keys.KeysFault.{KeysFault}
 use Rattle.fb_keys.specs.declared.keys.KeysFault.TheVariants.{Memory, BadLine, Again, TooMany, NoOwn}
 
@@ -32,21 +34,35 @@ address_in word = if bytes_eq word (codes "-") then Some None else option_map (�
 
 -- ---- lines
 
--- a device of the plant: its number, where it receives, its key, and perhaps a second one beside it
+-- what may stand behind the key of a device: a second key beside it, and how often the device may send
+pub record Extras : Type 0 where
+  pub second : Option Key
+  pub rate : Option Rate
+
+abbrev pub extras_with : Option Key → Option (Option Rate) → Option Extras
+extras_with second rate = option_map (λ r. record { second = second; rate = r }) rate
+
+-- a word that says how many datagrams a second is no key
+abbrev pub extras_in : List (List ℕ) → Option Extras
+extras_in [] = extras_with None (Some None)
+extras_in (first ∷ more) = if is_some (per_second first) then extras_with None (rate_in (first ∷ more)) else extras_with (Some (key_in first)) (rate_in more)
+
+-- a device of the plant: its number, where it receives, its key, and perhaps a second one beside it, and a rate
 pub record PeerLine : Type 0 where
   pub number : ℕ
   pub address : Option Endpoint
   pub key : Key
   pub second : Option Key
+  pub rate : Option Rate
 
-abbrev pub peer_with : Option ℕ → Option (Option Endpoint) → Key → Option Key → Option PeerLine
-peer_with (Some number) (Some address) key second = Some (record { number = number; address = address; key = key; second = second })
-peer_with number address key second = None
+abbrev pub peer_with : Option ℕ → Option (Option Endpoint) → Key → Option Extras → Option PeerLine
+peer_with (Some number) (Some address) key (Some extras) =
+    Some (record { number = number; address = address; key = key; second = extras.second; rate = extras.rate })
+peer_with number address key extras = None
 
--- `2 192.168.0.12:7002 KEY`, perhaps with a second key
+-- `2 192.168.0.12:7002 KEY`, perhaps with a second key, and perhaps with a rate
 abbrev pub peer_in : List (List ℕ) → Option PeerLine
-peer_in (number ∷ address ∷ key ∷ []) = peer_with (number_in number) (address_in address) (key_in key) None
-peer_in (number ∷ address ∷ key ∷ second ∷ []) = peer_with (number_in number) (address_in address) (key_in key) (Some (key_in second))
+peer_in (number ∷ address ∷ key ∷ more) = peer_with (number_in number) (address_in address) (key_in key) (extras_in more)
 peer_in ws = None
 
 -- what a line says: nothing, this device's number, or a device

@@ -1,3 +1,4 @@
 pub mod Keys
+pub mod Rates
 pub mod Views
 pub mod State

@@ -3,6 +3,7 @@ use Rattle.std.specs.Prelude.{List, map, option_map}
 use Rattle.fb_addresses.specs.Addresses.{endpoint_of}
 use Rattle.fb_keys.specs.declared.keys.Keys.{Keys}
 use Rattle.fb_keys.specs.declared.keys.Reader.{Reader}
+use Rattle.fb_keys.specs.declared.line.Extras.{Extras}
 use Rattle.fb_keys.specs.declared.line.Key.{Key}
 use Rattle.fb_keys.specs.declared.line.Key.TheVariants.{Digits, File}
 use Rattle.fb_keys.specs.declared.line.Line.{Line}
@@ -16,8 +17,12 @@ abbrev pub key_of : Key → book.Key
 key_of (Digits bytes) = book.digits bytes
 key_of (File name) = book.in_file name.now
 
+abbrev pub extras_of : Extras → book.Extras
+extras_of e = record { second = option_map key_of e.second; rate = e.rate }
+
 abbrev pub peer_of : PeerLine → book.PeerLine
-peer_of p = record { number = p.number; address = option_map endpoint_of p.address; key = key_of p.key; second = option_map key_of p.second }
+peer_of p =
+    record { number = p.number; address = option_map endpoint_of p.address; key = key_of p.key; second = option_map key_of p.second; rate = p.rate }
 
 abbrev pub line_of : Line → book.Line
 line_of lines.Blank = book.Blank

@@ -131,7 +131,8 @@ fn take_lines<'a>(
     Ok(())
 }
 
-/// The devices that a text says, a line each: `NUMBER ADDRESS KEY`, perhaps with a second key behind it, `own NUMBER` once, and lines that begin with `#`.
+/// The devices that a text says, a line each: `NUMBER ADDRESS KEY`, perhaps with a second key and a rate behind it, `own NUMBER` once, and lines that begin
+/// with `#`.
 /// The fault of the first line that has one.
 pub fn read_keys<'a>(alloc: Global, text: &'a str) -> Result<Keys<'a>, KeysFault>
     ensures { Gives keys_of result (keys_in text.now) }

@@ -7,6 +7,7 @@
 mod keys;
 mod law;
 mod line;
+mod rate;
 mod reading;
 mod state;
 

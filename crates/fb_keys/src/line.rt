@@ -3,11 +3,13 @@
 ghost use Rattle.std.specs.Prelude.{◌≡◌, ◌==◌, map, option_map, slice_index};
 ghost use Rattle.fb_addresses.specs.Addresses.{endpoint_of};
 ghost use Rattle.fb_keys.specs.Keys as book;
-ghost use Rattle.fb_keys.specs.Keys.{address_in, is_comment, key_in, line_in, own_in, peer_in, peer_with};
-ghost use Rattle.fb_keys.specs.Views.{key_of, line_of, peer_of};
+ghost use Rattle.fb_keys.specs.Keys.{address_in, extras_in, extras_with, is_comment, key_in, line_in, own_in, peer_in, peer_with};
+ghost use Rattle.fb_keys.specs.Views.{extras_of, key_of, line_of, peer_of};
 
+use crate::rate::{read_per_second, read_rate};
 use fb_addresses::read_endpoint;
 use fb_numbers::read_number;
+use fb_pace::Rate;
 use std::net::SocketAddr;
 
 /// A key in words.
@@ -19,7 +21,7 @@ pub enum Key<'a> {
     File(&'a str),
 }
 
-/// A device in words: its number, where it receives, its key, and a second one beside it while keys are changed.
+/// A device in words: its number, where it receives, its key, a second one beside it while keys are changed, and how often it may send.
 #[derive(Clone, Copy)]
 pub struct PeerLine<'a> {
     pub number: u16,
@@ -27,6 +29,15 @@ pub struct PeerLine<'a> {
     pub address: Option<SocketAddr>,
     pub key: Key<'a>,
     pub second: Option<Key<'a>>,
+    /// A device without one may send as often as it likes.
+    pub rate: Option<Rate>,
+}
+
+// What stands behind the key of a device.
+#[derive(Clone, Copy)]
+struct Extras<'a> {
+    second: Option<Key<'a>>,
+    rate: Option<Rate>,
 }
 
 /// What a line says.
@@ -64,21 +75,48 @@ fn read_address(word: &str) -> Option<Option<SocketAddr>>
     }
 }
 
-// A device, where its number and its address are ones.
+// What stands behind the key of a device, where its rate is one.
+fn extras_with<'a>(second: Option<Key<'a>>, rate: Option<Option<Rate>>) -> Option<Extras<'a>>
+    ensures { option_map extras_of result ≡ extras_with (option_map key_of second.entry) rate }
+{
+    match rate {
+        Some(rate) => Some(Extras { second, rate }),
+        None => None,
+    }
+}
+
+// What words say behind the key of a device.
+fn read_extras<'a>(words: &[&'a str]) -> Option<Extras<'a>>
+    ensures { option_map extras_of result ≡ extras_in (map (λ w. w.now) words.now) }
+{
+    match words {
+        [] => extras_with(None, Some(None)),
+        [first, rest @ ..] => {
+            if read_per_second(first).is_some() {
+                extras_with(None, read_rate(words))
+            } else {
+                extras_with(Some(read_key(first)), read_rate(rest))
+            }
+        }
+    }
+}
+
+// A device, where its number, its address and what stands behind its key are ones.
 fn peer_with<'a>(
     number: Option<u16>,
     address: Option<Option<SocketAddr>>,
     key: Key<'a>,
-    second: Option<Key<'a>>,
+    extras: Option<Extras<'a>>,
 ) -> Option<PeerLine<'a>>
-    ensures { option_map peer_of result ≡ peer_with number (option_map (λ a. option_map endpoint_of a) address) (key_of key.entry) (option_map key_of second.entry) }
+    ensures { option_map peer_of result ≡ peer_with number (option_map (λ a. option_map endpoint_of a) address) (key_of key.entry) (option_map extras_of extras.entry) }
 {
-    match (number, address) {
-        (Some(number), Some(address)) => Some(PeerLine {
+    match (number, address, extras) {
+        (Some(number), Some(address), Some(extras)) => Some(PeerLine {
             number,
             address,
             key,
-            second,
+            second: extras.second,
+            rate: extras.rate,
         }),
         _ => None,
     }
@@ -89,17 +127,11 @@ fn read_peer<'a>(words: &[&'a str]) -> Option<PeerLine<'a>>
     ensures { option_map peer_of result ≡ peer_in (map (λ w. w.now) words.now) }
 {
     match words {
-        [number, address, key] => peer_with(
+        [number, address, key, rest @ ..] => peer_with(
             read_number(number),
             read_address(address),
             read_key(key),
-            None,
-        ),
-        [number, address, key, second] => peer_with(
-            read_number(number),
-            read_address(address),
-            read_key(key),
-            Some(read_key(second)),
+            read_extras(rest),
         ),
         _ => None,
     }

@@ -1,13 +1,12 @@
 -- Peers that are allowed more counters.
-use Rattle.std.proofs.Common.{arith, ◌≡◌, ℕ, zero, suc, ◌+◌, ◌<◌, Bool, true, false, cond, List, [], ◌∷◌, length, get_or, Some, None, refl, sym, ◌∙◌, ap, subst}
-use Rattle.std.specs.Prelude.{◌==◌, ◌&&◌, slice_get}
+use Rattle.std.proofs.Common.{arith, ◌≡◌, ℕ, zero, suc, ◌+◌, ◌<◌, Bool, true, cond, List, [], ◌∷◌, length, get_or, Some, refl, sym, ◌∙◌, ap, subst}
+use Rattle.std.specs.Prelude.{slice_get}
 use Rattle.std.specs.List.{position_from}
 use Rattle.std.proofs.lemmas.Bool.{both_ways}
 use Rattle.fb_seal.specs.declared.peers.Peer.{Peer}
 use Rattle.fb_seal.specs.declared.peers.Reason.{Reason}
-use Rattle.fb_seal.specs.declared.peers.Reason.TheVariants.{NotSealed, Stranger, Forged, Stale, Ahead}
+use Rattle.fb_seal.specs.declared.peers.Reason.TheVariants.{NotSealed, Stranger, Forged, Stale, Ahead, Fast}
 use Rattle.fb_seal.specs.Reading.{Envelope, body_of, envelope_in, has_form}
-use Rattle.fb_seal.specs.Window.{takes}
 use Rattle.fb_seal.specs.Peers.{IsRefused, RefusesAt, allow_at, allowed, counter_in, has_sealed, sealer, sender_in}
 use Rattle.fb_seal.specs.Ledger.{Note, Extends, ExtendsAt}
 use Rattle.fb_seal.proofs.Admitting.{none_some, some_same}
@@ -47,6 +46,7 @@ pub untaken_at : (peers : List Peer) (bytes : List ℕ) (place counter : ℕ) (a
 untaken_at peers bytes place counter after NotSealed form is first h = absurd h.why
 untaken_at peers bytes place counter after Stranger form is first h = absurd h.why
 untaken_at peers bytes place counter after Forged form is first h = absurd h.why
+untaken_at peers bytes place counter after Fast form is first h = absurd h.why
 untaken_at peers bytes place counter after Stale form is first h =
     subst (λ (ps : List Peer). IsRefused Stale ps bytes) (sym h.kept)
     (form, (place, first, subst (λ (n : ℕ). RefusesAt Stale peers place n peers) is (record { peer = h.peer; there = h.there; why = h.why; kept = refl })))

@@ -6,7 +6,7 @@ use Rattle.std.proofs.lemmas.Bool.{both_ways, cases_Bool, cases_eq, or_left, or_
 use Rattle.std.proofs.lemmas.Slice.Eq.{bytes_eq-Decides}
 use Rattle.fb_seal.specs.declared.peers.Peer.{Peer}
 use Rattle.fb_seal.specs.declared.peers.Reason.{Reason}
-use Rattle.fb_seal.specs.declared.peers.Reason.TheVariants.{NotSealed, Stranger, Forged, Stale, Ahead}
+use Rattle.fb_seal.specs.declared.peers.Reason.TheVariants.{NotSealed, Stranger, Forged, Stale, Ahead, Fast}
 use Rattle.fb_seal.specs.declared.window.Window.{Window}
 use Rattle.fb_seal.specs.Seal.{Sealed}
 use Rattle.fb_seal.specs.Reading.{Envelope, body_of, envelope_in, has_form, is_tagged}
@@ -246,6 +246,7 @@ not_refused peers bytes datagram place counter peer reason first there is_sealed
     choose NotSealed h = both_ways (has_form bytes) h parts.0
     choose Stranger h = both_ways (is_known peers (sender_in bytes)) h.1 (any_there (λ (x : Peer). x.number == sender_in bytes) peers place peer there number)
     choose Forged h = none_some place (sym h.2 ∙ first)
+    choose Fast h = h
     choose Stale h =
         let one = its_peer Stale h.1 in
         let stale : takes peer.window (counter_in bytes) ≡ false = ap (λ (x : Peer). takes x.window (counter_in bytes)) (sym one) ∙ h.1.2.why in

@@ -1,5 +1,5 @@
 -- What is written down of counters before they are used. This project's profile.
-use Rattle.std.specs.Prelude.{◌≡◌, ℕ, ◌+◌, ◌<◌, ◌≤◌, min, List, Bool, true, false, Option, None, Some, slice_get, if◌then◌else◌}
+use Rattle.std.specs.Prelude.{◌≡◌, ℕ, ◌+◌, ◌<◌, ◌≤◌, min, List, Bool, true, false, None, Some, slice_get}
 use Rattle.fb_seal.specs.declared.peers.Peer.{Peer}
 use Rattle.fb_seal.specs.Reading.{has_form}
 use Rattle.fb_seal.specs.Peers.{allow_at, counter_in, sealer}

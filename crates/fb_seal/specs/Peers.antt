@@ -4,7 +4,7 @@ use Rattle.std.specs.Prelude.{Bool, true, false, ◌==◌, ◌&&◌, bytes_eq, i
 use Rattle.std.specs.List.{AllZip, list_any, position_from}
 use Rattle.fb_seal.specs.declared.peers.Peer.{Peer}
 use Rattle.fb_seal.specs.declared.peers.Reason.{Reason}
-use Rattle.fb_seal.specs.declared.peers.Reason.TheVariants.{NotSealed, Stranger, Forged, Stale, Ahead}
+use Rattle.fb_seal.specs.declared.peers.Reason.TheVariants.{NotSealed, Stranger, Forged, Stale, Ahead, Fast}
 use Rattle.fb_seal.specs.declared.window.Window.{Window}
 use Rattle.fb_seal.specs.Seal.{Sealed}
 use Rattle.fb_seal.specs.Reading.{body_of, envelope_in, has_form, is_tagged}
@@ -64,13 +64,15 @@ pub record Admits (before : List Peer) (bytes datagram : List ℕ) (after : List
 abbrev pub IsUntaken : Reason → List Peer → List ℕ → Type 0
 IsUntaken reason peers bytes = (place : ℕ) × (sealer bytes peers ≡ Some place) × RefusesAt reason peers place (counter_in bytes) peers
 
--- they have not the sealed form; or no peer has the number; or none with that number has sealed them; or their counter is not taken
+-- they have not the sealed form; or no peer has the number; or none with that number has sealed them; or their counter is not taken. How often their sender may
+-- send is not asked here.
 abbrev pub IsRefused : Reason → List Peer → List ℕ → Type 0
 IsRefused NotSealed peers bytes = has_form bytes ≡ false
 IsRefused Stranger peers bytes = (has_form bytes ≡ true) × (is_known peers (sender_in bytes) ≡ false)
 IsRefused Forged peers bytes = (has_form bytes ≡ true) × (is_known peers (sender_in bytes) ≡ true) × (sealer bytes peers ≡ None)
 IsRefused Stale peers bytes = (has_form bytes ≡ true) × IsUntaken Stale peers bytes
 IsRefused Ahead peers bytes = (has_form bytes ≡ true) × IsUntaken Ahead peers bytes
+IsRefused Fast peers bytes = ⊥
 
 -- ---- one after another
 

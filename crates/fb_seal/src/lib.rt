@@ -2,10 +2,12 @@
 //! A tag is the first half of an HMAC-SHA-256 under the key of the sender, who shares it with all that are to hear it; each of these could seal in its
 //! name. What is opened under a key was sealed under it (`sealed_datagrams_open`). That only who has the key can make its tags is assumed of HMAC, and
 //! stands in no law. The same bytes are admitted at most once (`bytes_are_admitted_once`), and strangers cannot shut a friend out (`a_friend_is_admitted`).
-//! Counters are written down before they are used (`Ledger`): a link uses none that is not, whichever end of it is restarted.
+//! Counters are written down before they are used (`Ledger`): a link uses none that is not, whichever end of it is restarted. How often a peer may send is
+//! asked of a gate, about what that peer sealed, and about nothing else (`Gate`).
 #![tactic(auto)]
 
 mod form;
+mod gate;
 mod law;
 mod ledger;
 mod link;
@@ -14,6 +16,7 @@ mod tags;
 mod window;
 
 pub use form::{Envelope, Opened, SealedDatagram, is_tagged, open, said_in, seal};
+pub use gate::{Gate, Unlimited};
 pub use law::{
     a_friend_is_admitted, bytes_are_admitted_once, counters_are_taken_once, sealed_datagrams_open,
 };

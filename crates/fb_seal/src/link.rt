@@ -1,11 +1,14 @@
 //! Sealed links.
 
-ghost use Rattle.std.specs.Prelude.{◌≡◌, ◌≤◌, ◌<◌, length, take, max};
+ghost use Rattle.std.specs.Prelude.{◌≡◌, ◌≤◌, ◌<◌, List, IfErr, IfOk, length, take, max};
 ghost use Rattle.fb_link.specs.Link.{receipt, FitsRoom};
 ghost use Rattle.fb_seal.specs.Peers.{allow_at};
-ghost use Rattle.fb_seal.specs.Passing.{Receipt, Refills, SealedStep, Sends, count};
+ghost use Rattle.fb_seal.specs.declared.peers.Peer.{Peer};
+ghost use Rattle.fb_seal.specs.Ledger.{Extends};
+ghost use Rattle.fb_seal.specs.Passing.{IsLost, IsTaken, Receipt, Refills, SealedStep, Sends, count};
 
 use crate::form::seal;
+use crate::gate::Gate;
 use crate::ledger::Ledger;
 use crate::peers::{Peer, Reason, admit};
 use fb_link::{Link, Received};
@@ -25,6 +28,7 @@ pub struct Dropped {
     pub forged: u64,
     pub stale: u64,
     pub ahead: u64,
+    pub fast: u64,
 }
 
 impl Dropped {
@@ -38,15 +42,17 @@ impl Dropped {
             Reason::Forged => self.forged = self.forged.saturating_add(1),
             Reason::Stale => self.stale = self.stale.saturating_add(1),
             Reason::Ahead => self.ahead = self.ahead.saturating_add(1),
+            Reason::Fast => self.fast = self.fast.saturating_add(1),
         }
     }
 }
 
-/// A link over another one that seals what goes out, and hands on only what its peers sealed, each datagram at most once.
+/// A link over another one that seals what goes out, and hands on only what its peers sealed, each datagram at most once, and no more than a gate lets pass.
 #[derive(Drop)]
-pub struct SealedLink<L, K> {
+pub struct SealedLink<L, K, G> {
     link: L,
     ledger: K,
+    gate: G,
     number: u16,
     key: [u8; 32],
     next: u64,
@@ -66,21 +72,45 @@ fn copy_front(from: &[u8], to: &mut [u8]) -> usize
     n
 }
 
+// What a peer sealed in these bytes, if that is admitted and the gate lets the peer pass; or why they are dropped. The gate is asked last, so that what is
+// forged or came before costs a peer nothing.
+fn taken_in<'a, K: Ledger, G: Gate>(
+    peers: &mut Vec<Peer>,
+    ledger: &mut K,
+    gate: &mut G,
+    bytes: &'a [u8],
+) -> Result<&'a [u8], Reason>
+    ensures ok { IfOk result (λ datagram. (mid : List Peer) × Extends K.writes peers.old.items ledger.old bytes.now mid ledger.new × IsTaken G.lets mid gate.old bytes.now datagram.now peers.new.items gate.new) }
+    ensures err { IfErr result (λ reason. (mid : List Peer) × Extends K.writes peers.old.items ledger.old bytes.now mid ledger.new × IsLost G.lets reason mid gate.old bytes.now peers.new.items gate.new) }
+{
+    match admit(peers, ledger, bytes) {
+        Ok(said) => {
+            if gate.passes(said.sender) {
+                Ok(said.datagram)
+            } else {
+                Err(Reason::Fast)
+            }
+        }
+        Err(reason) => Err(reason),
+    }
+}
+
 // Takes the next datagram of a peer, and counts what it drops before.
-fn take_from<L: Link, K: Ledger>(
+fn take_from<L: Link, K: Ledger, G: Gate>(
     link: &mut L,
     ledger: &mut K,
+    gate: &mut G,
     peers: &mut Vec<Peer>,
     dropped: &mut Dropped,
     buffer: &mut [u8],
 ) -> Received
     ensures within { FitsRoom result (length buffer.new) }
-    ensures told { Receipt L.steps K.writes peers.old.items ledger.old dropped.old link.old (receipt result buffer.new (length buffer.old)) peers.new.items ledger.new dropped.new link.new }
+    ensures told { Receipt L.steps K.writes G.lets peers.old.items ledger.old gate.old dropped.old link.old (receipt result buffer.new (length buffer.old)) peers.new.items ledger.new gate.new dropped.new link.new }
 {
     let mut raw = [0u8; 188];
     for _ in 0..DROPS {
         match link.receive(&mut raw) {
-            Received::Got(length) => match admit(peers, ledger, &raw[..length]) {
+            Received::Got(length) => match taken_in(peers, ledger, gate, &raw[..length]) {
                 Ok(datagram) => return Received::Got(copy_front(datagram, buffer)),
                 Err(reason) => dropped.count(reason),
             },
@@ -91,25 +121,27 @@ fn take_from<L: Link, K: Ledger>(
     Received::Nothing
 }
 
-impl<L: Link, K: Ledger> SealedLink<L, K> {
-    /// A link over this one that seals as this number under this key, with counters from `next` on, and takes what these peers seal. Before it uses
-    /// a counter that is neither reserved (`reserve`) nor allowed to a peer (`allow`), it has it written down by the ledger.
+impl<L: Link, K: Ledger, G: Gate> SealedLink<L, K, G> {
+    /// A link over this one that seals as this number under this key, with counters from `next` on, and takes what these peers seal, as often as the gate
+    /// lets them pass. Before it uses a counter that is neither reserved (`reserve`) nor allowed to a peer (`allow`), it has it written down by the ledger.
     pub fn over(
         link: L,
         ledger: K,
+        gate: G,
         number: u16,
         key: [u8; 32],
         next: u64,
         peers: Vec<Peer>,
-    ) -> SealedLink<L, K>
-        ensures link { (result.link ≡ link) × (result.ledger ≡ ledger) }
+    ) -> SealedLink<L, K, G>
+        ensures link { (result.link ≡ link) × (result.ledger ≡ ledger) × (result.gate ≡ gate) }
         ensures own { (result.number ≡ number) × (result.key ≡ key) × (result.next ≡ next) × (result.reserved ≡ next) }
         ensures peers { result.peers ≡ peers }
-        ensures fresh { (result.failures ≡ 0) × (result.dropped ≡ record { not_sealed = 0; strangers = 0; forged = 0; stale = 0; ahead = 0 }) }
+        ensures fresh { (result.failures ≡ 0) × (result.dropped ≡ record { not_sealed = 0; strangers = 0; forged = 0; stale = 0; ahead = 0; fast = 0 }) }
     {
         SealedLink {
             link,
             ledger,
+            gate,
             number,
             key,
             next,
@@ -121,6 +153,7 @@ impl<L: Link, K: Ledger> SealedLink<L, K> {
                 forged: 0,
                 stale: 0,
                 ahead: 0,
+                fast: 0,
             },
             failures: 0,
         }
@@ -159,7 +192,7 @@ impl<L: Link, K: Ledger> SealedLink<L, K> {
     pub fn allow(&mut self, place: usize, upto: u64)
         requires { place < length self.old.peers.items }
         ensures allowed { self.new.peers.items ≡ allow_at self.old.peers.items place upto }
-        ensures link { (self.new.link ≡ self.old.link) × (self.new.ledger ≡ self.old.ledger) }
+        ensures link { (self.new.link ≡ self.old.link) × (self.new.ledger ≡ self.old.ledger) × (self.new.gate ≡ self.old.gate) }
         ensures own { (self.new.number ≡ self.old.number) × (self.new.key ≡ self.old.key) }
         ensures counters { (self.new.next ≡ self.old.next) × (self.new.reserved ≡ self.old.reserved) }
         ensures counts { (self.new.failures ≡ self.old.failures) × (self.new.dropped ≡ self.old.dropped) }
@@ -200,7 +233,7 @@ impl<L: Link, K: Ledger> SealedLink<L, K> {
           peers = self.new.peers.items;
           dropped = self.new.dropped;
         }) self.new.ledger }
-        ensures kept { (self.new.link ≡ self.old.link) × (self.new.failures ≡ self.old.failures) }
+        ensures kept { (self.new.link ≡ self.old.link) × (self.new.failures ≡ self.old.failures) × (self.new.gate ≡ self.old.gate) }
         ensures same { (self.new.next ≡ self.old.next) × (self.new.number ≡ self.old.number) × (self.new.key ≡ self.old.key) × (self.new.peers ≡ self.old.peers) × (self.new.dropped ≡ self.old.dropped) }
     {
         if self.next < self.reserved {
@@ -230,7 +263,7 @@ impl<L: Link, K: Ledger> SealedLink<L, K> {
               peers = self.new.peers.items;
               dropped = self.new.dropped;
             }) self.new.ledger self.new.link }
-        ensures failures { self.new.failures ≡ self.old.failures }
+        ensures kept { (self.new.failures ≡ self.old.failures) × (self.new.gate ≡ self.old.gate) }
     {
         self.refill();
         if self.next >= self.reserved || bytes.len() > 160 {
@@ -243,14 +276,14 @@ impl<L: Link, K: Ledger> SealedLink<L, K> {
 }
 
 /// A send seals the datagram with the next counter and sends it once; with no counter that is written down, or more than 160 bytes, it fails, and the link
-/// below is left alone. A receive hands on the datagram of what a peer sealed, if its counter is fresh and written down, and it is taken then; all else is
-/// dropped, sixteen at most, and counted. Once 2^64 - 1 calls have failed the link below is left alone.
-impl<L: Link, K: Ledger> Link for SealedLink<L, K> {
+/// below is left alone. A receive hands on the datagram of what a peer sealed, if its counter is fresh and written down, which is taken then, and the gate lets
+/// that peer pass; all else is dropped, sixteen at most, and counted. Once 2^64 - 1 calls have failed the link below is left alone.
+impl<L: Link, K: Ledger, G: Gate> Link for SealedLink<L, K, G> {
     ghost count = { λ l. l.failures };
 
-    ghost steps = { λ l call m. SealedStep L.steps K.writes l.failures
-        (record { number = l.number; key = l.key; next = l.next; reserved = l.reserved; peers = l.peers.items; dropped = l.dropped }) l.ledger l.link call
-        (record { number = m.number; key = m.key; next = m.next; reserved = m.reserved; peers = m.peers.items; dropped = m.dropped }) m.ledger m.link };
+    ghost steps = { λ l call m. SealedStep L.steps K.writes G.lets l.failures
+        (record { number = l.number; key = l.key; next = l.next; reserved = l.reserved; peers = l.peers.items; dropped = l.dropped }) l.ledger l.gate l.link call
+        (record { number = m.number; key = m.key; next = m.next; reserved = m.reserved; peers = m.peers.items; dropped = m.dropped }) m.ledger m.gate m.link };
 
     fn send(&mut self, bytes: &[u8]) -> bool {
         if self.failures == u64::MAX {
@@ -270,6 +303,7 @@ impl<L: Link, K: Ledger> Link for SealedLink<L, K> {
         let received = take_from(
             &mut self.link,
             &mut self.ledger,
+            &mut self.gate,
             &mut self.peers,
             &mut self.dropped,
             buffer,
@@ -291,6 +325,7 @@ impl<L: Link, K: Ledger> Link for SealedLink<L, K> {
             .saturating_add(self.dropped.forged)
             .saturating_add(self.dropped.stale)
             .saturating_add(self.dropped.ahead)
+            .saturating_add(self.dropped.fast)
             .saturating_add(self.link.dropped())
     }
 

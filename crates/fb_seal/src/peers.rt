@@ -8,7 +8,7 @@ ghost use Rattle.fb_seal.specs.declared.peers.Peer.{Peer};
 ghost use Rattle.fb_seal.specs.Ledger.{Extends, ExtendsAt};
 ghost use Rattle.fb_seal.specs.Peers.{Admits, IsRefused, RefusesAt, TakesAt, has_sealed, is_known, sealer, sender_in};
 
-use crate::form::{is_tagged, said_in};
+use crate::form::{Envelope, is_tagged, said_in};
 use crate::ledger::Ledger;
 use crate::window::Window;
 
@@ -57,6 +57,8 @@ pub enum Reason {
     Stale,
     /// Their sender may not use that counter yet.
     Ahead,
+    /// Their sender may send again only later.
+    Fast,
 }
 
 // Whether a peer has this number, and sealed these bytes.
@@ -134,14 +136,15 @@ fn extend_at<K: Ledger>(peers: &mut Vec<Peer>, ledger: &mut K, place: usize, cou
     }
 }
 
-/// The datagram that these bytes are, sealed by a peer, whose counter is taken now; or why they are dropped. Where the peer may not use that counter yet,
+/// What a peer sealed in these bytes, whose counter is taken now; or why they are dropped. Where the peer may not use that counter yet,
 /// it is allowed it first, and 63 more, once these are written down. Whatever else is dropped leaves all as it is.
 pub fn admit<'a, K: Ledger>(
     peers: &mut Vec<Peer>,
     ledger: &mut K,
     bytes: &'a [u8],
-) -> Result<&'a [u8], Reason>
-    ensures ok { IfOk result (λ datagram. (mid : List Peer) × Extends K.writes peers.old.items ledger.old bytes.now mid ledger.new × Admits mid bytes.now datagram.now peers.new.items) }
+) -> Result<Envelope<'a>, Reason>
+    ensures ok { IfOk result (λ e. (mid : List Peer) × Extends K.writes peers.old.items ledger.old bytes.now mid ledger.new × Admits mid bytes.now e.datagram.now peers.new.items) }
+    ensures sender { IfOk result (λ e. e.sender ≡ sender_in bytes.now) }
     ensures err { IfErr result (λ reason. Extends K.writes peers.old.items ledger.old bytes.now peers.new.items ledger.new × IsRefused reason peers.new.items bytes.now) }
 {
     let Some(said) = said_in(bytes) else {
@@ -151,7 +154,7 @@ pub fn admit<'a, K: Ledger>(
         Some(place) => {
             extend_at(peers, ledger, place, said.counter);
             match take_at(peers, place, said.counter) {
-                None => Ok(said.datagram),
+                None => Ok(said),
                 Some(reason) => Err(reason),
             }
         }

@@ -1,6 +1,6 @@
 //! What no clause says: tags that others have computed, and a link that is used.
 
-use crate::{Ledger, Opened, Peer, SealedLink, open, seal, tag};
+use crate::{Gate, Ledger, Opened, Peer, SealedLink, Unlimited, open, seal, tag};
 use fb_link::{Link, MemoryLink, Plan, Received};
 use std::alloc::{AllocError, Global};
 use std::test::Fail;
@@ -116,7 +116,7 @@ fn a_sealed_link(rt: HostRuntime) -> Result<(), Fail> {
     )?;
     let mut peers = Vec::new(alloc);
     peers.push(Peer::after(7, KEY, 1))?;
-    let mut link = SealedLink::over(below, Pages(1), 7, KEY, 258, peers);
+    let mut link = SealedLink::over(below, Pages(1), Unlimited, 7, KEY, 258, peers);
     let mut buffer = [0u8; 160];
     assert!(rt;
         matches!(link.receive(&mut buffer), Received::Got(7)),
@@ -144,5 +144,58 @@ fn a_sealed_link(rt: HostRuntime) -> Result<(), Fail> {
         link.below().taken(0).ok_or("none")? == SEALED.as_slice(),
         "sealed so"
     );
+    Ok(())
+}
+
+// A gate that lets so many pass.
+#[derive(Drop)]
+struct Turnstile(u32);
+
+impl Gate for Turnstile {
+    ghost lets = { λ _ _ _ _. Unit {0} };
+
+    fn passes(&mut self, _sender: u16) -> bool {
+        if self.0 == 0 {
+            return false;
+        }
+        self.0 -= 1;
+        true
+    }
+}
+
+#[test]
+fn a_gated_link(rt: HostRuntime) -> Result<(), Fail> {
+    let alloc = rt.alloc();
+    let stranger = seal(&KEY, 8, 1, &DATAGRAM);
+    let fast = seal(&KEY, 7, 300, &DATAGRAM);
+    let below = held(
+        alloc,
+        &[
+            stranger.as_slice(),
+            &SEALED,
+            &SEALED,
+            fast.as_slice(),
+            fast.as_slice(),
+        ],
+    )?;
+    let mut peers = Vec::new(alloc);
+    peers.push(Peer::after(7, KEY, 1))?;
+    let mut link = SealedLink::over(below, Pages(1), Turnstile(1), 7, KEY, 258, peers);
+    let mut buffer = [0u8; 160];
+    assert!(rt;
+        matches!(link.receive(&mut buffer), Received::Got(7)),
+        "the gate is not asked of the stranger"
+    );
+    assert!(rt;
+        matches!(link.receive(&mut buffer), Received::Nothing),
+        "no other passes"
+    );
+    let refused = link.refused();
+    assert!(rt;
+        refused.strangers == 1 && refused.fast == 1,
+        "one came too fast"
+    );
+    assert!(rt; refused.stale == 2, "its counter is spent");
+    assert!(rt; link.dropped() == 4, "all that were dropped");
     Ok(())
 }

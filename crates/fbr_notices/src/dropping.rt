@@ -1,7 +1,7 @@
 //! Datagrams that a link dropped, by the reason. It is told to people, and no contract says it.
 
 use fb_link::{Link, Socket, UdpLink};
-use fb_seal::{Dropped, Ledger, SealedLink};
+use fb_seal::{Dropped, Gate, Ledger, SealedLink};
 use std::io::Write;
 
 /// How many datagrams a link has dropped so far.
@@ -28,7 +28,7 @@ impl<S: Socket> Counts for UdpLink<S> {
     }
 }
 
-impl<L: Link + Counts, K: Ledger> Counts for SealedLink<L, K> {
+impl<L: Link + Counts, K: Ledger, G: Gate> Counts for SealedLink<L, K, G> {
     fn drops(&self) -> Drops {
         Drops {
             strangers: self.below().drops().strangers,
@@ -44,6 +44,7 @@ fn is_none(dropped: &Dropped) -> bool {
         && dropped.forged == 0
         && dropped.stale == 0
         && dropped.ahead == 0
+        && dropped.fast == 0
 }
 
 /// Tells which datagrams were dropped that were not sealed as they have to be, where some were.
@@ -51,10 +52,10 @@ pub fn tell_unsealed<E: Write>(unsealed: Option<Dropped>, errors: &mut E) {
     if let Some(dropped) = unsealed {
         if !is_none(&dropped) {
             let (bare, unknown, forged) = (dropped.not_sealed, dropped.strangers, dropped.forged);
-            let (stale, ahead) = (dropped.stale, dropped.ahead);
+            let (stale, ahead, fast) = (dropped.stale, dropped.ahead, dropped.fast);
             let _ = writeln!(
                 errors,
-                "fbr: dropped so far: not sealed {bare}, of an unknown number {unknown}, under another key {forged}, taken before or too old {stale}, not written down {ahead}"
+                "fbr: dropped so far: not sealed {bare}, of an unknown number {unknown}, under another key {forged}, taken before or too old {stale}, not written down {ahead}, above their rate {fast}"
             );
         }
     }

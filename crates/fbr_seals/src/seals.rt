@@ -11,6 +11,7 @@ use crate::secrets::{Secret, Unsaid, secrets_in};
 use crate::taking::take_state;
 use fb_keys::{State, mark_of};
 use fb_link::Peers;
+use fb_pace::Buckets;
 use fb_seal::Peer;
 use fbr_files::{Fault, Sources};
 use fbr_words::Sealing;
@@ -26,6 +27,8 @@ pub struct Seals<K> {
     pub next: u64,
     pub reserved: u64,
     pub peers: Vec<Peer>,
+    /// How often each of them may send.
+    pub buckets: Buckets,
     pub file: StateFile<K>,
     /// To whom it sends.
     pub to: Peers,
@@ -85,6 +88,7 @@ pub fn open_seals<'a, S: Sources, E: Write>(
         next: reserved - 65_536,
         reserved,
         peers,
+        buckets: Buckets::new(secrets.paced),
         file: StateFile::new(alloc, keeper, state, marks),
         to: secrets.to,
     })

@@ -2,6 +2,7 @@
 
 use fb_keys::{Key, Keys, KeysFault, PeerLine, read_keys};
 use fb_link::Peers;
+use fb_pace::{Bucket, Paced};
 use fbr_files::{Sources, read_file};
 use std::alloc::{AllocError, Global};
 use std::io::Write;
@@ -13,11 +14,12 @@ pub(crate) struct Secret {
     pub key: [u8; 32],
 }
 
-/// The number and the key of this device, those of its peers, two where they have two, and where it sends.
+/// The number and the key of this device, those of its peers, two where they have two, a bucket for each peer that has a rate, and where it sends.
 #[derive(Drop)]
 pub(crate) struct Secrets {
     pub own: Secret,
     pub others: Vec<Secret>,
+    pub paced: Vec<Paced>,
     pub to: Peers,
 }
 
@@ -42,7 +44,7 @@ fn tell_fault<E: Write>(name: &str, fault: KeysFault, errors: &mut E) {
         KeysFault::Memory => Ok(()),
         KeysFault::BadLine(line) => writeln!(
             errors,
-            "fbr: {name}, line {line}: a line is `own NUMBER`, or `NUMBER ADDRESS KEY`, perhaps with a second key behind it. A number is 0 to 65535, an address ADDRESS:PORT or `-`, and a key 64 hexadecimal digits or the name of a file with them"
+            "fbr: {name}, line {line}: a line is `own NUMBER`, or `NUMBER ADDRESS KEY`, perhaps with a second key and a rate behind it. A number is 0 to 65535, an address ADDRESS:PORT or `-`, a key 64 hexadecimal digits or the name of a file with them, and a rate N/s or N/s burst M, N up to 1000000 and M up to 65535"
         ),
         KeysFault::Again(line) => writeln!(
             errors,
@@ -107,7 +109,7 @@ fn bytes_of<S: Sources, E: Write>(
     }
 }
 
-// Adds the keys of a peer, and its address where it has one and there is room.
+// Adds the keys of a peer, its bucket where it has a rate, and its address where it has one and there is room.
 fn add_peer<S: Sources, E: Write>(
     alloc: Global,
     files: &S,
@@ -126,6 +128,13 @@ fn add_peer<S: Sources, E: Write>(
         secrets
             .others
             .push(Secret { number, key })
+            .map_err(AllocError::from)?;
+    }
+    if let Some(rate) = peer.rate {
+        let bucket = Bucket::new(rate);
+        secrets
+            .paced
+            .push(Paced { number, bucket })
             .map_err(AllocError::from)?;
     }
     if let Some(address) = peer.address {
@@ -171,6 +180,7 @@ fn all_keys<S: Sources, E: Write>(
             key,
         },
         others: Vec::new(alloc),
+        paced: Vec::new(alloc),
         to: Peers::new(peers.as_slice()),
     };
     for peer in keys.peers.as_slice() {

@@ -34,6 +34,8 @@ use Rattle.fb_numbers.specs.Numbers.{long_number_in}
 use Rattle.fbr_files.specs.Outcomes.{Tells, refusal, IsContents, IsReadFault}
 use Rattle.fbr_files.specs.Reading.{held_by}
 use Rattle.fbr_files.specs.Writing.{Holdings}
+use Rattle.fb_pace.specs.declared.buckets.Paced.{Paced}
+use Rattle.fb_pace.specs.Pacing.{Asks, Pacing}
 use Rattle.fb_seal.specs.declared.peers.Peer.{Peer}
 use Rattle.fb_seal.specs.Passing.{Own, SealedStep}
 use Rattle.fbr_seals.specs.declared.seals.Seals.{Seals}
@@ -260,14 +262,15 @@ TellsDevice q s old new status = Tells (refusal (faults.Socket q.network.bind.po
 
 -- ---- sealed datagrams
 
--- what a device seals with at the start: its number and its key, the first own counter that it may use and the first that it may not, its peers, the book of its
--- state file, and where it sends
+-- what a device seals with at the start: its number and its key, the first own counter that it may use and the first that it may not, its peers and their buckets,
+-- the book of its state file, and where it sends
 pub record SealsAt : Type 0 where
   pub number : ℕ
   pub key : List ℕ
   pub next : ℕ
   pub reserved : ℕ
   pub peers : List Peer
+  pub paced : List Paced
   pub book : Book
   pub to : List SocketAddr
 
@@ -279,23 +282,25 @@ seals_of held s =
       next = s.next;
       reserved = s.reserved;
       peers = s.peers.items;
+      paced = s.buckets.peers.items;
       book = book_of held s.file;
       to = s.to;
     }
 
--- a link that seals, over one over UDP: how many of its calls failed, what it has of its own, its book, and the link below
+-- a link that seals, over one over UDP: how many of its calls failed, what it has of its own, its book, the buckets of its peers, and the link below
 pub record SealingLink : Type 0 where
   pub failures : ℕ
   pub own : Own
   pub book : Book
+  pub pacing : Pacing
   pub below : Over
 
 abbrev pub sealed_failures : SealingLink → ℕ
 sealed_failures l = l.failures
 
--- a call of such a link: what it seals and opens, what it writes down, and what it asks of the link below
+-- a call of such a link: what it seals and opens, what it writes down, which peers it lets pass, and what it asks of the link below
 abbrev pub SealedAsks : List SocketAddr → List IpAddr → SealingLink → LinkCall → SealingLink → Type 0
-SealedAsks peers senders l call m = SealedStep (LinkAsks peers senders) WritesDown l.failures l.own l.book l.below call m.own m.book m.below
+SealedAsks peers senders l call m = SealedStep (LinkAsks peers senders) WritesDown Asks l.failures l.own l.book l.pacing l.below call m.own m.book m.pacing m.below
 
 -- at the start it has dropped nothing, and may use the counters that are written down
 abbrev pub sealed_at : SealsAt → SealingLink
@@ -308,9 +313,10 @@ sealed_at a =
         next = a.next;
         reserved = max a.next a.reserved;
         peers = a.peers;
-        dropped = record { not_sealed = 0; strangers = 0; forged = 0; stale = 0; ahead = 0 };
+        dropped = record { not_sealed = 0; strangers = 0; forged = 0; stale = 0; ahead = 0; fast = 0 };
       };
       book = a.book;
+      pacing = record { peers = a.paced; last = 0 };
       below = unasked;
     }
 

@@ -13,7 +13,7 @@ use fb_link::UdpLink;
 use fb_seal::SealedLink;
 use fbr_files::{Fault, Keep, print_outcome};
 use fbr_notices::{Counts, tell_unsealed};
-use fbr_seals::Seals;
+use fbr_seals::{Pace, Seals};
 use fbr_words::Serve;
 use std::io;
 use std::io::Write;
@@ -48,6 +48,7 @@ pub(crate) fn serve_sealed<R: Clock + Net, K: Keep + Drop, W: Write, E: Write, F
         next,
         reserved,
         peers,
+        buckets,
         file,
         to,
     } = seals;
@@ -55,7 +56,8 @@ pub(crate) fn serve_sealed<R: Clock + Net, K: Keep + Drop, W: Write, E: Write, F
         Ok(link) => {
             tell_ready(device, repeats, serve, to.as_slice(), &mut notes.errors);
             tell_sealed(number, peers.len(), &mut notes.errors);
-            let mut link = SealedLink::over(link, file, number, key, next, peers);
+            let pace = Pace::new(rt, buckets);
+            let mut link = SealedLink::over(link, file, pace, number, key, next, peers);
             link.reserve(reserved);
             let mut timer = SystemTimer::of(rt);
             let ran = serve_on(&mut timer, device, &mut link, serve, output, notes);

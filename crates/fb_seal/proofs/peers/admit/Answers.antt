@@ -1,4 +1,4 @@
-use Rattle.std.proofs.Common.{arith, sym, ◌∙◌, ap, ◌≡◌, Some, List, subst, ℕ, ◌<◌, length}
+use Rattle.std.proofs.Common.{arith, sym, ◌∙◌, ap, ◌≡◌, Some, List, subst, ℕ, ◌<◌}
 use Rattle.std.specs.List.{position_from}
 use Rattle.fb_seal.specs.Reading.{Envelope, envelope_of}
 use Rattle.fb_seal.specs.declared.peers.Peer.{Peer}

@@ -1,0 +1,4 @@
+pub mod Bucket
+pub mod Buckets
+pub mod Pacing
+pub mod Rates
