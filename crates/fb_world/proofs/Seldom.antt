@@ -1,5 +1,5 @@
 -- Datagrams that were admitted too often, and the others.
-use Rattle.std.proofs.Common.{◌≡◌, ◌⊎◌, inl, inr, ⊎_elim, ℕ, zero, suc, ◌+◌, ◌<◌, ◌≤◌, List, [], ◌∷◌, length, map, drop, slice_get, Option, Some, None, sym, ◌∙◌, ap, subst, absurd, arith}
+use Rattle.std.proofs.Common.{◌≡◌, ◌⊎◌, inl, inr, ⊎_elim, ℕ, zero, suc, ◌+◌, ◌<◌, ◌≤◌, List, [], ◌∷◌, length, map, drop, slice_get, Option, Some, None, sym, ◌∙◌, ap, refl, subst, absurd, arith}
 use Rattle.std.specs.Prelude.{MatchOption, slice_index_or}
 use Rattle.std.specs.Option.{option_map}
 use Rattle.std.specs.List.{AllByRecursion}
@@ -8,7 +8,8 @@ use Rattle.fb_model.specs.World.{AreWithin, datagram_numbered}
 use Rattle.fb_model.specs.World.{Datagram as book}
 use Rattle.fb_world_course.specs.declared.sent.Sent.{Sent}
 use Rattle.fb_world_course.specs.Scenes.{datagram_of}
-use Rattle.fb_world.specs.Laws.{AreSeldom, IsOften, IsSeldom}
+use Rattle.fb_world.specs.declared.answer.TooOften.{TooOften}
+use Rattle.fb_world.specs.Laws.{AreSeldom, IsNextOften, IsOften, IsSeldom}
 
 at_most : (most : ℕ) (xs : List ℕ) → AllByRecursion (λ n. n ≤ most) xs → (d : ℕ) → slice_index_or xs d 0 ≤ most
 at_most most [] h d = omega arith
@@ -61,3 +62,23 @@ pub with_next : (most behind at : ℕ) (gs : List Sent) (g : Sent) → slice_get
     → AreSeldom most behind (at + 1 + 1) (map datagram_of gs)
 with_next most behind at gs g e s h =
     λ k x a b i. ⊎_elim (λ same. is_the_one most at k gs g x e s same i) (λ below. h k x a below i) (at_or_before k (at + 1) (omega (arith, b)))
+
+-- and where it was, it is the first
+pub is_next : (most behind at device : ℕ) (gs : List Sent) (g : Sent) → slice_get gs at ≡ Some g → behind ≤ at → AreSeldom most behind (at + 1) (map datagram_of gs) → IsOften most g.root (datagram_of g) device
+    → IsNextOften most behind (map datagram_of gs) (record { root = g.root; datagram = 1 + at; device = device })
+is_next most behind at device gs g e le s o =
+    let i : at + 1 ≡ 1 + at = omega arith in
+    record {
+      later = omega (arith, le);
+      first = subst (λ n. AreSeldom most behind n (map datagram_of gs)) i s;
+      often = record {
+        root_is = refl;
+        datagram = datagram_of g;
+        numbered = subst (λ n. datagram_numbered (map datagram_of gs) n ≡ Some (datagram_of g)) i (numbered_so gs at g e);
+        often = o;
+      };
+    }
+
+-- none of fewer was, where none of more was
+pub none_of_fewer : (most behind upto fewer : ℕ) (gs : List Sent) → fewer ≤ upto → AreSeldom most behind upto (map datagram_of gs) → AreSeldom most behind fewer (map datagram_of gs)
+none_of_fewer most behind upto fewer gs le s = λ k x a b i. s k x a (omega (arith, b, le)) i

@@ -35,6 +35,13 @@ fn device_of(sent: &Sent, root: u64, most: u16) -> Option<u16>
     }
 }
 
+// The first device that admitted a datagram more than so often, if it has no stamp.
+fn device_above(sent: &Sent, most: u16) -> Option<u16>
+    ensures { MatchOption result (IsSeldom most sent.now.root (datagram_of sent.now)) (IsOften most sent.now.root (datagram_of sent.now)) }
+{
+    device_of(sent, sent.root, most)
+}
+
 /// The first datagram of a root that has no stamp and that a device admitted more than so often, and the first such device.
 pub fn too_often(datagrams: &[Sent], root: u64, most: u16) -> Option<TooOften>
     ensures { MatchOption result (AreWithin most root (map datagram_of datagrams.now)) (IsTooOften most root (map datagram_of datagrams.now)) }
@@ -59,11 +66,11 @@ pub fn next_too_often(datagrams: &[Sent], behind: usize, most: u16) -> Option<To
     ensures { MatchOption result (AreSeldom most behind (length datagrams.now + 1) (map datagram_of datagrams.now)) (IsNextOften most behind (map datagram_of datagrams.now)) }
 {
     for at in behind..datagrams.len() {
-        let root = datagrams[at].root;
-        match device_of(&datagrams[at], root, most) {
+        let sent = &datagrams[at];
+        match device_above(sent, most) {
             Some(device) => {
                 return Some(TooOften {
-                    root,
+                    root: sent.root,
                     datagram: 1 + at as u64,
                     device,
                 });
