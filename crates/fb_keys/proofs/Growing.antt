@@ -1,7 +1,7 @@
 -- Counters over many lives.
-use Rattle.std.proofs.Common.{◌≡◌, ℕ, ◌<◌, ◌≤◌, List, [], ◌∷◌, ◌++◌, arith}
+use Rattle.std.proofs.Common.{ℕ, ◌<◌, ◌≤◌, List, [], ◌∷◌, ◌++◌, arith}
 use Rattle.std.specs.List.{AllByRecursion}
-use Rattle.fb_keys.specs.State.{IsLife, Lives}
+use Rattle.fb_keys.specs.State.{Lives}
 
 all_weaker : {A : Type 0} (P Q : A → Type 0) → ((x : A) → P x → Q x) → (xs : List A) → AllByRecursion P xs → AllByRecursion Q xs
 all_weaker P Q f [] h = tt

@@ -1,3 +1,4 @@
 mod Growing
 mod Entries
 mod Spoken
+mod Words

@@ -1,5 +1,5 @@
 -- What is read, in the terms of the book of keys.
-use Rattle.std.specs.Prelude.{List, map, option_map}
+use Rattle.std.specs.Prelude.{map, option_map}
 use Rattle.fb_addresses.specs.Addresses.{endpoint_of}
 use Rattle.fb_keys.specs.declared.keys.Keys.{Keys}
 use Rattle.fb_keys.specs.declared.keys.Reader.{Reader}

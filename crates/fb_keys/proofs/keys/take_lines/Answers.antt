@@ -1,4 +1,4 @@
-use Rattle.std.proofs.Common.{◌≡◌, ◌∙◌, ◌+◌, drop, map, ap}
+use Rattle.std.proofs.Common.{◌∙◌, ◌+◌, drop, map, ap}
 use Rattle.std.specs.Prelude.{option_map}
 use Rattle.std.proofs.lemmas.Result.{err_from_is_err_and}
 use Rattle.fb_keys.specs.Keys.{line_in, lines_from, with_line}
