@@ -24,7 +24,7 @@ ghost use Rattle.fb_world.specs.Loads.{IsWorldOf, IsWorldFault, IsDeviceAt};
 
 use crate::answer::{Missed, RootSteps, TooOften};
 use crate::often::{next_too_often, too_often};
-use fb_device::{Device, Dispatched, Refusal, share};
+use fb_device::{Device, Dispatched, Refusal, release, share};
 use fb_verdict::check_text;
 use fb_verified::Verified;
 use fb_world_course::{
@@ -37,8 +37,7 @@ use std::slice::from_ref;
 
 /// A world of devices that run a checked application, with their datagrams and roots.
 ///
-/// Contracts see it as a scene: what was checked, and in lists the devices, the datagrams and the roots.
-#[derive(Drop)]
+/// Contracts see it as a scene: what was checked, and in lists the devices, the datagrams and the roots. It ends by [`World::let_go`] alone.
 pub struct World {
     verified: Rc<Verified>,
     course: Course,
@@ -84,12 +83,21 @@ impl World {
         ensures first { IfOk result (λ w. (w.verified ≡ verified.value) × IsFirst (system_of w) (world_of w)) }
         ensures refused { IfErr result (λ f. f ≡ no_memory) }
     {
-        let course = first_course(alloc, &verified)?;
-        Ok(World { verified, course })
+        match first_course(alloc, &verified) {
+            Ok(course) => Ok(World { verified, course }),
+            Err(refusal) => {
+                release(verified);
+                Err(refusal)
+            }
+        }
     }
 
-    /// Lets the world go. (A crate that lets it go by itself proves the end of each of its parts anew; this call is proved once.)
-    pub fn let_go(self) {}
+    /// Lets the world go. (A crate that ended its parts by itself would prove the end of each anew.)
+    pub fn let_go(self) {
+        let World { verified, course } = self;
+        course.let_go();
+        release(verified);
+    }
 
     /// That a run leads from the first world to this one, so that it is sound, and its roots are the arrivals of this run, for proofs: nothing is done.
     pub fn holds(&self)

@@ -49,6 +49,9 @@ fn post(datagrams: &mut Vec<Sent>, root: u64, effect: &Option<Effect>) -> Option
 }
 
 impl Course {
+    /// Lets the course go. (A crate that lets it go by itself proves the end of each of its parts anew; this call is proved once.)
+    pub fn let_go(self) {}
+
     // An offer at a device.
     fn offer(&mut self, device: u16, input: u16, values: &[i64]) -> WorldAnswer
         requires kept { (v : Verified) × IsKept v self.old }
