@@ -1,5 +1,5 @@
 -- Datagrams that were admitted too often, and the others.
-use Rattle.std.proofs.Common.{◌≡◌, ◌⊎◌, inl, inr, ⊎_elim, ℕ, zero, suc, ◌+◌, ◌<◌, ◌≤◌, List, [], ◌∷◌, length, map, drop, slice_get, Option, Some, None, sym, ◌∙◌, ap, refl, subst, arith}
+use Rattle.std.proofs.Common.{◌≡◌, ◌⊎◌, inl, inr, ⊎_elim, ℕ, zero, suc, ◌+◌, ◌<◌, ◌≤◌, List, [], ◌∷◌, map, drop, slice_get, Option, Some, None, sym, ◌∙◌, ap, refl, subst, arith}
 use Rattle.std.specs.Prelude.{MatchOption, slice_index_or}
 use Rattle.std.specs.Option.{option_map}
 use Rattle.std.specs.List.{AllByRecursion}
@@ -8,7 +8,6 @@ use Rattle.fb_model.specs.World.{AreWithin, datagram_numbered}
 use Rattle.fb_model.specs.World.{Datagram as book}
 use Rattle.fb_world_course.specs.declared.sent.Sent.{Sent}
 use Rattle.fb_world_course.specs.Scenes.{datagram_of}
-use Rattle.fb_world.specs.declared.answer.TooOften.{TooOften}
 use Rattle.fb_world.specs.Laws.{AreSeldom, IsNextOften, IsOften, IsSeldom}
 
 at_most : (most : ℕ) (xs : List ℕ) → AllByRecursion (λ n. n ≤ most) xs → (d : ℕ) → slice_index_or xs d 0 ≤ most
