@@ -31,9 +31,10 @@ added a b = a + b
 abbrev pub largest : Join
 largest a b = max a b
 
-abbrev pub joined : Join → (Place → ℕ) → List Place → ℕ
-joined join weight [] = 0
-joined join weight (p ∷ ps) = join (weight p) (joined join weight ps)
+-- the numbers of these, joined
+abbrev pub joined : {A : Type 0} → Join → (A → ℕ) → List A → ℕ
+joined join number [] = 0
+joined join number (x ∷ xs) = join (number x) (joined join number xs)
 
 -- what follows from these event outputs
 abbrev pub caused : Join → Counts → (Name → List Place) → List Name → ℕ
