@@ -10,6 +10,7 @@ use Rattle.fb_model_turns.specs.Turns.{Counts, Join, added, largest, joined, cau
 -- what the laws need of sums and of largest numbers
 pub record IsJoin (join : Join) : Type 0 where
   pub none : (a : ℕ) → join 0 a ≡ a
+  pub alone : (a : ℕ) → join a 0 ≡ a
   pub assoc : (a b c : ℕ) → join (join a b) c ≡ join a (join b c)
   pub more : (a b c d : ℕ) → a ≤ c → b ≤ d → join a b ≤ join c d
   pub left : (a b : ℕ) → a ≤ join a b
@@ -19,6 +20,7 @@ pub added_joins : IsJoin added
 added_joins =
     record {
       none = λ a. omega arith;
+      alone = λ a. omega arith;
       assoc = λ a b c. omega arith;
       more = λ a b c d h k. omega (arith, h, k);
       left = λ a b. omega arith;
@@ -29,6 +31,7 @@ pub largest_joins : IsJoin largest
 largest_joins =
     record {
       none = λ a. omega arith;
+      alone = λ a. omega arith;
       assoc = λ a b c. omega arith;
       more = λ a b c d h k. omega (arith, h, k);
       left = λ a b. omega arith;
@@ -46,7 +49,7 @@ largest_le weight [] = omega arith
 largest_le weight (p ∷ ps) = omega (arith, largest_le weight ps)
 
 module _ (join : Join) (is : IsJoin join) where
-  pub joined-append : (weight : Place → ℕ) (xs ys : List Place) → joined join weight (xs ++ ys) ≡ join (joined join weight xs) (joined join weight ys)
+  pub joined-append : {A : Type 0} (weight : A → ℕ) (xs ys : List A) → joined join weight (xs ++ ys) ≡ join (joined join weight xs) (joined join weight ys)
   joined-append weight [] ys = sym (is.none (joined join weight ys))
   joined-append weight (x ∷ xs) ys = ap (join (weight x)) (joined-append weight xs ys) ∙ sym (is.assoc (weight x) (joined join weight xs) (joined join weight ys))
 
