@@ -1,25 +1,25 @@
 -- Numbers that meet the demands of a system, each event with its own dispatch, are counts that fit.
-use Rattle.std.proofs.Common.{◌≡◌, ℕ, ◌+◌, ◌≤◌, ◌<◌, max, Bool, true, false, cond, List, [], ◌∷◌, ◌++◌, map, length, slice_index, Option, Some, None, refl, sym, ◌∙◌, ap, subst, arith}
-use Rattle.std.specs.Prelude.{nat_lt, if◌then◌else◌}
+use Rattle.std.proofs.Common.{◌≡◌, ℕ, ◌+◌, ◌≤◌, Bool, true, false, cond, List, [], ◌∷◌, ◌++◌, map, length, slice_index, Some, None, refl, sym, ◌∙◌, ap, subst, arith}
+use Rattle.std.specs.Prelude.{nat_lt}
 use Rattle.std.specs.List.{AllByRecursion, flat_map}
 use Rattle.std.specs.Str.{bytes_eq}
 use Rattle.std.proofs.lemmas.Bool.{le-ltb}
-use Rattle.fb_model.specs.Names.{Name, Path, Place, at_place}
+use Rattle.fb_model.specs.Names.{Name, Place, at_place}
 use Rattle.fb_model.specs.System.{Action, State, Transition, Block, Service, Device, System, Input, Output, Publish, Subscribe, Delay, Cycle, Restart}
 use Rattle.fb_model.specs.Services.{service_events, can_emit, init}
 use Rattle.fb_model.specs.Wires.{Kind, Charted, Serviced, Leaf, leaves}
-use Rattle.fb_model.specs.Charts.{actions_of, is_open, emission}
+use Rattle.fb_model.specs.Charts.{actions_of, emission}
 use Rattle.fb_model.specs.Certificates.{reached, event_names, all_leaves}
 use Rattle.fb_model.proofs.Lists.{all_weaker}
 use Rattle.fb_model.proofs.Placed.{all_left, all_right}
-use Rattle.fb_model_laws.specs.Demands.{Node, state, event, channel, Demand, Ground, emitted, of_state, of_free, free_demand, of_least, of_crossing, crossing_demand, of_input, of_chart, sent, sending_demand, of_dispatch, of_kind, bare, bare_demands}
+use Rattle.fb_model_laws.specs.Demands.{Node, state, event, channel, Demand, Ground, emitted, of_state, of_free, free_demand, of_crossing, crossing_demand, of_input, of_chart, sent, of_dispatch, of_kind, bare, bare_demands}
 use Rattle.fb_model_turns.specs.Turns.{Counts, Join, joined, caused, outputs_of, StateCounts, FreeCounts, CrossingCounts, InputCounts, ChartCounts, ServiceCounts, KindCounts, DispatchesFit}
 use Rattle.fb_model_turns.proofs.Joins.{IsJoin, joined-append, caused-append}
-use Rattle.fb_find_laws.specs.Nodes.{Numbered, by_number, number, index_in, rank_in, written}
+use Rattle.fb_find_laws.specs.Nodes.{Numbered, by_number, number, index_in, written}
 use Rattle.fb_find_demands.specs.declared.numbered.Numbering.{Numbering}
 use Rattle.fb_find_demands.specs.Rights.{numbers_of, numbered}
 use Rattle.fb_types_blocks.specs.Views.{names_of}
-use Rattle.fb_turns.specs.Counting.{own_of, Pays, counts_by, counts_in, AllFit}
+use Rattle.fb_turns.specs.Counting.{own_of, Pays, counts_by, AllFit}
 
 -- ---- lists
 

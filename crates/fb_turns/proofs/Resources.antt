@@ -1,5 +1,5 @@
 -- No room in a resource of the tables is no room in that of the book.
-use Rattle.std.proofs.Common.{◌≡◌, ◌≤◌, ◌<◌, ◌+◌, ℕ, zero, suc, Bool, true, false, List, [], ◌∷◌, ◌++◌, length, get_or, slice_get, Some, Result, Ok, Err, IfOk, refl, sym, ap, subst, ◌∙◌, string_bytes, arith}
+use Rattle.std.proofs.Common.{◌≡◌, ◌≤◌, ◌<◌, ◌+◌, ℕ, zero, suc, Bool, true, false, List, [], ◌∷◌, slice_get, Some, Result, Ok, Err, IfOk, refl, sym, ap, subst, ◌∙◌, string_bytes, arith}
 use Rattle.std.specs.Prelude.{◌↔◌, IsTrue}
 use Rattle.std.specs.List.{AllByRecursion, Any}
 use Rattle.fb_model.specs.Names.{Name, Path, at_place}

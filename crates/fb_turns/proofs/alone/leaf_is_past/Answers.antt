@@ -1,4 +1,4 @@
-use Rattle.std.proofs.Common.{◌↔◌, IsTrue, ap, subst, string_bytes}
+use Rattle.std.proofs.Common.{◌↔◌, IsTrue, ap, subst}
 use Rattle.fb_model.specs.Services.{arrivals}
 use Rattle.fb_model.specs.Wires as wires
 use Rattle.fb_cert.specs.Views.{certificate_of}

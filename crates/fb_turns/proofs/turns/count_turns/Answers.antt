@@ -1,8 +1,8 @@
-use Rattle.std.proofs.Common.{◌≡◌, None, map, sym, subst}
+use Rattle.std.proofs.Common.{◌≡◌, map, sym, subst}
 use Rattle.fb_verified.specs.Checked.{system_in}
 use Rattle.fb_flat.specs.declared.flat.Flat.{Flat}
 use Rattle.fb_flat.specs.Leaves.{flat_device, written_device}
-use Rattle.fb_find_demands.specs.Shown.{AreTables, IsNumbered}
+use Rattle.fb_find_demands.specs.Shown.{AreTables}
 use Rattle.fb_find_demands.proofs.Written.{tables_are, words}
 use Rattle.fb_turns.proofs.turns.count_turns.Goals as goal
 
