@@ -1,0 +1,176 @@
+-- Numbers that meet the demands of a system, each event with its own dispatch, are counts that fit.
+use Rattle.std.proofs.Common.{◌≡◌, ℕ, ◌+◌, ◌≤◌, Bool, true, false, cond, List, [], ◌∷◌, ◌++◌, map, length, slice_index, Some, None, refl, sym, ◌∙◌, ap, subst, arith}
+use Rattle.std.specs.Prelude.{nat_lt}
+use Rattle.std.specs.List.{AllByRecursion, flat_map}
+use Rattle.std.specs.Str.{bytes_eq}
+use Rattle.std.proofs.lemmas.Bool.{le-ltb}
+use Rattle.fb_model.specs.Names.{Name, Place, at_place}
+use Rattle.fb_model.specs.System.{Action, State, Transition, Block, Service, Device, System, Input, Output, Publish, Subscribe, Delay, Cycle, Restart}
+use Rattle.fb_model.specs.Services.{service_events, can_emit, init}
+use Rattle.fb_model.specs.Wires.{Kind, Charted, Serviced, Leaf, leaves}
+use Rattle.fb_model.specs.Charts.{actions_of, emission}
+use Rattle.fb_model.specs.Certificates.{reached, event_names, all_leaves}
+use Rattle.fb_model.proofs.Lists.{all_weaker}
+use Rattle.fb_model.proofs.Placed.{all_left, all_right}
+use Rattle.fb_model_laws.specs.Demands.{Node, state, event, channel, Demand, Ground, emitted, of_state, of_free, free_demand, of_crossing, crossing_demand, of_input, of_chart, sent, of_dispatch, of_kind, bare, bare_demands}
+use Rattle.fb_model_turns.specs.Turns.{Counts, Join, joined, caused, outputs_of, StateCounts, FreeCounts, CrossingCounts, InputCounts, ChartCounts, ServiceCounts, KindCounts, DispatchesFit}
+use Rattle.fb_model_turns.proofs.Joins.{IsJoin, joined-append, caused-append}
+use Rattle.fb_find_laws.specs.Nodes.{Numbered, by_number, number, index_in, written}
+use Rattle.fb_find_demands.specs.declared.numbered.Numbering.{Numbering}
+use Rattle.fb_find_demands.specs.Rights.{numbers_of, numbered}
+use Rattle.fb_types_blocks.specs.Views.{names_of}
+use Rattle.fb_turns.specs.Counting.{own_of, Pays, counts_by, AllFit}
+
+-- ---- lists
+
+all_flat : {X Y : Type 0} (P : Y → Type 0) (f : X → List Y) (xs : List X) → AllByRecursion P (flat_map f xs) → AllByRecursion (λ x. AllByRecursion P (f x)) xs
+all_flat P f [] h = tt
+all_flat P f (x ∷ xs) h = (all_left P (f x) (flat_map f xs) h, all_flat P f xs (all_right P (f x) (flat_map f xs) h))
+
+all_mapped : {X Y : Type 0} (P : Y → Type 0) (f : X → Y) (xs : List X) → AllByRecursion P (map f xs) → AllByRecursion (λ x. P (f x)) xs
+all_mapped P f [] h = tt
+all_mapped P f (x ∷ xs) h = (h.0, all_mapped P f xs h.1)
+
+joined-map : {X Y : Type 0} (join : Join) (number : Y → ℕ) (f : X → Y) (xs : List X) → joined join number (map f xs) ≡ joined join (λ x. number (f x)) xs
+joined-map join number f [] = refl
+joined-map join number f (x ∷ xs) = ap (join (number (f x))) (joined-map join number f xs)
+
+neither : (b : Bool) (xs : List Node) → xs ≡ [] → cond b [] xs ≡ []
+neither true xs h = refl
+neither false xs h = h
+
+-- ---- demands of nodes
+
+-- an event counts its own dispatch
+abbrev own_node : Node → ℕ
+own_node (state p) = 0
+own_node (event p) = 1
+own_node (channel c) = 0
+
+module _ (join : Join) (is : IsJoin join) (x : Node → ℕ) where
+  -- the number of a node counts its own dispatch, and what follows
+  abbrev IsCounted : Demand → Type 0
+  IsCounted d = own_node d.node + joined join x d.terms ≤ x d.node
+
+  module _ (targets : Name → List Place) where
+    reached_counts : (outs : List Name) → joined join x (map event (reached targets outs)) ≡ caused join (counts_by x) targets outs
+    reached_counts outs = joined-map join x event (reached targets outs)
+
+    -- what actions emit counts alike as nodes and as places
+    emitted_counts : (g : Ground) → g.targets ≡ targets → (actions : List Action) → joined join x (emitted g actions) ≡ caused join (counts_by x) targets (outputs_of actions)
+    emitted_counts g same [] = refl
+    emitted_counts g same (a ∷ rest) =
+        joined-append join is x (map event (reached g.targets (emission a.output))) (emitted g rest)
+        ∙ ap (λ n. join n (joined join x (emitted g rest))) (ap (λ ts. joined join x (map event (reached ts (emission a.output)))) same ∙ reached_counts (emission a.output))
+        ∙ ap (join (caused join (counts_by x) targets (emission a.output))) (emitted_counts g same rest)
+        ∙ sym (caused-append join is (counts_by x) targets (emission a.output) (outputs_of rest))
+
+  -- a node alone
+  one_counts : (v : Node) → joined join x (v ∷ []) ≡ x v
+  one_counts v = is.alone (x v)
+
+  module _ (leaf : Leaf) where
+    abbrev counts : Counts
+    counts = counts_by x
+
+    state_counts : (s : State) → IsCounted (of_state (bare leaf) s) → StateCounts join counts leaf.targets leaf.path s
+    state_counts s h = omega (arith, h, emitted_counts leaf.targets (bare leaf) refl s.actions)
+
+    free_counts : (block : Block) (t : Transition) → AllByRecursion IsCounted (of_free (bare leaf) block t) → FreeCounts join counts leaf.targets leaf.path block t
+    free_counts block t h none =
+        let g = bare leaf in
+        let acts = actions_of block.states t.source in
+        let d : IsCounted (free_demand g acts t.source t.target) =
+        (subst (λ o. AllByRecursion IsCounted (elim o [ None ↦ free_demand g acts t.source t.target ∷ [] | Some e ↦ [] ])) none h).0 in
+        let apart : joined join x (emitted g acts ++ state (at_place leaf.path t.target) ∷ []) ≡ join (caused join counts leaf.targets (outputs_of acts)) (x (state (at_place leaf.path t.target))) =
+        joined-append join is x (emitted g acts) (state (at_place leaf.path t.target) ∷ [])
+        ∙ ap (λ n. join n (joined join x (state (at_place leaf.path t.target) ∷ []))) (emitted_counts leaf.targets g refl acts)
+        ∙ ap (join (caused join counts leaf.targets (outputs_of acts))) (one_counts (state (at_place leaf.path t.target))) in
+        omega (arith, d, apart)
+
+    crossing_counts : (e : Name) (t : Transition) → AllByRecursion IsCounted (of_crossing (bare leaf) e t) → CrossingCounts counts leaf.path e t
+    crossing_counts e t h opens =
+        let d : IsCounted (crossing_demand (bare leaf) e t.target) = (subst (λ b. AllByRecursion IsCounted (cond b (crossing_demand (bare leaf) e t.target ∷ []) [])) opens h).0 in
+        omega (arith, d, one_counts (state (at_place leaf.path t.target)))
+
+    input_counts : (block : Block) (e : Name) → AllByRecursion IsCounted (of_input (bare leaf) block e) → InputCounts counts leaf.path block e
+    input_counts block e h =
+        record {
+          least = omega (arith, h.0);
+          crossings = all_weaker (λ t. AllByRecursion IsCounted (of_crossing (bare leaf) e t)) (CrossingCounts counts leaf.path e) block.transitions (crossing_counts e) (all_flat IsCounted (of_crossing (bare leaf) e) block.transitions h.1);
+        }
+
+    chart_counts : (block : Block) → AllByRecursion IsCounted (of_chart (bare leaf) block) → ChartCounts join counts leaf.targets leaf.path block
+    chart_counts block h =
+        let g = bare leaf in
+        let states_of = map (of_state g) block.states in
+        let free_of = flat_map (of_free g block) block.transitions in
+        let inputs_of = flat_map (of_input g block) (event_names block.event_inputs) in
+        let rest = all_right IsCounted states_of (free_of ++ inputs_of) h in
+        record {
+          states = all_weaker (λ s. IsCounted (of_state g s)) (StateCounts join counts leaf.targets leaf.path) block.states state_counts (all_mapped IsCounted (of_state g) block.states (all_left IsCounted states_of (free_of ++ inputs_of) h));
+          free = all_weaker (λ t. AllByRecursion IsCounted (of_free g block t)) (FreeCounts join counts leaf.targets leaf.path block) block.transitions (free_counts block) (all_flat IsCounted (of_free g block) block.transitions (all_left IsCounted free_of inputs_of rest));
+          weights = all_weaker (λ e. AllByRecursion IsCounted (of_input g block e)) (InputCounts counts leaf.path block) (event_names block.event_inputs) (input_counts block)
+              (all_flat IsCounted (of_input g block) (event_names block.event_inputs) (all_right IsCounted free_of inputs_of rest));
+        }
+
+    -- datagrams do not count
+    none_sent : (service : Service) (e : Name) → sent (bare leaf) service e ≡ []
+    none_sent (Input n types) e = refl
+    none_sent (Output n types) e = refl
+    none_sent (Publish c types) e = neither (bytes_eq e init) [] refl
+    none_sent (Subscribe c types) e = refl
+    none_sent Delay e = refl
+    none_sent Cycle e = refl
+    none_sent Restart e = refl
+
+    service_counts : (service : Service) (e : Name) → AllByRecursion IsCounted (of_dispatch (bare leaf) service e) → ServiceCounts join counts leaf.targets leaf.path service e
+    service_counts service e h =
+        let same : joined join x (sent (bare leaf) service e ++ map event (reached leaf.targets (can_emit service e))) ≡ caused join counts leaf.targets (can_emit service e) =
+        ap (λ d. joined join x (d ++ map event (reached leaf.targets (can_emit service e)))) (none_sent service e) ∙ reached_counts leaf.targets (can_emit service e) in
+        omega (arith, h.1.0, same)
+
+    kind_counts : (kind : Kind) → AllByRecursion IsCounted (of_kind (bare leaf) kind) → KindCounts join counts leaf.targets leaf.path kind
+    kind_counts (Charted block) h = chart_counts block h
+    kind_counts (Serviced service) h =
+        all_weaker (λ e. AllByRecursion IsCounted (of_dispatch (bare leaf) service e)) (ServiceCounts join counts leaf.targets leaf.path service) (service_events service) (service_counts service)
+        (all_flat IsCounted (of_dispatch (bare leaf) service) (service_events service) h)
+
+  leaves_count : (all : List Leaf) → AllByRecursion IsCounted (bare_demands all) → DispatchesFit join (counts_by x) all
+  leaves_count all h =
+      all_weaker (λ leaf. AllByRecursion IsCounted (of_kind (bare leaf) leaf.kind)) (λ leaf. KindCounts join (counts_by x) leaf.targets leaf.path leaf.kind) all (λ leaf k. kind_counts leaf leaf.kind k)
+      (all_flat IsCounted (λ leaf. of_kind (bare leaf) leaf.kind) all h)
+
+  devices_fit : (ds : List Device) → DispatchesFit join (counts_by x) (all_leaves ds) → AllByRecursion (λ (d : Device). DispatchesFit join (counts_by x) (leaves d)) ds
+  devices_fit [] h = tt
+  devices_fit (d ∷ ds) h =
+      let K = λ (leaf : Leaf). KindCounts join (counts_by x) leaf.targets leaf.path leaf.kind in
+      (all_left K (leaves d) (all_leaves ds) h, devices_fit ds (all_right K (leaves d) (all_leaves ds) h))
+
+-- ---- numbers
+
+module _ (join : Join) (is : IsJoin join) (n : Numbering) (numbers : List ℕ) where
+  abbrev at_node : Node → ℕ
+  at_node v = slice_index numbers (numbers_of n v)
+
+  -- events have their numbers behind those of states
+  own_least : (v : Node) → own_node v ≤ own_of (length (names_of n.states)) (numbers_of n v)
+  own_least (state p) = omega arith
+  own_least (channel c) = omega arith
+  own_least (event p) =
+      let behind : nat_lt (length (names_of n.states) + index_in (names_of n.events) (written p)) (length (names_of n.states)) ≡ false = le-ltb (length (names_of n.states) + index_in (names_of n.events) (written p)) (length (names_of n.states)) (omega arith) in
+      subst (λ b. 1 ≤ cond b 0 1) (sym behind) (omega arith)
+
+  pays_counts : (d : Demand) → Pays join (length (names_of n.states)) numbers (by_number (numbers_of n) d) → IsCounted join is at_node d
+  pays_counts d h = omega (arith, h, own_least d.node, joined-map join (slice_index numbers) (numbers_of n) d.terms)
+
+  all_count : (ds : List Demand) → AllByRecursion (Pays join (length (names_of n.states)) numbers) (numbered n ds) → AllByRecursion (IsCounted join is at_node) ds
+  all_count ds h =
+      all_weaker (λ d. Pays join (length (names_of n.states)) numbers (by_number (numbers_of n) d)) (IsCounted join is at_node) ds pays_counts
+      (all_mapped (Pays join (length (names_of n.states)) numbers) (by_number (numbers_of n)) ds h)
+
+  -- numbers that pay for all demands are counts that fit
+  pub all_fit : (s : System) (rights : List Numbered) → rights ≡ numbered n (bare_demands (all_leaves s.devices)) → AllByRecursion (Pays join (length (names_of n.states)) numbers) rights → AllFit join n numbers s
+  all_fit s rights e h =
+      devices_fit join is at_node s.devices
+      (leaves_count join is at_node (all_leaves s.devices) (all_count (bare_demands (all_leaves s.devices)) (subst (AllByRecursion (Pays join (length (names_of n.states)) numbers)) e h)))

@@ -1,0 +1,2 @@
+pub mod Demanding
+pub mod Resources
