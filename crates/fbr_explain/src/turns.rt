@@ -16,15 +16,14 @@ pub(crate) struct Counted<'a> {
 
 // Writes how many dispatches an arrival causes, in all and in its longest chain.
 fn put_counts(dispatches: u64, generations: u64, writing: &mut Writing) {
-    writing.put("        dispatches at most ");
+    writing.put("        dispatches: ");
     writing.show(&dispatches);
-    writing.put(", ");
+    writing.put(" in all, ");
     writing.show(&generations);
-    writing.put(" in a row; ");
+    writing.put(" in a row, ");
 }
 
-// Writes after how many dispatches of the resource all has ended that an arrival causes: its own, if nothing fits beside it; else its longest chain, each of it as
-// many dispatches after the one before as the queue is deep.
+// Writes after how many dispatches of the resource all has ended that an arrival causes.
 fn put_end(
     counted: Counted<'_>,
     dispatches: u64,
@@ -33,13 +32,13 @@ fn put_end(
     writing: &mut Writing,
 ) {
     let end = if is_alone {
-        writing.put("nothing fits");
+        writing.put("with no room for others");
         dispatches
     } else {
-        writing.put("others fit");
+        writing.put("with others in between");
         generations.saturating_mul(counted.depth)
     };
-    writing.put(" beside it: all has ended after ");
+    writing.put("; all has ended after ");
     writing.show(&end);
     writing.put(" dispatches of ");
     writing.put(counted.resource.path.as_str());
