@@ -165,7 +165,8 @@ fn tell_resource(
 }
 
 /// Writes the bounds of what fits: how deep each queue is, what each arrival causes at most, how many of it fit at once, beside which others it has no
-/// room, and how many dispatches it needs, the range of each variable that is not its whole type, and the channels; and notes on the text, but for those whose names are allowed. Says whether there are notes.
+/// room, and how many dispatches it needs; the range of each variable that is not its whole type, and the channels; and notes on the text, but for those
+/// whose names are allowed. Says whether there are notes.
 pub fn tell_bounds(
     alloc: Global,
     verified: &Verified,

@@ -45,8 +45,8 @@ fn put_end(
     writing.put("\n");
 }
 
-/// Writes how many dispatches one event at an arrival of a leaf causes, whether others have room beside it, and after how many dispatches of the resource all has
-/// ended that it causes; nothing where no counts were found.
+/// Writes how many dispatches one event at an arrival of a leaf causes, whether others have room beside it, and after how many dispatches of the resource
+/// all has ended that it causes; nothing where no counts were found.
 pub(crate) fn tell_turns(
     alloc: Global,
     verified: &Verified,
