@@ -1,5 +1,5 @@
 -- Who keeps to its rate is handed on.
-use Rattle.std.proofs.Common.{◌≡◌, ℕ, ◌≤◌, Bool, true, List, [], ◌∷◌, map, subst}
+use Rattle.std.proofs.Common.{◌≡◌, ℕ, ◌≤◌, Bool, true, List, [], ◌∷◌, subst}
 use Rattle.std.specs.List.{AllByRecursion}
 use Rattle.fb_link.specs.Link.{LinkCall}
 use Rattle.fb_pace.specs.Buckets.{answers_for}
