@@ -4,9 +4,10 @@
 A device runs with keys and a state, and gets N datagrams (20,000 without it) that a stranger has: cut, changed in a byte or more, forged under another key,
 with another peer's number, sent again, out of order, without a seal, with counters up to 2^64 - 1; and between them those of a friend. Asked is that just the
 friend's are taken, each once, that the counts of what was dropped, with what found no room in the socket, add up to what was sent, and that memory stays
-flat. Then that friend sends far more than its rate allows, beside another one that keeps to its own: of the first no more than the rate is taken, of the second
-all is, and the counts add up. Then the device is killed and started again: nothing that was recorded is taken once more, and what it sends has counters above all before. At last its
-state file is cut behind each byte, changed in each, and missing, and its keys are for others to read: it is refused (61), and told why."""
+flat. Then that friend sends far more than its rate allows, beside another one that keeps to its own: of the first no more than the rate is taken, of the
+second all is, and the counts add up. Then the device is killed and started again: nothing that was recorded is taken once more, and what it sends has
+counters above all before. At last its state file is cut behind each byte, changed in each, and missing, and its keys are for others to read: it is refused
+(61), and told why."""
 import argparse
 import os
 import random
@@ -279,7 +280,8 @@ def flooded(device):
     if not int(dropped["above their rate"]):
         raise Wrong(f"none was above its rate: {dropped}")
     device.put_keys()
-    print(f"sealed: {len(kept)} datagrams within a rate, all taken, beside 8000 above one, of which {many} were taken in {seconds:.1f} s; {dropped['above their rate']} dropped, lost in the socket {lost}")
+    print(f"sealed: {len(kept)} datagrams within a rate, all taken, beside 8000 above one, of which {many} were taken in {seconds:.1f} s")
+    print(f"sealed: {dropped['above their rate']} dropped for their rate, lost in the socket {lost}")
 
 
 def over_restarts(device):

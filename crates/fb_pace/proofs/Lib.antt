@@ -1,3 +1,4 @@
-mod Apart
+pub mod Apart
+pub mod Clocked
 mod Found
 mod Keeping

@@ -1,10 +1,11 @@
 //! Laws of rates.
 
-ghost use Rattle.std.specs.Prelude.{◌≡◌, ℕ, List, None, Some, true};
+ghost use Rattle.std.specs.Prelude.{◌≡◌, ℕ, List, Bool, None, Some, true};
 ghost use Rattle.std.specs.List.{AllByRecursion};
 ghost use Rattle.fb_pace.specs.Rates.{AreInOrder, IsWithin};
 ghost use Rattle.fb_pace.specs.Bucket.{answers, passing};
 ghost use Rattle.fb_pace.specs.Buckets.{Ask, answers_by, answers_for, answers_to_all, bucket_of, moments_of};
+ghost use Rattle.fb_pace.specs.Pacing.{AskedAt, AsksAll, Pacing};
 ghost use Rattle.fb_pace.specs.declared.bucket.Bucket.{Bucket};
 ghost use Rattle.fb_pace.specs.declared.buckets.Paced.{Paced};
 
@@ -28,4 +29,9 @@ pub fn a_peer_within_its_rate_loses_nothing()
     ensures within { (peers : List Paced) (asks : List Ask) (number : ℕ) (b : Bucket) → bucket_of number peers ≡ Some b → b.due ≡ 0 → AreInOrder (moments_of number asks)
         → IsWithin b.rate (moments_of number asks) → AllByRecursion (λ answer. answer ≡ true) (answers_for number asks (answers_to_all peers asks)) }
     ensures without { (peers : List Paced) (asks : List Ask) (number : ℕ) → bucket_of number peers ≡ None → AllByRecursion (λ answer. answer ≡ true) (answers_for number asks (answers_to_all peers asks)) }
+{}
+
+/// Whoever asks by a clock was answered as at some moments, and those of each peer do not go back.
+pub fn a_clock_gives_moments()
+    ensures { (p q : Pacing) (questions : List (ℕ × Bool)) → AsksAll p questions q → (asks : List Ask) × AskedAt p questions asks }
 {}

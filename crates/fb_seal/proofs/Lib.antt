@@ -1,5 +1,6 @@
 mod Admitting
 mod Counters
+pub mod Asking
 mod Dropping
 mod Extending
 mod Masks

@@ -1,3 +1,4 @@
+pub mod Gates
 pub mod Ledger
 pub mod Passing
 pub mod Peers

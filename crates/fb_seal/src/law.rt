@@ -1,13 +1,20 @@
 //! Laws of sealed datagrams and of windows.
 
-ghost use Rattle.std.specs.Prelude.{◌≡◌, ◌≤◌, ◌<◌, ℕ, List, Some, true, slice_get};
+ghost use Rattle.std.specs.Prelude.{◌≡◌, ◌≤◌, ◌<◌, ℕ, Bool, List, Some, true, slice_get};
 ghost use Rattle.std.specs.List.{AllByRecursion};
+ghost use Rattle.fb_link.specs.Link.{LinkCall};
+ghost use Rattle.fb_seal.specs.Gates.{AsksOfEach, ReceivesAll};
 ghost use Rattle.fb_seal.specs.Seal.{Sealed};
 ghost use Rattle.fb_seal.specs.Reading.{AreBytes, Envelope, Says, reading};
 ghost use Rattle.fb_seal.specs.Peers.{Event, IsRefused, Run, occurrences, sealer};
+ghost use Rattle.fb_seal.specs.declared.link.Dropped.{Dropped};
 ghost use Rattle.fb_seal.specs.declared.peers.Peer.{Peer};
 ghost use Rattle.fb_seal.specs.declared.peers.Reason.{Reason};
 ghost use Rattle.fb_seal.specs.Window.{is_fresh, taken_of, takes, times};
+
+use crate::gate::Gate;
+use crate::ledger::Ledger;
+use fb_link::Link;
 
 /// What was sealed is opened to the same. What is opened was so sealed, under that key; that nobody else can make such a tag is no law, but what
 /// is assumed of HMAC-SHA-256. Two sealed forms under one key that are equal have the same sender, counter and datagram.
@@ -38,4 +45,10 @@ pub fn a_friend_is_admitted()
     ensures { (peers : List Peer) (bytes datagram : List ℕ) (place counter : ℕ) (peer : Peer) (reason : Reason) → sealer bytes peers ≡ Some place
         → slice_get peers place ≡ Some peer → Sealed peer.key peer.number counter bytes datagram → counter < peer.upto → takes peer.window counter ≡ true
         → IsRefused reason peers bytes → ⊥ }
+{}
+
+/// Over any receives of a link, whatever comes: the gate is asked once for each datagram that is handed on, and once for each that is counted as too fast.
+pub fn a_gate_is_asked_once<L: Link, K: Ledger, G: Gate>()
+    ensures { (before after : List Peer) (k m : K) (g h : G) (dropped sum : Dropped) (s t : L) (calls : List LinkCall) → dropped.fast ≤ 18446744073709551615
+        → ReceivesAll L.steps K.writes G.lets before k g dropped s calls after m h sum t → (questions : List (ℕ × Bool)) × AsksOfEach G.lets g h calls dropped sum questions }
 {}

@@ -3,7 +3,7 @@
 //! name. What is opened under a key was sealed under it (`sealed_datagrams_open`). That only who has the key can make its tags is assumed of HMAC, and
 //! stands in no law. The same bytes are admitted at most once (`bytes_are_admitted_once`), and strangers cannot shut a friend out (`a_friend_is_admitted`).
 //! Counters are written down before they are used (`Ledger`): a link uses none that is not, whichever end of it is restarted. How often a peer may send is
-//! asked of a gate, about what that peer sealed, and about nothing else (`Gate`).
+//! asked of a gate, about what that peer sealed, and about nothing else (`Gate`, `a_gate_is_asked_once`).
 #![tactic(auto)]
 
 mod form;
@@ -18,7 +18,8 @@ mod window;
 pub use form::{Envelope, Opened, SealedDatagram, is_tagged, open, said_in, seal};
 pub use gate::{Gate, Unlimited};
 pub use law::{
-    a_friend_is_admitted, bytes_are_admitted_once, counters_are_taken_once, sealed_datagrams_open,
+    a_friend_is_admitted, a_gate_is_asked_once, bytes_are_admitted_once, counters_are_taken_once,
+    sealed_datagrams_open,
 };
 pub use ledger::Ledger;
 pub use link::{Dropped, SealedLink};
