@@ -3,8 +3,10 @@
 use crate::beside::{tell_beside, tell_depth};
 use crate::channels::{Ways, channels_behind, tell_channels};
 use crate::notes::tell_notes;
+use crate::turns::{Counted, tell_turns};
 use fb_cert::Certificate;
 use fb_flat::{Body, FlatResource, Leaf, joined};
+use fb_turns::{Turns, count_turns};
 use fb_types_blocks::{Block, Variables};
 use fb_verified::Verified;
 use fbr_diagnosis::notes_of;
@@ -20,6 +22,7 @@ struct View<'a> {
     verified: &'a Verified,
     ways: Ways<'a>,
     queue: &'a Queue<'a>,
+    counted: Counted<'a>,
 }
 
 // Writes the channels on which an arrival of a leaf can be sent on.
@@ -38,7 +41,7 @@ fn tell_ways(
 }
 
 // Writes what one event at an arrival of a leaf causes at most: on its device, and where it is known on all, and through which channels; how many of it the
-// queue takes at once; and beside which other arrivals there is no room for it.
+// queue takes at once; beside which other arrivals there is no room for it; and how many dispatches it needs.
 fn tell_arrival(
     view: View<'_>,
     leaf: &Leaf,
@@ -64,7 +67,14 @@ fn tell_arrival(
     }
     tell_beside(view.queue, path, writing);
     writing.put("\n");
-    Ok(())
+    tell_turns(
+        view.alloc,
+        view.verified,
+        view.counted,
+        leaf,
+        event,
+        writing,
+    )
 }
 
 // Writes the range of each variable of a leaf that is not its whole type.
@@ -127,6 +137,7 @@ fn tell_resource(
     alloc: Global,
     verified: &Verified,
     resource: &FlatResource,
+    turns: Option<&Turns>,
     writing: &mut Writing,
 ) -> Result<(), AllocError> {
     let queue = queue_in(alloc, verified.certificate(), resource)?;
@@ -141,6 +152,11 @@ fn tell_resource(
             leaves: &leaves,
         },
         queue: &queue,
+        counted: Counted {
+            resource,
+            depth: queue.depth,
+            turns,
+        },
     };
     for leaf in &resource.leaves {
         tell_leaf(view, leaf, writing)?;
@@ -148,8 +164,9 @@ fn tell_resource(
     Ok(())
 }
 
-/// Writes the bounds of what fits: how deep each queue is, what each arrival causes at most, how many of it fit at once and beside which others it has no
-/// room, the range of each variable that is not its whole type, and the channels; and notes on the text, but for those whose names are allowed. Says whether there are notes.
+/// Writes the bounds of what fits: how deep each queue is, what each arrival causes at most, how many of it fit at once, beside which others it has no
+/// room, and how many dispatches it needs; the range of each variable that is not its whole type, and the channels; and notes on the text, but for those
+/// whose names are allowed. Says whether there are notes.
 pub fn tell_bounds(
     alloc: Global,
     verified: &Verified,
@@ -157,9 +174,10 @@ pub fn tell_bounds(
     allowed: &str,
     writing: &mut Writing,
 ) -> Result<bool, AllocError> {
+    let turns = count_turns(alloc, verified)?;
     for device in &verified.flat().devices {
         for resource in &device.resources {
-            tell_resource(alloc, verified, resource, writing)?;
+            tell_resource(alloc, verified, resource, turns.as_ref(), writing)?;
         }
     }
     tell_channels(alloc, verified, writing)?;

@@ -9,6 +9,7 @@ mod finding;
 mod flood;
 mod notes;
 mod told;
+mod turns;
 mod walk;
 
 pub use bounds::tell_bounds;
