@@ -8,7 +8,7 @@ use crate::join::Join;
 use crate::met::{joined, own};
 use fb_find_demands::{Numbering, group, plain_rights};
 use fb_find_graph::Alternative;
-use fb_find_rows::sorted;
+use fb_find_rows::{NoBound, sorted};
 use fb_flat::Flat;
 use std::alloc::{AllocError, Global};
 
@@ -66,14 +66,16 @@ pub(crate) fn compute(
     let count = numbering.count()?;
     let system = group(alloc, count, rights)?;
     let states = numbering.states.len();
-    let Ok(order) = sorted(
+    let order = match sorted(
         alloc,
         &numbering.states,
         &numbering.events,
         numbering.channels.as_slice(),
         system.as_slice(),
-    ) else {
-        return Ok(None);
+    ) {
+        Ok(order) => order,
+        Err(NoBound::OutOfMemory) => return Err(AllocError),
+        Err(_) => return Ok(None),
     };
     Ok(Some(Computed {
         all: counts(
