@@ -5,7 +5,8 @@ use crate::playing::Missing;
 use fb_device::{Answer, Denied};
 use fb_world_course::WorldEvent;
 
-/// Who is told why a line was denied, or is bad: what the answer says by a number alone; and of which roots a line asks. Nothing is promised of what it does, and no answer depends on it.
+/// Who is told why a line was denied, or is bad: what the answer says by a number alone; and of which roots a line asks.
+/// Nothing is promised of what it does, and no answer depends on it.
 pub trait Witness {
     /// The event of the line of this number was denied, before its answer is written.
     fn denied(&mut self, number: usize, event: &WorldEvent, why: &Denied);

@@ -186,8 +186,8 @@ impl World {
         }
     }
 
-    /// The first datagram behind the one of a number, or with 0 of all, that has no stamp and that a device admitted more than REPEATS times, with its root, and the
-    /// first such device. `None` where there is none behind it, or where the certificate has no row REPEATS.
+    /// The first datagram behind the one of a number, or with 0 of all, that has no stamp and that a device admitted more than REPEATS
+    /// times, with its root, and the first such device. `None` where there is none behind it, or where the certificate has no row REPEATS.
     pub fn next_too_often(&self, behind: u64) -> Option<TooOften>
         ensures told { (repeats : ℕ) → (cert_of self.now).repeats ≡ Some repeats → MatchOption result (AreSeldom repeats behind (length (world_of self.now).datagrams + 1) (world_of self.now).datagrams) (IsNextOften repeats behind (world_of self.now).datagrams) }
         ensures unpaid { (cert_of self.now).repeats ≡ None → result ≡ None }

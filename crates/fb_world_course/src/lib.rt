@@ -1,6 +1,6 @@
 //! Room: device. How far a world of devices has come: its devices, the datagrams that were sent, and the roots that were opened.
-//! What an event makes of a course is what it makes of the book's world (`Goes`), and whatever a course is kept by stays so (`IsKept`). A course takes no memory
-//! but where room is made for events (`reserve`).
+//! What an event makes of a course is what it makes of the book's world (`Goes`), and whatever a course is kept by stays so (`IsKept`).
+//! A course takes no memory but where room is made for events (`reserve`).
 #![tactic(auto)]
 
 mod answer;

@@ -1,4 +1,5 @@
-//! Why a line of a script was denied, or is bad, where its number has several causes, and which roots are not bounded by FAR. It is tested, and no contract says it.
+//! Why a line of a script was denied, or is bad, where its number has several causes, and which roots are not bounded by FAR.
+//! It is tested, and no contract says it.
 
 use crate::station::{Station, put_name, stations_of};
 use fb_device::Denied;
@@ -227,7 +228,8 @@ impl<'e, E: Write> Causes<'e, E> {
         self.hand_out(writing);
     }
 
-    /// Tells, once for each root that a line asked for, that its FAR is no bound, if one of its datagrams without a stamp was admitted more often than REPEATS says.
+    /// Tells, once for each root that a line asked for, that its FAR is no bound, if one of its datagrams without a stamp was admitted
+    /// more often than REPEATS says.
     pub(crate) fn tell_unbound(&mut self, world: &World) {
         let mut behind = 0;
         for _ in 0..usize::MAX {
