@@ -26,12 +26,11 @@ all_with Is (y ∷ ys) x h k = (h.0, all_with Is ys x h.1 k)
 
 -- one more row RANGE, or none
 pub first_added : (Is : Name → Type 0) (given old new : Rows) (path : List ℕ) (low high : ℤ) (said : Bool) → Is path → AreFirstOf Is given old → new ≡ (if said then with_row (range path low high) old else old) → AreFirstOf Is given new
-first_added Is given old new path low high true so first is =
-    (
-      first.0 ++ (path, span low high) ∷ [],
-      ap (λ (r : Rows). r.ranges) is ∙ (ap (λ (xs : Table Span). xs ++ (path, span low high) ∷ []) first.1 ∙ append_assoc given.ranges first.0 ((path, span low high) ∷ [])),
-      all_with Is first.0 (path, span low high) first.2 so,
-    )
+first_added Is given old new path low high true so first is = (
+  first.0 ++ (path, span low high) ∷ [],
+  ap (λ (r : Rows). r.ranges) is ∙ (ap (λ (xs : Table Span). xs ++ (path, span low high) ∷ []) first.1 ∙ append_assoc given.ranges first.0 ((path, span low high) ∷ [])),
+  all_with Is first.0 (path, span low high) first.2 so,
+)
 first_added Is given old new path low high false so first is = first_kept Is given old new first is
 
 all_as : (Is Are : Name → Type 0) → ((path : Name) → Is path → Are path) → (xs : Table Span) → AllByRecursion (λ r. Is r.0) xs → AllByRecursion (λ r. Are r.0) xs
@@ -44,12 +43,11 @@ both_all P (x ∷ xs) ys h k = (h.0, both_all P xs ys h.1 k)
 
 -- others behind others
 pub first_then : (Is : Name → Type 0) (given mid new : Rows) → AreFirstOf Is given mid → AreFirstOf Is mid new → AreFirstOf Is given new
-first_then Is given mid new one two =
-    (
-      one.0 ++ two.0,
-      two.1 ∙ (ap (λ (xs : Table Span). xs ++ two.0) one.1 ∙ append_assoc given.ranges one.0 two.0),
-      both_all (λ r. Is r.0) one.0 two.0 one.2 two.2,
-    )
+first_then Is given mid new one two = (
+  one.0 ++ two.0,
+  two.1 ∙ (ap (λ (xs : Table Span). xs ++ two.0) one.1 ∙ append_assoc given.ranges one.0 two.0),
+  both_all (λ r. Is r.0) one.0 two.0 one.2 two.2,
+)
 
 -- paths that are so are so in other words
 pub first_as : (Is Are : Name → Type 0) (given new : Rows) → ((path : Name) → Is path → Are path) → AreFirstOf Is given new → AreFirstOf Are given new

@@ -27,9 +27,7 @@ use crate::often::{next_too_often, too_often};
 use fb_device::{Device, Dispatched, Refusal, release, share};
 use fb_verdict::check_text;
 use fb_verified::Verified;
-use fb_world_course::{
-    Course, OutOfMemory, WorldAnswer, WorldEvent, first_course, numbered,
-};
+use fb_world_course::{Course, OutOfMemory, WorldAnswer, WorldEvent, first_course, numbered};
 use std::alloc::Global;
 use std::marker::Model;
 use std::rc::Rc;
