@@ -12,7 +12,6 @@ import multiprocessing
 import os
 import re
 import socket
-import struct
 import subprocess
 import sys
 import tempfile
@@ -23,22 +22,11 @@ TOP = os.path.dirname(os.path.dirname(os.path.abspath(__file__)))
 sys.path.insert(0, f"{TOP}/tools")
 
 from fbrseal.tags import seal  # noqa: E402  (the path has to be set first)
+from sealing import APP, FORGED, KEYS, OWN, PEER, offer  # noqa: E402
 
-APP = """SYSTEM S DEVICE D RESOURCE R
-FBS PLACE : INPUT[DINT](ID := 1); LAMP : OUTPUT[DINT](ID := 1); END_FBS
-EVENT_CONNECTIONS PLACE.IND TO LAMP.REQ; END_CONNECTIONS
-DATA_CONNECTIONS PLACE.RD_1 TO LAMP.SD_1; END_CONNECTIONS
-END_RESOURCE END_DEVICE END_SYSTEM
-"""
-OWN, PEER, NOBODY = 1, 2, 9
-KEYS = {OWN: bytes(range(32)), PEER: bytes(range(32, 64))}
-FORGED = bytes(32)
+NOBODY = 9
 WANTED = 99
 SUMS = re.compile(r"received (\d+) denied (\d+)")
-
-
-def offer(value):
-    return b"FB\1\2\0\1\1\3" + struct.pack(">q", value)
 
 
 class Device:
